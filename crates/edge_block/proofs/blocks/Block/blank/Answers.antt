@@ -1,0 +1,13 @@
+use Rattle.std.proofs.Common.{refl, replicate, pos, []}
+use Rattle.edge_block.specs.Slots.{BlockView}
+use Rattle.edge_block.proofs.Places.{slots_of-none}
+use Rattle.edge_block.proofs.KeptColumns.{columns_none, same_block}
+use Rattle.edge_block.proofs.blocks.Block.blank.Goals as goal
+
+pub invariant_of-result : goal.invariant_of-result
+invariant_of-result c = columns_none (replicate 32 (pos 0)) (replicate 32 0) (replicate 32 0)
+
+pub returns : goal.returns
+returns c =
+    let block : BlockView = record { number = c.args.number; source = 0; kind = 0; slots = [] } in
+    same_block block block _ _ refl (slots_of-none (replicate 32 0) (replicate 32 (pos 0)) (replicate 32 0) (replicate 32 0))

@@ -1,0 +1,21 @@
+use Rattle.std.proofs.Common.{◌∙◌, ap, w64}
+use Rattle.std.proofs.lemmas.Int.{to_z-of_z}
+use Rattle.edge_block.specs.Slots.{edge_slot, put_slot}
+use Rattle.edge_block.proofs.KeptColumns.{after_put, columns_put, same_block}
+use Rattle.edge_block.proofs.blocks.Block.put.Goals as goal
+
+pub invariant_of-self : goal.invariant_of-self
+invariant_of-self c =
+    let puts = rw (← c.self.view_is) at (c.place_for-place.ensures.puts c.args.weight c.args.first c.args.recent) in
+    rw (to_z-of_z w64 c.args.weight c.ranges.weight)
+    (columns_put c.self.inside.live c.self.inside.targets c.self.inside.weights c.self.inside.firsts c.self.inside.recents c.place_for-place.result c.args.target c.args.weight c.args.first c.args.recent c.place_for-place.ensures.within
+    (after_put c.self.inside.live c.self.inside.targets c.self.inside.weights c.self.inside.firsts c.self.inside.recents c.place_for-place.result c.args.target c.args.weight c.args.first c.args.recent c.place_for-place.ensures.within c.self.told puts)
+    (c.requires.weight, c.requires.first, c.requires.recent) c.self.invariant)
+
+pub returns : goal.returns
+returns c =
+    let puts = rw (← c.self.view_is) at (c.place_for-place.ensures.puts c.args.weight c.args.first c.args.recent) in
+    rw (to_z-of_z w64 c.args.weight c.ranges.weight)
+    (same_block _ _ _ _ c.self.view_is
+    (after_put c.self.inside.live c.self.inside.targets c.self.inside.weights c.self.inside.firsts c.self.inside.recents c.place_for-place.result c.args.target c.args.weight c.args.first c.args.recent c.place_for-place.ensures.within c.self.told puts
+    ∙ ap (λ b. put_slot (edge_slot c.args.target c.args.weight c.args.first c.args.recent) b.slots) c.self.view_is))

@@ -1,0 +1,122 @@
+-- Slots of a block: each is empty or has an edge of the block's source and kind.
+use Rattle.std.specs.Prelude.{◌≡◌, ℕ, ℤ, ◌==◌, List, [], ◌∷◌, length, map, replicate, Bool, true, false, ◌||◌, if◌then◌else◌, All}
+use Rattle.std.specs.List.{list_any}
+use Rattle.std.specs.Option.{is_some, option_or}
+use Rattle.std.specs.declared.option.Option.{Option}
+use Rattle.std.specs.declared.option.Option.TheVariants.{None, Some}
+use Rattle.graph_model.specs.Graph.{Key, Stamp, IsWeight, IsTime}
+
+-- what the first element has that has something
+abbrev pub first_some : {A B : Type 0} → (A → Option B) → List A → Option B
+first_some f [] = None
+first_some f (x ∷ xs) = option_or (f x) (first_some f xs)
+
+-- no two elements have something at one key
+abbrev pub NoKeyTwice : {A K B : Type 0} → (A → K → Option B) → List A → Type 0
+NoKeyTwice at [] = Unit {0}
+NoKeyTwice {K = K} at (x ∷ xs) = ((key : K) → is_some (at x key) ≡ true → first_some (λ y. at y key) xs ≡ None) × NoKeyTwice at xs
+
+-- the list with f of its first element that passes the test
+abbrev pub at_first : {A : Type 0} → (A → Bool) → (A → A) → List A → List A
+at_first p f [] = []
+at_first p f (x ∷ xs) = if p x then f x ∷ xs else x ∷ at_first p f xs
+
+-- the edge in a slot: its target, and what it bears
+pub record Slot : Type 0 where
+  pub target : ℕ
+  pub stamp : Stamp
+
+-- an edge of a target, with its weight, first time and recent time
+abbrev pub edge_stamp : ℤ → ℕ → ℕ → Stamp
+edge_stamp weight first recent = record { weight = weight; first = first; recent = recent }
+
+abbrev pub edge_slot : ℕ → ℤ → ℕ → ℕ → Slot
+edge_slot target weight first recent = record { target = target; stamp = edge_stamp weight first recent }
+
+abbrev pub is_free : Option Slot → Bool
+is_free None = true
+is_free (Some e) = false
+
+-- the edges of slots, in slot order
+abbrev pub edges_in : List (Option Slot) → List Slot
+edges_in [] = []
+edges_in (None ∷ slots) = edges_in slots
+edges_in (Some e ∷ slots) = e ∷ edges_in slots
+
+-- what a slot's edge bears, where it is one to the target
+abbrev pub slot_at : Option Slot → ℕ → Option Stamp
+slot_at None target = None
+slot_at (Some e) target = if target == e.target then Some e.stamp else None
+
+-- whether a slot's edge is one to the target
+abbrev pub holds : ℕ → Option Slot → Bool
+holds target s = is_some (slot_at s target)
+
+-- what the edge to a target bears, where there is one
+abbrev pub stamp_at : List (Option Slot) → ℕ → Option Stamp
+stamp_at slots target = first_some (λ s. slot_at s target) slots
+
+-- no two slots have edges to one target
+abbrev pub AreDistinct : List (Option Slot) → Type 0
+AreDistinct slots = NoKeyTwice slot_at slots
+
+-- an edge written over the slot of its target, or into the lowest free slot
+abbrev pub put_slot : Slot → List (Option Slot) → List (Option Slot)
+put_slot e slots =
+    if list_any (holds e.target) slots then at_first (holds e.target) (λ _. Some e) slots
+    else at_first is_free (λ _. Some e) slots
+
+-- whether an edge to the target can be put: the target is there, or a slot is free
+abbrev pub has_room_for : ℕ → List (Option Slot) → Bool
+has_room_for target slots = list_any (holds target) slots || list_any is_free slots
+
+-- without the edge to the target
+abbrev pub take_slot : ℕ → List (Option Slot) → List (Option Slot)
+take_slot target slots = at_first (holds target) (λ _. None) slots
+
+-- the target of a slot's edge
+abbrev pub slot_target : Option Slot → Option ℕ
+slot_target None = None
+slot_target (Some e) = Some e.target
+
+-- the targets of slots, each at its place
+abbrev pub targets_in : List (Option Slot) → List (Option ℕ)
+targets_in slots = map slot_target slots
+
+-- an edge's weight and times are in range
+abbrev pub IsSlot : Option Slot → Type 0
+IsSlot None = Unit {0}
+IsSlot (Some e) = IsWeight e.stamp.weight × IsTime e.stamp.first × IsTime e.stamp.recent
+
+-- 32 slots, all of them empty
+abbrev pub empty_slots : List (Option Slot)
+empty_slots = replicate 32 None
+
+-- a block as callers see it: its number, its source and kind, and its slots
+pub record BlockView : Type 0 where
+  pub number : ℕ
+  pub source : ℕ
+  pub kind : ℕ
+  pub slots : List (Option Slot)
+
+-- a block without edges
+abbrev pub empty_block : ℕ → ℕ → ℕ → BlockView
+empty_block number source kind = record { number = number; source = source; kind = kind; slots = empty_slots }
+
+-- a block with its slots changed
+abbrev pub with_slots : BlockView → List (Option Slot) → BlockView
+with_slots b slots = record { number = b.number; source = b.source; kind = b.kind; slots = slots }
+
+-- a block has 32 slots, whose edges have different targets, and weights and times in range
+pub record IsBlock (b : BlockView) : Type 0 where
+  pub places : length b.slots ≡ 32
+  pub distinct : AreDistinct b.slots
+  pub stamped : All IsSlot b.slots
+
+-- an edge's key and stamp, in a block of this source and kind
+abbrev pub entry_in : BlockView → Slot → Key × Stamp
+entry_in b e = (record { kind = b.kind; source = b.source; target = e.target }, e.stamp)
+
+-- the edges of a block, in slot order
+abbrev pub entries_of : BlockView → List (Key × Stamp)
+entries_of b = map (entry_in b) (edges_in b.slots)

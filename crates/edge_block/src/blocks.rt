@@ -1,0 +1,283 @@
+//! The block and its calls.
+
+ghost use Rattle.std.specs.Prelude.{◌≡◌, ℕ, ℤ, ◌<◌, ◌≤◌, ◌↔◌, IsTrue, [], length, map, filter, not, MatchOption, slice_index_or, slice_set, false};
+ghost use Rattle.std.specs.List.{list_any};
+ghost use Rattle.graph_model.specs.Graph.{IsWeight, IsTime};
+ghost use Rattle.graph_model.specs.View.{in_view, takes_kind};
+ghost use Rattle.lane_scan.specs.Masks.{AreBoundsOf};
+ghost use Rattle.edge_block.specs.Slots.{IsBlock, edges_in, edge_slot, is_free, empty_block, entries_of, holds, has_room_for, put_slot, take_slot, stamp_at, targets_in, with_slots};
+
+use graph_model::{Filter, KindId, VertexId};
+use lane_scan::{bounds, equal_columns, find_target, window_mask};
+use std::marker::Model;
+
+#[cfg(test)]
+mod tests;
+
+/// How many slots a block has.
+const SLOTS: usize = 32;
+
+/// A block: a number, a source and a kind, and 32 slots, each empty or an edge.
+///
+/// What a search for a target reads lies together and first: the live places, the kind and the targets.
+#[derive(Debug, Drop)]
+pub struct Block {
+    /// Bit `k` is set where slot `k` has an edge.
+    live: u32,
+    kind: KindId,
+    source: VertexId,
+    /// A dead place has the target 0, so that blocks with the same slots have the same column.
+    targets: [u32; SLOTS],
+    number: u32,
+    weights: [i64; SLOTS],
+    firsts: [u64; SLOTS],
+    recents: [u64; SLOTS],
+}
+
+impl Model for Block {
+    ghost use Rattle.std.specs.Prelude.{ℕ, List};
+    ghost use Rattle.edge_block.specs.Slots.{BlockView};
+    ghost use Rattle.edge_block.specs.Columns.{slots_of, AreColumns};
+
+    ghost Value = { BlockView };
+
+    ghost view = { λ a. record { number = a.number; source = a.source.0; kind = a.kind.0; slots = slots_of a.live a.targets a.weights a.firsts a.recents } };
+
+    ghost invariant = { λ a. AreColumns a.live a.targets a.weights a.firsts a.recents };
+}
+
+/// An edge that a block lends: its fields stand in the block's columns, and its source is the block's.
+#[derive(Clone, Copy, Debug)]
+pub struct EdgeRef<'a> {
+    pub kind: KindId,
+    pub target: &'a u32,
+    /// From -2^40 to 2^40.
+    pub weight: &'a i64,
+    /// The time of its first insertion, below 2^63.
+    pub first: &'a u64,
+    /// The time of the last operation that touched it, below 2^63; it may be earlier than `first`.
+    pub recent: &'a u64,
+}
+
+impl Block {
+    ghost use Rattle.edge_block.specs.Lending.{IsEdgeTo, lent_of, edges_left};
+
+    /// A block without edges, of source 0 and kind 0.
+    pub fn blank(number: u32) -> Self
+        ensures { result ≡ empty_block number 0 0 }
+    {
+        Block {
+            live: 0,
+            kind: KindId(0),
+            source: VertexId(0),
+            targets: [0; SLOTS],
+            number,
+            weights: [0; SLOTS],
+            firsts: [0; SLOTS],
+            recents: [0; SLOTS],
+        }
+    }
+
+    /// The number that tells the blocks of a store apart.
+    pub fn number(&self) -> u32
+        ensures { result ≡ self.now.number }
+    {
+        self.number
+    }
+
+    /// The vertex that the edges leave.
+    pub fn source(&self) -> VertexId
+        ensures { result.0 ≡ self.now.source }
+    {
+        self.source
+    }
+
+    /// The kind of the edges.
+    pub fn kind(&self) -> KindId
+        ensures { result.0 ≡ self.now.kind }
+    {
+        self.kind
+    }
+
+    /// How many slots have an edge.
+    pub fn len(&self) -> usize
+        ensures count { result ≡ length (edges_in self.now.slots) }
+        ensures block { IsBlock self.now }
+    {
+        self.live.count_ones() as usize
+    }
+
+    /// Whether no slot has an edge.
+    pub fn is_empty(&self) -> bool
+        ensures { IsTrue result ↔ (edges_in self.now.slots ≡ []) }
+    {
+        self.live == 0
+    }
+
+    /// Whether no slot is free.
+    pub fn is_full(&self) -> bool
+        ensures { list_any is_free self.now.slots ≡ not result }
+    {
+        self.live == u32::MAX
+    }
+
+    /// The edge to a target, where there is one.
+    pub fn find(&self, target: u32) -> Option<EdgeRef<'_>>
+        ensures { MatchOption result (stamp_at self.now.slots target ≡ None) (IsEdgeTo self.now target) }
+    {
+        let place = find_target(&self.targets, self.live, target)?;
+        Some(self.edge_at(place))
+    }
+
+    /// Empties the block, and gives it a source and a kind.
+    pub fn clear_for(&mut self, source: VertexId, kind: KindId)
+        ensures { self.new ≡ empty_block self.old.number source.0 kind.0 }
+    {
+        self.live = 0;
+        self.kind = kind;
+        self.source = source;
+        self.targets = [0; SLOTS];
+    }
+
+    /// Takes over another block's source, kind and slots, and keeps its own number.
+    pub fn copy_from(&mut self, other: &Block)
+        ensures { self.new ≡ record other.now { number = self.old.number } }
+    {
+        self.live = other.live;
+        self.kind = other.kind;
+        self.source = other.source;
+        self.targets = other.targets;
+        self.weights = other.weights;
+        self.firsts = other.firsts;
+        self.recents = other.recents;
+    }
+
+    /// Writes an edge over the slot of its target or, where there is none, into the lowest free slot.
+    ///
+    /// The target is there or a slot is free, the weight is from -2^40 to 2^40, and the times are below 2^63.
+    pub fn put(&mut self, target: u32, weight: i64, first: u64, recent: u64)
+        requires room { IsTrue (has_room_for target self.old.slots) }
+        requires weight { IsWeight weight }
+        requires first { IsTime first }
+        requires recent { IsTime recent }
+        ensures { self.new ≡ with_slots self.old (put_slot (edge_slot target weight first recent) self.old.slots) }
+    {
+        let place = self.place_for(target);
+        self.targets[place] = target;
+        self.weights[place] = weight;
+        self.firsts[place] = first;
+        self.recents[place] = recent;
+        self.live |= 1 << place;
+    }
+
+    /// Takes the edge to a target out; `false` where there is none.
+    pub fn take(&mut self, target: u32) -> bool
+        ensures slots { self.new ≡ with_slots self.old (take_slot target self.old.slots) }
+        ensures taken { result ≡ list_any (holds target) self.old.slots }
+    {
+        let Some(place) = find_target(&self.targets, self.live, target) else {
+            return false;
+        };
+        self.live &= !(1 << place);
+        self.targets[place] = 0;
+        true
+    }
+
+    /// Whether the same slots of two blocks have edges, to the same targets.
+    pub fn same_targets(&self, other: &Block) -> bool
+        ensures { IsTrue result ↔ (targets_in self.now.slots ≡ targets_in other.now.slots) }
+    {
+        self.live == other.live && equal_columns(&self.targets, &other.targets)
+    }
+
+    /// The least and the greatest recent time, or `None` where the block has no edge.
+    pub fn time_bounds(&self) -> Option<(u64, u64)>
+        ensures { AreBoundsOf (map (λ edge. edge.stamp.recent) (edges_in self.now.slots)) result }
+    {
+        bounds(&self.recents, self.live)
+    }
+
+    /// Lends the edges of a view, in slot order: those of the filter's kind, if it names one, whose recent
+    /// time is in the filter's window, both ends included.
+    pub fn select(&self, view: &Filter) -> BlockIter<'_>
+        ensures lends { edges_left result ≡ map lent_of (filter (in_view view.now) (entries_of self.now)) }
+        ensures few { length (edges_left result) ≤ 32 }
+    {
+        let mask = if takes(view, self.kind) {
+            window_mask(&self.recents, self.live, view.lo, view.hi)
+        } else {
+            0
+        };
+        BlockIter { block: self, mask }
+    }
+
+    /// Where an edge to a target goes.
+    fn place_for(&self, target: u32) -> usize
+        requires { IsTrue (has_room_for target self.now.slots) }
+        ensures within { result < 32 }
+        ensures puts { (weight : ℤ) (first recent : ℕ) → put_slot (edge_slot target weight first recent) self.now.slots
+            ≡ slice_set self.now.slots result (Some (edge_slot target weight first recent)) }
+    {
+        match find_target(&self.targets, self.live, target) {
+            Some(place) => place,
+            None => self.live.trailing_ones() as usize,
+        }
+    }
+
+    /// What the columns have at a place.
+    fn edge_at(&self, place: usize) -> EdgeRef<'_>
+        requires within { place < 32 }
+        requires has_edge { is_free (slice_index_or self.now.slots place None) ≡ false }
+        ensures kind { result.kind.0 ≡ self.now.kind }
+        ensures edge { slice_index_or self.now.slots place None
+            ≡ Some (edge_slot result.target.now result.weight.now result.first.now result.recent.now) }
+    {
+        EdgeRef {
+            kind: self.kind,
+            target: &self.targets[place],
+            weight: &self.weights[place],
+            first: &self.firsts[place],
+            recent: &self.recents[place],
+        }
+    }
+}
+
+/// Whether the filter takes edges of a kind.
+fn takes(view: &Filter, kind: KindId) -> bool
+    ensures { result ≡ takes_kind view.now.kind kind.0 }
+{
+    match view.kind {
+        None => true,
+        Some(wanted) => wanted == kind,
+    }
+}
+
+/// The edges of a view that a block has still to lend, in slot order.
+#[derive(Clone, Debug, Drop)]
+pub struct BlockIter<'a> {
+    block: &'a Block,
+    /// Of the places in the mask, those that are live are still to come.
+    mask: u32,
+}
+
+impl<'a> Iterator for BlockIter<'a> {
+    ghost use Rattle.std.specs.Iterator.{YieldsFirstBy, item_count};
+    ghost use Rattle.edge_block.specs.Lending.{lent_edge, edges_left};
+
+    type Item = EdgeRef<'a>;
+
+    ghost next_gives = { YieldsFirstBy lent_edge edges_left };
+
+    ghost remaining = { item_count edges_left };
+
+    fn next(&mut self) -> Option<EdgeRef<'a>> {
+        let block = self.block;
+        let due = self.mask & block.live;
+        if due == 0 {
+            return None;
+        }
+        let place = due.trailing_zeros();
+        self.mask = due & !(1 << place);
+        Some(block.edge_at(place as usize))
+    }
+}

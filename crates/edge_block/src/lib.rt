@@ -1,0 +1,9 @@
+//! Edge blocks: 32 slots for the edges of one source and one kind, kept in columns.
+//!
+//! STINGER keeps a vertex's edges in a list of such blocks (Ediger, McColl, Riedy, Bader; IEEE HPEC
+//! 2012, section II); a whole number of 32 slots a block is this project's own profile.
+#![tactic(auto)]
+
+mod blocks;
+
+pub use blocks::{Block, BlockIter, EdgeRef};

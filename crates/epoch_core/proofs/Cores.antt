@@ -1,0 +1,135 @@
+-- Steps of the whole state.
+use Rattle.std.proofs.Common.{◌≡◌, ℕ, zero, suc, ◌+◌, ◌-◌, ◌^◌, ◌<◌, ◌≤◌, min, Bool, true, false, ◌⊎◌, inl, inr, List, [], ◌∷◌, ◌++◌, length, get_or, set, take, replicate, refl, sym, ap, subst, ◌∙◌, arith, add-one}
+use Rattle.std.specs.Prelude.{slice_get, if◌then◌else◌, is_some}
+use Rattle.std.specs.Option.{option_map, unwrap_or}
+use Rattle.std.specs.declared.option.Option.{Option}
+use Rattle.std.specs.declared.option.Option.TheVariants.{None, Some}
+use Rattle.std.proofs.lemmas.Bool.{cases_eq}
+use Rattle.std.proofs.lemmas.List.{length-replicate}
+use Rattle.graph_model.specs.Graph.{graph_of, content_of, IsContent}
+use Rattle.graph_model.specs.declared.batches.NamedOp.{NamedOp}
+use Rattle.graph_model.specs.declared.contents.Content.{Content}
+use Rattle.graph_model.specs.declared.ids.Edge.{Edge}
+use Rattle.epoch_core.specs.declared.states.Status.{Status}
+use Rattle.epoch_core.specs.declared.states.Status.TheVariants.{Free}
+use Rattle.epoch_core.specs.declared.states.Version.{Version}
+use Rattle.epoch_core.specs.declared.states.Place.{Place}
+use Rattle.epoch_core.specs.declared.states.Place.TheVariants.{Away}
+use Rattle.epoch_core.specs.declared.events.Event.{Event}
+use Rattle.epoch_core.specs.declared.events.Step.{Step}
+use Rattle.epoch_core.specs.declared.events.Step.TheVariants.{Done, Skipped}
+use Rattle.epoch_core.specs.Worlds.{Answer, World, State, start, start_world, graph_at, last_number}
+use Rattle.epoch_core.specs.Machine.{step, Replies, version_by, graph_after, posted, can_post}
+use Rattle.epoch_core.specs.Runs.{is_done, happens, run, done_in, Stepped, Steps, AllReplies, Runs}
+use Rattle.epoch_core.specs.Sound.{IsSound, IsContentGraph, IsCore}
+use Rattle.epoch_core.specs.Calls.{HasContents, count_of}
+use Rattle.epoch_core.proofs.Changes.{graph_before, graph_next, length_next}
+use Rattle.epoch_core.proofs.Steps.{sound_happens, sound_start}
+use Rattle.epoch_core.proofs.Sizes.{SameSizes, size_happens}
+use Rattle.epoch_core.proofs.Answering.{Adds, asked, adds}
+
+-- a step of a part is a step of the whole
+pub stepped_map : {A B : Type 0} (f : A → B) (o : Option A) (outcome : Step) (old new : A) (whole : B) → f old ≡ whole → Stepped o outcome old new → Stepped (option_map f o) outcome whole (f new)
+stepped_map f None outcome old new whole same is = (is.0, ap f is.1 ∙ same)
+stepped_map f (Some after) outcome old new whole same is = (is.0, ap f is.1)
+
+-- a step leads to what happens, and says whether the event is done
+stepped_to : (o : Option World) (outcome : Step) (old new : World) → Stepped o outcome old new → new ≡ unwrap_or o old
+stepped_to None outcome old new is = is.1
+stepped_to (Some after) outcome old new is = is.1
+
+pub steps_to : (old new : State) (e : Event) (outcome : Step) → Steps old e outcome new → new.world ≡ happens old.world e
+steps_to old new e outcome steps = stepped_to (step old.world e) outcome old.world new.world steps.world
+
+pub core_kept : (old new : State) (e : Event) (outcome : Step) → IsCore old → Steps old e outcome new → HasContents new.world.versions → IsCore new
+core_kept old new e outcome core steps contents =
+    let to : new.world ≡ happens old.world e = steps_to old new e outcome steps in
+    let a : Adds 0 (asked 0 old.world e) old.replies new.replies = adds 0 old.world e old.replies new.replies core.sizes steps.replies in
+    record {
+      sound = subst IsSound (sym to) (sound_happens old.world e core.sound);
+      contents = contents;
+      sizes = a.size ∙ core.sizes ∙ sym (size_happens old.world e).sessions ∙ ap (λ w. length w.places) (sym to);
+    }
+
+-- contents of versions, once one more is posted
+pub contents_posted : (versions : List Version) (batch : List NamedOp) (blocks : List ℕ) → HasContents versions → IsContentGraph (graph_after versions batch) → HasContents (versions ++ version_by versions batch blocks ∷ [])
+contents_posted versions batch blocks contents made n low =
+    let v : Version = version_by versions batch blocks in
+    let next : length (versions ++ v ∷ []) ≡ suc (length versions) = length_next versions v in
+    elim (cases_eq n (length (versions ++ v ∷ []))) [
+      | inl e ↦ subst IsContentGraph (sym (ap (graph_at (versions ++ v ∷ [])) e ∙ graph_next versions v)) made
+      | inr ne ↦ let h : n ≤ length versions = omega (arith, next) in subst IsContentGraph (sym (graph_before versions v n h)) (contents n h)
+    ]
+
+-- whole runs
+replies_more : (es : List Event) (e : Event) (w : World) (old mid new : List (List Answer)) → AllReplies w es old mid → Replies (run es w) e mid new → AllReplies w (es ++ e ∷ []) old new
+replies_more [] e w old mid new all more = (new, subst (λ rs. Replies w e rs new) all more, refl)
+replies_more (x ∷ xs) e w old mid new all more = (all.0, all.1, replies_more xs e (happens w x) all.0 mid new all.2 more)
+
+run_more : (es : List Event) (e : Event) (w : World) → run (es ++ e ∷ []) w ≡ happens (run es w) e
+run_more [] e w = refl
+run_more (x ∷ xs) e w = run_more xs e (happens w x)
+
+pub runs_more : (old mid new : State) (es : List Event) (e : Event) (outcome : Step) → Runs old es mid → Steps mid e outcome new → Runs old (es ++ e ∷ []) new
+runs_more old mid new es e outcome runs steps = record {
+  world = steps_to mid new e outcome steps ∙ ap (λ w. happens w e) runs.world ∙ sym (run_more es e old.world);
+  replies = replies_more es e old.world old.replies mid.replies new.replies runs.replies (subst (λ w. Replies w e mid.replies new.replies) runs.world steps.replies);
+}
+
+pub runs_none : (state : State) → Runs state [] state
+runs_none state = record { world = refl; replies = refl }
+
+done_more : (es : List Event) (e : Event) (w : World) → done_in (es ++ e ∷ []) w ≡ done_in es w + (if is_done (run es w) e then 1 else 0)
+done_more [] e w = omega arith
+done_more (x ∷ xs) e w = let rest = done_more xs e (happens w x) in omega (arith, rest)
+
+stepped_count : (o : Option World) (outcome : Step) (old new : World) → Stepped o outcome old new → (if is_some o then 1 else 0) ≡ count_of outcome
+stepped_count None outcome old new is = ap count_of (sym is.0)
+stepped_count (Some after) outcome old new is = ap count_of (sym is.0)
+
+-- how many are done after one more step
+pub count_more : (old mid new : State) (es : List Event) (e : Event) (outcome : Step) → Runs old es mid → Steps mid e outcome new → done_in (es ++ e ∷ []) old.world ≡ done_in es old.world + count_of outcome
+count_more old mid new es e outcome runs steps =
+    done_more es e old.world ∙ ap (λ w. done_in es old.world + (if is_done w e then 1 else 0)) (sym runs.world)
+    ∙ ap (λ n. done_in es old.world + n) (stepped_count (step mid.world e) outcome mid.world new.world steps.world)
+
+-- a count that stays below a bound
+pub capped_more : (old new before after more bound : ℕ) → old ≡ min before bound → after ≡ before + more → new ≡ min (old + more) bound → new ≡ min after bound
+capped_more old new before after more bound e f g = omega arith
+
+-- the content without names, kinds and edges
+abbrev empty_content : Content
+empty_content = record { names = []; kinds = []; edges = [] }
+
+empty_is_content : IsContent empty_content
+empty_is_content = record {
+  names_distinct = λ i j d h g. absurd (omega arith);
+  kinds_distinct = λ i j d h g. absurd (omega arith);
+  names_few = omega arith;
+  kinds_few = omega arith;
+  keys_distinct = λ i j d h g. absurd (omega arith);
+  edges_within = λ k d h. absurd (omega arith);
+}
+
+no_contents : (n : ℕ) → n ≤ 0 → IsContentGraph (graph_at [] n)
+no_contents zero h = (empty_content, empty_is_content, refl)
+no_contents (suc n) h = absurd (omega arith)
+
+pub core_start : (sessions blocks : ℕ) → IsCore (start sessions blocks)
+core_start sessions blocks = record {
+  sound = sound_start sessions blocks;
+  contents = no_contents;
+  sizes = length-replicate sessions [] ∙ sym (length-replicate sessions Away);
+}
+
+pub core_made : (sessions blocks : ℕ) (heap : List (List Edge)) (status : List Status) (versions : List Version) (places : List Place) (replies : List (List Answer))
+    → heap ≡ replicate blocks [] → status ≡ replicate blocks Free → versions ≡ [] → places ≡ replicate sessions Away → replies ≡ replicate sessions []
+    → IsCore (record { world = record { heap = heap; status = status; versions = versions; floor = 0; places = places }; replies = replies })
+core_made sessions blocks heap status versions places replies h s v p r =
+    let made : start sessions blocks ≡ record { world = record { heap = heap; status = status; versions = versions; floor = 0; places = places }; replies = replies } =
+    λ i. record { world = record { heap = sym h i; status = sym s i; versions = sym v i; floor = 0; places = sym p i }; replies = sym r i } in
+    subst IsCore made (core_start sessions blocks)
+
+-- no step changes how many sessions there are
+pub steps_size : (old new : State) (e : Event) (outcome : Step) → Steps old e outcome new → length new.world.places ≡ length old.world.places
+steps_size old new e outcome steps = ap (λ w. length w.places) (steps_to old new e outcome steps) ∙ (size_happens old.world e).sessions

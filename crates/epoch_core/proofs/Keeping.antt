@@ -1,0 +1,172 @@
+-- Each event keeps what is sound: blocks and versions.
+use Rattle.std.proofs.Common.{◌≡◌, ◌≢◌, ℕ, zero, suc, ◌+◌, ◌<◌, ◌≤◌, Bool, true, false, not, ◌&&◌, ◌⊎◌, inl, inr, List, [], ◌∷◌, ◌++◌, length, get_or, set, take, map, refl, sym, ap, subst, ◌∙◌, arith, add-one, eqb}
+use Rattle.std.specs.Prelude.{slice_get, nat_le, if◌then◌else◌}
+use Rattle.std.specs.List.{list_all, flat_map}
+use Rattle.std.specs.Option.{option_map, option_and_then, unwrap_or}
+use Rattle.std.specs.declared.option.Option.{Option}
+use Rattle.std.specs.declared.option.Option.TheVariants.{None, Some}
+use Rattle.std.proofs.lemmas.Bool.{cases_eq}
+use Rattle.std.proofs.lemmas.List.{get_or-set_same, get_or-set_other, set_past, length-set}
+use Rattle.graph_model.specs.Graph.{Graph}
+use Rattle.graph_model.specs.declared.ids.Edge.{Edge}
+use Rattle.graph_model.specs.declared.batches.NamedOp.{NamedOp}
+use Rattle.epoch_core.specs.declared.states.Status.{Status}
+use Rattle.epoch_core.specs.declared.states.Status.TheVariants.{Free, Fresh, Used, Retired}
+use Rattle.epoch_core.specs.declared.states.Version.{Version}
+use Rattle.epoch_core.specs.declared.states.Hold.{Hold}
+use Rattle.epoch_core.specs.declared.states.Place.{Place}
+use Rattle.epoch_core.specs.declared.states.Place.TheVariants.{Away, Pinned, Holding, Asking}
+use Rattle.epoch_core.specs.Worlds.{World, graph_at, version_at, blocks_at, last_number, last_blocks, last_graph, edges_at, edges_of, place_of, pin_in}
+use Rattle.epoch_core.specs.Machine.{is_listed, taken, recycled, is_fresh, filled, changed_at, with_status, with_heap, with_places, move, can_post, posted, all_postable, is_postable, after_post, status_after, version_by, graph_after, least_pin, lesser}
+use Rattle.epoch_core.specs.Sound.{Shows, is_used, IsKept, IsHeld, IsPlaced, IsNamed, IsSound}
+use Rattle.epoch_core.proofs.Lists.{option_map_some, and_then_some, ChangedAt, changed_at-some, within, get_at, set_same, set_else, get_enumerated, length_enumerated, and_left, and_right, true_or_false, all_listed, same_pieces, listed_take}
+use Rattle.epoch_core.proofs.Changes.{length_next, version_before, graph_before, version_next, graph_next}
+use Rattle.epoch_core.proofs.Edges.{shows_if}
+
+-- what a change of the world owes to each holder
+pub record Carries (old new : World) : Type 0 where
+  pub floor : new.floor ≡ old.floor
+  pub last : last_number old ≤ last_number new
+  pub versions : (n : ℕ) → n ≤ last_number old → version_at new.versions n ≡ version_at old.versions n
+  pub graphs : (n : ℕ) → n ≤ last_number old → graph_at new.versions n ≡ graph_at old.versions n
+  -- no block that a holder keeps is freed or written
+  pub kept : (b n : ℕ) → old.floor ≤ n → n ≤ last_number old → IsKept n (slice_get old.status b) → IsKept n (slice_get new.status b)
+  pub edges : (b n : ℕ) → IsKept n (slice_get old.status b) → edges_at new.heap b ≡ edges_at old.heap b
+
+-- a holder is carried over such a change
+pub carry_held : (old new : World) (hold : Hold) → Carries old new → IsHeld old hold → IsHeld new hold
+carry_held old new hold c h =
+    let low : old.floor ≤ hold.version = omega (arith, h.floor_pin, h.pin_held) in
+    let blocks : blocks_at new.versions hold.version ≡ blocks_at old.versions hold.version = ap (λ v. v.blocks) (c.versions hold.version h.held_last) in
+    let pieces : edges_of new.heap (blocks_at old.versions hold.version) ≡ edges_of old.heap (blocks_at old.versions hold.version) =
+    same_pieces (edges_at new.heap) (edges_at old.heap) _ (λ b is. c.edges b hold.version (h.kept b is)) in
+    record {
+      floor_pin = omega (arith, c.floor, h.floor_pin);
+      pin_held = h.pin_held;
+      held_last = omega (arith, c.last, h.held_last);
+      kept = λ b is. c.kept b hold.version low h.held_last (h.kept b (subst (λ bs. is_listed b bs ≡ true) blocks is));
+      shown =
+          let same : edges_of new.heap (blocks_at new.versions hold.version) ≡ edges_of old.heap (blocks_at old.versions hold.version) = ap (edges_of new.heap) blocks ∙ pieces in
+          subst (λ g. Shows (edges_of new.heap (blocks_at new.versions hold.version)) g) (sym (c.graphs hold.version h.held_last))
+          (subst (λ es. Shows es (graph_at old.versions hold.version)) (sym same) h.shown);
+    }
+
+pub carry : (old new : World) (place : Place) → Carries old new → IsPlaced old place → IsPlaced new place
+carry old new Away c p = tt
+carry old new (Pinned pin) c p = (omega (arith, c.floor, p.0), omega (arith, c.last, p.1))
+carry old new (Holding hold) c p = carry_held old new hold c p
+carry old new (Asking hold inquiry) c p =
+    let blocks : blocks_at new.versions hold.version ≡ blocks_at old.versions hold.version = ap (λ v. v.blocks) (c.versions hold.version p.0.held_last) in
+    let pieces : edges_of new.heap (take inquiry.next (blocks_at old.versions hold.version)) ≡ edges_of old.heap (take inquiry.next (blocks_at old.versions hold.version)) =
+    same_pieces (edges_at new.heap) (edges_at old.heap) _ (λ b is. c.edges b hold.version (p.0.kept b (listed_take inquiry.next b _ is))) in
+    (carry_held old new hold c p.0, p.1 ∙ sym pieces ∙ ap (λ bs. edges_of new.heap (take inquiry.next bs)) (sym blocks))
+
+-- the status of one block changes, from what no holder keeps, and neither from nor to a used block
+pub record FreesNone (floor : ℕ) (before after : Status) : Type 0 where
+  pub unused_before : is_used (Some before) ≡ false
+  pub unused_after : is_used (Some after) ≡ false
+  pub not_kept : (n : ℕ) → floor ≤ n → IsKept n (Some before) → ⊥
+
+pub frees_taken : (floor : ℕ) (before after : Status) → taken before ≡ Some after → FreesNone floor before after
+frees_taken floor Free Free is = cc
+frees_taken floor Free Fresh is = record { unused_before = refl; unused_after = refl; not_kept = λ n _ k. k }
+frees_taken floor Free (Used birth) is = cc
+frees_taken floor Free (Retired birth since) is = cc
+frees_taken floor Fresh after is = cc
+frees_taken floor (Used birth) after is = cc
+frees_taken floor (Retired birth since) after is = cc
+
+abbrev freed_by : Bool → Option Status
+freed_by t = if t then Some Free else None
+
+pub frees_recycled : (floor : ℕ) (before after : Status) → recycled floor before ≡ Some after → FreesNone floor before after
+frees_recycled floor Free after is = cc
+frees_recycled floor Fresh after is = cc
+frees_recycled floor (Used birth) after is = cc
+frees_recycled floor (Retired birth since) after is =
+    elim (nat_le since floor) as (λ t. nat_le since floor ≡ t → freed_by t ≡ Some after → FreesNone floor (Retired birth since) after) [
+      | true ↦ λ e f.
+          let free : after ≡ Free = cc in
+          let low : since ≤ floor = grind (arith, e) in
+          record { unused_before = refl; unused_after = ap (λ s. is_used (Some s)) free; not_kept = λ n high k. absurd (omega (arith, low, high, k)) }
+      | false ↦ λ _ f. cc
+    ] refl is
+
+named_with_status : (w : World) (status : List Status) → ((n : ℕ) → n ≤ last_number w → IsNamed w n) → (n : ℕ) → n ≤ last_number w → IsNamed (with_status w status) n
+named_with_status w status named n h = record { names = (named n h).names; kinds = (named n h).kinds }
+
+pub sound_status : (w : World) (b : ℕ) (before after : Status) → IsSound w → slice_get w.status b ≡ Some before → FreesNone w.floor before after → IsSound (with_status w (set w.status b after))
+sound_status w b before after sound found frees =
+    let carries : Carries w (with_status w (set w.status b after)) = record {
+      floor = refl;
+      last = omega arith;
+      versions = λ n _. refl;
+      graphs = λ n _. refl;
+      kept = λ c n high _ k.
+          elim (cases_eq c b) [
+            | inl e ↦ absurd (frees.not_kept n high (subst (IsKept n) (ap (slice_get w.status) e ∙ found) k))
+            | inr ne ↦ subst (IsKept n) (sym (set_else w.status b c after ne)) k
+          ];
+      edges = λ c n _. refl;
+    } in
+    record {
+      floor_last = sound.floor_last;
+      used = λ c. elim (cases_eq c b) [
+        | inl e ↦
+            ap (λ k. is_used (slice_get (set w.status b after) k)) e ∙ ap is_used (set_same w.status b before after found) ∙ frees.unused_after
+            ∙ sym frees.unused_before ∙ sym (ap is_used found) ∙ sym (ap (λ k. is_used (slice_get w.status k)) e) ∙ sound.used c
+        | inr ne ↦ ap is_used (set_else w.status b c after ne) ∙ sound.used c
+      ];
+      listed_once = sound.listed_once;
+      shown = sound.shown;
+      named = named_with_status w (set w.status b after) sound.named;
+      placed = λ s. carry w (with_status w (set w.status b after)) (place_of w s) carries (sound.placed s);
+      sizes = sound.sizes ∙ sym (length-set w.status b after);
+    }
+
+-- a Fill that is done names a fresh block
+pub record Fills (status : List Status) (heap : List (List Edge)) (b : ℕ) (edges : List Edge) (after : List (List Edge)) : Type 0 where
+  pub fresh : slice_get status b ≡ Some Fresh
+  pub result : after ≡ set heap b edges
+
+abbrev written_if : Bool → List (List Edge) → Option (List (List Edge))
+written_if t heap = if t then Some heap else None
+
+fills_at : (status : List Status) (heap : List (List Edge)) (b : ℕ) (edges : List Edge) (after : List (List Edge)) (s : Status) → slice_get status b ≡ Some s → written_if (is_fresh s) (set heap b edges) ≡ Some after → Fills status heap b edges after
+fills_at status heap b edges after Free found is = cc
+fills_at status heap b edges after Fresh found is = record { fresh = found; result = cc }
+fills_at status heap b edges after (Used birth) found is = cc
+fills_at status heap b edges after (Retired birth since) found is = cc
+
+pub fills : (status : List Status) (heap : List (List Edge)) (b : ℕ) (edges : List Edge) (after : List (List Edge)) → filled status heap b edges ≡ Some after → Fills status heap b edges after
+fills status heap b edges after is =
+    let found = and_then_some (λ s. written_if (is_fresh s) (set heap b edges)) (slice_get status b) after is in
+    fills_at status heap b edges after found.0 found.1 found.2
+
+named_with_heap : (w : World) (heap : List (List Edge)) → ((n : ℕ) → n ≤ last_number w → IsNamed w n) → (n : ℕ) → n ≤ last_number w → IsNamed (with_heap w heap) n
+named_with_heap w heap named n h = record { names = (named n h).names; kinds = (named n h).kinds }
+
+pub sound_fill : (w : World) (b : ℕ) (edges : List Edge) → IsSound w → slice_get w.status b ≡ Some Fresh → IsSound (with_heap w (set w.heap b edges))
+sound_fill w b edges sound fresh =
+    let carries : Carries w (with_heap w (set w.heap b edges)) = record {
+      floor = refl;
+      last = omega arith;
+      versions = λ n _. refl;
+      graphs = λ n _. refl;
+      kept = λ c n _ _ k. k;
+      edges = λ c n k.
+          let apart : c ≢ b = λ e. subst (IsKept n) (ap (slice_get w.status) e ∙ fresh) k in
+          get_or-set_other w.heap b c edges [] apart;
+    } in
+    record {
+      floor_last = sound.floor_last;
+      used = sound.used;
+      listed_once = sound.listed_once;
+      shown = subst (λ es. Shows es (last_graph w))
+          (sym (same_pieces (edges_at (set w.heap b edges)) (edges_at w.heap) (last_blocks w)
+          (λ c is. let apart : c ≢ b = λ e. let unused : is_used (slice_get w.status c) ≡ false = ap (λ k. is_used (slice_get w.status k)) e ∙ ap is_used fresh in let used = sound.used c in cc in get_or-set_other w.heap b c edges [] apart)))
+          sound.shown;
+      named = named_with_heap w (set w.heap b edges) sound.named;
+      placed = λ s. carry w (with_heap w (set w.heap b edges)) (place_of w s) carries (sound.placed s);
+      sizes = length-set w.heap b edges ∙ sound.sizes;
+    }

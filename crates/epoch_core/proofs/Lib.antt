@@ -1,0 +1,15 @@
+pub mod Lists
+pub mod Edges
+pub mod Changes
+pub mod Keeping
+pub mod Posted
+pub mod Moves
+pub mod Steps
+pub mod Sizes
+pub mod Epochs
+pub mod Answering
+pub mod Account
+pub mod Calls
+pub mod Read
+pub mod Cores
+pub mod Rows

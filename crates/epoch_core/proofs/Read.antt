@@ -1,0 +1,98 @@
+-- What is read of a version is a content.
+use Rattle.std.proofs.Common.{◌≡◌, ◌≢◌, ℕ, zero, suc, ◌<◌, ◌≤◌, Bool, true, false, cond, List, [], ◌∷◌, length, get_or, take, refl, sym, ap, subst, ◌∙◌, arith}
+use Rattle.std.specs.Prelude.{AllPairs, All, Contains}
+use Rattle.std.specs.Ordering.{eq_by_cmp}
+use Rattle.std.specs.FinMap.{get, get-empty}
+use Rattle.std.specs.declared.option.Option.{Option}
+use Rattle.std.specs.declared.option.Option.TheVariants.{None, Some}
+use Rattle.std.proofs.lemmas.List.{take_all}
+use Rattle.graph_model.specs.Graph.{Graph, Key, Stamp, key_cmp, key_of, stamp_of, map_of, graph_of, content_of, IsContent, IsEdgeWithin, IsWeight, IsTime}
+use Rattle.graph_model.specs.declared.ids.Edge.{Edge}
+use Rattle.graph_model.specs.declared.contents.Content.{Content}
+use Rattle.epoch_core.specs.declared.states.Version.{Version}
+use Rattle.epoch_core.specs.declared.states.Hold.{Hold}
+use Rattle.epoch_core.specs.declared.states.Inquiry.{Inquiry}
+use Rattle.epoch_core.specs.declared.states.Place.{Place}
+use Rattle.epoch_core.specs.declared.states.Place.TheVariants.{Away, Pinned, Holding, Asking}
+use Rattle.epoch_core.specs.Worlds.{World, graph_at, version_at, blocks_at, edges_of, last_number, last_blocks, last_graph, place_of}
+use Rattle.epoch_core.specs.Machine.{is_all_read}
+use Rattle.epoch_core.specs.Sound.{Shows, IsHeld, IsNamed, IsPlaced, IsSound, IsContentGraph}
+use Rattle.epoch_core.specs.Calls.{content_with, last_content, ReadsContent, HasContents}
+use Rattle.epoch_core.proofs.Edges.{KeysOnce, get_map_cons, get_listed, tied}
+
+-- an edge that stands in the map is listed
+pub record Listed (es : List Edge) (q : Key) (s : Stamp) : Type 0 where
+  pub edge : Edge
+  pub place : ℕ
+  pub low : place < length es
+  pub at : (d : Edge) → get_or es place d ≡ edge
+  pub key : q ≡ key_of edge
+  pub stamp : s ≡ stamp_of edge
+
+find_listed : (es : List Edge) (q : Key) (s : Stamp) → get (map_of es) q ≡ Some s → Listed es q s
+find_listed [] q s is = let none = get-empty {X = Stamp} key_cmp q in cc
+find_listed (e ∷ es) q s is =
+    elim (eq_by_cmp key_cmp q (key_of e)) as (λ t. eq_by_cmp key_cmp q (key_of e) ≡ t → cond t (Some (stamp_of e)) (get (map_of es) q) ≡ Some s → Listed (e ∷ es) q s) [
+      | true ↦ λ t w. record { edge = e; place = 0; low = omega arith; at = λ d. refl; key = tied q (key_of e) t; stamp = cc }
+      | false ↦ λ _ w.
+          let rest : Listed es q s = find_listed es q s w in
+          record { edge = rest.edge; place = suc rest.place; low = omega (arith, rest.low); at = rest.at; key = rest.key; stamp = rest.stamp }
+    ] refl (sym (get_map_cons e es q) ∙ is)
+
+same_within : (n m : ℕ) (x e : Edge) → key_of e ≡ key_of x → stamp_of e ≡ stamp_of x → IsEdgeWithin n m x → IsEdgeWithin n m e
+same_within n m x e key stamp w = record {
+  kind = subst (λ i. i < m) (sym (ap (λ k. k.kind) key)) w.kind;
+  source = subst (λ i. i < n) (sym (ap (λ k. k.source) key)) w.source;
+  target = subst (λ i. i < n) (sym (ap (λ k. k.target) key)) w.target;
+  weight = subst IsWeight (sym (ap (λ s. s.weight) stamp)) w.weight;
+  first = subst IsTime (sym (ap (λ s. s.first) stamp)) w.first;
+  recent = subst IsTime (sym (ap (λ s. s.recent) stamp)) w.recent;
+}
+
+-- edges that show a content's graph are a content with its names and kinds
+pub is_content : (v : Version) (es : List Edge) (g : Graph) → IsContentGraph g → v.names ≡ g.names → v.kinds ≡ g.kinds → Shows es g → IsContent (content_with v es)
+is_content v es g (c, is, same) names kinds shows =
+    let ns : v.names ≡ c.names = names ∙ sym (ap (λ h. h.names) same) in
+    let ks : v.kinds ≡ c.kinds = kinds ∙ sym (ap (λ h. h.kinds) same) in
+    let map : map_of es ≡ map_of c.edges = shows.same ∙ sym (ap (λ h. h.edges) same) in
+    record {
+      names_distinct = subst (λ xs. AllPairs ◌≢◌ xs) (sym ns) is.names_distinct;
+      kinds_distinct = subst (λ xs. AllPairs ◌≢◌ xs) (sym ks) is.kinds_distinct;
+      names_few = subst (λ xs. length xs ≤ 65536) (sym ns) is.names_few;
+      kinds_few = subst (λ xs. length xs ≤ 64) (sym ks) is.kinds_few;
+      keys_distinct = shows.once;
+      edges_within = λ k d h.
+          let e : Edge = get_or es k d in
+          let found : Listed c.edges (key_of e) (stamp_of e) = find_listed c.edges (key_of e) (stamp_of e) (ap (λ m. get m (key_of e)) (sym map) ∙ get_listed es shows.once k d h) in
+          let w : IsEdgeWithin (length c.names) (length c.kinds) found.edge = subst (IsEdgeWithin (length c.names) (length c.kinds)) (found.at d) (is.edges_within found.place d found.low) in
+          subst (λ n. IsEdgeWithin n (length v.kinds) e) (ap length (sym ns)) (subst (λ m. IsEdgeWithin (length c.names) m e) (ap length (sym ks)) (same_within _ _ found.edge e found.key found.stamp w));
+    }
+
+-- the last version's content
+pub last_is_content : (w : World) → IsSound w → HasContents w.versions → IsContent (last_content w.heap w.versions)
+last_is_content w sound contents =
+    let named : IsNamed w (last_number w) = sound.named (last_number w) (omega arith) in
+    is_content (version_at w.versions (last_number w)) (edges_of w.heap (last_blocks w)) (last_graph w) (contents (last_number w) (omega arith)) named.names named.kinds sound.shown
+
+pub last_is_graph : (w : World) → IsSound w → graph_of (last_content w.heap w.versions) ≡ graph_at w.versions (length w.versions)
+last_is_graph w sound =
+    let named : IsNamed w (last_number w) = sound.named (last_number w) (omega arith) in
+    let names = named.names in
+    let kinds = named.kinds in
+    let edges = sound.shown.same in
+    λ i. record { names = names i; kinds = kinds i; edges = edges i }
+
+-- what a session has read
+reads_at : (w : World) (place : Place) → IsSound w → HasContents w.versions → IsPlaced w place → ReadsContent w.versions place
+reads_at w Away sound contents p = tt
+reads_at w (Pinned pin) sound contents p = tt
+reads_at w (Holding hold) sound contents p = tt
+reads_at w (Asking hold inquiry) sound contents p = λ all.
+    let low : length (blocks_at w.versions hold.version) ≤ inquiry.next = grind (arith, all) in
+    let named : IsNamed w hold.version = sound.named hold.version p.0.held_last in
+    let whole : inquiry.read ≡ edges_of w.heap (blocks_at w.versions hold.version) = p.1 ∙ ap (edges_of w.heap) (take_all inquiry.next (blocks_at w.versions hold.version) low) in
+    is_content (version_at w.versions hold.version) inquiry.read (graph_at w.versions hold.version) (contents hold.version p.0.held_last) named.names named.kinds
+    (subst (λ es. Shows es (graph_at w.versions hold.version)) (sym whole) p.0.shown)
+
+pub reads_content : (w : World) (s : ℕ) → IsSound w → HasContents w.versions → ReadsContent w.versions (place_of w s)
+reads_content w s sound contents = reads_at w (place_of w s) sound contents (sound.placed s)

@@ -1,0 +1,47 @@
+-- Steps and whole runs of the machine, over the state.
+use Rattle.std.specs.Prelude.{◌≡◌, ℕ, Bool, List, [], ◌∷◌, ◌+◌, if◌then◌else◌, is_some}
+use Rattle.std.specs.Option.{unwrap_or}
+use Rattle.std.specs.declared.option.Option.{Option}
+use Rattle.std.specs.declared.option.Option.TheVariants.{None, Some}
+use Rattle.epoch_core.specs.declared.events.Event.{Event}
+use Rattle.epoch_core.specs.declared.events.Step.{Step}
+use Rattle.epoch_core.specs.declared.events.Step.TheVariants.{Done, Skipped}
+use Rattle.epoch_core.specs.Worlds.{Answer, World, State}
+use Rattle.epoch_core.specs.Machine.{step, Replies}
+
+-- whether an event is done in this world
+abbrev pub is_done : World → Event → Bool
+is_done w e = is_some (step w e)
+
+-- the world after an event, done or skipped
+abbrev pub happens : World → Event → World
+happens w e = unwrap_or (step w e) w
+
+abbrev pub run : List Event → World → World
+run [] w = w
+run (e ∷ es) w = run es (happens w e)
+
+-- how many of the events are done
+abbrev pub done_in : List Event → World → ℕ
+done_in [] w = 0
+done_in (e ∷ es) w = (if is_done w e then 1 else 0) + done_in es (happens w e)
+
+-- a change that is done, or skipped with nothing changed
+abbrev pub Stepped : {A : Type 0} → Option A → Step → A → A → Type 0
+Stepped None step old new = (step ≡ Skipped) × (new ≡ old)
+Stepped (Some after) step old new = (step ≡ Done) × (new ≡ after)
+
+-- one step of the machine
+pub record Steps (old : State) (e : Event) (outcome : Step) (new : State) : Type 0 where
+  pub world : Stepped (step old.world e) outcome old.world new.world
+  pub replies : Replies old.world e old.replies new.replies
+
+-- the replies after events that begin in this world
+abbrev pub AllReplies : World → List Event → List (List Answer) → List (List Answer) → Type 0
+AllReplies w [] old new = new ≡ old
+AllReplies w (e ∷ es) old new = (between : List (List Answer)) × Replies w e old between × AllReplies (happens w e) es between new
+
+-- a run of the machine through all these events
+pub record Runs (old : State) (events : List Event) (new : State) : Type 0 where
+  pub world : new.world ≡ run events old.world
+  pub replies : AllReplies old.world events old.replies new.replies

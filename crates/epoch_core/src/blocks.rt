@@ -1,0 +1,121 @@
+//! What blocks are: taken, filled, recycled, and used or retired by a new version.
+
+ghost use Rattle.std.specs.Prelude.{◌≡◌, ◌+◌, IfOk, OnErr, map, length, slice_get};
+ghost use Rattle.std.specs.List.{enumerate_from};
+ghost use Rattle.epoch_core.specs.Machine as machine;
+ghost use Rattle.epoch_core.specs.Runs.{Stepped};
+
+use crate::Step;
+use crate::states::Status;
+use graph_model::{Edge, List};
+use std::alloc::{AllocError, Global};
+
+/// Makes a free block fresh. It takes no memory.
+pub(crate) fn take_block(status: &mut Vec<Status>, block: usize) -> Step
+    ensures { Stepped (machine.changed_at machine.taken status.old.items block) result status.old.items status.new.items }
+{
+    let before = status.get(block).copied();
+    match before {
+        Some(Status::Free) => {
+            status[block] = Status::Fresh;
+            Step::Done
+        }
+        _ => Step::Skipped,
+    }
+}
+
+/// Frees a block that was retired with a number at most the floor. It takes no memory.
+pub(crate) fn recycle_block(status: &mut Vec<Status>, floor: u64, block: usize) -> Step
+    ensures { Stepped (machine.changed_at (machine.recycled floor) status.old.items block) result status.old.items status.new.items }
+{
+    let before = status.get(block).copied();
+    match before {
+        Some(Status::Retired { since, .. }) if since <= floor => {
+            status[block] = Status::Free;
+            Step::Done
+        }
+        _ => Step::Skipped,
+    }
+}
+
+/// Puts edges into a fresh block in place of those that it has.
+pub(crate) fn fill_block(
+    alloc: Global,
+    status: &[Status],
+    heap: &mut Vec<List<Edge>>,
+    block: usize,
+    edges: &[Edge],
+) -> Result<Step, AllocError>
+    requires { length heap.old.items ≡ length status.now }
+    ensures filled { IfOk result (λ step. Stepped (machine.filled status.now heap.old.items block edges.now) step heap.old.items heap.new.items) }
+    ensures unchanged { OnErr result (heap.new.items ≡ heap.old.items) }
+{
+    let before = status.get(block).copied();
+    match before {
+        Some(Status::Fresh) => {
+            let copy = Vec::from_slice(alloc, edges)?;
+            heap[block] = List::of(copy);
+            Ok(Step::Done)
+        }
+        _ => Ok(Step::Skipped),
+    }
+}
+
+/// What a block is once version `number` is posted, which lists it or not.
+fn after_post(number: u64, is_in: bool, status: Status) -> Status
+    ensures { result ≡ machine.after_post number is_in status }
+{
+    match status {
+        Status::Fresh if is_in => Status::Used { birth: number },
+        Status::Used { birth } if !is_in => Status::Retired {
+            birth,
+            since: number,
+        },
+        _ => status,
+    }
+}
+
+/// What each block is once version `number` is posted on these blocks.
+pub(crate) fn status_after(
+    alloc: Global,
+    number: u64,
+    blocks: &[usize],
+    status: &[Status],
+) -> Result<Vec<Status>, AllocError>
+    ensures { IfOk result (λ v. v.items ≡ machine.status_after number blocks.now status.now) }
+{
+    status
+        .iter()
+        .enumerate()
+        .map(|(block, status)| after_post(number, blocks.contains(&block), *status))
+        .collect(alloc)
+}
+
+/// Whether a version may list the block: it is fresh, or of the last version.
+fn is_postable(status: &[Status], block: usize) -> bool
+    ensures { result ≡ machine.is_postable (slice_get status.now block) }
+{
+    let status = status.get(block).copied();
+    matches!(status, Some(Status::Fresh | Status::Used { .. }))
+}
+
+/// Whether a version may list all these blocks. It takes no memory.
+pub(crate) fn all_postable(status: &[Status], blocks: &[usize]) -> bool
+    ensures { result ≡ machine.all_postable status.now blocks.now }
+{
+    blocks.iter().all(|block| is_postable(status, *block))
+}
+
+/// Whether no block is listed twice. It takes no memory.
+pub(crate) fn all_differ(blocks: &[usize]) -> bool
+    ensures { result ≡ machine.all_differ blocks.now }
+{
+    let mut rest = blocks;
+    while let [block, others @ ..] = rest {
+        if others.contains(block) {
+            return false;
+        }
+        rest = others;
+    }
+    true
+}

@@ -1,0 +1,41 @@
+//! The events of the machine, and what one comes to.
+
+use graph_model::{Batch, Edge, List, Request};
+
+/// An event of the machine: one atomic step of the writer, the collector or a session.
+#[derive(Debug, Drop)]
+pub enum Event {
+    /// The writer takes a free block.
+    Take(usize),
+    /// The writer fills a fresh block with these edges.
+    Fill(usize, List<Edge>),
+    /// The writer posts a batch as the next version, whose edges are in these blocks.
+    Post(Batch, List<usize>),
+    /// The collector raises the floor to the least of the last number and all pins.
+    Floor,
+    /// The collector frees a block that was retired with a number at most the floor.
+    Recycle(usize),
+    /// A session pins the floor.
+    Pin(usize),
+    /// A pinned session takes hold of the last version.
+    Enter(usize),
+    /// A session that holds a version moves its pin up to that version's number.
+    Settle(usize),
+    /// A session asks a request of the version that it holds.
+    Ask(usize, Request),
+    /// A session that has asked reads the next block of its version.
+    Read(usize),
+    /// A session that has read all blocks of its version is answered.
+    Reply(usize),
+    /// A session lets go of its version and its pin.
+    Release(usize),
+}
+
+/// What an event came to.
+#[derive(Clone, Copy, Debug, PartialEq, Eq)]
+pub enum Step {
+    /// Its condition held, and it took effect.
+    Done,
+    /// Its condition failed, or it names a session or a block out of range: nothing changed.
+    Skipped,
+}

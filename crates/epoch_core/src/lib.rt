@@ -1,0 +1,31 @@
+//! The machine of interleavings: sessions hold versions while batches are posted and blocks are recycled.
+//!
+//! Its events are single atomic steps of a writer, a collector and the sessions; `specs/Machine.antt` says what
+//! each asks and does, `specs/Runs.antt` what a list of them does, and `specs/Holdings.antt` what befalls a
+//! session in it. [`Core`] takes exactly these steps. [`law_isolation`] and [`law_epoch`] are the two laws about
+//! them: snapshot isolation, and that no block is filled again while a session may read it.
+//! The store that it models is STINGER's (Ediger, McColl, Riedy, Bader; IEEE HPEC 2012) with held snapshots as
+//! Aspen has them (Dhulipala, Blelloch, Shun; PLDI 2019).
+#![tactic(auto)]
+
+mod blocks;
+mod contents;
+mod events;
+mod laws;
+mod machine;
+mod posting;
+mod replying;
+mod sessions;
+mod states;
+mod versions;
+
+pub use events::{Event, Step};
+pub use laws::{law_epoch, law_isolation};
+pub use machine::{Core, run};
+use std::alloc::AllocError;
+
+/// Want of memory.
+pub type OutOfMemory = AllocError;
+
+#[cfg(test)]
+mod tests;

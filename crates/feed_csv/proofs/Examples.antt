@@ -1,0 +1,50 @@
+-- Records and what they give, computed from the definitions.
+use Rattle.std.proofs.Common.{◌≡◌, ◌∷◌, [], codes, refl, None, Ok, Err, pos, negsuc}
+use Rattle.csv.specs.Machine.{next_record}
+use Rattle.csv.specs.Reading.{records_from, strip_bom}
+use Rattle.csv.specs.Records.{field_at}
+use Rattle.graph_model.specs.declared.batches.NamedOp.TheVariants.{Insert, Incr}
+use Rattle.graph_model.specs.declared.requests.Request.TheVariants.{Degrees}
+use Rattle.feed_csv.specs.Commands.{commit_of, degrees_of, incr_of, insert_of, item_of}
+use Rattle.feed_csv.specs.Fields.{any_kind_at, kind_at, name_at, of_length, slot_at, time_at, weight_at}
+use Rattle.feed_csv.specs.Records.{records_of}
+use Rattle.feed_csv.specs.declared.command.Command.TheVariants.{Op, Query}
+use Rattle.feed_csv.specs.declared.command.FeedWord.TheVariants.{BadCommand, BadFields, BadName, BadTime}
+
+-- blank lines are no records, a quoted field may hold a comma, and a byte order mark is dropped
+pub three-records : records_of (0xEF ∷ 0xBB ∷ 0xBF ∷ codes "i,\"k,k\",a\r\n\ncommit\ndeg")
+    ≡ (codes "i" ∷ codes "k,k" ∷ codes "a" ∷ []) ∷ (codes "commit" ∷ []) ∷ (codes "deg" ∷ []) ∷ []
+unfolding next_record records_from strip_bom
+three-records = refl
+
+pub an-insertion : item_of (codes "i" ∷ codes "k" ∷ codes "a" ∷ codes "*" ∷ codes "-007" ∷ codes "5" ∷ [])
+    ≡ Ok (Op (Insert (codes "k") (codes "a") (codes "*") (negsuc 6) 5))
+unfolding item_of insert_of of_length kind_at name_at weight_at time_at field_at
+an-insertion = refl
+
+pub an-increment : item_of (codes "a" ∷ codes "k" ∷ codes "a" ∷ codes "b" ∷ codes "0010" ∷ codes "5" ∷ [])
+    ≡ Ok (Op (Incr (codes "k") (codes "a") (codes "b") (pos 10) 5))
+unfolding item_of incr_of of_length kind_at name_at weight_at time_at field_at
+an-increment = refl
+
+pub a-request : item_of (codes "deg" ∷ codes "015" ∷ codes "*" ∷ codes "0" ∷ codes "9223372036854775807" ∷ [])
+    ≡ Ok (Query 15 (Degrees (record { kind = None; lo = 0; hi = 9223372036854775807 })))
+unfolding item_of degrees_of of_length any_kind_at time_at slot_at field_at
+a-request = refl
+
+-- a time comes before the slot, and a name before a time
+pub a-bad-time : item_of (codes "deg" ∷ codes "x" ∷ codes "k" ∷ codes "0" ∷ codes "9223372036854775808" ∷ []) ≡ Err BadTime
+unfolding item_of degrees_of of_length any_kind_at time_at slot_at field_at
+a-bad-time = refl
+
+pub a-bad-name : item_of (codes "deg" ∷ codes "x" ∷ codes "k k" ∷ codes "x" ∷ codes "0" ∷ []) ≡ Err BadName
+unfolding item_of degrees_of of_length any_kind_at time_at slot_at field_at
+a-bad-name = refl
+
+pub a-commit-with-fields : item_of (codes "commit" ∷ codes "1" ∷ []) ≡ Err BadFields
+unfolding item_of commit_of of_length field_at
+a-commit-with-fields = refl
+
+pub an-unknown-command : item_of ([] ∷ []) ≡ Err BadCommand
+unfolding item_of field_at
+an-unknown-command = refl

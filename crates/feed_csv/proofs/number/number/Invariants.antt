@@ -1,0 +1,13 @@
+use Rattle.std.proofs.Common.{◌≡◌, take, true, ◌≤◌, length}
+use Rattle.std.specs.Char.{is_ascii_digit}
+use Rattle.std.specs.List.{list_all}
+use Rattle.feed_csv.specs.Number.{decimal_value}
+use Rattle.feed_csv.proofs.number.number.Given as goal
+
+-- the bytes so far are digits, and their value is known
+abbrev pub invariant-loop-byte : goal.invariant-loop-byte
+invariant-loop-byte l = record {
+  few : length l.text ≤ 19;
+  digits : list_all is_ascii_digit (take l.byte-index l.text) ≡ true;
+  value : l.value ≡ decimal_value (take l.byte-index l.text);
+}

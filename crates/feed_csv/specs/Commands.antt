@@ -1,0 +1,123 @@
+-- The command of a record, or the word of its refusal: one rule for each command. A rule takes the fields in the
+-- order of refusals: how many there are, names and kinds, the weight, times, the slot.
+use Rattle.std.specs.Prelude.{◌≡◌, ℕ, bytes_eq, codes, List, if◌then◌else◌, Result, Ok, Err}
+use Rattle.graph_model.specs.declared.batches.NamedOp.TheVariants.{Insert, Incr, Remove}
+use Rattle.graph_model.specs.declared.requests.Request.TheVariants.{Degrees, OneEdge}
+use Rattle.feed_csv.specs.Fields.{◌>>=◌, any_kind_at, field, kind_at, name_at, of_length, slot_at, time_at, weight_at}
+use Rattle.feed_csv.specs.Records.{Row}
+use Rattle.feed_csv.specs.declared.command.Command.{Command}
+use Rattle.feed_csv.specs.declared.command.Command.TheVariants.{Op, Commit, OpenSlot, CloseSlot, Query}
+use Rattle.feed_csv.specs.declared.command.FeedWord.{FeedWord}
+use Rattle.feed_csv.specs.declared.command.FeedWord.TheVariants.{Read, BadCommand, BadFields, BadName, BadWeight, BadTime, BadSlot, Memory}
+
+-- i,kind,source,target,weight,time
+unfoldable pub insert_of : Row → Result Command FeedWord
+insert_of record_fields = do
+  row ← of_length 6 record_fields
+  kind ← kind_at row 1
+  source ← name_at row 2
+  target ← name_at row 3
+  weight ← weight_at row 4
+  time ← time_at row 5
+  Ok (Op (Insert kind source target weight time))
+
+-- a,kind,source,target,amount,time
+unfoldable pub incr_of : Row → Result Command FeedWord
+incr_of record_fields = do
+  row ← of_length 6 record_fields
+  kind ← kind_at row 1
+  source ← name_at row 2
+  target ← name_at row 3
+  amount ← weight_at row 4
+  time ← time_at row 5
+  Ok (Op (Incr kind source target amount time))
+
+-- r,kind,source,target
+unfoldable pub remove_of : Row → Result Command FeedWord
+remove_of record_fields = do
+  row ← of_length 4 record_fields
+  kind ← kind_at row 1
+  source ← name_at row 2
+  target ← name_at row 3
+  Ok (Op (Remove kind source target))
+
+-- commit
+unfoldable pub commit_of : Row → Result Command FeedWord
+commit_of record_fields = do
+  row ← of_length 1 record_fields
+  Ok Commit
+
+-- open,slot
+unfoldable pub open_of : Row → Result Command FeedWord
+open_of record_fields = do
+  row ← of_length 2 record_fields
+  slot ← slot_at row 1
+  Ok (OpenSlot slot)
+
+-- close,slot
+unfoldable pub close_of : Row → Result Command FeedWord
+close_of record_fields = do
+  row ← of_length 2 record_fields
+  slot ← slot_at row 1
+  Ok (CloseSlot slot)
+
+-- deg,slot,kind or *,lo,hi
+unfoldable pub degrees_of : Row → Result Command FeedWord
+degrees_of record_fields = do
+  row ← of_length 5 record_fields
+  kind ← any_kind_at row 2
+  lo ← time_at row 3
+  hi ← time_at row 4
+  slot ← slot_at row 1
+  Ok (Query slot (Degrees (record { kind = kind; lo = lo; hi = hi })))
+
+-- edge,slot,kind,source,target
+unfoldable pub edge_of : Row → Result Command FeedWord
+edge_of record_fields = do
+  row ← of_length 5 record_fields
+  kind ← kind_at row 2
+  source ← name_at row 3
+  target ← name_at row 4
+  slot ← slot_at row 1
+  Ok (Query slot (OneEdge kind source target))
+
+-- the first field says which command it is
+unfoldable pub item_of : Row → Result Command FeedWord
+item_of row =
+    let word = field row 0 in
+    if bytes_eq word (codes "i") then insert_of row
+    else (if bytes_eq word (codes "a") then incr_of row
+    else (if bytes_eq word (codes "r") then remove_of row
+    else (if bytes_eq word (codes "commit") then commit_of row
+    else (if bytes_eq word (codes "open") then open_of row
+    else (if bytes_eq word (codes "close") then close_of row
+    else (if bytes_eq word (codes "deg") then degrees_of row
+    else (if bytes_eq word (codes "edge") then edge_of row
+    else Err BadCommand)))))))
+
+-- how a word of refusal is written
+abbrev pub word_text : FeedWord → List ℕ
+word_text Read = codes "Read"
+word_text BadCommand = codes "BadCommand"
+word_text BadFields = codes "BadFields"
+word_text BadName = codes "BadName"
+word_text BadWeight = codes "BadWeight"
+word_text BadTime = codes "BadTime"
+word_text BadSlot = codes "BadSlot"
+word_text Memory = codes "Memory"
+
+-- a word that stands for want of memory, or for the record's refusal
+abbrev pub Refuses : FeedWord → Result Command FeedWord → Type 0
+Refuses Memory item = Unit {0}
+Refuses Read item = item ≡ Err Read
+Refuses BadCommand item = item ≡ Err BadCommand
+Refuses BadFields item = item ≡ Err BadFields
+Refuses BadName item = item ≡ Err BadName
+Refuses BadWeight item = item ≡ Err BadWeight
+Refuses BadTime item = item ≡ Err BadTime
+Refuses BadSlot item = item ≡ Err BadSlot
+
+-- a result is what the rules give, unless memory ran out
+abbrev pub Gives : Result Command FeedWord → Result Command FeedWord → Type 0
+Gives (Ok command) item = item ≡ Ok command
+Gives (Err word) item = Refuses word item

@@ -1,0 +1,6 @@
+pub mod Number
+pub mod Records
+pub mod Fields
+pub mod Commands
+pub mod Script
+pub mod Faults

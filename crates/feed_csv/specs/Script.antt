@@ -1,0 +1,73 @@
+-- A feed, as its callers see it, and what one call of it does.
+use Rattle.std.specs.Prelude.{◌≡◌, ◌⊎◌, ℕ, ◌+◌, ◌<◌, Bool, true, List, Option, Some, None, Result, Ok, Err}
+use Rattle.feed_csv.specs.Commands.{item_of}
+use Rattle.feed_csv.specs.Records.{IsOver, Row, Takes, record_limit}
+use Rattle.feed_csv.specs.declared.command.Command.{Command}
+use Rattle.feed_csv.specs.declared.command.FeedFault.{FeedFault}
+use Rattle.feed_csv.specs.declared.command.FeedWord.{FeedWord}
+use Rattle.feed_csv.specs.declared.command.FeedWord.TheVariants.{Read, BadCommand, BadFields, BadName, BadWeight, BadTime, BadSlot, Memory}
+use Rattle.feed_csv.specs.declared.phase.Phase.{Phase}
+use Rattle.feed_csv.specs.declared.phase.Phase.TheVariants.{Reading, Ended, Stopped}
+
+-- whether records may follow, how many records were given, whether csv's reader has failed, and the records
+-- that are left, where the reader's bytes are known
+pub record Script : Type 0 where
+  pub phase : Phase
+  pub given : ℕ
+  pub failed : Bool
+  pub left : Option (List Row)
+
+-- a record may be read
+pub record IsOpen (script : Script) : Type 0 where
+  pub reading : script.phase ≡ Reading
+  pub room : script.given < record_limit
+
+-- this record was taken: it is the first of those left, and the next call looks at the one after it
+pub record TakesRow (old : Script) (row : Row) (new : Script) : Type 0 where
+  pub open_before : IsOpen old
+  pub reading : new.phase ≡ Reading
+  pub given : new.given ≡ old.given + 1
+  pub works : new.failed ≡ old.failed
+  pub left : Takes old.left row new.left
+
+-- the input's end was met: no record is left
+pub record MeetsEnd (old new : Script) : Type 0 where
+  pub open_before : IsOpen old
+  pub over : IsOver old.left
+  pub ended : new.phase ≡ Ended
+  pub given : new.given ≡ old.given
+  pub works : new.failed ≡ old.failed
+
+-- no record was taken, and none will be
+pub record StopsAt (old new : Script) : Type 0 where
+  pub stopped : new.phase ≡ Stopped
+  pub given : new.given ≡ old.given
+
+-- why a call answers Read: csv's reader failed; the limit was reached, and nothing is read; or the feed had stopped
+-- before
+abbrev pub ReadStops : Script → Script → Type 0
+ReadStops old new =
+    (IsOpen old × (new.failed ≡ true))
+    ⊎ ((old.phase ≡ Reading) × (old.given ≡ record_limit) × (new ≡ record old { phase = Stopped }))
+    ⊎ ((old.phase ≡ Stopped) × (new ≡ old))
+
+-- the next record is refused for this word
+abbrev pub RefusesRow : Script → FeedWord → Script → Type 0
+RefusesRow old word new = (row : Row) × (item_of row ≡ Err word) × TakesRow old row new
+
+abbrev pub FaultStep : FeedWord → Script → Script → Type 0
+FaultStep Read old new = ReadStops old new × StopsAt old new
+FaultStep Memory old new = IsOpen old × StopsAt old new
+FaultStep BadCommand old new = RefusesRow old BadCommand new
+FaultStep BadFields old new = RefusesRow old BadFields new
+FaultStep BadName old new = RefusesRow old BadName new
+FaultStep BadWeight old new = RefusesRow old BadWeight new
+FaultStep BadTime old new = RefusesRow old BadTime new
+FaultStep BadSlot old new = RefusesRow old BadSlot new
+
+-- one call: the next record's command; or the end, then and later; or a fault, which bears the number of the
+-- record that was not given
+abbrev pub NextStep : Script → Result (Option Command) FeedFault → Script → Type 0
+NextStep old (Ok (Some command)) new = (row : Row) × (item_of row ≡ Ok command) × TakesRow old row new
+NextStep old (Ok None) new = MeetsEnd old new ⊎ ((old.phase ≡ Ended) × (new ≡ old))
+NextStep old (Err fault) new = (fault.at ≡ old.given + 1) × FaultStep fault.word old new

@@ -1,0 +1,186 @@
+// Records to commands, one function for each command.
+
+ghost use Rattle.std.specs.Prelude.{◌≡◌, MatchResult, Ok, Err, IfOk, IfErr};
+ghost use Rattle.csv.specs.Records.{fields_of};
+ghost use Rattle.feed_csv.specs.Commands as spec;
+ghost use Rattle.feed_csv.specs.Fields.{of_length};
+
+use crate::fields::{any_kind_at, field, kind_at, name_at, slot_at, time_at, weight_at};
+use crate::{Command, FeedWord};
+use csv::ByteRecord;
+use graph_model::{Name, NamedFilter, NamedOp, Request};
+use std::alloc::Global;
+
+/// The command of a record.
+#[tactic(auto, using(crate::proofs::Giving::gives_same), unfolding(crate::specs::Commands::item_of))]
+pub(crate) fn command_of(alloc: Global, row: &ByteRecord) -> Result<Command, FeedWord>
+    ensures { spec.Gives result (spec.item_of (fields_of row.now)) }
+{
+    let word = field(row, 0);
+    if word == b"i".as_slice() {
+        insert(alloc, row)
+    } else if word == b"a".as_slice() {
+        incr(alloc, row)
+    } else if word == b"r".as_slice() {
+        remove(alloc, row)
+    } else if word == b"commit".as_slice() {
+        commit(row)
+    } else if word == b"open".as_slice() {
+        open(row)
+    } else if word == b"close".as_slice() {
+        close(row)
+    } else if word == b"deg".as_slice() {
+        degrees(alloc, row)
+    } else if word == b"edge".as_slice() {
+        edge(alloc, row)
+    } else {
+        Err(FeedWord::BadCommand)
+    }
+}
+
+#[tactic(auto, unfolding(crate::specs::Fields::of_length))]
+fn check_length(row: &ByteRecord, count: usize) -> Result<(), FeedWord>
+    ensures { MatchResult result (λ _. of_length count (fields_of row.now) ≡ Ok (fields_of row.now))
+        (λ word. of_length count (fields_of row.now) ≡ Err word) }
+{
+    if row.len() == count {
+        Ok(())
+    } else {
+        Err(FeedWord::BadFields)
+    }
+}
+
+fn name(alloc: Global, text: &str) -> Result<Name, FeedWord>
+    ensures ok { IfOk result (λ name. name ≡ text.now) }
+    ensures err { IfErr result (λ word. word ≡ FeedWord.Memory) }
+{
+    match String::from_str(alloc, text) {
+        Ok(text) => Ok(Name::of(text)),
+        Err(_) => Err(FeedWord::Memory),
+    }
+}
+
+#[tactic(auto, using(crate::proofs::Giving::refuses_same), unfolding(crate::specs::Commands::insert_of))]
+fn insert(alloc: Global, row: &ByteRecord) -> Result<Command, FeedWord>
+    ensures { spec.Gives result (spec.insert_of (fields_of row.now)) }
+{
+    check_length(row, 6)?;
+    let kind = kind_at(row, 1)?;
+    let source = name_at(row, 2)?;
+    let target = name_at(row, 3)?;
+    let weight = weight_at(row, 4)?;
+    let time = time_at(row, 5)?;
+    let kind = name(alloc, kind)?;
+    let source = name(alloc, source)?;
+    let target = name(alloc, target)?;
+    Ok(Command::Op(NamedOp::Insert {
+        kind,
+        source,
+        target,
+        weight,
+        time,
+    }))
+}
+
+#[tactic(auto, using(crate::proofs::Giving::refuses_same), unfolding(crate::specs::Commands::incr_of))]
+fn incr(alloc: Global, row: &ByteRecord) -> Result<Command, FeedWord>
+    ensures { spec.Gives result (spec.incr_of (fields_of row.now)) }
+{
+    check_length(row, 6)?;
+    let kind = kind_at(row, 1)?;
+    let source = name_at(row, 2)?;
+    let target = name_at(row, 3)?;
+    let amount = weight_at(row, 4)?;
+    let time = time_at(row, 5)?;
+    let kind = name(alloc, kind)?;
+    let source = name(alloc, source)?;
+    let target = name(alloc, target)?;
+    Ok(Command::Op(NamedOp::Incr {
+        kind,
+        source,
+        target,
+        amount,
+        time,
+    }))
+}
+
+#[tactic(auto, using(crate::proofs::Giving::refuses_same), unfolding(crate::specs::Commands::remove_of))]
+fn remove(alloc: Global, row: &ByteRecord) -> Result<Command, FeedWord>
+    ensures { spec.Gives result (spec.remove_of (fields_of row.now)) }
+{
+    check_length(row, 4)?;
+    let kind = kind_at(row, 1)?;
+    let source = name_at(row, 2)?;
+    let target = name_at(row, 3)?;
+    let kind = name(alloc, kind)?;
+    let source = name(alloc, source)?;
+    let target = name(alloc, target)?;
+    Ok(Command::Op(NamedOp::Remove {
+        kind,
+        source,
+        target,
+    }))
+}
+
+#[tactic(auto, unfolding(crate::specs::Commands::commit_of))]
+fn commit(row: &ByteRecord) -> Result<Command, FeedWord>
+    ensures { result ≡ spec.commit_of (fields_of row.now) }
+{
+    check_length(row, 1)?;
+    Ok(Command::Commit)
+}
+
+#[tactic(auto, unfolding(crate::specs::Commands::open_of))]
+fn open(row: &ByteRecord) -> Result<Command, FeedWord>
+    ensures { result ≡ spec.open_of (fields_of row.now) }
+{
+    check_length(row, 2)?;
+    let slot = slot_at(row, 1)?;
+    Ok(Command::OpenSlot(slot))
+}
+
+#[tactic(auto, unfolding(crate::specs::Commands::close_of))]
+fn close(row: &ByteRecord) -> Result<Command, FeedWord>
+    ensures { result ≡ spec.close_of (fields_of row.now) }
+{
+    check_length(row, 2)?;
+    let slot = slot_at(row, 1)?;
+    Ok(Command::CloseSlot(slot))
+}
+
+#[tactic(auto, using(crate::proofs::Giving::refuses_same), unfolding(crate::specs::Commands::degrees_of))]
+fn degrees(alloc: Global, row: &ByteRecord) -> Result<Command, FeedWord>
+    ensures { spec.Gives result (spec.degrees_of (fields_of row.now)) }
+{
+    check_length(row, 5)?;
+    let kind = any_kind_at(row, 2)?;
+    let lo = time_at(row, 3)?;
+    let hi = time_at(row, 4)?;
+    let slot = slot_at(row, 1)?;
+    let kind = match kind {
+        Some(text) => Some(name(alloc, text)?),
+        None => None,
+    };
+    let filter = NamedFilter { kind, lo, hi };
+    Ok(Command::Query(slot, Request::Degrees { filter }))
+}
+
+#[tactic(auto, using(crate::proofs::Giving::refuses_same), unfolding(crate::specs::Commands::edge_of))]
+fn edge(alloc: Global, row: &ByteRecord) -> Result<Command, FeedWord>
+    ensures { spec.Gives result (spec.edge_of (fields_of row.now)) }
+{
+    check_length(row, 5)?;
+    let kind = kind_at(row, 2)?;
+    let source = name_at(row, 3)?;
+    let target = name_at(row, 4)?;
+    let slot = slot_at(row, 1)?;
+    let kind = name(alloc, kind)?;
+    let source = name(alloc, source)?;
+    let target = name(alloc, target)?;
+    let request = Request::OneEdge {
+        kind,
+        source,
+        target,
+    };
+    Ok(Command::Query(slot, request))
+}

@@ -1,0 +1,12 @@
+pub mod Copies
+pub mod Naming
+pub mod Placing
+pub mod Applying
+pub mod Keys
+pub mod Folds
+pub mod Crowds
+pub mod Tallies
+pub mod Writes
+pub mod Places
+pub mod Rows
+pub mod TwoOrders

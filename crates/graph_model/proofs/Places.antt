@@ -1,0 +1,42 @@
+-- A name's place in a list, and whether it is listed.
+use Rattle.std.proofs.Common.{◌≡◌, ℕ, suc, ◌+◌, Bool, true, false, cond, not, ◌||◌, ltb, List, [], ◌∷◌, length, Option, Some, None, refl, sym, subst, ◌∙◌, arith}
+use Rattle.std.specs.Prelude.{bytes_eq, position, is_some, IfSome}
+use Rattle.std.specs.List.{list_any, position_or_len}
+use Rattle.std.proofs.lemmas.Bool.Decides.{nat_tests}
+use Rattle.graph_model.specs.Answer.{is_listed}
+use Rattle.graph_model.specs.Step.{number_of}
+
+later : (m n : ℕ) → ltb m n ≡ ltb (1 + m) (suc n)
+later m n = grind (arith, nat_tests)
+
+module _ {X : Type 0} (p : X → Bool) where
+  any_before_end : (xs : List X) → list_any p xs ≡ ltb (position_or_len p xs) (length xs)
+  any_before_end [] = grind (arith, nat_tests)
+  any_before_end (x ∷ xs) =
+      elim (p x) as (λ b. (b || list_any p xs) ≡ ltb (cond (not b) (1 + position_or_len p xs) 0) (suc (length xs))) [
+        | true ↦ grind (arith, nat_tests)
+        | false ↦ any_before_end xs ∙ later (position_or_len p xs) (length xs)
+      ]
+
+-- what the first place that fits says
+pub record IsPlace (names : List (List ℕ)) (name : List ℕ) (place : Option ℕ) : Type 0 where
+  pub listed : is_some place ≡ is_listed names name
+  pub number : IfSome place (λ k. k ≡ number_of names name)
+
+pub place_is : (names : List (List ℕ)) (name : List ℕ) (place : Option ℕ) → place ≡ position (bytes_eq name) names → IsPlace names name place
+place_is names name place is =
+    let p = bytes_eq name in
+    subst (IsPlace names name) (sym is) (
+    elim (ltb (position_or_len p names) (length names)) as (λ b. list_any p names ≡ b → IsPlace names name (cond b (Some (position_or_len p names)) None)) [
+      | true ↦ λ t. record { listed = sym t; number = refl }
+      | false ↦ λ t. record { listed = sym t; number = tt }
+    ] (any_before_end p names))
+
+pub place_none : (names : List (List ℕ)) (name : List ℕ) → None ≡ position (bytes_eq name) names → is_listed names name ≡ false
+place_none names name is = sym (place_is names name None is).listed
+
+pub place_some : (names : List (List ℕ)) (name : List ℕ) (place : ℕ) → Some place ≡ position (bytes_eq name) names → is_listed names name ≡ true
+place_some names name place is = sym (place_is names name (Some place) is).listed
+
+pub place_number : (names : List (List ℕ)) (name : List ℕ) (place : ℕ) → Some place ≡ position (bytes_eq name) names → place ≡ number_of names name
+place_number names name place is = (place_is names name (Some place) is).number

@@ -1,0 +1,11 @@
+pub mod Graph
+pub mod Coded
+pub mod Valid
+pub mod Step
+pub mod Limits
+pub mod View
+pub mod Analyses
+pub mod Answer
+pub mod Laws
+pub mod Drafts
+pub mod Tally

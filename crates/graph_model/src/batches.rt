@@ -1,0 +1,263 @@
+//! Operations on edges, and batches of them.
+
+ghost use Rattle.std.specs.Prelude.{◌≡◌, [], ◌∷◌, ◌++◌, length, OnOk, OnErr, IfErr, ◌⊎◌, ◌↔◌, ◌&&◌, IsTrue};
+ghost use Rattle.graph_model.specs.Valid.{push_refusal, IsBatch};
+ghost use Rattle.graph_model.specs.Valid as valid;
+ghost use Rattle.std.specs.declared.option.Option.TheVariants.{None, Some};
+
+use crate::{Name, is_kind_name, is_name};
+use std::alloc::{AllocError, Global};
+use std::marker::Model;
+use thiserror::Error;
+
+/// One operation on one edge, with names as texts (STINGER's insertion, increment and removal, HPEC 2012).
+#[derive(Debug, Drop)]
+pub enum NamedOp {
+    /// Adds the edge, or replaces the weight of the one that is there.
+    Insert {
+        kind: Name,
+        source: Name,
+        target: Name,
+        weight: i64,
+        time: u64,
+    },
+    /// Adds to the weight of the edge that is there, or adds the edge with this weight.
+    Incr {
+        kind: Name,
+        source: Name,
+        target: Name,
+        amount: i64,
+        time: u64,
+    },
+    /// Takes the edge away.
+    Remove {
+        kind: Name,
+        source: Name,
+        target: Name,
+    },
+}
+
+impl Clone for NamedOp {
+    ghost is_clone = { λ op copy. copy ≡ op };
+
+    fn clone(&self) -> Result<NamedOp, AllocError> {
+        match self {
+            NamedOp::Insert {
+                kind,
+                source,
+                target,
+                weight,
+                time,
+            } => Ok(NamedOp::Insert {
+                kind: kind.clone()?,
+                source: source.clone()?,
+                target: target.clone()?,
+                weight: *weight,
+                time: *time,
+            }),
+            NamedOp::Incr {
+                kind,
+                source,
+                target,
+                amount,
+                time,
+            } => Ok(NamedOp::Incr {
+                kind: kind.clone()?,
+                source: source.clone()?,
+                target: target.clone()?,
+                amount: *amount,
+                time: *time,
+            }),
+            NamedOp::Remove {
+                kind,
+                source,
+                target,
+            } => Ok(NamedOp::Remove {
+                kind: kind.clone()?,
+                source: source.clone()?,
+                target: target.clone()?,
+            }),
+        }
+    }
+}
+
+/// What an operation did.
+#[derive(Clone, Copy, Debug, PartialEq, Eq)]
+pub enum Outcome {
+    /// The edge was absent and is there now.
+    Inserted,
+    /// The edge was there; its weight and its recent time changed.
+    Updated,
+    /// The edge was there and is gone.
+    Removed,
+    /// There was no edge to remove.
+    Absent,
+    /// The sum would leave the range of weights: nothing changed.
+    Overflow,
+}
+
+/// Why an operation was not added to a batch; the first that holds, in this order.
+#[derive(Clone, Copy, Debug, PartialEq, Eq, Error)]
+pub enum PushError {
+    #[error("a name has 1 to 64 bytes from ! to ~, and a kind is not *")]
+    BadName,
+    #[error("a weight is from -2^40 to 2^40")]
+    BadWeight,
+    #[error("a time is below 2^63")]
+    BadTime,
+    #[error("a batch has at most 4,096 operations")]
+    BatchFull,
+    #[error("out of memory")]
+    OutOfMemory,
+}
+
+/// A list of at most 4,096 valid operations, which stand for themselves one after another in order.
+#[derive(Debug, Drop)]
+pub struct Batch {
+    ops: Vec<NamedOp>,
+}
+
+impl Model for Batch {
+    ghost use Rattle.std.specs.Prelude.{List};
+    ghost use Rattle.graph_model.specs.declared.batches.NamedOp.{NamedOp};
+    ghost use Rattle.graph_model.specs.Valid.{IsBatch};
+
+    ghost Value = { List NamedOp };
+
+    ghost view = { λ b. b.ops.items };
+
+    ghost invariant = { λ b. IsBatch b.ops.items };
+}
+
+impl Batch {
+    /// An empty batch, which will grow by this allocator. It takes no memory.
+    pub fn new(alloc: Global) -> Batch
+        ensures { result ≡ [] }
+    {
+        Batch {
+            ops: Vec::new(alloc),
+        }
+    }
+
+    /// How many operations there are: at most 4,096. It takes no memory.
+    pub fn len(&self) -> usize
+        ensures count { result ≡ length self.now }
+        ensures batch { IsBatch self.now }
+    {
+        self.ops.len()
+    }
+
+    /// Whether there is no operation. It takes no memory.
+    pub fn is_empty(&self) -> bool
+        ensures { IsTrue result ↔ (self.now ≡ []) }
+    {
+        self.ops.is_empty()
+    }
+
+    /// The operations in order: at most 4,096, all valid. It takes no memory.
+    pub fn ops(&self) -> &[NamedOp]
+        ensures ops { result.now ≡ self.now }
+        ensures batch { IsBatch self.now }
+    {
+        self.ops.as_slice()
+    }
+
+    /// Appends a valid operation, or changes nothing and tells the first refusal that holds: a field that is no
+    /// name, a weight or an amount past 2^40, a time from 2^63 on, a batch that has 4,096 operations. Want of
+    /// memory may be told in place of any of these.
+    pub fn push(&mut self, op: NamedOp) -> Result<(), PushError>
+        ensures valid { OnOk result (push_refusal op (length self.old) ≡ None) }
+        ensures added { OnOk result (self.new ≡ self.old ++ op ∷ []) }
+        ensures refused { IfErr result (λ e. (e ≡ PushError.OutOfMemory) ⊎ (push_refusal op (length self.old) ≡ Some e)) }
+        ensures unchanged { OnErr result (self.new ≡ self.old) }
+    {
+        if !has_names(&op) {
+            return Err(PushError::BadName);
+        }
+        if !has_weight(&op) {
+            return Err(PushError::BadWeight);
+        }
+        if !has_time(&op) {
+            return Err(PushError::BadTime);
+        }
+        if self.ops.len() >= 4096 {
+            return Err(PushError::BatchFull);
+        }
+        match self.ops.push(op) {
+            Ok(()) => Ok(()),
+            Err(_) => Err(PushError::OutOfMemory),
+        }
+    }
+}
+
+impl Clone for Batch {
+    ghost is_clone = { λ batch copy. copy ≡ batch };
+
+    #[tactic(auto, using(crate::proofs::Copies::same_by_zip))]
+    fn clone(&self) -> Result<Batch, AllocError> {
+        let ops = self.ops.clone()?;
+        Ok(Batch { ops })
+    }
+}
+
+fn are_names(kind: &Name, source: &Name, target: &Name) -> bool
+    ensures { result ≡ (valid.is_kind_name kind.now && valid.is_name source.now && valid.is_name target.now) }
+{
+    is_kind_name(kind.as_str()) && is_name(source.as_str()) && is_name(target.as_str())
+}
+
+fn has_names(op: &NamedOp) -> bool
+    ensures { result ≡ valid.has_names op.now }
+{
+    match op {
+        NamedOp::Insert {
+            kind,
+            source,
+            target,
+            ..
+        } => are_names(kind, source, target),
+        NamedOp::Incr {
+            kind,
+            source,
+            target,
+            ..
+        } => are_names(kind, source, target),
+        NamedOp::Remove {
+            kind,
+            source,
+            target,
+        } => are_names(kind, source, target),
+    }
+}
+
+fn has_weight(op: &NamedOp) -> bool
+    ensures { result ≡ valid.has_weight op.now }
+{
+    match op {
+        NamedOp::Insert { weight, .. } => is_weight(*weight),
+        NamedOp::Incr { amount, .. } => is_weight(*amount),
+        NamedOp::Remove { .. } => true,
+    }
+}
+
+fn has_time(op: &NamedOp) -> bool
+    ensures { result ≡ valid.has_time op.now }
+{
+    match op {
+        NamedOp::Insert { time, .. } => is_time(*time),
+        NamedOp::Incr { time, .. } => is_time(*time),
+        NamedOp::Remove { .. } => true,
+    }
+}
+
+fn is_weight(weight: i64) -> bool
+    ensures { result ≡ valid.is_weight weight }
+{
+    weight.unsigned_abs() <= 1 << 40
+}
+
+fn is_time(time: u64) -> bool
+    ensures { result ≡ valid.is_time time }
+{
+    time < 1 << 63
+}

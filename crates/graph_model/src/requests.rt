@@ -1,0 +1,90 @@
+//! Requests about a graph, replies and refusals.
+
+ghost use Rattle.std.specs.Prelude.{◌≡◌};
+
+use crate::{Degree, List, Name};
+use std::alloc::AllocError;
+use thiserror::Error;
+
+/// Which edges a request looks at, with the kind as a text; `None` is any kind. Both ends of the window of
+/// recent times are included.
+#[derive(Debug, Drop)]
+pub struct NamedFilter {
+    pub kind: Option<Name>,
+    pub lo: u64,
+    pub hi: u64,
+}
+
+impl Clone for NamedFilter {
+    ghost is_clone = { λ filter copy. copy ≡ filter };
+
+    fn clone(&self) -> Result<NamedFilter, AllocError> {
+        let kind = match &self.kind {
+            Some(kind) => Some(kind.clone()?),
+            None => None,
+        };
+        Ok(NamedFilter {
+            kind,
+            lo: self.lo,
+            hi: self.hi,
+        })
+    }
+}
+
+/// A request about a graph, with names as texts.
+#[derive(Debug, Drop)]
+pub enum Request {
+    /// The degrees of each vertex over the view of the filter.
+    Degrees {
+        filter: NamedFilter,
+    },
+    /// Weight and times of one edge.
+    OneEdge {
+        kind: Name,
+        source: Name,
+        target: Name,
+    },
+}
+
+impl Clone for Request {
+    ghost is_clone = { λ request copy. copy ≡ request };
+
+    fn clone(&self) -> Result<Request, AllocError> {
+        match self {
+            Request::Degrees { filter } => Ok(Request::Degrees {
+                filter: filter.clone()?,
+            }),
+            Request::OneEdge {
+                kind,
+                source,
+                target,
+            } => Ok(Request::OneEdge {
+                kind: kind.clone()?,
+                source: source.clone()?,
+                target: target.clone()?,
+            }),
+        }
+    }
+}
+
+/// The reply to a request; lists are in order of the vertices' numbers.
+#[derive(Debug, Drop)]
+pub enum Reply {
+    /// Each vertex's name and degrees.
+    Degrees(List<(Name, Degree)>),
+    /// Weight, first time and recent time, where the edge is there.
+    OneEdge(Option<(i64, u64, u64)>),
+}
+
+/// Why a request has no reply; the first that holds, in this order.
+#[derive(Clone, Copy, Debug, PartialEq, Eq, Error)]
+pub enum AskError {
+    #[error("the window ends before it begins")]
+    BadWindow,
+    #[error("the graph has no such kind")]
+    NoKind,
+    #[error("the graph has no such vertex")]
+    NoVertex,
+    #[error("out of memory")]
+    OutOfMemory,
+}

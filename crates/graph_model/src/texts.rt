@@ -1,0 +1,80 @@
+//! Names: small texts, and which of them are names of vertices and of kinds.
+
+ghost use Rattle.std.specs.Prelude.{◌≡◌, string_bytes};
+ghost use Rattle.std.specs.List.{list_all};
+ghost use Rattle.graph_model.specs.Valid as valid;
+
+use std::alloc::AllocError;
+use std::marker::Model;
+
+/// A text that is a field of another type; contracts see the list of its bytes.
+///
+/// Any text can stand here: [`is_name`] and [`is_kind_name`] tell which are names.
+#[derive(Debug, Drop)]
+pub struct Name {
+    text: String,
+}
+
+impl Model for Name {
+    ghost use Rattle.std.specs.Prelude.{ℕ, List, string_bytes};
+
+    ghost Value = { List ℕ };
+
+    ghost view = { λ n. string_bytes n.text };
+}
+
+impl Name {
+    /// The name that shows this text. It takes no memory.
+    pub fn of(text: String) -> Name
+        ensures { result ≡ string_bytes text }
+    {
+        Self { text }
+    }
+
+    /// The text. It takes no memory.
+    pub fn as_str(&self) -> &str
+        ensures { result.now ≡ self.now }
+    {
+        self.text.as_str()
+    }
+
+    /// The text itself. It takes no memory.
+    pub fn into_string(self) -> String
+        ensures { string_bytes result ≡ self }
+    {
+        let Name { text } = self;
+        text
+    }
+}
+
+impl Clone for Name {
+    ghost is_clone = { λ name copy. copy ≡ name };
+
+    fn clone(&self) -> Result<Name, AllocError> {
+        Ok(Name {
+            text: self.text.clone()?,
+        })
+    }
+}
+
+/// Whether a text is a vertex's name: 1 to 64 bytes, each from `!` (0x21) to `~` (0x7E), as this
+/// project's profile fixes it. It takes no memory.
+pub fn is_name(text: &str) -> bool
+    ensures { result ≡ valid.is_name text.now }
+{
+    let bytes = text.as_bytes();
+    !bytes.is_empty() && bytes.len() <= 64 && all_printable(bytes)
+}
+
+/// Whether a text is a kind's name: a name other than `*`, which stands for any kind. It takes no memory.
+pub fn is_kind_name(text: &str) -> bool
+    ensures { result ≡ valid.is_kind_name text.now }
+{
+    is_name(text) && text.as_bytes() != b"*".as_slice()
+}
+
+fn all_printable(bytes: &[u8]) -> bool
+    ensures { result ≡ list_all valid.is_printable bytes.now }
+{
+    bytes.iter().all(|byte| *byte >= 0x21 && *byte <= 0x7e)
+}

@@ -1,0 +1,9 @@
+pub mod Writing
+pub mod Ends
+pub mod Versions
+pub mod Commands
+pub mod Edges
+pub mod Replies
+pub mod Turning
+pub mod Reached
+pub mod OneText

@@ -1,0 +1,297 @@
+-- What a run has written so far, and what it has written when it ends.
+use Rattle.std.proofs.Common.{◌≡◌, ℕ, ◌+◌, ◌<◌, ◌≤◌, List, [], ◌∷◌, ◌++◌, length, append_assoc, append-nil, arith, refl, sym, ◌∙◌, ap, subst, inl, inr, ◌⊎◌}
+use Rattle.std.specs.Prelude.{true, false, Option, None, Some, Result, Ok, Err, IfErr, IfOk, IfSome, OnErr, OnOk, option_map}
+use Rattle.std.specs.Io.KnownBytes.{Appends}
+use Rattle.feed_csv.specs.Commands.{item_of}
+use Rattle.feed_csv.specs.Records.{IsOver, Row, Takes, record_limit, records_of}
+use Rattle.feed_csv.specs.Script.{IsOpen, Script, TakesRow}
+use Rattle.feed_csv.specs.declared.command.FeedWord.{FeedWord}
+use Rattle.feed_csv.specs.declared.command.FeedWord.TheVariants as word
+use Rattle.stinger_server.specs.declared.script.Run.{Run}
+use Rattle.stinger_server.specs.declared.script.ServeFault.{ServeFault}
+use Rattle.stinger_server.specs.declared.script.ServeFault.TheVariants.{Read, Memory, Write}
+use Rattle.stinger_server.specs.declared.script.Summary.{Summary}
+use Rattle.stinger_server.specs.declared.words.Word.TheVariants.{Feed}
+use Rattle.stinger_server.specs.Lines.{end_line, error_line}
+use Rattle.stinger_server.specs.Runs.{BreaksOff, IsReady, ShowsRun, Turns}
+use Rattle.stinger_server.specs.States.{IsOutcome, Outcome, Progress, after_record, opening, printed}
+use Rattle.stinger_server.specs.Texts.{IsCut, IsRun, IsStart, IsText, IsWanted, IsWhole, summary_of}
+use Rattle.stinger_server.specs.Writes.{AppendsPart, AppendsSome}
+use Rattle.stinger_server.proofs.Writing.{appends_nothing, appends_then, part_then}
+
+-- of the records there were at first, where they are known, these were given, and the others are left
+abbrev pub Leaves : Option (List Row) → List Row → Option (List Row) → Type 0
+Leaves None given left = Unit {0}
+Leaves (Some rows) given None = ⊥
+Leaves (Some rows) given (Some rest) = rows ≡ given ++ rest
+
+leaves-none : (first : Option (List Row)) → Leaves first [] first
+leaves-none None = tt
+leaves-none (Some rows) = refl
+
+leaves-append : (first : Option (List Row)) (given : List Row) (row : Row) (left rest : Option (List Row))
+    → Leaves first given left → Takes left row rest → Leaves first (given ++ row ∷ []) rest
+leaves-append None given row left rest leaves takes = tt
+leaves-append (Some rows) given row None rest leaves takes = absurd leaves
+leaves-append (Some rows) given row (Some more) None leaves takes = absurd takes
+leaves-append (Some rows) given row (Some more) (Some others) leaves takes =
+    leaves ∙ (ap (λ rows. given ++ rows) takes ∙ sym (append_assoc given (row ∷ []) others))
+
+pub run-append : (rows : List Row) (row : Row) (here there : Progress) (text : List ℕ) (outcome : Outcome) → IsRun rows here text there
+    → IsOutcome (item_of row) there.state outcome
+    → IsRun (rows ++ row ∷ []) here (text ++ printed (there.records + 1) outcome) (after_record (item_of row) outcome there)
+run-append [] row here there text outcome run is =
+    rw (run.0, run.1) (outcome, [], rw run.1 at is, sym (append-nil (printed (here.records + 1) outcome)), (refl, refl))
+run-append (first ∷ rows) row here there text outcome run is = (
+  run.0,
+  run.1 ++ printed (there.records + 1) outcome,
+  run.2,
+  ap (λ text. text ++ printed (there.records + 1) outcome) run.3 ∙ append_assoc (printed (here.records + 1) run.0) run.1 (printed (there.records + 1) outcome),
+  run-append rows row (after_record (item_of first) run.0 here) there run.1 outcome run.4 is,
+)
+
+-- some records were given, their lines were written, and the run has come this far
+pub record Reaches (seats : ℕ) (first left : Option (List Row)) (run : Run) (before now : Option (List ℕ)) : Type 0 where
+  pub given : List Row
+  pub lines : List ℕ
+  pub here : Progress
+  pub is_run : IsRun given (opening seats) lines here
+  pub leaves : Leaves first given left
+  pub written : Appends before now lines
+  pub shows : ShowsRun run here
+
+pub reaches_nothing : (seats : ℕ) (first : Option (List Row)) (run : Run) (before : Option (List ℕ)) → ShowsRun run (opening seats)
+    → Reaches seats first first run before before
+reaches_nothing seats first run before shows = record {
+  given = [];
+  lines = [];
+  here = opening seats;
+  is_run = (refl, refl);
+  leaves = leaves-none first;
+  written = appends_nothing before;
+  shows = shows;
+}
+
+pub reaches_more : (seats : ℕ) (first : Option (List Row)) (feed feed' : Script) (run run' : Run) (before now after : Option (List ℕ))
+    → Reaches seats first feed.left run before now → Turns feed run now (Ok true) feed' run' after
+    → Reaches seats first feed'.left run' before after
+reaches_more seats first feed feed' run run' before now after reached turned =
+    let step = turned.2.step reached.here reached.shows in
+    record {
+      given = reached.given ++ turned.0 ∷ [];
+      lines = reached.lines ++ printed (reached.here.records + 1) step.0;
+      here = after_record (item_of turned.0) step.0 reached.here;
+      is_run = run-append reached.given turned.0 (opening seats) reached.here reached.lines step.0 reached.is_run step.1;
+      leaves = leaves-append first reached.given turned.0 feed.left feed'.left reached.leaves turned.1.left;
+      written = appends_then before now after reached.lines (printed (reached.here.records + 1) step.0) reached.written step.2;
+      shows = step.3;
+    }
+
+-- the lines so far are those of some first records
+start_of : (seats : ℕ) (rows : List Row) (left : Option (List Row)) (run : Run) (before now : Option (List ℕ))
+    → (reached : Reaches seats (Some rows) left run before now) → IsStart seats rows reached.lines reached.here
+start_of seats rows None run before now reached = absurd reached.leaves
+start_of seats rows (Some rest) run before now reached = (reached.given, rest, reached.leaves, reached.is_run)
+
+-- the text so far, and then the error line of an end
+cut_of : (seats : ℕ) (rows : List Row) (left : Option (List Row)) (run : Run) (before now : Option (List ℕ)) (ends : FeedWord)
+    → (reached : Reaches seats (Some rows) left run before now)
+    → IsCut seats rows ends (reached.lines ++ error_line (run.records + 1) (Feed ends))
+cut_of seats rows left run before now ends reached = (
+  reached.lines,
+  reached.here,
+  start_of seats rows left run before now reached,
+  ap (λ n. reached.lines ++ error_line (n + 1) (Feed ends)) reached.shows.records,
+)
+
+-- a part of what follows the text so far
+part_of : (seats : ℕ) (rows : List Row) (left : Option (List Row)) (run : Run) (before now after : Option (List ℕ)) (next : List ℕ)
+    → (reached : Reaches seats (Some rows) left run before now) → IsWanted seats rows (reached.lines ++ next) → AppendsPart now after next
+    → AppendsSome before after (IsText seats rows (Err Write))
+part_of seats rows left run before now after next reached wanted part = (
+  reached.lines ++ part.0,
+  appends_then before now after reached.lines part.0 reached.written part.3,
+  (
+    reached.lines ++ next,
+    part.1,
+    wanted,
+    ap (λ text. reached.lines ++ text) part.2 ∙ sym (append_assoc reached.lines part.0 part.1),
+  ),
+)
+
+-- the run breaks off in what a record prints
+started_with : (seats : ℕ) (rows : List Row) (row : Row) (left rest : Option (List Row)) (run : Run) (before now : Option (List ℕ)) (outcome : Outcome)
+    → (reached : Reaches seats (Some rows) left run before now) → Takes left row rest → IsOutcome (item_of row) reached.here.state outcome
+    → IsStart seats rows (reached.lines ++ printed (reached.here.records + 1) outcome) (after_record (item_of row) outcome reached.here)
+started_with seats rows row left None run before now outcome reached takes is =
+    absurd (leaves-append (Some rows) reached.given row left None reached.leaves takes)
+started_with seats rows row left (Some others) run before now outcome reached takes is = (
+  reached.given ++ row ∷ [],
+  others,
+  leaves-append (Some rows) reached.given row left (Some others) reached.leaves takes,
+  run-append reached.given row (opening seats) reached.here reached.lines outcome reached.is_run is,
+)
+
+-- a turn that ended the run
+pub stopped : (seats : ℕ) (rows : List Row) (feed feed' : Script) (run run' : Run) (before now after : Option (List ℕ)) (fault : ServeFault)
+    → Reaches seats (Some rows) feed.left run before now → Turns feed run now (Err fault) feed' run' after
+    → AppendsSome before after (IsText seats rows (Err fault))
+stopped seats rows feed feed' run run' before now after Read reached turned = (
+  reached.lines ++ error_line (run.records + 1) (Feed word.Read),
+  appends_then before now after reached.lines _ reached.written turned,
+  cut_of seats rows feed.left run before now word.Read reached,
+)
+stopped seats rows feed feed' run run' before now after Memory reached turned = (
+  reached.lines ++ error_line (run.records + 1) (Feed word.Memory),
+  appends_then before now after reached.lines _ reached.written turned,
+  cut_of seats rows feed.left run before now word.Memory reached,
+)
+stopped seats rows feed feed' run run' before now after Write reached turned = elim turned [
+  | inl broken ↦ broken_off broken
+  | inr line ↦ elim line [
+    | inl part ↦ part_of seats rows feed.left run before now after (error_line (run.records + 1) (Feed word.Read)) reached
+        (inr (inr (inl (cut_of seats rows feed.left run before now word.Read reached)))) part
+    | inr part ↦ part_of seats rows feed.left run before now after (error_line (run.records + 1) (Feed word.Memory)) reached
+        (inr (inr (inr (cut_of seats rows feed.left run before now word.Memory reached)))) part
+  ]
+] where
+  broken_off : ((row : Row) × TakesRow feed row feed' × BreaksOff (item_of row) run now after) → AppendsSome before after (IsText seats rows (Err Write))
+  broken_off broken = elim (broken.2 reached.here reached.shows) [
+    | inl part ↦ part_of seats rows feed.left run before now after (printed (reached.here.records + 1) part.0) reached
+        (inl (
+          after_record (item_of broken.0) part.0 reached.here,
+          started_with seats rows broken.0 feed.left feed'.left run before now part.0 reached broken.1.left part.1,
+        )) part.2
+    | inr part ↦ part_of seats rows feed.left run before now after (error_line (reached.here.records + 1) (Feed word.Memory)) reached
+        (inr (inr (inr (reached.lines, reached.here, start_of seats rows feed.left run before now reached, refl)))) part
+  ]
+
+-- all records were given
+whole_of : (seats : ℕ) (rows : List Row) (left : Option (List Row)) (run : Run) (before now : Option (List ℕ))
+    → (reached : Reaches seats (Some rows) left run before now) → IsOver left → run.records < record_limit
+    → IsWhole seats rows (reached.lines ++ end_line (length run.server.pending)) reached.here
+whole_of seats rows None run before now reached over few = absurd reached.leaves
+whole_of seats rows (Some rest) run before now reached over few =
+    let all : rows ≡ reached.given = reached.leaves ∙ (ap (λ rest. reached.given ++ rest) over ∙ append-nil reached.given) in
+    let number : run.records ≡ reached.here.records = reached.shows.records in (
+      reached.lines,
+      rw all reached.is_run,
+      ap (λ pending. reached.lines ++ end_line (length pending)) reached.shows.server.pending,
+      rw (← number) few,
+    )
+
+pub finished : (seats : ℕ) (rows : List Row) (left : Option (List Row)) (run : Run) (before now after : Option (List ℕ)) (summary : Summary)
+    → Reaches seats (Some rows) left run before now → IsOver left → run.records < record_limit
+    → Appends now after (end_line (length run.server.pending))
+    → summary ≡ record { records = run.records; errors = run.errors; pending = length run.server.pending }
+    → AppendsSome before after (IsText seats rows (Ok summary))
+finished seats rows left run before now after summary reached over few written counts = (
+  reached.lines ++ end_line (length run.server.pending),
+  appends_then before now after reached.lines _ reached.written written,
+  (
+    reached.here,
+    whole_of seats rows left run before now reached over few,
+    rw (counts, reached.shows.records, reached.shows.errors, reached.shows.server.pending) refl,
+  ),
+)
+
+pub unfinished : (seats : ℕ) (rows : List Row) (left : Option (List Row)) (run : Run) (before now after : Option (List ℕ))
+    → Reaches seats (Some rows) left run before now → IsOver left → run.records < record_limit
+    → AppendsPart now after (end_line (length run.server.pending))
+    → AppendsSome before after (IsText seats rows (Err Write))
+unfinished seats rows left run before now after reached over few part =
+    part_of seats rows left run before now after (end_line (length run.server.pending)) reached
+    (inr (inl (reached.here, whole_of seats rows left run before now reached over few))) part
+
+-- a run that memory ended before its first record
+pub unstarted : (seats : ℕ) (rows : List Row) (before after : Option (List ℕ)) → Appends before after (error_line 1 (Feed word.Memory))
+    → AppendsSome before after (IsText seats rows (Err Memory))
+unstarted seats rows before after written =
+    (error_line 1 (Feed word.Memory), written, ([], opening seats, ([], rows, refl, (refl, refl)), refl))
+
+pub unstarted_part : (seats : ℕ) (rows : List Row) (before after : Option (List ℕ)) → AppendsPart before after (error_line 1 (Feed word.Memory))
+    → AppendsSome before after (IsText seats rows (Err Write))
+unstarted_part seats rows before after part = (
+  part.0,
+  part.3,
+  (
+    error_line 1 (Feed word.Memory),
+    part.1,
+    inr (inr (inr ([], opening seats, ([], rows, refl, (refl, refl)), refl))),
+    part.2,
+  ),
+)
+
+-- a run is ready for the next record again
+pub ready_more : (feed feed' : Script) (run run' : Run) (now after : Option (List ℕ)) → IsReady feed run → Turns feed run now (Ok true) feed' run' after
+    → IsReady feed' run'
+ready_more feed feed' run run' now after ready turned = record {
+  server = turned.2.server;
+  reading = turned.1.reading;
+  records = turned.2.records ∙ (ap (λ n. n + 1) ready.records ∙ sym turned.1.given);
+  errors = omega (arith, turned.2.errors, turned.2.records, ready.errors);
+}
+
+few_given : (feed : Script) (run : Run) → IsReady feed run → IsOpen feed → run.records < record_limit
+few_given feed run ready is_open = rw ready.records is_open.room
+
+-- the end of the input, by what the run's finish answers
+pub whole_or_part : (seats : ℕ) (rows : List Row) (feed feed' : Script) (run run' : Run) (before now mid after : Option (List ℕ))
+    (result : Result Summary ServeFault) → IsReady feed run → Reaches seats (Some rows) feed.left run before now → Turns feed run now (Ok false) feed' run' mid
+    → OnOk result (Appends mid after (end_line (length run'.server.pending)))
+    → IfOk result (λ summary. summary ≡ record { records = run'.records; errors = run'.errors; pending = length run'.server.pending })
+    → OnErr result (AppendsPart mid after (end_line (length run'.server.pending)))
+    → IfErr result (λ fault. fault ≡ Write)
+    → AppendsSome before after (IsText seats rows result)
+whole_or_part seats rows feed feed' run run' before now mid after (Ok summary) ready reached turned whole counts part fault =
+    let same : run' ≡ run = turned.1 in
+    let few : run.records < record_limit = few_given feed run ready turned.0.open_before in
+    let written : Appends now after (end_line (length run.server.pending)) = appends_then now mid after [] (end_line (length run.server.pending)) turned.2 (rw same at whole) in
+    finished seats rows feed.left run before now after summary reached turned.0.over few written (rw same at counts)
+whole_or_part seats rows feed feed' run run' before now mid after (Err error) ready reached turned whole counts part fault =
+    let same : run' ≡ run = turned.1 in
+    let few : run.records < record_limit = few_given feed run ready turned.0.open_before in
+    let written : AppendsPart now after (end_line (length run.server.pending)) = part_then now mid after [] (end_line (length run.server.pending)) turned.2 (rw same at part) in
+    let text = unfinished seats rows feed.left run before now after reached turned.0.over few written in
+    rw fault text
+
+-- the same of all records that are left, where they are known
+pub all_stopped : (first : Option (List Row)) (feed feed' : Script) (start run run' : Run) (before now after : Option (List ℕ)) (fault : ServeFault)
+    → ((seats : ℕ) → ShowsRun start (opening seats) → Reaches seats first feed.left run before now) → Turns feed run now (Err fault) feed' run' after
+    → IfSome first (λ rows. (seats : ℕ) → ShowsRun start (opening seats) → AppendsSome before after (IsText seats rows (Err fault)))
+all_stopped None feed feed' start run run' before now after fault reached turned = tt
+all_stopped (Some rows) feed feed' start run run' before now after fault reached turned = λ seats shows.
+    stopped seats rows feed feed' run run' before now after fault (reached seats shows) turned
+
+pub all_ended : (first : Option (List Row)) (feed feed' : Script) (start run run' : Run) (before now mid after : Option (List ℕ))
+    (result : Result Summary ServeFault) → IsReady feed run
+    → ((seats : ℕ) → ShowsRun start (opening seats) → Reaches seats first feed.left run before now) → Turns feed run now (Ok false) feed' run' mid
+    → OnOk result (Appends mid after (end_line (length run'.server.pending)))
+    → IfOk result (λ summary. summary ≡ record { records = run'.records; errors = run'.errors; pending = length run'.server.pending })
+    → OnErr result (AppendsPart mid after (end_line (length run'.server.pending)))
+    → IfErr result (λ fault. fault ≡ Write)
+    → IfSome first (λ rows. (seats : ℕ) → ShowsRun start (opening seats) → AppendsSome before after (IsText seats rows result))
+all_ended None feed feed' start run run' before now mid after result ready reached turned whole counts part fault = tt
+all_ended (Some rows) feed feed' start run run' before now mid after result ready reached turned whole counts part fault = λ seats shows.
+    whole_or_part seats rows feed feed' run run' before now mid after result ready (reached seats shows) turned whole counts part fault
+
+-- from the records that are left to the bytes
+pub from_bytes : (known : Option (List ℕ)) (left : Option (List Row)) (start : Run) (seats : ℕ) (before after : Option (List ℕ))
+    (result : Result Summary ServeFault) → left ≡ option_map records_of known → ShowsRun start (opening seats)
+    → IfSome left (λ rows. (seats : ℕ) → ShowsRun start (opening seats) → AppendsSome before after (IsText seats rows result))
+    → IfSome known (λ bytes. AppendsSome before after (IsText seats (records_of bytes) result))
+from_bytes None left start seats before after result same shows all = tt
+from_bytes (Some bytes) left start seats before after result same shows all =
+    let Says : Option (List Row) → Type 0 = λ left. IfSome left (λ rows. (seats : ℕ) → ShowsRun start (opening seats) → AppendsSome before after (IsText seats rows result)) in
+    let known : Says (Some (records_of bytes)) = subst Says same all in
+    known seats shows
+
+pub never_started : (known : Option (List ℕ)) (seats : ℕ) (before after : Option (List ℕ)) → Appends before after (error_line 1 (Feed word.Memory))
+    → IfSome known (λ bytes. AppendsSome before after (IsText seats (records_of bytes) (Err Memory)))
+never_started None seats before after written = tt
+never_started (Some bytes) seats before after written = unstarted seats (records_of bytes) before after written
+
+pub never_told : (known : Option (List ℕ)) (seats : ℕ) (before after : Option (List ℕ)) → AppendsPart before after (error_line 1 (Feed word.Memory))
+    → IfSome known (λ bytes. AppendsSome before after (IsText seats (records_of bytes) (Err Write)))
+never_told None seats before after part = tt
+never_told (Some bytes) seats before after part = unstarted_part seats (records_of bytes) before after part

@@ -1,0 +1,79 @@
+-- The lines that a run prints. Each ends with one line feed, and numbers are plain decimals.
+use Rattle.std.specs.Prelude.{ℕ, ◌+◌, ℤ, Bool, true, false, codes, decimal, zero, suc, List, [], ◌∷◌, ◌++◌, length, count_by, Option, None, Some}
+use Rattle.std.specs.Fmt.{signed_decimal}
+use Rattle.std.specs.List.{flat_map}
+use Rattle.graph_model.specs.declared.ids.Degree.{Degree}
+use Rattle.graph_model.specs.declared.batches.Outcome.{Outcome}
+use Rattle.graph_model.specs.declared.batches.Outcome.TheVariants.{Inserted, Updated, Removed, Absent, Overflow}
+use Rattle.feed_csv.specs.Commands.{word_text as feed_word_text}
+use Rattle.stinger_server.specs.declared.words.Word.{Word}
+use Rattle.stinger_server.specs.declared.words.Word.TheVariants.{Feed, NotOpen, AlreadyOpen, BadWindow, NoKind, NoVertex, BatchFull, NamesFull, KindsFull}
+
+-- how a refusal is written
+abbrev pub word_text : Word → List ℕ
+word_text (Feed word) = feed_word_text word
+word_text NotOpen = codes "NotOpen"
+word_text AlreadyOpen = codes "AlreadyOpen"
+word_text BadWindow = codes "BadWindow"
+word_text NoKind = codes "NoKind"
+word_text NoVertex = codes "NoVertex"
+word_text BatchFull = codes "BatchFull"
+word_text NamesFull = codes "NamesFull"
+word_text KindsFull = codes "KindsFull"
+
+-- error <record> <Word>
+abbrev pub error_line : ℕ → Word → List ℕ
+error_line number word = codes "error " ++ (decimal number ++ (codes " " ++ (word_text word ++ codes "\n")))
+
+-- whether an outcome is this one
+abbrev pub is_outcome : Outcome → Outcome → Bool
+is_outcome Inserted Inserted = true
+is_outcome Updated Updated = true
+is_outcome Removed Removed = true
+is_outcome Absent Absent = true
+is_outcome Overflow Overflow = true
+is_outcome wanted other = false
+
+-- commit v=<version> ins=<n> upd=<n> rem=<n> abs=<n> ovf=<n>: how many operations had each outcome
+abbrev pub commit_line : ℕ → List Outcome → List ℕ
+commit_line version outcomes =
+    codes "commit v=" ++ (decimal version
+    ++ (codes " ins=" ++ (decimal (count_by (is_outcome Inserted) outcomes)
+    ++ (codes " upd=" ++ (decimal (count_by (is_outcome Updated) outcomes)
+    ++ (codes " rem=" ++ (decimal (count_by (is_outcome Removed) outcomes)
+    ++ (codes " abs=" ++ (decimal (count_by (is_outcome Absent) outcomes)
+    ++ (codes " ovf=" ++ (decimal (count_by (is_outcome Overflow) outcomes) ++ codes "\n")))))))))))
+
+-- open <slot> v=<version>
+abbrev pub open_line : ℕ → ℕ → List ℕ
+open_line slot version = codes "open " ++ (decimal slot ++ (codes " v=" ++ (decimal version ++ codes "\n")))
+
+-- close <slot>
+abbrev pub close_line : ℕ → List ℕ
+close_line slot = codes "close " ++ (decimal slot ++ codes "\n")
+
+-- <name> <out> <in> <weight out>
+abbrev pub degree_line : List ℕ × Degree → List ℕ
+degree_line entry =
+    entry.0 ++ (codes " " ++ (decimal entry.1.outgoing
+    ++ (codes " " ++ (decimal entry.1.incoming ++ (codes " " ++ (signed_decimal entry.1.out_weight ++ codes "\n"))))))
+
+-- deg <slot> edges=<n>
+abbrev pub degree_head : ℕ → ℕ → List ℕ
+degree_head slot edges = codes "deg " ++ (decimal slot ++ (codes " edges=" ++ (decimal edges ++ codes "\n")))
+
+-- the head, and then a line for each vertex
+abbrev pub degree_lines : ℕ → ℕ → List (List ℕ × Degree) → List ℕ
+degree_lines slot edges entries = degree_head slot edges ++ flat_map degree_line entries
+
+-- edge <slot> <weight> <first> <recent>, or edge <slot> none
+abbrev pub edge_line : ℕ → Option (ℤ × ℕ × ℕ) → List ℕ
+edge_line slot None = codes "edge " ++ (decimal slot ++ codes " none\n")
+edge_line slot (Some shown) =
+    codes "edge " ++ (decimal slot ++ (codes " " ++ (signed_decimal shown.0
+    ++ (codes " " ++ (decimal shown.1 ++ (codes " " ++ (decimal shown.2 ++ codes "\n")))))))
+
+-- at the end of the input: end pending=<n>, and nothing where no operation is pending
+abbrev pub end_line : ℕ → List ℕ
+end_line zero = []
+end_line (suc n) = codes "end pending=" ++ (decimal (suc n) ++ codes "\n")

@@ -1,0 +1,76 @@
+-- One turn of a run: from the record that the feed gives to what is written of it.
+use Rattle.std.specs.Prelude.{◌≡◌, ◌≤◌, ◌⊎◌, ℕ, ◌+◌, Bool, true, false, List, [], Option, Some, None, Result, Ok, Err}
+use Rattle.std.specs.Io.KnownBytes.{Appends}
+use Rattle.feed_csv.specs.Commands.{item_of}
+use Rattle.feed_csv.specs.Records.{Row}
+use Rattle.feed_csv.specs.Script.{MeetsEnd, Script, TakesRow}
+use Rattle.feed_csv.specs.declared.command.Command.{Command}
+use Rattle.feed_csv.specs.declared.command.FeedWord.{FeedWord}
+use Rattle.feed_csv.specs.declared.command.FeedWord.TheVariants as word
+use Rattle.feed_csv.specs.declared.phase.Phase.TheVariants.{Reading}
+use Rattle.stinger_server.specs.declared.script.Run.{Run}
+use Rattle.stinger_server.specs.declared.script.ServeFault.{ServeFault}
+use Rattle.stinger_server.specs.declared.script.ServeFault.TheVariants.{Read, Memory, Write}
+use Rattle.stinger_server.specs.declared.server.Response.{Response}
+use Rattle.stinger_server.specs.declared.server.Response.TheVariants.{Lines, Refused}
+use Rattle.stinger_server.specs.declared.words.Word.TheVariants.{Feed}
+use Rattle.stinger_server.specs.Lines.{error_line}
+use Rattle.stinger_server.specs.Servers.{IsServer, Shows}
+use Rattle.stinger_server.specs.States.{IsOutcome, Outcome, Progress, after_record, printed}
+use Rattle.stinger_server.specs.Writes.{AppendsPart}
+
+-- a run that may take the next record: as many records as the feed gave, and no more error lines
+pub record IsReady (feed : Script) (run : Run) : Type 0 where
+  pub server : IsServer run.server
+  pub reading : feed.phase ≡ Reading
+  pub records : run.records ≡ feed.given
+  pub errors : run.errors ≤ run.records
+
+-- the fields are those of a run that has come this far
+pub record ShowsRun (run : Run) (here : Progress) : Type 0 where
+  pub server : Shows run.server here.state
+  pub records : run.records ≡ here.records
+  pub errors : run.errors ≡ here.errors
+
+abbrev pub refusals : Response → ℕ
+refusals Lines = 0
+refusals (Refused word) = 1
+
+-- one more record is counted, and nothing else changes but the buffer
+pub record CountsRecord (old : Run) (response : Response) (new : Run) : Type 0 where
+  pub server : new.server ≡ old.server
+  pub records : new.records ≡ old.records + 1
+  pub errors : new.errors ≡ old.errors + refusals response
+
+-- the record was done: what it came to was written and counted
+pub record Done (item : Result Command FeedWord) (old : Run) (before : Option (List ℕ)) (new : Run) (after : Option (List ℕ)) : Type 0 where
+  pub server : IsServer new.server
+  pub records : new.records ≡ old.records + 1
+  pub errors : new.errors ≤ old.errors + 1
+  pub step : (here : Progress) → ShowsRun old here → (outcome : Outcome) × IsOutcome item here.state outcome
+      × Appends before after (printed (here.records + 1) outcome) × ShowsRun new (after_record item outcome here)
+
+-- a part was written of what the record came to, or of the error line of another end
+abbrev pub BreaksOff : Result Command FeedWord → Run → Option (List ℕ) → Option (List ℕ) → Type 0
+BreaksOff item old before after =
+    (here : Progress) → ShowsRun old here
+    → ((outcome : Outcome) × IsOutcome item here.state outcome × AppendsPart before after (printed (here.records + 1) outcome))
+    ⊎ AppendsPart before after (error_line (here.records + 1) (Feed word.Memory))
+
+-- what a record did, by its result
+abbrev pub Does : Result Command FeedWord → Run → Option (List ℕ) → Result Unit ServeFault → Run → Option (List ℕ) → Type 0
+Does item old before (Ok u) new after = Done item old before new after
+Does item old before (Err Read) new after = ⊥
+Does item old before (Err Memory) new after = Appends before after (error_line (old.records + 1) (Feed word.Memory))
+Does item old before (Err Write) new after = BreaksOff item old before after
+
+-- a turn: the next record was done; or there is none; or a fault ended the run
+abbrev pub Turns : Script → Run → Option (List ℕ) → Result Bool ServeFault → Script → Run → Option (List ℕ) → Type 0
+Turns feed run before (Ok true) feed' run' after = (row : Row) × TakesRow feed row feed' × Done (item_of row) run before run' after
+Turns feed run before (Ok false) feed' run' after = MeetsEnd feed feed' × (run' ≡ run) × Appends before after []
+Turns feed run before (Err Read) feed' run' after = Appends before after (error_line (run.records + 1) (Feed word.Read))
+Turns feed run before (Err Memory) feed' run' after = Appends before after (error_line (run.records + 1) (Feed word.Memory))
+Turns feed run before (Err Write) feed' run' after =
+    ((row : Row) × TakesRow feed row feed' × BreaksOff (item_of row) run before after)
+    ⊎ (AppendsPart before after (error_line (run.records + 1) (Feed word.Read))
+    ⊎ AppendsPart before after (error_line (run.records + 1) (Feed word.Memory)))

@@ -1,0 +1,165 @@
+-- Where a run stands between two records, and what one record does.
+use Rattle.std.specs.Prelude.{◌≡◌, ℕ, ◌+◌, nat_lt, List, [], ◌∷◌, ◌++◌, length, take, replicate, slice_get, slice_set, count_by, if◌then◌else◌, Option, None, Some, Result, Ok, Err}
+use Rattle.std.specs.FinMap.{entries}
+use Rattle.graph_model.specs.Graph.{Graph}
+use Rattle.graph_model.specs.Step.{after_all, empty_graph, left_by, outcomes}
+use Rattle.graph_model.specs.View.{in_view}
+use Rattle.graph_model.specs.Valid.{push_refusal}
+use Rattle.graph_model.specs.Answer.{IsAnswer, resolved}
+use Rattle.graph_model.specs.declared.batches.NamedOp.{NamedOp}
+use Rattle.graph_model.specs.declared.batches.PushError.{PushError}
+use Rattle.graph_model.specs.declared.batches.PushError.TheVariants as push
+use Rattle.graph_model.specs.declared.requests.Request.{Request}
+use Rattle.graph_model.specs.declared.requests.Request.TheVariants as request
+use Rattle.graph_model.specs.declared.requests.Reply.{Reply}
+use Rattle.graph_model.specs.declared.requests.Reply.TheVariants as reply
+use Rattle.graph_model.specs.declared.requests.AskError.{AskError}
+use Rattle.graph_model.specs.declared.requests.AskError.TheVariants as ask
+use Rattle.feed_csv.specs.declared.command.Command.{Command}
+use Rattle.feed_csv.specs.declared.command.Command.TheVariants.{Op, Commit, OpenSlot, CloseSlot, Query}
+use Rattle.feed_csv.specs.declared.command.FeedWord.{FeedWord}
+use Rattle.feed_csv.specs.declared.command.FeedWord.TheVariants as feed
+use Rattle.stinger_server.specs.declared.words.Word.{Word}
+use Rattle.stinger_server.specs.declared.words.Word.TheVariants.{Feed, NotOpen, AlreadyOpen, BadWindow, NoKind, NoVertex, BatchFull, NamesFull, KindsFull}
+use Rattle.stinger_server.specs.Lines.{close_line, commit_line, degree_lines, edge_line, error_line, open_line}
+
+-- the pending operations; the batches accepted so far, in order; and the version that each slot holds, or none, for as
+-- many slots as there are seats
+pub record State : Type 0 where
+  pub pending : List NamedOp
+  pub batches : List (List NamedOp)
+  pub held : List (Option ℕ)
+
+-- how far a run has come: its state, how many records there were, and how many of them printed an error line
+pub record Progress : Type 0 where
+  pub state : State
+  pub records : ℕ
+  pub errors : ℕ
+
+-- at the start nothing is pending, accepted or held
+abbrev pub opening : ℕ → Progress
+opening seats = record { state = record { pending = []; batches = []; held = replicate seats None }; records = 0; errors = 0 }
+
+-- version n is what the first n batches leave
+abbrev pub version : ℕ → State → Graph
+version n s = left_by (take n s.batches) empty_graph
+
+abbrev pub last_version : State → Graph
+last_version s = left_by s.batches empty_graph
+
+-- what a record comes to: the lines that it prints, or the word of its refusal
+abbrev pub Outcome : Type 0
+Outcome = Result (List ℕ) Word
+
+-- these lines, unless there is a refusal
+abbrev pub lines_unless : Option Word → List ℕ → Outcome
+lines_unless None lines = Ok lines
+lines_unless (Some word) lines = Err word
+
+-- the words for the refusals of an operation, of a batch and of a request
+abbrev pub push_word : PushError → Word
+push_word push.BadName = Feed feed.BadName
+push_word push.BadWeight = Feed feed.BadWeight
+push_word push.BadTime = Feed feed.BadTime
+push_word push.BatchFull = BatchFull
+push_word push.OutOfMemory = Feed feed.Memory
+
+abbrev pub ask_word : AskError → Word
+ask_word ask.BadWindow = BadWindow
+ask_word ask.NoKind = NoKind
+ask_word ask.NoVertex = NoVertex
+ask_word ask.OutOfMemory = Feed feed.Memory
+
+-- a batch is refused where it would leave more than 65,536 names, and else where more than 64 kinds
+abbrev pub commit_refusal : Graph → Option Word
+commit_refusal left =
+    if nat_lt 65536 (length left.names) then Some NamesFull
+    else (if nat_lt 64 (length left.kinds) then Some KindsFull else None)
+
+abbrev pub op_refusal : Option PushError → Option Word
+op_refusal None = None
+op_refusal (Some error) = Some (push_word error)
+
+-- the version that a slot holds: a slot past the seats is refused first, then one that holds none
+abbrev pub version_in : Option (Option ℕ) → Result ℕ Word
+version_in None = Err (Feed feed.BadSlot)
+version_in (Some None) = Err NotOpen
+version_in (Some (Some n)) = Ok n
+
+-- a slot that already holds a version can't be opened
+abbrev pub open_refusal : Option (Option ℕ) → Option Word
+open_refusal None = Some (Feed feed.BadSlot)
+open_refusal (Some None) = None
+open_refusal (Some (Some n)) = Some AlreadyOpen
+
+abbrev pub close_outcome : ℕ → Result ℕ Word → Outcome
+close_outcome slot (Ok n) = Ok (close_line slot)
+close_outcome slot (Err word) = Err word
+
+-- the lines of a reply; those of degrees begin with the number of edges in the view
+abbrev pub reply_lines : ℕ → Request → Graph → Reply → List ℕ
+reply_lines slot (request.Degrees filter) g (reply.Degrees entries_of) =
+    degree_lines slot (count_by (in_view (resolved g filter)) (entries g.edges)) entries_of
+reply_lines slot (request.OneEdge kind source target) g (reply.OneEdge shown) = edge_line slot shown
+reply_lines slot (request.Degrees filter) g (reply.OneEdge shown) = []
+reply_lines slot (request.OneEdge kind source target) g (reply.Degrees entries_of) = []
+
+abbrev pub answer_outcome : ℕ → Request → Graph → Result Reply AskError → Outcome
+answer_outcome slot request g (Ok reply) = Ok (reply_lines slot request g reply)
+answer_outcome slot request g (Err error) = Err (ask_word error)
+
+-- a request's outcome is that of its answer over the version that the slot holds
+abbrev pub IsReplied : ℕ → Request → State → Result ℕ Word → Outcome → Type 0
+IsReplied slot request s (Err word) outcome = outcome ≡ Err word
+IsReplied slot request s (Ok n) outcome =
+    (answer : Result Reply AskError) × IsAnswer request (version n s) answer
+    × (outcome ≡ answer_outcome slot request (version n s) answer)
+
+-- what a command comes to
+abbrev pub IsDone : Command → State → Outcome → Type 0
+IsDone (Op op) s outcome = outcome ≡ lines_unless (op_refusal (push_refusal op (length s.pending))) []
+IsDone Commit s outcome =
+    outcome ≡ lines_unless (commit_refusal (after_all s.pending (last_version s)))
+    (commit_line (length s.batches + 1) (outcomes s.pending (last_version s)))
+IsDone (OpenSlot slot) s outcome = outcome ≡ lines_unless (open_refusal (slice_get s.held slot)) (open_line slot (length s.batches))
+IsDone (CloseSlot slot) s outcome = outcome ≡ close_outcome slot (version_in (slice_get s.held slot))
+IsDone (Query slot request) s outcome = IsReplied slot request s (version_in (slice_get s.held slot)) outcome
+
+-- the state that a command leaves: a refused one changes nothing, but a refused batch is given up
+abbrev pub after_command : Command → Outcome → State → State
+after_command (Op op) (Ok lines) s = record s { pending = s.pending ++ op ∷ [] }
+after_command Commit (Ok lines) s = record s { pending = []; batches = s.batches ++ s.pending ∷ [] }
+after_command Commit (Err word) s = record s { pending = [] }
+after_command (OpenSlot slot) (Ok lines) s = record s { held = slice_set s.held slot (Some (length s.batches)) }
+after_command (CloseSlot slot) (Ok lines) s = record s { held = slice_set s.held slot None }
+after_command (Query slot request) (Ok lines) s = s
+after_command (Op op) (Err word) s = s
+after_command (OpenSlot slot) (Err word) s = s
+after_command (CloseSlot slot) (Err word) s = s
+after_command (Query slot request) (Err word) s = s
+
+-- a record is a command, or is refused for the word that its fields have
+abbrev pub IsOutcome : Result Command FeedWord → State → Outcome → Type 0
+IsOutcome (Ok command) s outcome = IsDone command s outcome
+IsOutcome (Err word) s outcome = outcome ≡ Err (Feed word)
+
+abbrev pub after_item : Result Command FeedWord → Outcome → State → State
+after_item (Ok command) outcome s = after_command command outcome s
+after_item (Err word) outcome s = s
+
+-- one error line where the record was refused
+abbrev pub error_count : Outcome → ℕ
+error_count (Ok lines) = 0
+error_count (Err word) = 1
+
+abbrev pub after_record : Result Command FeedWord → Outcome → Progress → Progress
+after_record item outcome p = record {
+  state = after_item item outcome p.state;
+  records = p.records + 1;
+  errors = p.errors + error_count outcome;
+}
+
+-- what a record prints: its lines, or an error line with its number, counted from 1
+abbrev pub printed : ℕ → Outcome → List ℕ
+printed number (Ok lines) = lines
+printed number (Err word) = error_line number word

@@ -1,0 +1,11 @@
+-- What a writer holds after a text, or a part of one, was written.
+use Rattle.std.specs.Prelude.{◌≡◌, ℕ, List, ◌++◌, Option, None, Some}
+use Rattle.std.specs.Io.KnownBytes.{Appends}
+
+-- known bytes grow by a first part of the text
+abbrev pub AppendsPart : Option (List ℕ) → Option (List ℕ) → List ℕ → Type 0
+AppendsPart old new text = (part : List ℕ) × (rest : List ℕ) × (text ≡ part ++ rest) × Appends old new part
+
+-- known bytes grow by a text of which this holds
+abbrev pub AppendsSome : Option (List ℕ) → Option (List ℕ) → (List ℕ → Type 0) → Type 0
+AppendsSome old new IsText = (text : List ℕ) × Appends old new text × IsText text

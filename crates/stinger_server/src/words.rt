@@ -1,0 +1,39 @@
+//! The words of refusals.
+
+ghost use Rattle.std.specs.Prelude.{◌≡◌};
+ghost use Rattle.stinger_server.specs.Lines.{word_text};
+
+use feed_csv::FeedWord;
+
+/// Why a record was refused, or what ended the run.
+#[derive(Clone, Copy, Debug, PartialEq, Eq)]
+pub enum Word {
+    /// A word of the feed; the server also refuses a slot that is not below the number of seats.
+    Feed(FeedWord),
+    NotOpen,
+    AlreadyOpen,
+    BadWindow,
+    NoKind,
+    NoVertex,
+    BatchFull,
+    NamesFull,
+    KindsFull,
+}
+
+impl Word {
+    pub(crate) fn text(self) -> &'static str
+        ensures { result.now ≡ word_text self }
+    {
+        match self {
+            Word::Feed(word) => word.word(),
+            Word::NotOpen => "NotOpen",
+            Word::AlreadyOpen => "AlreadyOpen",
+            Word::BadWindow => "BadWindow",
+            Word::NoKind => "NoKind",
+            Word::NoVertex => "NoVertex",
+            Word::BatchFull => "BatchFull",
+            Word::NamesFull => "NamesFull",
+            Word::KindsFull => "KindsFull",
+        }
+    }
+}

@@ -1,0 +1,111 @@
+use super::*;
+use graph_model::is_name;
+use std::process::Abort;
+use std::test::Fail;
+
+// What `add` answers, at a text that is a name.
+fn add(rt: &impl Abort, book: &mut NameBook, name: &str) -> Result<u32, AddError> {
+    assert!(rt; is_name(name));
+    book.add(name)
+}
+
+// The name has this number.
+fn assert_numbered(rt: &impl Abort, book: &NameBook, name: &str, number: u32) {
+    assert_eq!(rt; book.number(name), Some(number));
+    assert_eq!(rt; book.name(number), Some(name));
+}
+
+// The name has no number, and this is how many names there are.
+fn assert_absent(rt: &impl Abort, book: &NameBook, name: &str, len: u32) {
+    assert_eq!(rt; book.number(name), None);
+    assert_eq!(rt; book.name(len), None);
+    assert_eq!(rt; book.len(), len as usize);
+}
+
+// Tells `tools/refuse-each-growth` that a growth was refused.
+fn tell_refused(rt: &impl Print) {
+    let _ = println!(rt; "refused");
+}
+
+// Adds a new name. Where a growth is refused, the book is as before, and the next try answers.
+fn add_new(rt: &(impl Abort + Print), book: &mut NameBook, name: &str, number: u32) {
+    let mut answer = add(rt, book, name);
+    if answer == Err(AddError::OutOfMemory) {
+        tell_refused(rt);
+        assert_absent(rt, book, name, number);
+        answer = add(rt, book, name);
+    }
+    assert_eq!(rt; answer, Ok(number));
+    assert_numbered(rt, book, name, number);
+}
+
+#[test]
+fn numbers_names_by_first_appearance(rt: HostRuntime) -> Result<(), Fail> {
+    let mut book = NameBook::new(rt.alloc(), 2);
+    assert!(rt; book.is_empty());
+    assert_eq!(rt; add(&rt, &mut book, "a"), Ok(0));
+    assert_eq!(rt; add(&rt, &mut book, "b"), Ok(1));
+    assert_eq!(rt; add(&rt, &mut book, "a"), Ok(0));
+    assert_eq!(rt; add(&rt, &mut book, "c"), Err(AddError::NamesFull));
+    assert!(rt; !book.is_empty());
+    assert_absent(&rt, &book, "c", 2);
+    assert_numbered(&rt, &book, "b", 1);
+    let shared = book.share()?;
+    assert_absent(&rt, &shared, "c", 2);
+    assert_numbered(&rt, &shared, "b", 1);
+    Ok(())
+}
+
+#[test]
+fn keeps_a_shared_book_as_it_was(rt: HostRuntime) -> Result<(), Fail> {
+    let mut book = NameBook::new(rt.alloc(), 3);
+    add(&rt, &mut book, "a")?;
+    let shared = book.share()?;
+    add(&rt, &mut book, "b")?;
+    assert_absent(&rt, &shared, "b", 1);
+    assert_numbered(&rt, &book, "b", 1);
+    Ok(())
+}
+
+#[test]
+fn takes_as_many_names_as_a_graph_may_have(rt: HostRuntime) -> Result<(), Fail> {
+    let mut book = NameBook::new(rt.alloc(), 65_536);
+    for number in 0..65_536u32 {
+        let name = format!(in rt.alloc(); "v{number}")?;
+        assert_eq!(rt; add(&rt, &mut book, name.as_str()), Ok(number));
+    }
+    assert_eq!(rt; add(&rt, &mut book, "v65536"), Err(AddError::NamesFull));
+    assert_absent(&rt, &book, "v65536", 65_536);
+    assert_numbered(&rt, &book, "v40000", 40_000);
+    let shared = book.share()?;
+    assert_numbered(&rt, &shared, "v65535", 65_535);
+    Ok(())
+}
+
+#[test]
+fn refused_names_leave_the_book(rt: HostRuntime) {
+    let mut book = NameBook::new(rt.alloc(), 5);
+    let names = ["a", "b", "c", "d", "e"];
+    for number in 0..5u32 {
+        add_new(&rt, &mut book, names[number as usize], number);
+    }
+    assert_absent(&rt, &book, "f", 5);
+    assert_eq!(rt; add(&rt, &mut book, "c"), Ok(2));
+    assert_eq!(rt; add(&rt, &mut book, "f"), Err(AddError::NamesFull));
+}
+
+#[test]
+fn refused_shares_leave_the_book(rt: HostRuntime) {
+    let mut book = NameBook::new(rt.alloc(), 1);
+    add_new(&rt, &mut book, "a", 0);
+    let shared = match book.share() {
+        Ok(shared) => shared,
+        Err(_) => {
+            tell_refused(&rt);
+            book.share().expect(&rt, "one growth alone is refused")
+        }
+    };
+    assert_numbered(&rt, &book, "a", 0);
+    assert_numbered(&rt, &shared, "a", 0);
+    assert_absent(&rt, &shared, "b", 1);
+}
