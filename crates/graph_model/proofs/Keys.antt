@@ -1,15 +1,14 @@
 -- Keys in order, and lists of edges that list each key once.
-use Rattle.std.proofs.Common.{◌≡◌, ◌≢◌, ℕ, zero, suc, ◌+◌, ◌<◌, ◌≤◌, Bool, true, false, cond, List, [], ◌∷◌, length, get_or, drop, map, refl, sym, ap, subst, ◌∙◌, arith}
-use Rattle.std.specs.Prelude.{count_by, AllPairs, All, Contains, IsPermutation}
+use Rattle.std.proofs.Common.{◌≡◌, ◌≢◌, ℕ, zero, suc, ◌+◌, ◌<◌, ◌≤◌, Bool, true, false, cond, List, [], ◌∷◌, length, get_or, map, refl, sym, ap, subst, ◌∙◌, arith}
+use Rattle.std.specs.Prelude.{count_by, is_some, AllPairs, All, Contains, IsPermutation}
 use Rattle.std.specs.declared.cmp.Ordering.{Ordering}
 use Rattle.std.specs.declared.cmp.Ordering.TheVariants.{Less, Equal, Greater}
 use Rattle.std.specs.declared.option.Option.{Option}
 use Rattle.std.specs.declared.option.Option.TheVariants.{None, Some}
 use Rattle.std.specs.Ordering.{nat_cmp, ordering_then, is_eq, eq_by_cmp}
 use Rattle.std.specs.Cmp.{IsTotalOrder}
-use Rattle.std.specs.FinMap.{IsAntisymmetric, nat_cmp-IsAntisymmetric, find, get, get-empty, get-insert, get-from_entries, same_map}
+use Rattle.std.specs.FinMap.{IsAntisymmetric, nat_cmp-IsAntisymmetric, find, get, len, get-empty, get-insert, get-from_entries, len-empty, len-insert, same_map}
 use Rattle.std.proofs.lemmas.Cmp.{then_total, on_total, nat_cmp_total, tied_itself}
-use Rattle.std.proofs.lemmas.List.{at_drop_more, at_drop_all}
 use Rattle.std.proofs.lemmas.List.Sums.{sum_by-cons, get_or-le-sum_by}
 use Rattle.std.proofs.lemmas.List.Sorted.{Contains-permutation, sum_by-IsPermutation, IsPermutation-sym}
 use Rattle.graph_model.specs.Graph.{Key, Stamp, key_cmp, key_of, stamp_of, map_of}
@@ -68,22 +67,6 @@ find_absent key [] absent = refl
 find_absent key (e ∷ es) absent =
     let none = find_absent key es (λ k d h. absent (suc k) d (omega arith)) in
     ap (λ b. cond b (Some (stamp_of e)) (find key_cmp key (map entry_of es))) (has_key-false key e (absent 0 e (omega arith))) ∙ none
-
--- a look-up in the rest of a list: past an edge of another key, at an edge of the key, and at the end
-pub get_more : (key : Key) (edges : List Edge) (i : ℕ) (d : Edge) → i < length edges → has_key key (get_or edges i d) ≡ false → get (map_of (drop (i + 1) edges)) key ≡ get (map_of (drop i edges)) key
-get_more key edges i d within other =
-    let e = get_or edges i d in
-    let rest = map_of (drop (i + 1) edges) in
-    sym (at_drop_more (λ es. get (map_of es) key) edges i d within ∙ get-insert keys_total rest (key_of e) (stamp_of e) key ∙ ap (λ b. cond b (Some (stamp_of e)) (get rest key)) other)
-
-pub get_here : (key : Key) (edges : List Edge) (i : ℕ) (d : Edge) → i < length edges → has_key key (get_or edges i d) ≡ true → get (map_of (drop i edges)) key ≡ Some (stamp_of (get_or edges i d))
-get_here key edges i d within same =
-    let e = get_or edges i d in
-    let rest = map_of (drop (i + 1) edges) in
-    at_drop_more (λ es. get (map_of es) key) edges i d within ∙ get-insert keys_total rest (key_of e) (stamp_of e) key ∙ ap (λ b. cond b (Some (stamp_of e)) (get rest key)) same
-
-pub get_past : (key : Key) (edges : List Edge) (i : ℕ) → length edges ≤ i → get (map_of (drop i edges)) key ≡ None
-get_past key edges i past = at_drop_all (λ es. get (map_of es) key) edges i past ∙ get-empty key_cmp key
 
 pub get_is : (key : Key) (edges : List Edge) → get (map_of edges) key ≡ find key_cmp key (map entry_of edges)
 get_is key edges = get-from_entries keys_total (map entry_of edges) key
@@ -146,3 +129,35 @@ found_again key es fs once moved (Some s) None at_es at_fs =
 pub same_map_of : (es fs : List Edge) → HasKeysOnce es → IsPermutation es fs → map_of fs ≡ map_of es
 same_map_of es fs once moved =
     same_map keys_total exact_keys (map_of fs) (map_of es) (λ key. get_is key fs ∙ found_again key es fs once moved _ _ refl refl ∙ sym (get_is key es))
+
+-- no edge, and one edge more
+pub once_none : HasKeysOnce []
+once_none i j d h g = absurd (omega arith)
+
+pub once_cons : (e : Edge) (es : List Edge) → All (λ x. key_of e ≢ key_of x) es → HasKeysOnce es → HasKeysOnce (e ∷ es)
+once_cons e es apart once zero zero d h g = absurd (omega arith)
+once_cons e es apart once zero (suc j) d h g = apart j d (omega arith)
+once_cons e es apart once (suc i) zero d h g = absurd (omega arith)
+once_cons e es apart once (suc i) (suc j) d h g = once i j d (omega arith) (omega arith)
+
+-- what stands in the map at a key, once an edge is listed before
+get_cons : (e : Edge) (es : List Edge) (key : Key) → get (map_of (e ∷ es)) key ≡ cond (has_key key e) (Some (stamp_of e)) (get (map_of es) key)
+get_cons e es key = get-insert keys_total (map_of es) (key_of e) (stamp_of e) key
+
+-- each listed edge stands in the map, where each key is listed once
+pub get_listed : (es : List Edge) → HasKeysOnce es → All (λ e. get (map_of es) (key_of e) ≡ Some (stamp_of e)) es
+get_listed [] once k d h = absurd (omega arith)
+get_listed (e ∷ es) once zero d h =
+    get_cons e es (key_of e) ∙ ap (λ b. cond b (Some (stamp_of e)) (get (map_of es) (key_of e))) (has_key_at (key_of e) e refl)
+get_listed (e ∷ es) once (suc k) d h =
+    let x = get_or es k d in
+    let other = has_key-false (key_of x) e (λ same. once_head e es once k d (omega arith) (sym same)) in
+    get_cons e es (key_of x) ∙ ap (λ b. cond b (Some (stamp_of e)) (get (map_of es) (key_of x))) other ∙ get_listed es (once_tail e es once) k d (omega arith)
+
+-- a map has as many entries as edges were listed, each key once
+pub len_once : (es : List Edge) → HasKeysOnce es → len (map_of es) ≡ length es
+len_once [] once = len-empty key_cmp Stamp
+len_once (e ∷ es) once =
+    let none : get (map_of es) (key_of e) ≡ None = get_is (key_of e) es ∙ find_absent (key_of e) es (once_head e es once) in
+    let more : len (map_of (e ∷ es)) ≡ len (map_of es) + 1 = len-insert keys_total (map_of es) (key_of e) (stamp_of e) ∙ ap (λ o. cond (is_some o) (len (map_of es)) (len (map_of es) + 1)) none in
+    omega (arith, more, len_once es (once_tail e es once))

@@ -6,7 +6,6 @@ pub mod Keys
 pub mod Folds
 pub mod Crowds
 pub mod Tallies
-pub mod Writes
 pub mod Places
 pub mod Rows
 pub mod TwoOrders

@@ -1,5 +1,5 @@
 -- Lists of names in order of first appearance, as operations make them.
-use Rattle.std.proofs.Common.{◌≡◌, ◌≢◌, ℕ, ◌+◌, ◌<◌, ◌≤◌, List, [], ◌∷◌, ◌++◌, Bool, true, false, cond, not, ◌||◌, length, get_or, AllPairs, bytes_eq, Option, Some, zero, suc, drop, ◌⊎◌, inl, inr, refl, sym, ap, subst, ◌∙◌, arith}
+use Rattle.std.proofs.Common.{◌≡◌, ◌≢◌, ℕ, ◌+◌, ◌<◌, ◌≤◌, List, [], ◌∷◌, ◌++◌, true, false, cond, not, ◌||◌, length, get_or, AllPairs, bytes_eq, Option, Some, zero, suc, drop, ◌⊎◌, inl, inr, refl, sym, ap, subst, ◌∙◌, arith}
 use Rattle.std.specs.List.{list_any}
 use Rattle.std.proofs.lemmas.Bool.{false≢true}
 use Rattle.std.proofs.lemmas.List.Folds.{list_any-append, list_any_at}
@@ -87,7 +87,7 @@ Refuses-names OutOfMemory ops g why = tt
 pub names_fit : (ops : List NamedOp) (g : Graph) → length (names_left ops g.names) ≤ 65536 → 65536 < length (after_all ops g).names → ⊥
 names_fit ops g few past = let e = ap length (names_of-after_all ops g) in omega arith
 
-same_bytes : (name : List ℕ) → bytes_eq name name ≡ true
+pub same_bytes : (name : List ℕ) → bytes_eq name name ≡ true
 same_bytes name = (bytes_eq-Decides name name).1 refl
 
 -- a name that has appeared has a number below the count of names

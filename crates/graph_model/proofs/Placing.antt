@@ -1,12 +1,11 @@
 -- Edges at their keys: what it is to the map that a list of edges shows, to find an edge in the list, to take it
 -- away and to add one.
-use Rattle.std.proofs.Common.{◌≡◌, ◌≢◌, ℕ, ◌<◌, ◌≤◌, List, [], ◌∷◌, ◌++◌, Bool, true, false, cond, not, ◌&&◌, map, length, get_or, All, AllPairs, Option, Some, None, Decides, option_map, option_to_list, IfSome, refl, sym, ap, subst, ◌∙◌, arith}
+use Rattle.std.proofs.Common.{◌≡◌, ℕ, List, [], ◌∷◌, ◌++◌, Bool, true, false, cond, not, map, Option, Some, None, Decides, option_map, option_to_list, IfSome, refl, sym, ap, subst, ◌∙◌}
 use Rattle.std.specs.List.{find}
 use Rattle.std.specs.Ordering.{nat_cmp, ordering_then, eq_by_cmp}
 use Rattle.std.specs.Cmp.{IsTotalOrder}
-use Rattle.std.specs.FinMap.{FinMap, get, insert, remove, from_entries, get-from_entries, get-insert, get-remove, same_map, from_entries_push}
+use Rattle.std.specs.FinMap.{get, insert, remove, from_entries, get-from_entries, get-insert, get-remove, same_map, from_entries_push}
 use Rattle.std.specs.FinMap.Entries.{find as look_up, where_key, find-where_key}
-use Rattle.std.proofs.lemmas.Bool.{false≢true}
 use Rattle.std.proofs.lemmas.Bool.Decides.{same_from_decides, Decides-and, Decides-eqb, Decides-like}
 use Rattle.std.proofs.lemmas.Cmp.{then_total, on_total, nat_cmp_total, eq_by_cmp_equiv}
 use Rattle.std.proofs.lemmas.List.{append-nil, map-append}
@@ -55,6 +54,13 @@ look_up-entries_of key (e ∷ edges) =
 -- what stands at a key is what the first edge with the key bears
 pub get-map_of : (key : Key) (edges : List Edge) → get (map_of edges) key ≡ option_map stamp_of (find (has_key key) edges)
 get-map_of key edges = get-from_entries keys_total (entries_of edges) key ∙ look_up-entries_of key edges
+
+-- the same of what was looked for
+pub found_some : (key : Key) (edges : List Edge) (e : Edge) → Some e ≡ find (has_key key) edges → get (map_of edges) key ≡ Some (stamp_of e)
+found_some key edges e is = get-map_of key edges ∙ ap (option_map stamp_of) (sym is)
+
+pub found_none : (key : Key) (edges : List Edge) → None ≡ find (has_key key) edges → get (map_of edges) key ≡ None
+found_none key edges is = get-map_of key edges ∙ ap (option_map stamp_of) (sym is)
 
 entries_of-without : (key : Key) (edges : List Edge) → entries_of (without key edges) ≡ where_key key_cmp (λ k. not (eq_by_cmp key_cmp key k)) (entries_of edges)
 entries_of-without key [] = refl

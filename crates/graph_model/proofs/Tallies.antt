@@ -76,8 +76,8 @@ tally_hidden f edges i n x table tally within hidden =
     })
 
 -- the table after the first edges of a content has room for one more
-pub tally_within : (f : Filter) (c : Content) (edges : List Edge) (k : ℕ) (table : List Degree) → edges ≡ c.edges → IsContent c → IsTally f (take k edges) (length c.names) table → All IsWithinLimits table
-tally_within f c edges k table listed is tally = λ v d h.
+pub tally_within : (f : Filter) (c : Content) → IsContent c → (edges : List Edge) (k : ℕ) (table : List Degree) → edges ≡ c.edges → IsTally f (take k edges) (length c.names) table → (v : ℕ) (d : Degree) → v < length table → IsWithinLimits (get_or table v d)
+tally_within f c is edges k table listed tally v d h =
     let all_once : HasKeysOnce edges = subst HasKeysOnce (sym listed) is.keys_distinct in
     let once : HasKeysOnce (take k edges) = λ i j x low high.
     let short = length-take k edges in
@@ -101,8 +101,8 @@ pub degree_table_is : (f : Filter) (c : Content) → IsContent c → degree_tabl
 degree_table_is f c is = ap (λ (degree : ℕ → Degree). map degree (range_with_len 0 (length c.names))) (λ i v. sym (listed_at f c v is) i)
 
 -- the table after all edges
-pub tally_all : (f : Filter) (c : Content) (edges : List Edge) (i : ℕ) (table : List Degree) → edges ≡ c.edges → length edges ≤ i → IsContent c → IsTally f (take i edges) (length c.names) table → table ≡ degree_table f (graph_of c)
-tally_all f c edges i table listed whole is tally =
+pub tally_all : (f : Filter) (c : Content) → IsContent c → (edges : List Edge) (i : ℕ) (table : List Degree) → edges ≡ c.edges → length edges ≤ i → IsTally f (take i edges) (length c.names) table → table ≡ degree_table f (graph_of c)
+tally_all f c is edges i table listed whole tally =
     let all : take i edges ≡ c.edges = take_all i edges whole ∙ listed in
     let d = degree_at f (graph_of c) 0 in
     fill_by_all (degree_at f (graph_of c)) table (length c.names) d tally.size (λ v h. tally.at v d h ∙ ap (λ (es : List Edge). listed_degree f es v) all ∙ listed_at f c v is)

@@ -1,5 +1,5 @@
 -- The answer to a request.
-use Rattle.std.specs.Prelude.{◌≡◌, ℕ, ℤ, List, [], ◌∷◌, length, map, zip, nat_lt, Bool, true, false, bytes_eq, slice_get, slice_index_or, Result, Ok, Err, not, ◌&&◌}
+use Rattle.std.specs.Prelude.{◌≡◌, ℕ, ℤ, List, length, map, zip, nat_lt, Bool, true, false, bytes_eq, Result, Ok, Err, not, ◌&&◌}
 use Rattle.std.specs.List.{list_any, range_with_len}
 use Rattle.std.specs.Option.{option_map}
 use Rattle.std.specs.FinMap.{get}

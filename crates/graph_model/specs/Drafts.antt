@@ -4,6 +4,7 @@ use Rattle.graph_model.specs.Graph.{Graph, Key, key_of, content_of, IsWeight, Is
 use Rattle.graph_model.specs.Step.{names_after}
 use Rattle.graph_model.specs.declared.ids.Edge.{Edge}
 use Rattle.graph_model.specs.declared.batches.NamedOp.{NamedOp}
+use Rattle.graph_model.specs.declared.batches.NamedOp.TheVariants.{Insert, Incr, Remove}
 use Rattle.graph_model.specs.declared.contents.Content.{Content}
 use Rattle.graph_model.specs.declared.slow_apply.PlainError.{PlainError}
 use Rattle.graph_model.specs.declared.slow_apply.PlainError.TheVariants.{NamesFull, KindsFull, OutOfMemory}
@@ -13,6 +14,22 @@ use Rattle.graph_model.specs.declared.slow_apply.places.Place.{Place}
 -- the content that a draft shows
 abbrev pub shown_by : Draft → Content
 shown_by d = content_of d.names.items d.kinds.items d.edges.items
+
+-- the names that an operation speaks of
+abbrev pub kind_of : NamedOp → List ℕ
+kind_of (Insert kind source target weight time) = kind
+kind_of (Incr kind source target amount time) = kind
+kind_of (Remove kind source target) = kind
+
+abbrev pub source_of : NamedOp → List ℕ
+source_of (Insert kind source target weight time) = source
+source_of (Incr kind source target amount time) = source
+source_of (Remove kind source target) = source
+
+abbrev pub target_of : NamedOp → List ℕ
+target_of (Insert kind source target weight time) = target
+target_of (Incr kind source target amount time) = target
+target_of (Remove kind source target) = target
 
 abbrev pub place_key : Place → Key
 place_key p = record { kind = p.kind.0; source = p.source.0; target = p.target.0 }

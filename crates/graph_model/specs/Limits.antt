@@ -1,5 +1,5 @@
 -- The limits on names and kinds that a batch may meet, and its refusals.
-use Rattle.std.specs.Prelude.{ℕ, ◌<◌, List, length}
+use Rattle.std.specs.Prelude.{◌<◌, List, length}
 use Rattle.graph_model.specs.Graph.{Graph}
 use Rattle.graph_model.specs.Step.{after_all}
 use Rattle.graph_model.specs.declared.batches.NamedOp.{NamedOp}

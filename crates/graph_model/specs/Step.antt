@@ -1,5 +1,5 @@
 -- What operations and batches do to a graph.
-use Rattle.std.specs.Prelude.{ℕ, ◌<◌, ◌^◌, ◌+ℤ◌, nat_abs, nat_le, List, [], ◌∷◌, ◌++◌, length, if◌then◌else◌, bytes_eq}
+use Rattle.std.specs.Prelude.{ℕ, ◌^◌, ◌+ℤ◌, nat_abs, nat_le, List, [], ◌∷◌, ◌++◌, if◌then◌else◌, bytes_eq}
 use Rattle.std.specs.List.{list_any, position_or_len}
 use Rattle.std.specs.FinMap.{FinMap, empty, get, insert, remove}
 use Rattle.std.specs.declared.option.Option.{Option}

@@ -1,17 +1,22 @@
 //! The slow form of an answer.
 
-ghost use Rattle.std.specs.Prelude.{◌≡◌, ◌⊎◌, ◌≤◌, ◌<◌, length, zip, position, bytes_eq, All, IfOk, MatchResult, None, Some, true};
+ghost use Rattle.std.specs.Prelude.{◌≡◌, ◌⊎◌, ◌≤◌, ◌<◌, length, zip, All, IfOk, OnOk, IfErr, MatchResult, None, Some, true, false};
 ghost use Rattle.std.specs.Option.{option_map};
-ghost use Rattle.std.specs.Ordering.{eq_by_cmp};
+ghost use Rattle.std.specs.List.{find};
 ghost use Rattle.std.specs.FinMap.{get};
-ghost use Rattle.graph_model.specs.Graph.{graph_of, map_of, key_of, key_cmp, IsContent, IsWeight};
+ghost use Rattle.graph_model.specs.Graph.{graph_of, map_of, IsContent, IsWeight};
+ghost use Rattle.graph_model.specs.Graph as graph;
 ghost use Rattle.graph_model.specs.View.{in_view};
-ghost use Rattle.graph_model.specs.Answer.{IsAnswer, filter_refusal, resolved, degree_table, shown};
+ghost use Rattle.graph_model.specs.Answer.{IsAnswer, is_listed, filter_refusal, resolved, degree_table, shown};
+ghost use Rattle.graph_model.specs.Step.{number_of};
 ghost use Rattle.graph_model.specs.declared.requests.AskError.TheVariants.{OutOfMemory};
-ghost use Rattle.graph_model.specs.Tally.{CountsEdge, IsWithinLimits, entry_of};
+ghost use Rattle.graph_model.specs.Drafts.{has_key};
+ghost use Rattle.graph_model.specs.Tally.{CountsEdge, IsWithinLimits, entry_of, with_edge};
 
+use crate::texts::place_in;
 use crate::{
     AskError, Content, Degree, Edge, Filter, KindId, List, Name, NamedFilter, Reply, Request,
+    VertexId,
 };
 use std::alloc::{AllocError, Global};
 
@@ -63,29 +68,19 @@ fn reply_edge(
 ) -> Result<Reply, AskError>
     ensures { IsAnswer (Request.OneEdge kind.now source.now target.now) (graph_of content.now) result }
 {
-    let Some(kind) = place_of(content.kinds.as_slice(), kind) else {
+    let Some(kind) = place_in(content.kinds.as_slice(), kind) else {
         return Err(AskError::NoKind);
     };
-    let Some(source) = place_of(content.names.as_slice(), source) else {
+    let Some(source) = place_in(content.names.as_slice(), source) else {
         return Err(AskError::NoVertex);
     };
-    let Some(target) = place_of(content.names.as_slice(), target) else {
+    let Some(target) = place_in(content.names.as_slice(), target) else {
         return Err(AskError::NoVertex);
     };
     Ok(Reply::OneEdge(stamp_at(content.edges.as_slice(), kind, source, target)))
 }
 
-// The place of a name in a list.
-fn place_of(names: &[Name], name: &Name) -> Option<usize>
-    ensures { result ≡ position (bytes_eq name.now) names.now }
-{
-    names
-        .iter()
-        .position(|listed| name.as_str() == listed.as_str())
-}
-
 // The filter with its kind's number in place of the name.
-#[tactic(auto, using(crate::proofs::Places::place_none, crate::proofs::Places::place_some, crate::proofs::Places::place_number))]
 fn resolve(content: &Content, filter: &NamedFilter) -> Result<Filter, AskError>
     requires { length content.now.kinds ≤ 64 }
     ensures found { IfOk result (λ f. f ≡ resolved (graph_of content.now) filter.now) }
@@ -97,10 +92,7 @@ fn resolve(content: &Content, filter: &NamedFilter) -> Result<Filter, AskError>
         return Err(AskError::BadWindow);
     }
     let kind = match &filter.kind {
-        Some(name) => match place_of(content.kinds.as_slice(), name) {
-            Some(place) => Some(KindId(place as u8)),
-            None => return Err(AskError::NoKind),
-        },
+        Some(name) => Some(kind_of(content, name)?),
         None => None,
     };
     Ok(Filter {
@@ -108,6 +100,20 @@ fn resolve(content: &Content, filter: &NamedFilter) -> Result<Filter, AskError>
         lo: filter.lo,
         hi: filter.hi,
     })
+}
+
+// A kind's number.
+#[tactic(auto, using(crate::proofs::Places::place_none, crate::proofs::Places::place_some, crate::proofs::Places::place_number))]
+fn kind_of(content: &Content, name: &Name) -> Result<KindId, AskError>
+    requires { length content.now.kinds ≤ 64 }
+    ensures found { IfOk result (λ kind. kind.0 ≡ number_of content.now.kinds name.now) }
+    ensures listed { OnOk result (is_listed content.now.kinds name.now ≡ true) }
+    ensures refused { IfErr result (λ e. (e ≡ AskError.NoKind) × (is_listed content.now.kinds name.now ≡ false)) }
+{
+    match place_in(content.kinds.as_slice(), name) {
+        Some(place) => Ok(KindId(place as u8)),
+        None => Err(AskError::NoKind),
+    }
 }
 
 // Whether the filter lets an edge through.
@@ -122,6 +128,7 @@ fn shows(filter: Filter, edge: &Edge) -> bool
 }
 
 // The degrees of each vertex, by number.
+#[tactic(auto, using(crate::proofs::Tallies::tally_none, crate::proofs::Tallies::tally_shown, crate::proofs::Tallies::tally_hidden))]
 fn tally(alloc: Global, content: &Content, filter: Filter) -> Result<Vec<Degree>, AllocError>
     requires { IsContent content.now }
     ensures { IfOk result (λ table. table.items ≡ degree_table filter (graph_of content.now)) }
@@ -150,11 +157,25 @@ fn count_edge(table: &mut Vec<Degree>, edge: &Edge)
     requires limits { All IsWithinLimits table.old.items }
     ensures { CountsEdge edge.now table.old.items table.new.items }
 {
-    let source = &mut table[edge.source.0 as usize];
-    source.outgoing += 1;
-    source.out_weight += edge.weight;
-    let target = &mut table[edge.target.0 as usize];
-    target.incoming += 1;
+    count_at(&mut table[edge.source.0 as usize], edge, edge.source);
+    if edge.target != edge.source {
+        count_at(&mut table[edge.target.0 as usize], edge, edge.target);
+    }
+}
+
+// Counts an edge at a vertex.
+fn count_at(degree: &mut Degree, edge: &Edge, vertex: VertexId)
+    requires weight { IsWeight edge.now.weight }
+    requires limits { IsWithinLimits degree.old }
+    ensures { degree.new ≡ with_edge edge.now vertex.0 degree.old }
+{
+    if edge.source == vertex {
+        degree.outgoing += 1;
+        degree.out_weight += edge.weight;
+    }
+    if edge.target == vertex {
+        degree.incoming += 1;
+    }
 }
 
 // Each name with its degrees.
@@ -173,20 +194,34 @@ fn name_degrees(
 }
 
 // Weight and times of the edge between these places.
+#[tactic(auto, using(crate::proofs::Placing::found_some, crate::proofs::Placing::found_none))]
 fn stamp_at(edges: &[Edge], kind: usize, source: usize, target: usize) -> Option<(i64, u64, u64)>
     ensures { result ≡ option_map shown (get (map_of edges.now) (record { kind = kind; source = source; target = target })) }
 {
-    for edge in edges {
-        if is_at(edge, kind, source, target) {
-            return Some((edge.weight, edge.first, edge.recent));
-        }
-    }
-    None
+    let edge = edge_at(edges, kind, source, target)?;
+    Some(stamp_of(&edge))
+}
+
+// The edge between these places.
+fn edge_at(edges: &[Edge], kind: usize, source: usize, target: usize) -> Option<Edge>
+    ensures { result ≡ find (has_key (record { kind = kind; source = source; target = target })) edges.now }
+{
+    edges
+        .iter()
+        .copied()
+        .find(|edge| is_at(edge, kind, source, target))
+}
+
+// Weight and times of an edge.
+fn stamp_of(edge: &Edge) -> (i64, u64, u64)
+    ensures { result ≡ shown (graph.stamp_of edge.now) }
+{
+    (edge.weight, edge.first, edge.recent)
 }
 
 // Whether an edge is the one between these places.
 fn is_at(edge: &Edge, kind: usize, source: usize, target: usize) -> bool
-    ensures { result ≡ eq_by_cmp key_cmp (record { kind = kind; source = source; target = target }) (key_of edge.now) }
+    ensures { result ≡ has_key (record { kind = kind; source = source; target = target }) edge.now }
 {
     edge.kind.0 as usize == kind
         && edge.source.0 as usize == source

@@ -1,5 +1,6 @@
-//! Tests of the types: names, lists, batches, and the copies of each.
+//! Tests of the types: names, lists, batches, and the copies of each; and what the other tests build with.
 
+use crate::tests::Act::{Incr, Insert, Remove};
 use crate::{
     Batch, Content, Edge, KindId, List, Name, NamedFilter, NamedOp, PushError, Request, VertexId,
     is_kind_name, is_name,
@@ -7,43 +8,102 @@ use crate::{
 use std::alloc::{AllocError, Global};
 use std::test::Fail;
 
-fn name(alloc: Global, text: &str) -> Result<Name, AllocError> {
+#[derive(Clone, Copy, Debug, PartialEq, Eq)]
+pub(crate) enum Act {
+    Insert,
+    Incr,
+    Remove,
+}
+
+/// An operation: kind, source, target, weight or amount, and time; a removal has neither of the last two.
+#[derive(Clone, Copy)]
+pub(crate) struct Row(
+    pub(crate) Act,
+    pub(crate) &'static str,
+    pub(crate) &'static str,
+    pub(crate) &'static str,
+    pub(crate) i64,
+    pub(crate) u64,
+);
+
+pub(crate) fn name(alloc: Global, text: &str) -> Result<Name, AllocError> {
     Ok(Name::of(String::from_str(alloc, text)?))
 }
 
-fn insert(alloc: Global, kind: &str, weight: i64, time: u64) -> Result<NamedOp, AllocError> {
-    Ok(NamedOp::Insert {
-        kind: name(alloc, kind)?,
-        source: name(alloc, "ann")?,
-        target: name(alloc, "bob")?,
-        weight,
-        time,
+pub(crate) fn operation(alloc: Global, row: &Row) -> Result<NamedOp, AllocError> {
+    let kind = name(alloc, row.1)?;
+    let source = name(alloc, row.2)?;
+    let target = name(alloc, row.3)?;
+    Ok(match row.0 {
+        Insert => NamedOp::Insert {
+            kind,
+            source,
+            target,
+            weight: row.4,
+            time: row.5,
+        },
+        Incr => NamedOp::Incr {
+            kind,
+            source,
+            target,
+            amount: row.4,
+            time: row.5,
+        },
+        Remove => NamedOp::Remove {
+            kind,
+            source,
+            target,
+        },
     })
 }
 
-fn increment(alloc: Global, amount: i64, time: u64) -> Result<NamedOp, AllocError> {
-    Ok(NamedOp::Incr {
-        kind: name(alloc, "knows")?,
-        source: name(alloc, "ann")?,
-        target: name(alloc, "bob")?,
-        amount,
-        time,
-    })
+/// Appends the operations to the batch.
+pub(crate) fn push_rows(alloc: Global, batch: &mut Batch, rows: &[Row]) -> Result<(), PushError> {
+    for row in rows {
+        let Ok(op) = operation(alloc, row) else {
+            return Err(PushError::OutOfMemory);
+        };
+        batch.push(op)?;
+    }
+    Ok(())
 }
 
-fn remove(alloc: Global, source: &str) -> Result<NamedOp, AllocError> {
-    Ok(NamedOp::Remove {
-        kind: name(alloc, "knows")?,
-        source: name(alloc, source)?,
-        target: name(alloc, "bob")?,
-    })
+pub(crate) fn batch_of(alloc: Global, rows: &[Row]) -> Result<Batch, PushError> {
+    let mut batch = Batch::new(alloc);
+    push_rows(alloc, &mut batch, rows)?;
+    Ok(batch)
 }
 
-fn weight_of(op: &NamedOp) -> Option<i64> {
+pub(crate) fn are_called(names: &List<Name>, texts: &[&str]) -> bool {
+    let names = names.as_slice();
+    names.len() == texts.len()
+        && names
+            .iter()
+            .zip(texts)
+            .all(|(name, text)| name.as_str() == *text)
+}
+
+/// How many names, kinds and edges the content has.
+pub(crate) fn sizes(content: &Content) -> (usize, usize, usize) {
+    (
+        content.names.as_slice().len(),
+        content.kinds.as_slice().len(),
+        content.edges.as_slice().len(),
+    )
+}
+
+/// Tells `tools/refuse-each-growth` that a growth was refused, which the test accepted.
+pub(crate) fn refused(rt: &impl Print) -> Result<(), Fail> {
+    println!(rt; "refused")?;
+    Ok(())
+}
+
+/// What an operation does, its weight or amount, and its time.
+fn numbers_of(op: &NamedOp) -> (Act, i64, u64) {
     match op {
-        NamedOp::Insert { weight, .. } => Some(*weight),
-        NamedOp::Incr { amount, .. } => Some(*amount),
-        NamedOp::Remove { .. } => None,
+        NamedOp::Insert { weight, time, .. } => (Insert, *weight, *time),
+        NamedOp::Incr { amount, time, .. } => (Incr, *amount, *time),
+        NamedOp::Remove { .. } => (Remove, 0, 0),
     }
 }
 
@@ -55,26 +115,32 @@ fn source_of(op: &NamedOp) -> &str {
     }
 }
 
+fn is_row(op: &NamedOp, row: &Row) -> bool {
+    numbers_of(op) == (row.0, row.4, row.5) && source_of(op) == row.2
+}
+
+/// Whether the batch has the operations of the rows, in their order.
+fn are_rows(batch: &Batch, rows: &[Row]) -> bool {
+    batch.len() == rows.len()
+        && batch
+            .ops()
+            .iter()
+            .zip(rows)
+            .all(|(op, row)| is_row(op, row))
+}
+
 #[test]
 fn names_are_short_printable_texts(rt: HostRuntime) -> Result<(), Fail> {
     let longest = "0123456789012345678901234567890123456789012345678901234567890123";
     let too_long = "01234567890123456789012345678901234567890123456789012345678901234";
-    assert!(rt; is_name("ann"));
-    assert!(rt; is_name("!"));
-    assert!(rt; is_name("~"));
-    assert!(rt; is_name("*"));
-    assert!(rt; is_name("a,b\"c"));
-    assert!(rt; is_name(longest));
-    assert!(rt; !is_name(too_long));
-    assert!(rt; !is_name(""));
-    assert!(rt; !is_name("two words"));
-    assert!(rt; !is_name("tab\t"));
-    assert!(rt; !is_name("\u{7f}"));
-    assert!(rt; !is_name("\u{e9}"));
-    assert!(rt; is_kind_name("knows"));
-    assert!(rt; is_kind_name("**"));
-    assert!(rt; !is_kind_name("*"));
-    assert!(rt; !is_kind_name(""));
+    for text in ["ann", "!", "~", "*", "**", "knows", "a,b\"c", longest] {
+        assert!(rt; is_name(text), "{text}");
+        assert_eq!(rt; is_kind_name(text), text != "*", "{text}");
+    }
+    for text in [too_long, "", "two words", "tab\t", "\u{7f}", "\u{e9}"] {
+        assert!(rt; !is_name(text), "{text}");
+        assert!(rt; !is_kind_name(text), "{text}");
+    }
     Ok(())
 }
 
@@ -100,102 +166,117 @@ fn a_list_shows_its_items(rt: HostRuntime) -> Result<(), Fail> {
     Ok(())
 }
 
-#[test]
-fn a_batch_keeps_its_operations_in_order(rt: HostRuntime) -> Result<(), Fail> {
-    let alloc = rt.alloc();
-    let mut batch = Batch::new(alloc);
-    assert!(rt; batch.is_empty());
-    assert_eq!(rt; batch.len(), 0);
-    batch.push(insert(
-        alloc,
+const ONE_OF_EACH: [Row; 3] = [
+    Row(
+        Insert,
         "knows",
+        "ann",
+        "bob",
         -1_099_511_627_776,
         9_223_372_036_854_775_807,
-    )?)?;
-    batch.push(increment(alloc, 1_099_511_627_776, 0)?)?;
-    batch.push(remove(alloc, "cat")?)?;
+    ),
+    Row(Incr, "knows", "ann", "bob", 1_099_511_627_776, 0),
+    Row(Remove, "knows", "cat", "bob", 0, 0),
+];
+
+#[test]
+fn a_batch_keeps_its_operations_in_order(rt: HostRuntime) -> Result<(), Fail> {
+    let mut batch = Batch::new(rt.alloc());
+    assert!(rt; batch.is_empty());
+    assert_eq!(rt; batch.len(), 0);
+    push_rows(rt.alloc(), &mut batch, &ONE_OF_EACH)?;
     assert!(rt; !batch.is_empty());
-    assert_eq!(rt; batch.len(), 3);
+    assert!(rt; are_rows(&batch, &ONE_OF_EACH));
     let copy = batch.clone()?;
-    for kept in [&batch, &copy] {
-        let ops = kept.ops();
-        assert_eq!(rt; ops.len(), 3);
-        assert_eq!(rt; weight_of(&ops[0]), Some(-1_099_511_627_776));
-        assert_eq!(rt; weight_of(&ops[1]), Some(1_099_511_627_776));
-        assert_eq!(rt; weight_of(&ops[2]), None);
-        assert_eq!(rt; source_of(&ops[2]), "cat");
-    }
+    assert!(rt; are_rows(&copy, &ONE_OF_EACH));
     Ok(())
 }
 
 #[test]
 fn a_batch_refuses_bad_operations_in_order(rt: HostRuntime) -> Result<(), Fail> {
-    let alloc = rt.alloc();
-    let mut batch = Batch::new(alloc);
     let past = 1_099_511_627_777;
     let late = 9_223_372_036_854_775_808;
-    assert_eq!(rt;
-        batch.push(insert(alloc, "*", past, late)?),
-        Err(PushError::BadName)
-    );
-    assert_eq!(rt; batch.push(remove(alloc, "")?), Err(PushError::BadName));
-    assert_eq!(rt;
-        batch.push(insert(alloc, "knows", past, late)?),
-        Err(PushError::BadWeight)
-    );
-    assert_eq!(rt;
-        batch.push(increment(alloc, -past, 0)?),
-        Err(PushError::BadWeight)
-    );
-    assert_eq!(rt;
-        batch.push(insert(alloc, "knows", 0, late)?),
-        Err(PushError::BadTime)
-    );
-    assert_eq!(rt;
-        batch.push(increment(alloc, 0, late)?),
-        Err(PushError::BadTime)
-    );
+    let mut batch = Batch::new(rt.alloc());
+    for (row, refusal) in [
+        (
+            Row(Insert, "*", "ann", "bob", past, late),
+            PushError::BadName,
+        ),
+        (Row(Remove, "knows", "", "bob", 0, 0), PushError::BadName),
+        (
+            Row(Insert, "knows", "ann", "bob", past, late),
+            PushError::BadWeight,
+        ),
+        (
+            Row(Incr, "knows", "ann", "bob", -past, 0),
+            PushError::BadWeight,
+        ),
+        (
+            Row(Insert, "knows", "ann", "bob", 0, late),
+            PushError::BadTime,
+        ),
+        (
+            Row(Incr, "knows", "ann", "bob", 0, late),
+            PushError::BadTime,
+        ),
+    ] {
+        assert_eq!(rt; batch.push(operation(rt.alloc(), &row)?), Err(refusal));
+    }
     assert_eq!(rt; batch.len(), 0);
     Ok(())
 }
 
 #[test]
 fn a_batch_has_at_most_4096_operations(rt: HostRuntime) -> Result<(), Fail> {
-    let alloc = rt.alloc();
-    let mut batch = Batch::new(alloc);
+    let mut batch = Batch::new(rt.alloc());
     for time in 0..4096 {
-        batch.push(insert(alloc, "knows", 1, time)?)?;
+        let row = Row(Insert, "knows", "ann", "bob", 1, time);
+        batch.push(operation(rt.alloc(), &row)?)?;
     }
-    assert_eq!(rt;
-        batch.push(remove(alloc, "ann")?),
-        Err(PushError::BatchFull)
-    );
-    assert_eq!(rt; batch.push(remove(alloc, "")?), Err(PushError::BadName));
+    for (row, refusal) in [
+        (
+            Row(Remove, "knows", "ann", "bob", 0, 0),
+            PushError::BatchFull,
+        ),
+        (Row(Remove, "knows", "", "bob", 0, 0), PushError::BadName),
+    ] {
+        assert_eq!(rt; batch.push(operation(rt.alloc(), &row)?), Err(refusal));
+    }
     assert_eq!(rt; batch.len(), 4096);
     Ok(())
 }
 
-#[test]
-fn requests_and_contents_are_copied_whole(rt: HostRuntime) -> Result<(), Fail> {
-    let alloc = rt.alloc();
-    let degrees = Request::Degrees {
-        filter: NamedFilter {
-            kind: Some(name(alloc, "knows")?),
-            lo: 3,
-            hi: 7,
-        },
+/// A request for degrees of a kind, from 3 to 7.
+fn request(alloc: Global) -> Result<Request, AllocError> {
+    let filter = NamedFilter {
+        kind: Some(name(alloc, "knows")?),
+        lo: 3,
+        hi: 7,
     };
-    match degrees.clone()? {
-        Request::Degrees { filter } => {
-            assert_eq!(rt; filter.lo, 3);
-            assert_eq!(rt; filter.hi, 7);
-            match &filter.kind {
-                Some(kind) => assert_eq!(rt; kind.as_str(), "knows"),
-                None => assert!(rt; false),
-            }
-        }
-        Request::OneEdge { .. } => assert!(rt; false),
+    Ok(Request::Degrees { filter })
+}
+
+/// Whether it is that request.
+fn is_request(request: &Request) -> bool {
+    match request {
+        Request::Degrees { filter } => match &filter.kind {
+            Some(kind) => kind.as_str() == "knows" && filter.lo == 3 && filter.hi == 7,
+            None => false,
+        },
+        Request::OneEdge { .. } => false,
     }
+}
+
+#[test]
+fn requests_are_copied_whole(rt: HostRuntime) -> Result<(), Fail> {
+    let copy = request(rt.alloc())?.clone()?;
+    assert!(rt; is_request(&copy));
+    Ok(())
+}
+
+#[test]
+fn contents_are_copied_whole(rt: HostRuntime) -> Result<(), Fail> {
+    let alloc = rt.alloc();
     let edge = Edge {
         kind: KindId(0),
         source: VertexId(1),
@@ -210,46 +291,22 @@ fn requests_and_contents_are_copied_whole(rt: HostRuntime) -> Result<(), Fail> {
         edges: List::of(vec![in alloc; edge]?),
     };
     let copy = content.clone()?;
-    assert_eq!(rt; copy.names.as_slice().len(), 2);
-    assert_eq!(rt; copy.names.as_slice()[1].as_str(), "bob");
-    assert_eq!(rt; copy.kinds.as_slice().len(), 1);
+    assert!(rt; are_called(&copy.names, &["ann", "bob"]));
+    assert!(rt; are_called(&copy.kinds, &["knows"]));
     assert_eq!(rt; copy.edges.as_slice(), [edge].as_slice());
     Ok(())
 }
 
-fn window_of(request: &Request) -> Option<(u64, u64)> {
-    match request {
-        Request::Degrees { filter } => Some((filter.lo, filter.hi)),
-        Request::OneEdge { .. } => None,
-    }
-}
-
-/// Tells `tools/refuse-each-growth` that a growth was refused, which the test accepted.
-pub(crate) fn refused(rt: &impl Print) -> Result<(), Fail> {
-    println!(rt; "refused")?;
-    Ok(())
-}
-
-/// A batch of one operation, where memory allows it.
-fn batch_of_one(alloc: Global) -> Option<Batch> {
-    let op = insert(alloc, "knows", 5, 10).ok()?;
-    let mut batch = Batch::new(alloc);
-    batch.push(op).ok()?;
-    Some(batch)
-}
-
 #[test]
 fn refused_push_leaves_the_batch(rt: HostRuntime) -> Result<(), Fail> {
-    let alloc = rt.alloc();
-    let Ok(op) = insert(alloc, "knows", 5, 10) else {
+    let Ok(op) = operation(rt.alloc(), &ONE_OF_EACH[0]) else {
         return refused(&rt);
     };
-    let mut batch = Batch::new(alloc);
+    let mut batch = Batch::new(rt.alloc());
     match batch.push(op) {
         Ok(()) => assert_eq!(rt; batch.len(), 1),
         Err(refusal) => {
-            assert_eq!(rt; refusal, PushError::OutOfMemory);
-            assert_eq!(rt; batch.len(), 0);
+            assert_eq!(rt; (refusal, batch.len()), (PushError::OutOfMemory, 0));
             return refused(&rt);
         }
     }
@@ -258,14 +315,13 @@ fn refused_push_leaves_the_batch(rt: HostRuntime) -> Result<(), Fail> {
 
 #[test]
 fn refused_copies_leave_the_batch(rt: HostRuntime) -> Result<(), Fail> {
-    let Some(batch) = batch_of_one(rt.alloc()) else {
+    let Ok(batch) = batch_of(rt.alloc(), &ONE_OF_EACH) else {
         return refused(&rt);
     };
     let copy: Result<Batch, AllocError> = batch.clone();
-    assert_eq!(rt; batch.len(), 1);
-    assert_eq!(rt; weight_of(&batch.ops()[0]), Some(5));
+    assert!(rt; are_rows(&batch, &ONE_OF_EACH));
     match copy {
-        Ok(copy) => assert_eq!(rt; copy.len(), 1),
+        Ok(copy) => assert!(rt; are_rows(&copy, &ONE_OF_EACH)),
         Err(AllocError) => return refused(&rt),
     }
     Ok(())
@@ -273,19 +329,13 @@ fn refused_copies_leave_the_batch(rt: HostRuntime) -> Result<(), Fail> {
 
 #[test]
 fn refused_copies_leave_the_request(rt: HostRuntime) -> Result<(), Fail> {
-    let Ok(kind) = name(rt.alloc(), "knows") else {
+    let Ok(request) = request(rt.alloc()) else {
         return refused(&rt);
     };
-    let filter = NamedFilter {
-        kind: Some(kind),
-        lo: 3,
-        hi: 7,
-    };
-    let request = Request::Degrees { filter };
     let copy: Result<Request, AllocError> = request.clone();
-    assert_eq!(rt; window_of(&request), Some((3, 7)));
+    assert!(rt; is_request(&request));
     match copy {
-        Ok(copy) => assert_eq!(rt; window_of(&copy), Some((3, 7))),
+        Ok(copy) => assert!(rt; is_request(&copy)),
         Err(AllocError) => return refused(&rt),
     }
     Ok(())

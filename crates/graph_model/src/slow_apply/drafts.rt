@@ -6,8 +6,8 @@ ghost use Rattle.graph_model.specs.Step as step;
 ghost use Rattle.graph_model.specs.Valid.{IsValid};
 ghost use Rattle.graph_model.specs.Drafts.{shown_by, Exceeds};
 
-use crate::slow_apply::names::{add_kind, add_names};
-use crate::slow_apply::places::{change, edge_at, place_of, put_at};
+use crate::slow_apply::names::{add_ends, add_kind};
+use crate::slow_apply::places::{Place, change, edge_at, put_at};
 use crate::{Content, Edge, List, Name, NamedOp, Outcome, PlainError};
 use std::alloc::{AllocError, Global};
 
@@ -54,9 +54,9 @@ impl Draft {
         ensures content { OnOk result (IsContent (shown_by self.new)) }
         ensures refused { IfErr result (λ e. Exceeds e (step.after op.now (graph_of (shown_by self.old)))) }
     {
-        add_names(&mut self.names, op)?;
-        add_kind(&mut self.kinds, op)?;
-        let place = place_of(self.names.as_slice(), self.kinds.as_slice(), op);
+        let (source, target) = add_ends(&mut self.names, op)?;
+        let kind = add_kind(&mut self.kinds, op)?;
+        let place = Place::of(kind, source, target);
         let before = edge_at(self.edges.as_slice(), place);
         let (outcome, after) = change(op, place, before);
         put_at(&mut self.edges, place, after)?;

@@ -1,14 +1,13 @@
 //! Where an operation's edge stands, and what the operation does to it.
 
-ghost use Rattle.std.specs.Prelude.{◌≡◌, ◌≤◌, ◌++◌, length, IfSome, OnOk, option_map, option_to_list};
+ghost use Rattle.std.specs.Prelude.{◌≡◌, ◌≤◌, ◌++◌, IfSome, OnOk, option_map, option_to_list};
 ghost use Rattle.std.specs.List.{find};
 ghost use Rattle.graph_model.specs.Graph.{stamp_of};
 ghost use Rattle.graph_model.specs.Step as step;
 ghost use Rattle.graph_model.specs.Valid.{IsValid};
 ghost use Rattle.graph_model.specs.Drafts.{place_key, edge_of, has_key, without, IsAt};
 
-use crate::slow_apply::names::number_of;
-use crate::{Edge, KindId, Name, NamedOp, Outcome, VertexId};
+use crate::{Edge, KindId, NamedOp, Outcome, VertexId};
 use std::alloc::AllocError;
 
 /// Where an edge stands: its kind and its two ends.
@@ -20,6 +19,20 @@ pub(super) struct Place {
 }
 
 impl Place {
+    /// The place of these numbers.
+    pub(super) fn of(kind: usize, source: usize, target: usize) -> Place
+        requires kind { kind ≤ 64 }
+        requires source { source ≤ 65536 }
+        requires target { target ≤ 65536 }
+        ensures { place_key result ≡ record { kind = kind; source = source; target = target } }
+    {
+        Place {
+            kind: KindId(kind as u8),
+            source: VertexId(source as u32),
+            target: VertexId(target as u32),
+        }
+    }
+
     /// An edge that stands here for the first time.
     fn edge(self, weight: i64, time: u64) -> Edge
         ensures { result ≡ edge_of self weight time }
@@ -32,38 +45,6 @@ impl Place {
             first: time,
             recent: time,
         }
-    }
-}
-
-/// The place that the operation names, by these names of vertices and of kinds. At a name that is absent it has
-/// the number after the last.
-pub(super) fn place_of(names: &[Name], kinds: &[Name], op: &NamedOp) -> Place
-    requires names_few { length names.now ≤ 65536 }
-    requires kinds_few { length kinds.now ≤ 64 }
-    ensures { place_key result ≡ step.key_in names.now kinds.now op.now }
-{
-    match op {
-        NamedOp::Insert {
-            kind,
-            source,
-            target,
-            ..
-        }
-        | NamedOp::Incr {
-            kind,
-            source,
-            target,
-            ..
-        }
-        | NamedOp::Remove {
-            kind,
-            source,
-            target,
-        } => Place {
-            kind: KindId(number_of(kinds, kind) as u8),
-            source: VertexId(number_of(names, source) as u32),
-            target: VertexId(number_of(names, target) as u32),
-        },
     }
 }
 

@@ -2,13 +2,18 @@
 
 ghost use Rattle.graph_model.specs.Graph.{IsContent};
 
-use crate::tests::refused;
+use crate::tests::Act::{Incr, Insert, Remove};
+use crate::tests::{Row, are_called, batch_of, name, push_rows, refused, sizes};
 use crate::{
-    Batch, Content, Edge, KindId, List, Name, NamedOp, Outcome, PlainError, PushError, VertexId,
-    plain_apply,
+    Batch, Content, Edge, KindId, List, Name, NamedOp, Outcome, PlainError, VertexId, plain_apply,
 };
 use std::alloc::{AllocError, Global};
+use std::process::Abort;
 use std::test::Fail;
+
+/// An edge that is wanted: the numbers of its source and its target, its weight, its first and its recent time. Its
+/// kind is the first.
+type Wanted = (u32, u32, i64, u64, u64);
 
 fn empty(alloc: Global) -> Content
     ensures { IsContent result }
@@ -20,46 +25,171 @@ fn empty(alloc: Global) -> Content
     }
 }
 
-fn name(alloc: Global, text: &str) -> Result<Name, AllocError> {
-    Ok(Name::of(String::from_str(alloc, text)?))
+fn edge(wanted: &Wanted) -> Edge {
+    Edge {
+        kind: KindId(0),
+        source: VertexId(wanted.0),
+        target: VertexId(wanted.1),
+        weight: wanted.2,
+        first: wanted.3,
+        recent: wanted.4,
+    }
 }
 
-fn insert(
+/// Whether these are the edges, in any order; none is wanted twice.
+fn are_edges(edges: &List<Edge>, wanted: &[Wanted]) -> bool {
+    edges.as_slice().len() == wanted.len()
+        && wanted
+            .iter()
+            .all(|wanted| edges.as_slice().contains(&edge(wanted)))
+}
+
+/// Applies the operations, and compares the outcomes and the edges that they leave.
+fn assert_applied(
+    rt: &impl Abort,
     alloc: Global,
-    ends: (&str, &str),
-    weight: i64,
-    time: u64,
-) -> Result<NamedOp, AllocError> {
-    Ok(NamedOp::Insert {
-        kind: name(alloc, "knows")?,
-        source: name(alloc, ends.0)?,
-        target: name(alloc, ends.1)?,
-        weight,
-        time,
-    })
+    content: &mut Content,
+    rows: &[Row],
+    outcomes: &[Outcome],
+    edges: &[Wanted],
+) -> Result<(), Fail>
+    requires { IsContent content.old }
+    ensures { IsContent content.new }
+{
+    let batch = batch_of(alloc, rows)?;
+    let answer = plain_apply(alloc, content, &batch)?;
+    assert_eq!(rt; answer.as_slice(), outcomes);
+    assert!(rt; are_edges(&content.edges, edges));
+    Ok(())
 }
 
-fn increase(
-    alloc: Global,
-    ends: (&str, &str),
-    amount: i64,
-    time: u64,
-) -> Result<NamedOp, AllocError> {
-    Ok(NamedOp::Incr {
-        kind: name(alloc, "knows")?,
-        source: name(alloc, ends.0)?,
-        target: name(alloc, ends.1)?,
-        amount,
-        time,
-    })
+#[test]
+fn answers_outcomes_in_order(rt: HostRuntime) -> Result<(), Fail> {
+    let mut content = empty(rt.alloc());
+    assert_applied(
+        &rt,
+        rt.alloc(),
+        &mut content,
+        &[
+            Row(Insert, "knows", "a", "b", 1, 10),
+            Row(Insert, "knows", "b", "c", 2, 11),
+            Row(Remove, "knows", "z", "a", 0, 0),
+            Row(Insert, "knows", "a", "b", 3, 12),
+        ],
+        &[
+            Outcome::Inserted,
+            Outcome::Inserted,
+            Outcome::Absent,
+            Outcome::Updated,
+        ],
+        &[(0, 1, 3, 10, 12), (1, 2, 2, 11, 11)],
+    )?;
+    assert!(rt; are_called(&content.names, &["a", "b", "c"]));
+    assert!(rt; are_called(&content.kinds, &["knows"]));
+    Ok(())
 }
 
-fn remove(alloc: Global, ends: (&str, &str)) -> Result<NamedOp, AllocError> {
-    Ok(NamedOp::Remove {
-        kind: name(alloc, "knows")?,
-        source: name(alloc, ends.0)?,
-        target: name(alloc, ends.1)?,
-    })
+#[test]
+fn inserts_anew_after_a_removal(rt: HostRuntime) -> Result<(), Fail> {
+    assert_applied(
+        &rt,
+        rt.alloc(),
+        &mut empty(rt.alloc()),
+        &[
+            Row(Insert, "knows", "a", "b", 5, 10),
+            Row(Remove, "knows", "a", "b", 0, 0),
+            Row(Insert, "knows", "a", "b", 7, 12),
+        ],
+        &[Outcome::Inserted, Outcome::Removed, Outcome::Inserted],
+        &[(0, 1, 7, 12, 12)],
+    )
+}
+
+#[test]
+fn increases_a_weight(rt: HostRuntime) -> Result<(), Fail> {
+    let mut content = empty(rt.alloc());
+    assert_applied(
+        &rt,
+        rt.alloc(),
+        &mut content,
+        &[Row(Insert, "knows", "a", "b", 5, 10)],
+        &[Outcome::Inserted],
+        &[(0, 1, 5, 10, 10)],
+    )?;
+    assert_applied(
+        &rt,
+        rt.alloc(),
+        &mut content,
+        &[Row(Incr, "knows", "a", "b", 1, 5)],
+        &[Outcome::Updated],
+        &[(0, 1, 6, 10, 5)],
+    )
+}
+
+#[test]
+fn overflow_changes_nothing(rt: HostRuntime) -> Result<(), Fail> {
+    for (weight, amount, back, left) in [
+        (1 << 40, 1, -1, (1 << 40) - 1),
+        (-(1 << 40), -1, 1, 1 - (1 << 40)),
+        (1, 1 << 40, -(1 << 40), 1 - (1 << 40)),
+    ] {
+        assert_applied(
+            &rt,
+            rt.alloc(),
+            &mut empty(rt.alloc()),
+            &[
+                Row(Insert, "knows", "a", "b", weight, 10),
+                Row(Incr, "knows", "a", "b", amount, 99),
+                Row(Incr, "knows", "a", "b", back, 20),
+            ],
+            &[Outcome::Inserted, Outcome::Overflow, Outcome::Updated],
+            &[(0, 1, left, 10, 20)],
+        )?;
+    }
+    Ok(())
+}
+
+#[test]
+fn overflow_leaves_the_times(rt: HostRuntime) -> Result<(), Fail> {
+    assert_applied(
+        &rt,
+        rt.alloc(),
+        &mut empty(rt.alloc()),
+        &[
+            Row(Insert, "knows", "a", "b", 1 << 40, 10),
+            Row(Incr, "knows", "a", "b", 1, 99),
+        ],
+        &[Outcome::Inserted, Outcome::Overflow],
+        &[(0, 1, 1 << 40, 10, 10)],
+    )
+}
+
+#[test]
+fn removals_make_no_names(rt: HostRuntime) -> Result<(), Fail> {
+    let mut content = empty(rt.alloc());
+    assert_applied(
+        &rt,
+        rt.alloc(),
+        &mut content,
+        &[Row(Remove, "knows", "b", "a", 0, 0)],
+        &[Outcome::Absent],
+        &[],
+    )?;
+    assert!(rt; are_called(&content.names, &[]));
+    assert!(rt; are_called(&content.kinds, &[]));
+    assert_applied(
+        &rt,
+        rt.alloc(),
+        &mut content,
+        &[
+            Row(Remove, "knows", "b", "a", 0, 0),
+            Row(Insert, "knows", "a", "b", 1, 1),
+        ],
+        &[Outcome::Absent, Outcome::Inserted],
+        &[(0, 1, 1, 1, 1)],
+    )?;
+    assert!(rt; are_called(&content.names, &["a", "b"]));
+    Ok(())
 }
 
 /// An insertion between one pair of vertices, of a kind of its own.
@@ -73,213 +203,72 @@ fn insert_kind(alloc: Global, kind: u64) -> Result<NamedOp, AllocError> {
     })
 }
 
-/// The edge from the first vertex to the second, of the first kind.
-fn first_edge(weight: i64, first: u64, recent: u64) -> Edge {
-    Edge {
-        kind: KindId(0),
-        source: VertexId(0),
-        target: VertexId(1),
-        weight,
-        first,
-        recent,
+/// Insertions of 63 kinds, and then these operations.
+fn batch_of_kinds(alloc: Global, last: &[Row]) -> Result<Batch, Fail> {
+    let mut batch = Batch::new(alloc);
+    for kind in 0..63 {
+        batch.push(insert_kind(alloc, kind)?)?;
     }
+    push_rows(alloc, &mut batch, last)?;
+    Ok(batch)
 }
 
-fn are_called(names: &List<Name>, texts: &[&str]) -> bool {
-    names.as_slice().len() == texts.len()
-        && names
-            .as_slice()
-            .iter()
-            .zip(texts)
-            .all(|(known, text)| known.as_str() == *text)
-}
-
-#[test]
-fn answers_outcomes_in_order(rt: HostRuntime) -> Result<(), Fail> {
-    let alloc = rt.alloc();
-    let mut batch = Batch::new(alloc);
-    batch.push(insert(alloc, ("a", "b"), 1, 10)?)?;
-    batch.push(insert(alloc, ("b", "c"), 2, 11)?)?;
-    batch.push(remove(alloc, ("z", "a"))?)?;
-    batch.push(insert(alloc, ("a", "b"), 3, 12)?)?;
-    let mut content = empty(alloc);
-    let outcomes = plain_apply(alloc, &mut content, &batch)?;
-    let wanted = [
-        Outcome::Inserted,
-        Outcome::Inserted,
-        Outcome::Absent,
-        Outcome::Updated,
-    ];
-    assert_eq!(rt; outcomes.as_slice(), wanted.as_slice());
-    assert!(rt; are_called(&content.names, &["a", "b", "c"]));
-    assert!(rt; are_called(&content.kinds, &["knows"]));
-    let edges = content.edges.as_slice();
-    assert_eq!(rt; edges.len(), 2);
-    assert!(rt; edges.contains(&first_edge(3, 10, 12)));
-    let second = Edge {
-        kind: KindId(0),
-        source: VertexId(1),
-        target: VertexId(2),
-        weight: 2,
-        first: 11,
-        recent: 11,
-    };
-    assert!(rt; edges.contains(&second));
-    Ok(())
-}
-
-#[test]
-fn inserts_anew_after_a_removal(rt: HostRuntime) -> Result<(), Fail> {
-    let alloc = rt.alloc();
-    let mut batch = Batch::new(alloc);
-    batch.push(insert(alloc, ("a", "b"), 5, 10)?)?;
-    batch.push(remove(alloc, ("a", "b"))?)?;
-    batch.push(insert(alloc, ("a", "b"), 7, 12)?)?;
-    let mut content = empty(alloc);
-    let outcomes = plain_apply(alloc, &mut content, &batch)?;
-    let wanted = [Outcome::Inserted, Outcome::Removed, Outcome::Inserted];
-    assert_eq!(rt; outcomes.as_slice(), wanted.as_slice());
-    assert_eq!(rt;
-        content.edges.as_slice(),
-        [first_edge(7, 12, 12)].as_slice()
-    );
-    Ok(())
-}
-
-#[test]
-fn increases_a_weight(rt: HostRuntime) -> Result<(), Fail> {
-    let alloc = rt.alloc();
-    let mut batch = Batch::new(alloc);
-    batch.push(insert(alloc, ("a", "b"), 5, 10)?)?;
-    let mut content = empty(alloc);
-    plain_apply(alloc, &mut content, &batch)?;
-    let mut later = Batch::new(alloc);
-    later.push(increase(alloc, ("a", "b"), 1, 5)?)?;
-    let outcomes = plain_apply(alloc, &mut content, &later)?;
-    assert_eq!(rt; outcomes.as_slice(), [Outcome::Updated].as_slice());
-    assert_eq!(rt; content.edges.as_slice(), [first_edge(6, 10, 5)].as_slice());
-    Ok(())
-}
-
-#[test]
-fn overflow_changes_nothing(rt: HostRuntime) -> Result<(), Fail> {
-    let alloc = rt.alloc();
-    for (weight, amount, back, left) in [
-        (1 << 40, 1, -1, (1 << 40) - 1),
-        (-(1 << 40), -1, 1, 1 - (1 << 40)),
-        (1, 1 << 40, -(1 << 40), 1 - (1 << 40)),
-    ] {
-        let mut batch = Batch::new(alloc);
-        batch.push(insert(alloc, ("a", "b"), weight, 10)?)?;
-        batch.push(increase(alloc, ("a", "b"), amount, 99)?)?;
-        batch.push(increase(alloc, ("a", "b"), back, 20)?)?;
-        let mut content = empty(alloc);
-        let outcomes = plain_apply(alloc, &mut content, &batch)?;
-        let wanted = [Outcome::Inserted, Outcome::Overflow, Outcome::Updated];
-        assert_eq!(rt; outcomes.as_slice(), wanted.as_slice());
-        assert_eq!(rt;
-            content.edges.as_slice(),
-            [first_edge(left, 10, 20)].as_slice()
-        );
-    }
-    Ok(())
-}
-
-#[test]
-fn overflow_leaves_the_times(rt: HostRuntime) -> Result<(), Fail> {
-    let alloc = rt.alloc();
-    let mut batch = Batch::new(alloc);
-    batch.push(insert(alloc, ("a", "b"), 1 << 40, 10)?)?;
-    batch.push(increase(alloc, ("a", "b"), 1, 99)?)?;
-    let mut content = empty(alloc);
-    let outcomes = plain_apply(alloc, &mut content, &batch)?;
-    assert_eq!(rt;
-        outcomes.as_slice(),
-        [Outcome::Inserted, Outcome::Overflow].as_slice()
-    );
-    assert_eq!(rt;
-        content.edges.as_slice(),
-        [first_edge(1 << 40, 10, 10)].as_slice()
-    );
-    Ok(())
-}
-
-#[test]
-fn removals_make_no_names(rt: HostRuntime) -> Result<(), Fail> {
-    let alloc = rt.alloc();
-    let mut batch = Batch::new(alloc);
-    batch.push(remove(alloc, ("b", "a"))?)?;
-    let mut content = empty(alloc);
-    let outcomes = plain_apply(alloc, &mut content, &batch)?;
-    assert_eq!(rt; outcomes.as_slice(), [Outcome::Absent].as_slice());
-    assert!(rt; are_called(&content.names, &[]));
-    assert!(rt; are_called(&content.kinds, &[]));
-    batch.push(insert(alloc, ("a", "b"), 1, 1)?)?;
-    let outcomes = plain_apply(alloc, &mut content, &batch)?;
-    assert_eq!(rt;
-        outcomes.as_slice(),
-        [Outcome::Absent, Outcome::Inserted].as_slice()
-    );
-    assert!(rt; are_called(&content.names, &["a", "b"]));
-    Ok(())
+/// Applies a batch that would leave too many kinds, and compares the content's sizes before and after.
+fn assert_refused(
+    rt: &impl Abort,
+    alloc: Global,
+    content: &mut Content,
+    batch: &Batch,
+    before: (usize, usize, usize),
+)
+    requires { IsContent content.old }
+    ensures { IsContent content.new }
+{
+    assert_eq!(rt; sizes(content), before);
+    let answer = plain_apply(alloc, content, batch);
+    assert!(rt; matches!(&answer, Err(PlainError::KindsFull)));
+    assert_eq!(rt; sizes(content), before);
 }
 
 #[test]
 fn refuses_a_kind_too_many(rt: HostRuntime) -> Result<(), Fail> {
     let alloc = rt.alloc();
+    let rows = [
+        Row(Remove, "knows", "a", "b", 0, 0),
+        Row(Insert, "knows", "a", "b", 1, 1),
+        Row(Insert, "kind64", "a", "b", 1, 1),
+    ];
+    let batch = batch_of_kinds(alloc, &rows[..2])?;
+    let fuller = batch_of_kinds(alloc, &rows)?;
     let mut content = empty(alloc);
-    let mut batch = Batch::new(alloc);
-    for kind in 0..63u64 {
-        batch.push(insert_kind(alloc, kind)?)?;
-    }
-    batch.push(remove(alloc, ("a", "b"))?)?;
-    batch.push(insert(alloc, ("a", "b"), 1, 1)?)?;
-    let mut fuller = batch.clone()?;
-    fuller.push(insert_kind(alloc, 64)?)?;
-    let refused = plain_apply(alloc, &mut content, &fuller);
-    assert!(rt; matches!(&refused, Err(PlainError::KindsFull)));
-    assert!(rt; are_called(&content.names, &[]));
-    assert!(rt; content.edges.as_slice().is_empty());
+    assert_refused(&rt, alloc, &mut content, &fuller, (0, 0, 0));
     plain_apply(alloc, &mut content, &batch)?;
-    assert_eq!(rt; content.kinds.as_slice().len(), 64);
-    assert_eq!(rt; content.edges.as_slice().len(), 64);
-    let refused = plain_apply(alloc, &mut content, &fuller);
-    assert!(rt; matches!(&refused, Err(PlainError::KindsFull)));
-    assert_eq!(rt; content.kinds.as_slice().len(), 64);
-    assert_eq!(rt; content.edges.as_slice().len(), 64);
+    assert_refused(&rt, alloc, &mut content, &fuller, (2, 64, 64));
     Ok(())
-}
-
-fn two_inserts(alloc: Global) -> Result<Batch, PushError> {
-    let mut batch = Batch::new(alloc);
-    batch.push(insert(alloc, ("a", "b"), 5, 10).map_err(|_| PushError::OutOfMemory)?)?;
-    batch.push(insert(alloc, ("b", "c"), 6, 11).map_err(|_| PushError::OutOfMemory)?)?;
-    Ok(batch)
 }
 
 #[test]
 fn refused_growth_changes_nothing(rt: HostRuntime) -> Result<(), Fail> {
     let alloc = rt.alloc();
-    let Ok(batch) = two_inserts(alloc) else {
+    let rows = [
+        Row(Insert, "knows", "a", "b", 5, 10),
+        Row(Insert, "knows", "b", "c", 6, 11),
+    ];
+    let Ok(batch) = batch_of(alloc, &rows) else {
         return refused(&rt);
     };
     let mut content = empty(alloc);
-    match plain_apply(alloc, &mut content, &batch) {
-        Ok(outcomes) => {
-            assert_eq!(rt;
-                outcomes.as_slice(),
-                [Outcome::Inserted, Outcome::Inserted].as_slice()
-            );
-            assert!(rt; are_called(&content.names, &["a", "b", "c"]));
-            assert_eq!(rt; content.edges.as_slice().len(), 2);
-        }
-        Err(error) => {
-            assert_eq!(rt; error, PlainError::OutOfMemory);
-            assert!(rt; are_called(&content.names, &[]));
-            assert!(rt; are_called(&content.kinds, &[]));
-            assert!(rt; content.edges.as_slice().is_empty());
-            return refused(&rt);
-        }
+    let answer = plain_apply(alloc, &mut content, &batch);
+    if matches!(&answer, Err(PlainError::OutOfMemory)) {
+        assert_eq!(rt; sizes(&content), (0, 0, 0));
+        return refused(&rt);
     }
+    let outcomes = answer?;
+    assert_eq!(rt;
+        outcomes.as_slice(),
+        [Outcome::Inserted, Outcome::Inserted].as_slice()
+    );
+    assert!(rt; are_called(&content.names, &["a", "b", "c"]));
+    assert_eq!(rt; content.edges.as_slice().len(), 2);
     Ok(())
 }

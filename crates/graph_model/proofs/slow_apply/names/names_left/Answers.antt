@@ -6,10 +6,10 @@ use Rattle.graph_model.specs.Drafts.{names_left}
 use Rattle.graph_model.proofs.Naming.{IsNamesRefusal-more, length-names_left-drop}
 use Rattle.graph_model.proofs.slow_apply.names.names_left.Goals as goal
 
-pub returns-in_err-add_names-clause-refused : goal.returns-in_err-add_names-clause-refused
-returns-in_err-add_names-clause-refused c =
+pub returns-in_err-add_ends-clause-refused : goal.returns-in_err-add_ends-clause-refused
+returns-in_err-add_ends-clause-refused c =
     let more : length (names_after c.op-item.result c.loop-op.all.items) ≤ length (names_left c.args.ops.now c.args.names.now) =
     subst (λ xs. length (names_after c.op-item.result c.loop-op.all.items) ≤ length xs) c.loop-op.invariant.rest
     (length-names_left-drop c.args.ops.now c.loop-op.op-index c.op-item.result c.loop-op.all.items c.loop-op-test.true c.op-item.is) in
-    let p = err_from_is_err_and c.from_residual-in_err-add_names.result c.from_residual-in_err-add_names.ensures.1 in
-    rw (p.1, p.2) (IsNamesRefusal-more _ _ _ more c.in_err-add_names.ensures.refused)
+    let p = err_from_is_err_and c.from_residual-in_err-add_ends.result c.from_residual-in_err-add_ends.ensures.1 in
+    rw (p.1, p.2) (IsNamesRefusal-more _ _ _ more c.in_err-add_ends.ensures.refused)
