@@ -9,7 +9,7 @@ use Rattle.csv.specs.declared.parser.State.TheVariants as st
 use Rattle.csv.specs.declared.reader.Reader.{Reader}
 use Rattle.csv.specs.declared.reader.Trim.TheVariants as trim
 use Rattle.csv.specs.declared.error.Error.{Error}
-use Rattle.feed_csv.specs.Records.{IsOver, IsPlain, Takes, rows_left}
+use Rattle.feed_csv.specs.Records.{Finds, IsOver, IsPlain, Takes, rows_left}
 
 -- a record takes a byte at least, or it is the last of a text that is at its end
 abbrev pub Shortens : List ℕ → Option Read → Type 0
@@ -132,16 +132,11 @@ abbrev pub ReadsIf : {R : Type 0} → (R → Option (List ℕ)) → Reader R →
 ReadsIf remaining old new fields result =
     IfOk result (λ found. (reader_trim old ≡ trim.None) → Ready old → ReadRecord remaining old new found fields)
 
-pub takes-if_read : {R : Type 0} (remaining : R → Option (List ℕ)) (old new : Reader R) (fields : List (List ℕ)) (result : Result Bool Error)
+pub finds_if_read : {R : Type 0} (remaining : R → Option (List ℕ)) (old new : Reader R) (fields : List (List ℕ)) (result : Result Bool Error)
     → IsPlain old → ReadsIf remaining old new fields result
-    → IfOk result (λ found. found ≡ true → Takes (rows_left remaining old) fields (rows_left remaining new))
-takes-if_read remaining old new fields (Ok found) plain reads =
-    λ some. takes-first remaining old new fields plain.config (rw some at (reads plain.untrimmed plain.ready))
-takes-if_read remaining old new fields (Err error) plain reads = tt
-
-pub is_over-if_read : {R : Type 0} (remaining : R → Option (List ℕ)) (old new : Reader R) (fields : List (List ℕ)) (result : Result Bool Error)
-    → IsPlain old → ReadsIf remaining old new fields result
-    → IfOk result (λ found. found ≡ false → IsOver (rows_left remaining old))
-is_over-if_read remaining old new fields (Ok found) plain reads =
-    λ none. is_over-none remaining old new fields plain.config (rw none at (reads plain.untrimmed plain.ready))
-is_over-if_read remaining old new fields (Err error) plain reads = tt
+    → IfOk result (λ found. Finds found (rows_left remaining old) fields (rows_left remaining new))
+finds_if_read remaining old new fields (Ok true) plain reads =
+    takes-first remaining old new fields plain.config (reads plain.untrimmed plain.ready)
+finds_if_read remaining old new fields (Ok false) plain reads =
+    is_over-none remaining old new fields plain.config (reads plain.untrimmed plain.ready)
+finds_if_read remaining old new fields (Err error) plain reads = tt

@@ -1,5 +1,5 @@
 -- The records of a script, in the words of `csv`, which reads comma-separated values after RFC 4180.
-use Rattle.std.specs.Prelude.{◌≡◌, ℕ, ◌+◌, List, [], ◌∷◌, length, true, false, Option, Some, None, option_map}
+use Rattle.std.specs.Prelude.{◌≡◌, ℕ, ◌+◌, List, [], ◌∷◌, length, Bool, true, false, Option, Some, None, option_map}
 use Rattle.csv.specs.Reading.{Ready, default_config, has_failed, is_flexible, reader_config, reader_state, reader_trim, records, records_from, source_of, strip_bom}
 use Rattle.csv.specs.declared.reader.Reader.{Reader}
 use Rattle.csv.specs.declared.reader.Trim.TheVariants as trim
@@ -39,3 +39,8 @@ Takes (Some rows) row (Some rest) = rows ≡ row ∷ rest
 abbrev pub IsOver : Option (List Row) → Type 0
 IsOver None = Unit {0}
 IsOver (Some rows) = rows ≡ []
+
+-- a look for a record found this one, the first of the rows left before, or none since none were left
+abbrev pub Finds : Bool → Option (List Row) → Row → Option (List Row) → Type 0
+Finds true before row after = Takes before row after
+Finds false before row after = IsOver before

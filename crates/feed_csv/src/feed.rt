@@ -108,6 +108,7 @@ impl<R: Read> Feed<R> {
     }
 
     // Reads a record.
+    #[tactic(auto, using(crate::proofs::Refusals::refused_step))]
     fn take(&mut self) -> Result<Option<Command>, FeedFault>
         requires reading { self.old.phase ≡ Phase.Reading }
         requires room { self.old.given < record_limit }

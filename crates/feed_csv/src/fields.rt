@@ -18,10 +18,10 @@ pub(crate) fn field(row: &ByteRecord, place: usize) -> &[u8]
     }
 }
 
-#[tactic(auto, using(crate::proofs::Names::is_name_not_utf8, crate::proofs::Names::is_kind_name_not_utf8), unfolding(crate::specs::Fields::name_at))]
+#[tactic(auto, using(crate::proofs::Names::is_name_not_utf8), unfolding(crate::specs::Fields::name_at))]
 pub(crate) fn name_at(row: &ByteRecord, place: usize) -> Result<&str, FeedWord>
-    ensures { MatchResult result (λ text. spec.name_at (fields_of row.now) place ≡ Ok text.now)
-        (λ word. spec.name_at (fields_of row.now) place ≡ Err word) }
+    ensures { let rule = spec.name_at (fields_of row.now) place in
+        MatchResult result (λ text. rule ≡ Ok text.now) (λ word. rule ≡ Err word) }
 {
     match str::from_utf8(field(row, place)) {
         Ok(text) => {
@@ -35,10 +35,10 @@ pub(crate) fn name_at(row: &ByteRecord, place: usize) -> Result<&str, FeedWord>
     }
 }
 
-#[tactic(auto, using(crate::proofs::Names::is_name_not_utf8, crate::proofs::Names::is_kind_name_not_utf8), unfolding(crate::specs::Fields::kind_at))]
+#[tactic(auto, using(crate::proofs::Names::is_kind_name_not_utf8), unfolding(crate::specs::Fields::kind_at))]
 pub(crate) fn kind_at(row: &ByteRecord, place: usize) -> Result<&str, FeedWord>
-    ensures { MatchResult result (λ text. spec.kind_at (fields_of row.now) place ≡ Ok text.now)
-        (λ word. spec.kind_at (fields_of row.now) place ≡ Err word) }
+    ensures { let rule = spec.kind_at (fields_of row.now) place in
+        MatchResult result (λ text. rule ≡ Ok text.now) (λ word. rule ≡ Err word) }
 {
     match str::from_utf8(field(row, place)) {
         Ok(text) => {
@@ -55,8 +55,8 @@ pub(crate) fn kind_at(row: &ByteRecord, place: usize) -> Result<&str, FeedWord>
 // The kind, or none for `*`.
 #[tactic(auto, unfolding(crate::specs::Fields::any_kind_at, crate::specs::Fields::kind_at))]
 pub(crate) fn any_kind_at(row: &ByteRecord, place: usize) -> Result<Option<&str>, FeedWord>
-    ensures { MatchResult result (λ kind. spec.any_kind_at (fields_of row.now) place ≡ Ok (option_map (λ text. text.now) kind))
-        (λ word. spec.any_kind_at (fields_of row.now) place ≡ Err word) }
+    ensures { let rule = spec.any_kind_at (fields_of row.now) place in
+        MatchResult result (λ kind. rule ≡ Ok (option_map (λ text. text.now) kind)) (λ word. rule ≡ Err word) }
 {
     if field(row, place) == b"*".as_slice() {
         return Ok(None);

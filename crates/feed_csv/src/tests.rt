@@ -1,2 +1,5 @@
 mod failing;
+mod readers;
+mod records;
 mod tables;
+mod texts;

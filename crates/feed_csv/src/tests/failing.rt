@@ -1,66 +1,13 @@
-// Readers that fail or go on for long, and refused growths.
+// Readers that fail, the limit on records, and refused growths.
 
+use super::readers::{Pieces, Repeating};
+use super::texts::outcome_text;
 use crate::{Command, Feed, FeedFault, FeedWord};
-use graph_model::{Name, NamedOp};
+use graph_model::{Name, NamedOp, Request};
+use std::alloc::Global;
 use std::io;
-use std::io::Read;
+use std::process::Abort;
 use std::test::Fail;
-
-// Gives its text a byte at a time; the read of this number, counted from 1, fails.
-#[derive(Drop)]
-struct Failing<'a> {
-    text: &'a [u8],
-    at: usize,
-    reads: usize,
-    fails_at: usize,
-    kind: io::ErrorKind,
-}
-
-impl<'a> Read for Failing<'a> {
-    fn read(&mut self, buf: &mut [u8]) -> io::Result<usize> {
-        self.reads = self.reads.saturating_add(1);
-        if self.reads == self.fails_at {
-            return Err(io::Error::from(self.kind));
-        }
-        match (self.text.get(self.at), buf.first_mut()) {
-            (Some(byte), Some(place)) => {
-                *place = *byte;
-                self.at = self.at.saturating_add(1);
-                Ok(1)
-            }
-            _ => Ok(0),
-        }
-    }
-}
-
-// Gives the same lines again and again.
-#[derive(Drop)]
-struct Repeating<'a> {
-    lines: &'a [u8],
-    at: usize,
-    rounds: u64,
-}
-
-impl<'a> Read for Repeating<'a> {
-    fn read(&mut self, buf: &mut [u8]) -> io::Result<usize> {
-        if self.at >= self.lines.len() {
-            if self.rounds <= 1 {
-                return Ok(0);
-            }
-            self.rounds -= 1;
-            self.at = 0;
-        }
-        let (_, rest) = self.lines.split_at(self.at);
-        let count = if rest.len() < buf.len() {
-            rest.len()
-        } else {
-            buf.len()
-        };
-        buf[..count].copy_from_slice(&rest[..count]);
-        self.at += count;
-        Ok(count)
-    }
-}
 
 fn is_fault(outcome: &Result<Option<Command>, FeedFault>, at: u64, word: FeedWord) -> bool {
     match outcome {
@@ -69,57 +16,83 @@ fn is_fault(outcome: &Result<Option<Command>, FeedFault>, at: u64, word: FeedWor
     }
 }
 
-#[test]
-fn stops_where_a_read_fails(rt: HostRuntime) -> Result<(), Fail> {
-    let script = b"open,0\ncommit\nbad\nclose,0\n";
-    // where the records end
-    let ends = [7, 14, 18, 26];
-    for kind in [io::ErrorKind::BrokenPipe, io::ErrorKind::OutOfMemory] {
-        for fails_at in 1..28 {
-            let reader = Failing {
-                text: script,
-                at: 0,
-                reads: 0,
-                fails_at,
-                kind,
-            };
-            let mut feed = Feed::over(rt.alloc(), reader);
-            let mut record: u64 = 1;
-            for end in ends {
-                if end < fails_at {
-                    let outcome = feed.next();
-                    assert_eq!(rt; outcome.is_err(), record == 3);
-                    record = record.saturating_add(1);
-                }
+// Fails each of the script's reads in turn. With each record stands the read that shows its end.
+fn check(
+    rt: &impl Abort,
+    alloc: Global,
+    script: &[u8],
+    records: &[(&str, usize)],
+    kind: io::ErrorKind,
+) -> Result<(), Fail> {
+    for stops_at in 1..script.len().saturating_add(2) {
+        let reader = Pieces {
+            rest: script,
+            most: 1,
+            reads: 0,
+            stops_at,
+            kind: Some(kind),
+        };
+        let mut feed = Feed::over(alloc, reader);
+        let mut record: u64 = 1;
+        for (want, end) in records {
+            if *end < stops_at {
+                let text = outcome_text(alloc, &feed.next())?;
+                assert_eq!(rt; text.as_str(), *want, "read {stops_at}");
+                record = record.saturating_add(1);
             }
-            for _ in 0..3 {
-                assert!(rt;
-                    is_fault(&feed.next(), record, FeedWord::Read),
-                    "read {fails_at}"
-                );
-            }
+        }
+        for _ in 0..3 {
+            assert!(rt;
+                is_fault(&feed.next(), record, FeedWord::Read),
+                "read {stops_at}"
+            );
         }
     }
     Ok(())
 }
 
 #[test]
-fn gives_a_million_records(rt: HostRuntime) -> Result<(), Fail> {
-    // 1,001 times 1,000 records
-    let mut lines = Vec::new(rt.alloc());
-    for _ in 0..1000 {
-        lines.extend_from_slice(b"commit\n")?;
+fn stops_where_a_read_fails(rt: HostRuntime) -> Result<(), Fail> {
+    let kinds = [
+        io::ErrorKind::BrokenPipe,
+        io::ErrorKind::Interrupted,
+        io::ErrorKind::OutOfMemory,
+    ];
+    for kind in kinds {
+        let records = [
+            ("open 0", 7),
+            ("commit", 14),
+            ("BadCommand 3", 18),
+            ("close 0", 26),
+        ];
+        let script = b"open,0\ncommit\nbad\nclose,0\n";
+        check(&rt, rt.alloc(), script, &records, kind)?;
+        // the read that gives nothing shows the last record's end
+        let records = [("open 0", 7), ("commit", 14)];
+        check(&rt, rt.alloc(), b"open,0\ncommit", &records, kind)?;
+    }
+    Ok(())
+}
+
+// A million records are given, `commit` and a blank line and then 999 of no command again and again, and no more,
+// whether or not there are more.
+fn check_limit(rt: &impl Abort, alloc: Global, rounds: u64) -> Result<(), Fail> {
+    let mut lines = Vec::new(alloc);
+    lines.extend_from_slice(b"commit\n\n")?;
+    for _ in 1..1000 {
+        lines.extend_from_slice(b"x\n")?;
     }
     let reader = Repeating {
         lines: lines.as_slice(),
         at: 0,
-        rounds: 1001,
+        rounds,
     };
-    let mut feed = Feed::over(rt.alloc(), reader);
-    for record in 0..1_000_000 {
-        let given = match feed.next() {
-            Ok(Some(Command::Commit)) => true,
-            _ => false,
+    let mut feed = Feed::over(alloc, reader);
+    for record in 1..1_000_001 {
+        let outcome = feed.next();
+        let given = match outcome {
+            Ok(Some(Command::Commit)) => record % 1000 == 1,
+            _ => record % 1000 != 1 && is_fault(&outcome, record, FeedWord::BadCommand),
         };
         assert!(rt; given, "record {record}");
     }
@@ -128,6 +101,28 @@ fn gives_a_million_records(rt: HostRuntime) -> Result<(), Fail> {
     }
     Ok(())
 }
+
+#[test]
+fn gives_a_million_records(rt: HostRuntime) -> Result<(), Fail> {
+    check_limit(&rt, rt.alloc(), 1001)
+}
+
+#[test]
+fn tells_the_limit_at_the_end_too(rt: HostRuntime) -> Result<(), Fail> {
+    check_limit(&rt, rt.alloc(), 1000)
+}
+
+// The script of `refused_next`; its last record has many fields.
+const SCRIPT: &str = "i,k,a,b,1,2
+open,3
+bad
+r,k,a,b
+a,k,a,b,-3,4
+deg,3,k,5,6
+edge,3,k,a,b
+close,3
+x,0123456789,0123456789,0123456789,0123456789,0123456789,0123456789,x,x,x,x,x,x,x,x,x,x,x,x,x,x,x,x,x,x,x,x,x,x,x,x,x
+";
 
 fn is_edge(kind: &Name, source: &Name, target: &Name) -> bool {
     kind.as_str() == "k" && source.as_str() == "a" && target.as_str() == "b"
@@ -147,30 +142,52 @@ fn is_op(call: u64, op: &NamedOp) -> bool {
             source,
             target,
         } => call == 4 && is_edge(kind, source, target),
-        NamedOp::Incr { .. } => false,
+        NamedOp::Incr {
+            kind,
+            source,
+            target,
+            amount,
+            time,
+        } => call == 5 && is_edge(kind, source, target) && *amount == -3 && *time == 4,
     }
 }
 
-// Whether the call of this number gave what the script of `refused_next` says.
+fn is_request(call: u64, request: &Request) -> bool {
+    match request {
+        Request::Degrees { filter } => match &filter.kind {
+            Some(kind) => { call == 6 && kind.as_str() == "k" && filter.lo == 5 && filter.hi == 6 }
+            None => false,
+        },
+        Request::OneEdge {
+            kind,
+            source,
+            target,
+        } => call == 7 && is_edge(kind, source, target),
+    }
+}
+
+// Whether the call of this number gave what `SCRIPT` says.
 fn is_given(call: u64, outcome: &Result<Option<Command>, FeedFault>) -> bool {
     match outcome {
         Ok(Some(Command::Op(op))) => is_op(call, op),
         Ok(Some(Command::OpenSlot(slot))) => call == 2 && *slot == 3,
-        Err(_) => call == 3 && is_fault(outcome, 3, FeedWord::BadCommand),
-        Ok(None) => call >= 5,
-        _ => false,
+        Ok(Some(Command::Query(slot, request))) => *slot == 3 && is_request(call, request),
+        Ok(Some(Command::CloseSlot(slot))) => call == 8 && *slot == 3,
+        Ok(Some(Command::Commit)) => false,
+        Err(_) => (call == 3 || call == 9) && is_fault(outcome, call, FeedWord::BadCommand),
+        Ok(None) => call >= 10,
     }
 }
 
 #[test]
 fn refused_next(rt: HostRuntime) {
-    let script = b"i,k,a,b,1,2\nopen,3\nbad\nr,k,a,b\n";
-    let mut feed = Feed::over(rt.alloc(), script.as_slice());
-    for call in 1..7 {
+    let mut feed = Feed::over(rt.alloc(), SCRIPT.as_bytes());
+    for call in 1..13 {
         let outcome = feed.next();
         if is_fault(&outcome, call, FeedWord::Memory) {
-            assert!(rt; is_fault(&feed.next(), call, FeedWord::Read));
-            assert!(rt; is_fault(&feed.next(), call, FeedWord::Read));
+            for _ in 0..3 {
+                assert!(rt; is_fault(&feed.next(), call, FeedWord::Read));
+            }
             // Tells `tools/refuse-each-growth` that a growth was refused.
             let _ = println!(rt; "refused");
             return;

@@ -1,0 +1,88 @@
+// What a call gave, as text: a command with its values, a fault's word and number, or the end.
+
+use crate::{Command, FeedFault};
+use graph_model::{Name, NamedOp, Request};
+use std::alloc::{AllocError, Global};
+
+fn edge_text(
+    alloc: Global,
+    word: &str,
+    kind: &Name,
+    source: &Name,
+    target: &Name,
+) -> Result<String, AllocError> {
+    let (kind, source, target) = (kind.as_str(), source.as_str(), target.as_str());
+    format!(in alloc; "{word} {kind} {source} {target}")
+}
+
+fn op_text(alloc: Global, op: &NamedOp) -> Result<String, AllocError> {
+    match op {
+        NamedOp::Insert {
+            kind,
+            source,
+            target,
+            weight,
+            time,
+        } => {
+            let edge = edge_text(alloc, "i", kind, source, target)?;
+            format!(in alloc; "{edge} {weight} {time}")
+        }
+        NamedOp::Incr {
+            kind,
+            source,
+            target,
+            amount,
+            time,
+        } => {
+            let edge = edge_text(alloc, "a", kind, source, target)?;
+            format!(in alloc; "{edge} {amount} {time}")
+        }
+        NamedOp::Remove {
+            kind,
+            source,
+            target,
+        } => edge_text(alloc, "r", kind, source, target),
+    }
+}
+
+fn request_text(alloc: Global, slot: u8, request: &Request) -> Result<String, AllocError> {
+    match request {
+        Request::Degrees { filter } => {
+            let (lo, hi) = (filter.lo, filter.hi);
+            match &filter.kind {
+                Some(kind) => {
+                    let kind = kind.as_str();
+                    format!(in alloc; "deg {slot} {kind} {lo} {hi}")
+                }
+                None => format!(in alloc; "deg {slot} any {lo} {hi}"),
+            }
+        }
+        Request::OneEdge {
+            kind,
+            source,
+            target,
+        } => {
+            let edge = edge_text(alloc, "edge", kind, source, target)?;
+            format!(in alloc; "{edge} {slot}")
+        }
+    }
+}
+
+pub(crate) fn outcome_text(
+    alloc: Global,
+    outcome: &Result<Option<Command>, FeedFault>,
+) -> Result<String, AllocError> {
+    match outcome {
+        Ok(None) => String::from_str(alloc, "end"),
+        Ok(Some(Command::Op(op))) => op_text(alloc, op),
+        Ok(Some(Command::Commit)) => String::from_str(alloc, "commit"),
+        Ok(Some(Command::OpenSlot(slot))) => format!(in alloc; "open {slot}"),
+        Ok(Some(Command::CloseSlot(slot))) => format!(in alloc; "close {slot}"),
+        Ok(Some(Command::Query(slot, request))) => request_text(alloc, *slot, request),
+        Err(fault) => {
+            let word = fault.word.word();
+            let at = fault.at;
+            format!(in alloc; "{word} {at}")
+        }
+    }
+}
