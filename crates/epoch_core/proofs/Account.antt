@@ -1,12 +1,12 @@
 -- What a session asks in a run is what its holdings say.
-use Rattle.std.proofs.Common.{◌≡◌, ◌≢◌, ℕ, zero, suc, ◌+◌, ◌<◌, ◌≤◌, Bool, true, false, ◌⊎◌, inl, inr, List, [], ◌∷◌, ◌++◌, length, get_or, set, take, map, replicate, refl, sym, ap, subst, ◌∙◌, arith, eqb}
-use Rattle.std.specs.Prelude.{slice_get, if◌then◌else◌, ◌==◌, is_some, nat_le}
+use Rattle.std.proofs.Common.{◌≡◌, ℕ, zero, suc, ◌≤◌, Bool, true, false, inl, inr, List, [], ◌∷◌, ◌++◌, length, get_or, set, map, replicate, refl, sym, ap, subst, ◌∙◌, arith}
+use Rattle.std.specs.Prelude.{slice_get, if◌then◌else◌, ◌==◌, is_some}
 use Rattle.std.specs.List.{AllZip}
 use Rattle.std.specs.Option.{option_map, option_to_list, unwrap_or, option_and_then}
 use Rattle.std.specs.declared.option.Option.{Option}
 use Rattle.std.specs.declared.option.Option.TheVariants.{None, Some}
 use Rattle.std.proofs.lemmas.Bool.{eq-eqb, cases_eq}
-use Rattle.std.proofs.lemmas.List.{append_assoc, take_all, length-replicate}
+use Rattle.std.proofs.lemmas.List.{take_all, length-replicate}
 use Rattle.graph_model.specs.Graph.{Graph, map_of}
 use Rattle.graph_model.specs.declared.ids.Edge.{Edge}
 use Rattle.graph_model.specs.declared.requests.Request.{Request}
@@ -19,10 +19,10 @@ use Rattle.epoch_core.specs.declared.states.Place.TheVariants.{Away, Pinned, Hol
 use Rattle.epoch_core.specs.declared.events.Event.{Event}
 use Rattle.epoch_core.specs.declared.events.Event.TheVariants.{Take, Fill, Post, Floor, Recycle, Pin, Enter, Settle, Ask, Read, Reply, Release}
 use Rattle.epoch_core.specs.Worlds.{Answer, World, State, start, start_world, graph_at, batches_at, version_at, blocks_at, last_number, edges_of, graph_with, held_in, place_of, replies_of, left}
-use Rattle.epoch_core.specs.Machine.{put, Question, Answers, question_of, question_in, is_all_read, step, move, taken, recycled, filled, changed_at, with_status, with_heap, with_places, can_post, posted, version_by, least_pin, to_pin, to_enter, to_settle, settled_at, to_ask, to_read, read_on, to_reply, to_release}
+use Rattle.epoch_core.specs.Machine.{put, Question, Answers, question_of, question_in, is_all_read, move, taken, recycled, filled, changed_at, with_status, with_heap, with_places, can_post, posted, version_by, to_pin, to_enter, to_settle, settled_at, to_ask, to_read, read_on, to_reply, to_release}
 use Rattle.epoch_core.specs.Runs.{is_done, happens, Runs}
 use Rattle.epoch_core.specs.Holdings.{Sight, Held, Answered, LetGo, request_in, brings, sights, answered_first, stretches, holdings, Stretch, Agree, questions_in, questions}
-use Rattle.epoch_core.specs.Sound.{IsSound, IsHeld, IsNamed, IsPlaced}
+use Rattle.epoch_core.specs.Sound.{IsSound, IsNamed, IsPlaced}
 use Rattle.epoch_core.proofs.Lists.{option_map_some}
 use Rattle.epoch_core.proofs.Changes.{graph_before}
 use Rattle.epoch_core.proofs.Moves.{Moved, moved, place_after, place_else, replying}

@@ -1,29 +1,25 @@
 -- Replies are the answers to what a session asks in a run.
-use Rattle.std.proofs.Common.{◌≡◌, ◌≢◌, ℕ, zero, suc, ◌+◌, ◌<◌, ◌≤◌, Bool, true, false, ◌⊎◌, inl, inr, List, [], ◌∷◌, ◌++◌, length, get_or, set, map, replicate, refl, sym, ap, subst, ◌∙◌, arith, eqb}
+use Rattle.std.proofs.Common.{◌≡◌, ◌≢◌, ℕ, ◌<◌, true, false, inl, inr, List, [], ◌∷◌, ◌++◌, length, get_or, refl, sym, ap, subst, ◌∙◌, arith, eqb}
 use Rattle.std.specs.Prelude.{slice_get, if◌then◌else◌, MatchOption, ◌==◌}
 use Rattle.std.specs.List.{AllZip}
 use Rattle.std.specs.Option.{option_to_list}
-use Rattle.std.specs.declared.result.Result.{Result}
 use Rattle.std.specs.declared.result.Result.TheVariants.{Ok, Err}
-use Rattle.std.specs.declared.option.Option.{Option}
 use Rattle.std.specs.declared.option.Option.TheVariants.{None, Some}
 use Rattle.std.proofs.lemmas.Bool.{eq-eqb, cases_eq}
 use Rattle.std.proofs.lemmas.Bool.Decides.{Decides-eqb}
-use Rattle.std.proofs.lemmas.List.{append-nil, append_assoc, get_or-set_same, get_or-set_other, length-set, length-replicate, get_or_past}
+use Rattle.std.proofs.lemmas.List.{append-nil, append_assoc, get_or-set_same, get_or-set_other, length-set}
 use Rattle.graph_model.specs.Graph.{Graph}
-use Rattle.graph_model.specs.Answer.{IsAnswer, IsReply, refusal}
+use Rattle.graph_model.specs.Answer.{IsReply}
 use Rattle.graph_model.specs.declared.requests.Request.{Request}
 use Rattle.graph_model.specs.declared.requests.Request.TheVariants.{Degrees, OneEdge}
 use Rattle.graph_model.specs.declared.requests.Reply.{Reply as Shown}
-use Rattle.epoch_core.specs.declared.states.Place.{Place}
-use Rattle.epoch_core.specs.declared.states.Place.TheVariants.{Away}
 use Rattle.epoch_core.specs.declared.events.Event.{Event}
 use Rattle.epoch_core.specs.declared.events.Event.TheVariants.{Take, Fill, Post, Floor, Recycle, Pin, Enter, Settle, Ask, Read, Reply, Release}
 use Rattle.epoch_core.specs.Worlds.{Answer, World}
 use Rattle.epoch_core.specs.Machine.{Question, Answers, IsAnswered, Replies, question_of, question_in}
 use Rattle.epoch_core.specs.Runs.{happens, AllReplies}
 use Rattle.epoch_core.proofs.Lists.{and_then_some, within}
-use Rattle.epoch_core.proofs.Sizes.{SameSizes, size_happens}
+use Rattle.epoch_core.proofs.Sizes.{size_happens}
 
 -- a graph has one reply to a request, and one answer
 one_reply : (request : Request) (g : Graph) (x y : Shown) → IsReply request g x → IsReply request g y → x ≡ y

@@ -1,31 +1,26 @@
 -- Steps of the whole state.
-use Rattle.std.proofs.Common.{◌≡◌, ℕ, zero, suc, ◌+◌, ◌-◌, ◌^◌, ◌<◌, ◌≤◌, min, Bool, true, false, ◌⊎◌, inl, inr, List, [], ◌∷◌, ◌++◌, length, get_or, set, take, replicate, refl, sym, ap, subst, ◌∙◌, arith, add-one}
-use Rattle.std.specs.Prelude.{slice_get, if◌then◌else◌, is_some}
+use Rattle.std.proofs.Common.{◌≡◌, ℕ, zero, suc, ◌+◌, ◌≤◌, min, inl, inr, List, [], ◌∷◌, ◌++◌, length, refl, sym, ap, subst, ◌∙◌, arith}
+use Rattle.std.specs.Prelude.{if◌then◌else◌, is_some}
 use Rattle.std.specs.Option.{option_map, unwrap_or}
 use Rattle.std.specs.declared.option.Option.{Option}
 use Rattle.std.specs.declared.option.Option.TheVariants.{None, Some}
 use Rattle.std.proofs.lemmas.Bool.{cases_eq}
 use Rattle.std.proofs.lemmas.List.{length-replicate}
-use Rattle.graph_model.specs.Graph.{graph_of, content_of, IsContent}
+use Rattle.graph_model.specs.Graph.{IsContent}
 use Rattle.graph_model.specs.declared.batches.NamedOp.{NamedOp}
 use Rattle.graph_model.specs.declared.contents.Content.{Content}
-use Rattle.graph_model.specs.declared.ids.Edge.{Edge}
-use Rattle.epoch_core.specs.declared.states.Status.{Status}
-use Rattle.epoch_core.specs.declared.states.Status.TheVariants.{Free}
 use Rattle.epoch_core.specs.declared.states.Version.{Version}
-use Rattle.epoch_core.specs.declared.states.Place.{Place}
 use Rattle.epoch_core.specs.declared.states.Place.TheVariants.{Away}
 use Rattle.epoch_core.specs.declared.events.Event.{Event}
 use Rattle.epoch_core.specs.declared.events.Step.{Step}
-use Rattle.epoch_core.specs.declared.events.Step.TheVariants.{Done, Skipped}
-use Rattle.epoch_core.specs.Worlds.{Answer, World, State, start, start_world, graph_at, last_number}
-use Rattle.epoch_core.specs.Machine.{step, Replies, version_by, graph_after, posted, can_post}
+use Rattle.epoch_core.specs.Worlds.{Answer, World, State, start, graph_at}
+use Rattle.epoch_core.specs.Machine.{step, Replies, version_by, graph_after}
 use Rattle.epoch_core.specs.Runs.{is_done, happens, run, done_in, Stepped, Steps, AllReplies, Runs}
 use Rattle.epoch_core.specs.Sound.{IsSound, IsContentGraph, IsCore}
 use Rattle.epoch_core.specs.Calls.{HasContents, count_of}
 use Rattle.epoch_core.proofs.Changes.{graph_before, graph_next, length_next}
 use Rattle.epoch_core.proofs.Steps.{sound_happens, sound_start}
-use Rattle.epoch_core.proofs.Sizes.{SameSizes, size_happens}
+use Rattle.epoch_core.proofs.Sizes.{size_happens}
 use Rattle.epoch_core.proofs.Answering.{Adds, asked, adds}
 
 -- a step of a part is a step of the whole
@@ -76,9 +71,6 @@ runs_more old mid new es e outcome runs steps = record {
   replies = replies_more es e old.world old.replies mid.replies new.replies runs.replies (subst (λ w. Replies w e mid.replies new.replies) runs.world steps.replies);
 }
 
-pub runs_none : (state : State) → Runs state [] state
-runs_none state = record { world = refl; replies = refl }
-
 done_more : (es : List Event) (e : Event) (w : World) → done_in (es ++ e ∷ []) w ≡ done_in es w + (if is_done (run es w) e then 1 else 0)
 done_more [] e w = omega arith
 done_more (x ∷ xs) e w = let rest = done_more xs e (happens w x) in omega (arith, rest)
@@ -121,14 +113,6 @@ core_start sessions blocks = record {
   contents = no_contents;
   sizes = length-replicate sessions [] ∙ sym (length-replicate sessions Away);
 }
-
-pub core_made : (sessions blocks : ℕ) (heap : List (List Edge)) (status : List Status) (versions : List Version) (places : List Place) (replies : List (List Answer))
-    → heap ≡ replicate blocks [] → status ≡ replicate blocks Free → versions ≡ [] → places ≡ replicate sessions Away → replies ≡ replicate sessions []
-    → IsCore (record { world = record { heap = heap; status = status; versions = versions; floor = 0; places = places }; replies = replies })
-core_made sessions blocks heap status versions places replies h s v p r =
-    let made : start sessions blocks ≡ record { world = record { heap = heap; status = status; versions = versions; floor = 0; places = places }; replies = replies } =
-    λ i. record { world = record { heap = sym h i; status = sym s i; versions = sym v i; floor = 0; places = sym p i }; replies = sym r i } in
-    subst IsCore made (core_start sessions blocks)
 
 -- no step changes how many sessions there are
 pub steps_size : (old new : State) (e : Event) (outcome : Step) → Steps old e outcome new → length new.world.places ≡ length old.world.places

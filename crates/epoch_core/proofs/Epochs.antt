@@ -1,27 +1,21 @@
 -- The epoch law, from what is sound.
-use Rattle.std.proofs.Common.{◌≡◌, ◌≢◌, ℕ, zero, suc, ◌+◌, ◌<◌, ◌≤◌, Bool, true, false, cond, not, ◌&&◌, ◌⊎◌, inl, inr, List, [], ◌∷◌, length, get_or, refl, sym, ap, subst, ◌∙◌, arith, eqb, ltb}
-use Rattle.std.specs.Prelude.{slice_get, if◌then◌else◌, count_by, is_some, AllPairs, IsTrue}
+use Rattle.std.proofs.Common.{◌≡◌, ◌≢◌, ℕ, zero, suc, ◌<◌, ◌≤◌, true, false, inl, inr, List, [], ◌∷◌, length, get_or, refl, sym, ap, subst, ◌∙◌, arith, eqb, ltb}
+use Rattle.std.specs.Prelude.{slice_get, if◌then◌else◌, count_by, is_some, AllPairs}
 use Rattle.std.specs.Option.{option_map}
 use Rattle.std.specs.declared.option.Option.{Option}
 use Rattle.std.specs.declared.option.Option.TheVariants.{None, Some}
 use Rattle.std.proofs.lemmas.Bool.{eq-eqb}
 use Rattle.std.proofs.lemmas.Bool.Decides.{nat_tests}
-use Rattle.graph_model.specs.declared.ids.Edge.{Edge}
 use Rattle.epoch_core.specs.declared.states.Status.{Status}
 use Rattle.epoch_core.specs.declared.states.Status.TheVariants.{Free, Fresh, Used, Retired}
 use Rattle.epoch_core.specs.declared.states.Place.{Place}
 use Rattle.epoch_core.specs.declared.states.Place.TheVariants.{Away, Pinned, Holding, Asking}
-use Rattle.epoch_core.specs.declared.events.Event.{Event}
-use Rattle.epoch_core.specs.declared.events.Event.TheVariants.{Fill}
-use Rattle.epoch_core.specs.Worlds.{World, blocks_at, last_blocks, last_number, pin_in, held_in, place_of, start_world}
+use Rattle.epoch_core.specs.Worlds.{World, blocks_at, last_blocks, pin_in, held_in, place_of}
 use Rattle.epoch_core.specs.Machine.{is_listed, all_differ, filled, with_heap}
-use Rattle.epoch_core.specs.Runs.{is_done, run}
-use Rattle.epoch_core.specs.Epochs.{FillsNoHeldBlock, PinsInOrder, IsPartition, parts_with, is_free_status, is_fresh_status, is_retired_status}
-use Rattle.epoch_core.specs.Sound.{IsSound, IsHeld, IsKept, IsPlaced, is_used}
+use Rattle.epoch_core.specs.Epochs.{FillsNoHeldBlock, PinsInOrder, IsPartition, is_free_status, is_fresh_status, is_retired_status}
+use Rattle.epoch_core.specs.Sound.{IsSound, IsKept, IsPlaced, is_used}
 use Rattle.epoch_core.proofs.Lists.{true_or_false, or_false, not_true, and_left, and_right}
 use Rattle.epoch_core.proofs.Keeping.{Fills, fills}
-use Rattle.epoch_core.proofs.Steps.{always_sound}
-use Rattle.epoch_core.proofs.Sizes.{blocks_run}
 
 some_of_map : {A B : Type 0} (f : A → B) (o : Option A) → is_some (option_map f o) ≡ true → (x : A) × (o ≡ Some x)
 some_of_map f None is = cc

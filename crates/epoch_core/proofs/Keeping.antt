@@ -1,27 +1,20 @@
 -- Each event keeps what is sound: blocks and versions.
-use Rattle.std.proofs.Common.{◌≡◌, ◌≢◌, ℕ, zero, suc, ◌+◌, ◌<◌, ◌≤◌, Bool, true, false, not, ◌&&◌, ◌⊎◌, inl, inr, List, [], ◌∷◌, ◌++◌, length, get_or, set, take, map, refl, sym, ap, subst, ◌∙◌, arith, add-one, eqb}
+use Rattle.std.proofs.Common.{◌≡◌, ◌≢◌, ℕ, ◌≤◌, Bool, true, false, inl, inr, List, [], set, take, refl, sym, ap, subst, ◌∙◌, arith}
 use Rattle.std.specs.Prelude.{slice_get, nat_le, if◌then◌else◌}
-use Rattle.std.specs.List.{list_all, flat_map}
-use Rattle.std.specs.Option.{option_map, option_and_then, unwrap_or}
 use Rattle.std.specs.declared.option.Option.{Option}
 use Rattle.std.specs.declared.option.Option.TheVariants.{None, Some}
 use Rattle.std.proofs.lemmas.Bool.{cases_eq}
-use Rattle.std.proofs.lemmas.List.{get_or-set_same, get_or-set_other, set_past, length-set}
-use Rattle.graph_model.specs.Graph.{Graph}
+use Rattle.std.proofs.lemmas.List.{get_or-set_other, length-set}
 use Rattle.graph_model.specs.declared.ids.Edge.{Edge}
-use Rattle.graph_model.specs.declared.batches.NamedOp.{NamedOp}
 use Rattle.epoch_core.specs.declared.states.Status.{Status}
 use Rattle.epoch_core.specs.declared.states.Status.TheVariants.{Free, Fresh, Used, Retired}
-use Rattle.epoch_core.specs.declared.states.Version.{Version}
 use Rattle.epoch_core.specs.declared.states.Hold.{Hold}
 use Rattle.epoch_core.specs.declared.states.Place.{Place}
 use Rattle.epoch_core.specs.declared.states.Place.TheVariants.{Away, Pinned, Holding, Asking}
-use Rattle.epoch_core.specs.Worlds.{World, graph_at, version_at, blocks_at, last_number, last_blocks, last_graph, edges_at, edges_of, place_of, pin_in}
-use Rattle.epoch_core.specs.Machine.{is_listed, taken, recycled, is_fresh, filled, changed_at, with_status, with_heap, with_places, move, can_post, posted, all_postable, is_postable, after_post, status_after, version_by, graph_after, least_pin, lesser}
+use Rattle.epoch_core.specs.Worlds.{World, graph_at, version_at, blocks_at, last_number, last_blocks, last_graph, edges_at, edges_of, place_of}
+use Rattle.epoch_core.specs.Machine.{is_listed, taken, recycled, is_fresh, filled, with_status, with_heap}
 use Rattle.epoch_core.specs.Sound.{Shows, is_used, IsKept, IsHeld, IsPlaced, IsNamed, IsSound}
-use Rattle.epoch_core.proofs.Lists.{option_map_some, and_then_some, ChangedAt, changed_at-some, within, get_at, set_same, set_else, get_enumerated, length_enumerated, and_left, and_right, true_or_false, all_listed, same_pieces, listed_take}
-use Rattle.epoch_core.proofs.Changes.{length_next, version_before, graph_before, version_next, graph_next}
-use Rattle.epoch_core.proofs.Edges.{shows_if}
+use Rattle.epoch_core.proofs.Lists.{and_then_some, set_same, set_else, same_pieces, listed_take}
 
 -- what a change of the world owes to each holder
 pub record Carries (old new : World) : Type 0 where

@@ -1,8 +1,6 @@
 -- Each event keeps what is sound: the floor rises, and sessions move.
-use Rattle.std.proofs.Common.{◌≡◌, ◌≢◌, ℕ, zero, suc, ◌+◌, ◌<◌, ◌≤◌, Bool, true, false, ◌⊎◌, inl, inr, List, [], ◌∷◌, ◌++◌, length, get_or, set, take, map, refl, sym, ap, subst, ◌∙◌, arith, add-one, min}
-use Rattle.std.specs.Prelude.{slice_get, nat_le, if◌then◌else◌}
-use Rattle.std.specs.List.{flat_map}
-use Rattle.std.specs.Option.{option_map}
+use Rattle.std.proofs.Common.{◌≡◌, ◌≢◌, ℕ, zero, suc, ◌+◌, ◌<◌, ◌≤◌, Bool, true, false, inl, inr, List, [], ◌∷◌, ◌++◌, length, get_or, set, take, refl, sym, ap, subst, ◌∙◌, arith, add-one, min}
+use Rattle.std.specs.Prelude.{slice_get, if◌then◌else◌}
 use Rattle.std.specs.declared.option.Option.{Option}
 use Rattle.std.specs.declared.option.Option.TheVariants.{None, Some}
 use Rattle.std.proofs.lemmas.Bool.{cases_eq}
@@ -16,9 +14,9 @@ use Rattle.epoch_core.specs.declared.states.Hold.{Hold}
 use Rattle.epoch_core.specs.declared.states.Inquiry.{Inquiry}
 use Rattle.epoch_core.specs.declared.states.Place.{Place}
 use Rattle.epoch_core.specs.declared.states.Place.TheVariants.{Away, Pinned, Holding, Asking}
-use Rattle.epoch_core.specs.Worlds.{World, graph_at, version_at, blocks_at, last_number, last_blocks, last_graph, edges_at, edges_of, place_of, pin_in}
+use Rattle.epoch_core.specs.Worlds.{World, blocks_at, last_number, last_blocks, edges_at, edges_of, place_of, pin_in}
 use Rattle.epoch_core.specs.Machine.{is_listed, least_pin, lesser, with_places, move, to_pin, to_enter, to_settle, settled_at, to_ask, to_read, read_on, to_reply, is_all_read, to_release}
-use Rattle.epoch_core.specs.Sound.{Shows, is_used, IsKept, IsHeld, IsPlaced, IsNamed, IsSound}
+use Rattle.epoch_core.specs.Sound.{is_used, IsKept, IsHeld, IsPlaced, IsNamed, IsSound}
 use Rattle.epoch_core.proofs.Lists.{option_map_some, ChangedAt, changed_at-some, within, get_at, take_one_more}
 use Rattle.epoch_core.proofs.Keeping.{Carries, carry}
 

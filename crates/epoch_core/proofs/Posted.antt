@@ -1,23 +1,21 @@
 -- Each event keeps what is sound: a batch is posted.
-use Rattle.std.proofs.Common.{◌≡◌, ◌≢◌, ℕ, zero, suc, ◌+◌, ◌<◌, ◌≤◌, Bool, true, false, not, ◌&&◌, ◌⊎◌, inl, inr, List, [], ◌∷◌, ◌++◌, length, get_or, set, take, map, refl, sym, ap, subst, ◌∙◌, arith, add-one, eqb}
-use Rattle.std.specs.Prelude.{slice_get, nat_le, nat_lt, if◌then◌else◌}
-use Rattle.std.specs.List.{list_all}
+use Rattle.std.proofs.Common.{◌≡◌, ℕ, suc, ◌+◌, ◌<◌, ◌≤◌, Bool, true, false, inl, inr, List, [], ◌∷◌, ◌++◌, length, refl, sym, ap, subst, ◌∙◌, arith}
+use Rattle.std.specs.Prelude.{slice_get, nat_lt}
 use Rattle.std.specs.Option.{option_map}
 use Rattle.std.specs.declared.option.Option.{Option}
 use Rattle.std.specs.declared.option.Option.TheVariants.{None, Some}
 use Rattle.std.proofs.lemmas.Bool.{cases_eq}
-use Rattle.graph_model.specs.Graph.{Graph}
 use Rattle.graph_model.specs.declared.ids.Edge.{Edge}
 use Rattle.graph_model.specs.declared.batches.NamedOp.{NamedOp}
 use Rattle.epoch_core.specs.declared.states.Status.{Status}
 use Rattle.epoch_core.specs.declared.states.Status.TheVariants.{Free, Fresh, Used, Retired}
 use Rattle.epoch_core.specs.declared.states.Version.{Version}
-use Rattle.epoch_core.specs.Worlds.{World, graph_at, version_at, blocks_at, last_number, last_blocks, last_graph, edges_at, edges_of, place_of}
+use Rattle.epoch_core.specs.Worlds.{World, graph_at, version_at, last_number, last_blocks, last_graph, edges_of, place_of}
 use Rattle.epoch_core.specs.Machine.{is_listed, all_differ, can_post, posted, all_postable, is_postable, after_post, status_after, version_by, graph_after, is_within_limits, are_edges_of, batch_limit}
-use Rattle.epoch_core.specs.Sound.{Shows, is_used, IsKept, IsHeld, IsPlaced, IsNamed, IsSound}
-use Rattle.epoch_core.proofs.Lists.{get_enumerated, length_enumerated, and_left, and_right, true_or_false, all_listed}
+use Rattle.epoch_core.specs.Sound.{Shows, is_used, IsKept, IsNamed, IsSound}
+use Rattle.epoch_core.proofs.Lists.{get_enumerated, length_enumerated, and_left, and_right, all_listed}
 use Rattle.epoch_core.proofs.Changes.{length_next, version_before, graph_before, version_next, graph_next}
-use Rattle.epoch_core.proofs.Edges.{shows_if}
+use Rattle.epoch_core.proofs.Edges.{Decides-edges}
 use Rattle.epoch_core.proofs.Keeping.{Carries, carry}
 
 -- what a Post that is done asked
@@ -108,7 +106,7 @@ sound_posted w batch blocks sound can =
           ∙ ap (is_listed b) (sym at);
       listed_once = ap all_differ at ∙ asked.different;
       shown = subst (λ g. Shows (edges_of w.heap (last_blocks (posted w batch blocks))) g) (sym made)
-          (subst (λ bs. Shows (edges_of w.heap bs) (graph_after w.versions batch)) (sym at) (shows_if _ _ asked.edges));
+          (subst (λ bs. Shows (edges_of w.heap bs) (graph_after w.versions batch)) (sym at) ((Decides-edges _ _).0 asked.edges));
       named = named_posted w batch blocks sound;
       placed = λ s. carry w (posted w batch blocks) (place_of w s) (carries_posted w batch blocks) (sound.placed s);
       sizes = sound.sizes ∙ sym (length_enumerated (λ p. after_post (last_number w + 1) (is_listed p.0 blocks) p.1) 0 w.status);

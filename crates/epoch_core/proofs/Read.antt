@@ -1,43 +1,17 @@
 -- What is read of a version is a content.
-use Rattle.std.proofs.Common.{◌≡◌, ◌≢◌, ℕ, zero, suc, ◌<◌, ◌≤◌, Bool, true, false, cond, List, [], ◌∷◌, length, get_or, take, refl, sym, ap, subst, ◌∙◌, arith}
-use Rattle.std.specs.Prelude.{AllPairs, All, Contains}
-use Rattle.std.specs.Ordering.{eq_by_cmp}
-use Rattle.std.specs.FinMap.{get, get-empty}
-use Rattle.std.specs.declared.option.Option.{Option}
-use Rattle.std.specs.declared.option.Option.TheVariants.{None, Some}
+use Rattle.std.proofs.Common.{◌≡◌, ◌≢◌, ℕ, ◌<◌, ◌≤◌, List, length, get_or, sym, ap, subst, ◌∙◌, arith}
+use Rattle.std.specs.Prelude.{AllPairs}
+use Rattle.std.specs.FinMap.{get}
 use Rattle.std.proofs.lemmas.List.{take_all}
-use Rattle.graph_model.specs.Graph.{Graph, Key, Stamp, key_cmp, key_of, stamp_of, map_of, graph_of, content_of, IsContent, IsEdgeWithin, IsWeight, IsTime}
+use Rattle.graph_model.specs.Graph.{Graph, key_of, stamp_of, map_of, graph_of, IsContent, IsEdgeWithin, IsWeight, IsTime}
 use Rattle.graph_model.specs.declared.ids.Edge.{Edge}
-use Rattle.graph_model.specs.declared.contents.Content.{Content}
+use Rattle.graph_model.proofs.Keys.{get_is, get_listed, find_listed}
 use Rattle.epoch_core.specs.declared.states.Version.{Version}
-use Rattle.epoch_core.specs.declared.states.Hold.{Hold}
-use Rattle.epoch_core.specs.declared.states.Inquiry.{Inquiry}
 use Rattle.epoch_core.specs.declared.states.Place.{Place}
 use Rattle.epoch_core.specs.declared.states.Place.TheVariants.{Away, Pinned, Holding, Asking}
 use Rattle.epoch_core.specs.Worlds.{World, graph_at, version_at, blocks_at, edges_of, last_number, last_blocks, last_graph, place_of}
-use Rattle.epoch_core.specs.Machine.{is_all_read}
-use Rattle.epoch_core.specs.Sound.{Shows, IsHeld, IsNamed, IsPlaced, IsSound, IsContentGraph}
+use Rattle.epoch_core.specs.Sound.{Shows, IsNamed, IsPlaced, IsSound, IsContentGraph}
 use Rattle.epoch_core.specs.Calls.{content_with, last_content, ReadsContent, HasContents}
-use Rattle.epoch_core.proofs.Edges.{KeysOnce, get_map_cons, get_listed, tied}
-
--- an edge that stands in the map is listed
-pub record Listed (es : List Edge) (q : Key) (s : Stamp) : Type 0 where
-  pub edge : Edge
-  pub place : ℕ
-  pub low : place < length es
-  pub at : (d : Edge) → get_or es place d ≡ edge
-  pub key : q ≡ key_of edge
-  pub stamp : s ≡ stamp_of edge
-
-find_listed : (es : List Edge) (q : Key) (s : Stamp) → get (map_of es) q ≡ Some s → Listed es q s
-find_listed [] q s is = let none = get-empty {X = Stamp} key_cmp q in cc
-find_listed (e ∷ es) q s is =
-    elim (eq_by_cmp key_cmp q (key_of e)) as (λ t. eq_by_cmp key_cmp q (key_of e) ≡ t → cond t (Some (stamp_of e)) (get (map_of es) q) ≡ Some s → Listed (e ∷ es) q s) [
-      | true ↦ λ t w. record { edge = e; place = 0; low = omega arith; at = λ d. refl; key = tied q (key_of e) t; stamp = cc }
-      | false ↦ λ _ w.
-          let rest : Listed es q s = find_listed es q s w in
-          record { edge = rest.edge; place = suc rest.place; low = omega (arith, rest.low); at = rest.at; key = rest.key; stamp = rest.stamp }
-    ] refl (sym (get_map_cons e es q) ∙ is)
 
 same_within : (n m : ℕ) (x e : Edge) → key_of e ≡ key_of x → stamp_of e ≡ stamp_of x → IsEdgeWithin n m x → IsEdgeWithin n m e
 same_within n m x e key stamp w = record {
@@ -63,9 +37,9 @@ is_content v es g (c, is, same) names kinds shows =
       keys_distinct = shows.once;
       edges_within = λ k d h.
           let e : Edge = get_or es k d in
-          let found : Listed c.edges (key_of e) (stamp_of e) = find_listed c.edges (key_of e) (stamp_of e) (ap (λ m. get m (key_of e)) (sym map) ∙ get_listed es shows.once k d h) in
-          let w : IsEdgeWithin (length c.names) (length c.kinds) found.edge = subst (IsEdgeWithin (length c.names) (length c.kinds)) (found.at d) (is.edges_within found.place d found.low) in
-          subst (λ n. IsEdgeWithin n (length v.kinds) e) (ap length (sym ns)) (subst (λ m. IsEdgeWithin (length c.names) m e) (ap length (sym ks)) (same_within _ _ found.edge e found.key found.stamp w));
+          let (x, ((i, low, at), key, stamp)) = find_listed (key_of e) c.edges (stamp_of e) (sym (get_is (key_of e) c.edges) ∙ ap (λ m. get m (key_of e)) (sym map) ∙ get_listed es shows.once k d h) in
+          let w : IsEdgeWithin (length c.names) (length c.kinds) x = subst (IsEdgeWithin (length c.names) (length c.kinds)) at (is.edges_within i x low) in
+          subst (λ n. IsEdgeWithin n (length v.kinds) e) (ap length (sym ns)) (subst (λ m. IsEdgeWithin (length c.names) m e) (ap length (sym ks)) (same_within _ _ x e key (sym stamp) w));
     }
 
 -- the last version's content

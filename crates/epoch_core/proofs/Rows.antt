@@ -1,35 +1,33 @@
 -- Rows of events, computed over the definitions alone: what the machine does, and what it does not.
-use Rattle.std.proofs.Common.{◌≡◌, ℕ, zero, suc, ◌<◌, ◌≤◌, Bool, true, false, cond, ◌&&◌, List, [], ◌∷◌, ◌++◌, length, map, refl, sym, ap, subst, ◌∙◌, arith, pos, negsuc, eqb}
+use Rattle.std.proofs.Common.{◌≡◌, ℕ, ◌≤◌, Bool, true, false, cond, ◌&&◌, List, [], ◌∷◌, ◌++◌, length, refl, sym, ap, subst, ◌∙◌, arith, pos, negsuc, eqb}
 use Rattle.std.specs.Prelude.{ℤ, if◌then◌else◌, is_some, slice_get, slice_set, nat_lt}
 use Rattle.std.specs.Option.{option_map, option_and_then, unwrap_or}
 use Rattle.std.specs.Ordering.{eq_by_cmp}
 use Rattle.std.specs.FinMap.{FinMap, get, insert, len, empty, get-empty, get-insert, same_map}
 use Rattle.std.specs.declared.option.Option.{Option}
 use Rattle.std.specs.declared.option.Option.TheVariants.{None, Some}
-use Rattle.std.specs.declared.result.Result.TheVariants.{Ok, Err}
+use Rattle.std.specs.declared.result.Result.TheVariants.{Ok}
 use Rattle.std.proofs.lemmas.Option.{slice_get_past}
-use Rattle.graph_model.specs.Graph.{Graph, Key, Stamp, key_cmp, key_of, stamp_of, map_of}
-use Rattle.graph_model.specs.Step.{after, after_all, set_at, stamp_after}
-use Rattle.graph_model.specs.Answer.{IsAnswer, shown}
+use Rattle.graph_model.specs.Graph.{Graph, Key, Stamp, key_cmp}
+use Rattle.graph_model.specs.Step.{after, set_at, stamp_after}
+use Rattle.graph_model.specs.Answer.{shown}
 use Rattle.graph_model.specs.declared.ids.Edge.{Edge}
 use Rattle.graph_model.specs.declared.batches.NamedOp.{NamedOp}
 use Rattle.graph_model.specs.declared.batches.NamedOp.TheVariants.{Insert, Incr}
 use Rattle.graph_model.specs.declared.requests.Request.{Request}
 use Rattle.graph_model.specs.declared.requests.Request.TheVariants.{OneEdge as AskOneEdge}
 use Rattle.graph_model.specs.declared.requests.Reply.TheVariants.{OneEdge}
-use Rattle.graph_model.specs.declared.requests.AskError.TheVariants.{NoKind}
 use Rattle.epoch_core.specs.declared.states.Place.{Place}
 use Rattle.epoch_core.specs.declared.states.Place.TheVariants.{Away}
 use Rattle.epoch_core.specs.declared.states.Status.TheVariants.{Used, Retired}
-use Rattle.epoch_core.specs.declared.states.Version.{Version}
 use Rattle.epoch_core.specs.declared.events.Event.{Event}
 use Rattle.epoch_core.specs.declared.events.Event.TheVariants.{Take, Fill, Post, Floor, Recycle, Pin, Enter, Settle, Ask, Read, Reply, Release}
 use Rattle.epoch_core.specs.Worlds.{World, start_world, left, last_number, place_of, pin_in, held_in, edges_of}
-use Rattle.epoch_core.specs.Machine.{Question, Answers, question_of, can_post, posted, graph_after, are_edges_of, bears, same_stamp, is_within_limits, all_differ, batch_limit, is_postable, is_fresh, taken, recycled, put, move, with_status, with_heap, with_places, to_pin, to_enter, to_settle, to_ask, to_read, to_reply, to_release}
+use Rattle.epoch_core.specs.Machine.{Answers, question_of, can_post, posted, graph_after, are_edges_of, bears, same_stamp, is_within_limits, all_differ, batch_limit, is_postable, is_fresh, taken, recycled, put, move, with_status, with_heap, with_places, to_pin, to_enter, to_settle, to_ask, to_read, to_reply, to_release}
 use Rattle.epoch_core.specs.Runs.{is_done, happens, run, done_in}
-use Rattle.epoch_core.specs.Holdings.{Stretch, Sight, sights, stretches, holdings, Agree}
-use Rattle.epoch_core.specs.Sound.{Shows}
-use Rattle.epoch_core.proofs.Edges.{keys_total, exact_keys, once_none, once_cons, shows_only_if, KeysOnce}
+use Rattle.epoch_core.specs.Holdings.{sights, stretches, holdings, Agree}
+use Rattle.graph_model.proofs.Keys.{keys_total, exact_keys, once_none, once_cons, HasKeysOnce}
+use Rattle.epoch_core.proofs.Edges.{Decides-edges}
 
 -- One edge, from a to b of kind k, and batches that make it
 
@@ -97,12 +95,12 @@ add_over =
     ap (λ o. record { names = name_a ∷ name_b ∷ []; kinds = kind_k ∷ []; edges = set_at (insert empty key (stamp (pos 7) 1 1)) key (stamp_after (add_to_edge (negsuc 5) 1) o) }) (stands (stamp (pos 7) 1 1))
     ∙ ap (λ edges. record { names = name_a ∷ name_b ∷ []; kinds = kind_k ∷ []; edges = edges }) (put_again (stamp (pos 7) 1 1) (stamp (pos 1) 1 1))
 
-once_one : (e : Edge) → KeysOnce (e ∷ [])
+once_one : (e : Edge) → HasKeysOnce (e ∷ [])
 once_one e = once_cons e [] (λ k d h. absurd (omega arith)) once_none
 
 -- one block with the edge shows such a graph
 shows_one : (g : Graph) (weight : ℤ) (first recent : ℕ) → g ≡ graph_of_edge (stamp weight first recent) → are_edges_of g (edge_of weight first recent ∷ []) ≡ true
-shows_one g weight first recent is = shows_only_if g (edge_of weight first recent ∷ []) (record { once = once_one (edge_of weight first recent); same = ap (λ h. h.edges) (sym is) })
+shows_one g weight first recent is = (Decides-edges g (edge_of weight first recent ∷ [])).1 (record { once = once_one (edge_of weight first recent); same = ap (λ h. h.edges) (sym is) })
 
 -- a Post that is done
 posts : (w : World) (batch : List NamedOp) (blocks : List ℕ) → can_post w.heap w.status w.versions batch blocks ≡ true → happens w (Post batch blocks) ≡ posted w batch blocks
@@ -269,7 +267,7 @@ empty_start_does_one = refl
 
 -- no edges are once each the edges of the graph without edges
 shows_none : are_edges_of (left []) [] ≡ true
-shows_none = shows_only_if (left []) [] (record { once = once_none; same = refl })
+shows_none = (Decides-edges (left []) []).1 (record { once = once_none; same = refl })
 
 pub empty_is_posted : is_done empty_start (Post [] (0 ∷ [])) ≡ true
 empty_is_posted = counts empty_start [] (0 ∷ []) shows_none

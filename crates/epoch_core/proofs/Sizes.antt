@@ -1,6 +1,6 @@
 -- No event changes how many blocks and sessions there are.
-use Rattle.std.proofs.Common.{◌≡◌, ℕ, ◌+◌, Bool, true, false, List, [], ◌∷◌, length, set, replicate, refl, sym, ap, subst, ◌∙◌}
-use Rattle.std.specs.Prelude.{slice_get, if◌then◌else◌}
+use Rattle.std.proofs.Common.{◌≡◌, ℕ, ◌+◌, Bool, true, false, List, [], ◌∷◌, length, refl, sym, ap, subst, ◌∙◌}
+use Rattle.std.specs.Prelude.{if◌then◌else◌}
 use Rattle.std.specs.Option.{option_map, unwrap_or}
 use Rattle.std.specs.declared.option.Option.{Option}
 use Rattle.std.specs.declared.option.Option.TheVariants.{None, Some}
@@ -8,11 +8,10 @@ use Rattle.std.proofs.lemmas.List.{length-set, length-replicate}
 use Rattle.epoch_core.specs.declared.states.Status.{Status}
 use Rattle.epoch_core.specs.declared.states.Status.TheVariants.{Free}
 use Rattle.epoch_core.specs.declared.states.Place.{Place}
-use Rattle.epoch_core.specs.declared.states.Place.TheVariants.{Away}
 use Rattle.epoch_core.specs.declared.events.Event.{Event}
 use Rattle.epoch_core.specs.declared.events.Event.TheVariants.{Take, Fill, Post, Floor, Recycle, Pin, Enter, Settle, Ask, Read, Reply, Release}
 use Rattle.epoch_core.specs.Worlds.{World, start_world, last_number}
-use Rattle.epoch_core.specs.Machine.{step, taken, recycled, changed_at, with_status, with_heap, with_places, filled, can_post, posted, move, is_listed, after_post, to_pin, to_enter, to_settle, to_ask, to_read, to_reply, to_release}
+use Rattle.epoch_core.specs.Machine.{step, taken, recycled, changed_at, with_status, with_heap, filled, can_post, posted, move, is_listed, after_post, to_pin, to_enter, to_settle, to_ask, to_read, to_reply, to_release}
 use Rattle.epoch_core.specs.Runs.{happens, run}
 use Rattle.epoch_core.proofs.Lists.{option_map_some, ChangedAt, changed_at-some, length_enumerated}
 use Rattle.epoch_core.proofs.Moves.{Moved, moved}

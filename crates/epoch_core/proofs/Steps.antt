@@ -1,5 +1,5 @@
 -- Each event keeps what is sound, and so does each run.
-use Rattle.std.proofs.Common.{◌≡◌, ℕ, zero, suc, ◌<◌, ◌≤◌, Bool, true, false, List, [], ◌∷◌, length, get_or, set, replicate, refl, sym, ap, subst, ◌∙◌, arith}
+use Rattle.std.proofs.Common.{◌≡◌, ℕ, zero, suc, ◌≤◌, Bool, true, false, List, [], ◌∷◌, get_or, replicate, refl, sym, ap, subst, ◌∙◌, arith}
 use Rattle.std.specs.Prelude.{slice_get, if◌then◌else◌}
 use Rattle.std.specs.Option.{option_map, unwrap_or}
 use Rattle.std.specs.declared.option.Option.{Option}
@@ -7,16 +7,16 @@ use Rattle.std.specs.declared.option.Option.TheVariants.{None, Some}
 use Rattle.std.proofs.lemmas.List.{length-replicate}
 use Rattle.graph_model.specs.declared.ids.Edge.{Edge}
 use Rattle.epoch_core.specs.declared.states.Status.{Status}
-use Rattle.epoch_core.specs.declared.states.Status.TheVariants.{Free, Fresh, Used, Retired}
+use Rattle.epoch_core.specs.declared.states.Status.TheVariants.{Free}
 use Rattle.epoch_core.specs.declared.states.Place.TheVariants.{Away}
 use Rattle.epoch_core.specs.declared.events.Event.{Event}
 use Rattle.epoch_core.specs.declared.events.Event.TheVariants.{Take, Fill, Post, Floor, Recycle, Pin, Enter, Settle, Ask, Read, Reply, Release}
-use Rattle.epoch_core.specs.Worlds.{World, start_world, last_number, place_of}
-use Rattle.epoch_core.specs.Machine.{step, taken, recycled, changed_at, with_status, with_heap, with_places, filled, can_post, posted, least_pin}
+use Rattle.epoch_core.specs.Worlds.{World, start_world, last_number}
+use Rattle.epoch_core.specs.Machine.{step, taken, recycled, changed_at, with_status, with_heap, can_post, posted, least_pin}
 use Rattle.epoch_core.specs.Runs.{happens, run}
 use Rattle.epoch_core.specs.Sound.{IsSound, IsNamed, IsPlaced, is_used}
 use Rattle.epoch_core.proofs.Lists.{option_map_some, ChangedAt, changed_at-some}
-use Rattle.epoch_core.proofs.Edges.{once_none}
+use Rattle.graph_model.proofs.Keys.{once_none}
 use Rattle.epoch_core.proofs.Keeping.{FreesNone, frees_taken, frees_recycled, sound_status, Fills, fills, sound_fill}
 use Rattle.epoch_core.proofs.Posted.{sound_posted}
 use Rattle.epoch_core.proofs.Moves.{sound_floor, with_floor, sound_move, keeps_pin, keeps_enter, keeps_settle, keeps_ask, keeps_read, keeps_reply, keeps_release}

@@ -3,7 +3,7 @@ use Rattle.std.specs.Prelude.{◌≡◌, ℕ, ◌+◌, ◌≤◌, true, false, L
 use Rattle.std.specs.Option.{unwrap_or}
 use Rattle.std.specs.declared.option.Option.{Option}
 use Rattle.std.specs.declared.option.Option.TheVariants.{None, Some}
-use Rattle.graph_model.specs.Graph.{Graph, graph_of, content_of, IsContent}
+use Rattle.graph_model.specs.Graph.{graph_of, content_of, IsContent}
 use Rattle.graph_model.specs.Step.{after_all}
 use Rattle.graph_model.specs.declared.ids.Edge.{Edge}
 use Rattle.graph_model.specs.declared.batches.NamedOp.{NamedOp}

@@ -1,5 +1,5 @@
 -- Blocks and pins at any moment.
-use Rattle.std.specs.Prelude.{◌≡◌, ◌≢◌, ℕ, ◌≤◌, nat_lt, Bool, true, false, List, [], ◌∷◌, count_by, if◌then◌else◌, slice_get, IsSome, IsTrue, AllPairs}
+use Rattle.std.specs.Prelude.{◌≡◌, ◌≢◌, ℕ, ◌≤◌, nat_lt, Bool, true, false, List, [], ◌∷◌, count_by, if◌then◌else◌, slice_get, IsTrue, AllPairs}
 use Rattle.std.specs.declared.option.Option.{Option}
 use Rattle.std.specs.declared.option.Option.TheVariants.{None, Some}
 use Rattle.graph_model.specs.declared.ids.Edge.{Edge}

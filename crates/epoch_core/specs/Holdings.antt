@@ -1,8 +1,6 @@
 -- What befalls a session in a list of events, and when two lists are the same to it.
 use Rattle.std.specs.Prelude.{◌≡◌, ℕ, ◌==◌, List, [], ◌∷◌, ◌++◌, map, if◌then◌else◌}
 use Rattle.std.specs.List.{flat_map}
-use Rattle.std.specs.declared.option.Option.{Option}
-use Rattle.std.specs.declared.option.Option.TheVariants.{None, Some}
 use Rattle.graph_model.specs.declared.batches.NamedOp.{NamedOp}
 use Rattle.graph_model.specs.declared.requests.Request.{Request}
 use Rattle.epoch_core.specs.declared.states.Place.{Place}
@@ -10,7 +8,7 @@ use Rattle.epoch_core.specs.declared.states.Place.TheVariants.{Away, Pinned, Hol
 use Rattle.epoch_core.specs.declared.events.Event.{Event}
 use Rattle.epoch_core.specs.declared.events.Event.TheVariants.{Take, Fill, Post, Floor, Recycle, Pin, Enter, Settle, Ask, Read, Reply, Release}
 use Rattle.epoch_core.specs.Worlds.{World, left, batches_at, last_number, place_of}
-use Rattle.epoch_core.specs.Machine.{Question, is_all_read}
+use Rattle.epoch_core.specs.Machine.{Question}
 use Rattle.epoch_core.specs.Runs.{is_done, happens}
 
 -- what may befall a session: it takes hold of what these batches leave, it is replied to, it lets go

@@ -21,7 +21,7 @@ use Rattle.epoch_core.specs.declared.states.Place.{Place}
 use Rattle.epoch_core.specs.declared.states.Place.TheVariants.{Away, Pinned, Holding, Asking}
 use Rattle.epoch_core.specs.declared.events.Event.{Event}
 use Rattle.epoch_core.specs.declared.events.Event.TheVariants.{Take, Fill, Post, Floor, Recycle, Pin, Enter, Settle, Ask, Read, Reply, Release}
-use Rattle.epoch_core.specs.Worlds.{Answer, World, left, graph_at, version_at, blocks_at, last_number, last_graph, edges_at, edges_of, graph_with, pin_in}
+use Rattle.epoch_core.specs.Worlds.{Answer, World, graph_at, version_at, blocks_at, last_number, edges_at, edges_of, graph_with, pin_in}
 
 -- Blocks
 

@@ -1,7 +1,7 @@
 -- What the machine of interleavings knows at a moment: blocks of edges, versions, the floor, and where each
 -- session stands. It is STINGER's store of edge blocks (Ediger, McColl, Riedy, Bader; IEEE HPEC 2012) under
 -- sessions that hold a version while batches go on, as Aspen's readers do (Dhulipala, Blelloch, Shun; PLDI 2019).
-use Rattle.std.specs.Prelude.{◌≡◌, ℕ, zero, suc, List, [], ◌++◌, map, length, replicate, take, slice_index_or}
+use Rattle.std.specs.Prelude.{ℕ, zero, suc, List, [], map, length, replicate, take, slice_index_or}
 use Rattle.std.specs.List.{flat_map}
 use Rattle.std.specs.declared.result.Result.{Result}
 use Rattle.graph_model.specs.Graph.{Graph, map_of}
@@ -13,7 +13,6 @@ use Rattle.graph_model.specs.declared.requests.AskError.{AskError}
 use Rattle.epoch_core.specs.declared.states.Status.{Status}
 use Rattle.epoch_core.specs.declared.states.Status.TheVariants.{Free}
 use Rattle.epoch_core.specs.declared.states.Version.{Version}
-use Rattle.epoch_core.specs.declared.states.Hold.{Hold}
 use Rattle.epoch_core.specs.declared.states.Place.{Place}
 use Rattle.epoch_core.specs.declared.states.Place.TheVariants.{Away, Pinned, Holding, Asking}
 use Rattle.std.specs.declared.option.Option.{Option}

@@ -55,6 +55,7 @@ impl Core {
     /// The machine at its start, which will grow by this allocator: all blocks are free and without edges, there
     /// is version 0 alone, the floor is 0, and no session has a pin. There are 1 to 16 sessions and 1 to 65,536
     /// blocks.
+    #[tactic(auto, using(crate::proofs::Cores::core_start))]
     pub fn new(alloc: Global, sessions: usize, blocks: usize) -> Result<Core, OutOfMemory>
         requires some_sessions { 1 ≤ sessions }
         requires few_sessions { sessions ≤ 16 }
@@ -62,15 +63,7 @@ impl Core {
         requires few_blocks { blocks ≤ 65536 }
         ensures { IfOk result (λ core. core ≡ worlds.start sessions blocks) }
     {
-        let parts = Parts {
-            alloc,
-            heap: empty_lists(alloc, blocks)?,
-            status: free_blocks(alloc, blocks)?,
-            versions: Vec::new(alloc),
-            floor: 0,
-            places: away_places(alloc, sessions)?,
-            replies: empty_lists(alloc, sessions)?,
-        };
+        let parts = parts_at_start(alloc, sessions, blocks)?;
         Ok(Core { parts })
     }
 
@@ -148,6 +141,21 @@ fn counted(done: u32, step: Step) -> u32
         Step::Done => done.saturating_add(1),
         Step::Skipped => done,
     }
+}
+
+/// The fields of the machine at its start.
+fn parts_at_start(alloc: Global, sessions: usize, blocks: usize) -> Result<Parts, AllocError>
+    ensures { IfOk result (λ parts. state_of parts ≡ worlds.start sessions blocks) }
+{
+    Ok(Parts {
+        alloc,
+        heap: empty_lists(alloc, blocks)?,
+        status: free_blocks(alloc, blocks)?,
+        versions: Vec::new(alloc),
+        floor: 0,
+        places: away_places(alloc, sessions)?,
+        replies: empty_lists(alloc, sessions)?,
+    })
 }
 
 fn empty_lists<T: Drop>(alloc: Global, count: usize) -> Result<Vec<List<T>>, AllocError>

@@ -8,13 +8,25 @@ use std::alloc::{AllocError, Global};
 use std::process::Abort;
 use std::test::Fail;
 
+mod answers;
+mod growths;
+mod limits;
+mod two_worlds;
+
 fn name(alloc: Global, text: &str) -> Result<Name, AllocError> {
     Ok(Name::of(String::from_str(alloc, text)?))
 }
 
+/// The batch with this operation too. It is valid, and there is room for it.
+fn with_op(mut batch: Batch, op: NamedOp) -> Result<Batch, AllocError> {
+    match batch.push(op) {
+        Ok(()) => Ok(batch),
+        Err(_) => Err(AllocError),
+    }
+}
+
 /// The batch that inserts a to b, of kind k.
 fn insert(alloc: Global, weight: i64, time: u64) -> Result<Batch, AllocError> {
-    let mut batch = Batch::new(alloc);
     let op = NamedOp::Insert {
         kind: name(alloc, "k")?,
         source: name(alloc, "a")?,
@@ -22,10 +34,7 @@ fn insert(alloc: Global, weight: i64, time: u64) -> Result<Batch, AllocError> {
         weight,
         time,
     };
-    match batch.push(op) {
-        Ok(()) => Ok(batch),
-        Err(_) => Err(AllocError),
-    }
+    with_op(Batch::new(alloc), op)
 }
 
 /// The edge from a to b.
@@ -330,49 +339,6 @@ fn answers_refusals_by_name(rt: HostRuntime) -> Result<(), Fail> {
     Ok(())
 }
 
-/// Tells `tools/refuse-each-growth` that a growth was refused, which the test accepted.
-fn refused(rt: &impl Print) -> Result<(), Fail> {
-    println!(rt; "refused")?;
-    Ok(())
-}
-
-/// What is seen of the machine with one session.
-type Shown = (u64, Option<u64>, Option<u64>, usize);
-
-fn shown(core: &Core) -> Shown
-    requires { 0 < length core.now.world.places }
-{
-    (
-        core.floor(),
-        core.held(0),
-        core.pin_of(0),
-        core.replies(0).len(),
-    )
-}
-
-#[test]
-fn refused_step_changes_nothing(rt: HostRuntime) -> Result<(), Fail> {
-    let alloc = rt.alloc();
-    let Ok(mut core) = Core::new(alloc, 1, 2) else {
-        return refused(&rt);
-    };
-    let Ok(events) = both_parts(alloc) else {
-        return refused(&rt);
-    };
-    for (event, wanted) in events {
-        let before = shown(&core);
-        match core.step(event) {
-            Ok(step) => assert_eq!(rt; step, wanted),
-            Err(_) => {
-                assert_eq!(rt; shown(&core), before);
-                return refused(&rt);
-            }
-        }
-    }
-    assert!(rt; matches!(core.replies(0), [Ok(Reply::OneEdge(Some((2, 1, 2))))]));
-    Ok(())
-}
-
 /// The events alone.
 fn events_of(alloc: Global, steps: Vec<(Event, Step)>) -> Result<Vec<Event>, AllocError> {
     let mut events = Vec::new(alloc);
@@ -380,32 +346,4 @@ fn events_of(alloc: Global, steps: Vec<(Event, Step)>) -> Result<Vec<Event>, All
         events.push(event)?;
     }
     Ok(events)
-}
-
-#[test]
-fn refused_run_stands_after_the_events_before(rt: HostRuntime) -> Result<(), Fail> {
-    let alloc = rt.alloc();
-    let Ok(mut core) = Core::new(alloc, 1, 2) else {
-        return refused(&rt);
-    };
-    let Ok(steps) = both_parts(alloc) else {
-        return refused(&rt);
-    };
-    let Ok(events) = events_of(alloc, steps) else {
-        return refused(&rt);
-    };
-    match run(&mut core, events.as_slice()) {
-        Ok(done) => assert_eq!(rt; done, 16),
-        Err(_) => {
-            let mut is_after_some = false;
-            for count in 0..events.len() {
-                let mut other = Core::new(alloc, 1, 2)?;
-                run(&mut other, &events[..count])?;
-                is_after_some = is_after_some || shown(&core) == shown(&other);
-            }
-            assert!(rt; is_after_some);
-            return refused(&rt);
-        }
-    }
-    Ok(())
 }

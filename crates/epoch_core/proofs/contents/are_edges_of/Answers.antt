@@ -1,10 +1,11 @@
-use Rattle.std.proofs.Common.{ap, sym, ◌∙◌, ◌&&◌, ◌≡◌, Bool, List, eqb, length}
+use Rattle.std.proofs.Common.{ap, sym, ◌∙◌, ◌&&◌, Bool, List, eqb, length}
 use Rattle.std.specs.List.{list_all}
 use Rattle.std.specs.FinMap.{get}
 use Rattle.graph_model.specs.Graph.{graph_of, key_of, stamp_of, map_of}
 use Rattle.graph_model.specs.declared.ids.Edge.{Edge}
 use Rattle.epoch_core.specs.Machine as machine
-use Rattle.epoch_core.proofs.Edges.{len_once, shows_if, shows_only_if}
+use Rattle.graph_model.proofs.Keys.{len_once}
+use Rattle.epoch_core.proofs.Edges.{Decides-edges}
 use Rattle.epoch_core.proofs.contents.are_edges_of.Goals as goal
 
 abbrev counted : List Edge → List Edge → Bool
@@ -16,4 +17,6 @@ returns-clause-counted c =
     ∙ ap (λ n. machine.keys_differ c.args.edges.now && list_all (λ e. machine.bears (get (map_of c.args.content.now.edges) (key_of e)) (stamp_of e)) c.args.edges.now && eqb (length c.args.edges.now) n) (sym (len_once c.args.content.now.edges c.requires))
 
 pub returns-clause-shown : goal.returns-clause-shown
-returns-clause-shown c = (λ t. shows_if (graph_of c.args.content.now) c.args.edges.now (sym (returns-clause-counted c) ∙ t), λ s. returns-clause-counted c ∙ shows_only_if (graph_of c.args.content.now) c.args.edges.now s)
+returns-clause-shown c =
+    let test = Decides-edges (graph_of c.args.content.now) c.args.edges.now in
+    (λ t. test.0 (sym (returns-clause-counted c) ∙ t), λ s. returns-clause-counted c ∙ test.1 s)

@@ -1,4 +1,4 @@
-use Rattle.std.proofs.Common.{◌≡◌, ◌≤◌, ◌-◌, [], length, replicate}
+use Rattle.std.proofs.Common.{◌≡◌, ◌≤◌, ◌-◌, length, replicate}
 use Rattle.epoch_core.specs.declared.states.Status.TheVariants.{Free}
 use Rattle.epoch_core.proofs.machine.free_blocks.Given as goal
 

@@ -1,4 +1,4 @@
-use Rattle.std.proofs.Common.{◌<◌, ◌≡◌, length, [], ◌∷◌, ◌++◌, get_or, set, ap, ◌∙◌, arith}
+use Rattle.std.proofs.Common.{◌<◌, length, [], ◌∷◌, ◌++◌, set, ap, ◌∙◌, arith}
 use Rattle.std.proofs.lemmas.List.{get_or_read}
 use Rattle.epoch_core.proofs.replying.push_answer.Goals as goal
 
