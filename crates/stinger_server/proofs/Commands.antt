@@ -1,6 +1,6 @@
 -- What commands come to, from what the calls below them say.
-use Rattle.std.proofs.Common.{◌≡◌, ℕ, ◌+◌, ◌-◌, ◌<◌, ◌≤◌, List, [], ◌∷◌, ◌++◌, length, nat_lt, arith, refl, sym, ◌∙◌, ap}
-use Rattle.std.specs.Prelude.{Option, None, Some, Result, Ok, Err, slice_get, ◌⊎◌}
+use Rattle.std.proofs.Common.{◌≡◌, ℕ, ◌+◌, ◌<◌, ◌≤◌, List, length, arith, refl}
+use Rattle.std.specs.Prelude.{Option, None, Some, Ok, Err, slice_get}
 use Rattle.std.proofs.lemmas.Bool.Decides.{nat_tests}
 use Rattle.graph_model.specs.Graph.{Graph}
 use Rattle.graph_model.specs.Limits.{MeetsKindLimit, MeetsNameLimit}
@@ -8,8 +8,7 @@ use Rattle.graph_model.specs.Step.{after_all, outcomes}
 use Rattle.graph_model.specs.declared.batches.NamedOp.{NamedOp}
 use Rattle.feed_csv.specs.declared.command.Command.TheVariants.{Commit, OpenSlot}
 use Rattle.stinger_server.specs.Lines.{commit_line, open_line}
-use Rattle.stinger_server.specs.States.{IsDone, Outcome, State, commit_refusal, last_version, lines_unless, open_refusal, version_in}
-use Rattle.stinger_server.specs.declared.words.Word.{Word}
+use Rattle.stinger_server.specs.States.{IsDone, State, commit_refusal, last_version, version_in}
 use Rattle.stinger_server.specs.declared.words.Word.TheVariants.{KindsFull, NamesFull, NotOpen}
 
 commit_refusal-none : (left : Graph) → length left.names ≤ 65536 → length left.kinds ≤ 64 → commit_refusal left ≡ None

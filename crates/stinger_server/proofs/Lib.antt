@@ -6,4 +6,7 @@ pub mod Edges
 pub mod Replies
 pub mod Turning
 pub mod Reached
+pub mod Causes
 pub mod OneText
+pub mod Asked
+pub mod Telling

@@ -1,6 +1,6 @@
 -- A script has one text: each record comes to one outcome.
-use Rattle.std.proofs.Common.{◌≡◌, ℕ, ◌+◌, List, [], ◌∷◌, ◌++◌, length, refl, sym, ◌∙◌, ap, subst}
-use Rattle.std.specs.Prelude.{Option, None, Some, Result, Ok, Err, slice_get}
+use Rattle.std.proofs.Common.{◌≡◌, ℕ, ◌+◌, List, [], ◌∷◌, ◌++◌, length, sym, ◌∙◌, ap, subst}
+use Rattle.std.specs.Prelude.{Result, Ok, Err, slice_get}
 use Rattle.feed_csv.specs.Commands.{item_of}
 use Rattle.feed_csv.specs.Records.{Row}
 use Rattle.feed_csv.specs.declared.command.Command.{Command}
@@ -14,7 +14,7 @@ use Rattle.graph_model.specs.declared.requests.Reply.{Reply}
 use Rattle.graph_model.specs.declared.requests.AskError.{AskError}
 use Rattle.stinger_server.specs.declared.words.Word.{Word}
 use Rattle.stinger_server.specs.Lines.{end_line}
-use Rattle.stinger_server.specs.States.{IsDone, IsOutcome, IsReplied, Outcome, Progress, State, after_record, answer_outcome, opening, printed, version, version_in}
+use Rattle.stinger_server.specs.States.{IsOutcome, IsReplied, Outcome, Progress, State, after_record, answer_outcome, opening, printed, version, version_in}
 use Rattle.stinger_server.specs.Texts.{IsRun, IsWhole}
 
 one_reply : (request : Request) (g : Graph) (a b : Reply) → IsReply request g a → IsReply request g b → a ≡ b

@@ -1,5 +1,5 @@
 -- What a run has written so far, and what it has written when it ends.
-use Rattle.std.proofs.Common.{◌≡◌, ℕ, ◌+◌, ◌<◌, ◌≤◌, List, [], ◌∷◌, ◌++◌, length, append_assoc, append-nil, arith, refl, sym, ◌∙◌, ap, subst, inl, inr, ◌⊎◌}
+use Rattle.std.proofs.Common.{◌≡◌, ℕ, ◌+◌, ◌<◌, List, [], ◌∷◌, ◌++◌, length, append_assoc, append-nil, arith, refl, sym, ◌∙◌, ap, subst, inl, inr}
 use Rattle.std.specs.Prelude.{true, false, Option, None, Some, Result, Ok, Err, IfErr, IfOk, IfSome, OnErr, OnOk, option_map}
 use Rattle.std.specs.Io.KnownBytes.{Appends}
 use Rattle.feed_csv.specs.Commands.{item_of}
@@ -13,9 +13,9 @@ use Rattle.stinger_server.specs.declared.script.ServeFault.TheVariants.{Read, Me
 use Rattle.stinger_server.specs.declared.script.Summary.{Summary}
 use Rattle.stinger_server.specs.declared.words.Word.TheVariants.{Feed}
 use Rattle.stinger_server.specs.Lines.{end_line, error_line}
-use Rattle.stinger_server.specs.Runs.{BreaksOff, IsReady, ShowsRun, Turns}
+use Rattle.stinger_server.specs.Runs.{BreaksOff, IsReady, ShowsRun, Starts, Turns}
 use Rattle.stinger_server.specs.States.{IsOutcome, Outcome, Progress, after_record, opening, printed}
-use Rattle.stinger_server.specs.Texts.{IsCut, IsRun, IsStart, IsText, IsWanted, IsWhole, summary_of}
+use Rattle.stinger_server.specs.Texts.{IsCut, IsRun, IsStart, IsText, IsWanted, IsWhole}
 use Rattle.stinger_server.specs.Writes.{AppendsPart, AppendsSome}
 use Rattle.stinger_server.proofs.Writing.{appends_nothing, appends_then, part_then}
 
@@ -138,7 +138,7 @@ pub stopped : (seats : ℕ) (rows : List Row) (feed feed' : Script) (run run' : 
     → AppendsSome before after (IsText seats rows (Err fault))
 stopped seats rows feed feed' run run' before now after Read reached turned = (
   reached.lines ++ error_line (run.records + 1) (Feed word.Read),
-  appends_then before now after reached.lines _ reached.written turned,
+  appends_then before now after reached.lines _ reached.written turned.1,
   cut_of seats rows feed.left run before now word.Read reached,
 )
 stopped seats rows feed feed' run run' before now after Memory reached turned = (
@@ -228,6 +228,7 @@ pub ready_more : (feed feed' : Script) (run run' : Run) (now after : Option (Lis
 ready_more feed feed' run run' now after ready turned = record {
   server = turned.2.server;
   reading = turned.1.reading;
+  works = turned.1.works ∙ ready.works;
   records = turned.2.records ∙ (ap (λ n. n + 1) ready.records ∙ sym turned.1.given);
   errors = omega (arith, turned.2.errors, turned.2.records, ready.errors);
 }
@@ -275,23 +276,26 @@ all_ended None feed feed' start run run' before now mid after result ready reach
 all_ended (Some rows) feed feed' start run run' before now mid after result ready reached turned whole counts part fault = λ seats shows.
     whole_or_part seats rows feed feed' run run' before now mid after result ready (reached seats shows) turned whole counts part fault
 
--- from the records that are left to the bytes
-pub from_bytes : (known : Option (List ℕ)) (left : Option (List Row)) (start : Run) (seats : ℕ) (before after : Option (List ℕ))
-    (result : Result Summary ServeFault) → left ≡ option_map records_of known → ShowsRun start (opening seats)
+-- from a run to the records that are left
+pub from_run : (left : Option (List Row)) (start : Run) (seats : ℕ) (before after : Option (List ℕ)) (result : Result Summary ServeFault)
+    → ShowsRun start (opening seats)
     → IfSome left (λ rows. (seats : ℕ) → ShowsRun start (opening seats) → AppendsSome before after (IsText seats rows result))
+    → IfSome left (λ rows. AppendsSome before after (IsText seats rows result))
+from_run None start seats before after result shows all = tt
+from_run (Some rows) start seats before after result shows all = all seats shows
+
+-- from the records that are left to the bytes
+pub from_bytes : (known : Option (List ℕ)) (left : Option (List Row)) (seats : ℕ) (before after : Option (List ℕ))
+    (result : Result Summary ServeFault) → left ≡ option_map records_of known
+    → IfSome left (λ rows. AppendsSome before after (IsText seats rows result))
     → IfSome known (λ bytes. AppendsSome before after (IsText seats (records_of bytes) result))
-from_bytes None left start seats before after result same shows all = tt
-from_bytes (Some bytes) left start seats before after result same shows all =
-    let Says : Option (List Row) → Type 0 = λ left. IfSome left (λ rows. (seats : ℕ) → ShowsRun start (opening seats) → AppendsSome before after (IsText seats rows result)) in
-    let known : Says (Some (records_of bytes)) = subst Says same all in
-    known seats shows
+from_bytes None left seats before after result same all = tt
+from_bytes (Some bytes) left seats before after result same all =
+    subst (λ left. IfSome left (λ rows. AppendsSome before after (IsText seats rows result))) same all
 
-pub never_started : (known : Option (List ℕ)) (seats : ℕ) (before after : Option (List ℕ)) → Appends before after (error_line 1 (Feed word.Memory))
-    → IfSome known (λ bytes. AppendsSome before after (IsText seats (records_of bytes) (Err Memory)))
-never_started None seats before after written = tt
-never_started (Some bytes) seats before after written = unstarted seats (records_of bytes) before after written
-
-pub never_told : (known : Option (List ℕ)) (seats : ℕ) (before after : Option (List ℕ)) → AppendsPart before after (error_line 1 (Feed word.Memory))
-    → IfSome known (λ bytes. AppendsSome before after (IsText seats (records_of bytes) (Err Write)))
-never_told None seats before after part = tt
-never_told (Some bytes) seats before after part = unstarted_part seats (records_of bytes) before after part
+pub never_started : (left : Option (List Row)) (seats : ℕ) (before after : Option (List ℕ)) (fault : ServeFault) → Starts seats before (Err fault) after
+    → IfSome left (λ rows. AppendsSome before after (IsText seats rows (Err fault)))
+never_started None seats before after fault ends = tt
+never_started (Some rows) seats before after Read ends = absurd ends
+never_started (Some rows) seats before after Memory ends = unstarted seats rows before after ends
+never_started (Some rows) seats before after Write ends = unstarted_part seats rows before after ends

@@ -1,14 +1,13 @@
 -- The lines of a reply, from what the reply says.
-use Rattle.std.proofs.Common.{◌≡◌, ◌≢◌, ℕ, ◌+◌, ◌<◌, ◌≤◌, zero, suc, List, [], ◌∷◌, length, map, sum_by, count_by, arith, refl, sym, ◌∙◌, ap, inl, inr}
-use Rattle.std.specs.Prelude.{Option, None, Some, Result, Ok, Err, ◌⊎◌, slice_get}
-use Rattle.std.specs.List.{range_with_len, zip}
+use Rattle.std.proofs.Common.{◌≡◌, ◌≢◌, ℕ, ◌≤◌, List, [], ◌∷◌, length, sum_by, count_by, arith, refl, ◌∙◌, ap, inl, inr}
+use Rattle.std.specs.Prelude.{Result, Ok, Err, ◌⊎◌, slice_get}
+use Rattle.std.specs.List.{zip}
 use Rattle.std.specs.FinMap.{entries}
-use Rattle.graph_model.specs.Answer.{IsAnswer, IsReply, resolved, degree_at, degree_table}
+use Rattle.graph_model.specs.Answer.{IsAnswer, IsReply, resolved, degree_table}
 use Rattle.graph_model.specs.Graph.{Graph, IsContent, graph_of}
 use Rattle.graph_model.specs.View.{in_view}
 use Rattle.graph_model.specs.declared.contents.Content.{Content}
 use Rattle.graph_model.specs.declared.ids.Degree.{Degree}
-use Rattle.graph_model.specs.declared.ids.Filter.{Filter}
 use Rattle.graph_model.specs.declared.requests.Request.{Request}
 use Rattle.graph_model.specs.declared.requests.Request.TheVariants as request
 use Rattle.graph_model.specs.declared.requests.Reply.{Reply}

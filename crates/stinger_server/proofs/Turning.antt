@@ -1,8 +1,7 @@
 -- A turn, from what the calls below it say.
-use Rattle.std.proofs.Common.{◌≡◌, ℕ, ◌+◌, ◌<◌, ◌≤◌, List, [], ◌∷◌, ◌++◌, string_bytes, arith, refl, sym, ◌∙◌, ap, subst, inl, inr}
-use Rattle.std.specs.Prelude.{Option, None, Some, Result, Ok, Err}
+use Rattle.std.proofs.Common.{◌≡◌, ℕ, ◌+◌, ◌≤◌, List, string_bytes, arith, refl, ◌∙◌, ap, inl, inr}
+use Rattle.std.specs.Prelude.{Option, Result, Ok, Err}
 use Rattle.std.specs.Io.KnownBytes.{Appends}
-use Rattle.feed_csv.specs.Commands.{item_of}
 use Rattle.feed_csv.specs.Script.{FaultStep, RefusesRow, Script}
 use Rattle.feed_csv.specs.declared.command.Command.{Command}
 use Rattle.feed_csv.specs.declared.command.FeedWord.{FeedWord}
@@ -10,12 +9,11 @@ use Rattle.feed_csv.specs.declared.command.FeedWord.TheVariants.{Read, BadComman
 use Rattle.stinger_server.specs.declared.script.Run.{Run}
 use Rattle.stinger_server.specs.declared.server.Response.{Response}
 use Rattle.stinger_server.specs.declared.server.Response.TheVariants.{Lines, Refused}
-use Rattle.stinger_server.specs.declared.server.Server.{Server}
 use Rattle.stinger_server.specs.declared.words.Word.TheVariants.{Feed}
 use Rattle.stinger_server.specs.Lines.{error_line}
-use Rattle.stinger_server.specs.Runs.{BreaksOff, CountsRecord, Done, ShowsRun, refusals}
-use Rattle.stinger_server.specs.Servers.{IsServer, Obeys, Shows, outcome_of}
-use Rattle.stinger_server.specs.States.{Progress, State, error_count, printed}
+use Rattle.stinger_server.specs.Runs.{BreaksOff, CountsRecord, Done, refusals}
+use Rattle.stinger_server.specs.Servers.{IsServer, Obeys, outcome_of}
+use Rattle.stinger_server.specs.States.{error_count, printed}
 use Rattle.stinger_server.specs.Writes.{AppendsPart}
 
 -- a word of the feed that ends nothing refuses a record

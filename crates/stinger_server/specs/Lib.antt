@@ -5,4 +5,5 @@ pub mod Texts
 pub mod Writes
 pub mod Servers
 pub mod Runs
+pub mod Program
 pub mod Laws

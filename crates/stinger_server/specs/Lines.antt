@@ -1,5 +1,5 @@
 -- The lines that a run prints. Each ends with one line feed, and numbers are plain decimals.
-use Rattle.std.specs.Prelude.{ℕ, ◌+◌, ℤ, Bool, true, false, codes, decimal, zero, suc, List, [], ◌∷◌, ◌++◌, length, count_by, Option, None, Some}
+use Rattle.std.specs.Prelude.{ℕ, ℤ, Bool, true, false, codes, decimal, zero, suc, List, [], ◌++◌, count_by, Option, None, Some}
 use Rattle.std.specs.Fmt.{signed_decimal}
 use Rattle.std.specs.List.{flat_map}
 use Rattle.graph_model.specs.declared.ids.Degree.{Degree}

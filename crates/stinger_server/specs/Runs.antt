@@ -1,28 +1,36 @@
 -- One turn of a run: from the record that the feed gives to what is written of it.
-use Rattle.std.specs.Prelude.{◌≡◌, ◌≤◌, ◌⊎◌, ℕ, ◌+◌, Bool, true, false, List, [], Option, Some, None, Result, Ok, Err}
+use Rattle.std.specs.Prelude.{◌≡◌, ◌≤◌, ◌⊎◌, ℕ, ◌+◌, Bool, true, false, List, [], Option, Result, Ok, Err}
 use Rattle.std.specs.Io.KnownBytes.{Appends}
 use Rattle.feed_csv.specs.Commands.{item_of}
-use Rattle.feed_csv.specs.Records.{Row}
+use Rattle.feed_csv.specs.Records.{Row, record_limit}
 use Rattle.feed_csv.specs.Script.{MeetsEnd, Script, TakesRow}
 use Rattle.feed_csv.specs.declared.command.Command.{Command}
 use Rattle.feed_csv.specs.declared.command.FeedWord.{FeedWord}
 use Rattle.feed_csv.specs.declared.command.FeedWord.TheVariants as word
-use Rattle.feed_csv.specs.declared.phase.Phase.TheVariants.{Reading}
+use Rattle.feed_csv.specs.declared.phase.Phase.TheVariants.{Ended, Reading, Stopped}
 use Rattle.stinger_server.specs.declared.script.Run.{Run}
 use Rattle.stinger_server.specs.declared.script.ServeFault.{ServeFault}
 use Rattle.stinger_server.specs.declared.script.ServeFault.TheVariants.{Read, Memory, Write}
+use Rattle.stinger_server.specs.declared.script.Summary.{Summary}
 use Rattle.stinger_server.specs.declared.server.Response.{Response}
 use Rattle.stinger_server.specs.declared.server.Response.TheVariants.{Lines, Refused}
 use Rattle.stinger_server.specs.declared.words.Word.TheVariants.{Feed}
 use Rattle.stinger_server.specs.Lines.{error_line}
 use Rattle.stinger_server.specs.Servers.{IsServer, Shows}
-use Rattle.stinger_server.specs.States.{IsOutcome, Outcome, Progress, after_record, printed}
+use Rattle.stinger_server.specs.States.{IsOutcome, Outcome, Progress, after_record, opening, printed}
 use Rattle.stinger_server.specs.Writes.{AppendsPart}
+
+-- a feed that gave nothing yet
+pub record IsFresh (feed : Script) : Type 0 where
+  pub reading : feed.phase ≡ Reading
+  pub works : feed.failed ≡ false
+  pub given : feed.given ≡ 0
 
 -- a run that may take the next record: as many records as the feed gave, and no more error lines
 pub record IsReady (feed : Script) (run : Run) : Type 0 where
   pub server : IsServer run.server
   pub reading : feed.phase ≡ Reading
+  pub works : feed.failed ≡ false
   pub records : run.records ≡ feed.given
   pub errors : run.errors ≤ run.records
 
@@ -31,6 +39,14 @@ pub record ShowsRun (run : Run) (here : Progress) : Type 0 where
   pub server : Shows run.server here.state
   pub records : run.records ≡ here.records
   pub errors : run.errors ≡ here.errors
+
+-- nothing is counted, and nothing is written; or there is no memory for a first record
+abbrev pub Starts : ℕ → Option (List ℕ) → Result Run ServeFault → Option (List ℕ) → Type 0
+Starts seats before (Ok run) after =
+    IsServer run.server × (run.records ≡ 0) × (run.errors ≡ 0) × ShowsRun run (opening seats) × (after ≡ before)
+Starts seats before (Err Read) after = ⊥
+Starts seats before (Err Memory) after = Appends before after (error_line 1 (Feed word.Memory))
+Starts seats before (Err Write) after = AppendsPart before after (error_line 1 (Feed word.Memory))
 
 abbrev pub refusals : Response → ℕ
 refusals Lines = 0
@@ -64,13 +80,35 @@ Does item old before (Err Read) new after = ⊥
 Does item old before (Err Memory) new after = Appends before after (error_line (old.records + 1) (Feed word.Memory))
 Does item old before (Err Write) new after = BreaksOff item old before after
 
+-- the feed stopped, since csv's reader failed or the limit was reached
+abbrev pub HasReadFault : Script → Type 0
+HasReadFault feed = (feed.phase ≡ Stopped) × ((feed.failed ≡ true) ⊎ (feed.given ≡ record_limit))
+
 -- a turn: the next record was done; or there is none; or a fault ended the run
 abbrev pub Turns : Script → Run → Option (List ℕ) → Result Bool ServeFault → Script → Run → Option (List ℕ) → Type 0
 Turns feed run before (Ok true) feed' run' after = (row : Row) × TakesRow feed row feed' × Done (item_of row) run before run' after
 Turns feed run before (Ok false) feed' run' after = MeetsEnd feed feed' × (run' ≡ run) × Appends before after []
-Turns feed run before (Err Read) feed' run' after = Appends before after (error_line (run.records + 1) (Feed word.Read))
+Turns feed run before (Err Read) feed' run' after =
+    HasReadFault feed' × Appends before after (error_line (run.records + 1) (Feed word.Read))
 Turns feed run before (Err Memory) feed' run' after = Appends before after (error_line (run.records + 1) (Feed word.Memory))
 Turns feed run before (Err Write) feed' run' after =
     ((row : Row) × TakesRow feed row feed' × BreaksOff (item_of row) run before after)
     ⊎ (AppendsPart before after (error_line (run.records + 1) (Feed word.Read))
     ⊎ AppendsPart before after (error_line (run.records + 1) (Feed word.Memory)))
+
+-- whether the writer ended a run
+abbrev pub is_write : {T : Type 0} → Result T ServeFault → Bool
+is_write (Ok x) = false
+is_write (Err Read) = false
+is_write (Err Memory) = false
+is_write (Err Write) = true
+
+-- Why a run ends as it does, by what its feed came to and whether a call of the writer failed: at Ok the feed met the end of
+-- the input, and csv's reader never failed; Read is told of the feed's fault alone, and Write of the writer's. Nothing can be
+-- said of memory, except that it is no other fault.
+abbrev pub HasCause : Script → Bool → Result Summary ServeFault → Type 0
+HasCause feed failed (Ok summary) =
+    (feed.phase ≡ Ended) × (feed.failed ≡ false) × (summary.records ≡ feed.given) × (failed ≡ false)
+HasCause feed failed (Err Read) = HasReadFault feed × (failed ≡ false)
+HasCause feed failed (Err Memory) = failed ≡ false
+HasCause feed failed (Err Write) = failed ≡ true

@@ -1,5 +1,5 @@
 -- A server's fields, and the states that they show.
-use Rattle.std.specs.Prelude.{◌≡◌, ℕ, ◌<◌, ◌≤◌, List, [], ◌∷◌, All, length, map, sum_by, Option, None, Some, Result, Ok, Err}
+use Rattle.std.specs.Prelude.{◌≡◌, ℕ, ◌<◌, ◌≤◌, List, [], ◌∷◌, All, length, map, sum_by, Option, None, Some, Ok, Err}
 use Rattle.graph_model.specs.Graph.{Graph, IsContent, graph_of}
 use Rattle.graph_model.specs.Step.{after_all, empty_graph}
 use Rattle.graph_model.specs.declared.batches.NamedOp.{NamedOp}

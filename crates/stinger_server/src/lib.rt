@@ -9,6 +9,7 @@ mod output;
 mod program;
 mod script;
 mod server;
+mod sink;
 mod words;
 
 pub use config::{BadConfig, Config};

@@ -1,67 +1,83 @@
-//! What goes to the writer.
+//! Texts to the writer. A call here gives up exactly where the sink has failed, and then the sink takes no other.
 
-ghost use Rattle.std.specs.Prelude.{◌≡◌, OnOk, OnErr};
-ghost use Rattle.std.specs.Io.KnownBytes.{Appends, Keeps};
+ghost use Rattle.std.specs.Prelude.{◌≡◌, false, is_err, OnOk, OnErr};
+ghost use Rattle.std.specs.Io.KnownBytes.{Appends};
 ghost use Rattle.stinger_server.specs.Lines.{end_line, error_line};
-ghost use Rattle.stinger_server.specs.Writes.{AppendsPart};
+ghost use Rattle.stinger_server.specs.Writes.{AppendsPart, held};
 
+use crate::sink::{Sink, Unwritten};
 use crate::words::Word;
+use feed_csv::FeedWord;
 use itoa::Buffer;
 use std::io::Write;
 
 // Writes a text, by as many writes as it takes. No memory is taken here or below.
-pub(crate) fn put<W: Write>(writer: &mut W, text: &str) -> Result<(), Unwritten>
-    ensures whole { OnOk result (Appends (W.contents writer.old) (W.contents writer.new) text.now) }
-    ensures part { OnErr result (AppendsPart (W.contents writer.old) (W.contents writer.new) text.now) }
+pub(crate) fn put<W: Write>(sink: &mut Sink<'_, W>, text: &str) -> Result<(), Unwritten>
+    requires working { sink.old.failed ≡ false }
+    ensures same_writer { sink.new.writer.ghost_name ≡ sink.old.writer.ghost_name }
+    ensures failed { sink.new.failed ≡ is_err result }
+    ensures whole { OnOk result (Appends (held W.contents sink.old) (held W.contents sink.new) text.now) }
+    ensures part { OnErr result (AppendsPart (held W.contents sink.old) (held W.contents sink.new) text.now) }
 {
     let bytes = text.as_bytes();
     let mut at = 0;
     while at < bytes.len() {
-        match writer.write(&bytes[at..]) {
-            Ok(0) => return Err(Unwritten),
-            Ok(n) => at += n,
-            Err(_) => return Err(Unwritten),
-        }
+        at += sink.write(&bytes[at..])?;
     }
     Ok(())
 }
 
-pub(crate) fn flush<W: Write>(writer: &mut W) -> Result<(), Unwritten>
-    ensures { Keeps (W.contents writer.old) (W.contents writer.new) }
-{
-    match writer.flush() {
-        Ok(()) => Ok(()),
-        Err(_) => Err(Unwritten),
-    }
-}
-
-pub(crate) fn error_line<W: Write>(writer: &mut W, number: u64, word: Word) -> Result<(), Unwritten>
-    ensures whole { OnOk result (Appends (W.contents writer.old) (W.contents writer.new) (error_line number word)) }
-    ensures part { OnErr result (AppendsPart (W.contents writer.old) (W.contents writer.new) (error_line number word)) }
+pub(crate) fn error_line<W: Write>(
+    sink: &mut Sink<'_, W>,
+    number: u64,
+    word: Word,
+) -> Result<(), Unwritten>
+    requires working { sink.old.failed ≡ false }
+    ensures same_writer { sink.new.writer.ghost_name ≡ sink.old.writer.ghost_name }
+    ensures failed { sink.new.failed ≡ is_err result }
+    ensures whole { OnOk result (Appends (held W.contents sink.old) (held W.contents sink.new) (error_line number word)) }
+    ensures part { OnErr result (AppendsPart (held W.contents sink.old) (held W.contents sink.new) (error_line number word)) }
 {
     let mut digits = Buffer::new();
-    put(writer, "error ")?;
-    put(writer, digits.format(number))?;
-    put(writer, " ")?;
-    put(writer, word.text())?;
-    put(writer, "\n")?;
+    put(sink, "error ")?;
+    put(sink, digits.format(number))?;
+    put(sink, " ")?;
+    put(sink, word.text())?;
+    put(sink, "\n")?;
     Ok(())
 }
 
-pub(crate) fn end_line<W: Write>(writer: &mut W, pending: usize) -> Result<(), Unwritten>
-    ensures whole { OnOk result (Appends (W.contents writer.old) (W.contents writer.new) (end_line pending)) }
-    ensures part { OnErr result (AppendsPart (W.contents writer.old) (W.contents writer.new) (end_line pending)) }
+pub(crate) fn end_line<W: Write>(sink: &mut Sink<'_, W>, pending: usize) -> Result<(), Unwritten>
+    requires working { sink.old.failed ≡ false }
+    ensures same_writer { sink.new.writer.ghost_name ≡ sink.old.writer.ghost_name }
+    ensures failed { sink.new.failed ≡ is_err result }
+    ensures whole { OnOk result (Appends (held W.contents sink.old) (held W.contents sink.new) (end_line pending)) }
+    ensures part { OnErr result (AppendsPart (held W.contents sink.old) (held W.contents sink.new) (end_line pending)) }
 {
     if pending == 0 {
         return Ok(());
     }
     let mut digits = Buffer::new();
-    put(writer, "end pending=")?;
-    put(writer, digits.format(pending))?;
-    put(writer, "\n")?;
+    put(sink, "end pending=")?;
+    put(sink, digits.format(pending))?;
+    put(sink, "\n")?;
     Ok(())
 }
 
-// A write failed or took nothing, or a flush failed.
-#[derive(Clone, Copy, Debug, PartialEq, Eq)]
-pub(crate) struct Unwritten;
+// Writes the error line that ends a run.
+pub(crate) fn last_line<W: Write>(
+    sink: &mut Sink<'_, W>,
+    number: u64,
+    word: FeedWord,
+) -> Result<(), Unwritten>
+    requires working { sink.old.failed ≡ false }
+    ensures same_writer { sink.new.writer.ghost_name ≡ sink.old.writer.ghost_name }
+    ensures failed { sink.new.failed ≡ is_err result }
+    ensures whole { OnOk result (Appends (held W.contents sink.old) (held W.contents sink.new)
+        (error_line number (Word.Feed word))) }
+    ensures part { OnErr result (AppendsPart (held W.contents sink.old) (held W.contents sink.new)
+        (error_line number (Word.Feed word))) }
+{
+    error_line(sink, number, Word::Feed(word))?;
+    sink.flush()
+}

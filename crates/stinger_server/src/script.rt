@@ -1,17 +1,17 @@
 //! A script from bytes to bytes.
 
-ghost use Rattle.std.specs.Prelude.{◌≡◌, ℕ, ◌+◌, ◌<◌, ◌≤◌, length, string_bytes, Ok, IfOk, IfErr, IfSome, OnOk, OnErr};
+ghost use Rattle.std.specs.Prelude.{◌≡◌, ℕ, ◌+◌, ◌<◌, ◌≤◌, false, is_err, length, string_bytes, Ok, IfOk, IfErr, IfSome, OnOk, OnErr};
 ghost use Rattle.std.specs.Io.KnownBytes.{Appends};
 ghost use Rattle.feed_csv.specs.Records.{record_limit, records_of};
-ghost use Rattle.stinger_server.specs.Lines.{end_line, error_line};
+ghost use Rattle.stinger_server.specs.Lines.{end_line};
 ghost use Rattle.stinger_server.specs.States.{opening, printed};
 ghost use Rattle.stinger_server.specs.Servers.{IsServer, outcome_of};
 ghost use Rattle.stinger_server.specs.Texts.{IsText};
-ghost use Rattle.stinger_server.specs.Runs.{CountsRecord, Does, IsReady, ShowsRun, Turns};
-ghost use Rattle.stinger_server.specs.Writes.{AppendsPart, AppendsSome};
+ghost use Rattle.stinger_server.specs.Runs.{CountsRecord, Does, HasCause, IsFresh, IsReady, ShowsRun, Starts, Turns, is_write};
+ghost use Rattle.stinger_server.specs.Writes.{AppendsPart, AppendsSome, held};
 
-use crate::output::Unwritten;
 use crate::server::{Response, Server};
+use crate::sink::{Sink, Unwritten};
 use crate::words::Word;
 use crate::{Config, output};
 use feed_csv::{Command, Feed, FeedWord};
@@ -57,8 +57,8 @@ struct Run {
 /// A record's lines are built whole before a byte of them is written. `Read` where the reader fails or
 /// 1,000,000 records were read, and `Memory` where a growth was refused, each after an error line with the
 /// number of the record that was not done; `Write` where a write failed or took nothing, or the flush at the end
-/// failed, after which nothing more is written. Which of these ends comes is told by the reader, the memory and
-/// the writer, so no clause says when.
+/// failed, after which nothing more is written. No clause here says when each of these ends comes, since a reader
+/// and a writer have no word for a call that failed; `HasCause` in `specs/Runs.antt` says it of the run itself.
 pub fn serve<A: AllocGlobal, R: Read + Drop, W: Write>(
     rt: &A,
     config: Config,
@@ -69,12 +69,43 @@ pub fn serve<A: AllocGlobal, R: Read + Drop, W: Write>(
         AppendsSome (W.contents writer.old) (W.contents writer.new) (IsText config.seats (records_of bytes) result)) }
 {
     let mut feed = Feed::over(rt.alloc(), reader);
-    match Run::new(rt.alloc(), config.seats) {
-        Ok(mut run) => turn_all(&mut feed, &mut run, writer),
-        Err(_) => match last_line(writer, 1, FeedWord::Memory) {
-            Ok(()) => Err(ServeFault::Memory),
-            Err(_) => Err(ServeFault::Write),
-        },
+    let mut sink = Sink::over(writer);
+    run_script(rt.alloc(), config.seats, &mut feed, &mut sink)
+}
+
+// A run from the first record on, over a feed that gave nothing yet and a sink that hasn't failed.
+fn run_script<R: Read, W: Write>(
+    alloc: Global,
+    seats: u8,
+    feed: &mut Feed<R>,
+    sink: &mut Sink<'_, W>,
+) -> Result<Summary, ServeFault>
+    requires feed { IsFresh feed.old }
+    requires sink { sink.old.failed ≡ false }
+    ensures same_writer { sink.new.writer.ghost_name ≡ sink.old.writer.ghost_name }
+    ensures cause { HasCause feed.new sink.new.failed result }
+    ensures text { IfSome feed.old.left (λ rows.
+        AppendsSome (held W.contents sink.old) (held W.contents sink.new) (IsText seats rows result)) }
+{
+    match start(alloc, seats, sink) {
+        Ok(mut run) => turn_all(feed, &mut run, sink),
+        Err(fault) => Err(fault),
+    }
+}
+
+// A run before its first record; or the end of one for which there is no memory.
+fn start<W: Write>(alloc: Global, seats: u8, sink: &mut Sink<'_, W>) -> Result<Run, ServeFault>
+    requires working { sink.old.failed ≡ false }
+    ensures same_writer { sink.new.writer.ghost_name ≡ sink.old.writer.ghost_name }
+    ensures failed { sink.new.failed ≡ is_write result }
+    ensures starts { Starts seats (held W.contents sink.old) result (held W.contents sink.new) }
+{
+    match Run::new(alloc, seats) {
+        Ok(run) => Ok(run),
+        Err(_) => {
+            output::last_line(sink, 1, FeedWord::Memory)?;
+            Err(ServeFault::Memory)
+        }
     }
 }
 
@@ -93,38 +124,48 @@ impl Run {
     }
 
     // Does a command, and writes what it came to. The lines are built before a byte of them is written.
-    fn obey<W: Write>(&mut self, command: Command, writer: &mut W) -> Result<(), ServeFault>
+    fn obey<W: Write>(&mut self, command: Command, sink: &mut Sink<'_, W>) -> Result<(), ServeFault>
         requires server { IsServer self.old.server }
         requires room { self.old.records < record_limit }
         requires errors { self.old.errors ≤ self.old.records }
-        ensures { Does (Ok command) self.old (W.contents writer.old) result self.new (W.contents writer.new) }
+        requires working { sink.old.failed ≡ false }
+        ensures same_writer { sink.new.writer.ghost_name ≡ sink.old.writer.ghost_name }
+        ensures failed { sink.new.failed ≡ is_write result }
+        ensures does { Does (Ok command) self.old (held W.contents sink.old) result self.new (held W.contents sink.new) }
     {
         match self.server.obey(command, &mut self.lines) {
-            Ok(response) => match self.print(response, writer) {
+            Ok(response) => match self.print(response, sink) {
                 Ok(()) => Ok(()),
                 Err(_) => Err(ServeFault::Write),
             },
             Err(_) => {
-                last_line(writer, self.records + 1, FeedWord::Memory)?;
+                output::last_line(sink, self.records + 1, FeedWord::Memory)?;
                 Err(ServeFault::Memory)
             }
         }
     }
 
     // Writes what a record came to, and counts it.
-    fn print<W: Write>(&mut self, response: Response, writer: &mut W) -> Result<(), Unwritten>
+    fn print<W: Write>(
+        &mut self,
+        response: Response,
+        sink: &mut Sink<'_, W>,
+    ) -> Result<(), Unwritten>
         requires room { self.old.records < record_limit }
         requires errors { self.old.errors ≤ self.old.records }
-        ensures whole { OnOk result (Appends (W.contents writer.old) (W.contents writer.new)
+        requires working { sink.old.failed ≡ false }
+        ensures same_writer { sink.new.writer.ghost_name ≡ sink.old.writer.ghost_name }
+        ensures failed { sink.new.failed ≡ is_err result }
+        ensures whole { OnOk result (Appends (held W.contents sink.old) (held W.contents sink.new)
             (printed (self.old.records + 1) (outcome_of response (string_bytes self.old.lines)))) }
-        ensures part { OnErr result (AppendsPart (W.contents writer.old) (W.contents writer.new)
+        ensures part { OnErr result (AppendsPart (held W.contents sink.old) (held W.contents sink.new)
             (printed (self.old.records + 1) (outcome_of response (string_bytes self.old.lines)))) }
         ensures counted { OnOk result (CountsRecord self.old response self.new) }
     {
         match response {
-            Response::Lines => output::put(writer, self.lines.as_str())?,
+            Response::Lines => output::put(sink, self.lines.as_str())?,
             Response::Refused(word) => {
-                output::error_line(writer, self.records + 1, word)?;
+                output::error_line(sink, self.records + 1, word)?;
                 self.errors += 1;
             }
         }
@@ -133,15 +174,24 @@ impl Run {
     }
 
     // Writes the line on pending operations, and counts them.
-    fn finish<W: Write>(&self, writer: &mut W) -> Result<Summary, ServeFault>
-        ensures whole { OnOk result (Appends (W.contents writer.old) (W.contents writer.new) (end_line (length self.now.server.pending))) }
-        ensures summary { IfOk result (λ summary. summary ≡ record { records = self.now.records; errors = self.now.errors; pending = length self.now.server.pending }) }
-        ensures part { OnErr result (AppendsPart (W.contents writer.old) (W.contents writer.new) (end_line (length self.now.server.pending))) }
+    fn finish<W: Write>(&self, sink: &mut Sink<'_, W>) -> Result<Summary, ServeFault>
+        requires working { sink.old.failed ≡ false }
+        ensures same_writer { sink.new.writer.ghost_name ≡ sink.old.writer.ghost_name }
+        ensures failed { sink.new.failed ≡ is_err result }
+        ensures whole { OnOk result (Appends (held W.contents sink.old) (held W.contents sink.new)
+            (end_line (length self.now.server.pending))) }
+        ensures summary { IfOk result (λ summary. summary ≡ record {
+          records = self.now.records;
+          errors = self.now.errors;
+          pending = length self.now.server.pending;
+        }) }
+        ensures part { OnErr result (AppendsPart (held W.contents sink.old) (held W.contents sink.new)
+            (end_line (length self.now.server.pending))) }
         ensures fault { IfErr result (λ fault. fault ≡ ServeFault.Write) }
     {
         let pending = self.server.pending();
-        output::end_line(writer, pending)?;
-        output::flush(writer)?;
+        output::end_line(sink, pending)?;
+        sink.flush()?;
         Ok(Summary {
             records: self.records,
             errors: self.errors,
@@ -154,16 +204,19 @@ impl Run {
 fn turn_all<R: Read, W: Write>(
     feed: &mut Feed<R>,
     run: &mut Run,
-    writer: &mut W,
+    sink: &mut Sink<'_, W>,
 ) -> Result<Summary, ServeFault>
-    requires { IsReady feed.old run.old }
-    ensures { IfSome feed.old.left (λ rows. (seats : ℕ) → ShowsRun run.old (opening seats)
-        → AppendsSome (W.contents writer.old) (W.contents writer.new) (IsText seats rows result)) }
+    requires ready { IsReady feed.old run.old }
+    requires working { sink.old.failed ≡ false }
+    ensures same_writer { sink.new.writer.ghost_name ≡ sink.old.writer.ghost_name }
+    ensures cause { HasCause feed.new sink.new.failed result }
+    ensures text { IfSome feed.old.left (λ rows. (seats : ℕ) → ShowsRun run.old (opening seats)
+        → AppendsSome (held W.contents sink.old) (held W.contents sink.new) (IsText seats rows result)) }
 {
     'records: loop {
-        match turn(feed, run, writer) {
+        match turn(feed, run, sink) {
             Ok(true) => {}
-            Ok(false) => return run.finish(writer),
+            Ok(false) => return run.finish(sink),
             Err(fault) => return Err(fault),
         }
     }
@@ -173,41 +226,35 @@ fn turn_all<R: Read, W: Write>(
 fn turn<R: Read, W: Write>(
     feed: &mut Feed<R>,
     run: &mut Run,
-    writer: &mut W,
+    sink: &mut Sink<'_, W>,
 ) -> Result<bool, ServeFault>
-    requires { IsReady feed.old run.old }
-    ensures { Turns feed.old run.old (W.contents writer.old) result feed.new run.new (W.contents writer.new) }
+    requires ready { IsReady feed.old run.old }
+    requires working { sink.old.failed ≡ false }
+    ensures same_writer { sink.new.writer.ghost_name ≡ sink.old.writer.ghost_name }
+    ensures failed { sink.new.failed ≡ is_write result }
+    ensures turns { Turns feed.old run.old (held W.contents sink.old) result feed.new run.new (held W.contents sink.new) }
 {
     match feed.next() {
         Ok(Some(command)) => {
-            run.obey(command, writer)?;
+            run.obey(command, sink)?;
             Ok(true)
         }
         Ok(None) => Ok(false),
         Err(fault) => match fault.word {
             FeedWord::Read => {
-                last_line(writer, fault.at, FeedWord::Read)?;
+                output::last_line(sink, fault.at, FeedWord::Read)?;
                 Err(ServeFault::Read)
             }
             FeedWord::Memory => {
-                last_line(writer, fault.at, FeedWord::Memory)?;
+                output::last_line(sink, fault.at, FeedWord::Memory)?;
                 Err(ServeFault::Memory)
             }
-            word => match run.print(Response::Refused(Word::Feed(word)), writer) {
+            word => match run.print(Response::Refused(Word::Feed(word)), sink) {
                 Ok(()) => Ok(true),
                 Err(_) => Err(ServeFault::Write),
             },
         },
     }
-}
-
-// Writes the error line that ends a run.
-fn last_line<W: Write>(writer: &mut W, number: u64, word: FeedWord) -> Result<(), Unwritten>
-    ensures whole { OnOk result (Appends (W.contents writer.old) (W.contents writer.new) (error_line number (Word.Feed word))) }
-    ensures part { OnErr result (AppendsPart (W.contents writer.old) (W.contents writer.new) (error_line number (Word.Feed word))) }
-{
-    output::error_line(writer, number, Word::Feed(word))?;
-    output::flush(writer)
 }
 
 impl From<Unwritten> for ServeFault {

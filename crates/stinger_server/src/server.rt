@@ -1,6 +1,6 @@
 //! The state of a run, and what a command does to it.
 
-ghost use Rattle.std.specs.Prelude.{◌≡◌, ◌≢◌, ◌<◌, [], length, replicate, slice_get, string_bytes, ◌++◌, IfOk, OnOk, None};
+ghost use Rattle.std.specs.Prelude.{◌≡◌, ◌≢◌, ◌+◌, ◌<◌, [], length, replicate, slice_get, string_bytes, ◌++◌, IfOk, OnOk, None};
 ghost use Rattle.graph_model.specs.Valid.{push_refusal};
 ghost use Rattle.stinger_server.specs.Servers.{HasFewEntries, IsServer, Obeys, Shows, shown_lines};
 ghost use Rattle.stinger_server.specs.States as states;
@@ -125,7 +125,7 @@ impl Server {
     {
         match self.held_version(slot) {
             Err(Word::NotOpen) => {
-                let version = self.contents.len() - 1;
+                let version = self.last_version();
                 lines::open(lines, slot, version)?;
                 self.held[usize::from(slot)] = Some(version);
                 Ok(Response::Lines)
@@ -133,6 +133,14 @@ impl Server {
             Err(word) => Ok(Response::Refused(word)),
             Ok(_) => Ok(Response::Refused(Word::AlreadyOpen)),
         }
+    }
+
+    // The number of the last version.
+    fn last_version(&self) -> usize
+        requires { IsServer self.now }
+        ensures { result + 1 ≡ length self.now.contents.items }
+    {
+        self.contents.len() - 1
     }
 
     fn close(&mut self, slot: u8, lines: &mut String) -> Result<Response, AllocError>

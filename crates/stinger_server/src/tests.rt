@@ -1,5 +1,6 @@
 // Expected lines were worked out by hand from the rules.
 
+use crate::program::law_words;
 use crate::{Config, ServeFault, Summary, serve, stinger};
 use std::io;
 use std::io::{ErrorKind, Read, Write};
@@ -256,46 +257,179 @@ fn takes_seats_within_the_limits(rt: HostRuntime) {
     );
 }
 
-fn explains(rt: &(impl Abort + AllocGlobal), words: &[&str]) {
+// The program at the words, over a script of one bad record, ends with the status: these are the beginnings of what
+// stands on its output and on its faults, and where there is none, nothing stands there.
+fn tells(rt: &(impl Abort + AllocGlobal), words: &[&str], status: u8, text: &str, complaint: &str) {
     let mut output = Vec::new(rt.alloc());
     let mut faults = Vec::new(rt.alloc());
-    let status = stinger(rt, words, b"hello\n".as_slice(), &mut output, &mut faults);
-    assert_eq!(rt; status, 0);
-    assert!(rt; faults.is_empty());
-    assert!(rt; output.len() > 500);
+    let end = stinger(rt, words, b"hello\n".as_slice(), &mut output, &mut faults);
+    assert_eq!(rt; end, status, "{text}{complaint}");
+    assert!(rt; begins(output.as_slice(), text), "{text}{complaint}");
+    assert!(rt; begins(faults.as_slice(), complaint), "{text}{complaint}");
 }
+
+// The bytes begin with the text, and are none where it is empty.
+fn begins(bytes: &[u8], text: &str) -> bool {
+    match after(bytes, text) {
+        Some(rest) => !text.is_empty() || rest.is_empty(),
+        None => false,
+    }
+}
+
+const HELP: &str = "\
+A store of a directed graph that changes by batches, with held snapshots (STINGER, HPEC 2012).
+
+Usage: stinger <COMMAND>
+
+Commands:
+  run  Reads a script on standard input, and writes its lines on standard output
+
+Options:
+  -h, --help  Print help
+
+A script is comma-separated records (RFC 4180), one a line, without a header.";
+
+const RUN_HELP: &str = "\
+Reads a script on standard input, and writes its lines on standard output
+
+Usage: stinger run < script
+
+Options:
+  -h, --help  Print help
+
+A script is comma-separated records (RFC 4180), one a line, without a header.";
 
 #[test]
 fn explains_itself(rt: HostRuntime) {
-    explains(&rt, &["--help"]);
-    explains(&rt, &["-h"]);
-    explains(&rt, &["help"]);
-    explains(&rt, &["run", "--help"]);
+    law_words();
+    tells(&rt, &["--help"], 0, HELP, "");
+    tells(&rt, &["-h"], 0, HELP, "");
+    tells(&rt, &["help"], 0, HELP, "");
+    tells(&rt, &["help", "run"], 0, HELP, "");
+    tells(&rt, &["run", "--help"], 0, RUN_HELP, "");
+    tells(&rt, &["run", "-h"], 0, RUN_HELP, "");
 }
 
-fn refuses(rt: &(impl Abort + AllocGlobal), words: &[&str]) {
-    let mut output = Vec::new(rt.alloc());
-    let mut faults = Vec::new(rt.alloc());
-    let status = stinger(rt, words, b"hello\n".as_slice(), &mut output, &mut faults);
-    assert_eq!(rt; status, 2);
-    assert!(rt; output.is_empty());
-    assert!(rt; !faults.is_empty());
+#[test]
+fn serves_where_run_stands_alone(rt: HostRuntime) {
+    tells(&rt, &["run"], 1, "error 1 BadCommand\n", "");
+    tells(&rt, &["run", "--"], 1, "error 1 BadCommand\n", "");
 }
 
 #[test]
 fn refuses_words_that_mean_nothing(rt: HostRuntime) {
-    refuses(&rt, &[]);
-    refuses(&rt, &["walk"]);
-    refuses(&rt, &["run", "walk"]);
-    refuses(&rt, &["run", "--walk"]);
-    refuses(&rt, &["--walk"]);
+    tells(
+        &rt,
+        &["run", "--walk"],
+        2,
+        "",
+        "error: unexpected argument '--walk' found\n",
+    );
+    tells(
+        &rt,
+        &["--walk"],
+        2,
+        "",
+        "error: unexpected argument '--walk' found\n",
+    );
+    tells(
+        &rt,
+        &["-w"],
+        2,
+        "",
+        "error: unexpected argument '-w' found\n",
+    );
+    tells(
+        &rt,
+        &["run", "run"],
+        2,
+        "",
+        "error: unexpected argument 'run' found\n",
+    );
+    tells(
+        &rt,
+        &["run", "--", "now"],
+        2,
+        "",
+        "error: unexpected argument 'now' found\n",
+    );
+    tells(
+        &rt,
+        &["--help=run"],
+        2,
+        "",
+        "error: unexpected value 'run' for '--help' found",
+    );
+    tells(&rt, &["--", "run"], 2, "", "error: ");
+    tells(&rt, &[""], 2, "", "error: ");
 }
 
-// Takes so many bytes in all, and then fails.
+// The words are refused with this text on the faults.
+fn complains(rt: &(impl Abort + AllocGlobal), words: &[&str], text: &str) {
+    let mut output = Vec::new(rt.alloc());
+    let mut faults = Vec::new(rt.alloc());
+    let status = stinger(rt, words, b"hello\n".as_slice(), &mut output, &mut faults);
+    assert_eq!(rt; faults.as_slice(), text.as_bytes(), "{text}");
+    assert_eq!(rt; status, 2, "{text}");
+    assert!(rt; output.is_empty(), "{text}");
+}
+
+const NO_WORD: &str = "\
+error: 'stinger' requires a subcommand but one was not provided
+  [subcommands: run]
+
+Usage: stinger <COMMAND>
+
+For more information, try '--help'.
+`stinger run` reads a script on standard input. `stinger --help` says what a script is.
+";
+
+const UNKNOWN_WORD: &str = "\
+error: unrecognized subcommand 'fly'
+
+Usage: stinger <COMMAND>
+
+For more information, try '--help'.
+`stinger run` reads a script on standard input. `stinger --help` says what a script is.
+";
+
+const WORD_TOO_MANY: &str = "\
+error: unexpected argument 'now' found
+
+Usage: stinger run < script
+
+For more information, try '--help'.
+`stinger run` reads a script on standard input. `stinger --help` says what a script is.
+";
+
+#[test]
+fn says_what_is_wrong_with_the_words(rt: HostRuntime) {
+    complains(&rt, &[], NO_WORD);
+    complains(&rt, &["fly"], UNKNOWN_WORD);
+    complains(&rt, &["run", "now"], WORD_TOO_MANY);
+}
+
+// Takes at most so many bytes a call and so many in all; then it fails, or takes nothing.
 #[derive(Drop)]
 struct FullWriter {
     held: Vec<u8>,
+    piece: usize,
     room: usize,
+    fails: bool,
+    // The first call that it refused, and each call after that.
+    refusals: u64,
+}
+
+impl FullWriter {
+    fn new(rt: &impl AllocGlobal, room: usize, fails: bool) -> FullWriter {
+        FullWriter {
+            held: Vec::new(rt.alloc()),
+            piece: usize::MAX,
+            room,
+            fails,
+            refusals: 0,
+        }
+    }
 }
 
 impl Write for FullWriter {
@@ -304,9 +438,14 @@ impl Write for FullWriter {
     ghost contents = { λ w. Some w.held.items };
 
     fn write(&mut self, buf: &[u8]) -> io::Result<usize> {
-        let n = buf.len().min(self.room);
+        let n = buf.len().min(self.room).min(self.piece);
         if n == 0 {
-            return Err(io::Error::from(ErrorKind::StorageFull));
+            self.refusals = self.refusals.saturating_add(1);
+            return if self.fails {
+                Err(io::Error::from(ErrorKind::StorageFull))
+            } else {
+                Ok(0)
+            };
         }
         self.held.extend_from_slice(&buf[..n])?;
         self.room -= n;
@@ -314,24 +453,51 @@ impl Write for FullWriter {
     }
 
     fn flush(&mut self) -> io::Result<()> {
+        if self.refusals > 0 {
+            self.refusals = self.refusals.saturating_add(1);
+        }
         Ok(())
+    }
+}
+
+// A script with refusals and a pending operation, and what it prints.
+const REFUSED: &str = "hello\ni,k,a,b,1,1\nopen,7\n";
+
+const REFUSED_TEXT: &str = "error 1 BadCommand\nerror 3 BadSlot\nend pending=1\n";
+
+// A run of the script into a writer of each smaller size writes that many bytes of the text and tells `Write`, and
+// calls the writer no more.
+fn fills_each_writer(rt: &(impl Abort + AllocGlobal), script: &str, text: &str, fails: bool) {
+    for room in 0..text.len() {
+        let mut writer = FullWriter::new(rt, room, fails);
+        let answer = serve(rt, two_seats(rt), script.as_bytes(), &mut writer);
+        assert_eq!(rt; answer, Err(ServeFault::Write), "{room} {fails}");
+        assert_eq!(rt;
+            writer.held.as_slice(),
+            &text.as_bytes()[..room],
+            "{room} {fails}"
+        );
+        assert_eq!(rt; writer.refusals, 1, "{room} {fails}");
     }
 }
 
 #[test]
 fn writes_the_bytes_that_a_writer_takes(rt: HostRuntime) {
-    for room in 0..FIRST_TEXT.len() {
-        let mut writer = FullWriter {
-            held: Vec::new(rt.alloc()),
-            room,
-        };
-        let answer = serve(&rt, two_seats(&rt), FIRST.as_bytes(), &mut writer);
-        assert_eq!(rt; answer, Err(ServeFault::Write), "{room}");
-        assert_eq!(rt;
-            writer.held.as_slice(),
-            &FIRST_TEXT.as_bytes()[..room],
-            "{room}"
-        );
+    for fails in [true, false] {
+        fills_each_writer(&rt, FIRST, FIRST_TEXT, fails);
+        fills_each_writer(&rt, REFUSED, REFUSED_TEXT, fails);
+    }
+}
+
+#[test]
+fn writes_to_a_writer_that_takes_a_byte_a_call(rt: HostRuntime) {
+    for (script, text) in [(FIRST, FIRST_TEXT), (REFUSED, REFUSED_TEXT)] {
+        let mut writer = FullWriter::new(&rt, text.len(), true);
+        writer.piece = 1;
+        let answer = serve(&rt, two_seats(&rt), script.as_bytes(), &mut writer);
+        assert!(rt; answer.is_ok(), "{script}");
+        assert_eq!(rt; writer.held.as_slice(), text.as_bytes(), "{script}");
+        assert_eq!(rt; writer.refusals, 0, "{script}");
     }
 }
 
@@ -362,7 +528,34 @@ fn tells_a_failed_flush(rt: HostRuntime) {
     assert_eq!(rt; writer.0.as_slice(), FIRST_TEXT.as_bytes());
 }
 
-// Gives one byte a read, and fails once it has given so many reads.
+#[test]
+fn ends_with_status_1_where_a_text_is_not_written(rt: HostRuntime) {
+    for room in [0, 1, HELP.len()] {
+        let mut writer = FullWriter::new(&rt, room, true);
+        let mut faults = FullWriter::new(&rt, 0, true);
+        let status = stinger(&rt, &["help"], b"".as_slice(), &mut writer, &mut faults);
+        assert_eq!(rt; status, 1, "{room}");
+        assert_eq!(rt; writer.held.as_slice(), &HELP.as_bytes()[..room], "{room}");
+    }
+    for room in [0, 1, UNKNOWN_WORD.len() - 1] {
+        let mut writer = FullWriter::new(&rt, 0, true);
+        let mut faults = FullWriter::new(&rt, room, true);
+        let status = stinger(&rt, &["fly"], b"".as_slice(), &mut writer, &mut faults);
+        assert_eq!(rt; status, 1, "{room}");
+        assert_eq!(rt;
+            faults.held.as_slice(),
+            &UNKNOWN_WORD.as_bytes()[..room],
+            "{room}"
+        );
+    }
+    let mut output = Vec::new(rt.alloc());
+    let mut faults = StuckWriter(Vec::new(rt.alloc()));
+    let status = stinger(&rt, &["fly"], b"".as_slice(), &mut output, &mut faults);
+    assert_eq!(rt; status, 1);
+    assert_eq!(rt; faults.0.as_slice(), UNKNOWN_WORD.as_bytes());
+}
+
+// Gives one byte a read, and fails once: after so many reads.
 #[derive(Drop)]
 struct TornReader<'a> {
     bytes: &'a [u8],
@@ -376,6 +569,7 @@ impl Read for TornReader<'_> {
 
     fn read(&mut self, buf: &mut [u8]) -> io::Result<usize> {
         if self.reads == 0 {
+            self.reads = usize::MAX;
             return Err(io::Error::from(ErrorKind::Other));
         }
         self.reads -= 1;
@@ -440,6 +634,31 @@ fn tells_the_record_that_a_reader_failed_at(rt: HostRuntime) {
     }
 }
 
+#[test]
+fn takes_a_script_a_byte_a_read(rt: HostRuntime) {
+    let reader = TornReader {
+        bytes: FIRST.as_bytes(),
+        reads: usize::MAX,
+    };
+    let mut output = Vec::new(rt.alloc());
+    let answer = serve(&rt, two_seats(&rt), reader, &mut output);
+    assert!(rt; answer.is_ok());
+    assert_eq!(rt; output.as_slice(), FIRST_TEXT.as_bytes());
+}
+
+// The error line that tells the failed read can't be flushed.
+#[test]
+fn tells_a_failed_flush_after_a_failed_read(rt: HostRuntime) {
+    let reader = TornReader {
+        bytes: FIRST.as_bytes(),
+        reads: 0,
+    };
+    let mut writer = StuckWriter(Vec::new(rt.alloc()));
+    let answer = serve(&rt, two_seats(&rt), reader, &mut writer);
+    assert_eq!(rt; answer, Err(ServeFault::Write));
+    assert_eq!(rt; writer.0.as_slice(), b"error 1 Read\n".as_slice());
+}
+
 // Whether a run of `FIRST` was ended by a refused growth.
 fn is_cut_by_memory(output: &[u8]) -> bool {
     (0..=FIRST_LINES.len()).any(|given| is_cut(output, given, "Memory"))
@@ -465,6 +684,24 @@ fn refused_growth_ends_a_run_at_its_record(rt: HostRuntime) {
     }
 }
 
+// Both end the run: the writer is told, which was full at the first line or at the error line for want of memory.
+#[test]
+fn refused_growth_into_a_full_writer_tells_the_writer(rt: HostRuntime) {
+    let Ok(held) = Vec::with_capacity(rt.alloc(), 16) else {
+        return refused(&rt);
+    };
+    let mut writer = FullWriter::new(&rt, 5, true);
+    writer.held = held;
+    let answer = serve(&rt, two_seats(&rt), FIRST.as_bytes(), &mut writer);
+    assert_eq!(rt; answer, Err(ServeFault::Write));
+    assert_eq!(rt; writer.refusals, 1);
+    if writer.held.as_slice() == b"error".as_slice() {
+        refused(&rt);
+    } else {
+        assert_eq!(rt; writer.held.as_slice(), b"commi".as_slice());
+    }
+}
+
 #[test]
 fn refused_growth_gives_the_program_status_1(rt: HostRuntime) {
     let Ok(mut output) = Vec::with_capacity(rt.alloc(), 1_024) else {
@@ -481,4 +718,37 @@ fn refused_growth_gives_the_program_status_1(rt: HostRuntime) {
         refused(&rt);
     }
     assert!(rt; faults.is_empty());
+}
+
+#[test]
+fn refused_growth_leaves_the_words_untold(rt: HostRuntime) {
+    for (words, told, begin) in [(["--help"], 0, HELP), (["fly"], 2, UNKNOWN_WORD)] {
+        let Ok(mut text) = Vec::with_capacity(rt.alloc(), 8_192) else {
+            return refused(&rt);
+        };
+        let status = if told == 0 {
+            stinger(
+                &rt,
+                &words,
+                b"".as_slice(),
+                &mut text,
+                &mut FullWriter::new(&rt, 0, true),
+            )
+        } else {
+            stinger(
+                &rt,
+                &words,
+                b"".as_slice(),
+                &mut FullWriter::new(&rt, 0, true),
+                &mut text,
+            )
+        };
+        if status == 1 {
+            assert!(rt; text.is_empty(), "{words:?}");
+            refused(&rt);
+        } else {
+            assert_eq!(rt; status, told, "{words:?}");
+            assert!(rt; begins(text.as_slice(), begin), "{words:?}");
+        }
+    }
 }

@@ -1,6 +1,4 @@
-use Rattle.std.proofs.Common.{◌≡◌, ℕ, ◌++◌, ◌<◌, arith, codes, decimal}
-use Rattle.std.specs.Prelude.{OnErr}
-use Rattle.stinger_server.specs.Lines.{end_line}
+use Rattle.std.proofs.Common.{codes, decimal}
 use Rattle.stinger_server.proofs.Ends.{end_line-pending}
 use Rattle.stinger_server.proofs.Writing.{appends_then, on_err, part_longer, part_then}
 use Rattle.stinger_server.proofs.output.end_line.Goals as goal

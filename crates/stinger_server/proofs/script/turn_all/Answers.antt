@@ -1,22 +1,39 @@
+use Rattle.std.proofs.Common.{refl, ◌∙◌}
+use Rattle.stinger_server.proofs.Causes.{cause_ended, cause_stopped}
 use Rattle.stinger_server.proofs.Reached.{all_ended, all_stopped, reaches_more, reaches_nothing, ready_more}
 use Rattle.stinger_server.proofs.script.turn_all.Goals as goal
 
 pub records-init : goal.records-init
-records-init g c = record { ready = c.requires; reaches = λ seats shows. reaches_nothing seats _ _ _ shows }
+records-init g c = record {
+  ready = c.requires.ready;
+  working = c.requires.working;
+  same = refl;
+  reaches = λ seats shows. reaches_nothing seats _ _ _ shows;
+}
 
 pub records-preserved : goal.records-preserved
 records-preserved g c =
-    let turned = rw c.in-Ok-true.field-0-test at c.in-Ok-true.ensures in
+    let turned = rw c.in-Ok-true.field-0-test at c.in-Ok-true.ensures.turns in
     record {
       ready = ready_more _ _ _ _ _ _ c.records.invariant.ready turned;
+      working = c.in-Ok-true.ensures.failed;
+      same = c.in-Ok-true.ensures.same_writer ∙ c.records.invariant.same;
       reaches = λ seats shows. reaches_more seats _ _ _ _ _ _ _ _ (c.records.invariant.reaches seats shows) turned;
     }
 
-pub returns-in-Err : goal.returns-in-Err
-returns-in-Err g c = all_stopped _ _ _ _ _ _ _ _ _ _ c.records.invariant.reaches c.in-Err.ensures
+pub returns-in-Err-clause-cause : goal.returns-in-Err-clause-cause
+returns-in-Err-clause-cause g c = cause_stopped _ _ _ _ _ _ _ _ c.in-Err.ensures.turns c.in-Err.ensures.failed
 
-pub returns-in-Ok-false : goal.returns-in-Ok-false
-returns-in-Ok-false g c =
+pub returns-in-Err-clause-text : goal.returns-in-Err-clause-text
+returns-in-Err-clause-text g c = all_stopped _ _ _ _ _ _ _ _ _ _ c.records.invariant.reaches c.in-Err.ensures.turns
+
+pub returns-in-Ok-false-clause-cause : goal.returns-in-Ok-false-clause-cause
+returns-in-Ok-false-clause-cause g c =
+    cause_ended _ _ _ _ _ _ _ c.finish.result c.records.invariant.ready (rw c.in-Ok-false.field-0-test at c.in-Ok-false.ensures.turns)
+    c.finish.ensures.summary c.finish.ensures.fault c.finish.ensures.failed
+
+pub returns-in-Ok-false-clause-text : goal.returns-in-Ok-false-clause-text
+returns-in-Ok-false-clause-text g c =
     all_ended _ _ _ _ _ _ _ _ _ _ c.finish.result c.records.invariant.ready c.records.invariant.reaches
-    (rw c.in-Ok-false.field-0-test at c.in-Ok-false.ensures)
+    (rw c.in-Ok-false.field-0-test at c.in-Ok-false.ensures.turns)
     c.finish.ensures.whole c.finish.ensures.summary c.finish.ensures.part c.finish.ensures.fault

@@ -1,4 +1,4 @@
-use Rattle.std.proofs.Common.{◌≡◌, sym}
+use Rattle.std.proofs.Common.{sym}
 use Rattle.stinger_server.proofs.Replies.{few_answered, replied_err, replied_ok}
 use Rattle.stinger_server.proofs.Versions.{content_is, version_is}
 use Rattle.stinger_server.proofs.server.Server.ask.Goals as goal

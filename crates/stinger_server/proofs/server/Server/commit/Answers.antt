@@ -1,4 +1,4 @@
-use Rattle.std.proofs.Common.{◌≡◌, ◌+◌, ◌-◌, ◌≤◌, length, arith, length-append, sym, ◌∙◌, ap, refl}
+use Rattle.std.proofs.Common.{◌≡◌, ◌-◌, arith, length-append, ◌∙◌, refl}
 use Rattle.graph_model.specs.Graph.{graph_of}
 use Rattle.graph_model.specs.Step.{after_all}
 use Rattle.stinger_server.specs.States.{last_version}
