@@ -1,0 +1,288 @@
+-- The rows that operations leave have the edges that the operation rule leaves, and the outcomes are the rule's.
+use Rattle.std.proofs.Common.{◌≡◌, ℕ, ◌<◌, ◌==◌, List, [], ◌∷◌, length, map, filter, Bool, true, false, cond, not, ◌&&◌, ◌||◌, ◌+◌, arith, refl, sym, ap, ◌∙◌, subst, Option, Some, None, is_some, All, bytes_eq, suc}
+use Rattle.std.specs.List.{list_any, list_all, position_or_len}
+use Rattle.std.specs.Option.{option_or}
+use Rattle.std.specs.Ordering.{nat_cmp, ordering_then, eq_by_cmp, is_eq}
+use Rattle.std.specs.Cmp.{unsigned_tied, tied_then, Equal-is}
+use Rattle.std.specs.FinMap.{FinMap, get, get-insert, get-remove}
+use Rattle.std.proofs.lemmas.Bool.{true≢false, false≢true, and_parts}
+use Rattle.std.proofs.lemmas.List.Elements.{All-head, All-tail, All-cons, All-nil}
+use Rattle.graph_model.specs.Graph.{Graph, Key, Stamp, key_cmp}
+use Rattle.graph_model.specs.Step as rule
+use Rattle.graph_model.specs.Step.{set_at, after, outcome, after_all, outcomes, op_key, names_after, kinds_after, number_of, with_name}
+use Rattle.graph_model.specs.declared.batches.NamedOp.{NamedOp}
+use Rattle.graph_model.specs.declared.batches.NamedOp.TheVariants.{Insert, Incr, Remove}
+use Rattle.graph_model.specs.declared.batches.Outcome.TheVariants.{Absent}
+use Rattle.block_layout.specs.declared.changes.EdgeChange.{EdgeChange}
+use Rattle.block_layout.specs.Changes.{stamp_after, outcome_at, change_of}
+use Rattle.graph_model.proofs.Keys.{keys_total, exact_keys}
+use Rattle.graph_model.proofs.Naming.{appears-with_name, stays-with_name, number_of-lt, length-names_after, length-kinds_after}
+use Rattle.edge_block.specs.Slots.{Slot, NoKeyTwice, stamp_at, is_free, AreDistinct}
+use Rattle.block_layout.specs.Rows.{Shape, OpenBlock, block_at, row_at, open_at, edge_at, IsRow, change_row, has_none, is_kept, row_end, shapes, untouched}
+use Rattle.block_layout.specs.Batches.{Resolved, resolve, resolved, is_known, key_is_of, row_step, rows_step, rows_all, outcome_in, outcomes_all, IsLayoutOf, opened, layout_after, source_name, target_name, kind_name, IsWithin}
+use Rattle.block_layout.proofs.SlotLaws.{same_number}
+use Rattle.block_layout.proofs.RowLaws.{IsOpenRow, change_sets}
+use Rattle.block_layout.proofs.Keyed.{none_is}
+
+pub set_at_get : (m : FinMap key_cmp Stamp) (k : Key) (o : Option Stamp) (q : Key) → get (set_at m k o) q ≡ cond (eq_by_cmp key_cmp q k) o (get m q)
+set_at_get m k None q = get-remove keys_total m k q
+set_at_get m k (Some v) q = get-insert keys_total m k v q
+
+-- the rows have the map's edges, and no others
+abbrev pub Shows : (ℕ → List OpenBlock) → FinMap key_cmp Stamp → Type 0
+Shows rows edges = (k : Key) → edge_at (rows k.source) (k.kind, k.target) ≡ get edges k
+
+-- no row has two edges of one key
+abbrev pub AreOpenRows : (ℕ → List OpenBlock) → Type 0
+AreOpenRows rows = (source : ℕ) → IsOpenRow (rows source)
+
+-- the operation rule, as a change at the operation's key
+named_stamp : (op : NamedOp) (o : Option Stamp) → rule.stamp_after op o ≡ stamp_after (change_of op) o
+named_stamp (Insert kind source target weight time) None = refl
+named_stamp (Insert kind source target weight time) (Some e) = refl
+named_stamp (Incr kind source target amount time) None = refl
+named_stamp (Incr kind source target amount time) (Some e) = refl
+named_stamp (Remove kind source target) o = refl
+
+named_outcome : (op : NamedOp) (o : Option Stamp) → rule.outcome_at op o ≡ outcome_at (change_of op) o
+named_outcome (Insert kind source target weight time) None = refl
+named_outcome (Insert kind source target weight time) (Some e) = refl
+named_outcome (Incr kind source target amount time) None = refl
+named_outcome (Incr kind source target amount time) (Some e) = refl
+named_outcome (Remove kind source target) None = refl
+named_outcome (Remove kind source target) (Some e) = refl
+
+edges_after : (op : NamedOp) (g : Graph) → (after op g).edges ≡ set_at g.edges (op_key op g) (stamp_after (change_of op) (get g.edges (op_key op g)))
+edges_after op g = ap (set_at g.edges (op_key op g)) (named_stamp op (get g.edges (op_key op g)))
+
+outcome_is : (op : NamedOp) (g : Graph) → outcome op g ≡ outcome_at (change_of op) (get g.edges (op_key op g))
+outcome_is op g = named_outcome op (get g.edges (op_key op g))
+
+abbrev tests : Key → Key → Bool → Bool
+tests q k same = (q.kind == k.kind) && (same && (q.target == k.target))
+
+tied : (q k : Key) → eq_by_cmp key_cmp q k ≡ tests q k (q.source == k.source)
+tied q k =
+    let a = nat_cmp q.kind k.kind in
+    let b = nat_cmp q.source k.source in
+    let c = nat_cmp q.target k.target in
+    sym (tied_then a (ordering_then b c)) ∙ ap (λ t. is_eq a && t) (sym (tied_then b c))
+    ∙ (λ i. unsigned_tied q.kind k.kind i && (unsigned_tied q.source k.source i && unsigned_tied q.target k.target i))
+
+never : {A : Type 0} (a : Bool) (x y : A) → y ≡ cond (a && false) x y
+never true x y = refl
+never false x y = refl
+
+-- a change at a key, on rows that have the map's edges
+shows_key : (change : EdgeChange) (k : Key) (rows : ℕ → List OpenBlock) (edges : FinMap key_cmp Stamp) → AreOpenRows rows → Shows rows edges
+    → (q : Key) → edge_at (cond (q.source == k.source) (change_row change (k.kind, k.target) (rows q.source)) (rows q.source)) (q.kind, q.target) ≡ get (set_at edges k (stamp_after change (get edges k))) q
+shows_key change k rows edges u s q =
+    elim (q.source == k.source) as (λ b. q.source == k.source ≡ b → edge_at (cond b (change_row change (k.kind, k.target) (rows q.source)) (rows q.source)) (q.kind, q.target) ≡ cond (tests q k b) (stamp_after change (get edges k)) (get edges q)) [
+      | true ↦ λ t.
+          let there : edge_at (rows q.source) (k.kind, k.target) ≡ get edges k = ap (λ n. edge_at (rows n) (k.kind, k.target)) (same_number q.source k.source t) ∙ s k in
+          (change_sets (k.kind, k.target) (rows q.source) (u q.source) change).0 (q.kind, q.target)
+          ∙ (λ i. cond (tests q k true) (stamp_after change (there i)) (s q i))
+      | false ↦ λ t. s q ∙ never (q.kind == k.kind) (stamp_after change (get edges k)) (get edges q)
+    ] refl
+    ∙ sym (set_at_get edges k (stamp_after change (get edges k)) q ∙ ap (λ b. cond b (stamp_after change (get edges k)) (get edges q)) (tied q k))
+
+rows_key : (change : EdgeChange) (k : Key) (rows : ℕ → List OpenBlock) → AreOpenRows rows → (source : ℕ) → IsOpenRow (cond (source == k.source) (change_row change (k.kind, k.target) (rows source)) (rows source))
+rows_key change k rows u source =
+    elim (source == k.source) as (λ b. IsOpenRow (cond b (change_row change (k.kind, k.target) (rows source)) (rows source))) [
+      | true ↦ (change_sets (k.kind, k.target) (rows source) (u source) change).1
+      | false ↦ u source
+    ]
+
+abbrev prefix_at : {X : Type 0} → Bool → (X → Bool) → List X → ℕ
+prefix_at b p xs = cond (not b) (1 + position_or_len p xs) 0
+
+-- an unknown name has the number after the last
+unknown : {A : Type 0} (p : A → Bool) (xs : List A) → list_any p xs ≡ false → position_or_len p xs ≡ length xs
+unknown p [] h = refl
+unknown p (x ∷ xs) h =
+    elim (p x) as (λ b. (b || list_any p xs) ≡ false → prefix_at b p xs ≡ suc (length xs)) [
+      | true ↦ λ n. absurd (true≢false n)
+      | false ↦ λ n. let rest = unknown p xs n in omega arith
+    ] h
+
+all_known : (a b c : Bool) → a ≡ true → b ≡ true → c ≡ true → (a && (b && c)) ≡ false → ⊥
+all_known a b c p q r h = true≢false ((λ i. sym p i && (sym q i && sym r i)) ∙ h)
+
+module _ (op : NamedOp) (g : Graph) where
+  abbrev knows : Bool
+  knows =
+      is_known (kinds_after op g.kinds) (kind_name op)
+      && (is_known (names_after op g.names) (source_name op) && is_known (names_after op g.names) (target_name op))
+
+-- an operation with an unknown name is a removal, and nothing is at its key
+unknown_none : (op : NamedOp) (g : Graph) → IsWithin g → knows op g ≡ false
+    → (get g.edges (op_key op g) ≡ None) × (stamp_after (change_of op) None ≡ None) × (outcome_at (change_of op) None ≡ Absent)
+unknown_none (Insert kind source target weight time) g w h =
+    absurd (all_known _ _ _ (appears-with_name g.kinds kind) (stays-with_name (with_name g.names source) target source (appears-with_name g.names source)) (appears-with_name (with_name g.names source) target) h)
+unknown_none (Incr kind source target amount time) g w h =
+    absurd (all_known _ _ _ (appears-with_name g.kinds kind) (stays-with_name (with_name g.names source) target source (appears-with_name g.names source)) (appears-with_name (with_name g.names source) target) h)
+unknown_none (Remove kind source target) g w h =
+    let key : Key = op_key (Remove kind source target) g in (
+      none_is (get g.edges key) (
+          elim (is_some (get g.edges key)) as (λ b. is_some (get g.edges key) ≡ b → b ≡ false) [
+            | true ↦ λ t.
+                let in' = w key t in
+                let known : (names : List (List ℕ)) (name : List ℕ) → number_of names name < length names → is_known names name ≡ true = λ names name lt.
+                elim (is_known names name) as (λ b. is_known names name ≡ b → b ≡ true) [
+                  | true ↦ λ _. refl
+                  | false ↦ λ e. let past = unknown (bytes_eq name) names e in absurd (omega arith)
+                ] refl in
+                absurd (all_known _ _ _ (known g.kinds kind in'.0) (known g.names source in'.1) (known g.names target in'.2) h)
+            | false ↦ λ t. refl
+          ] refl),
+      refl,
+      refl,
+    )
+
+set_none : (m : FinMap key_cmp Stamp) (k : Key) → get m k ≡ None → (q : Key) → get m q ≡ get (set_at m k None) q
+set_none m k none q =
+    elim (eq_by_cmp key_cmp q k) as (λ b. eq_by_cmp key_cmp q k ≡ b → get m q ≡ cond b None (get m q)) [
+      | true ↦ λ t. ap (get m) (exact_keys q k ((Equal-is (key_cmp q k)).0 t)) ∙ none
+      | false ↦ λ t. refl
+    ] refl
+    ∙ sym (set_at_get m k None q)
+
+abbrev key_when : NamedOp → Graph → Bool → Option Key
+key_when op g b = cond b (Some (op_key op g)) None
+
+-- one operation
+pub step_shows : (op : NamedOp) (g : Graph) (rows : ℕ → List OpenBlock) → IsWithin g → AreOpenRows rows → Shows rows g.edges
+    → let r = resolve (names_after op g.names) (kinds_after op g.kinds) op in
+    Shows (rows_step r rows) (after op g).edges × AreOpenRows (rows_step r rows) × (outcome_in r.change r.key rows ≡ outcome op g)
+step_shows op g rows w u s =
+    elim (knows op g) as (λ b. knows op g ≡ b →
+    ((q : Key) → edge_at (cond (key_is_of q.source (key_when op g b)) (row_step (change_of op) (key_when op g b) (rows q.source)) (rows q.source)) (q.kind, q.target) ≡ get (after op g).edges q)
+    × ((source : ℕ) → IsOpenRow (cond (key_is_of source (key_when op g b)) (row_step (change_of op) (key_when op g b) (rows source)) (rows source)))
+    × (outcome_in (change_of op) (key_when op g b) rows ≡ outcome op g)) [
+      | true ↦ λ t. (
+        λ q. shows_key (change_of op) (op_key op g) rows g.edges u s q ∙ ap (λ m. get m q) (sym (edges_after op g)),
+        rows_key (change_of op) (op_key op g) rows u,
+        ap (outcome_at (change_of op)) (s (op_key op g)) ∙ sym (outcome_is op g),
+      )
+      | false ↦ λ t.
+          let none = unknown_none op g w t in (
+            λ q. s q ∙ set_none g.edges (op_key op g) none.0 q
+                ∙ ap (λ o. get (set_at g.edges (op_key op g) o) q) (sym (ap (stamp_after (change_of op)) none.0 ∙ none.1))
+                ∙ ap (λ m. get m q) (sym (edges_after op g)),
+            u,
+            sym (outcome_is op g ∙ ap (outcome_at (change_of op)) none.0 ∙ none.2),
+          )
+    ] refl
+
+lies : (op : NamedOp) (g : Graph) (before : Option Stamp) → is_some (stamp_after (change_of op) before) ≡ true
+    → let k = op_key op g in (k.kind < length (kinds_after op g.kinds)) × (k.source < length (names_after op g.names)) × (k.target < length (names_after op g.names))
+lies (Insert kind source target weight time) g before is = (
+  number_of-lt _ kind (appears-with_name g.kinds kind),
+  number_of-lt _ source (stays-with_name (with_name g.names source) target source (appears-with_name g.names source)),
+  number_of-lt _ target (appears-with_name (with_name g.names source) target),
+)
+lies (Incr kind source target amount time) g before is = (
+  number_of-lt _ kind (appears-with_name g.kinds kind),
+  number_of-lt _ source (stays-with_name (with_name g.names source) target source (appears-with_name g.names source)),
+  number_of-lt _ target (appears-with_name (with_name g.names source) target),
+)
+lies (Remove kind source target) g before is = absurd (false≢true is)
+
+pub step_within : (op : NamedOp) (g : Graph) → IsWithin g → IsWithin (after op g)
+step_within op g w q is =
+    elim (eq_by_cmp key_cmp q (op_key op g)) as (λ b. eq_by_cmp key_cmp q (op_key op g) ≡ b → is_some (cond b (stamp_after (change_of op) (get g.edges (op_key op g))) (get g.edges q)) ≡ true
+    → (q.kind < length (kinds_after op g.kinds)) × (q.source < length (names_after op g.names)) × (q.target < length (names_after op g.names))) [
+      | true ↦ λ t i.
+          subst (λ (k : Key). (k.kind < length (kinds_after op g.kinds)) × (k.source < length (names_after op g.names)) × (k.target < length (names_after op g.names)))
+          (sym (exact_keys q (op_key op g) ((Equal-is (key_cmp q (op_key op g))).0 t))) (lies op g (get g.edges (op_key op g)) i)
+      | false ↦ λ t i.
+          let old = w q i in
+          let more_names = length-names_after op g.names in
+          let more_kinds = length-kinds_after op g.kinds in
+          let a = old.0 in let b = old.1 in let c = old.2 in
+          (omega arith, omega arith, omega arith)
+    ] refl (ap is_some (sym (ap (λ m. get m q) (edges_after op g) ∙ set_at_get g.edges (op_key op g) (stamp_after (change_of op) (get g.edges (op_key op g))) q)) ∙ is)
+
+-- a batch's operations, one after another
+pub all_shows : (ops : List NamedOp) (g : Graph) (rows : ℕ → List OpenBlock) → IsWithin g → AreOpenRows rows → Shows rows g.edges
+    → let rs = resolved ops g.names g.kinds in
+    Shows (rows_all rs rows) (after_all ops g).edges × AreOpenRows (rows_all rs rows) × (outcomes_all rs rows ≡ outcomes ops g) × IsWithin (after_all ops g)
+all_shows [] g rows w u s = (s, u, refl, w)
+all_shows (op ∷ ops) g rows w u s =
+    let r : Resolved = resolve (names_after op g.names) (kinds_after op g.kinds) op in
+    let one = step_shows op g rows w u s in
+    let rest = all_shows ops (after op g) (rows_step r rows) (step_within op g w) one.1 one.0 in
+    (rest.0, rest.1, (λ i. one.2 i ∷ rest.2 i), rest.3)
+
+-- slots that are all free
+all_free : (slots : List (Option Slot)) → list_all is_free slots ≡ true → (q : ℕ) → stamp_at slots q ≡ None
+all_free [] h q = refl
+all_free (None ∷ slots) h q = all_free slots h q
+all_free (Some e ∷ slots) h q = absurd (false≢true h)
+
+not_kept : (h : OpenBlock) → is_kept h ≡ false → (q : ℕ × ℕ) → open_at h q ≡ None
+not_kept h out q =
+    let free : list_all is_free h.shape.slots ≡ true = (and_parts h.touched (has_none h.shape) (flip (h.touched && has_none h.shape) out)).1 in
+    ap (λ x. cond (q.0 == h.shape.kind) x None) (all_free h.shape.slots free q.1) ∙ blank (q.0 == h.shape.kind) where
+      flip : (b : Bool) → not b ≡ false → b ≡ true
+      flip true h = refl
+      flip false h = absurd (true≢false h)
+
+      blank : (b : Bool) → (let nothing : Option Stamp = None in cond b nothing None ≡ nothing)
+      blank true = refl
+      blank false = refl
+
+-- what stays at the batch's end has the row's edges
+pub end_at : (row : List OpenBlock) (q : ℕ × ℕ) → row_at (row_end row) q ≡ edge_at row q
+end_at [] q = refl
+end_at (h ∷ row) q =
+    elim (is_kept h) as (λ b. is_kept h ≡ b → row_at (shapes (cond b (h ∷ filter is_kept row) (filter is_kept row))) q ≡ option_or (open_at h q) (edge_at row q)) [
+      | true ↦ λ t. ap (option_or (open_at h q)) (end_at row q)
+      | false ↦ λ t. end_at row q ∙ ap (λ x. option_or x (edge_at row q)) (sym (not_kept h t q))
+    ] refl
+
+opened_at : (row : List Shape) (q : ℕ × ℕ) → edge_at (map untouched row) q ≡ row_at row q
+opened_at [] q = refl
+opened_at (b ∷ row) q = ap (option_or (block_at b q)) (opened_at row q)
+
+opened_row : (row : List Shape) → IsRow row → IsOpenRow (map untouched row)
+opened_row row u = record { within = within row u.within; between = between row u.between } where
+  within : (row : List Shape) → All (λ b. AreDistinct b.slots) row → All (λ b. AreDistinct b.shape.slots) (map untouched row)
+  within [] a = All-nil (λ b. AreDistinct b.shape.slots)
+  within (b ∷ row) a =
+      All-cons (λ b. AreDistinct b.shape.slots) (untouched b) (map untouched row) (All-head (λ b. AreDistinct b.slots) b row a)
+      (within row (All-tail (λ b. AreDistinct b.slots) b row a))
+
+  between : (row : List Shape) → NoKeyTwice block_at row → NoKeyTwice open_at (map untouched row)
+  between [] u = tt
+  between (b ∷ row) u = (λ q i. opened_at row q ∙ u.0 q i, between row u.1)
+
+end_unique : (row : List OpenBlock) → NoKeyTwice open_at row → NoKeyTwice block_at (row_end row)
+end_unique [] u = tt
+end_unique (h ∷ row) u =
+    elim (is_kept h) as (λ b. NoKeyTwice block_at (shapes (cond b (h ∷ filter is_kept row) (filter is_kept row)))) [
+      | true ↦ (λ q i. end_at row q ∙ u.0 q i, end_unique row u.1)
+      | false ↦ end_unique row u.1
+    ]
+
+end_within : (row : List OpenBlock) → All (λ h. AreDistinct h.shape.slots) row → All (λ h. AreDistinct h.slots) (row_end row)
+end_within [] a = All-nil (λ h. AreDistinct h.slots)
+end_within (h ∷ row) a =
+    let rest = end_within row (All-tail (λ h. AreDistinct h.shape.slots) h row a) in
+    elim (is_kept h) as (λ b. All (λ h. AreDistinct h.slots) (shapes (cond b (h ∷ filter is_kept row) (filter is_kept row)))) [
+      | true ↦ All-cons (λ h. AreDistinct h.slots) h.shape (row_end row) (All-head (λ h. AreDistinct h.shape.slots) h row a) rest
+      | false ↦ rest
+    ]
+
+-- a batch leaves a layout of the graph that it leaves, and the rows' outcomes are the operation rule's
+pub batch_layout : (ops : List NamedOp) (g : Graph) (layout : ℕ → List Shape) → IsWithin g → IsLayoutOf layout g.edges
+    → IsLayoutOf (layout_after ops g layout) (after_all ops g).edges × (outcomes_all (resolved ops g.names g.kinds) (opened layout) ≡ outcomes ops g) × IsWithin (after_all ops g)
+batch_layout ops g layout w l =
+    let done = all_shows ops g (opened layout) w (λ source. opened_row (layout source) (l.distinct source)) (λ k. opened_at (layout k.source) (k.kind, k.target) ∙ l.shows k) in (
+      record {
+        distinct = λ source. record { within = end_within _ (done.1 source).within; between = end_unique _ (done.1 source).between };
+        shows = λ k. end_at _ (k.kind, k.target) ∙ done.0 k;
+      },
+      done.2,
+      done.3,
+    )

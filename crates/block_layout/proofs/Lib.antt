@@ -1,0 +1,5 @@
+pub mod Keyed
+pub mod SlotLaws
+pub mod RowLaws
+pub mod GraphLaws
+pub mod ShardLaws

@@ -1,0 +1,130 @@
+-- The rows of all sources, and what a batch does to them.
+use Rattle.std.specs.Prelude.{◌≡◌, ℕ, zero, suc, ◌+◌, ◌%◌, ◌<◌, ◌==◌, List, [], ◌∷◌, map, length, filter, Bool, true, false, ◌&&◌, if◌then◌else◌, bytes_eq}
+use Rattle.std.specs.List.{list_any}
+use Rattle.std.specs.Option.{is_some}
+use Rattle.std.specs.FinMap.{FinMap, get}
+use Rattle.std.specs.declared.option.Option.{Option}
+use Rattle.std.specs.declared.option.Option.TheVariants.{None, Some}
+use Rattle.graph_model.specs.Graph.{Graph, Key, Stamp, key_cmp}
+use Rattle.graph_model.specs.Step.{number_of, names_after, kinds_after, key_in}
+use Rattle.graph_model.specs.declared.batches.NamedOp.{NamedOp}
+use Rattle.graph_model.specs.declared.batches.NamedOp.TheVariants.{Insert, Incr, Remove}
+use Rattle.graph_model.specs.declared.batches.Outcome.{Outcome}
+use Rattle.graph_model.specs.declared.batches.Outcome.TheVariants.{Absent}
+use Rattle.block_layout.specs.declared.changes.EdgeChange.{EdgeChange}
+use Rattle.block_layout.specs.Changes.{outcome_at, change_of}
+use Rattle.block_layout.specs.Rows.{Shape, OpenBlock, row_at, edge_at, untouched, change_row, row_end, taken_in, dropped_in, IsRow}
+
+-- an operation with the numbers of its names, none where a name is unknown at its place, and what it does to the
+-- edge at its key
+pub record Resolved : Type 0 where
+  pub source : Option ℕ
+  pub key : Option Key
+  pub change : EdgeChange
+
+abbrev pub source_name : NamedOp → List ℕ
+source_name (Insert kind source target weight time) = source
+source_name (Incr kind source target amount time) = source
+source_name (Remove kind source target) = source
+
+abbrev pub target_name : NamedOp → List ℕ
+target_name (Insert kind source target weight time) = target
+target_name (Incr kind source target amount time) = target
+target_name (Remove kind source target) = target
+
+abbrev pub kind_name : NamedOp → List ℕ
+kind_name (Insert kind source target weight time) = kind
+kind_name (Incr kind source target amount time) = kind
+kind_name (Remove kind source target) = kind
+
+abbrev pub is_known : List (List ℕ) → List ℕ → Bool
+is_known names name = list_any (bytes_eq name) names
+
+-- an operation by the names and kinds that it leaves
+abbrev pub resolve : List (List ℕ) → List (List ℕ) → NamedOp → Resolved
+resolve names kinds op = record {
+  source = if is_known names (source_name op) then Some (number_of names (source_name op)) else None;
+  key =
+      if is_known kinds (kind_name op) && (is_known names (source_name op) && is_known names (target_name op))
+      then Some (key_in names kinds op) else None;
+  change = change_of op;
+}
+
+-- a batch's operations, each by the names at its place
+abbrev pub resolved : List NamedOp → List (List ℕ) → List (List ℕ) → List Resolved
+resolved [] names kinds = []
+resolved (op ∷ ops) names kinds =
+    let names' = names_after op names in
+    let kinds' = kinds_after op kinds in
+    resolve names' kinds' op ∷ resolved ops names' kinds'
+
+-- whether the operation acts on the row of a source
+abbrev pub key_is_of : ℕ → Option Key → Bool
+key_is_of source None = false
+key_is_of source (Some k) = source == k.source
+
+abbrev pub row_step : EdgeChange → Option Key → List OpenBlock → List OpenBlock
+row_step change None row = row
+row_step change (Some k) row = change_row change (k.kind, k.target) row
+
+abbrev pub outcome_in : EdgeChange → Option Key → (ℕ → List OpenBlock) → Outcome
+outcome_in change None rows = Absent
+outcome_in change (Some k) rows = outcome_at change (edge_at (rows k.source) (k.kind, k.target))
+
+-- one operation changes its source's row alone
+abbrev pub rows_step : Resolved → (ℕ → List OpenBlock) → ℕ → List OpenBlock
+rows_step r rows source = if key_is_of source r.key then row_step r.change r.key (rows source) else rows source
+
+abbrev pub rows_all : List Resolved → (ℕ → List OpenBlock) → ℕ → List OpenBlock
+rows_all [] rows = rows
+rows_all (r ∷ rs) rows = rows_all rs (rows_step r rows)
+
+abbrev pub outcomes_all : List Resolved → (ℕ → List OpenBlock) → List Outcome
+outcomes_all [] rows = []
+outcomes_all (r ∷ rs) rows = outcome_in r.change r.key rows ∷ outcomes_all rs (rows_step r rows)
+
+-- the rows before the batch's first operation
+abbrev pub opened : (ℕ → List Shape) → ℕ → List OpenBlock
+opened layout source = map untouched (layout source)
+
+-- the layout that a batch leaves
+abbrev pub layout_after : List NamedOp → Graph → (ℕ → List Shape) → ℕ → List Shape
+layout_after ops g layout source = row_end (rows_all (resolved ops g.names g.kinds) (opened layout) source)
+
+abbrev pub sum_below : ℕ → (ℕ → ℕ) → ℕ
+sum_below zero f = 0
+sum_below (suc n) f = f n + sum_below n f
+
+-- how many blocks a batch takes and drops, over n sources
+abbrev pub taken_by : List NamedOp → Graph → (ℕ → List Shape) → ℕ → ℕ
+taken_by ops g layout n =
+    sum_below n (λ source. taken_in (rows_all (resolved ops g.names g.kinds) (opened layout) source))
+
+abbrev pub dropped_by : List NamedOp → Graph → (ℕ → List Shape) → ℕ → ℕ
+dropped_by ops g layout n =
+    sum_below n (λ source. dropped_in (rows_all (resolved ops g.names g.kinds) (opened layout) source))
+
+-- an edge's numbers are those of names and kinds
+abbrev pub IsWithin : Graph → Type 0
+IsWithin g =
+    (k : Key) → is_some (get g.edges k) ≡ true
+    → (k.kind < length g.kinds) × (k.source < length g.names) × (k.target < length g.names)
+
+-- the layout has the map's edges, each once
+pub record IsLayoutOf (layout : ℕ → List Shape) (edges : FinMap key_cmp Stamp) : Type 0 where
+  pub distinct : (source : ℕ) → IsRow (layout source)
+  pub shows : (k : Key) → row_at (layout k.source) (k.kind, k.target) ≡ get edges k
+
+-- the shard of an operation, by its source's number; an unknown source is in shard 0
+abbrev pub shard_of : ℕ → Option ℕ → ℕ
+shard_of workers None = 0
+shard_of workers (Some source) = source % workers
+
+abbrev pub shard_ops : ℕ → ℕ → List Resolved → List Resolved
+shard_ops workers w rs = filter (λ r. shard_of workers r.source == w) rs
+
+-- of results, those of the elements that pass the test
+abbrev pub picked : {A B : Type 0} → (A → Bool) → List A → List B → List B
+picked p [] ys = []
+picked p (x ∷ xs) [] = []
+picked p (x ∷ xs) (y ∷ ys) = if p x then y ∷ picked p xs ys else picked p xs ys

@@ -1,0 +1,4 @@
+pub mod Changes
+pub mod Rows
+pub mod Batches
+pub mod Examples
