@@ -6,3 +6,6 @@ pub mod Selections
 pub mod Targets
 pub mod Views
 pub mod Room
+pub mod Ranges
+pub mod Changes
+pub mod Entries

@@ -1,3 +1,4 @@
 pub mod Slots
 pub mod Columns
 pub mod Lending
+pub mod Laws

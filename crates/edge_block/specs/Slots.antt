@@ -83,10 +83,14 @@ slot_target (Some e) = Some e.target
 abbrev pub targets_in : List (Option Slot) → List (Option ℕ)
 targets_in slots = map slot_target slots
 
--- an edge's weight and times are in range
+-- a weight and times in range
+abbrev pub IsStamp : Stamp → Type 0
+IsStamp stamp = IsWeight stamp.weight × IsTime stamp.first × IsTime stamp.recent
+
+-- the weight and the times of a slot's edge are in range
 abbrev pub IsSlot : Option Slot → Type 0
 IsSlot None = Unit {0}
-IsSlot (Some e) = IsWeight e.stamp.weight × IsTime e.stamp.first × IsTime e.stamp.recent
+IsSlot (Some e) = IsStamp e.stamp
 
 -- 32 slots, all of them empty
 abbrev pub empty_slots : List (Option Slot)

@@ -1,11 +1,11 @@
 //! The block and its calls.
 
-ghost use Rattle.std.specs.Prelude.{◌≡◌, ℕ, ℤ, ◌<◌, ◌≤◌, ◌↔◌, IsTrue, [], length, map, filter, not, MatchOption, slice_index_or, slice_set, false};
+ghost use Rattle.std.specs.Prelude.{◌≡◌, ℕ, ℤ, ◌<◌, ◌≤◌, ◌↔◌, IsTrue, [], length, map, filter, not, All, MatchOption, IfSome, slice_index_or, slice_set, false};
 ghost use Rattle.std.specs.List.{list_any};
 ghost use Rattle.graph_model.specs.Graph.{IsWeight, IsTime};
 ghost use Rattle.graph_model.specs.View.{in_view, takes_kind};
 ghost use Rattle.lane_scan.specs.Masks.{AreBoundsOf};
-ghost use Rattle.edge_block.specs.Slots.{IsBlock, edges_in, edge_slot, is_free, empty_block, entries_of, holds, has_room_for, put_slot, take_slot, stamp_at, targets_in, with_slots};
+ghost use Rattle.edge_block.specs.Slots.{IsBlock, IsStamp, edges_in, edge_slot, is_free, empty_block, entries_of, holds, has_room_for, put_slot, take_slot, stamp_at, targets_in, with_slots};
 
 use graph_model::{Filter, KindId, VertexId};
 use lane_scan::{bounds, equal_columns, find_target, window_mask};
@@ -19,8 +19,9 @@ const SLOTS: usize = 32;
 
 /// A block: a number, a source and a kind, and 32 slots, each empty or an edge.
 ///
-/// What a search for a target reads lies together and first: the live places, the kind and the targets.
-#[derive(Debug, Drop)]
+/// What a search for a target reads lies together and first: the live places, the kind and the targets. A clone is
+/// equal in everything, its number too.
+#[derive(Clone, Debug, Drop)]
 pub struct Block {
     /// Bit `k` is set where slot `k` has an edge.
     live: u32,
@@ -60,7 +61,7 @@ pub struct EdgeRef<'a> {
 }
 
 impl Block {
-    ghost use Rattle.edge_block.specs.Lending.{IsEdgeTo, lent_of, edges_left};
+    ghost use Rattle.edge_block.specs.Lending.{IsEdgeTo, lent_edge, lent_of, edges_left};
 
     /// A block without edges, of source 0 and kind 0.
     pub fn blank(number: u32) -> Self
@@ -123,7 +124,9 @@ impl Block {
 
     /// The edge to a target, where there is one.
     pub fn find(&self, target: u32) -> Option<EdgeRef<'_>>
-        ensures { MatchOption result (stamp_at self.now.slots target ≡ None) (IsEdgeTo self.now target) }
+        ensures edge { MatchOption result (stamp_at self.now.slots target ≡ None) (IsEdgeTo self.now target) }
+        ensures in_range { IfSome result (λ edge. IsStamp (lent_edge edge).stamp) }
+        ensures block { IsBlock self.now }
     {
         let place = find_target(&self.targets, self.live, target)?;
         Some(self.edge_at(place))
@@ -202,6 +205,7 @@ impl Block {
     pub fn select(&self, view: &Filter) -> BlockIter<'_>
         ensures lends { edges_left result ≡ map lent_of (filter (in_view view.now) (entries_of self.now)) }
         ensures few { length (edges_left result) ≤ 32 }
+        ensures in_range { All (λ edge. IsStamp edge.stamp) (edges_left result) }
     {
         let mask = if takes(view, self.kind) {
             window_mask(&self.recents, self.live, view.lo, view.hi)

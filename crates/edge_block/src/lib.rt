@@ -5,5 +5,7 @@
 #![tactic(auto)]
 
 mod blocks;
+mod laws;
 
 pub use blocks::{Block, BlockIter, EdgeRef};
+pub use laws::{law_absent, law_entries, law_put_slot, law_take_slot};

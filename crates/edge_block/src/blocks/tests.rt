@@ -1,8 +1,11 @@
-ghost use Rattle.std.specs.Prelude.{◌<◌, ◌^◌};
+ghost use Rattle.std.specs.Prelude.{◌≡◌, ◌<◌, ◌^◌, IfOk};
 ghost use Rattle.graph_model.specs.Graph.{IsTime};
 
 use super::*;
+use std::alloc::AllocError;
 use std::process::Abort;
+use std::sync::Arc;
+use std::test::Fail;
 
 const ALL: Filter = Filter {
     kind: None,
@@ -157,4 +160,63 @@ fn compares_the_targets_of_live_slots(rt: HostRuntime) {
     put(&rt, &mut right, 0, 1);
     assert!(rt; !left.same_targets(&right));
     assert!(rt; !right.same_targets(&left));
+}
+
+/// A block of number 4 with the edges to 7 and 8.
+fn two_edges(rt: &impl Abort) -> Block {
+    let mut block = Block::blank(4);
+    block.clear_for(VertexId(2), KindId(5));
+    put(rt, &mut block, 7, 10);
+    put(rt, &mut block, 8, 20);
+    block
+}
+
+/// A copy is the block, its number too.
+fn cloned(block: &Block) -> Result<Block, AllocError>
+    ensures { IfOk result (λ copy. copy ≡ block.now) }
+{
+    block.clone()
+}
+
+#[test]
+fn clones_the_number_too(rt: HostRuntime) -> Result<(), Fail> {
+    let block = two_edges(&rt);
+    let mut copy = cloned(&block)?;
+    assert!(rt; copy.take(7));
+    assert_eq!(rt;
+        (copy.number(), copy.len(), copy.time_bounds()),
+        (4, 1, Some((20, 20)))
+    );
+    assert_eq!(rt; (copy.source(), copy.kind()), (VertexId(2), KindId(5)));
+    assert_eq!(rt;
+        (block.number(), block.len(), block.time_bounds()),
+        (4, 2, Some((10, 20)))
+    );
+    Ok(())
+}
+
+#[test]
+fn refused_copy_leaves_the_shared_block(rt: HostRuntime) -> Result<(), Fail> {
+    let Ok(mut block) = Arc::new(rt.alloc(), two_edges(&rt)) else {
+        return refused(&rt);
+    };
+    let Ok(other) = Arc::try_clone(&block) else {
+        return refused(&rt);
+    };
+    let is_refused = match Arc::make_mut(&mut block) {
+        Ok(copy) => !copy.take(7),
+        Err(AllocError) => true,
+    };
+    assert_eq!(rt; (other.number(), other.len()), (4, 2));
+    assert_eq!(rt; block.len() == 2, is_refused);
+    if is_refused {
+        return refused(&rt);
+    }
+    Ok(())
+}
+
+/// Tells `tools/refuse-each-growth` that a growth was refused, which the test accepted.
+fn refused(rt: &impl Print) -> Result<(), Fail> {
+    println!(rt; "refused")?;
+    Ok(())
 }

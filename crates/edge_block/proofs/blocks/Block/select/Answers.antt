@@ -1,5 +1,6 @@
 use Rattle.std.proofs.Common.{◌∙◌, sym, ap, length}
 use Rattle.edge_block.proofs.Places.{length-slots_of}
+use Rattle.edge_block.proofs.Ranges.{lent_in_range}
 use Rattle.edge_block.proofs.Views.{lent_within, lent_none, lent_few}
 use Rattle.edge_block.proofs.blocks.Block.select.Goals as goal
 use Rattle.edge_block.proofs.blocks.Block.select.Goals.{then-takes, else-takes}
@@ -19,3 +20,6 @@ returns-clause-lends c =
 
 pub returns-clause-few : goal.returns-clause-few
 returns-clause-few c = rw (returns-clause-lends c) (lent_few c.args.self.now c.args.view.now (ap (λ b. length b.slots) (sym c.self.view_is) ∙ length-slots_of c.self.inside.live c.self.inside.targets c.self.inside.weights c.self.inside.firsts c.self.inside.recents))
+
+pub returns-clause-in_range : goal.returns-clause-in_range
+returns-clause-in_range c = rw (returns-clause-lends c) (lent_in_range c.args.self.now c.args.view.now (rw (← c.self.view_is) c.self.invariant.stamped))
