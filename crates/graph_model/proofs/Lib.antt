@@ -9,3 +9,10 @@ pub mod Tallies
 pub mod Places
 pub mod Rows
 pub mod TwoOrders
+pub mod OneTable
+pub mod Walks
+pub mod Counts
+pub mod Settling
+pub mod Arcs
+pub mod Cores
+pub mod SomeTable

@@ -1,5 +1,5 @@
--- What the analyses measure on a view: levels, labels and core numbers. No contract cites these yet.
-use Rattle.std.specs.Prelude.{◌≡◌, ◌≢◌, ℕ, ◌≤◌, List, length, Bool, IsTrue, zero, suc, ◌⊎◌, All, AllPairs}
+-- What the analyses measure on a view: levels, labels and core numbers.
+use Rattle.std.specs.Prelude.{◌≡◌, ◌≢◌, ℕ, ◌≤◌, List, length, slice_get, Bool, IsTrue, zero, suc, ◌⊎◌, All, AllPairs}
 use Rattle.std.specs.FinMap.{get}
 use Rattle.std.specs.declared.option.Option.{Option}
 use Rattle.std.specs.declared.option.Option.TheVariants.{None, Some}
@@ -59,3 +59,18 @@ InCore f g k v = (member : ℕ → Bool) × IsTrue (member v) × IsDense f g k m
 -- the core number of v: the greatest k whose core holds it
 abbrev pub IsCoreNumber : Filter → Graph → ℕ → ℕ → Type 0
 IsCoreNumber f g v k = InCore f g k v × ((j : ℕ) → InCore f g j v → j ≤ k)
+
+-- one value for each of n vertices, in number order, each as the property says
+pub record IsTable {X : Type 0} (n : ℕ) (Is : ℕ → X → Type 0) (values : List X) : Type 0 where
+  pub one_each : length values ≡ n
+  pub each : (v : ℕ) (x : X) → slice_get values v ≡ Some x → Is v x
+
+-- the levels from a source, the labels and the core numbers of all vertices
+abbrev pub AreLevels : Filter → Graph → ℕ → List (Option ℕ) → Type 0
+AreLevels f g source levels = IsTable (length g.names) (IsLevel f g source) levels
+
+abbrev pub AreLabels : Filter → Graph → List ℕ → Type 0
+AreLabels f g labels = IsTable (length g.names) (IsLabel f g) labels
+
+abbrev pub AreCoreNumbers : Filter → Graph → List ℕ → Type 0
+AreCoreNumbers f g numbers = IsTable (length g.names) (IsCoreNumber f g) numbers

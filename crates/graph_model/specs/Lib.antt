@@ -9,3 +9,5 @@ pub mod Answer
 pub mod Laws
 pub mod Drafts
 pub mod Tally
+pub mod Arcs
+pub mod Tables

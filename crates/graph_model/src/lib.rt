@@ -12,6 +12,7 @@ mod lists;
 mod requests;
 mod slow_apply;
 mod slow_reply;
+mod tables;
 #[cfg(test)]
 mod tests;
 mod texts;
@@ -24,4 +25,5 @@ pub use lists::List;
 pub use requests::{AskError, NamedFilter, Reply, Request};
 pub use slow_apply::{PlainError, plain_apply};
 pub use slow_reply::plain_reply;
+pub use tables::{law_one_table, law_some_table};
 pub use texts::{Name, is_kind_name, is_name};
