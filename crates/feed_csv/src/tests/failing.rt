@@ -1,7 +1,7 @@
 // Readers that fail, the limit on records, and refused growths.
 
-use super::readers::{Pieces, Repeating};
-use super::texts::outcome_text;
+use super::readers::{Pieces, Repeating, in_pieces};
+use super::texts::gives;
 use crate::{Command, Feed, FeedFault, FeedWord};
 use graph_model::{Name, NamedOp, Request};
 use std::alloc::Global;
@@ -16,62 +16,71 @@ fn is_fault(outcome: &Result<Option<Command>, FeedFault>, at: u64, word: FeedWor
     }
 }
 
-// Fails each of the script's reads in turn. With each record stands the read that shows its end.
+// Fails each of the script's reads in turn. `; ` parts the records; with each goes the read that shows its end.
 fn check(
     rt: &impl Abort,
     alloc: Global,
     script: &[u8],
-    records: &[(&str, usize)],
+    records: &str,
+    ends: &[usize],
     kind: io::ErrorKind,
-) -> Result<(), Fail> {
+) {
     for stops_at in 1..script.len().saturating_add(2) {
-        let reader = Pieces {
-            rest: script,
-            most: 1,
-            reads: 0,
-            stops_at,
-            kind: Some(kind),
-        };
-        let mut feed = Feed::over(alloc, reader);
-        let mut record: u64 = 1;
-        for (want, end) in records {
-            if *end < stops_at {
-                let text = outcome_text(alloc, &feed.next())?;
-                assert_eq!(rt; text.as_str(), *want, "read {stops_at}");
-                record = record.saturating_add(1);
-            }
-        }
-        for _ in 0..3 {
-            assert!(rt;
-                is_fault(&feed.next(), record, FeedWord::Read),
-                "read {stops_at}"
-            );
+        check_failure(
+            rt,
+            alloc,
+            in_pieces(script, 1, stops_at, Some(kind)),
+            records,
+            ends,
+        );
+    }
+}
+
+// Where the reader fails, the records whose end was read are given, and then each call tells a failed read.
+fn check_failure(
+    rt: &impl Abort,
+    alloc: Global,
+    reader: Pieces<'_>,
+    records: &str,
+    ends: &[usize],
+) {
+    let stops_at = reader.stops_at;
+    let mut feed = Feed::over(alloc, reader);
+    let mut record: u64 = 1;
+    for (want, end) in records.split("; ").zip(ends) {
+        if *end < stops_at {
+            assert!(rt; gives(alloc, &mut feed, want), "read {stops_at}");
+            record = record.saturating_add(1);
         }
     }
-    Ok(())
+    for _ in 0..3 {
+        assert!(rt;
+            is_fault(&feed.next(), record, FeedWord::Read),
+            "read {stops_at}"
+        );
+    }
 }
 
 #[test]
-fn stops_where_a_read_fails(rt: HostRuntime) -> Result<(), Fail> {
-    let kinds = [
+fn stops_where_a_read_fails(rt: HostRuntime) {
+    for kind in [
         io::ErrorKind::BrokenPipe,
         io::ErrorKind::Interrupted,
         io::ErrorKind::OutOfMemory,
-    ];
-    for kind in kinds {
-        let records = [
-            ("open 0", 7),
-            ("commit", 14),
-            ("BadCommand 3", 18),
-            ("close 0", 26),
-        ];
-        let script = b"open,0\ncommit\nbad\nclose,0\n";
-        check(&rt, rt.alloc(), script, &records, kind)?;
+    ] {
+        let script = b"open,0\ncommit\nbad\nclose,0\n".as_slice();
+        let records = "open 0; commit; BadCommand 3; close 0";
+        check(&rt, rt.alloc(), script, records, &[7, 14, 18, 26], kind);
         // the read that gives nothing shows the last record's end
-        let records = [("open 0", 7), ("commit", 14)];
-        check(&rt, rt.alloc(), b"open,0\ncommit", &records, kind)?;
+        check(
+            &rt,
+            rt.alloc(),
+            b"open,0\ncommit".as_slice(),
+            "open 0; commit",
+            &[7, 14],
+            kind,
+        );
     }
-    Ok(())
 }
 
 // A million records are given, `commit` and a blank line and then 999 of no command again and again, and no more,

@@ -14,6 +14,21 @@ pub(crate) struct Pieces<'a> {
     pub kind: Option<io::ErrorKind>,
 }
 
+pub(crate) fn in_pieces(
+    script: &[u8],
+    most: usize,
+    stops_at: usize,
+    kind: Option<io::ErrorKind>,
+) -> Pieces<'_> {
+    Pieces {
+        rest: script,
+        most,
+        reads: 0,
+        stops_at,
+        kind,
+    }
+}
+
 impl<'a> Read for Pieces<'a> {
     fn read(&mut self, buf: &mut [u8]) -> io::Result<usize> {
         self.reads = self.reads.saturating_add(1);

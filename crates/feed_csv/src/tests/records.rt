@@ -1,135 +1,112 @@
 // Scripts and what their records give: RFC 4180, and what it leaves open.
 
-use super::readers::Pieces;
-use super::texts::outcome_text;
+use super::readers::in_pieces;
+use super::texts::gives;
 use crate::Feed;
 use std::alloc::Global;
 use std::process::Abort;
 use std::test::Fail;
 
-// The reader's records give these outcomes, which `; ` parts, and the end from then on.
-fn check_calls(rt: &impl Abort, alloc: Global, reader: Pieces<'_>, want: &str) -> Result<(), Fail> {
-    let mut feed = Feed::over(alloc, reader);
+const BAD_RECORDS: &str =
+    "open,0\nbad\ncommit,1\ncommit => open 0; BadCommand 2; BadFields 3; commit; end";
+
+const BLANK_LINES: &str = " => end ~~ \
+    \n\r\n\r\r\n\n => end ~~ \
+    \n\r\n\r\rcommit\rbad\r\ncommit\n\n => commit; BadCommand 2; commit; end ~~ \
+    commit\r => commit; end ~~ \
+    commit\n\rcommit => commit; commit; end ~~ \
+    \"\" => BadCommand 1; end ~~ \
+    \n\"\"\n\ncommit => BadCommand 1; commit; end ~~ \
+    ,\n => BadCommand 1; end ~~ \
+    \x20\ncommit => BadCommand 1; commit; end";
+
+const UNTRIMMED: &str = "commit \n commit\ncommit,\n#commit\ncommit\0 \
+    => BadCommand 1; BadCommand 2; BadFields 3; BadCommand 4; BadCommand 5; end ~~ \
+    r;k;a;b\nr\tk\ta\tb => BadCommand 1; BadCommand 2; end ~~ \
+    r,k,a\\,b,c => BadFields 1; end";
+
+const QUOTES: &str = "\"r\",\"k\",\"a\",\"b\"\r\n\"commit\" => r k a b; commit; end ~~ \
+    \"com\"mit => commit; end ~~ \
+    r,k,a\"b,c\" => r k a\"b c\"; end ~~ \
+    r,k,\"a\"b\"c\",d => r k ab\"c\" d; end ~~ \
+    r,k,\"a\"\"b\",\"\"\"\" => r k a\"b \"; end ~~ \
+    r,k,\"a,b\",c => r k a,b c; end ~~ \
+    r,k,\"a\nb\",c\ncommit => BadName 1; commit; end ~~ \
+    r,k,a,\"b => r k a b; end ~~ \
+    commit\n\"commit\ncommit\n => commit; BadCommand 2; end ~~ \
+    \" => BadCommand 1; end";
+
+const BYTE_ORDER_MARKS: &str = "\u{feff}commit\n\u{feff}commit => commit; BadCommand 2; end ~~ \
+    \u{feff}\"commit\" => commit; end ~~ \
+    \u{feff}\u{feff}commit => BadCommand 1; end ~~ \
+    \n\u{feff}commit => BadCommand 1; end ~~ \
+    \u{feff} => end";
+
+// The script, in pieces of at most so many bytes, gives these outcomes, which `; ` parts, and the end from then on. The
+// read of the number `stops_at` gives nothing; where it is 0 none does.
+fn check_calls(
+    rt: &impl Abort,
+    alloc: Global,
+    script: &[u8],
+    most: usize,
+    stops_at: usize,
+    want: &str,
+) {
+    let mut feed = Feed::over(alloc, in_pieces(script, most, stops_at, None));
     for part in want.split("; ") {
-        let text = outcome_text(alloc, &feed.next())?;
-        assert_eq!(rt; text.as_str(), part, "{want}");
+        assert!(rt; gives(alloc, &mut feed, part), "{want}");
     }
-    assert!(rt;
-        feed.next().is_ok_and(|command| command.is_none()),
-        "{want}"
-    );
-    assert!(rt;
-        feed.next().is_ok_and(|command| command.is_none()),
-        "{want}"
-    );
-    Ok(())
+    assert!(rt; gives(alloc, &mut feed, "end"), "{want}");
+    assert!(rt; gives(alloc, &mut feed, "end"), "{want}");
 }
 
-// A script gives the same whole and in pieces of a byte.
-fn check(rt: &impl Abort, alloc: Global, scripts: &[(&[u8], &str)]) -> Result<(), Fail> {
-    for (script, want) in scripts {
-        for most in [script.len(), 1] {
-            let reader = Pieces {
-                rest: *script,
-                most,
-                reads: 0,
-                stops_at: 0,
-                kind: None,
-            };
-            check_calls(rt, alloc, reader, *want)?;
-        }
+// Each row of a table, which ` ~~ ` parts, is a script, and behind ` => ` what it gives, whole and in pieces of a byte.
+fn check(rt: &impl Abort, alloc: Global, table: &str) -> Result<(), Fail> {
+    for row in table.split(" ~~ ") {
+        let (script, want) = row.split_once(" => ").ok_or("no script")?;
+        check_calls(rt, alloc, script.as_bytes(), script.len(), 0, want);
+        check_calls(rt, alloc, script.as_bytes(), 1, 0, want);
     }
     Ok(())
 }
 
 #[test]
 fn goes_on_behind_a_bad_record(rt: HostRuntime) -> Result<(), Fail> {
-    let scripts = [
-        (
-            b"open,0\nbad\ncommit,1\ncommit".as_slice(),
-            "open 0; BadCommand 2; BadFields 3; commit; end",
-        ),
-        (b"r,k,a\xff,b\nr,k,a,b", "BadName 1; r k a b; end"),
-    ];
-    check(&rt, rt.alloc(), &scripts)
+    let bad_utf8 = b"r,k,a\xff,b\nr,k,a,b".as_slice();
+    check_calls(&rt, rt.alloc(), bad_utf8, 1, 0, "BadName 1; r k a b; end");
+    check(&rt, rt.alloc(), BAD_RECORDS)
 }
 
 #[test]
 fn passes_over_blank_lines(rt: HostRuntime) -> Result<(), Fail> {
-    let scripts = [
-        (b"".as_slice(), "end"),
-        (b"\n\r\n\r\r\n\n", "end"),
-        (
-            b"\n\r\n\r\rcommit\rbad\r\ncommit\n\n",
-            "commit; BadCommand 2; commit; end",
-        ),
-        (b"commit\r", "commit; end"),
-        (b"commit\n\rcommit", "commit; commit; end"),
-        (b"\"\"", "BadCommand 1; end"),
-        (b"\n\"\"\n\ncommit", "BadCommand 1; commit; end"),
-        (b",\n", "BadCommand 1; end"),
-        (b" \ncommit", "BadCommand 1; commit; end"),
-    ];
-    check(&rt, rt.alloc(), &scripts)
+    check(&rt, rt.alloc(), BLANK_LINES)
 }
 
 #[test]
 fn trims_nothing(rt: HostRuntime) -> Result<(), Fail> {
-    let scripts = [
-        (
-            b"commit \n commit\ncommit,\n#commit\ncommit\0".as_slice(),
-            "BadCommand 1; BadCommand 2; BadFields 3; BadCommand 4; BadCommand 5; end",
-        ),
-        (b"r;k;a;b\nr\tk\ta\tb", "BadCommand 1; BadCommand 2; end"),
-        (b"r,k,a\\,b,c", "BadFields 1; end"),
-    ];
-    check(&rt, rt.alloc(), &scripts)
+    check(&rt, rt.alloc(), UNTRIMMED)
 }
 
 #[test]
 fn reads_quotes(rt: HostRuntime) -> Result<(), Fail> {
-    let scripts = [
-        (
-            b"\"r\",\"k\",\"a\",\"b\"\r\n\"commit\"".as_slice(),
-            "r k a b; commit; end",
-        ),
-        (b"\"com\"mit", "commit; end"),
-        (b"r,k,a\"b,c\"", "r k a\"b c\"; end"),
-        (b"r,k,\"a\"b\"c\",d", "r k ab\"c\" d; end"),
-        (b"r,k,\"a\"\"b\",\"\"\"\"", "r k a\"b \"; end"),
-        (b"r,k,\"a,b\",c", "r k a,b c; end"),
-        (b"r,k,\"a\nb\",c\ncommit", "BadName 1; commit; end"),
-        (b"r,k,a,\"b", "r k a b; end"),
-        (b"commit\n\"commit\ncommit\n", "commit; BadCommand 2; end"),
-        (b"\"", "BadCommand 1; end"),
-    ];
-    check(&rt, rt.alloc(), &scripts)
+    check(&rt, rt.alloc(), QUOTES)
 }
 
 #[test]
 fn drops_one_byte_order_mark(rt: HostRuntime) -> Result<(), Fail> {
-    let scripts = [
-        (
-            b"\xef\xbb\xbfcommit\n\xef\xbb\xbfcommit".as_slice(),
-            "commit; BadCommand 2; end",
-        ),
-        (b"\xef\xbb\xbf\"commit\"", "commit; end"),
-        (b"\xef\xbb\xbf\xef\xbb\xbfcommit", "BadCommand 1; end"),
-        (b"\n\xef\xbb\xbfcommit", "BadCommand 1; end"),
-        (b"\xef\xbbcommit", "BadCommand 1; end"),
-        (b"\xef\xbb\xbf", "end"),
-    ];
-    check(&rt, rt.alloc(), &scripts)
+    let half = b"\xef\xbbcommit".as_slice();
+    check_calls(&rt, rt.alloc(), half, 1, 0, "BadCommand 1; end");
+    check(&rt, rt.alloc(), BYTE_ORDER_MARKS)
 }
 
 #[test]
-fn ends_for_good(rt: HostRuntime) -> Result<(), Fail> {
-    let pauses = Pieces {
-        rest: b"commit\ncommit\n",
-        most: 1,
-        reads: 0,
-        stops_at: 8,
-        kind: None,
-    };
-    check_calls(&rt, rt.alloc(), pauses, "commit; end")
+fn ends_for_good(rt: HostRuntime) {
+    check_calls(
+        &rt,
+        rt.alloc(),
+        b"commit\ncommit\n".as_slice(),
+        1,
+        8,
+        "commit; end",
+    );
 }

@@ -1,6 +1,7 @@
 // Records and what they give, by hand after the formats of records.
 
-use super::texts::outcome_text;
+use super::readers::in_pieces;
+use super::texts::gives;
 use crate::{Feed, FeedFault, FeedWord};
 use std::alloc::Global;
 use std::process::Abort;
@@ -143,12 +144,15 @@ close,3 => close 3";
 fn check(rt: &impl Abort, alloc: Global, table: &str) -> Result<(), Fail> {
     for line in table.lines() {
         let (record, want) = line.split_once(" => ").ok_or("no record")?;
-        let mut feed = Feed::over(alloc, record.as_bytes());
-        let text = outcome_text(alloc, &feed.next())?;
-        assert_eq!(rt; text.as_str(), want, "record {record}");
-        assert!(rt; feed.next().is_ok_and(|command| command.is_none()));
+        check_record(rt, alloc, record, want);
     }
     Ok(())
+}
+
+fn check_record(rt: &impl Abort, alloc: Global, record: &str, want: &str) {
+    let mut feed = Feed::over(alloc, in_pieces(record.as_bytes(), record.len(), 0, None));
+    assert!(rt; gives(alloc, &mut feed, want), "{record}");
+    assert!(rt; gives(alloc, &mut feed, "end"), "{record}");
 }
 
 #[test]

@@ -1,6 +1,7 @@
 // What a call gave, as text: a command with its values, a fault's word and number, or the end.
 
-use crate::{Command, FeedFault};
+use super::readers::Pieces;
+use crate::{Command, Feed, FeedFault};
 use graph_model::{Name, NamedOp, Request};
 use std::alloc::{AllocError, Global};
 
@@ -68,7 +69,7 @@ fn request_text(alloc: Global, slot: u8, request: &Request) -> Result<String, Al
     }
 }
 
-pub(crate) fn outcome_text(
+fn outcome_text(
     alloc: Global,
     outcome: &Result<Option<Command>, FeedFault>,
 ) -> Result<String, AllocError> {
@@ -85,4 +86,17 @@ pub(crate) fn outcome_text(
             format!(in alloc; "{word} {at}")
         }
     }
+}
+
+fn is_text(text: &Result<String, AllocError>, want: &str) -> bool {
+    match text {
+        Ok(text) => text.as_str() == want,
+        Err(_) => false,
+    }
+}
+
+/// Whether the next call gives this.
+pub(crate) fn gives(alloc: Global, feed: &mut Feed<Pieces<'_>>, want: &str) -> bool {
+    let outcome = feed.next();
+    is_text(&outcome_text(alloc, &outcome), want)
 }
