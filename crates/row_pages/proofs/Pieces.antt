@@ -1,0 +1,127 @@
+-- Lists in pieces of one length: their elements, and a piece changed.
+use Rattle.std.proofs.Common.{◌≡◌, ℕ, zero, suc, ◌+◌, ◌*◌, ◌<◌, ◌≤◌, ◌==◌, List, [], ◌∷◌, ◌++◌, length, get_or, set, map, flat_map, take, replicate, refl, sym, ap, ◌∙◌, arith, length-append, append_assoc, inl, inr, Result, Ok, Err, if◌then◌else◌}
+use Rattle.std.specs.Result.{OnOk}
+use Rattle.std.proofs.lemmas.Bool.Decides.{eqb_tells}
+use Rattle.std.proofs.lemmas.List.{set-append_left, set-append_right, get_or-set_same, get_or-set_other, append-nil}
+use Rattle.std.specs.List.{AllZip}
+use Rattle.std.proofs.lemmas.List.Elements.{All-head, All-tail, All-cons, All-push}
+use Rattle.std.proofs.lemmas.List.Concat.{get_or-flat_map}
+use Rattle.std.proofs.Math.ListN.{get_or-eq_default}
+use Rattle.row_pages.specs.Pieces.{ArePieces}
+
+-- a list whose elements are those of a list of eight
+pub eight : {A B : Type 0} (f : A → B) (xs : List A) (d0 d1 d2 d3 d4 d5 d6 d7 : A) (r0 r1 r2 r3 r4 r5 r6 r7 : B) → length xs ≡ 8
+    → r0 ≡ f (get_or xs 0 d0) → r1 ≡ f (get_or xs 1 d1) → r2 ≡ f (get_or xs 2 d2) → r3 ≡ f (get_or xs 3 d3)
+    → r4 ≡ f (get_or xs 4 d4) → r5 ≡ f (get_or xs 5 d5) → r6 ≡ f (get_or xs 6 d6) → r7 ≡ f (get_or xs 7 d7)
+    → r0 ∷ r1 ∷ r2 ∷ r3 ∷ r4 ∷ r5 ∷ r6 ∷ r7 ∷ [] ≡ map f xs
+eight f [] d0 d1 d2 d3 d4 d5 d6 d7 r0 r1 r2 r3 r4 r5 r6 r7 long e0 e1 e2 e3 e4 e5 e6 e7 = absurd (omega arith)
+eight f (a ∷ []) d0 d1 d2 d3 d4 d5 d6 d7 r0 r1 r2 r3 r4 r5 r6 r7 long e0 e1 e2 e3 e4 e5 e6 e7 = absurd (omega arith)
+eight f (a ∷ b ∷ []) d0 d1 d2 d3 d4 d5 d6 d7 r0 r1 r2 r3 r4 r5 r6 r7 long e0 e1 e2 e3 e4 e5 e6 e7 = absurd (omega arith)
+eight f (a ∷ b ∷ c ∷ []) d0 d1 d2 d3 d4 d5 d6 d7 r0 r1 r2 r3 r4 r5 r6 r7 long e0 e1 e2 e3 e4 e5 e6 e7 = absurd (omega arith)
+eight f (a ∷ b ∷ c ∷ d ∷ []) d0 d1 d2 d3 d4 d5 d6 d7 r0 r1 r2 r3 r4 r5 r6 r7 long e0 e1 e2 e3 e4 e5 e6 e7 = absurd (omega arith)
+eight f (a ∷ b ∷ c ∷ d ∷ e ∷ []) d0 d1 d2 d3 d4 d5 d6 d7 r0 r1 r2 r3 r4 r5 r6 r7 long e0 e1 e2 e3 e4 e5 e6 e7 = absurd (omega arith)
+eight f (a ∷ b ∷ c ∷ d ∷ e ∷ g ∷ []) d0 d1 d2 d3 d4 d5 d6 d7 r0 r1 r2 r3 r4 r5 r6 r7 long e0 e1 e2 e3 e4 e5 e6 e7 = absurd (omega arith)
+eight f (a ∷ b ∷ c ∷ d ∷ e ∷ g ∷ h ∷ []) d0 d1 d2 d3 d4 d5 d6 d7 r0 r1 r2 r3 r4 r5 r6 r7 long e0 e1 e2 e3 e4 e5 e6 e7 = absurd (omega arith)
+eight f (a ∷ b ∷ c ∷ d ∷ e ∷ g ∷ h ∷ i ∷ []) d0 d1 d2 d3 d4 d5 d6 d7 r0 r1 r2 r3 r4 r5 r6 r7 long e0 e1 e2 e3 e4 e5 e6 e7 = cc
+eight f (a ∷ b ∷ c ∷ d ∷ e ∷ g ∷ h ∷ i ∷ j ∷ xs) d0 d1 d2 d3 d4 d5 d6 d7 r0 r1 r2 r3 r4 r5 r6 r7 long e0 e1 e2 e3 e4 e5 e6 e7 = absurd (omega arith)
+
+default_only : {A : Type 0} (d : A) (m s : ℕ) → get_or (replicate m d) s d ≡ d
+default_only d zero s = refl
+default_only d (suc m) zero = refl
+default_only d (suc m) (suc s) = default_only d m s
+
+-- defaults past the end are not seen by look-up
+past_end : {A : Type 0} (xs : List A) (d : A) (m s : ℕ) → get_or (xs ++ replicate m d) s d ≡ get_or xs s d
+past_end [] d m s = default_only d m s
+past_end (x ∷ xs) d m zero = refl
+past_end (x ∷ xs) d m (suc s) = past_end xs d m s
+
+-- an element written, by look-up
+pub set_look_up : {A : Type 0} (xs : List A) (i : ℕ) (v d : A) (s : ℕ) → i < length xs → get_or (set xs i v) s d ≡ (if s == i then v else get_or xs s d)
+set_look_up xs i v d s lt =
+    elim (eqb_tells s i) [
+      | inl same ↦ rw (same.0, same.1) (get_or-set_same xs i v d lt)
+      | inr other ↦ rw other.0 (get_or-set_other xs i s v d other.1)
+    ]
+
+module _ {X A : Type 0} (n : ℕ) (f : X → List A) where
+  pub long : (xs : List X) → ArePieces n f xs → length (flat_map f xs) ≡ length xs * n
+  long [] all = omega arith
+  long (x ∷ xs) all =
+      let here : length (f x) ≡ n = All-head (λ x. length (f x) ≡ n) x xs all in
+      let rest = long xs (All-tail (λ x. length (f x) ≡ n) x xs all) in
+      let both = length-append (f x) (flat_map f xs) in omega arith
+
+  before : (xs : List X) (i : ℕ) → ArePieces n f xs → i ≤ length xs → length (flat_map f (take i xs)) ≡ i * n
+  before xs zero all le = omega arith
+  before [] (suc i) all le = absurd (omega arith)
+  before (x ∷ xs) (suc i) all le =
+      let here : length (f x) ≡ n = All-head (λ x. length (f x) ≡ n) x xs all in
+      let rest = before xs i (All-tail (λ x. length (f x) ≡ n) x xs all) (omega arith) in
+      let both = length-append (f x) (flat_map f (take i xs)) in omega arith
+
+  -- the element at a place of a piece
+  pub at_piece : (xs : List X) (s i j : ℕ) (e : X) (d : A) → ArePieces n f xs → s ≡ i * n + j → i < length xs → j < n
+      → get_or (flat_map f xs) s d ≡ get_or (f (get_or xs i e)) j d
+  at_piece xs s i j e d all is lt within =
+      let piece : length (f (get_or xs i e)) ≡ n = all i e lt in
+      let pre = before xs i all (omega arith) in
+      let place : length (flat_map f (take i xs)) + j ≡ s = omega arith in
+      ap (λ k. get_or (flat_map f xs) k d) (sym place) ∙ get_or-flat_map f xs i j e d lt (omega arith)
+
+  -- a place past the last piece has no element
+  pub past_pieces : (xs : List X) (s : ℕ) (d : A) → ArePieces n f xs → length xs * n ≤ s → get_or (flat_map f xs) s d ≡ d
+  past_pieces xs s d all le = let l = long xs all in get_or-eq_default (flat_map f xs) d (omega arith)
+
+  -- an element of one piece written
+  pub set_piece : (xs : List X) (s i j : ℕ) (y d : X) (v : A) → ArePieces n f xs → s ≡ i * n + j → i < length xs → j < n
+      → f y ≡ set (f (get_or xs i d)) j v → flat_map f (set xs i y) ≡ set (flat_map f xs) s v
+  set_piece [] s i j y d v all is lt within e = absurd (omega arith)
+  set_piece (x ∷ xs) s zero j y d v all is lt within e =
+      let here : length (f x) ≡ n = All-head (λ x. length (f x) ≡ n) x xs all in
+      ap (λ p. p ++ flat_map f xs) e ∙ sym (set-append_left (f x) (flat_map f xs) j v (omega arith)) ∙ ap (λ k. set (f x ++ flat_map f xs) k v) (omega arith)
+  set_piece (x ∷ xs) s (suc i) j y d v all is lt within e =
+      let here : length (f x) ≡ n = All-head (λ x. length (f x) ≡ n) x xs all in
+      let at : s ≡ n + (i * n + j) = omega arith in
+      ap (λ r. f x ++ r) (set_piece xs (i * n + j) i j y d v (All-tail (λ x. length (f x) ≡ n) x xs all) refl (omega arith) within e)
+      ∙ ap (λ k. f x ++ set (flat_map f xs) k v) (omega arith)
+      ∙ sym (set-append_right (f x) (flat_map f xs) n s v here (omega arith))
+
+  -- pieces that show the same show the same list
+  pub same_pieces : (xs ys : List X) → map f xs ≡ map f ys → flat_map f xs ≡ flat_map f ys
+  same_pieces [] [] same = refl
+  same_pieces [] (y ∷ ys) same = cc
+  same_pieces (x ∷ xs) [] same = cc
+  same_pieces (x ∷ xs) (y ∷ ys) same =
+      let head : f x ≡ f y = cc in
+      let tail : map f xs ≡ map f ys = cc in
+      let rest = same_pieces xs ys tail in cc
+
+  pub zip_flat : (xs ys : List X) → AllZip (λ x y. f y ≡ f x) xs ys → flat_map f ys ≡ flat_map f xs
+  zip_flat [] [] same = refl
+  zip_flat [] (y ∷ ys) same = absurd same
+  zip_flat (x ∷ xs) [] same = absurd same
+  zip_flat (x ∷ xs) (y ∷ ys) same = let tail = zip_flat xs ys same.1 in let head : f y ≡ f x = same.0 in cc
+
+  pub zip_pieces : (xs ys : List X) → AllZip (λ x y. f y ≡ f x) xs ys → ArePieces n f xs → ArePieces n f ys
+  zip_pieces [] [] same are = are
+  zip_pieces [] (y ∷ ys) same are = absurd same
+  zip_pieces (x ∷ xs) [] same are = absurd same
+  zip_pieces (x ∷ xs) (y ∷ ys) same are =
+      All-cons (λ x. length (f x) ≡ n) y ys (ap length same.0 ∙ All-head (λ x. length (f x) ≡ n) x xs are)
+      (zip_pieces xs ys same.1 (All-tail (λ x. length (f x) ≡ n) x xs are))
+
+  flat_push : (xs : List X) (y : X) → flat_map f (xs ++ y ∷ []) ≡ flat_map f xs ++ f y
+  flat_push [] y = append-nil (f y)
+  flat_push (x ∷ xs) y = ap (λ l. f x ++ l) (flat_push xs y) ∙ sym (append_assoc (f x) (flat_map f xs) (f y))
+
+  -- one more piece, of n times the default, is not seen by look-up
+  pub blank_pushed : (xs : List X) (y : X) (d : A) (m s : ℕ) → f y ≡ replicate m d → get_or (flat_map f (xs ++ y ∷ [])) s d ≡ get_or (flat_map f xs) s d
+  blank_pushed xs y d m s blank = ap (λ l. get_or l s d) (flat_push xs y ∙ ap (λ l. flat_map f xs ++ l) blank) ∙ past_end (flat_map f xs) d m s
+
+  pub push_piece : (xs : List X) (y : X) → ArePieces n f xs → length (f y) ≡ n → ArePieces n f (xs ++ y ∷ [])
+  push_piece xs y are whole = All-push (λ x. length (f x) ≡ n) xs y are whole
+
+pub OnOk-then : {T E : Type 0} (r : Result T E) {P Q : Type 0} → (P → Q) → OnOk r P → OnOk r Q
+OnOk-then (Ok x) f p = f p
+OnOk-then (Err e) f p = tt

@@ -1,0 +1,13 @@
+use Rattle.std.proofs.Common.{◌∙◌, ◌/◌, ◌%◌, [], List, ap, sym, get_or, arith}
+use Rattle.edge_block.specs.Slots.{BlockView}
+use Rattle.row_pages.specs.Pieces.{in_part}
+use Rattle.row_pages.proofs.Pieces.{at_piece}
+use Rattle.row_pages.proofs.pages.Page.row.Goals as goal
+
+pub returns : goal.returns
+returns c =
+    let told = c.self.told in
+    let within = c.requires in
+    rw (← c.self.view_is)
+    (c.row.ensures.row ∙ ap (λ (p : List (List BlockView)). get_or p (c.args.place % 8) []) c.deref.ensures
+    ∙ sym (at_piece 8 in_part c.self.inside.parts c.args.place (c.args.place / 8) (c.args.place % 8) c.index-self-place.result [] c.self.invariant.0 (omega arith) (omega arith) (omega arith)))

@@ -1,0 +1,12 @@
+use Rattle.std.proofs.Common.{◌≤◌, ◌^◌, length, arith}
+use Rattle.row_pages.specs.Pages.{in_page}
+use Rattle.row_pages.proofs.Pieces.{long}
+use Rattle.row_pages.proofs.rows.Rows.len.Goals as goal
+
+pub overflow_mul-result : goal.overflow_mul-result
+overflow_mul-result c = let few : length c.self.inside.pages.items ≤ 2 ^ 26 = c.self.invariant.1 in omega arith
+
+pub returns : goal.returns
+returns c =
+    let whole = long 64 in_page c.self.inside.pages.items c.self.invariant.0 in
+    rw (← c.self.view_is) (omega (arith, whole, c.len.ensures))

@@ -1,0 +1,4 @@
+pub mod Rows
+pub mod Sharing
+pub mod Pieces
+pub mod Pages
