@@ -12,8 +12,7 @@ use Rattle.std.proofs.lemmas.List.Sums.{sum_by-cons}
 use Rattle.std.proofs.lemmas.List.Folds.{fold-map}
 use Rattle.std.proofs.lemmas.Option.{none-some}
 use Rattle.std.proofs.lemmas.Int.{ints}
-use Rattle.graph_model.specs.Graph.{Key, Stamp, key_cmp, key_of, stamp_of, map_of}
-use Rattle.graph_model.specs.Tally.{entry_of}
+use Rattle.graph_model.specs.Graph.{Key, Stamp, key_cmp, key_of, stamp_of, entry_of, map_of}
 use Rattle.graph_model.specs.declared.ids.Edge.{Edge}
 use Rattle.graph_model.proofs.Keys.{keys_total, HasKeysOnce, once_head, once_tail, find_absent}
 

@@ -7,12 +7,11 @@ use Rattle.std.specs.declared.option.Option.{Option}
 use Rattle.std.specs.declared.option.Option.TheVariants.{None, Some}
 use Rattle.std.specs.Ordering.{nat_cmp, ordering_then, is_eq, eq_by_cmp}
 use Rattle.std.specs.Cmp.{IsTotalOrder}
-use Rattle.std.specs.FinMap.{IsAntisymmetric, nat_cmp-IsAntisymmetric, find, get, len, get-empty, get-insert, get-from_entries, len-empty, len-insert, same_map}
+use Rattle.std.specs.FinMap.{IsAntisymmetric, nat_cmp-IsAntisymmetric, find, get, len, get-insert, get-from_entries, len-empty, len-insert, same_map}
 use Rattle.std.proofs.lemmas.Cmp.{then_total, on_total, nat_cmp_total, tied_itself}
 use Rattle.std.proofs.lemmas.List.Sums.{sum_by-cons, get_or-le-sum_by}
 use Rattle.std.proofs.lemmas.List.Sorted.{Contains-permutation, sum_by-IsPermutation, IsPermutation-sym}
-use Rattle.graph_model.specs.Graph.{Key, Stamp, key_cmp, key_of, stamp_of, map_of}
-use Rattle.graph_model.specs.Tally.{entry_of}
+use Rattle.graph_model.specs.Graph.{Key, Stamp, key_cmp, key_of, stamp_of, entry_of, map_of}
 use Rattle.graph_model.specs.declared.ids.Edge.{Edge}
 
 pub keys_total : IsTotalOrder key_cmp

@@ -1,13 +1,12 @@
 pub mod Copies
-pub mod Naming
-pub mod Placing
-pub mod Applying
+pub mod NameLists
+pub mod NameNumbers
+pub mod NamesKept
+pub mod EdgeLookup
 pub mod Keys
 pub mod Folds
-pub mod Crowds
-pub mod Tallies
-pub mod Places
-pub mod Rows
+pub mod DegreeBounds
+pub mod ListedDegrees
 pub mod TwoOrders
 pub mod OneTable
 pub mod Walks
@@ -16,3 +15,4 @@ pub mod Settling
 pub mod Arcs
 pub mod Cores
 pub mod SomeTable
+pub mod OneAnswer

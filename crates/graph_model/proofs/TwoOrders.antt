@@ -8,7 +8,7 @@ use Rattle.graph_model.specs.declared.contents.Content.{Content}
 use Rattle.graph_model.specs.declared.ids.Edge.{Edge}
 use Rattle.graph_model.specs.declared.ids.Degree.{Degree}
 use Rattle.graph_model.specs.declared.ids.Filter.{Filter}
-use Rattle.graph_model.proofs.Tallies.{degree_table_is}
+use Rattle.graph_model.proofs.ListedDegrees.{degree_table_is}
 
 abbrev there : Edge
 there = record { kind = record { 0 = 0 }; source = record { 0 = 0 }; target = record { 0 = 1 }; weight = pos 5; first = 10; recent = 10 }

@@ -5,8 +5,8 @@ use Rattle.std.specs.Option.{option_map}
 use Rattle.std.specs.FinMap.{get}
 use Rattle.std.specs.declared.option.Option.{Option}
 use Rattle.std.specs.declared.option.Option.TheVariants.{None, Some}
-use Rattle.graph_model.specs.Graph.{Graph, Key, Stamp}
-use Rattle.graph_model.specs.Step.{number_of}
+use Rattle.graph_model.specs.Graph.{Graph, Stamp}
+use Rattle.graph_model.specs.Step.{number_of, key_in}
 use Rattle.graph_model.specs.View.{out_degree, in_degree, out_weight}
 use Rattle.graph_model.specs.declared.ids.Filter.{Filter}
 use Rattle.graph_model.specs.declared.ids.Degree.{Degree}
@@ -48,9 +48,6 @@ refusal (AskOneEdge kind source target) g = first_refusal true (is_listed g.kind
 abbrev pub shown : Stamp → ℤ × ℕ × ℕ
 shown e = (e.weight, e.first, e.recent)
 
-abbrev pub edge_key : Graph → List ℕ → List ℕ → List ℕ → Key
-edge_key g kind source target = record { kind = number_of g.kinds kind; source = number_of g.names source; target = number_of g.names target }
-
 abbrev pub degree_at : Filter → Graph → ℕ → Degree
 degree_at f g v = record { outgoing = out_degree f g v; incoming = in_degree f g v; out_weight = out_weight f g v }
 
@@ -61,7 +58,7 @@ degree_table f g = map (degree_at f g) (range_with_len 0 (length g.names))
 -- a reply to a request that is not refused
 abbrev pub IsReply : Request → Graph → Reply → Type 0
 IsReply (AskDegrees filter) g reply = reply ≡ Degrees (zip g.names (degree_table (resolved g filter) g))
-IsReply (AskOneEdge kind source target) g reply = reply ≡ OneEdge (option_map shown (get g.edges (edge_key g kind source target)))
+IsReply (AskOneEdge kind source target) g reply = reply ≡ OneEdge (option_map shown (get g.edges (key_in g.names g.kinds kind source target)))
 
 -- the answer: the first refusal that holds, or else a reply
 abbrev pub IsAnswer : Request → Graph → Result Reply AskError → Type 0

@@ -1,20 +1,39 @@
--- The limits on names and kinds that a batch may meet, and its refusals.
-use Rattle.std.specs.Prelude.{◌<◌, List, length}
-use Rattle.graph_model.specs.Graph.{Graph}
-use Rattle.graph_model.specs.Step.{after_all}
-use Rattle.graph_model.specs.declared.batches.NamedOp.{NamedOp}
-use Rattle.graph_model.specs.declared.slow_apply.PlainError.{PlainError}
-use Rattle.graph_model.specs.declared.slow_apply.PlainError.TheVariants.{NamesFull, KindsFull, OutOfMemory}
+-- The limits, each said once. The numbers are this project's own profile; none comes from the literature.
+use Rattle.std.specs.Prelude.{ℕ, ◌≤◌, ◌<◌, ◌^◌, ℤ, nat_abs, nat_le, nat_lt, Bool}
 
--- a batch meets a limit where it would leave more names or kinds than that
-abbrev pub MeetsNameLimit : List NamedOp → Graph → Type 0
-MeetsNameLimit ops g = 65536 < length (after_all ops g).names
+-- how many vertex names and how many kind names a graph may have
+abbrev pub name_limit : ℕ
+name_limit = 65536
 
-abbrev pub MeetsKindLimit : List NamedOp → Graph → Type 0
-MeetsKindLimit ops g = 64 < length (after_all ops g).kinds
+abbrev pub kind_limit : ℕ
+kind_limit = 64
 
--- when a batch is refused: for the names first, then for the kinds; want of memory may come at any time
-abbrev pub Refuses : PlainError → List NamedOp → Graph → Type 0
-Refuses NamesFull ops g = MeetsNameLimit ops g
-Refuses KindsFull ops g = MeetsKindLimit ops g × (MeetsNameLimit ops g → ⊥)
-Refuses OutOfMemory ops g = Unit {0}
+-- how many operations a batch may have, how many batches there may be, and how many records a script
+abbrev pub operation_limit : ℕ
+operation_limit = 4096
+
+abbrev pub batch_limit : ℕ
+batch_limit = 65536
+
+abbrev pub record_limit : ℕ
+record_limit = 1000000
+
+-- a weight is a whole number of at most this size, and a time one below this
+abbrev pub weight_limit : ℕ
+weight_limit = 2 ^ 40
+
+abbrev pub time_limit : ℕ
+time_limit = 2 ^ 63
+
+abbrev pub IsWeight : ℤ → Type 0
+IsWeight weight = nat_abs weight ≤ weight_limit
+
+abbrev pub IsTime : ℕ → Type 0
+IsTime time = time < time_limit
+
+-- the same as tests
+abbrev pub is_weight : ℤ → Bool
+is_weight weight = nat_le (nat_abs weight) weight_limit
+
+abbrev pub is_time : ℕ → Bool
+is_time time = nat_lt time time_limit

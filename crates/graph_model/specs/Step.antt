@@ -1,14 +1,17 @@
 -- What operations and batches do to a graph.
-use Rattle.std.specs.Prelude.{ℕ, ◌^◌, ◌+ℤ◌, nat_abs, nat_le, List, [], ◌∷◌, ◌++◌, if◌then◌else◌, bytes_eq}
+use Rattle.std.specs.Prelude.{ℕ, ◌+ℤ◌, List, [], ◌∷◌, ◌++◌, Bool, true, false, if◌then◌else◌, bytes_eq}
 use Rattle.std.specs.List.{list_any, position_or_len}
 use Rattle.std.specs.FinMap.{FinMap, empty, get, insert, remove}
 use Rattle.std.specs.declared.option.Option.{Option}
 use Rattle.std.specs.declared.option.Option.TheVariants.{None, Some}
+use Rattle.graph_model.specs.Limits.{is_weight}
 use Rattle.graph_model.specs.Graph.{Graph, Key, Stamp, key_cmp}
 use Rattle.graph_model.specs.declared.batches.NamedOp.{NamedOp}
 use Rattle.graph_model.specs.declared.batches.NamedOp.TheVariants.{Insert, Incr, Remove}
 use Rattle.graph_model.specs.declared.batches.Outcome.{Outcome}
 use Rattle.graph_model.specs.declared.batches.Outcome.TheVariants.{Inserted, Updated, Removed, Absent, Overflow}
+use Rattle.graph_model.specs.declared.changes.EdgeChange.{EdgeChange}
+use Rattle.graph_model.specs.declared.changes.EdgeChange.TheVariants.{Insert as ToInsert, Incr as ToIncr, Remove as ToRemove}
 
 -- a list of names in order of first appearance, with a name that has now appeared
 abbrev pub with_name : List (List ℕ) → List ℕ → List (List ℕ)
@@ -18,60 +21,76 @@ with_name names name = if list_any (bytes_eq name) names then names else names +
 abbrev pub number_of : List (List ℕ) → List ℕ → ℕ
 number_of names name = position_or_len (bytes_eq name) names
 
--- what stands at the operation's key afterwards, where this stood there before
-abbrev pub stamp_after : NamedOp → Option Stamp → Option Stamp
-stamp_after (Insert kind source target weight time) None = Some (record { weight = weight; first = time; recent = time })
-stamp_after (Insert kind source target weight time) (Some e) = Some (record e { weight = weight; recent = time })
-stamp_after (Incr kind source target amount time) None = Some (record { weight = amount; first = time; recent = time })
-stamp_after (Incr kind source target amount time) (Some e) =
-    if nat_le (nat_abs (e.weight +ℤ amount)) (2 ^ 40) then Some (record e { weight = e.weight +ℤ amount; recent = time }) else Some e
-stamp_after (Remove kind source target) before = None
+-- What a change does at one key
 
--- the operation's outcome, where this stood at its key before
-abbrev pub outcome_at : NamedOp → Option Stamp → Outcome
-outcome_at (Insert kind source target weight time) None = Inserted
-outcome_at (Insert kind source target weight time) (Some e) = Updated
-outcome_at (Incr kind source target amount time) None = Inserted
-outcome_at (Incr kind source target amount time) (Some e) =
-    if nat_le (nat_abs (e.weight +ℤ amount)) (2 ^ 40) then Updated else Overflow
-outcome_at (Remove kind source target) None = Absent
-outcome_at (Remove kind source target) (Some e) = Removed
+-- what stands at the key afterwards, where this stood there before
+abbrev pub stamp_after : EdgeChange → Option Stamp → Option Stamp
+stamp_after (ToInsert weight time) None = Some (record { weight = weight; first = time; recent = time })
+stamp_after (ToInsert weight time) (Some e) = Some (record e { weight = weight; recent = time })
+stamp_after (ToIncr amount time) None = Some (record { weight = amount; first = time; recent = time })
+stamp_after (ToIncr amount time) (Some e) =
+    if is_weight (e.weight +ℤ amount) then Some (record e { weight = e.weight +ℤ amount; recent = time }) else Some e
+stamp_after ToRemove before = None
 
--- the names and the kinds afterwards: a removal makes none
-abbrev pub names_after : NamedOp → List (List ℕ) → List (List ℕ)
-names_after (Insert kind source target weight time) names = with_name (with_name names source) target
-names_after (Incr kind source target amount time) names = with_name (with_name names source) target
-names_after (Remove kind source target) names = names
-
-abbrev pub kinds_after : NamedOp → List (List ℕ) → List (List ℕ)
-kinds_after (Insert kind source target weight time) kinds = with_name kinds kind
-kinds_after (Incr kind source target amount time) kinds = with_name kinds kind
-kinds_after (Remove kind source target) kinds = kinds
-
--- the key that the operation names, by these lists of names and kinds
-abbrev pub key_in : List (List ℕ) → List (List ℕ) → NamedOp → Key
-key_in names kinds (Insert kind source target weight time) = record { kind = number_of kinds kind; source = number_of names source; target = number_of names target }
-key_in names kinds (Incr kind source target amount time) = record { kind = number_of kinds kind; source = number_of names source; target = number_of names target }
-key_in names kinds (Remove kind source target) = record { kind = number_of kinds kind; source = number_of names source; target = number_of names target }
-
-abbrev pub op_key : NamedOp → Graph → Key
-op_key op g = key_in (names_after op g.names) (kinds_after op g.kinds) op
+-- the outcome, where this stood at the key before
+abbrev pub outcome_at : EdgeChange → Option Stamp → Outcome
+outcome_at (ToInsert weight time) None = Inserted
+outcome_at (ToInsert weight time) (Some e) = Updated
+outcome_at (ToIncr amount time) None = Inserted
+outcome_at (ToIncr amount time) (Some e) = if is_weight (e.weight +ℤ amount) then Updated else Overflow
+outcome_at ToRemove None = Absent
+outcome_at ToRemove (Some e) = Removed
 
 -- the map with this at the key, and all else as it was
 abbrev pub set_at : FinMap key_cmp Stamp → Key → Option Stamp → FinMap key_cmp Stamp
 set_at edges key None = remove edges key
 set_at edges key (Some stamp) = insert edges key stamp
 
+-- A change of the edge of a kind between two vertices: its names are made, its key is found, and the map is set there
+
+-- whether a change makes the names of its edge: a removal makes none
+abbrev pub makes_names : EdgeChange → Bool
+makes_names (ToInsert weight time) = true
+makes_names (ToIncr amount time) = true
+makes_names ToRemove = false
+
+abbrev pub names_made : EdgeChange → List ℕ → List ℕ → List (List ℕ) → List (List ℕ)
+names_made change source target names = if makes_names change then with_name (with_name names source) target else names
+
+abbrev pub kinds_made : EdgeChange → List ℕ → List (List ℕ) → List (List ℕ)
+kinds_made change kind kinds = if makes_names change then with_name kinds kind else kinds
+
+-- the key of the edge of this kind between these vertices, by these lists of names and kinds
+abbrev pub key_in : List (List ℕ) → List (List ℕ) → List ℕ → List ℕ → List ℕ → Key
+key_in names kinds kind source target = record { kind = number_of kinds kind; source = number_of names source; target = number_of names target }
+
+abbrev pub changed_key : EdgeChange → List ℕ → List ℕ → List ℕ → Graph → Key
+changed_key change kind source target g = key_in (names_made change source target g.names) (kinds_made change kind g.kinds) kind source target
+
+abbrev pub changed : EdgeChange → List ℕ → List ℕ → List ℕ → Graph → Graph
+changed change kind source target g =
+    let key = changed_key change kind source target g in
+    record {
+      names = names_made change source target g.names;
+      kinds = kinds_made change kind g.kinds;
+      edges = set_at g.edges key (stamp_after change (get g.edges key));
+    }
+
+abbrev pub change_outcome : EdgeChange → List ℕ → List ℕ → List ℕ → Graph → Outcome
+change_outcome change kind source target g = outcome_at change (get g.edges (changed_key change kind source target g))
+
+-- Operations
+
 -- one operation
 abbrev pub after : NamedOp → Graph → Graph
-after op g = record {
-  names = names_after op g.names;
-  kinds = kinds_after op g.kinds;
-  edges = set_at g.edges (op_key op g) (stamp_after op (get g.edges (op_key op g)));
-}
+after (Insert kind source target weight time) g = changed (ToInsert weight time) kind source target g
+after (Incr kind source target amount time) g = changed (ToIncr amount time) kind source target g
+after (Remove kind source target) g = changed ToRemove kind source target g
 
 abbrev pub outcome : NamedOp → Graph → Outcome
-outcome op g = outcome_at op (get g.edges (op_key op g))
+outcome (Insert kind source target weight time) g = change_outcome (ToInsert weight time) kind source target g
+outcome (Incr kind source target amount time) g = change_outcome (ToIncr amount time) kind source target g
+outcome (Remove kind source target) g = change_outcome ToRemove kind source target g
 
 -- operations one after another, in order
 abbrev pub after_all : List NamedOp → Graph → Graph

@@ -1,8 +1,9 @@
 -- Which names, operations and batches are valid.
-use Rattle.std.specs.Prelude.{ℕ, ◌≤◌, ◌^◌, ℤ, nat_abs, nat_le, nat_lt, List, [], ◌∷◌, length, Bool, true, if◌then◌else◌, bytes_eq, not, ◌&&◌, IsTrue, All}
+use Rattle.std.specs.Prelude.{ℕ, ◌≤◌, nat_le, List, [], ◌∷◌, length, Bool, true, if◌then◌else◌, bytes_eq, not, ◌&&◌, IsTrue, All}
 use Rattle.std.specs.List.{list_all}
 use Rattle.std.specs.declared.option.Option.{Option}
 use Rattle.std.specs.declared.option.Option.TheVariants.{None, Some}
+use Rattle.graph_model.specs.Limits.{operation_limit, is_weight, is_time}
 use Rattle.graph_model.specs.declared.batches.NamedOp.{NamedOp}
 use Rattle.graph_model.specs.declared.batches.NamedOp.TheVariants.{Insert, Incr, Remove}
 use Rattle.graph_model.specs.declared.batches.PushError.{PushError}
@@ -20,16 +21,14 @@ is_name bytes = nat_le 1 (length bytes) && nat_le (length bytes) 64 && list_all 
 abbrev pub is_kind_name : List ℕ → Bool
 is_kind_name bytes = is_name bytes && not (bytes_eq bytes (42 ∷ []))
 
-abbrev pub is_weight : ℤ → Bool
-is_weight weight = nat_le (nat_abs weight) (2 ^ 40)
-
-abbrev pub is_time : ℕ → Bool
-is_time time = nat_lt time (2 ^ 63)
+-- the names of an edge's kind and of its two ends
+abbrev pub are_names : List ℕ → List ℕ → List ℕ → Bool
+are_names kind source target = is_kind_name kind && is_name source && is_name target
 
 abbrev pub has_names : NamedOp → Bool
-has_names (Insert kind source target weight time) = is_kind_name kind && is_name source && is_name target
-has_names (Incr kind source target amount time) = is_kind_name kind && is_name source && is_name target
-has_names (Remove kind source target) = is_kind_name kind && is_name source && is_name target
+has_names (Insert kind source target weight time) = are_names kind source target
+has_names (Incr kind source target amount time) = are_names kind source target
+has_names (Remove kind source target) = are_names kind source target
 
 abbrev pub has_weight : NamedOp → Bool
 has_weight (Insert kind source target weight time) = is_weight weight
@@ -52,9 +51,9 @@ push_refusal op len =
     if not (has_names op) then Some BadName
     else (if not (has_weight op) then Some BadWeight
     else (if not (has_time op) then Some BadTime
-    else (if nat_le 4096 len then Some BatchFull else None)))
+    else (if nat_le operation_limit len then Some BatchFull else None)))
 
--- at most 4,096 valid operations
+-- valid operations, not more than the limit
 pub record IsBatch (ops : List NamedOp) : Type 0 where
-  pub few : length ops ≤ 4096
+  pub few : length ops ≤ operation_limit
   pub valid : All IsValid ops

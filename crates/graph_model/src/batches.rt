@@ -3,6 +3,7 @@
 ghost use Rattle.std.specs.Prelude.{◌≡◌, [], ◌∷◌, ◌++◌, length, OnOk, OnErr, IfErr, ◌⊎◌, ◌↔◌, ◌&&◌, IsTrue};
 ghost use Rattle.graph_model.specs.Valid.{push_refusal, IsBatch};
 ghost use Rattle.graph_model.specs.Valid as valid;
+ghost use Rattle.graph_model.specs.Limits as limits;
 ghost use Rattle.std.specs.declared.option.Option.TheVariants.{None, Some};
 
 use crate::{Name, is_kind_name, is_name};
@@ -200,12 +201,14 @@ impl Clone for Batch {
     }
 }
 
+/// Whether these are the names of an edge's kind and of its two ends.
 fn are_names(kind: &Name, source: &Name, target: &Name) -> bool
-    ensures { result ≡ (valid.is_kind_name kind.now && valid.is_name source.now && valid.is_name target.now) }
+    ensures { result ≡ valid.are_names kind.now source.now target.now }
 {
     is_kind_name(kind.as_str()) && is_name(source.as_str()) && is_name(target.as_str())
 }
 
+/// Whether the operation speaks of an edge by names.
 fn has_names(op: &NamedOp) -> bool
     ensures { result ≡ valid.has_names op.now }
 {
@@ -230,6 +233,7 @@ fn has_names(op: &NamedOp) -> bool
     }
 }
 
+/// Whether its weight or its amount is in range, if it has one.
 fn has_weight(op: &NamedOp) -> bool
     ensures { result ≡ valid.has_weight op.now }
 {
@@ -240,6 +244,7 @@ fn has_weight(op: &NamedOp) -> bool
     }
 }
 
+/// Whether its time is in range, if it has one.
 fn has_time(op: &NamedOp) -> bool
     ensures { result ≡ valid.has_time op.now }
 {
@@ -250,14 +255,16 @@ fn has_time(op: &NamedOp) -> bool
     }
 }
 
+/// Whether a weight is from -2^40 to 2^40.
 fn is_weight(weight: i64) -> bool
-    ensures { result ≡ valid.is_weight weight }
+    ensures { result ≡ limits.is_weight weight }
 {
     weight.unsigned_abs() <= 1 << 40
 }
 
+/// Whether a time is below 2^63.
 fn is_time(time: u64) -> bool
-    ensures { result ≡ valid.is_time time }
+    ensures { result ≡ limits.is_time time }
 {
     time < 1 << 63
 }

@@ -1,6 +1,7 @@
 //! Requests about a graph, replies and refusals.
 
 ghost use Rattle.std.specs.Prelude.{◌≡◌};
+ghost use Rattle.graph_model.specs.declared.requests.AskError.TheVariants.{OutOfMemory};
 
 use crate::{Degree, List, Name};
 use std::alloc::AllocError;
@@ -87,4 +88,12 @@ pub enum AskError {
     NoVertex,
     #[error("out of memory")]
     OutOfMemory,
+}
+
+impl From<AllocError> for AskError {
+    ghost from_gives = { λ _ e. e ≡ OutOfMemory };
+
+    fn from(_error: AllocError) -> AskError {
+        AskError::OutOfMemory
+    }
 }

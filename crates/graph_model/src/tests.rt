@@ -1,4 +1,4 @@
-//! Tests of the types: names, lists, batches, and the copies of each; and what the other tests build with.
+//! Tests of the types: names, lists, batches, and the copies of each.
 
 use crate::tests::Act::{Incr, Insert, Remove};
 use crate::{
@@ -9,7 +9,7 @@ use std::alloc::{AllocError, Global};
 use std::test::Fail;
 
 #[derive(Clone, Copy, Debug, PartialEq, Eq)]
-pub(crate) enum Act {
+enum Act {
     Insert,
     Incr,
     Remove,
@@ -17,20 +17,13 @@ pub(crate) enum Act {
 
 /// An operation: kind, source, target, weight or amount, and time; a removal has neither of the last two.
 #[derive(Clone, Copy)]
-pub(crate) struct Row(
-    pub(crate) Act,
-    pub(crate) &'static str,
-    pub(crate) &'static str,
-    pub(crate) &'static str,
-    pub(crate) i64,
-    pub(crate) u64,
-);
+struct Row(Act, &'static str, &'static str, &'static str, i64, u64);
 
-pub(crate) fn name(alloc: Global, text: &str) -> Result<Name, AllocError> {
+fn name(alloc: Global, text: &str) -> Result<Name, AllocError> {
     Ok(Name::of(String::from_str(alloc, text)?))
 }
 
-pub(crate) fn operation(alloc: Global, row: &Row) -> Result<NamedOp, AllocError> {
+fn operation(alloc: Global, row: &Row) -> Result<NamedOp, AllocError> {
     let kind = name(alloc, row.1)?;
     let source = name(alloc, row.2)?;
     let target = name(alloc, row.3)?;
@@ -58,7 +51,7 @@ pub(crate) fn operation(alloc: Global, row: &Row) -> Result<NamedOp, AllocError>
 }
 
 /// Appends the operations to the batch.
-pub(crate) fn push_rows(alloc: Global, batch: &mut Batch, rows: &[Row]) -> Result<(), PushError> {
+fn push_rows(alloc: Global, batch: &mut Batch, rows: &[Row]) -> Result<(), PushError> {
     for row in rows {
         let Ok(op) = operation(alloc, row) else {
             return Err(PushError::OutOfMemory);
@@ -68,13 +61,13 @@ pub(crate) fn push_rows(alloc: Global, batch: &mut Batch, rows: &[Row]) -> Resul
     Ok(())
 }
 
-pub(crate) fn batch_of(alloc: Global, rows: &[Row]) -> Result<Batch, PushError> {
+fn batch_of(alloc: Global, rows: &[Row]) -> Result<Batch, PushError> {
     let mut batch = Batch::new(alloc);
     push_rows(alloc, &mut batch, rows)?;
     Ok(batch)
 }
 
-pub(crate) fn are_called(names: &List<Name>, texts: &[&str]) -> bool {
+fn are_called(names: &List<Name>, texts: &[&str]) -> bool {
     let names = names.as_slice();
     names.len() == texts.len()
         && names
@@ -83,17 +76,8 @@ pub(crate) fn are_called(names: &List<Name>, texts: &[&str]) -> bool {
             .all(|(name, text)| name.as_str() == *text)
 }
 
-/// How many names, kinds and edges the content has.
-pub(crate) fn sizes(content: &Content) -> (usize, usize, usize) {
-    (
-        content.names.as_slice().len(),
-        content.kinds.as_slice().len(),
-        content.edges.as_slice().len(),
-    )
-}
-
 /// Tells `tools/refuse-each-growth` that a growth was refused, which the test accepted.
-pub(crate) fn refused(rt: &impl Print) -> Result<(), Fail> {
+fn refused(rt: &impl Print) -> Result<(), Fail> {
     println!(rt; "refused")?;
     Ok(())
 }

@@ -1,6 +1,6 @@
 //! Names: small texts, and which of them are names of vertices and of kinds.
 
-ghost use Rattle.std.specs.Prelude.{◌≡◌, string_bytes, position, bytes_eq};
+ghost use Rattle.std.specs.Prelude.{◌≡◌, string_bytes};
 ghost use Rattle.std.specs.List.{list_all};
 ghost use Rattle.graph_model.specs.Valid as valid;
 
@@ -73,15 +73,7 @@ pub fn is_kind_name(text: &str) -> bool
     is_name(text) && text.as_bytes() != b"*".as_slice()
 }
 
-/// The place of a name in a list of names, if it is listed. It takes no memory.
-pub(crate) fn place_in(names: &[Name], name: &Name) -> Option<usize>
-    ensures { result ≡ position (bytes_eq name.now) names.now }
-{
-    names
-        .iter()
-        .position(|listed| name.as_str() == listed.as_str())
-}
-
+/// Whether each byte is from `!` to `~`.
 fn all_printable(bytes: &[u8]) -> bool
     ensures { result ≡ list_all valid.is_printable bytes.now }
 {

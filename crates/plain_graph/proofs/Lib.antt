@@ -1,0 +1,4 @@
+pub mod OneOperation
+pub mod BatchRefusals
+pub mod DegreeTables
+pub mod ZippedRows

@@ -1,0 +1,16 @@
+//! Slow functions that do to plain lists what the definitions of `graph_model` say: [`plain_apply`] applies a
+//! batch, [`plain_reply`] answers a request. The fast layers are compared with them.
+#![tactic(auto)]
+
+mod apply;
+mod drafts;
+mod edges;
+mod laws;
+mod names;
+mod reply;
+#[cfg(test)]
+mod tests;
+
+pub use apply::{PlainError, plain_apply};
+pub use laws::law_names_before_kinds;
+pub use reply::plain_reply;
