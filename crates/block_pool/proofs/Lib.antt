@@ -1,0 +1,4 @@
+pub mod Tallies
+pub mod Grants
+pub mod BodyLaws
+pub mod PlaceReads

@@ -1,0 +1,335 @@
+-- Lists of the numbers that have a status.
+use Rattle.std.proofs.Common.{◌≡◌, ℕ, zero, suc, ◌+◌, ◌-◌, ◌<◌, ◌≤◌, ◌==◌, List, [], ◌∷◌, ◌++◌, length, get_or, set, map, replicate, count_by, take, Bool, true, false, cond, not, ◌&&◌, refl, sym, ap, ap₂, ◌∙◌, arith, subst}
+use Rattle.std.proofs.lemmas.Bool.{true≢false, false≢true, eqb-true, eqb-false, and_parts, true_from_ne_false}
+use Rattle.std.proofs.lemmas.Bool.Decides.{nat_tests}
+use Rattle.std.specs.Prelude.{slice_get}
+use Rattle.std.proofs.lemmas.List.Sums.{sum_by-cons, sum_by-append}
+use Rattle.std.proofs.lemmas.List.{take_more, take_more_set, length-map, map-set, get_or-set_same, get_or-set_other}
+use Rattle.std.proofs.Math.ListN.{length-set}
+use Rattle.block_pool.specs.Pools.{Status, Free, Used, Retired, is_free, is_used, is_retired, is_past, recycled, passes}
+use Rattle.block_pool.specs.Kept.{status_of, tally, Lists}
+
+pub count_more : {A : Type 0} (p : A → Bool) (x : A) (xs : List A) → count_by p (x ∷ xs) ≡ cond (p x) 1 0 + count_by p xs
+count_more p x xs = sum_by-cons (λ x. cond (p x) 1 0) x xs
+
+pub count_last : {A : Type 0} (p : A → Bool) (xs : List A) (x : A) → count_by p (xs ++ x ∷ []) ≡ count_by p xs + cond (p x) 1 0
+count_last p xs x = sum_by-append (λ x. cond (p x) 1 0) xs (x ∷ []) ∙ ap (λ n. count_by p xs + n) (sum_by-cons (λ x. cond (p x) 1 0) x [] ∙ Rattle.std.proofs.Common.add-zero (cond (p x) 1 0))
+
+pub count_true : {A : Type 0} (xs : List A) → count_by (λ _. true) xs ≡ length xs
+count_true [] = refl
+count_true (x ∷ xs) = let m = count_more (λ _. true) x xs in let rest = count_true xs in omega arith
+
+pub tally_true : (p : Status → Bool) (i : ℕ) (pool : List Status) → tally p (λ _. true) i pool ≡ count_by p pool
+tally_true p i [] = refl
+tally_true p i (s ∷ pool) =
+    ap₂ (λ a b. a + b) (one (p s)) (tally_true p (i + 1) pool) ∙ sym (count_more p s pool) where
+      one : (b : Bool) → (let x : ℕ = cond (b && true) 1 0 in x) ≡ cond b 1 0
+      one true = refl
+      one false = refl
+
+pub tally_set : (p : Status → Bool) (q : ℕ → Bool) (i : ℕ) (pool : List Status) (k : ℕ) (s d : Status) → k < length pool
+    → tally p q i (set pool k s) + cond (p (get_or pool k d) && q (i + k)) 1 0 ≡ tally p q i pool + cond (p s && q (i + k)) 1 0
+tally_set p q i [] k s d lt = absurd (omega arith)
+tally_set p q i (x ∷ pool) zero s d lt =
+    let same : i + 0 ≡ i = omega arith in
+    rw same (swap (cond (p s && q i) 1 0) (tally p q (i + 1) pool) (cond (p x && q i) 1 0)) where
+      swap : (a b c : ℕ) → (a + b) + c ≡ (c + b) + a
+      swap a b c = omega arith
+tally_set p q i (x ∷ pool) (suc k) s d lt =
+    let rest = tally_set p q (i + 1) pool k s d (omega arith) in
+    let at : i + 1 + k ≡ i + suc k = omega arith in
+    let here = rw at at rest in
+    omega arith
+
+pub tally_at : (p : Status → Bool) (k i : ℕ) (pool : List Status) (d : Status) → 1 ≤ tally p (λ n. n == k) i pool → (i ≤ k) × (k < i + length pool) × (p (get_or pool (k - i) d) ≡ true)
+tally_at p k i [] d h = absurd (omega arith)
+tally_at p k i (s ∷ pool) d h =
+    elim (p s && (i == k)) as (λ b. p s && (i == k) ≡ b → 1 ≤ cond b 1 0 + tally p (λ n. n == k) (i + 1) pool → (i ≤ k) × (k < i + suc (length pool)) × (p (get_or (s ∷ pool) (k - i) d) ≡ true)) [
+      | true ↦ λ t _.
+          let parts = and_parts (p s) (i == k) t in
+          let same : i ≡ k = eqb-true i k parts.1 in
+          (omega arith, omega arith, subst (λ n. p (get_or (s ∷ pool) n d) ≡ true) (let z : 0 ≡ k - i = omega arith in z) parts.0)
+      | false ↦ λ t g.
+          let rest = tally_at p k (i + 1) pool d (omega arith) in
+          (omega arith, omega arith, subst (λ n. p (get_or (s ∷ pool) n d) ≡ true) (let z : suc (k - (i + 1)) ≡ k - i = omega arith in z) rest.2)
+    ] refl h
+
+pub count_lt : (p : Status → Bool) (pool : List Status) (k : ℕ) (d : Status) → k < length pool → p (get_or pool k d) ≡ false → count_by p pool < length pool
+count_lt p [] k d lt e = absurd (omega arith)
+count_lt p (s ∷ pool) zero d lt e =
+    let m = count_more p s pool in
+    let n : (let x : ℕ = cond (p s) 1 0 in x) ≡ 0 = ap (λ b. cond b 1 0) e in
+    let le = Rattle.std.proofs.lemmas.List.Sums.count_by-le-length p pool in omega arith
+count_lt p (s ∷ pool) (suc k) d lt e =
+    let m = count_more p s pool in let rest = count_lt p pool k d (omega arith) e in
+    elim (p s) as (λ b. count_by p (s ∷ pool) ≡ cond b 1 0 + count_by p pool → count_by p (s ∷ pool) < suc (length pool)) [
+      | true ↦ λ z. omega arith
+      | false ↦ λ z. omega arith
+    ] m
+
+module _ (p : Status → Bool) (pool : List Status) (ns : List ℕ) (are : Lists p pool ns) where
+  pub listed_count : length ns ≡ count_by p pool
+  listed_count = sym (count_true ns) ∙ are (λ _. true) ∙ tally_true p 0 pool
+
+  module _ (k : ℕ) (s : Status) (lt : k < length pool) where
+    set_tally : (q : ℕ → Bool) → tally p q 0 (set pool k s) + cond (p (status_of pool k) && q k) 1 0 ≡ tally p q 0 pool + cond (p s && q k) 1 0
+    set_tally q = let z : 0 + k ≡ k = omega arith in rw z at (tally_set p q 0 pool k s Used lt)
+
+    pub lists_more : p (status_of pool k) ≡ false → p s ≡ true → Lists p (set pool k s) (ns ++ k ∷ [])
+    lists_more a b q =
+        let old = are q in
+        let c = count_last q ns k in
+        let t : tally p q 0 (set pool k s) + cond (false && q k) 1 0 ≡ tally p q 0 pool + cond (true && q k) 1 0 = rw b at (rw a at (set_tally q)) in
+        omega arith
+
+    pub lists_same : p (status_of pool k) ≡ p s → Lists p (set pool k s) ns
+    lists_same e q =
+        let old = are q in
+        let t : tally p q 0 (set pool k s) + cond (p s && q k) 1 0 ≡ tally p q 0 pool + cond (p s && q k) 1 0 = rw e at (set_tally q) in
+        omega arith
+
+    pub lists_less : (ms : List ℕ) → ((q : ℕ → Bool) → count_by q ns ≡ count_by q ms + cond (q k) 1 0) → p (status_of pool k) ≡ true → p s ≡ false → Lists p (set pool k s) ms
+    lists_less ms cut a b q =
+        let old = are q in
+        let c = cut q in
+        let t : tally p q 0 (set pool k s) + cond (true && q k) 1 0 ≡ tally p q 0 pool + cond (false && q k) 1 0 = rw b at (rw a at (set_tally q)) in
+        omega arith
+
+    pub lists_room : p (status_of pool k) ≡ false → length ns < length pool
+    lists_room a = let c = count_lt p pool k Used lt a in let l = listed_count in omega arith
+
+take_set_below : (m : ℕ) (ns : List ℕ) (at y : ℕ) → at < m → take m (set ns at y) ≡ set (take m ns) at y
+take_set_below zero ns at y lt = absurd (omega arith)
+take_set_below (suc m) [] at y lt = refl
+take_set_below (suc m) (n ∷ ns) zero y lt = refl
+take_set_below (suc m) (n ∷ ns) (suc at) y lt = ap (λ l. n ∷ l) (take_set_below m ns at y (omega arith))
+
+pub count_at : {A : Type 0} (p : A → Bool) (xs : List A) (i : ℕ) (d : A) → i < length xs → p (get_or xs i d) ≡ true → 1 ≤ count_by p xs
+count_at p [] i d lt e = absurd (omega arith)
+count_at p (x ∷ xs) zero d lt e = let m = count_more p x xs in let one : (let k : ℕ = cond (p x) 1 0 in k) ≡ 1 = ap (λ b. cond b 1 0) e in omega arith
+count_at p (x ∷ xs) (suc i) d lt e = let m = count_more p x xs in let rest = count_at p xs i d (omega arith) e in omega arith
+
+pub same_number : (a : ℕ) → (a == a) ≡ true
+same_number a = true_from_ne_false (a == a) (λ e. eqb-false a a e refl)
+
+-- a listed number is one of the pool's, and its status passes
+pub listed_at : (p : Status → Bool) (pool : List Status) (n : ℕ) (room : List ℕ) → Lists p pool (take n room) → n ≤ length room → (i : ℕ) → i < n
+    → (get_or room i 0 < length pool) × (p (status_of pool (get_or room i 0)) ≡ true)
+listed_at p pool n room are le i lt =
+    let r : ℕ = get_or room i 0 in
+    let here : get_or (take n room) i 0 ≡ r = Rattle.std.proofs.lemmas.List.get_or-take n room i 0 lt in
+    let short : i < length (take n room) = omega (arith, Rattle.std.proofs.Common.length-take n room) in
+    let once = count_at (λ k. k == r) (take n room) i 0 short (ap (λ k. k == r) here ∙ same_number r) in
+    let same = are (λ k. k == r) in
+    let at = tally_at p r 0 pool Used (omega arith) in
+    (omega (arith, at.1), subst (λ k. p (get_or pool k Used) ≡ true) (let z : r - 0 ≡ r = omega arith in z) at.2)
+
+-- and each number whose status passes is listed
+pub at_listed : (p : Status → Bool) (pool : List Status) (n : ℕ) (room : List ℕ) → Lists p pool (take n room) → n ≤ length room → (k : ℕ) → k < length pool → p (status_of pool k) ≡ true
+    → (i : ℕ) × ((i < n) × (get_or room i 0 ≡ k))
+at_listed p pool n room are le k lt e =
+    let same = are (λ j. j == k) in
+    let z : 0 + k ≡ k = omega arith in
+    let one : 1 ≤ tally p (λ j. j == k) 0 pool = rw z at (tally_has p k 0 pool Used lt e) in
+    let found = found_at k (take n room) (omega arith) in
+    let short : found.0 < n = omega (arith, found.1.0, Rattle.std.proofs.Common.length-take n room) in
+    (found.0, (short, sym (Rattle.std.proofs.lemmas.List.get_or-take n room found.0 0 short) ∙ found.1.1))
+  where
+    tally_has : (p : Status → Bool) (k i : ℕ) (pool : List Status) (d : Status) → k < length pool → p (get_or pool k d) ≡ true → 1 ≤ tally p (λ n. n == i + k) i pool
+    tally_has p k i [] d lt e = absurd (omega arith)
+    tally_has p zero i (s ∷ pool) d lt e =
+        let z : i + 0 ≡ i = omega arith in
+        rw (z, e, same_number i) (omega arith)
+    tally_has p (suc k) i (s ∷ pool) d lt e =
+        let rest = tally_has p k (i + 1) pool d (omega arith) e in
+        let z : i + 1 + k ≡ i + suc k = omega arith in
+        let again = rw z at rest in
+        omega arith
+
+    found_at : (k : ℕ) (xs : List ℕ) → 1 ≤ count_by (λ j. j == k) xs → (i : ℕ) × ((i < length xs) × (get_or xs i 0 ≡ k))
+    found_at k [] h = absurd (omega arith)
+    found_at k (x ∷ xs) h =
+        let m = count_more (λ j. j == k) x xs in
+        elim (x == k) as (λ b. x == k ≡ b → count_by (λ j. j == k) (x ∷ xs) ≡ cond b 1 0 + count_by (λ j. j == k) xs → (i : ℕ) × ((i < suc (length xs)) × (get_or (x ∷ xs) i 0 ≡ k))) [
+          | true ↦ λ t _. (0, (omega arith, eqb-true x k t))
+          | false ↦ λ t c. let rest = found_at k xs (omega arith) in (suc rest.0, (omega (arith, rest.1.0), rest.1.1))
+        ] refl m
+
+-- the list's last number is taken out, or another one, whose place the last takes
+pub count_swap : (q : ℕ → Bool) (ns : List ℕ) (at m : ℕ) → at ≤ m → m < length ns → count_by q (take (m + 1) ns) ≡ count_by q (take m (set ns at (get_or ns m 0))) + cond (q (get_or ns at 0)) 1 0
+count_swap q ns at m le lt =
+    elim (at == m) as (λ b. at == m ≡ b → count_by q (take (m + 1) ns) ≡ count_by q (take m (set ns at (get_or ns m 0))) + cond (q (get_or ns at 0)) 1 0) [
+      | true ↦ λ t.
+          let same : at ≡ m = eqb-true at m t in
+          let keep : set ns at (get_or ns m 0) ≡ ns = ap (λ k. set ns k (get_or ns m 0)) same ∙ Rattle.std.proofs.lemmas.List.set-get_or ns m 0 in
+          ap (count_by q) (take_more ns m 0 lt) ∙ count_last q (take m ns) (get_or ns m 0)
+          ∙ ap₂ (λ a b. count_by q (take m a) + cond (q b) 1 0) (sym keep) (ap (λ k. get_or ns k 0) (sym same))
+      | false ↦ λ t.
+          let ne : at ≡ m → ⊥ = eqb-false at m t in
+          let below : at < m = omega arith in
+          let short : at < length (take m ns) = omega (arith, Rattle.std.proofs.Common.length-take m ns) in
+          let one = count_set q (take m ns) at (get_or ns m 0) short in
+          let here : get_or (take m ns) at 0 ≡ get_or ns at 0 = Rattle.std.proofs.lemmas.List.get_or-take m ns at 0 below in
+          let cut : take m (set ns at (get_or ns m 0)) ≡ set (take m ns) at (get_or ns m 0) = take_set_below m ns at (get_or ns m 0) below in
+          let last = ap (count_by q) (take_more ns m 0 lt) ∙ count_last q (take m ns) (get_or ns m 0) in
+          let a : count_by q (take m (set ns at (get_or ns m 0))) ≡ count_by q (set (take m ns) at (get_or ns m 0)) = ap (count_by q) cut in
+          let b : (let x : ℕ = cond (q (get_or (take m ns) at 0)) 1 0 in x) ≡ cond (q (get_or ns at 0)) 1 0 = ap (λ n. cond (q n) 1 0) here in
+          omega arith
+    ] refl
+  where
+    count_set : (q : ℕ → Bool) (xs : List ℕ) (i y : ℕ) → i < length xs → count_by q (set xs i y) + cond (q (get_or xs i 0)) 1 0 ≡ count_by q xs + cond (q y) 1 0
+    count_set q xs i y lt = Rattle.std.proofs.lemmas.List.Sums.sum_by-set (λ n. cond (q n) 1 0) xs i y 0 lt
+
+pub retired_not_free : (s : Status) → is_retired s ≡ true → is_free s ≡ false
+retired_not_free Free e = absurd (false≢true e)
+retired_not_free Used e = refl
+retired_not_free (Retired v) e = refl
+
+pub past_retired : (floor : ℕ) (s : Status) → is_retired s ≡ false → is_past floor s ≡ false
+past_retired floor Free e = refl
+past_retired floor Used e = refl
+past_retired floor (Retired v) e = absurd (true≢false e)
+
+-- recycling, one number at a time
+module _ (floor : ℕ) where
+  due_free : (s : Status) → is_past floor s ≡ true → recycled floor Free ≡ recycled floor s
+  due_free s e = ap (λ b. cond b Free s) (sym e)
+
+  pub recycled_set : (pool : List Status) (k : ℕ) → is_past floor (status_of pool k) ≡ true → map (recycled floor) (set pool k Free) ≡ map (recycled floor) pool
+  recycled_set pool k e = Rattle.std.proofs.Math.Seq.map-set_same (recycled floor) pool k Free Used (due_free (status_of pool k) e)
+
+  pub past_set : (pool : List Status) (k : ℕ) → k < length pool → is_past floor (status_of pool k) ≡ true → count_by (is_past floor) (set pool k Free) + 1 ≡ count_by (is_past floor) pool
+  past_set pool k lt e =
+      let s = Rattle.std.proofs.lemmas.List.Sums.sum_by-set (λ s. cond (is_past floor s) 1 0) pool k Free Used lt in
+      let one : (let x : ℕ = cond (is_past floor (status_of pool k)) 1 0 in x) ≡ 1 = ap (λ b. cond b 1 0) e in
+      omega arith
+
+  pub not_past_set : (pool : List Status) (r m : ℕ) → is_past floor (status_of pool m) ≡ false → is_past floor (status_of (set pool r Free) m) ≡ false
+  not_past_set pool r m e =
+      elim (m == r) as (λ b. m == r ≡ b → is_past floor (status_of (set pool r Free) m) ≡ false) [
+        | true ↦ λ t. free_at pool r m (eqb-true m r t) e
+        | false ↦ λ t. ap (is_past floor) (get_or-set_other pool r m Free Used (eqb-false m r t)) ∙ e
+      ] refl
+    where
+      free_at : (pool : List Status) (r m : ℕ) → m ≡ r → is_past floor (status_of pool m) ≡ false → is_past floor (status_of (set pool r Free) m) ≡ false
+      free_at [] r m same e = e
+      free_at (s ∷ pool) zero m same e = ap (λ k. is_past floor (get_or (Free ∷ pool) k Used)) same
+      free_at (s ∷ pool) (suc r) zero same e = absurd (omega arith)
+      free_at (s ∷ pool) (suc r) (suc m) same e = free_at pool r m (omega arith) e
+
+  pub none_past : (pool : List Status) → ((k : ℕ) → k < length pool → is_past floor (status_of pool k) ≡ false) → (map (recycled floor) pool ≡ pool) × (count_by (is_past floor) pool ≡ 0)
+  none_past [] none = (refl, refl)
+  none_past (s ∷ pool) none =
+      let here : is_past floor s ≡ false = none 0 (omega arith) in
+      let rest = none_past pool (λ k lt. none (suc k) (omega arith)) in
+      let m = count_more (is_past floor) s pool in
+      let zero_here : (let x : ℕ = cond (is_past floor s) 1 0 in x) ≡ 0 = ap (λ b. cond b 1 0) here in
+      let c = rest.1 in
+      (ap₂ (λ x xs. x ∷ xs) (ap (λ b. cond b Free s) here) rest.0, omega arith)
+
+  -- where no listed number is due, none is
+  pub all_checked : (pool : List Status) (n : ℕ) (room : List ℕ) → Lists is_retired pool (take n room) → n ≤ length room
+      → ((i : ℕ) → i < n → is_past floor (status_of pool (get_or room i 0)) ≡ false) → (k : ℕ) → k < length pool → is_past floor (status_of pool k) ≡ false
+  all_checked pool n room are le checked k lt =
+      elim (is_retired (status_of pool k)) as (λ b. is_retired (status_of pool k) ≡ b → is_past floor (status_of pool k) ≡ false) [
+        | true ↦ λ t. let i = at_listed is_retired pool n room are le k lt t in subst (λ j. is_past floor (status_of pool j) ≡ false) i.1.1 (checked i.0 i.1.0)
+        | false ↦ λ t. past_retired floor (status_of pool k) t
+      ] refl
+
+pub free_not_retired : (s : Status) → is_free s ≡ true → is_retired s ≡ false
+free_not_retired Free e = refl
+free_not_retired Used e = absurd (false≢true e)
+free_not_retired (Retired v) e = absurd (false≢true e)
+
+-- a number whose status passes is one of the pool's
+pub within_pool : (p : Status → Bool) (pool : List Status) (n : ℕ) → passes p (slice_get pool n) ≡ true → (n < length pool) × (p (status_of pool n) ≡ true)
+within_pool p [] n e = absurd (false≢true e)
+within_pool p (s ∷ pool) zero e = (omega arith, e)
+within_pool p (s ∷ pool) (suc n) e = let rest = within_pool p pool n e in (omega (arith, rest.0), rest.1)
+
+pub passes_at : (p : Status → Bool) (pool : List Status) (n : ℕ) → n < length pool → p (status_of pool n) ≡ true → passes p (slice_get pool n) ≡ true
+passes_at p [] n lt e = absurd (omega arith)
+passes_at p (s ∷ pool) zero lt e = e
+passes_at p (s ∷ pool) (suc n) lt e = passes_at p pool n (omega arith) e
+
+used_is : (s : Status) → is_used s ≡ true → s ≡ Used
+used_is Free e = absurd (false≢true e)
+used_is Used e = refl
+used_is (Retired v) e = absurd (false≢true e)
+
+pub used_at : (pool : List Status) (n : ℕ) → passes is_used (slice_get pool n) ≡ true → (n < length pool) × (status_of pool n ≡ Used)
+used_at pool n e = let at = within_pool is_used pool n e in (at.0, used_is (status_of pool n) at.1)
+
+-- a version past the floor
+pub later : (version floor : ℕ) → floor < version → is_past floor (Retired version) ≡ false
+later version floor lt = grind (arith, nat_tests)
+
+pub due : (version floor : ℕ) → version ≤ floor → is_past floor (Retired version) ≡ true
+due version floor le = grind (arith, nat_tests)
+
+-- where nothing is due, a status that isn't due changes nothing of that
+pub none_set : (floor : ℕ) (pool : List Status) (k : ℕ) (s : Status) → k < length pool → is_past floor s ≡ false → count_by (is_past floor) pool ≡ 0 → count_by (is_past floor) (set pool k s) ≡ 0
+none_set floor pool k s lt e none =
+    let c = Rattle.std.proofs.lemmas.List.Sums.sum_by-set (λ s. cond (is_past floor s) 1 0) pool k s Used lt in
+    let z : (let x : ℕ = cond (is_past floor s) 1 0 in x) ≡ 0 = ap (λ b. cond b 1 0) e in
+    omega arith
+
+-- where nothing is due, recycling changes nothing
+pub none_recycled : (floor : ℕ) (pool : List Status) → count_by (is_past floor) pool ≡ 0 → map (recycled floor) pool ≡ pool
+none_recycled floor [] none = refl
+none_recycled floor (s ∷ pool) none =
+    let m = count_more (is_past floor) s pool in
+    let rest : map (recycled floor) pool ≡ pool = none_recycled floor pool (omega arith) in
+    elim (is_past floor s) as (λ b. is_past floor s ≡ b → map (recycled floor) (s ∷ pool) ≡ s ∷ pool) [
+      | true ↦ λ t. let one : (let x : ℕ = cond (is_past floor s) 1 0 in x) ≡ 1 = ap (λ b. cond b 1 0) t in absurd (omega arith)
+      | false ↦ λ t. ap₂ (λ x xs. x ∷ xs) (ap (λ b. cond b Free s) t) rest
+    ] refl
+
+-- each number is free, used or retired
+pub all_parts : (pool : List Status) → count_by is_free pool + count_by is_used pool + count_by is_retired pool ≡ length pool
+all_parts [] = refl
+all_parts (s ∷ pool) =
+    let f = count_more is_free s pool in
+    let u = count_more is_used s pool in
+    let r = count_more is_retired s pool in
+    let rest = all_parts pool in
+    let one = one_part s in
+    omega arith
+  where
+    one_part : (s : Status) → (let x : ℕ = cond (is_free s) 1 0 in x) + cond (is_used s) 1 0 + cond (is_retired s) 1 0 ≡ 1
+    one_part Free = refl
+    one_part Used = refl
+    one_part (Retired v) = refl
+
+pub tally_last : (p : Status → Bool) (q : ℕ → Bool) (i : ℕ) (pool : List Status) (s : Status) → tally p q i (pool ++ s ∷ []) ≡ tally p q i pool + cond (p s && q (i + length pool)) 1 0
+tally_last p q i [] s = let z : i + 0 ≡ i = omega arith in rw z (Rattle.std.proofs.Common.add_comm (cond (p s && q i) 1 0) 0)
+tally_last p q i (t ∷ pool) s =
+    let rest = tally_last p q (i + 1) pool s in
+    let z : i + 1 + length pool ≡ i + suc (length pool) = omega arith in
+    let again = rw z at rest in
+    omega arith
+
+-- one free number more, at the end
+pub free_more : (k : ℕ) (ns : List ℕ) → Lists is_free (replicate k Free) ns → Lists is_free (replicate (k + 1) Free) (ns ++ k ∷ [])
+free_more k ns are q =
+    let more : replicate (k + 1) Free ≡ replicate k Free ++ Free ∷ [] = sym (Rattle.std.proofs.lemmas.List.replicate-append-replicate k 1 Free) in
+    let t = tally_last is_free q 0 (replicate k Free) Free in
+    let long : 0 + length (replicate k Free) ≡ k = omega (arith, Rattle.std.proofs.lemmas.List.length-replicate k Free) in
+    let last = rw long at t in
+    let c = count_last q ns k in
+    let old = are q in
+    let e = ap (tally is_free q 0) more in
+    omega arith
+
+-- of free numbers alone, none is retired, and recycling frees none
+pub none_retired : (q : ℕ → Bool) (i k : ℕ) → tally is_retired q i (replicate k Free) ≡ 0
+none_retired q i zero = refl
+none_retired q i (suc k) = let rest = none_retired q (i + 1) k in omega arith
+
+pub none_due : (floor k : ℕ) → count_by (is_past floor) (replicate k Free) ≡ 0
+none_due floor zero = refl
+none_due floor (suc k) = let m = count_more (is_past floor) Free (replicate k Free) in let rest = none_due floor k in omega arith
+
+pub all_one : {A B : Type 0} (f : A → B) (k : ℕ) (x : A) → map f (replicate k x) ≡ replicate k (f x)
+all_one f zero x = refl
+all_one f (suc k) x = ap (λ xs. f x ∷ xs) (all_one f k x)

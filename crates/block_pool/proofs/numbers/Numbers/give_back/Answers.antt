@@ -1,0 +1,45 @@
+use Rattle.std.proofs.Common.{◌≡◌, count_by, ◌+◌, ◌<◌, length, set, sym, ap, subst, refl, take, arith, length-take}
+use Rattle.std.proofs.Math.ListN.{length-set}
+use Rattle.std.proofs.lemmas.List.{map-set, take_more_set, length-map}
+use Rattle.block_pool.specs.Pools.{Free, is_free, is_retired, is_past}
+use Rattle.block_pool.specs.Kept.{statuses, status_from, Lists}
+use Rattle.block_pool.specs.declared.numbers.Place.TheVariants as places
+use Rattle.block_pool.proofs.Tallies.{lists_more, lists_same, lists_room, used_at, none_set}
+use Rattle.block_pool.proofs.numbers.Numbers.give_back.Goals as goal
+
+pub index_mut-requires-2 : goal.index_mut-requires-2
+index_mut-requires-2 c =
+    let n = c.args.self.now in
+    let k = c.requires.kept in
+    let at = used_at (statuses n) c.args.number c.requires.used in
+    let room = lists_room is_free (statuses n) (take n.free_len n.free.items) k.free_are c.args.number Free at.0 (ap is_free at.1) in
+    let long = length-map n.places.items status_from in
+    omega (arith, length-take n.free_len n.free.items, k.free_in, k.free_room, room, long)
+
+pub returns-clause-kept : goal.returns-clause-kept
+returns-clause-kept c =
+    let n = c.args.self.now in
+    let k = c.requires.kept in
+    let at = used_at (statuses n) c.args.number c.requires.used in
+    let room = lists_room is_free (statuses n) (take n.free_len n.free.items) k.free_are c.args.number Free at.0 (ap is_free at.1) in
+    let long = length-map n.places.items status_from in
+    let lt : n.free_len < length n.free.items = omega (arith, length-take n.free_len n.free.items, k.free_in, k.free_room, room, long) in
+    let long_places = length-set n.places.items c.args.number places.Free in
+    let after = map-set status_from n.places.items c.args.number places.Free in
+    let free = length-set n.free.items n.free_len c.args.number in
+    record {
+      few = omega (arith, k.few);
+      free_room = omega (arith, k.free_room);
+      retired_room = omega (arith, k.retired_room);
+      free_in = omega (arith, k.free_room);
+      retired_in = omega (arith, k.retired_in);
+      free_are = subst (λ pool. Lists is_free pool (take (n.free_len + 1) (set n.free.items n.free_len c.args.number))) (sym after)
+          (subst (Lists is_free (set (statuses n) c.args.number Free)) (sym (take_more_set n.free.items n.free_len c.args.number lt))
+          (lists_more is_free (statuses n) (take n.free_len n.free.items) k.free_are c.args.number Free at.0 (ap is_free at.1) refl));
+      nothing_below = λ floor lt. subst (λ pool. count_by (is_past floor) pool ≡ 0) (sym after) (none_set floor (statuses n) c.args.number Free at.0 refl (k.nothing_below floor lt));
+      retired_are = subst (λ pool. Lists is_retired pool (take n.retired_len n.retired.items)) (sym after)
+          (lists_same is_retired (statuses n) (take n.retired_len n.retired.items) k.retired_are c.args.number Free at.0 (ap is_retired at.1));
+    }
+
+pub returns-clause-statuses : goal.returns-clause-statuses
+returns-clause-statuses c = map-set status_from c.args.self.now.places.items c.args.number places.Free

@@ -1,0 +1,12 @@
+//! A pool of edge blocks that is made beforehand: each number is free, used, or retired with the number of the version
+//! that left it out.
+//!
+//! STINGER (Ediger, McColl, Riedy, Bader; IEEE HPEC 2012) takes its blocks from such a pool. Here a block that a batch
+//! replaces is retired, and is free again once no version below the floor can be read (held snapshots as in Aspen:
+//! Dhulipala, Blelloch, Shun; PLDI 2019). Only `Pool::new` and `Pool::grant` take memory.
+#![tactic(auto)]
+
+mod numbers;
+mod pool;
+
+pub use pool::{Grant, GrantError, Pool};

@@ -1,0 +1,199 @@
+//! Which numbers are free, used or retired.
+
+ghost use Rattle.std.specs.Prelude.{◌≡◌, ◌<◌, ◌≤◌, ℕ, length, map, replicate, count_by, slice_index, slice_set, ◌+◌, ◌-◌, IfOk, true};
+ghost use Rattle.block_pool.specs.Pools.{Free, Used, Retired, is_free, is_used, is_retired, is_past, recycled, is_used_at, is_born_at, marked};
+ghost use Rattle.block_pool.specs.Kept.{status_of, popped, Lists};
+
+use std::alloc::{AllocError, Global};
+
+/// What a number is by now.
+#[derive(Clone, Copy, Debug)]
+pub(crate) enum Place {
+    Free,
+    Used,
+    /// Left out by the version of this number.
+    Retired(u64),
+}
+
+/// What each number is, and lists of the free and of the retired ones. The lists have their room from the start.
+#[derive(Debug, Drop)]
+pub(crate) struct Numbers {
+    pub places: Vec<Place>,
+    /// The first `free_len` are the free numbers, the next one to be granted last; the rest is room.
+    pub free: Vec<u32>,
+    pub free_len: usize,
+    /// The first `retired_len` are the retired numbers; the rest is room.
+    pub retired: Vec<u32>,
+    pub retired_len: usize,
+    /// No number was retired with a lesser version.
+    pub least: u64,
+}
+
+impl Numbers {
+    ghost use Rattle.block_pool.specs.Kept.{statuses, IsKept};
+
+    /// The numbers 0 to `count` - 1, all free.
+    pub fn all_free(alloc: Global, count: u32) -> Result<Numbers, AllocError>
+        requires { count ≤ 65536 }
+        ensures kept { IfOk result (λ n. IsKept n) }
+        ensures statuses { IfOk result (λ n. statuses n ≡ replicate count Free) }
+    {
+        let len = count as usize;
+        Ok(Numbers {
+            places: vec![in alloc; Place::Free; len]?,
+            free: numbers_up_to(alloc, count)?,
+            free_len: len,
+            retired: vec![in alloc; 0; len]?,
+            retired_len: 0,
+            least: u64::MAX,
+        })
+    }
+
+    /// How many are free.
+    pub fn free(&self) -> usize
+        requires { IsKept self.now }
+        ensures { result ≡ count_by is_free (statuses self.now) }
+    {
+        self.free_len
+    }
+
+    /// How many are retired.
+    pub fn retired(&self) -> usize
+        requires { IsKept self.now }
+        ensures { result ≡ count_by is_retired (statuses self.now) }
+    {
+        self.retired_len
+    }
+
+    /// How many are used.
+    pub fn used(&self) -> usize
+        requires { IsKept self.now }
+        ensures { result ≡ count_by is_used (statuses self.now) }
+    {
+        self.places.len() - self.free_len - self.retired_len
+    }
+
+    /// Makes the last `count` of the free numbers used.
+    pub fn use_last(&mut self, count: usize)
+        requires kept { IsKept self.old }
+        requires enough { count ≤ self.old.free_len }
+        ensures kept { IsKept self.new }
+        ensures statuses { statuses self.new ≡ marked (popped self.old.free.items self.old.free_len count) Used (statuses self.old) }
+    {
+        let mut left = count;
+        'grant: while left > 0 {
+            self.use_one();
+            left -= 1;
+        }
+    }
+
+    /// Makes the last of the free numbers used.
+    fn use_one(&mut self)
+        requires kept { IsKept self.old }
+        requires some { 0 < self.old.free_len }
+        ensures kept { IsKept self.new }
+        ensures statuses { statuses self.new ≡ slice_set (statuses self.old) (slice_index self.old.free.items (self.old.free_len - 1)) Used }
+        ensures shorter { self.new.free_len ≡ self.old.free_len - 1 }
+        ensures room { self.new.free.items ≡ self.old.free.items }
+    {
+        self.free_len -= 1;
+        let number = self.free[self.free_len];
+        self.places[number as usize] = Place::Used;
+    }
+
+    /// Makes a used number free.
+    pub fn give_back(&mut self, number: u32)
+        requires kept { IsKept self.old }
+        requires used { is_used_at (statuses self.old) number ≡ true }
+        ensures kept { IsKept self.new }
+        ensures statuses { statuses self.new ≡ slice_set (statuses self.old) number Free }
+    {
+        self.places[number as usize] = Place::Free;
+        self.free[self.free_len] = number;
+        self.free_len += 1;
+    }
+
+    /// Retires a used number with the number of a version.
+    pub fn retire(&mut self, number: u32, version: u64)
+        requires kept { IsKept self.old }
+        requires born { is_born_at (statuses self.old) number ≡ true }
+        ensures kept { IsKept self.new }
+        ensures statuses { statuses self.new ≡ slice_set (statuses self.old) number (Retired version) }
+    {
+        self.places[number as usize] = Place::Retired(version);
+        self.retired[self.retired_len] = number;
+        self.retired_len += 1;
+        self.least = self.least.min(version);
+    }
+
+    /// Frees each number that was retired with at most the floor, and tells how many. It goes over the retired numbers
+    /// alone, and over none where the least version that retired one is past the floor.
+    pub fn recycle(&mut self, floor: u64) -> u32
+        requires { IsKept self.old }
+        ensures kept { IsKept self.new }
+        ensures statuses { statuses self.new ≡ map (recycled floor) (statuses self.old) }
+        ensures count { result ≡ count_by (is_past floor) (statuses self.old) }
+    {
+        if floor < self.least {
+            return 0;
+        }
+        let mut count = 0;
+        let mut least = u64::MAX;
+        let mut at = 0;
+        while at < self.retired_len {
+            let version = self.version_at(at);
+            if version <= floor {
+                self.release(at);
+                count += 1;
+            } else {
+                least = least.min(version);
+                at += 1;
+            }
+        }
+        self.least = least;
+        count
+    }
+
+    /// The version that retired the number at a place of the list of retired ones.
+    fn version_at(&self, at: usize) -> u64
+        requires kept { IsKept self.now }
+        requires within { at < self.now.retired_len }
+        ensures { status_of (statuses self.now) (slice_index self.now.retired.items at) ≡ Retired result }
+    {
+        match self.places[self.retired[at] as usize] {
+            Place::Retired(version) => version,
+            Place::Free => unreachable!(),
+            Place::Used => unreachable!(),
+        }
+    }
+
+    /// Makes the retired number at a place of the list free. The last of the list takes its place.
+    fn release(&mut self, at: usize)
+        requires kept { IsKept self.old }
+        requires within { at < self.old.retired_len }
+        ensures kept { IsKept self.new }
+        ensures statuses { statuses self.new ≡ slice_set (statuses self.old) (slice_index self.old.retired.items at) Free }
+        ensures shorter { self.new.retired_len + 1 ≡ self.old.retired_len }
+        ensures before { (k : ℕ) → k < at → slice_index self.new.retired.items k ≡ slice_index self.old.retired.items k }
+    {
+        let number = self.retired[at];
+        self.places[number as usize] = Place::Free;
+        self.retired_len -= 1;
+        self.retired[at] = self.retired[self.retired_len];
+        self.free[self.free_len] = number;
+        self.free_len += 1;
+    }
+}
+
+/// The numbers from 0 to `count` - 1, in order.
+fn numbers_up_to(alloc: Global, count: u32) -> Result<Vec<u32>, AllocError>
+    requires { count ≤ 65536 }
+    ensures listed { IfOk result (λ ns. Lists is_free (replicate count Free) ns.items) }
+    ensures length { IfOk result (λ ns. length ns.items ≡ count) }
+{
+    let mut numbers = Vec::with_capacity(alloc, count as usize)?;
+    for number in 0..count {
+        numbers.push(number)?;
+    }
+    Ok(numbers)
+}

@@ -1,0 +1,214 @@
+//! A pool: blocks that are free, used or retired.
+
+ghost use Rattle.std.specs.Prelude.{◌≡◌, ◌⊎◌, ◌<◌, ◌≤◌, ◌+◌, [], ◌∷◌, length, map, replicate, count_by, IfOk, OnOk, OnErr, IfErr, IfSome, None, true, vec_len, slice_index_or, slice_set};
+ghost use Rattle.std.specs.Arc.{arc_value};
+ghost use Rattle.edge_block.specs.declared.blocks.Block.{Block};
+ghost use Rattle.block_pool.specs.Pools.{Free, Used, is_free, is_used, is_retired, is_past, recycled, retired, is_used_at, is_born_at, marked, changed, AreFree};
+ghost use Rattle.block_pool.specs.Kept.{statuses, popped, IsKept};
+ghost use Rattle.block_pool.specs.Bodies.{AreBodies};
+
+use crate::numbers::Numbers;
+use edge_block::Block;
+use std::alloc::{AllocError, Global};
+use std::marker::Model;
+use std::sync::Arc;
+use thiserror::Error;
+
+/// A pool of blocks, seen as one status for each number: free, used (granted, or in a version), or retired.
+#[derive(Debug, Drop)]
+pub struct Pool {
+    alloc: Global,
+    numbers: Numbers,
+    /// The blocks that stand in the pool; `None` where one was granted, or was given up and is made anew at a grant.
+    bodies: Vec<Option<Arc<Block>>>,
+}
+
+impl Model for Pool {
+    ghost use Rattle.std.specs.Prelude.{List, length};
+    ghost use Rattle.block_pool.specs.Pools.{Status};
+    ghost use Rattle.block_pool.specs.Kept.{statuses, IsKept};
+    ghost use Rattle.block_pool.specs.Bodies.{AreBodies};
+
+    ghost Value = { List Status };
+
+    ghost view = { λ p. statuses p.numbers };
+
+    ghost invariant = { λ p. IsKept p.numbers × AreBodies (length p.numbers.places.items) p.bodies.items };
+}
+
+/// Blocks that were granted, and their numbers in the same order.
+#[derive(Debug, Drop)]
+pub struct Grant {
+    pub numbers: Vec<u32>,
+    pub blocks: Vec<Arc<Block>>,
+}
+
+/// Why nothing was granted.
+#[derive(Clone, Copy, Debug, PartialEq, Eq, Error)]
+pub enum GrantError {
+    #[error("{needed} blocks are needed and {free} are free")]
+    PoolEmpty { needed: u32, free: u32 },
+    #[error("out of memory")]
+    OutOfMemory,
+}
+
+impl Pool {
+    /// A pool of so many blocks, 16 to 65,536, all free. It takes all the memory that the other calls need, but for
+    /// the two lists of a grant and the blocks that were given up.
+    pub fn new(alloc: Global, blocks: u32) -> Result<Pool, AllocError>
+        requires least { 16 ≤ blocks }
+        requires most { blocks ≤ 65536 }
+        ensures { IfOk result (λ pool. pool ≡ replicate blocks Free) }
+    {
+        Ok(Pool {
+            alloc,
+            numbers: Numbers::all_free(alloc, blocks)?,
+            bodies: blank_bodies(alloc, blocks)?,
+        })
+    }
+
+    /// How many blocks are free.
+    pub fn free(&self) -> u32
+        ensures count { result ≡ count_by is_free self.now }
+        ensures few { length self.now ≤ 65536 }
+    {
+        self.numbers.free() as u32
+    }
+
+    /// How many blocks are retired.
+    pub fn retired(&self) -> u32
+        ensures count { result ≡ count_by is_retired self.now }
+        ensures few { length self.now ≤ 65536 }
+    {
+        self.numbers.retired() as u32
+    }
+
+    /// How many blocks are used: granted and not given back, or in a version. With the free and the retired ones they
+    /// add up to the pool.
+    pub fn used(&self) -> u32
+        ensures count { result ≡ count_by is_used self.now }
+        ensures all { count_by is_free self.now + count_by is_used self.now + count_by is_retired self.now ≡ length self.now }
+    {
+        self.numbers.used() as u32
+    }
+
+    /// Grants so many blocks, the one that was last given back first. It takes time by their count, and reads none of
+    /// them.
+    ///
+    /// `PoolEmpty` exactly where fewer are free; `OutOfMemory` where a growth was refused. Either leaves each number
+    /// as it was.
+    pub fn grant(&mut self, count: u32) -> Result<Grant, GrantError>
+        ensures numbers { IfOk result (λ g. AreFree self.old g.numbers.items × (length g.numbers.items ≡ count)) }
+        ensures blocks { IfOk result (λ g. map (λ b. (arc_value {X = Block} b).number) g.blocks.items ≡ g.numbers.items) }
+        ensures used { IfOk result (λ g. self.new ≡ marked g.numbers.items Used self.old) }
+        ensures refused { IfErr result (λ e. (e ≡ GrantError.OutOfMemory)
+            ⊎ ((count_by is_free self.old < count) × (e ≡ GrantError.PoolEmpty count (count_by is_free self.old)))) }
+        ensures exact { count_by is_free self.old < count → result ≡ Err (GrantError.PoolEmpty count (count_by is_free self.old)) }
+        ensures enough { OnOk result (count ≤ count_by is_free self.old) }
+        ensures unchanged { OnErr result (self.new ≡ self.old) }
+    {
+        let free = self.free();
+        if count > free {
+            return Err(GrantError::PoolEmpty {
+                needed: count,
+                free,
+            });
+        }
+        let Ok(grant) = gather(self.alloc, &self.numbers, &mut self.bodies, count as usize) else {
+            return Err(GrantError::OutOfMemory);
+        };
+        self.numbers.use_last(count as usize);
+        Ok(grant)
+    }
+
+    /// Gives back what was granted and neither given back nor retired, with the block or without it. It takes no
+    /// memory.
+    pub fn give_back(&mut self, number: u32, block: Option<Arc<Block>>)
+        requires used { is_used_at self.old number ≡ true }
+        requires block { IfSome block (λ b. (arc_value {X = Block} b).number ≡ number) }
+        ensures { self.new ≡ marked (number ∷ []) Free self.old }
+    {
+        self.numbers.give_back(number);
+        self.bodies[number as usize] = block;
+    }
+
+    /// Retires a used block with the number of the version that left it out. It takes no memory.
+    pub fn retire(&mut self, block: Arc<Block>, version: u64)
+        requires { is_born_at self.old (arc_value {X = Block} block).number ≡ true }
+        ensures { self.new ≡ changed (retired version) ((arc_value {X = Block} block).number ∷ []) self.old }
+    {
+        let number = block.number();
+        self.numbers.retire(number, version);
+        self.bodies[number as usize] = Some(block);
+    }
+
+    /// Frees each block that was retired with at most the floor, and tells how many. It takes no memory, goes over the
+    /// retired blocks alone, and over none where the least version that retired one is past the floor.
+    pub fn recycle(&mut self, floor: u64) -> u32
+        ensures pool { self.new ≡ map (recycled floor) self.old }
+        ensures count { result ≡ count_by (is_past floor) self.old }
+    {
+        self.numbers.recycle(floor)
+    }
+}
+
+/// A blank block for each number.
+fn blank_bodies(alloc: Global, count: u32) -> Result<Vec<Option<Arc<Block>>>, AllocError>
+    requires { count ≤ 65536 }
+    ensures { IfOk result (λ bodies. AreBodies count bodies.items) }
+{
+    let mut bodies = Vec::with_capacity(alloc, count as usize)?;
+    for number in 0..count {
+        bodies.push(Some(Arc::new(alloc, Block::blank(number))?))?;
+    }
+    Ok(bodies)
+}
+
+/// The last `count` of the free numbers, and a block of each in that order. Where memory is refused, only bodies are
+/// given up.
+fn gather(
+    alloc: Global,
+    numbers: &Numbers,
+    bodies: &mut Vec<Option<Arc<Block>>>,
+    count: usize,
+) -> Result<Grant, AllocError>
+    requires kept { IsKept numbers.now }
+    requires bodies { AreBodies (length numbers.now.places.items) bodies.old.items }
+    requires enough { count ≤ numbers.now.free_len }
+    ensures bodies { AreBodies (length numbers.now.places.items) bodies.new.items }
+    ensures numbers { IfOk result (λ g. g.numbers.items ≡ popped numbers.now.free.items numbers.now.free_len count) }
+    ensures blocks { IfOk result (λ g. map (λ b. (arc_value {X = Block} b).number) g.blocks.items ≡ g.numbers.items) }
+{
+    let mut granted = Vec::with_capacity(alloc, count)?;
+    let mut blocks = Vec::with_capacity(alloc, count)?;
+    for i in 0..count {
+        let number = numbers.free[numbers.free_len - 1 - i];
+        let body = body_of(alloc, bodies, number)?;
+        blocks.push(body)?;
+        granted.push(number)?;
+    }
+    Ok(Grant {
+        numbers: granted,
+        blocks,
+    })
+}
+
+/// The block of a number: its body where it was kept, else a new one.
+fn body_of(
+    alloc: Global,
+    bodies: &mut Vec<Option<Arc<Block>>>,
+    number: u32,
+) -> Result<Arc<Block>, AllocError>
+    requires within { number < vec_len bodies.old }
+    requires own { IfSome (slice_index_or bodies.old.items number None) (λ b. (arc_value {X = Block} b).number ≡ number) }
+    ensures number { IfOk result (λ b. (arc_value {X = Block} b).number ≡ number) }
+    ensures bodies { bodies.new.items ≡ slice_set bodies.old.items number None }
+{
+    match bodies[number as usize].take() {
+        Some(body) => Ok(body),
+        None => Ok(Arc::new(alloc, Block::blank(number))?),
+    }
+}
+
+#[cfg(test)]
+mod tests;
