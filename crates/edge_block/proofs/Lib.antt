@@ -7,5 +7,7 @@ pub mod Targets
 pub mod Views
 pub mod Room
 pub mod Ranges
+pub mod Times
+pub mod Copies
 pub mod Changes
 pub mod Entries

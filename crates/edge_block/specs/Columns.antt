@@ -1,10 +1,11 @@
 -- The slots that a word of live places and four columns make.
-use Rattle.std.specs.Prelude.{◌≡◌, ℕ, ◌<◌, ◌==◌, ℤ, pos, List, map, slice_index, slice_index_or, if◌then◌else◌, All}
-use Rattle.std.specs.Int.{bit_at}
+use Rattle.std.specs.Prelude.{◌≡◌, ℕ, ◌*◌, ◌%◌, ◌^◌, ◌<◌, ◌==◌, ℤ, pos, List, map, slice_index, slice_index_or, if◌then◌else◌, All}
+use Rattle.std.specs.Int.{bit_at, bit_not, w32}
+use Rattle.std.specs.Int.RustNames.{bit_and}
 use Rattle.std.specs.List.{range_with_len}
 use Rattle.std.specs.declared.option.Option.{Option}
 use Rattle.std.specs.declared.option.Option.TheVariants.{None, Some}
-use Rattle.lane_scan.specs.Masks.{InMask}
+use Rattle.lane_scan.specs.Masks.{InMask, AreBoundsOf, selected}
 use Rattle.edge_block.specs.Slots.{Slot, edge_slot, AreDistinct, IsSlot}
 
 -- what the columns have at a place, be it live or not
@@ -27,3 +28,12 @@ pub record AreColumns (live : ℕ) (targets : List ℕ) (weights : List ℤ) (fi
   pub distinct : AreDistinct (slots_of live targets weights firsts recents)
   pub stamped : All IsSlot (slots_of live targets weights firsts recents)
   pub cleared : (place : ℕ) → place < 32 → (InMask live place → ⊥) → slice_index targets place ≡ 0
+
+-- what a block keeps true of its bounds: where a place is live, they are the least and the greatest recent time at
+-- the live places
+abbrev pub AreTimes : ℕ → List ℕ → ℕ × ℕ → Type 0
+AreTimes live recents times = 0 < live → AreBoundsOf (selected live recents) (Some times)
+
+-- the word of live places without one
+abbrev pub cleared_at : ℕ → ℕ → ℕ
+cleared_at live place = bit_and live (bit_not w32 (1 * 2 ^ place % 2 ^ 32))

@@ -7,29 +7,29 @@ ghost use Rattle.graph_model.specs.View.{in_view, takes_kind};
 ghost use Rattle.lane_scan.specs.Masks.{AreBoundsOf};
 ghost use Rattle.edge_block.specs.Slots.{IsBlock, IsStamp, edges_in, edge_slot, is_free, empty_block, entries_of, holds, has_room_for, put_slot, take_slot, stamp_at, targets_in, with_slots};
 
+use crate::columns::{SLOTS, bounds_without, places_within, used_places};
 use graph_model::{Filter, KindId, VertexId};
-use lane_scan::{bounds, equal_columns, find_target, window_mask};
+use lane_scan::{equal_columns, find_target, widened};
 use std::marker::Model;
 
 #[cfg(test)]
 mod tests;
 
-/// How many slots a block has.
-const SLOTS: usize = 32;
-
 /// A block: a number, a source and a kind, and 32 slots, each empty or an edge.
 ///
-/// What a search for a target reads lies together and first: the live places, the kind and the targets. A clone is
-/// equal in everything, its number too.
+/// What a search reads lies together and first: a header of the live places, the kind, the source, the number and the
+/// bounds of the recent times, and then the targets. A clone is equal in everything, its number too.
 #[derive(Clone, Debug, Drop)]
 pub struct Block {
     /// Bit `k` is set where slot `k` has an edge.
     live: u32,
     kind: KindId,
     source: VertexId,
+    number: u32,
+    /// The least and the greatest recent time of the edges; where there is no edge, anything.
+    times: (u64, u64),
     /// A dead place has the target 0, so that blocks with the same slots have the same column.
     targets: [u32; SLOTS],
-    number: u32,
     weights: [i64; SLOTS],
     firsts: [u64; SLOTS],
     recents: [u64; SLOTS],
@@ -38,13 +38,13 @@ pub struct Block {
 impl Model for Block {
     ghost use Rattle.std.specs.Prelude.{ℕ, List};
     ghost use Rattle.edge_block.specs.Slots.{BlockView};
-    ghost use Rattle.edge_block.specs.Columns.{slots_of, AreColumns};
+    ghost use Rattle.edge_block.specs.Columns.{slots_of, AreColumns, AreTimes};
 
     ghost Value = { BlockView };
 
     ghost view = { λ a. record { number = a.number; source = a.source.0; kind = a.kind.0; slots = slots_of a.live a.targets a.weights a.firsts a.recents } };
 
-    ghost invariant = { λ a. AreColumns a.live a.targets a.weights a.firsts a.recents };
+    ghost invariant = { λ a. AreColumns a.live a.targets a.weights a.firsts a.recents × AreTimes a.live a.recents a.times };
 }
 
 /// An edge that a block lends: its fields stand in the block's columns, and its source is the block's.
@@ -71,8 +71,9 @@ impl Block {
             live: 0,
             kind: KindId(0),
             source: VertexId(0),
-            targets: [0; SLOTS],
             number,
+            times: (0, 0),
+            targets: [0; SLOTS],
             weights: [0; SLOTS],
             firsts: [0; SLOTS],
             recents: [0; SLOTS],
@@ -149,10 +150,12 @@ impl Block {
         self.live = other.live;
         self.kind = other.kind;
         self.source = other.source;
+        self.times = other.times;
         self.targets = other.targets;
-        self.weights = other.weights;
-        self.firsts = other.firsts;
-        self.recents = other.recents;
+        let used = used_places(other.live);
+        self.weights[..used].copy_from_slice(&other.weights[..used]);
+        self.firsts[..used].copy_from_slice(&other.firsts[..used]);
+        self.recents[..used].copy_from_slice(&other.recents[..used]);
     }
 
     /// Writes an edge over the slot of its target or, where there is none, into the lowest free slot.
@@ -166,6 +169,9 @@ impl Block {
         ensures { self.new ≡ with_slots self.old (put_slot (edge_slot target weight first recent) self.old.slots) }
     {
         let place = self.place_for(target);
+        let others = bounds_without(&self.recents, self.live, self.times, place);
+        let times = widened(others, recent);
+        self.times = times;
         self.targets[place] = target;
         self.weights[place] = weight;
         self.firsts[place] = first;
@@ -181,6 +187,9 @@ impl Block {
         let Some(place) = find_target(&self.targets, self.live, target) else {
             return false;
         };
+        let others = bounds_without(&self.recents, self.live, self.times, place);
+        let times = others.unwrap_or(self.times);
+        self.times = times;
         self.live &= !(1 << place);
         self.targets[place] = 0;
         true
@@ -197,7 +206,11 @@ impl Block {
     pub fn time_bounds(&self) -> Option<(u64, u64)>
         ensures { AreBoundsOf (map (λ edge. edge.stamp.recent) (edges_in self.now.slots)) result }
     {
-        bounds(&self.recents, self.live)
+        if self.live == 0 {
+            None
+        } else {
+            Some(self.times)
+        }
     }
 
     /// Lends the edges of a view, in slot order: those of the filter's kind, if it names one, whose recent
@@ -208,7 +221,7 @@ impl Block {
         ensures in_range { All (λ edge. IsStamp edge.stamp) (edges_left result) }
     {
         let mask = if takes(view, self.kind) {
-            window_mask(&self.recents, self.live, view.lo, view.hi)
+            places_within(&self.recents, self.live, self.times, view.lo, view.hi)
         } else {
             0
         };

@@ -5,6 +5,7 @@
 #![tactic(auto)]
 
 mod blocks;
+mod columns;
 mod laws;
 
 pub use blocks::{Block, BlockIter, EdgeRef};

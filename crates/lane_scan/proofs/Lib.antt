@@ -1,3 +1,4 @@
 pub mod Selected
 pub mod Weights
 pub mod Windows
+pub mod UsedParts

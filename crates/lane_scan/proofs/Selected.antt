@@ -14,7 +14,7 @@ push_after : {X : Type 0} (b : Bool) (y x : X) (xs ys : List X) → xs ≡ ys ++
 push_after true y x xs ys e = ap (λ zs. y ∷ zs) e
 push_after false y x xs ys e = e
 
-same_after : {X : Type 0} (b : Bool) (y : X) (xs ys : List X) → xs ≡ ys →
+pub same_after : {X : Type 0} (b : Bool) (y : X) (xs ys : List X) → xs ≡ ys →
     (if b then y ∷ xs else xs) ≡ (if b then y ∷ ys else ys)
 same_after true y xs ys e = ap (λ zs. y ∷ zs) e
 same_after false y xs ys e = e

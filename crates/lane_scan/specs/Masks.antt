@@ -1,5 +1,5 @@
 -- Masks over the places of a list of at most 32 items: which places are in one, and the items that stand there.
-use Rattle.std.specs.Prelude.{◌≡◌, ℕ, ◌+◌, ◌<◌, ◌≤◌, ◌^◌, ◌==◌, ℤ, nat_abs, List, [], ◌∷◌, length, slice_index, if◌then◌else◌, All, Contains}
+use Rattle.std.specs.Prelude.{◌≡◌, ℕ, ◌+◌, ◌<◌, ◌≤◌, ◌^◌, ◌==◌, ℤ, nat_abs, List, [], ◌∷◌, length, take, slice_index, if◌then◌else◌, All, Contains}
 use Rattle.std.specs.Int.{bit_at}
 use Rattle.std.specs.declared.option.Option.{Option}
 use Rattle.std.specs.declared.option.Option.TheVariants.{None, Some}
@@ -17,6 +17,11 @@ selected_from mask place (x ∷ xs) =
 -- the items at the places in the mask, in order; bits at or past the length are ignored
 abbrev pub selected : {X : Type 0} → ℕ → List X → List X
 selected mask xs = selected_from mask 0 xs
+
+-- the first items of a list, up to the last place in the mask or further
+pub record IsUsedPart {X : Type 0} (mask : ℕ) (xs used : List X) : Type 0 where
+  pub part : used ≡ take (length used) xs
+  pub past : (place : ℕ) → length used ≤ place → place < length xs → InMask mask place → ⊥
 
 -- a live place that holds the target
 pub record IsPlaceOf (targets : List ℕ) (live target place : ℕ) : Type 0 where

@@ -48,6 +48,18 @@ fn bounds_the_masked_values_alone(rt: HostRuntime) {
 }
 
 #[test]
+fn widens_by_one_value(rt: HostRuntime) {
+    for (bounds, time, expected) in [
+        (None, 7, (7, 7)),
+        (Some((4, 9)), 30, (4, 30)),
+        (Some((4, 9)), 2, (2, 9)),
+        (Some((4, 9)), 5, (4, 9)),
+    ] {
+        assert_eq!(rt; widened(bounds, time), expected);
+    }
+}
+
+#[test]
 fn compares_whole_columns(rt: HostRuntime) {
     assert_eq!(rt; equal_columns(&[1, 2], &[1, 3]), false);
     assert_eq!(rt; equal_columns(&[1, 2], &[1, 2]), true);

@@ -1,11 +1,11 @@
-use Rattle.std.proofs.Common.{refl, replicate, pos, []}
+use Rattle.std.proofs.Common.{arith, refl, replicate, pos, []}
 use Rattle.edge_block.specs.Slots.{BlockView}
 use Rattle.edge_block.proofs.Places.{slots_of-none}
 use Rattle.edge_block.proofs.KeptColumns.{columns_none, same_block}
 use Rattle.edge_block.proofs.blocks.Block.blank.Goals as goal
 
 pub invariant_of-result : goal.invariant_of-result
-invariant_of-result c = columns_none (replicate 32 (pos 0)) (replicate 32 0) (replicate 32 0)
+invariant_of-result c = (columns_none (replicate 32 (pos 0)) (replicate 32 0) (replicate 32 0), (λ some. absurd (omega arith)))
 
 pub returns : goal.returns
 returns c =

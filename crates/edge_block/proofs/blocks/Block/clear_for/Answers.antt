@@ -1,11 +1,11 @@
-use Rattle.std.proofs.Common.{refl, replicate, []}
+use Rattle.std.proofs.Common.{arith, refl, replicate, []}
 use Rattle.edge_block.specs.Slots.{BlockView}
 use Rattle.edge_block.proofs.Places.{slots_of-none}
 use Rattle.edge_block.proofs.KeptColumns.{columns_none, same_block}
 use Rattle.edge_block.proofs.blocks.Block.clear_for.Goals as goal
 
 pub invariant_of-self : goal.invariant_of-self
-invariant_of-self c = columns_none c.self.inside.weights c.self.inside.firsts c.self.inside.recents
+invariant_of-self c = (columns_none c.self.inside.weights c.self.inside.firsts c.self.inside.recents, (λ some. absurd (omega arith)))
 
 pub returns : goal.returns
 returns c =

@@ -7,4 +7,4 @@ pub returns-clause-count : goal.returns-clause-count
 returns-clause-count c = rw (← c.self.view_is) (edges_by_ones c.self.inside.live c.self.inside.targets c.self.inside.weights c.self.inside.firsts c.self.inside.recents (omega arith))
 
 pub returns-clause-block : goal.returns-clause-block
-returns-clause-block c = rw (← c.self.view_is) (block_of_columns _ _ _ c.self.inside.live c.self.inside.targets c.self.inside.weights c.self.inside.firsts c.self.inside.recents c.self.invariant)
+returns-clause-block c = rw (← c.self.view_is) (block_of_columns _ _ _ c.self.inside.live c.self.inside.targets c.self.inside.weights c.self.inside.firsts c.self.inside.recents c.self.invariant.0)

@@ -9,7 +9,7 @@ returns-then-self-other c = (
       (targets_in-same c.self.inside.live c.other.inside.live c.self.inside.targets c.other.inside.targets c.self.inside.weights c.other.inside.weights c.self.inside.firsts c.other.inside.firsts c.self.inside.recents c.other.inside.recents c.if-self-other.true (c.equal_columns.ensures.0 same))),
   (λ e. let same = rw (← c.self.view_is, ← c.other.view_is) at e in
       c.equal_columns.ensures.1
-      (columns_from_targets c.self.inside.live c.other.inside.live c.self.inside.targets c.other.inside.targets c.self.inside.weights c.other.inside.weights c.self.inside.firsts c.other.inside.firsts c.self.inside.recents c.other.inside.recents c.self.invariant c.other.invariant (omega arith) (omega arith) c.self.told.0 c.other.told.0 same).1),
+      (columns_from_targets c.self.inside.live c.other.inside.live c.self.inside.targets c.other.inside.targets c.self.inside.weights c.other.inside.weights c.self.inside.firsts c.other.inside.firsts c.self.inside.recents c.other.inside.recents c.self.invariant.0 c.other.invariant.0 (omega arith) (omega arith) c.self.told.0 c.other.told.0 same).1),
 )
 
 pub returns-else-self-other : goal.returns-else-self-other
@@ -17,5 +17,5 @@ returns-else-self-other c = (
   (λ same. absurd (c.if-self-other.false (eqb-true c.self.inside.live c.other.inside.live same))),
   (λ e. let same = rw (← c.self.view_is, ← c.other.view_is) at e in
       eq-eqb c.self.inside.live c.other.inside.live
-      (columns_from_targets c.self.inside.live c.other.inside.live c.self.inside.targets c.other.inside.targets c.self.inside.weights c.other.inside.weights c.self.inside.firsts c.other.inside.firsts c.self.inside.recents c.other.inside.recents c.self.invariant c.other.invariant (omega arith) (omega arith) c.self.told.0 c.other.told.0 same).0),
+      (columns_from_targets c.self.inside.live c.other.inside.live c.self.inside.targets c.other.inside.targets c.self.inside.weights c.other.inside.weights c.self.inside.firsts c.other.inside.firsts c.self.inside.recents c.other.inside.recents c.self.invariant.0 c.other.invariant.0 (omega arith) (omega arith) c.self.told.0 c.other.told.0 same).0),
 )

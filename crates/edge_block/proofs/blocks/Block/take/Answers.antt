@@ -5,6 +5,7 @@ use Rattle.edge_block.specs.Slots.{take_slot, holds}
 use Rattle.edge_block.proofs.Firsts.{at_first-none}
 use Rattle.edge_block.proofs.Places.{none_holds, take_at}
 use Rattle.edge_block.proofs.KeptColumns.{after_take, columns_take, same_block}
+use Rattle.edge_block.proofs.Times.{times_taken}
 use Rattle.edge_block.proofs.blocks.Block.take.Goals as goal
 
 pub returns-in_default-clause-slots : goal.returns-in_default-clause-slots
@@ -19,9 +20,11 @@ returns-in_default-clause-taken c =
 
 pub invariant_of-self : goal.invariant_of-self
 invariant_of-self c =
-    let found = rw c.in-Some.is at c.find_target.ensures in
-    columns_take c.self.inside.live c.self.inside.targets c.self.inside.weights c.self.inside.firsts c.self.inside.recents c.args.target c.in-Some.place found.0.within (omega (arith, found.0.within, c.self.told.0))
-    (after_take c.self.inside.live c.self.inside.targets c.self.inside.weights c.self.inside.firsts c.self.inside.recents c.args.target c.in-Some.place c.self.told.0 found.0 found.1) c.self.invariant
+    let found = rw c.in-Some.is at c.find_target.ensures in (
+      columns_take c.self.inside.live c.self.inside.targets c.self.inside.weights c.self.inside.firsts c.self.inside.recents c.args.target c.in-Some.place found.0.within (omega (arith, found.0.within, c.self.told.0))
+          (after_take c.self.inside.live c.self.inside.targets c.self.inside.weights c.self.inside.firsts c.self.inside.recents c.args.target c.in-Some.place c.self.told.0 found.0 found.1) c.self.invariant.0,
+      (rw c.unwrap_or-times.ensures (times_taken c.self.inside.live c.self.inside.recents c.in-Some.place c.bounds_without-others.result c.self.inside.times (omega arith) c.self.told.3 c.bounds_without-others.ensures)),
+    )
 
 pub returns-clause-slots : goal.returns-clause-slots
 returns-clause-slots c =
