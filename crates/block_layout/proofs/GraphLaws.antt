@@ -8,18 +8,17 @@ use Rattle.std.specs.FinMap.{FinMap, get, get-insert, get-remove}
 use Rattle.std.proofs.lemmas.Bool.{true≢false, false≢true, and_parts}
 use Rattle.std.proofs.lemmas.List.Elements.{All-head, All-tail, All-cons, All-nil}
 use Rattle.graph_model.specs.Graph.{Graph, Key, Stamp, key_cmp}
-use Rattle.graph_model.specs.Step as rule
-use Rattle.graph_model.specs.Step.{set_at, after, outcome, after_all, outcomes, op_key, names_after, kinds_after, number_of, with_name}
+use Rattle.graph_model.specs.Step.{set_at, stamp_after, outcome_at, changed, after, outcome, after_all, outcomes, number_of, with_name}
 use Rattle.graph_model.specs.declared.batches.NamedOp.{NamedOp}
 use Rattle.graph_model.specs.declared.batches.NamedOp.TheVariants.{Insert, Incr, Remove}
 use Rattle.graph_model.specs.declared.batches.Outcome.TheVariants.{Absent}
-use Rattle.block_layout.specs.declared.changes.EdgeChange.{EdgeChange}
-use Rattle.block_layout.specs.Changes.{stamp_after, outcome_at, change_of}
+use Rattle.graph_model.specs.declared.changes.EdgeChange.{EdgeChange}
+use Rattle.block_layout.specs.Operations.{source_name, target_name, kind_name, change_of, names_after, kinds_after, key_by}
 use Rattle.graph_model.proofs.Keys.{keys_total, exact_keys}
-use Rattle.graph_model.proofs.Naming.{appears-with_name, stays-with_name, number_of-lt, length-names_after, length-kinds_after}
+use Rattle.graph_model.proofs.NameLists.{appears-with_name, stays-with_name, number_of-lt, length-names_made, length-kinds_made}
 use Rattle.edge_block.specs.Slots.{Slot, NoKeyTwice, stamp_at, is_free, AreDistinct}
 use Rattle.block_layout.specs.Rows.{Shape, OpenBlock, block_at, row_at, open_at, edge_at, IsRow, change_row, has_none, is_kept, row_end, shapes, untouched}
-use Rattle.block_layout.specs.Batches.{Resolved, resolve, resolved, is_known, key_is_of, row_step, rows_step, rows_all, outcome_in, outcomes_all, IsLayoutOf, opened, layout_after, source_name, target_name, kind_name, IsWithin}
+use Rattle.block_layout.specs.Batches.{Resolved, resolve, resolved, is_known, key_is_of, row_step, rows_step, rows_all, outcome_in, outcomes_all, IsLayoutOf, opened, layout_after, IsWithin}
 use Rattle.block_layout.proofs.SlotLaws.{same_number}
 use Rattle.block_layout.proofs.RowLaws.{IsOpenRow, change_sets}
 use Rattle.block_layout.proofs.Keyed.{none_is}
@@ -36,27 +35,22 @@ Shows rows edges = (k : Key) → edge_at (rows k.source) (k.kind, k.target) ≡ 
 abbrev pub AreOpenRows : (ℕ → List OpenBlock) → Type 0
 AreOpenRows rows = (source : ℕ) → IsOpenRow (rows source)
 
--- the operation rule, as a change at the operation's key
-named_stamp : (op : NamedOp) (o : Option Stamp) → rule.stamp_after op o ≡ stamp_after (change_of op) o
-named_stamp (Insert kind source target weight time) None = refl
-named_stamp (Insert kind source target weight time) (Some e) = refl
-named_stamp (Incr kind source target amount time) None = refl
-named_stamp (Incr kind source target amount time) (Some e) = refl
-named_stamp (Remove kind source target) o = refl
+-- an operation, by its parts
+abbrev op_key : NamedOp → Graph → Key
+op_key op g = key_by (names_after op g.names) (kinds_after op g.kinds) op
 
-named_outcome : (op : NamedOp) (o : Option Stamp) → rule.outcome_at op o ≡ outcome_at (change_of op) o
-named_outcome (Insert kind source target weight time) None = refl
-named_outcome (Insert kind source target weight time) (Some e) = refl
-named_outcome (Incr kind source target amount time) None = refl
-named_outcome (Incr kind source target amount time) (Some e) = refl
-named_outcome (Remove kind source target) None = refl
-named_outcome (Remove kind source target) (Some e) = refl
+abbrev after_parts : NamedOp → Graph → Graph
+after_parts op g = changed (change_of op) (kind_name op) (source_name op) (target_name op) g
 
-edges_after : (op : NamedOp) (g : Graph) → (after op g).edges ≡ set_at g.edges (op_key op g) (stamp_after (change_of op) (get g.edges (op_key op g)))
-edges_after op g = ap (set_at g.edges (op_key op g)) (named_stamp op (get g.edges (op_key op g)))
+after_is : (op : NamedOp) (g : Graph) → after op g ≡ after_parts op g
+after_is (Insert kind source target weight time) g = refl
+after_is (Incr kind source target amount time) g = refl
+after_is (Remove kind source target) g = refl
 
 outcome_is : (op : NamedOp) (g : Graph) → outcome op g ≡ outcome_at (change_of op) (get g.edges (op_key op g))
-outcome_is op g = named_outcome op (get g.edges (op_key op g))
+outcome_is (Insert kind source target weight time) g = refl
+outcome_is (Incr kind source target amount time) g = refl
+outcome_is (Remove kind source target) g = refl
 
 abbrev tests : Key → Key → Bool → Bool
 tests q k same = (q.kind == k.kind) && (same && (q.target == k.target))
@@ -153,22 +147,21 @@ key_when op g b = cond b (Some (op_key op g)) None
 -- one operation
 pub step_shows : (op : NamedOp) (g : Graph) (rows : ℕ → List OpenBlock) → IsWithin g → AreOpenRows rows → Shows rows g.edges
     → let r = resolve (names_after op g.names) (kinds_after op g.kinds) op in
-    Shows (rows_step r rows) (after op g).edges × AreOpenRows (rows_step r rows) × (outcome_in r.change r.key rows ≡ outcome op g)
+    Shows (rows_step r rows) (after_parts op g).edges × AreOpenRows (rows_step r rows) × (outcome_in r.change r.key rows ≡ outcome op g)
 step_shows op g rows w u s =
     elim (knows op g) as (λ b. knows op g ≡ b →
-    ((q : Key) → edge_at (cond (key_is_of q.source (key_when op g b)) (row_step (change_of op) (key_when op g b) (rows q.source)) (rows q.source)) (q.kind, q.target) ≡ get (after op g).edges q)
+    ((q : Key) → edge_at (cond (key_is_of q.source (key_when op g b)) (row_step (change_of op) (key_when op g b) (rows q.source)) (rows q.source)) (q.kind, q.target) ≡ get (after_parts op g).edges q)
     × ((source : ℕ) → IsOpenRow (cond (key_is_of source (key_when op g b)) (row_step (change_of op) (key_when op g b) (rows source)) (rows source)))
     × (outcome_in (change_of op) (key_when op g b) rows ≡ outcome op g)) [
       | true ↦ λ t. (
-        λ q. shows_key (change_of op) (op_key op g) rows g.edges u s q ∙ ap (λ m. get m q) (sym (edges_after op g)),
+        λ q. shows_key (change_of op) (op_key op g) rows g.edges u s q,
         rows_key (change_of op) (op_key op g) rows u,
         ap (outcome_at (change_of op)) (s (op_key op g)) ∙ sym (outcome_is op g),
       )
       | false ↦ λ t.
           let none = unknown_none op g w t in (
             λ q. s q ∙ set_none g.edges (op_key op g) none.0 q
-                ∙ ap (λ o. get (set_at g.edges (op_key op g) o) q) (sym (ap (stamp_after (change_of op)) none.0 ∙ none.1))
-                ∙ ap (λ m. get m q) (sym (edges_after op g)),
+                ∙ ap (λ o. get (set_at g.edges (op_key op g) o) q) (sym (ap (stamp_after (change_of op)) none.0 ∙ none.1)),
             u,
             sym (outcome_is op g ∙ ap (outcome_at (change_of op)) none.0 ∙ none.2),
           )
@@ -188,7 +181,7 @@ lies (Incr kind source target amount time) g before is = (
 )
 lies (Remove kind source target) g before is = absurd (false≢true is)
 
-pub step_within : (op : NamedOp) (g : Graph) → IsWithin g → IsWithin (after op g)
+pub step_within : (op : NamedOp) (g : Graph) → IsWithin g → IsWithin (after_parts op g)
 step_within op g w q is =
     elim (eq_by_cmp key_cmp q (op_key op g)) as (λ b. eq_by_cmp key_cmp q (op_key op g) ≡ b → is_some (cond b (stamp_after (change_of op) (get g.edges (op_key op g))) (get g.edges q)) ≡ true
     → (q.kind < length (kinds_after op g.kinds)) × (q.source < length (names_after op g.names)) × (q.target < length (names_after op g.names))) [
@@ -197,11 +190,11 @@ step_within op g w q is =
           (sym (exact_keys q (op_key op g) ((Equal-is (key_cmp q (op_key op g))).0 t))) (lies op g (get g.edges (op_key op g)) i)
       | false ↦ λ t i.
           let old = w q i in
-          let more_names = length-names_after op g.names in
-          let more_kinds = length-kinds_after op g.kinds in
+          let more_names = length-names_made (change_of op) (source_name op) (target_name op) g.names in
+          let more_kinds = length-kinds_made (change_of op) (kind_name op) g.kinds in
           let a = old.0 in let b = old.1 in let c = old.2 in
           (omega arith, omega arith, omega arith)
-    ] refl (ap is_some (sym (ap (λ m. get m q) (edges_after op g) ∙ set_at_get g.edges (op_key op g) (stamp_after (change_of op) (get g.edges (op_key op g))) q)) ∙ is)
+    ] refl (ap is_some (sym (set_at_get g.edges (op_key op g) (stamp_after (change_of op) (get g.edges (op_key op g))) q)) ∙ is)
 
 -- a batch's operations, one after another
 pub all_shows : (ops : List NamedOp) (g : Graph) (rows : ℕ → List OpenBlock) → IsWithin g → AreOpenRows rows → Shows rows g.edges
@@ -210,9 +203,14 @@ pub all_shows : (ops : List NamedOp) (g : Graph) (rows : ℕ → List OpenBlock)
 all_shows [] g rows w u s = (s, u, refl, w)
 all_shows (op ∷ ops) g rows w u s =
     let r : Resolved = resolve (names_after op g.names) (kinds_after op g.kinds) op in
+    let rs : List Resolved = resolved ops (names_after op g.names) (kinds_after op g.kinds) in
     let one = step_shows op g rows w u s in
-    let rest = all_shows ops (after op g) (rows_step r rows) (step_within op g w) one.1 one.0 in
-    (rest.0, rest.1, (λ i. one.2 i ∷ rest.2 i), rest.3)
+    let rest = all_shows ops (after_parts op g) (rows_step r rows) (step_within op g w) one.1 one.0 in (
+      subst (λ (h : Graph). Shows (rows_all rs (rows_step r rows)) (after_all ops h).edges) (sym (after_is op g)) rest.0,
+      rest.1,
+      (λ i. one.2 i ∷ (rest.2 ∙ ap (outcomes ops) (sym (after_is op g))) i),
+      subst (λ (h : Graph). IsWithin (after_all ops h)) (sym (after_is op g)) rest.3,
+    )
 
 -- slots that are all free
 all_free : (slots : List (Option Slot)) → list_all is_free slots ≡ true → (q : ℕ) → stamp_at slots q ≡ None

@@ -1,12 +1,13 @@
 -- What one operation changes in a source's row.
-use Rattle.std.proofs.Common.{◌≡◌, ℕ, zero, suc, ◌==◌, List, [], ◌∷◌, ◌++◌, Bool, true, false, cond, ◌&&◌, refl, sym, ap, ◌∙◌, subst, Option, Some, None, is_some, All, replicate, nat_le, nat_abs, ◌+ℤ◌, ◌^◌}
+use Rattle.std.proofs.Common.{◌≡◌, ℕ, zero, suc, ◌==◌, List, [], ◌∷◌, ◌++◌, Bool, true, false, cond, ◌&&◌, refl, sym, ap, ◌∙◌, subst, Option, Some, None, is_some, All, replicate, ◌+ℤ◌}
 use Rattle.std.specs.List.{list_any}
 use Rattle.std.proofs.lemmas.Bool.{true≢false, false≢true, and_parts}
 use Rattle.std.proofs.lemmas.List.Elements.{All-head, All-tail, All-cons, All-push}
 use Rattle.graph_model.specs.Graph.{Stamp}
-use Rattle.block_layout.specs.Changes.{stamp_after, outcome_at}
-use Rattle.block_layout.specs.declared.changes.EdgeChange.{EdgeChange}
-use Rattle.block_layout.specs.declared.changes.EdgeChange.TheVariants.{Insert, Incr, Remove}
+use Rattle.graph_model.specs.Limits.{is_weight}
+use Rattle.graph_model.specs.Step.{stamp_after, outcome_at}
+use Rattle.graph_model.specs.declared.changes.EdgeChange.{EdgeChange}
+use Rattle.graph_model.specs.declared.changes.EdgeChange.TheVariants.{Insert, Incr, Remove}
 use Rattle.graph_model.specs.declared.batches.Outcome.TheVariants.{Updated, Overflow}
 use Rattle.edge_block.specs.Slots.{Slot, at_first, slot_at, stamp_at, holds, is_free, AreDistinct, NoKeyTwice, put_slot, take_slot}
 use Rattle.block_layout.specs.Rows.{OpenBlock, open_at, edge_at, has_edge, has_room, touch, new_block, put_edge, take_edge, set_edge, touches, change_row}
@@ -87,7 +88,7 @@ unmoved (Insert weight time) None h = absurd (true≢false h)
 unmoved (Insert weight time) (Some e) h = absurd (true≢false h)
 unmoved (Incr amount time) None h = absurd (true≢false h)
 unmoved (Incr amount time) (Some e) h =
-    elim (nat_le (nat_abs (e.weight +ℤ amount)) (2 ^ 40)) as (λ b. touches (cond b Updated Overflow) ≡ false → cond b (Some (record e { weight = e.weight +ℤ amount; recent = time })) (Some e) ≡ Some e) [
+    elim (is_weight (e.weight +ℤ amount)) as (λ b. touches (cond b Updated Overflow) ≡ false → cond b (Some (record e { weight = e.weight +ℤ amount; recent = time })) (Some e) ≡ Some e) [
       | true ↦ λ t. absurd (true≢false t)
       | false ↦ λ t. refl
     ] h

@@ -4,11 +4,11 @@ use Rattle.std.proofs.lemmas.Bool.{false≢true, eqb-true, eqb-false}
 use Rattle.std.proofs.lemmas.List.Elements.{All-head, All-tail, All-nil, All-cons, All-weaker}
 use Rattle.graph_model.specs.Graph.{Key}
 use Rattle.graph_model.specs.declared.batches.NamedOp.{NamedOp}
-use Rattle.graph_model.specs.declared.batches.NamedOp.TheVariants.{Insert, Incr, Remove}
-use Rattle.graph_model.specs.Step.{key_in, number_of, names_after, kinds_after}
-use Rattle.block_layout.specs.declared.changes.EdgeChange.{EdgeChange}
+use Rattle.graph_model.specs.Step.{number_of}
+use Rattle.block_layout.specs.Operations.{source_name, target_name, kind_name, names_after, kinds_after, key_by}
+use Rattle.graph_model.specs.declared.changes.EdgeChange.{EdgeChange}
 use Rattle.block_layout.specs.Rows.{OpenBlock}
-use Rattle.block_layout.specs.Batches.{Resolved, key_is_of, row_step, outcome_in, rows_step, rows_all, outcomes_all, picked, shard_of, shard_ops, resolve, resolved, is_known, source_name, target_name, kind_name}
+use Rattle.block_layout.specs.Batches.{Resolved, key_is_of, row_step, outcome_in, rows_step, rows_all, outcomes_all, picked, shard_of, shard_ops, resolve, resolved, is_known}
 
 -- p takes the operations of the sources that pass
 module _ (p : Resolved → Bool) (own : ℕ → Bool) where
@@ -74,21 +74,16 @@ source_row rs rows source = own_rows (λ r. key_is_of source r.key) (λ other. s
 abbrev IsPlaced : Resolved → Type 0
 IsPlaced r = (k : Key) → r.key ≡ Some k → r.source ≡ Some k.source
 
-source_of_key : (names kinds : List (List ℕ)) (op : NamedOp) → (key_in names kinds op).source ≡ number_of names (source_name op)
-source_of_key names kinds (Insert kind source target weight time) = refl
-source_of_key names kinds (Incr kind source target amount time) = refl
-source_of_key names kinds (Remove kind source target) = refl
-
 placed : (names kinds : List (List ℕ)) (op : NamedOp) → IsPlaced (resolve names kinds op)
 placed names kinds op k =
-    let at : Bool → Bool → Bool → Type 0 = λ a b c. cond (a && (b && c)) (Some (key_in names kinds op)) None ≡ Some k → cond b (Some (number_of names (source_name op))) None ≡ Some k.source in
+    let at : Bool → Bool → Bool → Type 0 = λ a b c. cond (a && (b && c)) (Some (key_by names kinds op)) None ≡ Some k → cond b (Some (number_of names (source_name op))) None ≡ Some k.source in
     elim (is_known kinds (kind_name op)) as (λ a. at a (is_known names (source_name op)) (is_known names (target_name op))) [
       | false ↦ λ e. cc
       | true ↦ elim (is_known names (source_name op)) as (λ b. at true b (is_known names (target_name op))) [
         | false ↦ λ e. cc
         | true ↦ elim (is_known names (target_name op)) as (λ c. at true true c) [
           | false ↦ λ e. cc
-          | true ↦ λ e. let same : key_in names kinds op ≡ k = cc in ap Some (sym (source_of_key names kinds op) ∙ ap (λ (q : Key). q.source) same)
+          | true ↦ λ e. let same : key_by names kinds op ≡ k = cc in ap Some (ap (λ (q : Key). q.source) same)
         ]
       ]
     ]

@@ -6,13 +6,12 @@ use Rattle.std.specs.FinMap.{FinMap, get}
 use Rattle.std.specs.declared.option.Option.{Option}
 use Rattle.std.specs.declared.option.Option.TheVariants.{None, Some}
 use Rattle.graph_model.specs.Graph.{Graph, Key, Stamp, key_cmp}
-use Rattle.graph_model.specs.Step.{number_of, names_after, kinds_after, key_in}
+use Rattle.graph_model.specs.Step.{number_of, outcome_at}
 use Rattle.graph_model.specs.declared.batches.NamedOp.{NamedOp}
-use Rattle.graph_model.specs.declared.batches.NamedOp.TheVariants.{Insert, Incr, Remove}
 use Rattle.graph_model.specs.declared.batches.Outcome.{Outcome}
 use Rattle.graph_model.specs.declared.batches.Outcome.TheVariants.{Absent}
-use Rattle.block_layout.specs.declared.changes.EdgeChange.{EdgeChange}
-use Rattle.block_layout.specs.Changes.{outcome_at, change_of}
+use Rattle.graph_model.specs.declared.changes.EdgeChange.{EdgeChange}
+use Rattle.block_layout.specs.Operations.{source_name, target_name, kind_name, change_of, names_after, kinds_after, key_by}
 use Rattle.block_layout.specs.Rows.{Shape, OpenBlock, row_at, edge_at, untouched, change_row, row_end, taken_in, dropped_in, IsRow}
 
 -- an operation with the numbers of its names, none where a name is unknown at its place, and what it does to the
@@ -21,21 +20,6 @@ pub record Resolved : Type 0 where
   pub source : Option ℕ
   pub key : Option Key
   pub change : EdgeChange
-
-abbrev pub source_name : NamedOp → List ℕ
-source_name (Insert kind source target weight time) = source
-source_name (Incr kind source target amount time) = source
-source_name (Remove kind source target) = source
-
-abbrev pub target_name : NamedOp → List ℕ
-target_name (Insert kind source target weight time) = target
-target_name (Incr kind source target amount time) = target
-target_name (Remove kind source target) = target
-
-abbrev pub kind_name : NamedOp → List ℕ
-kind_name (Insert kind source target weight time) = kind
-kind_name (Incr kind source target amount time) = kind
-kind_name (Remove kind source target) = kind
 
 abbrev pub is_known : List (List ℕ) → List ℕ → Bool
 is_known names name = list_any (bytes_eq name) names
@@ -46,7 +30,7 @@ resolve names kinds op = record {
   source = if is_known names (source_name op) then Some (number_of names (source_name op)) else None;
   key =
       if is_known kinds (kind_name op) && (is_known names (source_name op) && is_known names (target_name op))
-      then Some (key_in names kinds op) else None;
+      then Some (key_by names kinds op) else None;
   change = change_of op;
 }
 

@@ -3,8 +3,8 @@ use Rattle.std.specs.Prelude.{◌≡◌, ℕ, pos, List, [], ◌∷◌, map, len
 use Rattle.std.specs.List.{range_with_len}
 use Rattle.std.specs.declared.option.Option.TheVariants.{Some}
 use Rattle.edge_block.specs.Slots.{edges_in}
-use Rattle.block_layout.specs.declared.changes.EdgeChange.{EdgeChange}
-use Rattle.block_layout.specs.declared.changes.EdgeChange.TheVariants.{Insert, Remove}
+use Rattle.graph_model.specs.declared.changes.EdgeChange.{EdgeChange}
+use Rattle.graph_model.specs.declared.changes.EdgeChange.TheVariants.{Insert, Remove}
 use Rattle.block_layout.specs.Rows.{OpenBlock, Shape, row_end, taken_in, dropped_in}
 use Rattle.block_layout.specs.Batches.{Resolved, rows_all, opened}
 

@@ -1,4 +1,4 @@
-pub mod Changes
+pub mod Operations
 pub mod Rows
 pub mod Batches
 pub mod Examples

@@ -5,8 +5,8 @@ use Rattle.std.specs.Option.{is_some}
 use Rattle.std.specs.declared.option.Option.{Option}
 use Rattle.std.specs.declared.option.Option.TheVariants.{None, Some}
 use Rattle.graph_model.specs.Graph.{Key, Stamp}
-use Rattle.block_layout.specs.declared.changes.EdgeChange.{EdgeChange}
-use Rattle.block_layout.specs.Changes.{stamp_after, outcome_at}
+use Rattle.graph_model.specs.declared.changes.EdgeChange.{EdgeChange}
+use Rattle.graph_model.specs.Step.{stamp_after, outcome_at}
 use Rattle.graph_model.specs.declared.batches.Outcome.{Outcome}
 use Rattle.graph_model.specs.declared.batches.Outcome.TheVariants.{Inserted, Updated, Removed, Absent, Overflow}
 use Rattle.edge_block.specs.Slots.{BlockView, Slot, is_free, stamp_at, AreDistinct, at_first, put_slot, take_slot, edges_in, first_some, NoKeyTwice}

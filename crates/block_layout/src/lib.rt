@@ -1,10 +1,8 @@
 //! The rows of blocks that a graph has, and what a batch does to them: definitions and laws.
 #![tactic(auto)]
 
-mod changes;
 mod laws;
 
-pub use changes::EdgeChange;
 pub use laws::{
     law_batch_layout, law_examples, law_shard_outcomes, law_shard_rows, law_source_row,
 };
