@@ -1,19 +1,22 @@
 -- Names in a book: their numbers, and what one more name leaves true.
-use Rattle.std.proofs.Common.{◌≡◌, ◌≢◌, ℕ, ◌+◌, ◌<◌, Bool, true, false, cond, not, ◌||◌, suc, nat_lt, length-append, List, [], ◌∷◌, ◌++◌, map, String, length, get_or, IsTrue, Option, Some, None, refl, sym, ap, subst, ◌∙◌, arith, true≢false, if◌then◌else◌}
-use Rattle.std.specs.Option.{SomeIff, is_some}
-use Rattle.std.specs.List.{list_any, position}
+use Rattle.std.proofs.Common.{◌≡◌, ◌≢◌, ◌⊎◌, ℕ, ◌+◌, ◌<◌, Bool, true, false, cond, not, ◌||◌, suc, length-append, List, [], ◌∷◌, ◌++◌, length, get_or, IsTrue, Option, Some, None, inl, inr, refl, sym, ap, subst, ◌∙◌, arith, true≢false, if◌then◌else◌, All, AllPairs}
+use Rattle.std.specs.Option.{SomeIff, IfSome, IfNone, is_some}
+use Rattle.std.specs.List.{slice_get}
 use Rattle.std.specs.Str.{bytes_eq}
-use Rattle.std.specs.String.{string_bytes}
 use Rattle.std.proofs.lemmas.Bool.{false_from_ne_true}
 use Rattle.std.proofs.lemmas.Slice.Eq.{bytes_eq-Decides}
 use Rattle.std.proofs.lemmas.List.Folds.{list_any_at}
 use Rattle.std.proofs.lemmas.List.Elements.{All-push}
 use Rattle.std.proofs.lemmas.List.Quantifiers.{all_pairs_push}
+use Rattle.std.proofs.lemmas.Bool.Decides.{eqb_tells}
+use Rattle.std.proofs.lemmas.List.{get_or_append_left}
+use Rattle.std.proofs.lemmas.Option.{slice_get_within, get_or_from_slice_get}
+use Rattle.std.proofs.Math.Seq.{get_or-append_seam}
 use Rattle.graph_model.specs.Step.{with_name, number_of}
 use Rattle.graph_model.specs.Answer.{is_listed}
 use Rattle.graph_model.specs.Valid.{is_name}
-use Rattle.vertex_names.proofs.Texts.{list_any-map, position-map}
-use Rattle.vertex_names.specs.Book.{Book, with_entry, IsBook}
+use Rattle.vertex_names.specs.Index.{text_hash, found_at, Stands, IsIndexed}
+use Rattle.vertex_names.specs.Book.{Book, IsBook}
 
 number_of-next : (found rest : Bool) (place count : ℕ) → (found || rest) ≡ false → (rest ≡ false → place ≡ count) → cond (not found) (1 + place) 0 ≡ suc count
 number_of-next true rest place count new last = absurd (true≢false new)
@@ -25,21 +28,6 @@ number_of-new [] name new = refl
 number_of-new (x ∷ names) name new =
     number_of-next (bytes_eq name x) (is_listed names name) (number_of names name) (length names) new (number_of-new names name)
 
-found_at : (within : Bool) (place number : ℕ) → Some place ≡ cond within (Some number) None → place ≡ number
-found_at true place number at = cc
-found_at false place number at = cc
-
--- what `position` finds is the number of a listed name
-pub SomeIff-position : (names : List (List ℕ)) (name : List ℕ) (found : Option ℕ) → found ≡ position (bytes_eq name) names → is_some found ≡ is_listed names name → SomeIff found (IsTrue (is_listed names name)) (number_of names name)
-SomeIff-position names name None at listed = λ is_there. true≢false (sym (listed ∙ is_there))
-SomeIff-position names name (Some place) at listed = (sym listed, found_at (nat_lt (number_of names name) (length names)) place (number_of names name) at)
-
--- the same of what a look-up among strings finds
-pub SomeIff-index_of : {Z : Type 0} (keys : List (String Z)) (name : List ℕ) (found : Option ℕ) → found ≡ position (λ key. bytes_eq name (string_bytes key)) keys → is_some found ≡ list_any (λ key. bytes_eq name (string_bytes key)) keys → SomeIff found (IsTrue (is_listed (map string_bytes keys) name)) (number_of (map string_bytes keys) name)
-SomeIff-index_of keys name found at listed =
-    SomeIff-position (map string_bytes keys) name found
-    (at ∙ sym (position-map string_bytes (bytes_eq name) keys)) (listed ∙ sym (list_any-map string_bytes (bytes_eq name) keys))
-
 -- a name that the book as it is shown doesn't list
 pub not_listed : (book shown : Book) (name : List ℕ) → book ≡ shown → ¬ IsTrue (is_listed shown.names name) → is_listed book.names name ≡ false
 not_listed book shown name same new = false_from_ne_true _ (subst (λ (b : Book). ¬ IsTrue (is_listed b.names name)) (sym same) new)
@@ -49,13 +37,100 @@ differs : (names : List (List ℕ)) (name : List ℕ) → is_listed names name �
 differs names name new k d in_range same =
     true≢false (sym (list_any_at (bytes_eq name) names k d in_range ((bytes_eq-Decides name (get_or names k d)).1 (sym same))) ∙ new)
 
+with_new : (names : List (List ℕ)) (name : List ℕ) → is_listed names name ≡ false → names ++ name ∷ [] ≡ with_name names name
+with_new names name new = ap (λ listed. if listed then names else names ++ name ∷ []) (sym new)
+
 -- a new name within the limit leaves a book
-pub IsBook-with_entry : (book : Book) (name : List ℕ) → IsTrue (is_name name) → is_listed book.names name ≡ false → length book.names < book.limit → IsBook book → IsBook (with_entry book name)
-IsBook-with_entry book name named new room is_book =
-    let grown : book.names ++ name ∷ [] ≡ with_name book.names name = ap (λ listed. if listed then book.names else book.names ++ name ∷ []) (sym new) in
-    subst (λ (names : List (List ℕ)). IsBook (record book { names = names })) grown (record {
-      fits = is_book.fits;
-      few = simp length-append (omega arith);
-      distinct = all_pairs_push (λ a b. a ≢ b) book.names name is_book.distinct (differs book.names name new);
-      named = All-push (λ n. IsTrue (is_name n)) book.names name is_book.named named;
-    })
+pub IsBook-pushed : (limit : ℕ) (names : List (List ℕ)) (name : List ℕ) → IsTrue (is_name name) → is_listed names name ≡ false → length names < limit → IsBook (record { limit = limit; names = names }) → IsBook (record { limit = limit; names = names ++ name ∷ [] })
+IsBook-pushed limit names name named new room is_book = record {
+  fits = is_book.fits;
+  few = simp length-append (omega arith);
+  distinct = all_pairs_push (λ a b. a ≢ b) names name is_book.distinct (differs names name new);
+  named = All-push (λ n. IsTrue (is_name n)) names name is_book.named named;
+}
+
+-- a listed name stands at its number
+at_next : (name x : List ℕ) (names : List (List ℕ)) (found : Bool) → found ≡ bytes_eq name x → (IsTrue (is_listed names name) → slice_get names (number_of names name) ≡ Some name)
+    → IsTrue (found || is_listed names name) → slice_get (x ∷ names) (cond (not found) (1 + number_of names name) 0) ≡ Some name
+at_next name x names true is rest listed = ap Some (sym ((bytes_eq-Decides name x).0 (sym is)))
+at_next name x names false is rest listed =
+    let further : 1 + number_of names name ≡ suc (number_of names name) = omega arith in
+    ap (λ n. slice_get (x ∷ names) n) further ∙ rest listed
+
+pub at_number : (names : List (List ℕ)) (name : List ℕ) → IsTrue (is_listed names name) → slice_get names (number_of names name) ≡ Some name
+at_number [] name listed = absurd (true≢false (sym listed))
+at_number (x ∷ names) name listed = at_next name x names (bytes_eq name x) refl (at_number names name) listed
+
+-- a name stands once
+once : (names : List (List ℕ)) (i j : ℕ) (name : List ℕ) → AllPairs (λ a b. a ≢ b) names → slice_get names i ≡ Some name → slice_get names j ≡ Some name → ¬ (i < j)
+once names i j name distinct at_i at_j lt =
+    distinct i j [] lt (slice_get_within names j name at_j) (get_or_from_slice_get names i name [] at_i ∙ sym (get_or_from_slice_get names j name [] at_j))
+
+-- what stands at a place is listed, and the place is its number
+pub listed_at : (names : List (List ℕ)) (j : ℕ) (name : List ℕ) → AllPairs (λ a b. a ≢ b) names → slice_get names j ≡ Some name → IsTrue (is_listed names name) × (j ≡ number_of names name)
+listed_at names j name distinct at =
+    let lt = slice_get_within names j name at in
+    let same : name ≡ get_or names j [] = sym (get_or_from_slice_get names j name [] at) in
+    let listed : IsTrue (is_listed names name) = list_any_at (bytes_eq name) names j [] lt ((bytes_eq-Decides name (get_or names j [])).1 same) in
+    let there = at_number names name listed in
+    let below = once names j (number_of names name) name distinct at there in
+    let above = once names (number_of names name) j name distinct there at in
+    (listed, omega (arith, below, above))
+
+-- a listed name's number stands at its hash
+stands : (names : List (List ℕ)) (parts : List (List (ℕ × ℕ))) (others : List ℕ) (name : List ℕ) → IsIndexed names parts others → IsTrue (is_listed names name) → Stands parts others (text_hash name) (number_of names name)
+stands names parts others name indexed listed =
+    let there = at_number names name listed in
+    subst (λ (n : List ℕ). Stands parts others (text_hash n) (number_of names name)) (get_or_from_slice_get names (number_of names name) name [] there)
+    (indexed (number_of names name) (slice_get_within names (number_of names name) name there))
+
+None≢Some : {X : Type 0} (x : X) → ¬ (None ≡ Some x)
+None≢Some x same = true≢false (sym (ap (λ o. is_some o) same))
+
+Some-same : {X : Type 0} (x y : X) → Some x ≡ Some y → x ≡ y
+Some-same x y same = cc
+
+-- where nothing stands at a name's hash, it is not listed
+pub none_listed : (names : List (List ℕ)) (parts : List (List (ℕ × ℕ))) (others : List ℕ) (name : List ℕ) → IsIndexed names parts others → found_at parts (text_hash name) ≡ None → ¬ IsTrue (is_listed names name)
+none_listed names parts others name indexed none listed =
+    elim (stands names parts others name indexed listed) [
+      | inl at ↦ None≢Some (number_of names name) (sym none ∙ at)
+      | inr among ↦ among.0 none
+    ]
+
+-- where a name is neither at the number of its hash nor among the others, it is not listed
+pub not_among : (names : List (List ℕ)) (parts : List (List (ℕ × ℕ))) (others : List ℕ) (name : List ℕ) (first : ℕ) → IsIndexed names parts others → found_at parts (text_hash name) ≡ Some first → ¬ (slice_get names first ≡ Some name)
+    → All (λ number. slice_get names number ≢ Some name) others → ¬ IsTrue (is_listed names name)
+not_among names parts others name first indexed found other none listed =
+    elim (stands names parts others name indexed listed) [
+      | inl at ↦
+          let same : first ≡ number_of names name = Some-same _ _ (sym found ∙ at) in
+          other (ap (λ n. slice_get names n) same ∙ at_number names name listed)
+      | inr among ↦
+          none among.1.0 (number_of names name) among.1.1.0 (ap (λ n. slice_get names n) (sym among.1.1.1) ∙ at_number names name listed)
+    ]
+
+-- what a search of the others finds is the number
+pub SomeIff-among : (names : List (List ℕ)) (parts : List (List (ℕ × ℕ))) (others : List ℕ) (name : List ℕ) (first : ℕ) (result : Option ℕ) → AllPairs (λ a b. a ≢ b) names → IsIndexed names parts others → found_at parts (text_hash name) ≡ Some first → ¬ (slice_get names first ≡ Some name)
+    → IfSome result (λ number. slice_get names number ≡ Some name) → IfNone result (All (λ number. slice_get names number ≢ Some name) others)
+    → SomeIff result (IsTrue (is_listed names name)) (number_of names name)
+SomeIff-among names parts others name first None distinct indexed found other is_there absent = not_among names parts others name first indexed found other absent
+SomeIff-among names parts others name first (Some number) distinct indexed found other is_there absent = listed_at names number name distinct is_there
+
+-- another index that keeps what stands
+pub IsIndexed-kept : (names : List (List ℕ)) (parts kept : List (List (ℕ × ℕ))) (others more : List ℕ) → IsIndexed names parts others → ((q i : ℕ) → Stands parts others q i → Stands kept more q i) → IsIndexed names kept more
+IsIndexed-kept names parts kept others more indexed keeps i lt = keeps (text_hash (get_or names i [])) i (indexed i lt)
+
+lt_or_last : (i n : ℕ) → i < n + 1 → (i < n) ⊎ (i ≡ n)
+lt_or_last i n lt = elim (eqb_tells i n) [ inl same ↦ inr same.1 | inr other ↦ inl (omega (arith, lt, other.1)) ]
+
+-- one more name, whose number stands
+pub IsIndexed-pushed : (names : List (List ℕ)) (parts : List (List (ℕ × ℕ))) (others : List ℕ) (name : List ℕ) → IsIndexed names parts others → Stands parts others (text_hash name) (length names) → IsIndexed (names ++ name ∷ []) parts others
+IsIndexed-pushed names parts others name indexed new i lt =
+    let long = length-append names (name ∷ []) in
+    elim (lt_or_last i (length names) (omega arith)) [
+      | inl before ↦ subst (λ (n : List ℕ). Stands parts others (text_hash n) i) (sym (get_or_append_left names (name ∷ []) [] i before)) (indexed i before)
+      | inr last ↦
+          let here : get_or (names ++ name ∷ []) i [] ≡ name = ap (λ n. get_or (names ++ name ∷ []) n []) last ∙ get_or-append_seam names name [] [] in
+          subst (λ (n : ℕ). Stands parts others (text_hash (get_or (names ++ name ∷ []) i [])) n) (sym last) (subst (λ (n : List ℕ). Stands parts others (text_hash n) (length names)) (sym here) new)
+    ]

@@ -4,8 +4,10 @@ ghost use Rattle.graph_model.specs.Step.{with_name, number_of};
 ghost use Rattle.graph_model.specs.Answer.{is_listed};
 ghost use Rattle.graph_model.specs.Valid.{is_name};
 ghost use Rattle.vertex_names.specs.Book.{empty_book, with_entry, IsBook, MeetsLimit, Refuses};
+ghost use Rattle.vertex_names.specs.Index.{text_hash, Stands};
 
-use indexmap::IndexSet;
+use crate::index::{HashIndex, hash_of};
+use crate::texts::Texts;
 use std::alloc::{AllocError, AllocFailed, Global};
 use std::marker::Model;
 use thiserror::Error;
@@ -41,22 +43,27 @@ impl<T: Drop> From<AllocFailed<T>> for AddError {
 
 /// The names that have appeared, in order of first appearance; a name's number is its place.
 ///
-/// A look-up takes no memory and goes by the name's hash. A new name takes one copy of its text.
+/// A look-up takes no memory: one hash, one probe, and one comparison of texts. A new name takes one copy of its text,
+/// and after a `share` a copy of the last 256 texts at most and of one part in 64 of the index.
 #[derive(Drop)]
 pub struct NameBook {
     limit: u32,
-    names: IndexSet<String>,
+    alloc: Global,
+    texts: Texts,
+    index: HashIndex,
+    /// The numbers of the names whose hash another name had taken.
+    others: Vec<u32>,
 }
 
 impl Model for NameBook {
-    ghost use Rattle.std.specs.Prelude.{map, string_bytes};
     ghost use Rattle.vertex_names.specs.Book.{Book, IsBook};
+    ghost use Rattle.vertex_names.specs.Index.{IsIndexed};
 
     ghost Value = { Book };
 
-    ghost view = { λ book. record { limit = book.limit; names = map string_bytes book.names.keys } };
+    ghost view = { λ book. record { limit = book.limit; names = book.texts } };
 
-    ghost invariant = { λ book. IsBook (record { limit = book.limit; names = map string_bytes book.names.keys }) };
+    ghost invariant = { λ book. IsBook (record { limit = book.limit; names = book.texts }) × IsIndexed book.texts book.index book.others.items };
 }
 
 impl NameBook {
@@ -66,7 +73,10 @@ impl NameBook {
     {
         NameBook {
             limit,
-            names: IndexSet::new(alloc),
+            alloc,
+            texts: Texts::new(alloc),
+            index: HashIndex::new(alloc),
+            others: Vec::new(alloc),
         }
     }
 
@@ -75,30 +85,40 @@ impl NameBook {
         ensures value { result ≡ length self.now.names }
         ensures book { IsBook self.now }
     {
-        self.names.len()
+        self.texts.len()
     }
 
     /// Whether there are no names.
     pub fn is_empty(&self) -> bool
         ensures { IsTrue result ↔ (length self.now.names ≡ 0) }
     {
-        self.names.is_empty()
+        self.texts.len() == 0
     }
 
     /// The number of a name that has appeared.
     pub fn number(&self, name: &str) -> Option<u32>
         ensures { SomeIff result (IsTrue (is_listed self.now.names name.now)) (number_of self.now.names name.now) }
     {
-        let place = self.names.get_index_of(name)?;
-        Some(place as u32)
+        self.number_at(hash_of(name), name)
+    }
+
+    /// The number of a name that has appeared, by its hash.
+    fn number_at(&self, hash: u64, name: &str) -> Option<u32>
+        requires { hash ≡ text_hash name.now }
+        ensures { SomeIff result (IsTrue (is_listed self.now.names name.now)) (number_of self.now.names name.now) }
+    {
+        let first = self.index.first(hash)?;
+        if self.texts.is_at(first, name) {
+            return Some(first);
+        }
+        self.texts.find_among(&self.others, name)
     }
 
     /// The name of that number, if there are more names than that.
     pub fn name(&self, number: u32) -> Option<&str>
         ensures { option_copied result ≡ slice_get self.now.names number }
     {
-        let name = self.names.get_index(number as usize)?;
-        Some(name.as_str())
+        self.texts.name(number)
     }
 
     /// The number of a name, which becomes the last one where it has not appeared before.
@@ -116,26 +136,55 @@ impl NameBook {
         ensures refused { IfErr result (λ error. Refuses error self.old name.now) }
         ensures unchanged { OnErr result (self.new ≡ self.old) }
     {
-        if let Some(number) = self.number(name) {
+        let hash = hash_of(name);
+        if let Some(number) = self.number_at(hash, name) {
             return Ok(number);
         }
-        let number = self.names.len();
+        let number = self.texts.len();
         if number >= self.limit as usize {
             return Err(AddError::NamesFull);
         }
-        let text = String::from_str(*self.names.allocator(), name)?;
-        self.names.insert(text)?;
-        Ok(number as u32)
+        let number = number as u32;
+        let text = String::from_str(self.alloc, name)?;
+        enter(self.alloc, &mut self.index, &mut self.others, hash, number)?;
+        self.texts.push(self.alloc, text)?;
+        Ok(number)
     }
 
-    /// An equal book, which later changes of this one leave alone.
+    /// An equal book, which later changes of this one leave alone. It copies no text: one pointer for each 256 names
+    /// and for each of 64 parts of the index, and the few numbers whose hash was taken.
     pub fn share(&self) -> Result<NameBook, AllocError>
         ensures { IfOk result (λ copy. copy ≡ self.now) }
     {
         Ok(NameBook {
             limit: self.limit,
-            names: self.names.clone()?,
+            alloc: self.alloc,
+            texts: self.texts.share()?,
+            index: self.index.share()?,
+            others: self.others.clone()?,
         })
+    }
+}
+
+/// A number for a hash: at the hash where that is free, and otherwise among the others. What a refused growth left
+/// behind stands already.
+fn enter(
+    alloc: Global,
+    index: &mut HashIndex,
+    others: &mut Vec<u32>,
+    hash: u64,
+    number: u32,
+) -> Result<(), AllocError>
+    ensures entered { OnOk result (Stands index.new others.new.items hash number) }
+    ensures kept { (q i : ℕ) → Stands index.old others.old.items q i → Stands index.new others.new.items q i }
+{
+    match index.first(hash) {
+        None => index.put(alloc, hash, number),
+        Some(known) if known == number => Ok(()),
+        Some(_) => {
+            others.push(number)?;
+            Ok(())
+        }
     }
 }
 

@@ -82,6 +82,35 @@ fn takes_as_many_names_as_a_graph_may_have(rt: HostRuntime) -> Result<(), Fail> 
     Ok(())
 }
 
+/// Adds the name of that number in the book of v0, v1 ..
+fn add_plain(rt: &impl Abort, alloc: Global, book: &mut NameBook, number: u32) {
+    let name = format!(in alloc; "v{number}").expect(rt, "memory for a name");
+    assert_eq!(rt; add(rt, book, name.as_str()), Ok(number));
+}
+
+/// The book has the names v0, v1 .. in this order, so many of them, and no other.
+fn assert_plain(rt: &impl Abort, alloc: Global, book: &NameBook, len: u32) {
+    for number in 0..len {
+        let name = format!(in alloc; "v{number}").expect(rt, "memory for a name");
+        assert_numbered(rt, book, name.as_str(), number);
+    }
+    let next = format!(in alloc; "v{len}").expect(rt, "memory for a name");
+    assert_absent(rt, book, next.as_str(), len);
+}
+
+#[test]
+fn shares_at_the_end_of_a_chunk(rt: HostRuntime) {
+    let mut book = NameBook::new(rt.alloc(), 300);
+    for number in 0..258u32 {
+        let before = book.share().expect(&rt, "memory to share");
+        add_plain(&rt, rt.alloc(), &mut book, number);
+        if number >= 254 {
+            assert_plain(&rt, rt.alloc(), &before, number);
+            assert_plain(&rt, rt.alloc(), &book, number + 1);
+        }
+    }
+}
+
 #[test]
 fn refused_names_leave_the_book(rt: HostRuntime) {
     let mut book = NameBook::new(rt.alloc(), 5);
@@ -96,7 +125,7 @@ fn refused_names_leave_the_book(rt: HostRuntime) {
 
 #[test]
 fn refused_shares_leave_the_book(rt: HostRuntime) {
-    let mut book = NameBook::new(rt.alloc(), 1);
+    let mut book = NameBook::new(rt.alloc(), 2);
     add_new(&rt, &mut book, "a", 0);
     let shared = match book.share() {
         Ok(shared) => shared,
@@ -106,6 +135,7 @@ fn refused_shares_leave_the_book(rt: HostRuntime) {
         }
     };
     assert_numbered(&rt, &book, "a", 0);
+    add_new(&rt, &mut book, "b", 1);
     assert_numbered(&rt, &shared, "a", 0);
     assert_absent(&rt, &shared, "b", 1);
 }

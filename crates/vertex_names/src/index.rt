@@ -1,0 +1,148 @@
+ghost use Rattle.std.specs.Prelude.{◌≡◌, ◌≤◌, ◌%◌, ◌<◌, ℕ, [], length, get_or, nat_eq, Some, IfOk, OnOk, OnErr, if◌then◌else◌};
+ghost use Rattle.vertex_names.specs.Index.{text_hash, found_at, parts_of};
+
+use indexmap::IndexMap;
+use std::alloc::{AllocError, Global};
+use std::hash::{FoldHasher, Hasher};
+use std::marker::Model;
+use std::sync::Arc;
+
+/// How many parts there are.
+const PARTS: usize = 64;
+
+/// The hash of a text.
+pub(crate) fn hash_of(text: &str) -> u64
+    ensures { result ≡ text_hash text.now }
+{
+    let mut hasher = FoldHasher::default();
+    hasher.write(text.as_bytes());
+    hasher.finish()
+}
+
+/// The hashes of one part, each with a number.
+#[derive(Drop)]
+pub(crate) struct Part {
+    numbers: IndexMap<u64, u32>,
+}
+
+impl Model for Part {
+    ghost use Rattle.std.specs.Prelude.{ℕ, List};
+
+    ghost Value = { List (ℕ × ℕ) };
+
+    ghost view = { λ p. p.numbers.entries };
+}
+
+impl Clone for Part {
+    ghost is_clone = { λ part copy. copy ≡ part };
+
+    fn clone(&self) -> Result<Part, AllocError> {
+        Ok(Part {
+            numbers: self.numbers.clone()?,
+        })
+    }
+}
+
+impl Part {
+    ghost use Rattle.std.specs.Map.{lookup};
+
+    fn new(alloc: Global) -> Part
+        ensures { result ≡ [] }
+    {
+        Part {
+            numbers: IndexMap::new(alloc),
+        }
+    }
+
+    fn first(&self, hash: u64) -> Option<u32>
+        ensures { result ≡ lookup (nat_eq hash) self.now }
+    {
+        self.numbers.get(&hash).copied()
+    }
+
+    fn put(&mut self, hash: u64, number: u32) -> Result<(), AllocError>
+        ensures put { OnOk result ((q : ℕ) → lookup (nat_eq q) self.new ≡ (if nat_eq hash q then Some number else lookup (nat_eq q) self.old)) }
+        ensures unchanged { OnErr result (self.new ≡ self.old) }
+    {
+        self.numbers.insert(hash, number)?;
+        Ok(())
+    }
+}
+
+/// From hashes to numbers, in parts that copies share.
+#[derive(Drop)]
+pub(crate) struct HashIndex {
+    parts: Vec<Arc<Part>>,
+}
+
+impl Model for HashIndex {
+    ghost use Rattle.std.specs.Prelude.{ℕ, List};
+    ghost use Rattle.vertex_names.specs.Index.{parts_of};
+
+    ghost Value = { List (List (ℕ × ℕ)) };
+
+    ghost view = { λ x. parts_of x.parts.items };
+}
+
+impl HashIndex {
+    /// It takes no memory yet.
+    pub(crate) fn new(alloc: Global) -> HashIndex
+        ensures { result ≡ [] }
+    {
+        HashIndex {
+            parts: Vec::new(alloc),
+        }
+    }
+
+    /// The number at a hash.
+    pub(crate) fn first(&self, hash: u64) -> Option<u32>
+        ensures { result ≡ found_at self.now hash }
+    {
+        self.parts.get((hash % 64) as usize)?.first(hash)
+    }
+
+    /// Puts a number at a hash.
+    pub(crate) fn put(&mut self, alloc: Global, hash: u64, number: u32) -> Result<(), AllocError>
+        ensures put { OnOk result ((q : ℕ) → found_at self.new q ≡ (if nat_eq hash q then Some number else found_at self.old q)) }
+        ensures unchanged { OnErr result ((q : ℕ) → found_at self.new q ≡ found_at self.old q) }
+    {
+        make_parts(alloc, &mut self.parts)?;
+        put_in(&mut self.parts, (hash % 64) as usize, hash, number)
+    }
+
+    /// An equal index.
+    pub(crate) fn share(&self) -> Result<HashIndex, AllocError>
+        ensures { IfOk result (λ copy. copy ≡ self.now) }
+    {
+        Ok(HashIndex {
+            parts: self.parts.clone()?,
+        })
+    }
+}
+
+/// Makes the parts that are not there.
+fn make_parts(alloc: Global, parts: &mut Vec<Arc<Part>>) -> Result<(), AllocError>
+    ensures whole { OnOk result (64 ≤ length parts.new.items) }
+    ensures same { (i : ℕ) → get_or (parts_of parts.new.items) i [] ≡ get_or (parts_of parts.old.items) i [] }
+{
+    while parts.len() < PARTS {
+        let part = Arc::new(alloc, Part::new(alloc))?;
+        parts.push(part)?;
+    }
+    Ok(())
+}
+
+/// Puts a number into its part, into a copy of the part where others have it.
+fn put_in(
+    parts: &mut Vec<Arc<Part>>,
+    place: usize,
+    hash: u64,
+    number: u32,
+) -> Result<(), AllocError>
+    requires place { place ≡ hash % 64 }
+    requires whole { 64 ≤ length parts.old.items }
+    ensures put { OnOk result ((q : ℕ) → found_at (parts_of parts.new.items) q ≡ (if nat_eq hash q then Some number else found_at (parts_of parts.old.items) q)) }
+    ensures unchanged { OnErr result (parts_of parts.new.items ≡ parts_of parts.old.items) }
+{
+    Arc::make_mut(&mut parts[place])?.put(hash, number)
+}
