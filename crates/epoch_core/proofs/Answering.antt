@@ -3,34 +3,18 @@ use Rattle.std.proofs.Common.{◌≡◌, ◌≢◌, ℕ, ◌<◌, true, false, i
 use Rattle.std.specs.Prelude.{slice_get, if◌then◌else◌, MatchOption, ◌==◌}
 use Rattle.std.specs.List.{AllZip}
 use Rattle.std.specs.Option.{option_to_list}
-use Rattle.std.specs.declared.result.Result.TheVariants.{Ok, Err}
 use Rattle.std.specs.declared.option.Option.TheVariants.{None, Some}
 use Rattle.std.proofs.lemmas.Bool.{eq-eqb, cases_eq}
 use Rattle.std.proofs.lemmas.Bool.Decides.{Decides-eqb}
 use Rattle.std.proofs.lemmas.List.{append-nil, append_assoc, get_or-set_same, get_or-set_other, length-set}
-use Rattle.graph_model.specs.Graph.{Graph}
-use Rattle.graph_model.specs.Answer.{IsReply}
-use Rattle.graph_model.specs.declared.requests.Request.{Request}
-use Rattle.graph_model.specs.declared.requests.Request.TheVariants.{Degrees, OneEdge}
-use Rattle.graph_model.specs.declared.requests.Reply.{Reply as Shown}
+use Rattle.graph_model.proofs.OneAnswer.{one_answer}
 use Rattle.epoch_core.specs.declared.events.Event.{Event}
 use Rattle.epoch_core.specs.declared.events.Event.TheVariants.{Take, Fill, Post, Floor, Recycle, Pin, Enter, Settle, Ask, Read, Reply, Release}
 use Rattle.epoch_core.specs.Worlds.{Answer, World}
-use Rattle.epoch_core.specs.Machine.{Question, Answers, IsAnswered, Replies, question_of, question_in}
-use Rattle.epoch_core.specs.Runs.{happens, AllReplies}
+use Rattle.epoch_core.specs.Machine.{Answers, IsAnswered, Question, Replies, question_in, question_of}
+use Rattle.epoch_core.specs.Runs.{AllReplies, next_world}
 use Rattle.epoch_core.proofs.Lists.{and_then_some, within}
-use Rattle.epoch_core.proofs.Sizes.{size_happens}
-
--- a graph has one reply to a request, and one answer
-one_reply : (request : Request) (g : Graph) (x y : Shown) → IsReply request g x → IsReply request g y → x ≡ y
-one_reply (Degrees filter) g x y a b = a ∙ sym b
-one_reply (OneEdge kind source target) g x y a b = a ∙ sym b
-
-pub one_answer : (q : Question) (x y : Answer) → Answers q x → Answers q y → x ≡ y
-one_answer q (Ok x) (Ok y) a b = ap Ok (one_reply q.request q.graph x y a.1 b.1)
-one_answer q (Ok x) (Err y) a b = let none = a.0 in cc
-one_answer q (Err x) (Ok y) a b = let none = b.0 in cc
-one_answer q (Err x) (Err y) a b = cc
+use Rattle.epoch_core.proofs.Sizes.{size_next}
 
 pub same_answers : (qs : List Question) (xs ys : List Answer) → AllZip Answers qs xs → AllZip Answers qs ys → xs ≡ ys
 same_answers [] [] [] a b = refl
@@ -39,11 +23,12 @@ same_answers [] (x ∷ xs) ys a b = absurd a
 same_answers (q ∷ qs) [] ys a b = absurd a
 same_answers (q ∷ qs) (x ∷ xs) [] a b = absurd b
 same_answers (q ∷ qs) (x ∷ xs) (y ∷ ys) a b =
-    let here : x ≡ y = one_answer q x y a.0 b.0 in
+    let here : x ≡ y = one_answer q.request q.graph x y a.0 b.0 in
     let rest : xs ≡ ys = same_answers qs xs ys a.1 b.1 in
     cc
 
-answers_append : (ps qs : List Question) (xs ys : List Answer) → AllZip Answers ps xs → AllZip Answers qs ys → AllZip Answers (ps ++ qs) (xs ++ ys)
+answers_append : (ps qs : List Question) (xs ys : List Answer) → AllZip Answers ps xs → AllZip Answers qs ys
+    → AllZip Answers (ps ++ qs) (xs ++ ys)
 answers_append [] qs [] ys a b = b
 answers_append [] qs (x ∷ xs) ys a b = absurd a
 answers_append (p ∷ ps) qs [] ys a b = absurd a
@@ -66,7 +51,7 @@ asked s w (Release t) = []
 
 abbrev pub all_asked : ℕ → World → List Event → List Question
 all_asked s w [] = []
-all_asked s w (e ∷ es) = asked s w e ++ all_asked s (happens w e) es
+all_asked s w (e ∷ es) = asked s w e ++ all_asked s (next_world w e) es
 
 -- what these questions add to the replies of session s
 pub record Adds (s : ℕ) (qs : List Question) (old new : List (List Answer)) : Type 0 where
@@ -76,20 +61,33 @@ pub record Adds (s : ℕ) (qs : List Question) (old new : List (List Answer)) : 
   pub size : length new ≡ length old
 
 adds_none : (s : ℕ) (old new : List (List Answer)) → new ≡ old → Adds s [] old new
-adds_none s old new same = record { more = []; added = ap (λ rs. get_or rs s []) same ∙ sym (append-nil (get_or old s [])); answers = tt; size = ap length same }
+adds_none s old new same = record {
+  more = [];
+  added = ap (λ rs. get_or rs s []) same ∙ sym (append-nil (get_or old s []));
+  answers = tt;
+  size = ap length same;
+}
 
 pub other : (t s : ℕ) → t ≢ s → eqb t s ≡ false
-other t s ne = elim (eqb t s) as (λ b. eqb t s ≡ b → b ≡ false) [ true ↦ λ at. absurd (ne ((Decides-eqb t s).0 at)) | false ↦ λ _. refl ] refl
+other t s ne = elim (eqb t s) as (λ b. eqb t s ≡ b → b ≡ false) [
+  | true ↦ λ at. absurd
+      (ne ((Decides-eqb t s).0 at))
+  | false ↦ λ _. refl
+] refl
 
 -- the session of a question is there
-asks_within : (w : World) (s : ℕ) (q : Question) → question_of w s ≡ Some q → s < length w.places
-asks_within w s q is = let found = and_then_some (question_in w.versions) (slice_get w.places s) q is in within w.places s found.0 found.1
+asks_within : (w : World) (s : ℕ) (q : Question) → question_of w s ≡ Some q → s < length w.sessions
+asks_within w s q is = let found = and_then_some (question_in w.opening w.versions) (slice_get w.sessions s) q is in
+    within w.sessions s found.0 found.1
 
-adds_reply : (s t : ℕ) (w : World) (old new : List (List Answer)) → length old ≡ length w.places → Replies w (Reply t) old new → Adds s (asked s w (Reply t)) old new
+adds_reply : (s t : ℕ) (w : World) (old new : List (List Answer)) → length old ≡ length w.sessions
+    → Replies w (Reply t) old new → Adds s (asked s w (Reply t)) old new
 adds_reply s t w old new size is =
-    elim (question_of w t) as (λ o. question_of w t ≡ o → MatchOption o (new ≡ old) (λ q. IsAnswered t q old new) → Adds s (asked s w (Reply t)) old new) [
+    elim (question_of w t) as (λ o. question_of w t ≡ o → MatchOption o (new ≡ old) (λ q. IsAnswered t q old new)
+    → Adds s (asked s w (Reply t)) old new) [
       | None ↦ λ none same.
-          let no : asked s w (Reply t) ≡ [] = elim (eqb t s) as (λ b. eqb t s ≡ b → (if b then option_to_list (question_of w s) else []) ≡ []) [
+          let no : asked s w (Reply t) ≡ [] = elim (eqb t s) as
+          (λ b. eqb t s ≡ b → (if b then option_to_list (question_of w s) else []) ≡ []) [
             | true ↦ λ at. let e : t ≡ s = (Decides-eqb t s).0 at in ap option_to_list (ap (question_of w) (sym e) ∙ none)
             | false ↦ λ _. refl
           ] refl in
@@ -97,9 +95,12 @@ adds_reply s t w old new size is =
       | Some q ↦ λ some done.
           elim (cases_eq t s) [
             | inl e ↦
-                let one : asked s w (Reply t) ≡ q ∷ [] = ap (λ b. if b then option_to_list (question_of w s) else []) (eq-eqb t s e) ∙ ap option_to_list (ap (question_of w) (sym e) ∙ some) in
+                let one : asked s w (Reply t) ≡ q ∷ [] =
+                ap (λ b. if b then option_to_list (question_of w s) else []) (eq-eqb t s e)
+                ∙ ap option_to_list (ap (question_of w) (sym e) ∙ some) in
                 let lt : t < length old = omega (arith, size, asks_within w t q some) in
-                let at : get_or new t [] ≡ get_or old t [] ++ done.0 ∷ [] = ap (λ rs. get_or rs t []) done.2 ∙ get_or-set_same old t (get_or old t [] ++ done.0 ∷ []) [] lt in
+                let at : get_or new t [] ≡ get_or old t [] ++ done.0 ∷ [] =
+                ap (λ rs. get_or rs t []) done.2 ∙ get_or-set_same old t (get_or old t [] ++ done.0 ∷ []) [] lt in
                 subst (λ qs. Adds s qs old new) (sym one) (record {
                   more = done.0 ∷ [];
                   added = subst (λ u. get_or new u [] ≡ get_or old u [] ++ done.0 ∷ []) e at;
@@ -107,17 +108,21 @@ adds_reply s t w old new size is =
                   size = ap length done.2 ∙ length-set old t (get_or old t [] ++ done.0 ∷ []);
                 })
             | inr ne ↦
-                let none : asked s w (Reply t) ≡ [] = ap (λ b. if b then option_to_list (question_of w s) else []) (other t s ne) in
+                let none : asked s w (Reply t) ≡ [] = ap (λ b. if b then option_to_list (question_of w s) else [])
+                (other t s ne) in
                 subst (λ qs. Adds s qs old new) (sym none) (record {
                   more = [];
-                  added = ap (λ rs. get_or rs s []) done.2 ∙ get_or-set_other old t s (get_or old t [] ++ done.0 ∷ []) [] (λ e. ne (sym e)) ∙ sym (append-nil (get_or old s []));
+                  added = ap (λ rs. get_or rs s []) done.2
+                      ∙ get_or-set_other old t s (get_or old t [] ++ done.0 ∷ []) [] (λ e. ne (sym e))
+                      ∙ sym (append-nil (get_or old s []));
                   answers = tt;
                   size = ap length done.2 ∙ length-set old t (get_or old t [] ++ done.0 ∷ []);
                 })
           ]
     ] refl is
 
-pub adds : (s : ℕ) (w : World) (e : Event) (old new : List (List Answer)) → length old ≡ length w.places → Replies w e old new → Adds s (asked s w e) old new
+pub adds : (s : ℕ) (w : World) (e : Event) (old new : List (List Answer)) → length old ≡ length w.sessions
+    → Replies w e old new → Adds s (asked s w e) old new
 adds s w (Take b) old new size is = adds_none s old new is
 adds s w (Fill b edges) old new size is = adds_none s old new is
 adds s w (Post batch blocks) old new size is = adds_none s old new is
@@ -131,15 +136,16 @@ adds s w (Read t) old new size is = adds_none s old new is
 adds s w (Reply t) old new size is = adds_reply s t w old new size is
 adds s w (Release t) old new size is = adds_none s old new is
 
-pub adds_all : (s : ℕ) (w : World) (events : List Event) (old new : List (List Answer)) → length old ≡ length w.places → AllReplies w events old new → Adds s (all_asked s w events) old new
+pub adds_all : (s : ℕ) (w : World) (events : List Event) (old new : List (List Answer)) → length old ≡ length w.sessions
+    → AllReplies w events old new → Adds s (all_asked s w events) old new
 adds_all s w [] old new size is = adds_none s old new is
 adds_all s w (e ∷ es) old new size is =
     let here : Adds s (asked s w e) old is.0 = adds s w e old is.0 size is.1 in
-    let many : length is.0 ≡ length (happens w e).places = here.size ∙ size ∙ sym (size_happens w e).sessions in
-    let rest : Adds s (all_asked s (happens w e) es) is.0 new = adds_all s (happens w e) es is.0 new many is.2 in
+    let many : length is.0 ≡ length (next_world w e).sessions = here.size ∙ size ∙ sym (size_next w e).sessions in
+    let rest : Adds s (all_asked s (next_world w e) es) is.0 new = adds_all s (next_world w e) es is.0 new many is.2 in
     record {
       more = here.more ++ rest.more;
       added = rest.added ∙ ap (λ rs. rs ++ rest.more) here.added ∙ append_assoc (get_or old s []) here.more rest.more;
-      answers = answers_append (asked s w e) (all_asked s (happens w e) es) here.more rest.more here.answers rest.answers;
+      answers = answers_append (asked s w e) (all_asked s (next_world w e) es) here.more rest.more here.answers rest.answers;
       size = rest.size ∙ here.size;
     }

@@ -10,83 +10,104 @@ use Rattle.graph_model.specs.Graph.{IsContent}
 use Rattle.graph_model.specs.declared.batches.NamedOp.{NamedOp}
 use Rattle.graph_model.specs.declared.contents.Content.{Content}
 use Rattle.epoch_core.specs.declared.states.Version.{Version}
-use Rattle.epoch_core.specs.declared.states.Place.TheVariants.{Away}
+use Rattle.epoch_core.specs.declared.states.SessionState.TheVariants.{Idle}
 use Rattle.epoch_core.specs.declared.events.Event.{Event}
 use Rattle.epoch_core.specs.declared.events.Step.{Step}
-use Rattle.epoch_core.specs.Worlds.{Answer, World, State, start, graph_at}
-use Rattle.epoch_core.specs.Machine.{step, Replies, version_by, graph_after}
-use Rattle.epoch_core.specs.Runs.{is_done, happens, run, done_in, Stepped, Steps, AllReplies, Runs}
-use Rattle.epoch_core.specs.Sound.{IsSound, IsContentGraph, IsCore}
-use Rattle.epoch_core.specs.Calls.{HasContents, count_of}
+use Rattle.epoch_core.specs.declared.states.Opening.{Opening}
+use Rattle.epoch_core.specs.Worlds.{Answer, HasContents, IsContentGraph, State, World, empty_opening, graph_at, start}
+use Rattle.epoch_core.specs.Posting.{graph_after, version_by}
+use Rattle.epoch_core.specs.Machine.{Replies, step}
+use Rattle.epoch_core.specs.Runs.{AllReplies, Runs, Stepped, Steps, count_of, done_in, is_done, next_world, run}
+use Rattle.epoch_core.specs.Sound.{IsCore, IsSound}
 use Rattle.epoch_core.proofs.Changes.{graph_before, graph_next, length_next}
-use Rattle.epoch_core.proofs.Steps.{sound_happens, sound_start}
-use Rattle.epoch_core.proofs.Sizes.{size_happens}
+use Rattle.epoch_core.proofs.Steps.{sound_next, sound_start, start_is_start}
+use Rattle.epoch_core.proofs.Sizes.{size_next}
 use Rattle.epoch_core.proofs.Answering.{Adds, asked, adds}
 
 -- a step of a part is a step of the whole
-pub stepped_map : {A B : Type 0} (f : A → B) (o : Option A) (outcome : Step) (old new : A) (whole : B) → f old ≡ whole → Stepped o outcome old new → Stepped (option_map f o) outcome whole (f new)
+pub stepped_map : {A B : Type 0} (f : A → B) (o : Option A) (outcome : Step) (old new : A) (whole : B) → f old ≡ whole
+    → Stepped o outcome old new → Stepped (option_map f o) outcome whole (f new)
 stepped_map f None outcome old new whole same is = (is.0, ap f is.1 ∙ same)
 stepped_map f (Some after) outcome old new whole same is = (is.0, ap f is.1)
 
--- a step leads to what happens, and says whether the event is done
+-- a step leads to what next_world, and says whether the event is done
 stepped_to : (o : Option World) (outcome : Step) (old new : World) → Stepped o outcome old new → new ≡ unwrap_or o old
 stepped_to None outcome old new is = is.1
 stepped_to (Some after) outcome old new is = is.1
 
-pub steps_to : (old new : State) (e : Event) (outcome : Step) → Steps old e outcome new → new.world ≡ happens old.world e
+pub steps_to : (old new : State) (e : Event) (outcome : Step) → Steps old e outcome new → new.world ≡ next_world old.world e
 steps_to old new e outcome steps = stepped_to (step old.world e) outcome old.world new.world steps.world
 
-pub core_kept : (old new : State) (e : Event) (outcome : Step) → IsCore old → Steps old e outcome new → HasContents new.world.versions → IsCore new
+-- no step changes how many sessions there are
+pub steps_size : (old new : State) (e : Event) (outcome : Step) → Steps old e outcome new → length new.world.sessions
+    ≡ length old.world.sessions
+steps_size old new e outcome steps = ap (λ w. length w.sessions) (steps_to old new e outcome steps)
+    ∙ (size_next old.world e).sessions
+
+pub core_kept : (old new : State) (e : Event) (outcome : Step) → IsCore old → Steps old e outcome new
+    → HasContents new.world.opening new.world.versions → IsCore new
 core_kept old new e outcome core steps contents =
-    let to : new.world ≡ happens old.world e = steps_to old new e outcome steps in
-    let a : Adds 0 (asked 0 old.world e) old.replies new.replies = adds 0 old.world e old.replies new.replies core.sizes steps.replies in
+    let to : new.world ≡ next_world old.world e = steps_to old new e outcome steps in
+    let a : Adds 0 (asked 0 old.world e) old.replies new.replies =
+    adds 0 old.world e old.replies new.replies core.replies steps.replies in
     record {
-      sound = subst IsSound (sym to) (sound_happens old.world e core.sound);
+      sound = subst IsSound (sym to) (sound_next old.world e core.sound);
       contents = contents;
-      sizes = a.size ∙ core.sizes ∙ sym (size_happens old.world e).sessions ∙ ap (λ w. length w.places) (sym to);
+      few = subst (λ n. n ≤ 16) (sym (steps_size old new e outcome steps)) core.few;
+      replies = a.size ∙ core.replies ∙ sym (steps_size old new e outcome steps);
     }
 
 -- contents of versions, once one more is posted
-pub contents_posted : (versions : List Version) (batch : List NamedOp) (blocks : List ℕ) → HasContents versions → IsContentGraph (graph_after versions batch) → HasContents (versions ++ version_by versions batch blocks ∷ [])
-contents_posted versions batch blocks contents made n low =
-    let v : Version = version_by versions batch blocks in
+pub contents_posted : (o : Opening) (versions : List Version) (batch : List NamedOp) (blocks : List ℕ)
+    → HasContents o versions → IsContentGraph (graph_after o versions batch)
+    → HasContents o (versions ++ version_by o versions batch blocks ∷ [])
+contents_posted o versions batch blocks contents made n low =
+    let v : Version = version_by o versions batch blocks in
     let next : length (versions ++ v ∷ []) ≡ suc (length versions) = length_next versions v in
     elim (cases_eq n (length (versions ++ v ∷ []))) [
-      | inl e ↦ subst IsContentGraph (sym (ap (graph_at (versions ++ v ∷ [])) e ∙ graph_next versions v)) made
-      | inr ne ↦ let h : n ≤ length versions = omega (arith, next) in subst IsContentGraph (sym (graph_before versions v n h)) (contents n h)
+      | inl e ↦ subst IsContentGraph (sym (ap (graph_at o (versions ++ v ∷ [])) e ∙ graph_next o versions v)) made
+      | inr ne ↦ let h : n ≤ length versions = omega (arith, next) in
+          subst IsContentGraph (sym (graph_before o versions v n h)) (contents n h)
     ]
 
 -- whole runs
-replies_more : (es : List Event) (e : Event) (w : World) (old mid new : List (List Answer)) → AllReplies w es old mid → Replies (run es w) e mid new → AllReplies w (es ++ e ∷ []) old new
+replies_more : (es : List Event) (e : Event) (w : World) (old mid new : List (List Answer)) → AllReplies w es old mid
+    → Replies (run es w) e mid new → AllReplies w (es ++ e ∷ []) old new
 replies_more [] e w old mid new all more = (new, subst (λ rs. Replies w e rs new) all more, refl)
-replies_more (x ∷ xs) e w old mid new all more = (all.0, all.1, replies_more xs e (happens w x) all.0 mid new all.2 more)
+replies_more (x ∷ xs) e w old mid new all more = (all.0, all.1, replies_more xs e (next_world w x) all.0 mid new all.2 more)
 
-run_more : (es : List Event) (e : Event) (w : World) → run (es ++ e ∷ []) w ≡ happens (run es w) e
+run_more : (es : List Event) (e : Event) (w : World) → run (es ++ e ∷ []) w ≡ next_world (run es w) e
 run_more [] e w = refl
-run_more (x ∷ xs) e w = run_more xs e (happens w x)
+run_more (x ∷ xs) e w = run_more xs e (next_world w x)
 
-pub runs_more : (old mid new : State) (es : List Event) (e : Event) (outcome : Step) → Runs old es mid → Steps mid e outcome new → Runs old (es ++ e ∷ []) new
+pub runs_more : (old mid new : State) (es : List Event) (e : Event) (outcome : Step) → Runs old es mid
+    → Steps mid e outcome new → Runs old (es ++ e ∷ []) new
 runs_more old mid new es e outcome runs steps = record {
-  world = steps_to mid new e outcome steps ∙ ap (λ w. happens w e) runs.world ∙ sym (run_more es e old.world);
-  replies = replies_more es e old.world old.replies mid.replies new.replies runs.replies (subst (λ w. Replies w e mid.replies new.replies) runs.world steps.replies);
+  world = steps_to mid new e outcome steps ∙ ap (λ w. next_world w e) runs.world ∙ sym (run_more es e old.world);
+  replies = replies_more es e old.world old.replies mid.replies new.replies runs.replies
+      (subst (λ w. Replies w e mid.replies new.replies) runs.world steps.replies);
 }
 
-done_more : (es : List Event) (e : Event) (w : World) → done_in (es ++ e ∷ []) w ≡ done_in es w + (if is_done (run es w) e then 1 else 0)
+done_more : (es : List Event) (e : Event) (w : World) → done_in (es ++ e ∷ []) w
+    ≡ done_in es w + (if is_done (run es w) e then 1 else 0)
 done_more [] e w = omega arith
-done_more (x ∷ xs) e w = let rest = done_more xs e (happens w x) in omega (arith, rest)
+done_more (x ∷ xs) e w = let rest = done_more xs e (next_world w x) in omega (arith, rest)
 
-stepped_count : (o : Option World) (outcome : Step) (old new : World) → Stepped o outcome old new → (if is_some o then 1 else 0) ≡ count_of outcome
+stepped_count : (o : Option World) (outcome : Step) (old new : World) → Stepped o outcome old new
+    → (if is_some o then 1 else 0) ≡ count_of outcome
 stepped_count None outcome old new is = ap count_of (sym is.0)
 stepped_count (Some after) outcome old new is = ap count_of (sym is.0)
 
 -- how many are done after one more step
-pub count_more : (old mid new : State) (es : List Event) (e : Event) (outcome : Step) → Runs old es mid → Steps mid e outcome new → done_in (es ++ e ∷ []) old.world ≡ done_in es old.world + count_of outcome
+pub count_more : (old mid new : State) (es : List Event) (e : Event) (outcome : Step) → Runs old es mid
+    → Steps mid e outcome new → done_in (es ++ e ∷ []) old.world ≡ done_in es old.world + count_of outcome
 count_more old mid new es e outcome runs steps =
     done_more es e old.world ∙ ap (λ w. done_in es old.world + (if is_done w e then 1 else 0)) (sym runs.world)
     ∙ ap (λ n. done_in es old.world + n) (stepped_count (step mid.world e) outcome mid.world new.world steps.world)
 
 -- a count that stays below a bound
-pub capped_more : (old new before after more bound : ℕ) → old ≡ min before bound → after ≡ before + more → new ≡ min (old + more) bound → new ≡ min after bound
+pub capped_more : (old new before after more bound : ℕ) → old ≡ min before bound → after ≡ before + more → new
+    ≡ min (old + more) bound → new ≡ min after bound
 capped_more old new before after more bound e f g = omega arith
 
 -- the content without names, kinds and edges
@@ -103,17 +124,14 @@ empty_is_content = record {
   edges_within = λ k d h. absurd (omega arith);
 }
 
-no_contents : (n : ℕ) → n ≤ 0 → IsContentGraph (graph_at [] n)
+no_contents : (n : ℕ) → n ≤ 0 → IsContentGraph (graph_at empty_opening [] n)
 no_contents zero h = (empty_content, empty_is_content, refl)
 no_contents (suc n) h = absurd (omega arith)
 
-pub core_start : (sessions blocks : ℕ) → IsCore (start sessions blocks)
-core_start sessions blocks = record {
-  sound = sound_start sessions blocks;
+pub core_start : (sessions blocks : ℕ) → sessions ≤ 16 → IsCore (start sessions blocks)
+core_start sessions blocks few = record {
+  sound = sound_start (start sessions blocks) (start_is_start sessions blocks);
   contents = no_contents;
-  sizes = length-replicate sessions [] ∙ sym (length-replicate sessions Away);
+  few = omega (arith, few, length-replicate sessions Idle);
+  replies = length-replicate sessions [] ∙ sym (length-replicate sessions Idle);
 }
-
--- no step changes how many sessions there are
-pub steps_size : (old new : State) (e : Event) (outcome : Step) → Steps old e outcome new → length new.world.places ≡ length old.world.places
-steps_size old new e outcome steps = ap (λ w. length w.places) (steps_to old new e outcome steps) ∙ (size_happens old.world e).sessions

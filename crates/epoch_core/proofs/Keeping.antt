@@ -9,60 +9,71 @@ use Rattle.graph_model.specs.declared.ids.Edge.{Edge}
 use Rattle.epoch_core.specs.declared.states.Status.{Status}
 use Rattle.epoch_core.specs.declared.states.Status.TheVariants.{Free, Fresh, Used, Retired}
 use Rattle.epoch_core.specs.declared.states.Hold.{Hold}
-use Rattle.epoch_core.specs.declared.states.Place.{Place}
-use Rattle.epoch_core.specs.declared.states.Place.TheVariants.{Away, Pinned, Holding, Asking}
-use Rattle.epoch_core.specs.Worlds.{World, graph_at, version_at, blocks_at, last_number, last_blocks, last_graph, edges_at, edges_of, place_of}
-use Rattle.epoch_core.specs.Machine.{is_listed, taken, recycled, is_fresh, filled, with_status, with_heap}
-use Rattle.epoch_core.specs.Sound.{Shows, is_used, IsKept, IsHeld, IsPlaced, IsNamed, IsSound}
+use Rattle.epoch_core.specs.declared.states.SessionState.{SessionState}
+use Rattle.epoch_core.specs.declared.states.SessionState.TheVariants.{Idle, Pinned, Holding, Asking}
+use Rattle.epoch_core.specs.Blocks.{filled, is_at, is_fresh, is_listed, is_used, recycled, taken}
+use Rattle.epoch_core.specs.Worlds.{Shows, World, blocks_at, edges_at, edges_of, graph_at, last_blocks, last_graph, last_number, session_of, version_at}
+use Rattle.epoch_core.specs.Machine.{with_heap, with_status}
+use Rattle.epoch_core.specs.Sound.{IsDated, IsDatedAt, IsHeld, IsKept, IsKeptAt, IsNamed, IsSessionSound, IsSound}
 use Rattle.epoch_core.proofs.Lists.{and_then_some, set_same, set_else, same_pieces, listed_take}
 
 -- what a change of the world owes to each holder
 pub record Carries (old new : World) : Type 0 where
   pub floor : new.floor ≡ old.floor
   pub last : last_number old ≤ last_number new
-  pub versions : (n : ℕ) → n ≤ last_number old → version_at new.versions n ≡ version_at old.versions n
-  pub graphs : (n : ℕ) → n ≤ last_number old → graph_at new.versions n ≡ graph_at old.versions n
+  pub versions : (n : ℕ) → n ≤ last_number old → version_at new.opening new.versions n ≡ version_at old.opening old.versions n
+  pub graphs : (n : ℕ) → n ≤ last_number old → graph_at new.opening new.versions n ≡ graph_at old.opening old.versions n
   -- no block that a holder keeps is freed or written
-  pub kept : (b n : ℕ) → old.floor ≤ n → n ≤ last_number old → IsKept n (slice_get old.status b) → IsKept n (slice_get new.status b)
-  pub edges : (b n : ℕ) → IsKept n (slice_get old.status b) → edges_at new.heap b ≡ edges_at old.heap b
+  pub kept : (b n : ℕ) → old.floor ≤ n → n ≤ last_number old → IsKeptAt n (slice_get old.status b)
+      → IsKeptAt n (slice_get new.status b)
+  pub edges : (b n : ℕ) → IsKeptAt n (slice_get old.status b) → edges_at new.heap b ≡ edges_at old.heap b
 
 -- a holder is carried over such a change
 pub carry_held : (old new : World) (hold : Hold) → Carries old new → IsHeld old hold → IsHeld new hold
 carry_held old new hold c h =
     let low : old.floor ≤ hold.version = omega (arith, h.floor_pin, h.pin_held) in
-    let blocks : blocks_at new.versions hold.version ≡ blocks_at old.versions hold.version = ap (λ v. v.blocks) (c.versions hold.version h.held_last) in
-    let pieces : edges_of new.heap (blocks_at old.versions hold.version) ≡ edges_of old.heap (blocks_at old.versions hold.version) =
+    let blocks : blocks_at new.opening new.versions hold.version ≡ blocks_at old.opening old.versions hold.version =
+    ap (λ v. v.blocks) (c.versions hold.version h.held_last) in
+    let pieces : edges_of new.heap (blocks_at old.opening old.versions hold.version)
+    ≡ edges_of old.heap (blocks_at old.opening old.versions hold.version) =
     same_pieces (edges_at new.heap) (edges_at old.heap) _ (λ b is. c.edges b hold.version (h.kept b is)) in
     record {
       floor_pin = omega (arith, c.floor, h.floor_pin);
       pin_held = h.pin_held;
       held_last = omega (arith, c.last, h.held_last);
+      settled = h.settled;
       kept = λ b is. c.kept b hold.version low h.held_last (h.kept b (subst (λ bs. is_listed b bs ≡ true) blocks is));
       shown =
-          let same : edges_of new.heap (blocks_at new.versions hold.version) ≡ edges_of old.heap (blocks_at old.versions hold.version) = ap (edges_of new.heap) blocks ∙ pieces in
-          subst (λ g. Shows (edges_of new.heap (blocks_at new.versions hold.version)) g) (sym (c.graphs hold.version h.held_last))
-          (subst (λ es. Shows es (graph_at old.versions hold.version)) (sym same) h.shown);
+          let same : edges_of new.heap (blocks_at new.opening new.versions hold.version)
+          ≡ edges_of old.heap (blocks_at old.opening old.versions hold.version) = ap (edges_of new.heap) blocks ∙ pieces in
+          subst (λ g. Shows (edges_of new.heap (blocks_at new.opening new.versions hold.version)) g)
+          (sym (c.graphs hold.version h.held_last))
+          (subst (λ es. Shows es (graph_at old.opening old.versions hold.version)) (sym same) h.shown);
     }
 
-pub carry : (old new : World) (place : Place) → Carries old new → IsPlaced old place → IsPlaced new place
-carry old new Away c p = tt
+pub carry : (old new : World) (session : SessionState) → Carries old new → IsSessionSound old session → IsSessionSound new session
+carry old new Idle c p = tt
 carry old new (Pinned pin) c p = (omega (arith, c.floor, p.0), omega (arith, c.last, p.1))
 carry old new (Holding hold) c p = carry_held old new hold c p
 carry old new (Asking hold inquiry) c p =
-    let blocks : blocks_at new.versions hold.version ≡ blocks_at old.versions hold.version = ap (λ v. v.blocks) (c.versions hold.version p.0.held_last) in
-    let pieces : edges_of new.heap (take inquiry.next (blocks_at old.versions hold.version)) ≡ edges_of old.heap (take inquiry.next (blocks_at old.versions hold.version)) =
-    same_pieces (edges_at new.heap) (edges_at old.heap) _ (λ b is. c.edges b hold.version (p.0.kept b (listed_take inquiry.next b _ is))) in
+    let blocks : blocks_at new.opening new.versions hold.version ≡ blocks_at old.opening old.versions hold.version =
+    ap (λ v. v.blocks) (c.versions hold.version p.0.held_last) in
+    let pieces : edges_of new.heap (take inquiry.next (blocks_at old.opening old.versions hold.version))
+    ≡ edges_of old.heap (take inquiry.next (blocks_at old.opening old.versions hold.version)) =
+    same_pieces (edges_at new.heap) (edges_at old.heap) _
+    (λ b is. c.edges b hold.version (p.0.kept b (listed_take inquiry.next b _ is))) in
     (carry_held old new hold c p.0, p.1 ∙ sym pieces ∙ ap (λ bs. edges_of new.heap (take inquiry.next bs)) (sym blocks))
 
 -- the status of one block changes, from what no holder keeps, and neither from nor to a used block
 pub record FreesNone (floor : ℕ) (before after : Status) : Type 0 where
-  pub unused_before : is_used (Some before) ≡ false
-  pub unused_after : is_used (Some after) ≡ false
-  pub not_kept : (n : ℕ) → floor ≤ n → IsKept n (Some before) → ⊥
+  pub unused_before : is_used before ≡ false
+  pub unused_after : is_used after ≡ false
+  pub dated : (last : ℕ) → IsDated last after
+  pub not_kept : (n : ℕ) → floor ≤ n → IsKept n before → ⊥
 
 pub frees_taken : (floor : ℕ) (before after : Status) → taken before ≡ Some after → FreesNone floor before after
 frees_taken floor Free Free is = cc
-frees_taken floor Free Fresh is = record { unused_before = refl; unused_after = refl; not_kept = λ n _ k. k }
+frees_taken floor Free Fresh is = record { unused_before = refl; unused_after = refl; dated = λ _. tt; not_kept = λ n _ k. k }
 frees_taken floor Free (Used birth) is = cc
 frees_taken floor Free (Retired birth since) is = cc
 frees_taken floor Fresh after is = cc
@@ -77,18 +88,26 @@ frees_recycled floor Free after is = cc
 frees_recycled floor Fresh after is = cc
 frees_recycled floor (Used birth) after is = cc
 frees_recycled floor (Retired birth since) after is =
-    elim (nat_le since floor) as (λ t. nat_le since floor ≡ t → freed_by t ≡ Some after → FreesNone floor (Retired birth since) after) [
+    elim (nat_le since floor) as (λ t. nat_le since floor ≡ t → freed_by t ≡ Some after
+    → FreesNone floor (Retired birth since) after) [
       | true ↦ λ e f.
           let free : after ≡ Free = cc in
           let low : since ≤ floor = grind (arith, e) in
-          record { unused_before = refl; unused_after = ap (λ s. is_used (Some s)) free; not_kept = λ n high k. absurd (omega (arith, low, high, k)) }
+          record {
+            unused_before = refl;
+            unused_after = ap is_used free;
+            dated = λ last. subst (IsDated last) (sym free) tt;
+            not_kept = λ n high k. absurd (omega (arith, low, high, k.1));
+          }
       | false ↦ λ _ f. cc
     ] refl is
 
-named_with_status : (w : World) (status : List Status) → ((n : ℕ) → n ≤ last_number w → IsNamed w n) → (n : ℕ) → n ≤ last_number w → IsNamed (with_status w status) n
+named_with_status : (w : World) (status : List Status) → ((n : ℕ) → n ≤ last_number w → IsNamed w n) → (n : ℕ)
+    → n ≤ last_number w → IsNamed (with_status w status) n
 named_with_status w status named n h = record { names = (named n h).names; kinds = (named n h).kinds }
 
-pub sound_status : (w : World) (b : ℕ) (before after : Status) → IsSound w → slice_get w.status b ≡ Some before → FreesNone w.floor before after → IsSound (with_status w (set w.status b after))
+pub sound_status : (w : World) (b : ℕ) (before after : Status) → IsSound w → slice_get w.status b ≡ Some before
+    → FreesNone w.floor before after → IsSound (with_status w (set w.status b after))
 sound_status w b before after sound found frees =
     let carries : Carries w (with_status w (set w.status b after)) = record {
       floor = refl;
@@ -97,8 +116,8 @@ sound_status w b before after sound found frees =
       graphs = λ n _. refl;
       kept = λ c n high _ k.
           elim (cases_eq c b) [
-            | inl e ↦ absurd (frees.not_kept n high (subst (IsKept n) (ap (slice_get w.status) e ∙ found) k))
-            | inr ne ↦ subst (IsKept n) (sym (set_else w.status b c after ne)) k
+            | inl e ↦ absurd (frees.not_kept n high (subst (IsKeptAt n) (ap (slice_get w.status) e ∙ found) k))
+            | inr ne ↦ subst (IsKeptAt n) (sym (set_else w.status b c after ne)) k
           ];
       edges = λ c n _. refl;
     } in
@@ -106,40 +125,53 @@ sound_status w b before after sound found frees =
       floor_last = sound.floor_last;
       used = λ c. elim (cases_eq c b) [
         | inl e ↦
-            ap (λ k. is_used (slice_get (set w.status b after) k)) e ∙ ap is_used (set_same w.status b before after found) ∙ frees.unused_after
-            ∙ sym frees.unused_before ∙ sym (ap is_used found) ∙ sym (ap (λ k. is_used (slice_get w.status k)) e) ∙ sound.used c
-        | inr ne ↦ ap is_used (set_else w.status b c after ne) ∙ sound.used c
+            ap (λ k. is_at is_used (slice_get (set w.status b after) k)) e
+            ∙ ap (is_at is_used) (set_same w.status b before after found) ∙ frees.unused_after
+            ∙ sym frees.unused_before ∙ sym (ap (is_at is_used) found)
+            ∙ sym (ap (λ k. is_at is_used (slice_get w.status k)) e) ∙ sound.used c
+        | inr ne ↦ ap (is_at is_used) (set_else w.status b c after ne) ∙ sound.used c
+      ];
+      dated = λ c. elim (cases_eq c b) [
+        | inl e ↦ subst (IsDatedAt (last_number w)) (sym
+            (ap (slice_get (set w.status b after)) e ∙ set_same w.status b before after found)) (frees.dated (last_number w))
+        | inr ne ↦ subst (IsDatedAt (last_number w)) (sym (set_else w.status b c after ne)) (sound.dated c)
       ];
       listed_once = sound.listed_once;
       shown = sound.shown;
       named = named_with_status w (set w.status b after) sound.named;
-      placed = λ s. carry w (with_status w (set w.status b after)) (place_of w s) carries (sound.placed s);
+      sessions = λ s. carry w (with_status w (set w.status b after)) (session_of w s) carries (sound.sessions s);
       sizes = sound.sizes ∙ sym (length-set w.status b after);
     }
 
 -- a Fill that is done names a fresh block
-pub record Fills (status : List Status) (heap : List (List Edge)) (b : ℕ) (edges : List Edge) (after : List (List Edge)) : Type 0 where
+pub record Fills (status : List Status) (heap : List (List Edge)) (b : ℕ) (edges : List Edge)
+    (after : List (List Edge)) : Type 0 where
   pub fresh : slice_get status b ≡ Some Fresh
   pub result : after ≡ set heap b edges
 
 abbrev written_if : Bool → List (List Edge) → Option (List (List Edge))
 written_if t heap = if t then Some heap else None
 
-fills_at : (status : List Status) (heap : List (List Edge)) (b : ℕ) (edges : List Edge) (after : List (List Edge)) (s : Status) → slice_get status b ≡ Some s → written_if (is_fresh s) (set heap b edges) ≡ Some after → Fills status heap b edges after
+fills_at : (status : List Status) (heap : List (List Edge)) (b : ℕ) (edges : List Edge) (after : List (List Edge))
+    (s : Status) → slice_get status b ≡ Some s → written_if (is_fresh s) (set heap b edges) ≡ Some after
+    → Fills status heap b edges after
 fills_at status heap b edges after Free found is = cc
 fills_at status heap b edges after Fresh found is = record { fresh = found; result = cc }
 fills_at status heap b edges after (Used birth) found is = cc
 fills_at status heap b edges after (Retired birth since) found is = cc
 
-pub fills : (status : List Status) (heap : List (List Edge)) (b : ℕ) (edges : List Edge) (after : List (List Edge)) → filled status heap b edges ≡ Some after → Fills status heap b edges after
+pub fills : (status : List Status) (heap : List (List Edge)) (b : ℕ) (edges : List Edge) (after : List (List Edge))
+    → filled status heap b edges ≡ Some after → Fills status heap b edges after
 fills status heap b edges after is =
     let found = and_then_some (λ s. written_if (is_fresh s) (set heap b edges)) (slice_get status b) after is in
     fills_at status heap b edges after found.0 found.1 found.2
 
-named_with_heap : (w : World) (heap : List (List Edge)) → ((n : ℕ) → n ≤ last_number w → IsNamed w n) → (n : ℕ) → n ≤ last_number w → IsNamed (with_heap w heap) n
+named_with_heap : (w : World) (heap : List (List Edge)) → ((n : ℕ) → n ≤ last_number w → IsNamed w n) → (n : ℕ)
+    → n ≤ last_number w → IsNamed (with_heap w heap) n
 named_with_heap w heap named n h = record { names = (named n h).names; kinds = (named n h).kinds }
 
-pub sound_fill : (w : World) (b : ℕ) (edges : List Edge) → IsSound w → slice_get w.status b ≡ Some Fresh → IsSound (with_heap w (set w.heap b edges))
+pub sound_fill : (w : World) (b : ℕ) (edges : List Edge) → IsSound w → slice_get w.status b ≡ Some Fresh
+    → IsSound (with_heap w (set w.heap b edges))
 sound_fill w b edges sound fresh =
     let carries : Carries w (with_heap w (set w.heap b edges)) = record {
       floor = refl;
@@ -148,18 +180,21 @@ sound_fill w b edges sound fresh =
       graphs = λ n _. refl;
       kept = λ c n _ _ k. k;
       edges = λ c n k.
-          let apart : c ≢ b = λ e. subst (IsKept n) (ap (slice_get w.status) e ∙ fresh) k in
+          let apart : c ≢ b = λ e. subst (IsKeptAt n) (ap (slice_get w.status) e ∙ fresh) k in
           get_or-set_other w.heap b c edges [] apart;
     } in
     record {
       floor_last = sound.floor_last;
       used = sound.used;
+      dated = sound.dated;
       listed_once = sound.listed_once;
       shown = subst (λ es. Shows es (last_graph w))
           (sym (same_pieces (edges_at (set w.heap b edges)) (edges_at w.heap) (last_blocks w)
-          (λ c is. let apart : c ≢ b = λ e. let unused : is_used (slice_get w.status c) ≡ false = ap (λ k. is_used (slice_get w.status k)) e ∙ ap is_used fresh in let used = sound.used c in cc in get_or-set_other w.heap b c edges [] apart)))
+          (λ c is. let apart : c ≢ b = λ e. let unused : is_at is_used (slice_get w.status c)
+          ≡ false = ap (λ k. is_at is_used (slice_get w.status k)) e ∙ ap (is_at is_used) fresh in let used =
+          sound.used c in cc in get_or-set_other w.heap b c edges [] apart)))
           sound.shown;
       named = named_with_heap w (set w.heap b edges) sound.named;
-      placed = λ s. carry w (with_heap w (set w.heap b edges)) (place_of w s) carries (sound.placed s);
+      sessions = λ s. carry w (with_heap w (set w.heap b edges)) (session_of w s) carries (sound.sessions s);
       sizes = length-set w.heap b edges ∙ sound.sizes;
     }

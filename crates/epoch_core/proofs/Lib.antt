@@ -1,5 +1,6 @@
 pub mod Lists
 pub mod Edges
+pub mod PostRule
 pub mod Changes
 pub mod Keeping
 pub mod Posted
@@ -9,7 +10,7 @@ pub mod Sizes
 pub mod Epochs
 pub mod Answering
 pub mod Account
-pub mod Calls
+pub mod OneElement
 pub mod Read
 pub mod Cores
-pub mod Rows
+pub mod Examples

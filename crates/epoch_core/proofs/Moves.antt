@@ -12,11 +12,12 @@ use Rattle.epoch_core.specs.declared.states.Status.{Status}
 use Rattle.epoch_core.specs.declared.states.Status.TheVariants.{Free, Fresh, Used, Retired}
 use Rattle.epoch_core.specs.declared.states.Hold.{Hold}
 use Rattle.epoch_core.specs.declared.states.Inquiry.{Inquiry}
-use Rattle.epoch_core.specs.declared.states.Place.{Place}
-use Rattle.epoch_core.specs.declared.states.Place.TheVariants.{Away, Pinned, Holding, Asking}
-use Rattle.epoch_core.specs.Worlds.{World, blocks_at, last_number, last_blocks, edges_at, edges_of, place_of, pin_in}
-use Rattle.epoch_core.specs.Machine.{is_listed, least_pin, lesser, with_places, move, to_pin, to_enter, to_settle, settled_at, to_ask, to_read, read_on, to_reply, is_all_read, to_release}
-use Rattle.epoch_core.specs.Sound.{is_used, IsKept, IsHeld, IsPlaced, IsNamed, IsSound}
+use Rattle.epoch_core.specs.declared.states.SessionState.{SessionState}
+use Rattle.epoch_core.specs.declared.states.SessionState.TheVariants.{Idle, Pinned, Holding, Asking}
+use Rattle.epoch_core.specs.Blocks.{changed_at, is_at, is_listed, is_used}
+use Rattle.epoch_core.specs.Worlds.{World, blocks_at, edges_at, edges_of, last_blocks, last_number, pin_in, session_of}
+use Rattle.epoch_core.specs.Machine.{is_all_read, least_pin, lesser, move, read_on, settled_at, to_ask, to_enter, to_pin, to_read, to_release, to_reply, to_settle, with_sessions}
+use Rattle.epoch_core.specs.Sound.{IsDatedAt, IsHeld, IsKeptAt, IsNamed, IsSessionSound, IsSound}
 use Rattle.epoch_core.proofs.Lists.{option_map_some, ChangedAt, changed_at-some, within, get_at, take_one_more}
 use Rattle.epoch_core.proofs.Keeping.{Carries, carry}
 
@@ -25,11 +26,13 @@ lesser_first : (n : ℕ) (o : Option ℕ) → lesser n o ≤ n
 lesser_first n None = omega arith
 lesser_first n (Some m) = omega arith
 
-pub least_first : (n : ℕ) (ps : List Place) → least_pin n ps ≤ n
+pub least_first : (n : ℕ) (ps : List SessionState) → least_pin n ps ≤ n
 least_first n [] = omega arith
-least_first n (p ∷ ps) = let here : lesser n (pin_in p) ≤ n = lesser_first n (pin_in p) in let rest : least_pin (lesser n (pin_in p)) ps ≤ lesser n (pin_in p) = least_first (lesser n (pin_in p)) ps in omega arith
+least_first n (p ∷ ps) = let here : lesser n (pin_in p) ≤ n =
+    lesser_first n (pin_in p) in let rest : least_pin (lesser n (pin_in p)) ps ≤ lesser n (pin_in p) =
+    least_first (lesser n (pin_in p)) ps in omega arith
 
-pub least_each : (n : ℕ) (ps : List Place) (s pin : ℕ) → pin_in (get_or ps s Away) ≡ Some pin → least_pin n ps ≤ pin
+pub least_each : (n : ℕ) (ps : List SessionState) (s pin : ℕ) → pin_in (get_or ps s Idle) ≡ Some pin → least_pin n ps ≤ pin
 least_each n [] s pin is = cc
 least_each n (p ∷ ps) zero pin is =
     let rest : least_pin (lesser n (pin_in p)) ps ≤ lesser n (pin_in p) = least_first (lesser n (pin_in p)) ps in
@@ -40,32 +43,44 @@ least_each n (p ∷ ps) (suc s) pin is = least_each (lesser n (pin_in p)) ps s p
 abbrev pub with_floor : World → ℕ → World
 with_floor w floor = record w { floor = floor }
 
-named_with_floor : (w : World) (floor : ℕ) → ((n : ℕ) → n ≤ last_number w → IsNamed w n) → (n : ℕ) → n ≤ last_number w → IsNamed (with_floor w floor) n
+named_with_floor : (w : World) (floor : ℕ) → ((n : ℕ) → n ≤ last_number w → IsNamed w n) → (n : ℕ) → n ≤ last_number w
+    → IsNamed (with_floor w floor) n
 named_with_floor w floor named n h = record { names = (named n h).names; kinds = (named n h).kinds }
 
 refloored : (w : World) (floor : ℕ) (hold : Hold) → floor ≤ hold.pin → IsHeld w hold → IsHeld (with_floor w floor) hold
-refloored w floor hold low h = record { floor_pin = low; pin_held = h.pin_held; held_last = h.held_last; kept = h.kept; shown = h.shown }
+refloored w floor hold low h = record {
+  floor_pin = low;
+  pin_held = h.pin_held;
+  held_last = h.held_last;
+  settled = h.settled;
+  kept = h.kept;
+  shown = h.shown;
+}
 
-placed_with_floor : (w : World) (floor : ℕ) (place : Place) → ((pin : ℕ) → pin_in place ≡ Some pin → floor ≤ pin) → IsPlaced w place → IsPlaced (with_floor w floor) place
-placed_with_floor w floor Away low p = tt
-placed_with_floor w floor (Pinned pin) low p = (low pin refl, p.1)
-placed_with_floor w floor (Holding hold) low p = refloored w floor hold (low hold.pin refl) p
-placed_with_floor w floor (Asking hold inquiry) low p = (refloored w floor hold (low hold.pin refl) p.0, p.1)
+session_with_floor : (w : World) (floor : ℕ) (session : SessionState)
+    → ((pin : ℕ) → pin_in session ≡ Some pin → floor ≤ pin) → IsSessionSound w session
+    → IsSessionSound (with_floor w floor) session
+session_with_floor w floor Idle low p = tt
+session_with_floor w floor (Pinned pin) low p = (low pin refl, p.1)
+session_with_floor w floor (Holding hold) low p = refloored w floor hold (low hold.pin refl) p
+session_with_floor w floor (Asking hold inquiry) low p = (refloored w floor hold (low hold.pin refl) p.0, p.1)
 
-pub sound_floor : (w : World) → IsSound w → IsSound (with_floor w (least_pin (last_number w) w.places))
+pub sound_floor : (w : World) → IsSound w → IsSound (with_floor w (least_pin (last_number w) w.sessions))
 sound_floor w sound = record {
-  floor_last = least_first (last_number w) w.places;
+  floor_last = least_first (last_number w) w.sessions;
   used = sound.used;
+  dated = sound.dated;
   listed_once = sound.listed_once;
   shown = sound.shown;
-  named = named_with_floor w (least_pin (last_number w) w.places) sound.named;
-  placed = λ s. placed_with_floor w (least_pin (last_number w) w.places) (place_of w s) (least_each (last_number w) w.places s) (sound.placed s);
+  named = named_with_floor w (least_pin (last_number w) w.sessions) sound.named;
+  sessions = λ s. session_with_floor w (least_pin (last_number w) w.sessions) (session_of w s)
+      (least_each (last_number w) w.sessions s) (sound.sessions s);
   sizes = sound.sizes;
 }
 
 -- sessions
-carries_places : (w : World) (places : List Place) → Carries w (with_places w places)
-carries_places w places = record {
+carries_sessions : (w : World) (sessions : List SessionState) → Carries w (with_sessions w sessions)
+carries_sessions w sessions = record {
   floor = refl;
   last = omega arith;
   versions = λ n _. refl;
@@ -74,132 +89,170 @@ carries_places w places = record {
   edges = λ b n _. refl;
 }
 
-named_with_places : (w : World) (places : List Place) → ((n : ℕ) → n ≤ last_number w → IsNamed w n) → (n : ℕ) → n ≤ last_number w → IsNamed (with_places w places) n
-named_with_places w places named n h = record { names = (named n h).names; kinds = (named n h).kinds }
+named_with_sessions : (w : World) (sessions : List SessionState) → ((n : ℕ) → n ≤ last_number w → IsNamed w n) → (n : ℕ)
+    → n ≤ last_number w → IsNamed (with_sessions w sessions) n
+named_with_sessions w sessions named n h = record { names = (named n h).names; kinds = (named n h).kinds }
 
 -- what a move that is done says
-pub record Moved (w : World) (s : ℕ) (change : Place → Option Place) (after : World) : Type 0 where
-  pub place : Place
-  pub next : Place
-  pub at : place_of w s ≡ place
-  pub found : slice_get w.places s ≡ Some place
-  pub changed : change place ≡ Some next
-  pub result : after ≡ with_places w (set w.places s next)
+pub record Moved (w : World) (s : ℕ) (change : SessionState → Option SessionState) (after : World) : Type 0 where
+  pub session : SessionState
+  pub next : SessionState
+  pub at : session_of w s ≡ session
+  pub found : slice_get w.sessions s ≡ Some session
+  pub changed : change session ≡ Some next
+  pub result : after ≡ with_sessions w (set w.sessions s next)
 
-pub moved : (w : World) (s : ℕ) (change : Place → Option Place) (after : World) → move w s change ≡ Some after → Moved w s change after
+pub moved : (w : World) (s : ℕ) (change : SessionState → Option SessionState) (after : World) → move w s change ≡ Some after
+    → Moved w s change after
 moved w s change after is =
-    let whole = option_map_some (with_places w) _ after is in
-    let c : ChangedAt change w.places s whole.0 = changed_at-some change w.places s whole.0 whole.1 in
+    let whole = option_map_some (with_sessions w) _ after is in
+    let c : ChangedAt change w.sessions s whole.0 = changed_at-some change w.sessions s whole.0 whole.1 in
     record {
-      place = c.before;
+      session = c.before;
       next = c.after;
-      at = get_at w.places s c.before Away c.found;
+      at = get_at w.sessions s c.before Idle c.found;
       found = c.found;
       changed = c.changed;
-      result = whole.2 ∙ ap (with_places w) c.result;
+      result = whole.2 ∙ ap (with_sessions w) c.result;
     }
 
-pub place_after : (w : World) (s : ℕ) (place next : Place) → slice_get w.places s ≡ Some place → place_of (with_places w (set w.places s next)) s ≡ next
-place_after w s place next found = let lt : s < length w.places = within w.places s place found in get_or-set_same w.places s next Away lt
+pub session_after : (w : World) (s : ℕ) (session next : SessionState) → slice_get w.sessions s ≡ Some session
+    → session_of (with_sessions w (set w.sessions s next)) s ≡ next
+session_after w s session next found = let lt : s < length w.sessions =
+    within w.sessions s session found in get_or-set_same w.sessions s next Idle lt
 
-pub place_else : (w : World) (s t : ℕ) (next : Place) → t ≢ s → place_of (with_places w (set w.places s next)) t ≡ place_of w t
-place_else w s t next ne = get_or-set_other w.places s t next Away ne
+pub session_else : (w : World) (s t : ℕ) (next : SessionState) → t ≢ s
+    → session_of (with_sessions w (set w.sessions s next)) t ≡ session_of w t
+session_else w s t next ne = get_or-set_other w.sessions s t next Idle ne
 
--- a change of place that keeps what is known of it
-abbrev pub KeepsPlace : World → (Place → Option Place) → Type 0
-KeepsPlace w change = (place next : Place) → IsPlaced w place → change place ≡ Some next → IsPlaced w next
+-- a change of session that keeps what is known of it
+abbrev pub KeepsSession : World → (SessionState → Option SessionState) → Type 0
+KeepsSession w change = (session next : SessionState) → IsSessionSound w session → change session ≡ Some next
+    → IsSessionSound w next
 
-sound_places : (w : World) (s : ℕ) (place next : Place) → IsSound w → slice_get w.places s ≡ Some place → IsPlaced w next → IsSound (with_places w (set w.places s next))
-sound_places w s place next sound found known = record {
+sound_sessions : (w : World) (s : ℕ) (session next : SessionState) → IsSound w → slice_get w.sessions s ≡ Some session
+    → IsSessionSound w next → IsSound (with_sessions w (set w.sessions s next))
+sound_sessions w s session next sound found known = record {
   floor_last = sound.floor_last;
   used = sound.used;
+  dated = sound.dated;
   listed_once = sound.listed_once;
   shown = sound.shown;
-  named = named_with_places w (set w.places s next) sound.named;
-  placed = λ t. carry w (with_places w (set w.places s next)) (place_of (with_places w (set w.places s next)) t) (carries_places w (set w.places s next))
+  named = named_with_sessions w (set w.sessions s next) sound.named;
+  sessions = λ t. carry w (with_sessions w (set w.sessions s next)) (session_of (with_sessions w (set w.sessions s next)) t)
+      (carries_sessions w (set w.sessions s next))
       (elim (cases_eq t s) [
-        | inl e ↦ subst (IsPlaced w) (sym (ap (place_of (with_places w (set w.places s next))) e ∙ place_after w s place next found)) known
-        | inr ne ↦ subst (IsPlaced w) (sym (place_else w s t next ne)) (sound.placed t)
+        | inl e ↦ subst (IsSessionSound w) (sym (ap (session_of (with_sessions w (set w.sessions s next))) e
+            ∙ session_after w s session next found)) known
+        | inr ne ↦ subst (IsSessionSound w) (sym (session_else w s t next ne)) (sound.sessions t)
       ]);
   sizes = sound.sizes;
 }
 
-pub sound_move : (w : World) (s : ℕ) (change : Place → Option Place) (after : World) → IsSound w → KeepsPlace w change → move w s change ≡ Some after → IsSound after
+pub sound_move : (w : World) (s : ℕ) (change : SessionState → Option SessionState) (after : World) → IsSound w
+    → KeepsSession w change → move w s change ≡ Some after → IsSound after
 sound_move w s change after sound keeps is =
     let m : Moved w s change after = moved w s change after is in
-    let known : IsPlaced w m.next = keeps m.place m.next (subst (IsPlaced w) m.at (sound.placed s)) m.changed in
-    subst IsSound (sym m.result) (sound_places w s m.place m.next sound m.found known)
+    let known : IsSessionSound w m.next = keeps m.session m.next (subst (IsSessionSound w) m.at (sound.sessions s)) m.changed in
+    subst IsSound (sym m.result) (sound_sessions w s m.session m.next sound m.found known)
 
-pub keeps_pin : (w : World) → IsSound w → KeepsPlace w (to_pin w.floor)
-keeps_pin w sound Away next p is = let e : Pinned w.floor ≡ next = cc in subst (IsPlaced w) e (omega arith, sound.floor_last)
+pub keeps_pin : (w : World) → IsSound w → KeepsSession w (to_pin w.floor)
+keeps_pin w sound Idle next p is = let e : Pinned w.floor ≡ next =
+    cc in subst (IsSessionSound w) e (omega arith, sound.floor_last)
 keeps_pin w sound (Pinned pin) next p is = cc
 keeps_pin w sound (Holding hold) next p is = cc
 keeps_pin w sound (Asking hold inquiry) next p is = cc
 
-used_kept : (n : ℕ) (o : Option Status) → is_used o ≡ true → IsKept n o
-used_kept n None is = cc
-used_kept n (Some Free) is = cc
-used_kept n (Some Fresh) is = cc
-used_kept n (Some (Used birth)) is = tt
-used_kept n (Some (Retired birth since)) is = cc
+used_kept : (n : ℕ) (o : Option Status) → is_at is_used o ≡ true → IsDatedAt n o → IsKeptAt n o
+used_kept n None is dated = cc
+used_kept n (Some Free) is dated = cc
+used_kept n (Some Fresh) is dated = cc
+used_kept n (Some (Used birth)) is dated = dated
+used_kept n (Some (Retired birth since)) is dated = cc
 
-kept_last : (w : World) → IsSound w → (b : ℕ) → is_listed b (last_blocks w) ≡ true → IsKept (last_number w) (slice_get w.status b)
-kept_last w sound b is = used_kept (last_number w) (slice_get w.status b) (sound.used b ∙ is)
+kept_last : (w : World) → IsSound w → (b : ℕ) → is_listed b (last_blocks w) ≡ true
+    → IsKeptAt (last_number w) (slice_get w.status b)
+kept_last w sound b is = used_kept (last_number w) (slice_get w.status b) (sound.used b ∙ is) (sound.dated b)
 
-pub keeps_enter : (w : World) → IsSound w → KeepsPlace w (to_enter (last_number w))
-keeps_enter w sound Away next p is = cc
+pub keeps_enter : (w : World) → IsSound w → KeepsSession w (to_enter (last_number w))
+keeps_enter w sound Idle next p is = cc
 keeps_enter w sound (Pinned pin) next p is =
     let hold : Hold = record { pin = pin; settled = false; version = last_number w } in
     let e : Holding hold ≡ next = cc in
-    let held : IsHeld w hold = record { floor_pin = p.0; pin_held = p.1; held_last = omega arith; kept = kept_last w sound; shown = sound.shown } in
-    subst (IsPlaced w) e held
+    let held : IsHeld w hold = record {
+      floor_pin = p.0;
+      pin_held = p.1;
+      held_last = omega arith;
+      settled = λ t. cc;
+      kept = kept_last w sound;
+      shown = sound.shown;
+    } in
+    subst (IsSessionSound w) e held
 keeps_enter w sound (Holding hold) next p is = cc
 keeps_enter w sound (Asking hold inquiry) next p is = cc
 
 settles : (w : World) (hold : Hold) → IsHeld w hold → IsHeld w (settled_at hold)
-settles w hold h = record { floor_pin = omega (arith, h.floor_pin, h.pin_held); pin_held = omega arith; held_last = h.held_last; kept = h.kept; shown = h.shown }
+settles w hold h = record {
+  floor_pin = omega (arith, h.floor_pin, h.pin_held);
+  pin_held = omega arith;
+  held_last = h.held_last;
+  settled = λ _. refl;
+  kept = h.kept;
+  shown = h.shown;
+}
 
-pub keeps_settle : (w : World) → KeepsPlace w to_settle
-keeps_settle w Away next p is = cc
+pub keeps_settle : (w : World) → KeepsSession w to_settle
+keeps_settle w Idle next p is = cc
 keeps_settle w (Pinned pin) next p is = cc
-keeps_settle w (Holding hold) next p is = let e : Holding (settled_at hold) ≡ next = cc in subst (IsPlaced w) e (settles w hold p)
-keeps_settle w (Asking hold inquiry) next p is = let e : Asking (settled_at hold) inquiry ≡ next = cc in subst (IsPlaced w) e (settles w hold p.0, p.1)
+keeps_settle w (Holding hold) next p is = let e : Holding (settled_at hold) ≡ next =
+    cc in subst (IsSessionSound w) e (settles w hold p)
+keeps_settle w (Asking hold inquiry) next p is = let e : Asking (settled_at hold) inquiry ≡ next =
+    cc in subst (IsSessionSound w) e (settles w hold p.0, p.1)
 
-pub keeps_ask : (w : World) (request : Request) → KeepsPlace w (to_ask request)
-keeps_ask w request Away next p is = cc
+pub keeps_ask : (w : World) (request : Request) → KeepsSession w (to_ask request)
+keeps_ask w request Idle next p is = cc
 keeps_ask w request (Pinned pin) next p is = cc
-keeps_ask w request (Holding hold) next p is = let e : Asking hold (record { request = request; next = 0; read = [] }) ≡ next = cc in subst (IsPlaced w) e (p, refl)
+keeps_ask w request (Holding hold) next p is = let e : Asking hold (record { request = request; next = 0; read = [] })
+    ≡ next = cc in subst (IsSessionSound w) e (p, refl)
 keeps_ask w request (Asking hold inquiry) next p is = cc
 
-read_more : (heap : List (List Edge)) (blocks : List ℕ) (n b : ℕ) → slice_get blocks n ≡ Some b → edges_of heap (take n blocks) ++ edges_at heap b ≡ edges_of heap (take (n + 1) blocks)
+read_more : (heap : List (List Edge)) (blocks : List ℕ) (n b : ℕ) → slice_get blocks n ≡ Some b
+    → edges_of heap (take n blocks) ++ edges_at heap b ≡ edges_of heap (take (n + 1) blocks)
 read_more heap blocks n b found =
     let one : edges_of heap (b ∷ []) ≡ edges_at heap b = append-nil (edges_at heap b) in
     ap (λ es. edges_of heap (take n blocks) ++ es) (sym one) ∙ sym (flat_map-append (edges_at heap) (take n blocks) (b ∷ []))
     ∙ ap (edges_of heap) (sym (take_one_more blocks n b found)) ∙ ap (λ m. edges_of heap (take m blocks)) (sym (add-one n))
 
-pub keeps_read : (w : World) → KeepsPlace w (to_read w.heap w.versions)
-keeps_read w Away next p is = cc
+pub keeps_read : (w : World) → KeepsSession w (to_read w.opening w.heap w.versions)
+keeps_read w Idle next p is = cc
 keeps_read w (Pinned pin) next p is = cc
 keeps_read w (Holding hold) next p is = cc
 keeps_read w (Asking hold inquiry) next p is =
-    let b = option_map_some (λ b. Asking hold (read_on w.heap inquiry b)) (slice_get (blocks_at w.versions hold.version) inquiry.next) next is in
-    subst (IsPlaced w) (sym b.2) (p.0, ap (λ es. es ++ edges_at w.heap b.0) p.1 ∙ read_more w.heap (blocks_at w.versions hold.version) inquiry.next b.0 b.1)
+    let b = option_map_some (λ b. Asking hold (read_on w.heap inquiry b))
+    (slice_get (blocks_at w.opening w.versions hold.version) inquiry.next) next is in
+    subst (IsSessionSound w) (sym b.2) (
+      p.0,
+      ap (λ es. es ++ edges_at w.heap b.0) p.1
+          ∙ read_more w.heap (blocks_at w.opening w.versions hold.version) inquiry.next b.0 b.1,
+    )
 
 if_some : {A : Type 0} (t : Bool) (x y : A) → (if t then Some x else None) ≡ Some y → (t ≡ true) × (y ≡ x)
 if_some true x y is = (refl, cc)
 if_some false x y is = cc
 
-pub replying : (w : World) (hold : Hold) (inquiry : Inquiry) (next : Place) → to_reply w.versions (Asking hold inquiry) ≡ Some next → (is_all_read w.versions hold inquiry ≡ true) × (next ≡ Holding hold)
-replying w hold inquiry next is = if_some (is_all_read w.versions hold inquiry) (Holding hold) next is
+pub replying : (w : World) (hold : Hold) (inquiry : Inquiry) (next : SessionState)
+    → to_reply w.opening w.versions (Asking hold inquiry) ≡ Some next
+    → (is_all_read w.opening w.versions hold inquiry ≡ true) × (next ≡ Holding hold)
+replying w hold inquiry next is = if_some (is_all_read w.opening w.versions hold inquiry) (Holding hold) next is
 
-pub keeps_reply : (w : World) → KeepsPlace w (to_reply w.versions)
-keeps_reply w Away next p is = cc
+pub keeps_reply : (w : World) → KeepsSession w (to_reply w.opening w.versions)
+keeps_reply w Idle next p is = cc
 keeps_reply w (Pinned pin) next p is = cc
 keeps_reply w (Holding hold) next p is = cc
-keeps_reply w (Asking hold inquiry) next p is = subst (IsPlaced w) (sym (replying w hold inquiry next is).1) p.0
+keeps_reply w (Asking hold inquiry) next p is = subst (IsSessionSound w) (sym (replying w hold inquiry next is).1) p.0
 
-pub keeps_release : (w : World) → KeepsPlace w to_release
-keeps_release w Away next p is = cc
-keeps_release w (Pinned pin) next p is = let e : Away ≡ next = cc in subst (IsPlaced w) e tt
-keeps_release w (Holding hold) next p is = let e : Away ≡ next = cc in subst (IsPlaced w) e tt
+pub keeps_release : (w : World) → KeepsSession w to_release
+keeps_release w Idle next p is = cc
+keeps_release w (Pinned pin) next p is = let e : Idle ≡ next = cc in subst (IsSessionSound w) e tt
+keeps_release w (Holding hold) next p is = let e : Idle ≡ next = cc in subst (IsSessionSound w) e tt
 keeps_release w (Asking hold inquiry) next p is = cc

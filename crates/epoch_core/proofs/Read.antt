@@ -7,11 +7,12 @@ use Rattle.graph_model.specs.Graph.{Graph, key_of, stamp_of, map_of, graph_of, I
 use Rattle.graph_model.specs.declared.ids.Edge.{Edge}
 use Rattle.graph_model.proofs.Keys.{get_is, get_listed, find_listed}
 use Rattle.epoch_core.specs.declared.states.Version.{Version}
-use Rattle.epoch_core.specs.declared.states.Place.{Place}
-use Rattle.epoch_core.specs.declared.states.Place.TheVariants.{Away, Pinned, Holding, Asking}
-use Rattle.epoch_core.specs.Worlds.{World, graph_at, version_at, blocks_at, edges_of, last_number, last_blocks, last_graph, place_of}
-use Rattle.epoch_core.specs.Sound.{Shows, IsNamed, IsPlaced, IsSound, IsContentGraph}
-use Rattle.epoch_core.specs.Calls.{content_with, last_content, ReadsContent, HasContents}
+use Rattle.epoch_core.specs.declared.states.SessionState.{SessionState}
+use Rattle.epoch_core.specs.declared.states.SessionState.TheVariants.{Idle, Pinned, Holding, Asking}
+use Rattle.epoch_core.specs.Worlds.{HasContents, IsContentGraph, Shows, World, blocks_at, content_with, edges_of, graph_at, last_blocks, last_graph, last_number, session_of, version_at}
+use Rattle.epoch_core.specs.Posting.{last_content}
+use Rattle.epoch_core.specs.Machine.{ReadsContent}
+use Rattle.epoch_core.specs.Sound.{IsNamed, IsSessionSound, IsSound}
 
 same_within : (n m : ℕ) (x e : Edge) → key_of e ≡ key_of x → stamp_of e ≡ stamp_of x → IsEdgeWithin n m x → IsEdgeWithin n m e
 same_within n m x e key stamp w = record {
@@ -24,7 +25,8 @@ same_within n m x e key stamp w = record {
 }
 
 -- edges that show a content's graph are a content with its names and kinds
-pub is_content : (v : Version) (es : List Edge) (g : Graph) → IsContentGraph g → v.names ≡ g.names → v.kinds ≡ g.kinds → Shows es g → IsContent (content_with v es)
+pub is_content : (v : Version) (es : List Edge) (g : Graph) → IsContentGraph g → v.names ≡ g.names → v.kinds ≡ g.kinds
+    → Shows es g → IsContent (content_with v es)
 is_content v es g (c, is, same) names kinds shows =
     let ns : v.names ≡ c.names = names ∙ sym (ap (λ h. h.names) same) in
     let ks : v.kinds ≡ c.kinds = kinds ∙ sym (ap (λ h. h.kinds) same) in
@@ -37,18 +39,24 @@ is_content v es g (c, is, same) names kinds shows =
       keys_distinct = shows.once;
       edges_within = λ k d h.
           let e : Edge = get_or es k d in
-          let (x, ((i, low, at), key, stamp)) = find_listed (key_of e) c.edges (stamp_of e) (sym (get_is (key_of e) c.edges) ∙ ap (λ m. get m (key_of e)) (sym map) ∙ get_listed es shows.once k d h) in
-          let w : IsEdgeWithin (length c.names) (length c.kinds) x = subst (IsEdgeWithin (length c.names) (length c.kinds)) at (is.edges_within i x low) in
-          subst (λ n. IsEdgeWithin n (length v.kinds) e) (ap length (sym ns)) (subst (λ m. IsEdgeWithin (length c.names) m e) (ap length (sym ks)) (same_within _ _ x e key (sym stamp) w));
+          let (x, ((i, low, at), key, stamp)) = find_listed (key_of e) c.edges (stamp_of e)
+          (sym (get_is (key_of e) c.edges) ∙ ap (λ m. get m (key_of e)) (sym map) ∙ get_listed es shows.once k d h) in
+          let w : IsEdgeWithin (length c.names) (length c.kinds) x =
+          subst (IsEdgeWithin (length c.names) (length c.kinds)) at (is.edges_within i x low) in
+          subst (λ n. IsEdgeWithin n (length v.kinds) e) (ap length (sym ns))
+          (subst (λ m. IsEdgeWithin (length c.names) m e) (ap length (sym ks)) (same_within _ _ x e key (sym stamp) w));
     }
 
 -- the last version's content
-pub last_is_content : (w : World) → IsSound w → HasContents w.versions → IsContent (last_content w.heap w.versions)
+pub last_is_content : (w : World) → IsSound w → HasContents w.opening w.versions
+    → IsContent (last_content w.opening w.heap w.versions)
 last_is_content w sound contents =
     let named : IsNamed w (last_number w) = sound.named (last_number w) (omega arith) in
-    is_content (version_at w.versions (last_number w)) (edges_of w.heap (last_blocks w)) (last_graph w) (contents (last_number w) (omega arith)) named.names named.kinds sound.shown
+    is_content (version_at w.opening w.versions (last_number w)) (edges_of w.heap (last_blocks w)) (last_graph w)
+    (contents (last_number w) (omega arith)) named.names named.kinds sound.shown
 
-pub last_is_graph : (w : World) → IsSound w → graph_of (last_content w.heap w.versions) ≡ graph_at w.versions (length w.versions)
+pub last_is_graph : (w : World) → IsSound w → graph_of (last_content w.opening w.heap w.versions)
+    ≡ graph_at w.opening w.versions (length w.versions)
 last_is_graph w sound =
     let named : IsNamed w (last_number w) = sound.named (last_number w) (omega arith) in
     let names = named.names in
@@ -57,16 +65,20 @@ last_is_graph w sound =
     λ i. record { names = names i; kinds = kinds i; edges = edges i }
 
 -- what a session has read
-reads_at : (w : World) (place : Place) → IsSound w → HasContents w.versions → IsPlaced w place → ReadsContent w.versions place
-reads_at w Away sound contents p = tt
+reads_at : (w : World) (session : SessionState) → IsSound w → HasContents w.opening w.versions → IsSessionSound w session
+    → ReadsContent w.opening w.versions session
+reads_at w Idle sound contents p = tt
 reads_at w (Pinned pin) sound contents p = tt
 reads_at w (Holding hold) sound contents p = tt
 reads_at w (Asking hold inquiry) sound contents p = λ all.
-    let low : length (blocks_at w.versions hold.version) ≤ inquiry.next = grind (arith, all) in
+    let low : length (blocks_at w.opening w.versions hold.version) ≤ inquiry.next = grind (arith, all) in
     let named : IsNamed w hold.version = sound.named hold.version p.0.held_last in
-    let whole : inquiry.read ≡ edges_of w.heap (blocks_at w.versions hold.version) = p.1 ∙ ap (edges_of w.heap) (take_all inquiry.next (blocks_at w.versions hold.version) low) in
-    is_content (version_at w.versions hold.version) inquiry.read (graph_at w.versions hold.version) (contents hold.version p.0.held_last) named.names named.kinds
-    (subst (λ es. Shows es (graph_at w.versions hold.version)) (sym whole) p.0.shown)
+    let whole : inquiry.read ≡ edges_of w.heap (blocks_at w.opening w.versions hold.version) =
+    p.1 ∙ ap (edges_of w.heap) (take_all inquiry.next (blocks_at w.opening w.versions hold.version) low) in
+    is_content (version_at w.opening w.versions hold.version) inquiry.read (graph_at w.opening w.versions hold.version)
+    (contents hold.version p.0.held_last) named.names named.kinds
+    (subst (λ es. Shows es (graph_at w.opening w.versions hold.version)) (sym whole) p.0.shown)
 
-pub reads_content : (w : World) (s : ℕ) → IsSound w → HasContents w.versions → ReadsContent w.versions (place_of w s)
-reads_content w s sound contents = reads_at w (place_of w s) sound contents (sound.placed s)
+pub reads_content : (w : World) (s : ℕ) → IsSound w → HasContents w.opening w.versions
+    → ReadsContent w.opening w.versions (session_of w s)
+reads_content w s sound contents = reads_at w (session_of w s) sound contents (sound.sessions s)

@@ -7,37 +7,41 @@ use Rattle.std.specs.declared.option.Option.TheVariants.{None, Some}
 use Rattle.std.proofs.lemmas.List.{length-set, length-replicate}
 use Rattle.epoch_core.specs.declared.states.Status.{Status}
 use Rattle.epoch_core.specs.declared.states.Status.TheVariants.{Free}
-use Rattle.epoch_core.specs.declared.states.Place.{Place}
+use Rattle.epoch_core.specs.declared.states.SessionState.{SessionState}
 use Rattle.epoch_core.specs.declared.events.Event.{Event}
 use Rattle.epoch_core.specs.declared.events.Event.TheVariants.{Take, Fill, Post, Floor, Recycle, Pin, Enter, Settle, Ask, Read, Reply, Release}
-use Rattle.epoch_core.specs.Worlds.{World, start_world, last_number}
-use Rattle.epoch_core.specs.Machine.{step, taken, recycled, changed_at, with_status, with_heap, filled, can_post, posted, move, is_listed, after_post, to_pin, to_enter, to_settle, to_ask, to_read, to_reply, to_release}
-use Rattle.epoch_core.specs.Runs.{happens, run}
+use Rattle.epoch_core.specs.Blocks.{after_post, changed_at, filled, is_listed, recycled, taken}
+use Rattle.epoch_core.specs.Worlds.{World, last_number}
+use Rattle.epoch_core.specs.Posting.{can_post, posted}
+use Rattle.epoch_core.specs.Machine.{move, step, to_ask, to_enter, to_pin, to_read, to_release, to_reply, to_settle, with_heap, with_status}
+use Rattle.epoch_core.specs.Runs.{next_world, run}
 use Rattle.epoch_core.proofs.Lists.{option_map_some, ChangedAt, changed_at-some, length_enumerated}
 use Rattle.epoch_core.proofs.Moves.{Moved, moved}
 
 pub record SameSizes (old new : World) : Type 0 where
   pub blocks : length new.status ≡ length old.status
-  pub sessions : length new.places ≡ length old.places
+  pub sessions : length new.sessions ≡ length old.sessions
 
 same_size : (w : World) → SameSizes w w
 same_size w = record { blocks = refl; sessions = refl }
 
-size_changed : (w after : World) (b : ℕ) (change : Status → Option Status) → option_map (with_status w) (changed_at change w.status b) ≡ Some after → SameSizes w after
+size_changed : (w after : World) (b : ℕ) (change : Status → Option Status)
+    → option_map (with_status w) (changed_at change w.status b) ≡ Some after → SameSizes w after
 size_changed w after b change is =
     let whole = option_map_some (with_status w) _ after is in
     let c : ChangedAt change w.status b whole.0 = changed_at-some change w.status b whole.0 whole.1 in
     record {
       blocks = ap (λ v. length v.status) whole.2 ∙ ap length c.result ∙ length-set w.status b c.after;
-      sessions = ap (λ v. length v.places) whole.2;
+      sessions = ap (λ v. length v.sessions) whole.2;
     }
 
-size_moved : (w after : World) (s : ℕ) (change : Place → Option Place) → move w s change ≡ Some after → SameSizes w after
+size_moved : (w after : World) (s : ℕ) (change : SessionState → Option SessionState) → move w s change ≡ Some after
+    → SameSizes w after
 size_moved w after s change is =
     let m : Moved w s change after = moved w s change after is in
     record {
       blocks = ap (λ v. length v.status) m.result;
-      sessions = ap (λ v. length v.places) m.result ∙ length-set w.places s m.next;
+      sessions = ap (λ v. length v.sessions) m.result ∙ length-set w.sessions s m.next;
     }
 
 size_if : (t : Bool) (w new after : World) → SameSizes w new → (if t then Some new else None) ≡ Some after → SameSizes w after
@@ -50,26 +54,32 @@ size_step w after (Fill b edges) is =
     let whole = option_map_some (with_heap w) (filled w.status w.heap b edges) after is in
     subst (SameSizes w) (sym whole.2) (record { blocks = refl; sessions = refl })
 size_step w after (Post batch blocks) is =
-    size_if (can_post w.heap w.status w.versions batch blocks) w (posted w batch blocks) after (record { blocks = length_enumerated (λ p. after_post (last_number w + 1) (is_listed p.0 blocks) p.1) 0 w.status; sessions = refl }) is
-size_step w after Floor is = let same : (w.status ≡ after.status) × (w.places ≡ after.places) = (cc, cc) in record { blocks = ap length (sym same.0); sessions = ap length (sym same.1) }
+    size_if (can_post w.opening w.heap w.status w.versions batch blocks) w (posted w batch blocks) after
+    (record {
+      blocks = length_enumerated (λ p. after_post (last_number w + 1) (is_listed p.0 blocks) p.1) 0 w.status;
+      sessions = refl;
+    }) is
+size_step w after Floor is = let same : (w.status ≡ after.status) × (w.sessions ≡ after.sessions) =
+    (cc, cc) in record { blocks = ap length (sym same.0); sessions = ap length (sym same.1) }
 size_step w after (Recycle b) is = size_changed w after b (recycled w.floor) is
 size_step w after (Pin s) is = size_moved w after s (to_pin w.floor) is
 size_step w after (Enter s) is = size_moved w after s (to_enter (last_number w)) is
 size_step w after (Settle s) is = size_moved w after s to_settle is
 size_step w after (Ask s request) is = size_moved w after s (to_ask request) is
-size_step w after (Read s) is = size_moved w after s (to_read w.heap w.versions) is
-size_step w after (Reply s) is = size_moved w after s (to_reply w.versions) is
+size_step w after (Read s) is = size_moved w after s (to_read w.opening w.heap w.versions) is
+size_step w after (Reply s) is = size_moved w after s (to_reply w.opening w.versions) is
 size_step w after (Release s) is = size_moved w after s to_release is
 
-pub size_happens : (w : World) (e : Event) → SameSizes w (happens w e)
-size_happens w e = elim (step w e) as (λ o. step w e ≡ o → SameSizes w (unwrap_or o w)) [ None ↦ λ _. same_size w | Some after ↦ λ is. size_step w after e is ] refl
+pub size_next : (w : World) (e : Event) → SameSizes w (next_world w e)
+size_next w e = elim (step w e) as (λ o. step w e ≡ o → SameSizes w
+    (unwrap_or o w)) [ None ↦ λ _. same_size w | Some after ↦ λ is. size_step w after e is ] refl
 
 pub size_run : (events : List Event) (w : World) → SameSizes w (run events w)
 size_run [] w = same_size w
 size_run (e ∷ es) w =
-    let here : SameSizes w (happens w e) = size_happens w e in
-    let rest : SameSizes (happens w e) (run es (happens w e)) = size_run es (happens w e) in
+    let here : SameSizes w (next_world w e) = size_next w e in
+    let rest : SameSizes (next_world w e) (run es (next_world w e)) = size_run es (next_world w e) in
     record { blocks = rest.blocks ∙ here.blocks; sessions = rest.sessions ∙ here.sessions }
 
-pub blocks_run : (sessions blocks : ℕ) (events : List Event) → length (run events (start_world sessions blocks)).status ≡ blocks
-blocks_run sessions blocks events = (size_run events (start_world sessions blocks)).blocks ∙ length-replicate blocks Free
+pub blocks_run : (w : World) (events : List Event) → length (run events w).status ≡ length w.status
+blocks_run w events = (size_run events w).blocks

@@ -1,31 +1,37 @@
 -- Each event keeps what is sound, and so does each run.
-use Rattle.std.proofs.Common.{◌≡◌, ℕ, zero, suc, ◌≤◌, Bool, true, false, List, [], ◌∷◌, get_or, replicate, refl, sym, ap, subst, ◌∙◌, arith}
-use Rattle.std.specs.Prelude.{slice_get, if◌then◌else◌}
+use Rattle.std.proofs.Common.{◌≡◌, ◌≢◌, ◌||◌, ◌<◌, inl, inr, eqb, length, ℕ, zero, suc, ◌≤◌, Bool, true, false, List, [], ◌∷◌, get_or, replicate, refl, sym, ap, subst, ◌∙◌, arith}
+use Rattle.std.specs.Prelude.{slice_get, if◌then◌else◌, All, AllPairs}
 use Rattle.std.specs.Option.{option_map, unwrap_or}
 use Rattle.std.specs.declared.option.Option.{Option}
 use Rattle.std.specs.declared.option.Option.TheVariants.{None, Some}
 use Rattle.std.proofs.lemmas.List.{length-replicate}
+use Rattle.std.proofs.lemmas.Option.{slice_get_past}
 use Rattle.graph_model.specs.declared.ids.Edge.{Edge}
 use Rattle.epoch_core.specs.declared.states.Status.{Status}
-use Rattle.epoch_core.specs.declared.states.Status.TheVariants.{Free}
-use Rattle.epoch_core.specs.declared.states.Place.TheVariants.{Away}
+use Rattle.epoch_core.specs.declared.states.Status.TheVariants.{Free, Used}
+use Rattle.epoch_core.specs.declared.states.SessionState.TheVariants.{Idle}
 use Rattle.epoch_core.specs.declared.events.Event.{Event}
 use Rattle.epoch_core.specs.declared.events.Event.TheVariants.{Take, Fill, Post, Floor, Recycle, Pin, Enter, Settle, Ask, Read, Reply, Release}
-use Rattle.epoch_core.specs.Worlds.{World, start_world, last_number}
-use Rattle.epoch_core.specs.Machine.{step, taken, recycled, changed_at, with_status, with_heap, can_post, posted, least_pin}
-use Rattle.epoch_core.specs.Runs.{happens, run}
-use Rattle.epoch_core.specs.Sound.{IsSound, IsNamed, IsPlaced, is_used}
-use Rattle.epoch_core.proofs.Lists.{option_map_some, ChangedAt, changed_at-some}
+use Rattle.epoch_core.specs.Blocks.{changed_at, is_at, is_listed, is_used, recycled, taken}
+use Rattle.epoch_core.specs.Worlds.{opening_graph, IsStart, World, blocks_at, edges_of, graph_at, last_blocks, last_graph, last_number, session_of, start, Shows, State}
+use Rattle.epoch_core.specs.Posting.{can_post, posted}
+use Rattle.epoch_core.specs.Machine.{least_pin, step, with_heap, with_status}
+use Rattle.epoch_core.specs.Runs.{next_world, run}
+use Rattle.epoch_core.specs.Sound.{IsDated, IsDatedAt, IsNamed, IsSessionSound, IsSound}
+use Rattle.epoch_core.proofs.Lists.{true_or_false, below_or_past, option_map_some, ChangedAt, changed_at-some}
 use Rattle.graph_model.proofs.Keys.{once_none}
 use Rattle.epoch_core.proofs.Keeping.{FreesNone, frees_taken, frees_recycled, sound_status, Fills, fills, sound_fill}
 use Rattle.epoch_core.proofs.Posted.{sound_posted}
 use Rattle.epoch_core.proofs.Moves.{sound_floor, with_floor, sound_move, keeps_pin, keeps_enter, keeps_settle, keeps_ask, keeps_read, keeps_reply, keeps_release}
 
-sound_changed : (w after : World) (b : ℕ) (change : Status → Option Status) → IsSound w → ((s t : Status) → change s ≡ Some t → FreesNone w.floor s t) → option_map (with_status w) (changed_at change w.status b) ≡ Some after → IsSound after
+sound_changed : (w after : World) (b : ℕ) (change : Status → Option Status) → IsSound w
+    → ((s t : Status) → change s ≡ Some t → FreesNone w.floor s t)
+    → option_map (with_status w) (changed_at change w.status b) ≡ Some after → IsSound after
 sound_changed w after b change sound frees is =
     let whole = option_map_some (with_status w) _ after is in
     let c : ChangedAt change w.status b whole.0 = changed_at-some change w.status b whole.0 whole.1 in
-    subst IsSound (sym (whole.2 ∙ ap (with_status w) c.result)) (sound_status w b c.before c.after sound c.found (frees c.before c.after c.changed))
+    subst IsSound (sym (whole.2 ∙ ap (with_status w) c.result))
+    (sound_status w b c.before c.after sound c.found (frees c.before c.after c.changed))
 
 sound_filled : (w after : World) (b : ℕ) (edges : List Edge) → IsSound w → step w (Fill b edges) ≡ Some after → IsSound after
 sound_filled w after b edges sound is =
@@ -40,8 +46,10 @@ sound_if false w after sound is = cc
 pub sound_step : (w after : World) (e : Event) → IsSound w → step w e ≡ Some after → IsSound after
 sound_step w after (Take b) sound is = sound_changed w after b taken sound (frees_taken w.floor) is
 sound_step w after (Fill b edges) sound is = sound_filled w after b edges sound is
-sound_step w after (Post batch blocks) sound is = sound_if (can_post w.heap w.status w.versions batch blocks) (posted w batch blocks) after (sound_posted w batch blocks sound) is
-sound_step w after Floor sound is = let e : with_floor w (least_pin (last_number w) w.places) ≡ after = cc in subst IsSound e (sound_floor w sound)
+sound_step w after (Post batch blocks) sound is = sound_if (can_post w.opening w.heap w.status w.versions batch blocks)
+    (posted w batch blocks) after (sound_posted w batch blocks sound) is
+sound_step w after Floor sound is = let e : with_floor w (least_pin (last_number w) w.sessions) ≡ after =
+    cc in subst IsSound e (sound_floor w sound)
 sound_step w after (Recycle b) sound is = sound_changed w after b (recycled w.floor) sound (frees_recycled w.floor) is
 sound_step w after (Pin s) sound is = sound_move w s _ after sound (keeps_pin w sound) is
 sound_step w after (Enter s) sound is = sound_move w s _ after sound (keeps_enter w sound) is
@@ -51,37 +59,104 @@ sound_step w after (Read s) sound is = sound_move w s _ after sound (keeps_read 
 sound_step w after (Reply s) sound is = sound_move w s _ after sound (keeps_reply w) is
 sound_step w after (Release s) sound is = sound_move w s _ after sound (keeps_release w) is
 
-pub sound_happens : (w : World) (e : Event) → IsSound w → IsSound (happens w e)
-sound_happens w e sound = elim (step w e) as (λ o. step w e ≡ o → IsSound (unwrap_or o w)) [ None ↦ λ _. sound | Some after ↦ λ is. sound_step w after e sound is ] refl
+pub sound_next : (w : World) (e : Event) → IsSound w → IsSound (next_world w e)
+sound_next w e sound = elim (step w e) as (λ o. step w e ≡ o
+    → IsSound (unwrap_or o w)) [ None ↦ λ _. sound | Some after ↦ λ is. sound_step w after e sound is ] refl
 
 pub sound_run : (events : List Event) (w : World) → IsSound w → IsSound (run events w)
 sound_run [] w sound = sound
-sound_run (e ∷ es) w sound = sound_run es (happens w e) (sound_happens w e sound)
+sound_run (e ∷ es) w sound = sound_run es (next_world w e) (sound_next w e sound)
 
-none_used : (n b : ℕ) → is_used (slice_get (replicate n Free) b) ≡ false
-none_used zero b = refl
-none_used (suc n) zero = refl
-none_used (suc n) (suc b) = none_used n b
+pub all_idle : (n s : ℕ) → get_or (replicate n Idle) s Idle ≡ Idle
+all_idle zero s = refl
+all_idle (suc n) zero = refl
+all_idle (suc n) (suc s) = all_idle n s
 
-pub all_away : (n s : ℕ) → get_or (replicate n Away) s Away ≡ Away
-all_away zero s = refl
-all_away (suc n) zero = refl
-all_away (suc n) (suc s) = all_away n s
+pub idle_at : (start : State) (s : ℕ) → IsStart start → session_of start.world s ≡ Idle
+idle_at start s is = ap (λ xs. get_or xs s Idle) is.idle ∙ all_idle (length start.world.sessions) s
 
-named_start : (sessions blocks n : ℕ) → n ≤ 0 → IsNamed (start_world sessions blocks) n
-named_start sessions blocks zero h = record { names = refl; kinds = refl }
-named_start sessions blocks (suc n) h = absurd (omega arith)
+-- a block's status at a start, by whether its number is listed
+abbrev at_first : Bool → Status
+at_first t = if t then Used 0 else Free
 
-pub sound_start : (sessions blocks : ℕ) → IsSound (start_world sessions blocks)
-sound_start sessions blocks = record {
-  floor_last = omega arith;
-  used = none_used blocks;
-  listed_once = refl;
+used_first : (t : Bool) → is_used (at_first t) ≡ t
+used_first true = refl
+used_first false = refl
+
+dated_first : (t : Bool) → IsDated 0 (at_first t)
+dated_first true = omega arith
+dated_first false = tt
+
+-- what is listed is within the bound of the list
+listed_within : (n b : ℕ) (bs : List ℕ) → All (λ c. c < n) bs → is_listed b bs ≡ true → b < n
+listed_within n b [] all is = cc
+listed_within n b (c ∷ cs) all is =
+    elim (eqb c b) as (λ t. eqb c b ≡ t → (t || is_listed b cs) ≡ true → b < n) [
+      | true ↦ λ e _. let same : c ≡ b = grind (arith, e) in subst (λ x. x < n) same (all 0 c (omega arith))
+      | false ↦ λ _ rest. listed_within n b cs (λ k d h. all (suc k) d (omega arith)) rest
+    ] refl is
+
+used_start : (start : State) (b : ℕ) → IsStart start → is_at is_used (slice_get start.world.status b)
+    ≡ is_listed b start.world.opening.blocks
+used_start start b is =
+    elim (below_or_past b (length start.world.status)) [
+      | inl low ↦ ap (is_at is_used) (is.status b low) ∙ used_first (is_listed b start.world.opening.blocks)
+      | inr past ↦
+          ap (is_at is_used) (slice_get_past start.world.status b past)
+          ∙ elim (true_or_false (is_listed b start.world.opening.blocks)) [
+            | inl listed ↦ let low : b < length start.world.status =
+                listed_within (length start.world.status) b start.world.opening.blocks is.within listed in absurd (omega arith)
+            | inr none ↦ sym none
+          ]
+    ]
+
+dated_start : (start : State) (b : ℕ) → IsStart start → IsDatedAt 0 (slice_get start.world.status b)
+dated_start start b is =
+    elim (below_or_past b (length start.world.status)) [
+      | inl low ↦ subst (IsDatedAt 0) (sym (is.status b low)) (dated_first (is_listed b start.world.opening.blocks))
+      | inr past ↦ subst (IsDatedAt 0) (sym (slice_get_past start.world.status b past)) tt
+    ]
+
+named_alone : (w : World) (n : ℕ) → n ≤ 0 → IsNamed w n
+named_alone w zero h = record { names = refl; kinds = refl }
+named_alone w (suc n) h = absurd (omega arith)
+
+pub sound_start : (start : State) → IsStart start → IsSound start.world
+sound_start start is =
+    let w : World = start.world in
+    let none : last_number w ≡ 0 = ap length is.alone in
+    let blocks : last_blocks w ≡ w.opening.blocks = ap (λ vs. blocks_at w.opening vs (length vs)) is.alone in
+    let graph : last_graph w ≡ opening_graph w.opening = ap (λ vs. graph_at w.opening vs (length vs)) is.alone in
+    record {
+      floor_last = omega (arith, is.floor);
+      used = λ b. used_start start b is ∙ ap (is_listed b) (sym blocks);
+      dated = λ b. subst (λ n. IsDatedAt n (slice_get w.status b)) (sym none) (dated_start start b is);
+      listed_once = subst (AllPairs ◌≢◌) (sym blocks) is.different;
+      shown = subst (λ bs. Shows (edges_of w.heap bs) (last_graph w)) (sym blocks)
+          (subst (Shows (edges_of w.heap w.opening.blocks)) (sym graph) is.shown);
+      named = λ n low. named_alone w n (subst (λ m. n ≤ m) none low);
+      sessions = λ s. subst (IsSessionSound w) (sym (idle_at start s is)) tt;
+      sizes = is.heap;
+    }
+
+pub always_sound : (start : State) (events : List Event) → IsStart start → IsSound (run events start.world)
+always_sound start events is = sound_run events start.world (sound_start start is)
+
+free_at : (n b : ℕ) → b < n → slice_get (replicate n Free) b ≡ Some Free
+free_at zero b h = absurd (omega arith)
+free_at (suc n) zero h = refl
+free_at (suc n) (suc b) h = free_at n b (omega arith)
+
+-- the start with the empty opening is a start
+pub start_is_start : (sessions blocks : ℕ) → IsStart (start sessions blocks)
+start_is_start sessions blocks = record {
+  alone = refl;
+  within = λ k d h. absurd (omega arith);
+  different = λ i j d h g. absurd (omega arith);
   shown = record { once = once_none; same = refl };
-  named = named_start sessions blocks;
-  placed = λ s. subst (IsPlaced (start_world sessions blocks)) (sym (all_away sessions s)) tt;
-  sizes = length-replicate blocks [] ∙ sym (length-replicate blocks Free);
+  status = λ b low. let h : b < blocks = omega (arith, low, length-replicate blocks Free) in free_at blocks b h;
+  heap = length-replicate blocks [] ∙ sym (length-replicate blocks Free);
+  floor = refl;
+  idle = ap (λ n. replicate n Idle) (sym (length-replicate sessions Idle));
+  replies = ap (λ n. replicate n []) (sym (length-replicate sessions Idle));
 }
-
-pub always_sound : (sessions blocks : ℕ) (events : List Event) → IsSound (run events (start_world sessions blocks))
-always_sound sessions blocks events = sound_run events (start_world sessions blocks) (sound_start sessions blocks)

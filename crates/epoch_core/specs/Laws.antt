@@ -1,10 +1,13 @@
--- Snapshot isolation: the two laws of the machine.
-use Rattle.std.specs.Prelude.{◌≡◌, ℕ, List}
+-- The laws of the machine: snapshot isolation, blocks and pins, and the rule of a Post.
+use Rattle.std.specs.Prelude.{◌≡◌, ◌↔◌, ℕ, List, length, IsTrue}
 use Rattle.std.specs.List.{AllZip}
+use Rattle.graph_model.specs.declared.batches.NamedOp.{NamedOp}
 use Rattle.epoch_core.specs.declared.events.Event.{Event}
-use Rattle.epoch_core.specs.Worlds.{World, State, start, start_world, replies_of}
+use Rattle.epoch_core.specs.declared.events.Event.TheVariants.{Post}
+use Rattle.epoch_core.specs.Worlds.{World, State, IsStart, replies_of}
+use Rattle.epoch_core.specs.Posting.{MayPost}
 use Rattle.epoch_core.specs.Machine.{Answers}
-use Rattle.epoch_core.specs.Runs.{run, Runs}
+use Rattle.epoch_core.specs.Runs.{run, Runs, is_done}
 use Rattle.epoch_core.specs.Holdings.{holdings, Agree, questions}
 use Rattle.epoch_core.specs.Epochs.{FillsNoHeldBlock, PinsInOrder, IsPartition}
 
@@ -12,23 +15,23 @@ use Rattle.epoch_core.specs.Epochs.{FillsNoHeldBlock, PinsInOrder, IsPartition}
 -- over what the batches up to the held version leave
 abbrev pub RepliesAreAnswers : Type 0
 RepliesAreAnswers =
-    (sessions blocks s : ℕ) (events : List Event) (end : State)
-    → Runs (start sessions blocks) events end
-    → AllZip Answers (questions (holdings s (start_world sessions blocks) events)) (replies_of end s)
+    (start end : State) (events : List Event) (s : ℕ)
+    → IsStart start → Runs start events end
+    → AllZip Answers (questions (holdings s start.world events)) (replies_of end s)
 
--- in two worlds: where two lists of events, on machines of any two sizes, agree for a session, it has the same
--- list of replies in both
+-- in two worlds: where two lists of events, from any two starts, agree for a session, it has the same list of
+-- replies in both
 abbrev pub AgreeingRunsReplyAlike : Type 0
 AgreeingRunsReplyAlike =
-    (s : ℕ) (sessions blocks : ℕ) (events : List Event) (end : State) (other_sessions other_blocks : ℕ) (other_events : List Event) (other_end : State)
-    → Runs (start sessions blocks) events end
-    → Runs (start other_sessions other_blocks) other_events other_end
-    → Agree (holdings s (start_world sessions blocks) events) (holdings s (start_world other_sessions other_blocks) other_events)
+    (s : ℕ) (start end : State) (events : List Event) (other_start other_end : State) (other_events : List Event)
+    → IsStart start → Runs start events end
+    → IsStart other_start → Runs other_start other_events other_end
+    → Agree (holdings s start.world events) (holdings s other_start.world other_events)
     → replies_of end s ≡ replies_of other_end s
 
--- at every moment
+-- at every moment of every list of events from a start
 abbrev pub Always : (ℕ → World → Type 0) → Type 0
-Always P = (sessions blocks : ℕ) (events : List Event) → P blocks (run events (start_world sessions blocks))
+Always P = (start : State) (events : List Event) → IsStart start → P (length start.world.status) (run events start.world)
 
 abbrev pub AlwaysFillsNoHeldBlock : Type 0
 AlwaysFillsNoHeldBlock = Always (λ blocks w. FillsNoHeldBlock w)
@@ -38,3 +41,8 @@ PinsAlwaysInOrder = Always (λ blocks w. PinsInOrder w)
 
 abbrev pub BlocksAlwaysPartitioned : Type 0
 BlocksAlwaysPartitioned = Always IsPartition
+
+-- in every world a Post is done exactly where its rule holds
+abbrev pub PostsByItsRule : Type 0
+PostsByItsRule = (w : World) (batch : List NamedOp) (blocks : List ℕ) → IsTrue (is_done w (Post batch blocks))
+    ↔ MayPost w batch blocks

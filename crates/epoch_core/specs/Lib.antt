@@ -1,8 +1,11 @@
+pub mod Blocks
 pub mod Worlds
+pub mod Posting
 pub mod Machine
 pub mod Runs
 pub mod Holdings
 pub mod Epochs
 pub mod Laws
 pub mod Sound
-pub mod Calls
+pub mod Cores
+pub mod Examples

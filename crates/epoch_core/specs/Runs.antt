@@ -14,17 +14,22 @@ abbrev pub is_done : World → Event → Bool
 is_done w e = is_some (step w e)
 
 -- the world after an event, done or skipped
-abbrev pub happens : World → Event → World
-happens w e = unwrap_or (step w e) w
+abbrev pub next_world : World → Event → World
+next_world w e = unwrap_or (step w e) w
 
 abbrev pub run : List Event → World → World
 run [] w = w
-run (e ∷ es) w = run es (happens w e)
+run (e ∷ es) w = run es (next_world w e)
 
 -- how many of the events are done
 abbrev pub done_in : List Event → World → ℕ
 done_in [] w = 0
-done_in (e ∷ es) w = (if is_done w e then 1 else 0) + done_in es (happens w e)
+done_in (e ∷ es) w = (if is_done w e then 1 else 0) + done_in es (next_world w e)
+
+-- how many events a step has done
+abbrev pub count_of : Step → ℕ
+count_of Done = 1
+count_of Skipped = 0
 
 -- a change that is done, or skipped with nothing changed
 abbrev pub Stepped : {A : Type 0} → Option A → Step → A → A → Type 0
@@ -39,7 +44,8 @@ pub record Steps (old : State) (e : Event) (outcome : Step) (new : State) : Type
 -- the replies after events that begin in this world
 abbrev pub AllReplies : World → List Event → List (List Answer) → List (List Answer) → Type 0
 AllReplies w [] old new = new ≡ old
-AllReplies w (e ∷ es) old new = (between : List (List Answer)) × Replies w e old between × AllReplies (happens w e) es between new
+AllReplies w (e ∷ es) old new = (between : List (List Answer)) × Replies w e old between
+    × AllReplies (next_world w e) es between new
 
 -- a run of the machine through all these events
 pub record Runs (old : State) (events : List Event) (new : State) : Type 0 where

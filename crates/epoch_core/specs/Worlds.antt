@@ -1,28 +1,34 @@
 -- What the machine of interleavings knows at a moment: blocks of edges, versions, the floor, and where each
 -- session stands. It is STINGER's store of edge blocks (Ediger, McColl, Riedy, Bader; IEEE HPEC 2012) under
 -- sessions that hold a version while batches go on, as Aspen's readers do (Dhulipala, Blelloch, Shun; PLDI 2019).
-use Rattle.std.specs.Prelude.{ℕ, zero, suc, List, [], map, length, replicate, take, slice_index_or}
+use Rattle.std.specs.Prelude.{◌≡◌, ◌≢◌, ℕ, zero, suc, ◌<◌, ◌≤◌, List, [], map, length, replicate, take, slice_get, slice_index_or, if◌then◌else◌, All, AllPairs}
 use Rattle.std.specs.List.{flat_map}
+use Rattle.std.specs.Option.{unwrap_or}
+use Rattle.std.specs.declared.option.Option.{Option}
+use Rattle.std.specs.declared.option.Option.TheVariants.{None, Some}
 use Rattle.std.specs.declared.result.Result.{Result}
-use Rattle.graph_model.specs.Graph.{Graph, map_of}
-use Rattle.graph_model.specs.Step.{left_by, empty_graph}
+use Rattle.graph_model.specs.Graph.{Graph, key_of, map_of, graph_of, content_of, IsContent}
+use Rattle.graph_model.specs.Step.{left_by}
 use Rattle.graph_model.specs.declared.ids.Edge.{Edge}
+use Rattle.graph_model.specs.declared.contents.Content.{Content}
 use Rattle.graph_model.specs.declared.batches.NamedOp.{NamedOp}
 use Rattle.graph_model.specs.declared.requests.Reply.{Reply}
 use Rattle.graph_model.specs.declared.requests.AskError.{AskError}
 use Rattle.epoch_core.specs.declared.states.Status.{Status}
-use Rattle.epoch_core.specs.declared.states.Status.TheVariants.{Free}
+use Rattle.epoch_core.specs.declared.states.Status.TheVariants.{Free, Used}
 use Rattle.epoch_core.specs.declared.states.Version.{Version}
-use Rattle.epoch_core.specs.declared.states.Place.{Place}
-use Rattle.epoch_core.specs.declared.states.Place.TheVariants.{Away, Pinned, Holding, Asking}
-use Rattle.std.specs.declared.option.Option.{Option}
-use Rattle.std.specs.declared.option.Option.TheVariants.{None, Some}
+use Rattle.epoch_core.specs.declared.states.Opening.{Opening}
+use Rattle.epoch_core.specs.declared.states.SessionState.{SessionState}
+use Rattle.epoch_core.specs.declared.states.SessionState.TheVariants.{Idle, Pinned, Holding, Asking}
+use Rattle.epoch_core.specs.Blocks.{is_listed}
 
 -- a reply, or the refusal that stands in its place
 abbrev pub Answer : Type 0
 Answer = Result Reply AskError
 
 pub record World : Type 0 where
+  -- what stands before the first batch: a content, and the blocks that have its edges
+  pub opening : Opening
   -- for each block number the edges in the block
   pub heap : List (List Edge)
   -- for each block number what the block is
@@ -31,57 +37,60 @@ pub record World : Type 0 where
   pub versions : List Version
   pub floor : ℕ
   -- for each session number where the session stands
-  pub places : List Place
+  pub sessions : List SessionState
 
 -- the whole state: the world, and for each session number the replies to the session
 pub record State : Type 0 where
   pub world : World
   pub replies : List (List Answer)
 
--- at the start all blocks are free and without edges, there is version 0 alone, and no session has a pin
-abbrev pub start_world : ℕ → ℕ → World
-start_world sessions blocks = record {
-  heap = replicate blocks [];
-  status = replicate blocks Free;
-  versions = [];
-  floor = 0;
-  places = replicate sessions Away;
-}
+-- Versions
 
-abbrev pub start : ℕ → ℕ → State
-start sessions blocks = record { world = start_world sessions blocks; replies = replicate sessions [] }
+abbrev pub opening_graph : Opening → Graph
+opening_graph opening = graph_of opening.content
 
--- what batches leave, one after another, of the graph without names, kinds and edges
-abbrev pub left : List (List NamedOp) → Graph
-left batches = left_by batches empty_graph
+-- what batches leave, one after another, of the opening graph
+abbrev pub left : Opening → List (List NamedOp) → Graph
+left opening batches = left_by batches (opening_graph opening)
 
 -- the batches up to version n, and the graph that they leave
 abbrev pub batches_at : List Version → ℕ → List (List NamedOp)
 batches_at versions n = map (λ v. v.batch) (take n versions)
 
-abbrev pub graph_at : List Version → ℕ → Graph
-graph_at versions n = left (batches_at versions n)
+abbrev pub graph_at : Opening → List Version → ℕ → Graph
+graph_at opening versions n = left opening (batches_at versions n)
 
--- version 0 has no blocks, no names and no kinds
-abbrev pub version_zero : Version
-version_zero = record { batch = []; blocks = []; names = []; kinds = [] }
+-- version 0 has the opening's blocks, names and kinds
+abbrev pub version_zero : Opening → Version
+version_zero opening = record {
+  batch = [];
+  blocks = opening.blocks;
+  names = opening.content.names;
+  kinds = opening.content.kinds;
+}
 
-abbrev pub version_at : List Version → ℕ → Version
-version_at versions zero = version_zero
-version_at versions (suc n) = slice_index_or versions n version_zero
+-- the version after version 0 that has this number, if there is one
+abbrev pub posted_at : List Version → ℕ → Option Version
+posted_at versions zero = None
+posted_at versions (suc n) = slice_get versions n
 
-abbrev pub blocks_at : List Version → ℕ → List ℕ
-blocks_at versions n = (version_at versions n).blocks
+abbrev pub version_at : Opening → List Version → ℕ → Version
+version_at opening versions n = unwrap_or (posted_at versions n) (version_zero opening)
+
+abbrev pub blocks_at : Opening → List Version → ℕ → List ℕ
+blocks_at opening versions n = (version_at opening versions n).blocks
 
 -- the number of the last version, which is the number of batches
 abbrev pub last_number : World → ℕ
 last_number w = length w.versions
 
 abbrev pub last_blocks : World → List ℕ
-last_blocks w = blocks_at w.versions (last_number w)
+last_blocks w = blocks_at w.opening w.versions (last_number w)
 
 abbrev pub last_graph : World → Graph
-last_graph w = graph_at w.versions (last_number w)
+last_graph w = graph_at w.opening w.versions (last_number w)
+
+-- Edges
 
 -- the edges in a block, and in several blocks taken together
 abbrev pub edges_at : List (List Edge) → ℕ → List Edge
@@ -94,21 +103,74 @@ edges_of heap blocks = flat_map (edges_at heap) blocks
 abbrev pub graph_with : Version → List Edge → Graph
 graph_with version edges = record { names = version.names; kinds = version.kinds; edges = map_of edges }
 
+-- the edges are each once the edges of the graph
+pub record Shows (edges : List Edge) (g : Graph) : Type 0 where
+  pub once : AllPairs (λ a b. key_of a ≢ key_of b) edges
+  pub same : map_of edges ≡ g.edges
+
+-- the graph is that of some content
+abbrev pub IsContentGraph : Graph → Type 0
+IsContentGraph g = (content : Content) × IsContent content × (graph_of content ≡ g)
+
+-- what the batches up to each version leave is the graph of a content
+abbrev pub HasContents : Opening → List Version → Type 0
+HasContents opening versions = (n : ℕ) → n ≤ length versions → IsContentGraph (graph_at opening versions n)
+
+-- the content of a version's names and kinds and of these edges
+abbrev pub content_with : Version → List Edge → Content
+content_with version edges = content_of version.names version.kinds edges
+
+-- Sessions
+
 -- what is seen of a session: its pin, and the number of the version that it holds
-abbrev pub pin_in : Place → Option ℕ
-pin_in Away = None
+abbrev pub pin_in : SessionState → Option ℕ
+pin_in Idle = None
 pin_in (Pinned pin) = Some pin
 pin_in (Holding hold) = Some hold.pin
 pin_in (Asking hold inquiry) = Some hold.pin
 
-abbrev pub held_in : Place → Option ℕ
-held_in Away = None
+abbrev pub held_in : SessionState → Option ℕ
+held_in Idle = None
 held_in (Pinned pin) = None
 held_in (Holding hold) = Some hold.version
 held_in (Asking hold inquiry) = Some hold.version
 
-abbrev pub place_of : World → ℕ → Place
-place_of w s = slice_index_or w.places s Away
+abbrev pub session_of : World → ℕ → SessionState
+session_of w s = slice_index_or w.sessions s Idle
 
 abbrev pub replies_of : State → ℕ → List Answer
 replies_of state s = slice_index_or state.replies s []
+
+-- Starts
+
+-- a state from which a run may start: there is version 0 alone, whose blocks are there, each once, and have the
+-- edges of the opening graph; all other blocks are free; the floor is 0, no session has a pin, and none a reply
+pub record IsStart (state : State) : Type 0 where
+  pub alone : state.world.versions ≡ []
+  pub within : All (λ b. b < length state.world.status) state.world.opening.blocks
+  pub different : AllPairs ◌≢◌ state.world.opening.blocks
+  pub shown : Shows (edges_of state.world.heap state.world.opening.blocks) (opening_graph state.world.opening)
+  pub status : (b : ℕ) → b < length state.world.status → slice_get state.world.status b
+      ≡ Some (if is_listed b state.world.opening.blocks then Used 0 else Free)
+  pub heap : length state.world.heap ≡ length state.world.status
+  pub floor : state.world.floor ≡ 0
+  pub idle : state.world.sessions ≡ replicate (length state.world.sessions) Idle
+  pub replies : state.replies ≡ replicate (length state.world.sessions) []
+
+-- the opening without names, kinds, edges and blocks
+abbrev pub empty_opening : Opening
+empty_opening = record { content = content_of [] [] []; blocks = [] }
+
+-- the start with the empty opening: all blocks are free and without edges
+abbrev pub start_world : ℕ → ℕ → World
+start_world sessions blocks = record {
+  opening = empty_opening;
+  heap = replicate blocks [];
+  status = replicate blocks Free;
+  versions = [];
+  floor = 0;
+  sessions = replicate sessions Idle;
+}
+
+abbrev pub start : ℕ → ℕ → State
+start sessions blocks = record { world = start_world sessions blocks; replies = replicate sessions [] }

@@ -2,7 +2,8 @@
 
 ghost use Rattle.std.specs.Prelude.{◌≡◌, ◌+◌, IfOk, OnErr, map, length, slice_get};
 ghost use Rattle.std.specs.List.{enumerate_from};
-ghost use Rattle.epoch_core.specs.Machine as machine;
+ghost use Rattle.epoch_core.specs.Blocks as specs;
+ghost use Rattle.epoch_core.specs.Posting as posting;
 ghost use Rattle.epoch_core.specs.Runs.{Stepped};
 
 use crate::Step;
@@ -12,7 +13,7 @@ use std::alloc::{AllocError, Global};
 
 /// Makes a free block fresh. It takes no memory.
 pub(crate) fn take_block(status: &mut Vec<Status>, block: usize) -> Step
-    ensures { Stepped (machine.changed_at machine.taken status.old.items block) result status.old.items status.new.items }
+    ensures { Stepped (specs.changed_at specs.taken status.old.items block) result status.old.items status.new.items }
 {
     let before = status.get(block).copied();
     match before {
@@ -26,7 +27,7 @@ pub(crate) fn take_block(status: &mut Vec<Status>, block: usize) -> Step
 
 /// Frees a block that was retired with a number at most the floor. It takes no memory.
 pub(crate) fn recycle_block(status: &mut Vec<Status>, floor: u64, block: usize) -> Step
-    ensures { Stepped (machine.changed_at (machine.recycled floor) status.old.items block) result status.old.items status.new.items }
+    ensures { Stepped (specs.changed_at (specs.recycled floor) status.old.items block) result status.old.items status.new.items }
 {
     let before = status.get(block).copied();
     match before {
@@ -38,7 +39,7 @@ pub(crate) fn recycle_block(status: &mut Vec<Status>, floor: u64, block: usize) 
     }
 }
 
-/// Puts edges into a fresh block in place of those that it has.
+/// Puts edges into a fresh block in state of those that it has.
 pub(crate) fn fill_block(
     alloc: Global,
     status: &[Status],
@@ -47,7 +48,8 @@ pub(crate) fn fill_block(
     edges: &[Edge],
 ) -> Result<Step, AllocError>
     requires { length heap.old.items ≡ length status.now }
-    ensures filled { IfOk result (λ step. Stepped (machine.filled status.now heap.old.items block edges.now) step heap.old.items heap.new.items) }
+    ensures filled { IfOk result
+        (λ step. Stepped (specs.filled status.now heap.old.items block edges.now) step heap.old.items heap.new.items) }
     ensures unchanged { OnErr result (heap.new.items ≡ heap.old.items) }
 {
     let before = status.get(block).copied();
@@ -63,7 +65,7 @@ pub(crate) fn fill_block(
 
 /// What a block is once version `number` is posted, which lists it or not.
 fn after_post(number: u64, is_in: bool, status: Status) -> Status
-    ensures { result ≡ machine.after_post number is_in status }
+    ensures { result ≡ specs.after_post number is_in status }
 {
     match status {
         Status::Fresh if is_in => Status::Used { birth: number },
@@ -82,7 +84,7 @@ pub(crate) fn status_after(
     blocks: &[usize],
     status: &[Status],
 ) -> Result<Vec<Status>, AllocError>
-    ensures { IfOk result (λ v. v.items ≡ machine.status_after number blocks.now status.now) }
+    ensures { IfOk result (λ v. v.items ≡ specs.status_after number blocks.now status.now) }
 {
     status
         .iter()
@@ -91,24 +93,31 @@ pub(crate) fn status_after(
         .collect(alloc)
 }
 
-/// Whether a version may list the block: it is fresh, or of the last version.
-fn is_postable(status: &[Status], block: usize) -> bool
-    ensures { result ≡ machine.is_postable (slice_get status.now block) }
+/// Whether the block is fresh.
+fn is_fresh(status: &[Status], block: usize) -> bool
+    ensures { result ≡ specs.is_at specs.is_fresh (slice_get status.now block) }
 {
     let status = status.get(block).copied();
-    matches!(status, Some(Status::Fresh | Status::Used { .. }))
+    matches!(status, Some(Status::Fresh))
 }
 
-/// Whether a version may list all these blocks. It takes no memory.
-pub(crate) fn all_postable(status: &[Status], blocks: &[usize]) -> bool
-    ensures { result ≡ machine.all_postable status.now blocks.now }
+/// Whether a new version may list the block: it is fresh, or one of the last version's blocks.
+fn is_listable(status: &[Status], last: &[usize], block: usize) -> bool
+    ensures { result ≡ posting.is_listable status.now last.now block }
 {
-    blocks.iter().all(|block| is_postable(status, *block))
+    is_fresh(status, block) || last.contains(&block)
+}
+
+/// Whether a new version may list all these blocks. It takes no memory.
+pub(crate) fn all_listable(status: &[Status], last: &[usize], blocks: &[usize]) -> bool
+    ensures { result ≡ posting.all_listable status.now last.now blocks.now }
+{
+    blocks.iter().all(|block| is_listable(status, last, *block))
 }
 
 /// Whether no block is listed twice. It takes no memory.
 pub(crate) fn all_differ(blocks: &[usize]) -> bool
-    ensures { result ≡ machine.all_differ blocks.now }
+    ensures { result ≡ specs.all_differ blocks.now }
 {
     let mut rest = blocks;
     while let [block, others @ ..] = rest {

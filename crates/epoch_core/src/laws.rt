@@ -1,15 +1,16 @@
-//! The two laws of the machine, as contracts of functions that do nothing.
+//! The laws of the machine, as contracts of functions that do nothing.
 
-ghost use Rattle.epoch_core.specs.Laws.{RepliesAreAnswers, AgreeingRunsReplyAlike, AlwaysFillsNoHeldBlock, PinsAlwaysInOrder, BlocksAlwaysPartitioned};
+ghost use Rattle.epoch_core.specs.Laws.{RepliesAreAnswers, AgreeingRunsReplyAlike, AlwaysFillsNoHeldBlock, PinsAlwaysInOrder, BlocksAlwaysPartitioned, PostsByItsRule};
+ghost use Rattle.epoch_core.specs.Examples.{AreExamples};
 
-/// Snapshot isolation, for machines of every size and all lists of events from the start.
+/// Snapshot isolation, for machines of every size, every opening graph and all lists of events from a start.
 ///
 /// - `answers`, in one world: the replies to a session are, one by one, the answers to the requests of its
 ///   holdings, each over what the batches up to the held version leave, refusals by name included.
-/// - `two_worlds`: where two lists of events, on machines of any two sizes, agree for a session, it has the same
-///   list of replies in both. They agree where the session has as many holdings in both, and those in the same
-///   place hold versions of equal content and have equal lists of requests that were replied to; they may differ
-///   in all else: the numbers of versions, the blocks, the batches, and what other sessions do.
+/// - `two_worlds`: where two lists of events, from any two starts, agree for a session, it has the same list of
+///   replies in both. They agree where the session has as many holdings in both, and the k-th ones hold versions
+///   of equal content and have equal lists of requests that were replied to; they may differ in all else: the
+///   numbers of versions, the blocks, the batches, the opening, and what other sessions do.
 ///
 /// It says nothing of time, of progress, or of when a version becomes visible.
 pub fn law_isolation()
@@ -17,7 +18,7 @@ pub fn law_isolation()
     ensures two_worlds { AgreeingRunsReplyAlike }
 {}
 
-/// Blocks and pins, at every moment of every list of events from the start, for machines of every size.
+/// Blocks and pins, at every moment of every list of events from a start, for machines of every size.
 ///
 /// - `fills`: no Fill that is done names a block in the list of a version that some session holds.
 /// - `pins`: the floor is at most each pin and at most the last number, and a holder's pin is at most the number
@@ -28,4 +29,17 @@ pub fn law_epoch()
     ensures fills { AlwaysFillsNoHeldBlock }
     ensures pins { PinsAlwaysInOrder }
     ensures partition { BlocksAlwaysPartitioned }
+{}
+
+/// The rule of a Post: in every world it is done exactly where there are fewer than 65,536 batches, each block is
+/// fresh or of the last version, none is listed twice, the batch meets no limit on names or kinds, and the edges in
+/// the blocks, taken together, are each once the edges that the batch leaves of the last version.
+pub fn law_post()
+    ensures { PostsByItsRule }
+{}
+
+/// Small runs, written out by the rules of the events: what a session holds and is answered in them, two machines of
+/// different sizes and batches that agree for a session, runs that don't, and what a Post makes of blocks.
+pub fn law_examples()
+    ensures { AreExamples }
 {}

@@ -3,7 +3,8 @@
 //! Its events are single atomic steps of a writer, a collector and the sessions; `specs/Machine.antt` says what
 //! each asks and does, `specs/Runs.antt` what a list of them does, and `specs/Holdings.antt` what befalls a
 //! session in it. [`Core`] takes exactly these steps. [`law_isolation`] and [`law_epoch`] are the two laws about
-//! them: snapshot isolation, and that no block is filled again while a session may read it.
+//! them: snapshot isolation, and that no block is filled again while a session may read it; [`law_post`] is the
+//! rule of a Post.
 //! The store that it models is STINGER's (Ediger, McColl, Riedy, Bader; IEEE HPEC 2012) with held snapshots as
 //! Aspen has them (Dhulipala, Blelloch, Shun; PLDI 2019).
 #![tactic(auto)]
@@ -20,12 +21,9 @@ mod states;
 mod versions;
 
 pub use events::{Event, Step};
-pub use laws::{law_epoch, law_isolation};
+pub use laws::{law_epoch, law_examples, law_isolation, law_post};
 pub use machine::{Core, run};
 use std::alloc::AllocError;
 
 /// Want of memory.
 pub type OutOfMemory = AllocError;
-
-#[cfg(test)]
-mod tests;

@@ -1,52 +1,60 @@
 //! Replies.
 
-ghost use Rattle.std.specs.Prelude.{◌≡◌, ◌<◌, ◌++◌, ◌∷◌, [], IfOk, OnOk, OnErr, MatchOption, length, slice_get, slice_set, slice_index_or};
+ghost use Rattle.std.specs.Prelude.{◌≡◌, ◌<◌, ◌++◌, ◌∷◌, [], IfOk, OnOk, OnErr, MatchOption, MatchResult, Err, ◌≢◌, length, slice_get, slice_set, slice_index_or};
 ghost use Rattle.std.specs.Option.{option_and_then};
+ghost use Rattle.epoch_core.specs.Blocks.{changed_at};
 ghost use Rattle.epoch_core.specs.Machine as machine;
 ghost use Rattle.epoch_core.specs.Runs.{Stepped};
-ghost use Rattle.epoch_core.specs.Calls as calls;
-ghost use Rattle.epoch_core.specs.declared.states.Place.TheVariants.{Away};
+ghost use Rattle.epoch_core.specs.declared.states.SessionState.TheVariants.{Idle};
 
 use crate::Step;
-use crate::states::{Hold, Inquiry, Place, Version};
-use crate::versions::{blocks_at, content_with, version_at};
-use graph_model::{AskError, List, Reply, plain_reply};
+use crate::states::{Answer, Hold, Inquiry, Opening, SessionState, Version};
+use crate::versions::{blocks_at, content_with};
+use graph_model::{AskError, List, Reply};
+use plain_graph::plain_reply;
 use std::alloc::{AllocError, Global};
 use std::mem;
 
-/// A reply, or the refusal that stands in its place.
-pub(crate) type Answer = Result<Reply, AskError>;
-
 /// Whether all blocks of the held version are read.
-fn is_all_read(versions: &[Version], hold: &Hold, inquiry: &Inquiry) -> bool
-    ensures { result ≡ machine.is_all_read versions.now hold.now inquiry.now }
+fn is_all_read(opening: &Opening, versions: &[Version], hold: &Hold, inquiry: &Inquiry) -> bool
+    ensures { result ≡ machine.is_all_read opening.now versions.now hold.now inquiry.now }
 {
-    inquiry.next >= blocks_at(versions, hold.version).len()
+    inquiry.next >= blocks_at(opening, versions, hold.version).len()
 }
 
-/// The answer to what the session in this place has asked and read; `None` where it has not asked, or has not
+/// The answer that a reply or a refusal is; want of memory is none.
+fn answer_of(reply: Result<Reply, AskError>) -> Result<Answer, AllocError>
+    ensures { MatchResult result (λ answer. (answer ≡ reply) × (reply ≢ Err AskError.OutOfMemory))
+        (λ _. reply ≡ Err AskError.OutOfMemory) }
+{
+    match reply {
+        Ok(shown) => Ok(Ok(shown)),
+        Err(AskError::OutOfMemory) => Err(AllocError),
+        Err(refusal) => Ok(Err(refusal)),
+    }
+}
+
+/// The answer to what the session in this state has asked and read; `None` where it has not asked, or has not
 /// read all blocks of its version.
 fn answer_at(
     alloc: Global,
+    opening: &Opening,
     versions: &[Version],
-    place: &Place,
+    state: &SessionState,
 ) -> Result<Option<Answer>, AllocError>
-    requires { calls.ReadsContent versions.now place.now }
-    ensures { IfOk result (λ answer. calls.IsAnswerAt versions.now place.now answer) }
+    requires { machine.ReadsContent opening.now versions.now state.now }
+    ensures { IfOk result (λ answer. machine.IsAnswerTo (machine.question_in opening.now versions.now state.now) answer) }
 {
-    let Place::Asking(hold, inquiry) = place else {
+    let SessionState::Asking(hold, inquiry) = state else {
         return Ok(None);
     };
-    if !is_all_read(versions, hold, inquiry) {
+    if !is_all_read(opening, versions, hold, inquiry) {
         return Ok(None);
     }
     let read = Vec::from_slice(alloc, inquiry.read.as_slice())?;
-    let content = content_with(alloc, version_at(versions, hold.version), read)?;
-    match plain_reply(alloc, &content, &inquiry.request) {
-        Ok(reply) => Ok(Some(Ok(reply))),
-        Err(AskError::OutOfMemory) => Err(AllocError),
-        Err(refusal) => Ok(Some(Err(refusal))),
-    }
+    let content = content_with(alloc, opening, versions, hold.version, read)?;
+    let answer = answer_of(plain_reply(alloc, &content, &inquiry.request))?;
+    Ok(Some(answer))
 }
 
 /// The replies to a session, none for a number that is out of range. It takes no memory.
@@ -86,7 +94,8 @@ fn push_answer(
     answer: Answer,
 ) -> Result<(), AllocError>
     requires { session < length replies.old.items }
-    ensures added { OnOk result (replies.new.items ≡ slice_set replies.old.items session (slice_index_or replies.old.items session [] ++ answer ∷ [])) }
+    ensures added { OnOk result (replies.new.items ≡ slice_set replies.old.items session
+        (slice_index_or replies.old.items session [] ++ answer ∷ [])) }
     ensures unchanged { OnErr result (replies.new.items ≡ replies.old.items) }
 {
     push_to(alloc, &mut replies[session], answer)?;
@@ -94,19 +103,25 @@ fn push_answer(
 }
 
 /// A session that has read all blocks of its version has no request from now on. It takes no memory.
-fn conclude(versions: &[Version], places: &mut Vec<Place>, session: usize) -> Step
-    ensures { Stepped (machine.changed_at (machine.to_reply versions.now) places.old.items session) result places.old.items places.new.items }
+fn conclude(
+    opening: &Opening,
+    versions: &[Version],
+    sessions: &mut Vec<SessionState>,
+    session: usize,
+) -> Step
+    ensures { Stepped (changed_at
+        (machine.to_reply opening.now versions.now) sessions.old.items session) result sessions.old.items sessions.new.items }
 {
-    if session >= places.len() {
+    if session >= sessions.len() {
         return Step::Skipped;
     }
-    match &places[session] {
-        Place::Asking(hold, inquiry) => {
-            if !is_all_read(versions, hold, inquiry) {
+    match &sessions[session] {
+        SessionState::Asking(hold, inquiry) => {
+            if !is_all_read(opening, versions, hold, inquiry) {
                 return Step::Skipped;
             }
             let hold = *hold;
-            places[session] = Place::Holding(hold);
+            sessions[session] = SessionState::Holding(hold);
             Step::Done
         }
         _ => Step::Skipped,
@@ -116,23 +131,27 @@ fn conclude(versions: &[Version], places: &mut Vec<Place>, session: usize) -> St
 /// A session that has read all blocks of its version is answered.
 pub(crate) fn reply(
     alloc: Global,
+    opening: &Opening,
     versions: &[Version],
-    places: &mut Vec<Place>,
+    sessions: &mut Vec<SessionState>,
     replies: &mut Vec<List<Answer>>,
     session: usize,
 ) -> Result<Step, AllocError>
-    requires sizes { length replies.old.items ≡ length places.old.items }
-    requires content { calls.ReadsContent versions.now (slice_index_or places.old.items session Away) }
-    ensures moved { IfOk result (λ step. Stepped (machine.changed_at (machine.to_reply versions.now) places.old.items session) step places.old.items places.new.items) }
-    ensures answered { OnOk result (MatchOption (option_and_then (machine.question_in versions.now) (slice_get places.old.items session)) (replies.new.items ≡ replies.old.items) (λ q. machine.IsAnswered session q replies.old.items replies.new.items)) }
-    ensures place_stays { OnErr result (places.new.items ≡ places.old.items) }
+    requires sizes { length replies.old.items ≡ length sessions.old.items }
+    requires content { machine.ReadsContent opening.now versions.now (slice_index_or sessions.old.items session Idle) }
+    ensures moved { IfOk result (λ step. Stepped (changed_at
+        (machine.to_reply opening.now versions.now) sessions.old.items session) step sessions.old.items sessions.new.items) }
+    ensures answered { OnOk result (MatchOption (option_and_then (machine.question_in opening.now versions.now)
+        (slice_get sessions.old.items session)) (replies.new.items ≡ replies.old.items)
+        (λ q. machine.IsAnswered session q replies.old.items replies.new.items)) }
+    ensures session_stays { OnErr result (sessions.new.items ≡ sessions.old.items) }
     ensures replies_stay { OnErr result (replies.new.items ≡ replies.old.items) }
 {
-    if session >= places.len() {
+    if session >= sessions.len() {
         return Ok(Step::Skipped);
     }
-    if let Some(answer) = answer_at(alloc, versions, &places[session])? {
+    if let Some(answer) = answer_at(alloc, opening, versions, &sessions[session])? {
         push_answer(alloc, replies, session, answer)?;
     }
-    Ok(conclude(versions, places, session))
+    Ok(conclude(opening, versions, sessions, session))
 }

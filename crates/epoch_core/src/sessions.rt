@@ -1,57 +1,58 @@
 //! The moves of sessions. A move that can't be made leaves the session as it is.
 
 ghost use Rattle.std.specs.Prelude.{◌≡◌, ◌<◌, IfOk, OnErr, length, slice_index_or};
+ghost use Rattle.epoch_core.specs.Blocks.{changed_at};
 ghost use Rattle.epoch_core.specs.Machine as machine;
 ghost use Rattle.epoch_core.specs.Worlds as worlds;
 ghost use Rattle.epoch_core.specs.Runs.{Stepped};
-ghost use Rattle.epoch_core.specs.declared.states.Place.TheVariants.{Away};
+ghost use Rattle.epoch_core.specs.declared.states.SessionState.TheVariants.{Idle};
 
 use crate::Step;
 use crate::contents::{edges_at, joined};
-use crate::states::{Hold, Inquiry, Place, Version};
+use crate::states::{Hold, Inquiry, Opening, SessionState, Version};
 use crate::versions::blocks_at;
 use graph_model::{Edge, List, Request};
 use std::alloc::{AllocError, Global};
 
 /// Where a session stands. It takes no memory.
-pub(crate) fn place_at(places: &[Place], session: usize) -> &Place
-    requires { session < length places.now }
-    ensures { result.now ≡ slice_index_or places.now session Away }
+pub(crate) fn state_at(sessions: &[SessionState], session: usize) -> &SessionState
+    requires { session < length sessions.now }
+    ensures { result.now ≡ slice_index_or sessions.now session Idle }
 {
-    &places[session]
+    &sessions[session]
 }
 
-/// The pin of a session in this place. It takes no memory.
-pub(crate) fn pin_in(place: &Place) -> Option<u64>
-    ensures { result ≡ worlds.pin_in place.now }
+/// The pin of a session in this state. It takes no memory.
+pub(crate) fn pin_in(state: &SessionState) -> Option<u64>
+    ensures { result ≡ worlds.pin_in state.now }
 {
-    match place {
-        Place::Away => None,
-        Place::Pinned(pin) => Some(*pin),
-        Place::Holding(hold) => Some(hold.pin),
-        Place::Asking(hold, _) => Some(hold.pin),
+    match state {
+        SessionState::Idle => None,
+        SessionState::Pinned(pin) => Some(*pin),
+        SessionState::Holding(hold) => Some(hold.pin),
+        SessionState::Asking(hold, _) => Some(hold.pin),
     }
 }
 
-/// The number of the version that a session in this place holds. It takes no memory.
-pub(crate) fn held_in(place: &Place) -> Option<u64>
-    ensures { result ≡ worlds.held_in place.now }
+/// The number of the version that a session in this state holds. It takes no memory.
+pub(crate) fn held_in(state: &SessionState) -> Option<u64>
+    ensures { result ≡ worlds.held_in state.now }
 {
-    match place {
-        Place::Away => None,
-        Place::Pinned(_) => None,
-        Place::Holding(hold) => Some(hold.version),
-        Place::Asking(hold, _) => Some(hold.version),
+    match state {
+        SessionState::Idle => None,
+        SessionState::Pinned(_) => None,
+        SessionState::Holding(hold) => Some(hold.version),
+        SessionState::Asking(hold, _) => Some(hold.version),
     }
 }
 
 /// The least of a number and all pins. It takes no memory.
-pub(crate) fn least_pin(last: u64, places: &[Place]) -> u64
-    ensures { result ≡ machine.least_pin last places.now }
+pub(crate) fn least_pin(last: u64, sessions: &[SessionState]) -> u64
+    ensures { result ≡ machine.least_pin last sessions.now }
 {
     let mut least = last;
-    for place in places {
-        if let Some(pin) = pin_in(place) {
+    for state in sessions {
+        if let Some(pin) = pin_in(state) {
             least = least.min(pin);
         }
     }
@@ -59,15 +60,16 @@ pub(crate) fn least_pin(last: u64, places: &[Place]) -> u64
 }
 
 /// A session that is away pins the floor. It takes no memory.
-pub(crate) fn pin(places: &mut Vec<Place>, session: usize, floor: u64) -> Step
-    ensures { Stepped (machine.changed_at (machine.to_pin floor) places.old.items session) result places.old.items places.new.items }
+pub(crate) fn pin(sessions: &mut Vec<SessionState>, session: usize, floor: u64) -> Step
+    ensures { Stepped (changed_at
+        (machine.to_pin floor) sessions.old.items session) result sessions.old.items sessions.new.items }
 {
-    if session >= places.len() {
+    if session >= sessions.len() {
         return Step::Skipped;
     }
-    match &places[session] {
-        Place::Away => {
-            places[session] = Place::Pinned(floor);
+    match &sessions[session] {
+        SessionState::Idle => {
+            sessions[session] = SessionState::Pinned(floor);
             Step::Done
         }
         _ => Step::Skipped,
@@ -75,38 +77,39 @@ pub(crate) fn pin(places: &mut Vec<Place>, session: usize, floor: u64) -> Step
 }
 
 /// A pinned session takes hold of the last version. It takes no memory.
-pub(crate) fn enter(places: &mut Vec<Place>, session: usize, last: u64) -> Step
-    ensures { Stepped (machine.changed_at (machine.to_enter last) places.old.items session) result places.old.items places.new.items }
+pub(crate) fn enter(sessions: &mut Vec<SessionState>, session: usize, last: u64) -> Step
+    ensures { Stepped (changed_at
+        (machine.to_enter last) sessions.old.items session) result sessions.old.items sessions.new.items }
 {
-    if session >= places.len() {
+    if session >= sessions.len() {
         return Step::Skipped;
     }
-    match &places[session] {
-        Place::Pinned(pin) => {
+    match &sessions[session] {
+        SessionState::Pinned(pin) => {
             let hold = Hold {
                 pin: *pin,
                 settled: false,
                 version: last,
             };
-            places[session] = Place::Holding(hold);
+            sessions[session] = SessionState::Holding(hold);
             Step::Done
         }
         _ => Step::Skipped,
     }
 }
 
-fn settle_place(place: &mut Place) -> Step
-    ensures { Stepped (machine.to_settle place.old) result place.old place.new }
+fn settle_state(state: &mut SessionState) -> Step
+    ensures { Stepped (machine.to_settle state.old) result state.old state.new }
 {
-    match place {
-        Place::Away => Step::Skipped,
-        Place::Pinned(_) => Step::Skipped,
-        Place::Holding(hold) => {
+    match state {
+        SessionState::Idle => Step::Skipped,
+        SessionState::Pinned(_) => Step::Skipped,
+        SessionState::Holding(hold) => {
             hold.pin = hold.version;
             hold.settled = true;
             Step::Done
         }
-        Place::Asking(hold, _) => {
+        SessionState::Asking(hold, _) => {
             hold.pin = hold.version;
             hold.settled = true;
             Step::Done
@@ -115,37 +118,38 @@ fn settle_place(place: &mut Place) -> Step
 }
 
 /// A session that holds a version moves its pin up to that version's number. It takes no memory.
-pub(crate) fn settle(places: &mut Vec<Place>, session: usize) -> Step
-    ensures { Stepped (machine.changed_at machine.to_settle places.old.items session) result places.old.items places.new.items }
+pub(crate) fn settle(sessions: &mut Vec<SessionState>, session: usize) -> Step
+    ensures { Stepped (changed_at machine.to_settle sessions.old.items session) result sessions.old.items sessions.new.items }
 {
-    if session >= places.len() {
+    if session >= sessions.len() {
         return Step::Skipped;
     }
-    settle_place(&mut places[session])
+    settle_state(&mut sessions[session])
 }
 
 /// A session that holds a version asks a request of it.
 pub(crate) fn ask(
     alloc: Global,
-    places: &mut Vec<Place>,
+    sessions: &mut Vec<SessionState>,
     session: usize,
     request: &Request,
 ) -> Result<Step, AllocError>
-    ensures asked { IfOk result (λ step. Stepped (machine.changed_at (machine.to_ask request.now) places.old.items session) step places.old.items places.new.items) }
-    ensures unchanged { OnErr result (places.new.items ≡ places.old.items) }
+    ensures asked { IfOk result (λ step. Stepped (changed_at
+        (machine.to_ask request.now) sessions.old.items session) step sessions.old.items sessions.new.items) }
+    ensures unchanged { OnErr result (sessions.new.items ≡ sessions.old.items) }
 {
-    if session >= places.len() {
+    if session >= sessions.len() {
         return Ok(Step::Skipped);
     }
-    match &places[session] {
-        Place::Holding(hold) => {
+    match &sessions[session] {
+        SessionState::Holding(hold) => {
             let hold = *hold;
             let inquiry = Inquiry {
                 request: request.clone()?,
                 next: 0,
                 read: List::of(Vec::new(alloc)),
             };
-            places[session] = Place::Asking(hold, inquiry);
+            sessions[session] = SessionState::Asking(hold, inquiry);
             Ok(Step::Done)
         }
         _ => Ok(Step::Skipped),
@@ -153,19 +157,24 @@ pub(crate) fn ask(
 }
 
 /// The next block is read, if there is one.
-fn read_place(
+fn read_state(
     alloc: Global,
+    opening: &Opening,
     heap: &[List<Edge>],
     versions: &[Version],
-    place: &mut Place,
+    state: &mut SessionState,
 ) -> Result<Step, AllocError>
-    ensures read { IfOk result (λ step. Stepped (machine.to_read heap.now versions.now place.old) step place.old place.new) }
-    ensures unchanged { OnErr result (place.new ≡ place.old) }
+    ensures read { IfOk result
+        (λ step. Stepped (machine.to_read opening.now heap.now versions.now state.old) step state.old state.new) }
+    ensures unchanged { OnErr result (state.new ≡ state.old) }
 {
-    let Place::Asking(hold, inquiry) = place else {
+    let SessionState::Asking(hold, inquiry) = state else {
         return Ok(Step::Skipped);
     };
-    let Some(block) = blocks_at(versions, hold.version).get(inquiry.next).copied() else {
+    let Some(block) = blocks_at(opening, versions, hold.version)
+        .get(inquiry.next)
+        .copied()
+    else {
         return Ok(Step::Skipped);
     };
     let read = joined(alloc, inquiry.read.as_slice(), edges_at(heap, block))?;
@@ -177,31 +186,34 @@ fn read_place(
 /// A session that has asked reads the next block of its version.
 pub(crate) fn read(
     alloc: Global,
+    opening: &Opening,
     heap: &[List<Edge>],
     versions: &[Version],
-    places: &mut Vec<Place>,
+    sessions: &mut Vec<SessionState>,
     session: usize,
 ) -> Result<Step, AllocError>
-    ensures read { IfOk result (λ step. Stepped (machine.changed_at (machine.to_read heap.now versions.now) places.old.items session) step places.old.items places.new.items) }
-    ensures unchanged { OnErr result (places.new.items ≡ places.old.items) }
+    ensures read { IfOk result (λ step. Stepped (changed_at
+        (machine.to_read opening.now heap.now versions.now) sessions.old.items session) step sessions.old.items
+        sessions.new.items) }
+    ensures unchanged { OnErr result (sessions.new.items ≡ sessions.old.items) }
 {
-    if session >= places.len() {
+    if session >= sessions.len() {
         return Ok(Step::Skipped);
     }
-    let step = read_place(alloc, heap, versions, &mut places[session])?;
+    let step = read_state(alloc, opening, heap, versions, &mut sessions[session])?;
     Ok(step)
 }
 
 /// A session lets go of its version and its pin. It takes no memory.
-pub(crate) fn release(places: &mut Vec<Place>, session: usize) -> Step
-    ensures { Stepped (machine.changed_at machine.to_release places.old.items session) result places.old.items places.new.items }
+pub(crate) fn release(sessions: &mut Vec<SessionState>, session: usize) -> Step
+    ensures { Stepped (changed_at machine.to_release sessions.old.items session) result sessions.old.items sessions.new.items }
 {
-    if session >= places.len() {
+    if session >= sessions.len() {
         return Step::Skipped;
     }
-    match &places[session] {
-        Place::Pinned(_) | Place::Holding(_) => {
-            places[session] = Place::Away;
+    match &sessions[session] {
+        SessionState::Pinned(_) | SessionState::Holding(_) => {
+            sessions[session] = SessionState::Idle;
             Step::Done
         }
         _ => Step::Skipped,

@@ -1,6 +1,10 @@
 //! The parts of the machine's state.
 
-use graph_model::{Batch, Edge, List, Name, Request};
+use graph_model::{AskError, Batch, Content, Edge, List, Name, Reply, Request};
+use std::alloc::Global;
+
+/// A reply, or the refusal that stands in its place.
+pub(crate) type Answer = Result<Reply, AskError>;
 
 /// What a block is to the machine. Collection by the floor reads no birth; a collection by intervals will.
 #[derive(Clone, Copy, Debug, PartialEq, Eq)]
@@ -45,9 +49,34 @@ pub(crate) struct Inquiry {
 
 /// Where a session stands.
 #[derive(Debug, Drop)]
-pub(crate) enum Place {
-    Away,
+pub(crate) enum SessionState {
+    /// It has no pin.
+    Idle,
+    /// It has this pin, and holds nothing.
     Pinned(u64),
+    /// It holds a version.
     Holding(Hold),
+    /// It holds a version and has asked a request of it.
     Asking(Hold, Inquiry),
+}
+
+/// What stands before the first batch: a content, and the blocks that have its edges.
+#[derive(Debug, Drop)]
+pub(crate) struct Opening {
+    pub(crate) content: Content,
+    pub(crate) blocks: List<usize>,
+}
+
+/// The fields of the machine.
+#[derive(Drop)]
+pub(crate) struct Parts {
+    pub(crate) alloc: Global,
+    pub(crate) opening: Opening,
+    pub(crate) heap: Vec<List<Edge>>,
+    pub(crate) status: Vec<Status>,
+    /// The versions after version 0, in the order of their numbers.
+    pub(crate) versions: Vec<Version>,
+    pub(crate) floor: u64,
+    pub(crate) sessions: Vec<SessionState>,
+    pub(crate) replies: Vec<List<Answer>>,
 }

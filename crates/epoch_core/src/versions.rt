@@ -1,18 +1,17 @@
 //! Versions by their numbers.
 
-ghost use Rattle.std.specs.Prelude.{◌≡◌, ◌≤◌, IfOk, length};
-ghost use Rattle.std.specs.Option.{option_copied};
-ghost use Rattle.graph_model.specs.declared.ids.Edge.{Edge};
+ghost use Rattle.std.specs.Prelude.{◌≡◌, IfOk};
+ghost use Rattle.std.specs.Option.{option_copied, unwrap_or};
+ghost use Rattle.graph_model.specs.Graph as graph;
 ghost use Rattle.epoch_core.specs.Worlds as worlds;
-ghost use Rattle.epoch_core.specs.Calls as calls;
 
-use crate::states::Version;
+use crate::states::{Opening, Version};
 use graph_model::{Content, Edge, List, Name};
 use std::alloc::{AllocError, Global};
 
-/// The version of this number; `None` stands for version 0, and for a number past the last. It takes no memory.
-pub(crate) fn version_at(versions: &[Version], number: u64) -> Option<&Version>
-    ensures { calls.version_or_zero (option_copied result) ≡ worlds.version_at versions.now number }
+/// The version of this number; `None` for version 0, and for a number past the last. It takes no memory.
+pub(crate) fn posted_at(versions: &[Version], number: u64) -> Option<&Version>
+    ensures { option_copied result ≡ worlds.posted_at versions.now number }
 {
     if number == 0 {
         return None;
@@ -21,12 +20,16 @@ pub(crate) fn version_at(versions: &[Version], number: u64) -> Option<&Version>
 }
 
 /// The blocks of the version of this number. It takes no memory.
-pub(crate) fn blocks_at(versions: &[Version], number: u64) -> &[usize]
-    ensures { result.now ≡ worlds.blocks_at versions.now number }
+pub(crate) fn blocks_at<'a>(
+    opening: &'a Opening,
+    versions: &'a [Version],
+    number: u64,
+) -> &'a [usize]
+    ensures { result.now ≡ worlds.blocks_at opening.now versions.now number }
 {
-    match version_at(versions, number) {
+    match posted_at(versions, number) {
         Some(version) => version.blocks.as_slice(),
-        None => &[],
+        None => opening.blocks.as_slice(),
     }
 }
 
@@ -41,24 +44,45 @@ fn copied(alloc: Global, names: &[Name]) -> Result<List<Name>, AllocError>
     Ok(List::of(copy))
 }
 
-/// The content of a version's names and kinds and of these edges.
-pub(crate) fn content_with(
+/// The content of these names, kinds and edges.
+fn content_of(
     alloc: Global,
-    version: Option<&Version>,
+    names: &[Name],
+    kinds: &[Name],
     edges: Vec<Edge>,
 ) -> Result<Content, AllocError>
-    ensures { IfOk result (λ content. content ≡ calls.content_with (calls.version_or_zero (option_copied version.entry)) edges.items) }
+    ensures { IfOk result (λ content. content ≡ graph.content_of names.now kinds.now edges.items) }
 {
-    match version {
-        Some(version) => Ok(Content {
-            names: copied(alloc, version.names.as_slice())?,
-            kinds: copied(alloc, version.kinds.as_slice())?,
-            edges: List::of(edges),
-        }),
-        None => Ok(Content {
-            names: List::of(Vec::new(alloc)),
-            kinds: List::of(Vec::new(alloc)),
-            edges: List::of(edges),
-        }),
+    Ok(Content {
+        names: copied(alloc, names)?,
+        kinds: copied(alloc, kinds)?,
+        edges: List::of(edges),
+    })
+}
+
+/// The content of the names and kinds of the version of this number, and of these edges.
+pub(crate) fn content_with(
+    alloc: Global,
+    opening: &Opening,
+    versions: &[Version],
+    number: u64,
+    edges: Vec<Edge>,
+) -> Result<Content, AllocError>
+    ensures { IfOk result (λ content. content ≡ worlds.content_with
+        (worlds.version_at opening.now versions.now number) edges.items) }
+{
+    match posted_at(versions, number) {
+        Some(version) => content_of(
+            alloc,
+            version.names.as_slice(),
+            version.kinds.as_slice(),
+            edges,
+        ),
+        None => content_of(
+            alloc,
+            opening.content.names.as_slice(),
+            opening.content.kinds.as_slice(),
+            edges,
+        ),
     }
 }

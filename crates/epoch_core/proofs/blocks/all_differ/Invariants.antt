@@ -1,5 +1,5 @@
 use Rattle.std.proofs.Common.{◌≡◌, length}
-use Rattle.epoch_core.specs.Machine.{all_differ}
+use Rattle.epoch_core.specs.Blocks.{all_differ}
 use Rattle.epoch_core.proofs.blocks.all_differ.Given as goal
 
 abbrev pub invariant-loop-rest : goal.invariant-loop-rest

@@ -1,5 +1,5 @@
 use Rattle.std.proofs.Common.{◌≡◌, length}
-use Rattle.epoch_core.specs.Machine.{keys_differ}
+use Rattle.epoch_core.specs.Posting.{keys_differ}
 use Rattle.epoch_core.proofs.contents.keys_differ.Given as goal
 
 abbrev pub invariant-loop-rest : goal.invariant-loop-rest

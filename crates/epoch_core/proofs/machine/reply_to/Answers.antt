@@ -1,11 +1,13 @@
 use Rattle.std.proofs.Common.{sym, subst}
 use Rattle.std.specs.Prelude.{slice_index_or}
-use Rattle.epoch_core.specs.declared.states.Place.TheVariants.{Away}
-use Rattle.epoch_core.specs.Calls.{state_of, ReadsContent}
+use Rattle.epoch_core.specs.declared.states.SessionState.TheVariants.{Idle}
+use Rattle.epoch_core.specs.Machine.{ReadsContent}
+use Rattle.epoch_core.specs.Cores.{state_of}
 use Rattle.epoch_core.proofs.Read.{reads_content}
 use Rattle.epoch_core.proofs.machine.reply_to.Goals as goal
 
 pub reply-requires-clause-content : goal.reply-requires-clause-content
 reply-requires-clause-content c =
-    subst (λ versions. ReadsContent versions (slice_index_or c.args.parts.now.places.items c.args.session Away)) (sym c.as_slice.ensures.value)
+    subst (λ versions. ReadsContent c.args.parts.now.opening versions
+    (slice_index_or c.args.parts.now.sessions.items c.args.session Idle)) (sym c.as_slice.ensures.value)
     (reads_content (state_of c.args.parts.now).world c.args.session c.requires.sound c.requires.contents)

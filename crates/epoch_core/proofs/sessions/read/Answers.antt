@@ -1,9 +1,10 @@
 use Rattle.std.proofs.Common.{◌<◌, length, arith}
 use Rattle.epoch_core.specs.Machine.{to_read}
-use Rattle.epoch_core.proofs.Calls.{stepped_at}
+use Rattle.epoch_core.proofs.OneElement.{stepped_at}
 use Rattle.epoch_core.proofs.sessions.read.Goals as goal
 
 pub returns-clause-read : goal.returns-clause-read
 returns-clause-read c =
-    let lt : c.args.session < length c.args.places.now.items = omega arith in
-    stepped_at (to_read c.args.heap.now c.args.versions.now) c.args.places.now.items c.args.session c.index_mut.result.now c.in_ok-step.step c.read_place.new.place lt c.index_mut.ensures.value c.in_ok-step.ensures.read
+    let lt : c.args.session < length c.args.sessions.now.items = omega arith in
+    stepped_at (to_read c.args.opening.now c.args.heap.now c.args.versions.now) c.args.sessions.now.items c.args.session
+    c.index_mut.result.now c.in_ok-step.step c.read_state.new.state lt c.index_mut.ensures.value c.in_ok-step.ensures.read

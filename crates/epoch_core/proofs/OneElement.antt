@@ -5,17 +5,20 @@ use Rattle.std.specs.Option.{option_and_then}
 use Rattle.std.specs.declared.option.Option.{Option}
 use Rattle.std.specs.declared.option.Option.TheVariants.{None, Some}
 use Rattle.std.proofs.lemmas.List.{set-get_or}
-use Rattle.epoch_core.specs.Machine.{changed_at, put}
+use Rattle.epoch_core.specs.Blocks.{changed_at, put}
 use Rattle.epoch_core.specs.Runs.{Stepped}
 use Rattle.epoch_core.specs.declared.events.Step.{Step}
 use Rattle.epoch_core.proofs.Lists.{at_from_within}
 
-put_at : {A : Type 0} (o : Option A) (xs : List A) (i : ℕ) (d : A) (outcome : Step) (new : A) → Stepped o outcome (get_or xs i d) new → Stepped (put xs i o) outcome xs (set xs i new)
+put_at : {A : Type 0} (o : Option A) (xs : List A) (i : ℕ) (d : A) (outcome : Step) (new : A)
+    → Stepped o outcome (get_or xs i d) new → Stepped (put xs i o) outcome xs (set xs i new)
 put_at None xs i d outcome new is = (is.0, ap (set xs i) is.1 ∙ set-get_or xs i d)
 put_at (Some after) xs i d outcome new is = (is.0, ap (set xs i) is.1)
 
 -- a step of the element at i is a step of the list
-pub stepped_at : {A : Type 0} (change : A → Option A) (xs : List A) (i : ℕ) (x : A) (outcome : Step) (new : A) → i < length xs → x ≡ get_or xs i x → Stepped (change x) outcome x new → Stepped (changed_at change xs i) outcome xs (set xs i new)
+pub stepped_at : {A : Type 0} (change : A → Option A) (xs : List A) (i : ℕ) (x : A) (outcome : Step) (new : A)
+    → i < length xs → x ≡ get_or xs i x → Stepped (change x) outcome x new
+    → Stepped (changed_at change xs i) outcome xs (set xs i new)
 stepped_at change xs i x outcome new lt at is =
     let found : slice_get xs i ≡ Some (get_or xs i x) = at_from_within xs i x lt in
     subst (λ o. Stepped (put xs i (option_and_then change o)) outcome xs (set xs i new)) (sym found)

@@ -1,0 +1,149 @@
+-- Small runs, computed.
+use Rattle.std.proofs.Common.{◌≡◌, ℕ, true, false, cond, Bool, List, [], ◌∷◌, ◌++◌, length, refl, sym, ap, subst, ◌∙◌, arith, pos, negsuc}
+use Rattle.std.specs.Prelude.{ℤ, if◌then◌else◌, is_some}
+use Rattle.std.specs.Option.{unwrap_or}
+use Rattle.std.specs.Ordering.{eq_by_cmp}
+use Rattle.std.specs.FinMap.{FinMap, get, insert, empty, get-empty, get-insert, same_map}
+use Rattle.std.specs.declared.option.Option.TheVariants.{None, Some}
+use Rattle.graph_model.specs.Graph.{Graph, Key, Stamp, key_cmp}
+use Rattle.graph_model.specs.Step.{after_all, set_at, stamp_after}
+use Rattle.graph_model.specs.declared.ids.Edge.{Edge}
+use Rattle.graph_model.specs.declared.batches.NamedOp.{NamedOp}
+use Rattle.graph_model.specs.declared.changes.EdgeChange.TheVariants.{Insert, Incr}
+use Rattle.graph_model.proofs.Keys.{keys_total, exact_keys, once_none, once_cons, HasKeysOnce}
+use Rattle.epoch_core.specs.declared.events.Event.{Event}
+use Rattle.epoch_core.specs.declared.events.Event.TheVariants.{Take, Fill, Post, Floor, Pin, Enter, Settle, Ask, Read, Reply, Release}
+use Rattle.epoch_core.specs.Worlds.{World, empty_opening, left, start_world}
+use Rattle.epoch_core.specs.Posting.{can_post, posted, are_edges_of}
+use Rattle.epoch_core.specs.Runs.{run}
+use Rattle.epoch_core.specs.Holdings.{Agree, Holding, holdings_of, observations}
+use Rattle.epoch_core.specs.Examples.{AreExamples, name_a, name_b, kind_k, put_edge, add_to_edge, edge_of, ask_edge, short_batches, long_batches, of_short, of_long}
+use Rattle.epoch_core.proofs.Edges.{Decides-edges}
+
+-- The graph of one edge, and what batches make of it
+
+abbrev key : Key
+key = record { kind = 0; source = 0; target = 1 }
+
+abbrev stamp : ℤ → ℕ → ℕ → Stamp
+stamp weight first recent = record { weight = weight; first = first; recent = recent }
+
+abbrev nothing : FinMap key_cmp Stamp
+nothing = empty
+
+abbrev one_edge : Stamp → FinMap key_cmp Stamp
+one_edge s = insert nothing key s
+
+abbrev with_edges : FinMap key_cmp Stamp → Graph
+with_edges edges = record { names = name_a ∷ name_b ∷ []; kinds = kind_k ∷ []; edges = edges }
+
+abbrev graph_of_edge : Stamp → Graph
+graph_of_edge s = with_edges (one_edge s)
+
+-- an edge put where there is none
+first_graph : (weight : ℤ) (time : ℕ) → left empty_opening (put_edge weight time ∷ []) ≡ graph_of_edge (stamp weight time time)
+first_graph weight time =
+    ap (λ o. with_edges (set_at nothing key (stamp_after (Insert weight time) o))) (get-empty key_cmp key)
+
+stands : (s : Stamp) → get (one_edge s) key ≡ Some s
+stands s = get-insert keys_total nothing key s key
+
+put_twice : (s t : Stamp) (q : Key) → get (insert (one_edge s) key t) q ≡ get (one_edge t) q
+put_twice s t q =
+    get-insert keys_total (one_edge s) key t q ∙ ap (cond (eq_by_cmp key_cmp q key) (Some t))
+    (get-insert keys_total nothing key s q)
+    ∙ elim (eq_by_cmp key_cmp q key) as (λ b. cond b (Some t) (cond b (Some s) (get nothing q))
+    ≡ cond b (Some t) (get nothing q)) [ true ↦ refl | false ↦ refl ]
+    ∙ sym (get-insert keys_total empty key t q)
+
+put_again : (s t : Stamp) → insert (one_edge s) key t ≡ one_edge t
+put_again s t = same_map keys_total exact_keys _ _ (put_twice s t)
+
+-- an increment adds to the weight
+add_over : after_all (add_to_edge (negsuc 5) 1) (graph_of_edge (stamp (pos 7) 1 1)) ≡ graph_of_edge (stamp (pos 1) 1 1)
+add_over =
+    ap (λ o. with_edges (set_at (one_edge (stamp (pos 7) 1 1)) key (stamp_after (Incr (negsuc 5) 1) o)))
+    (stands (stamp (pos 7) 1 1))
+    ∙ ap with_edges (put_again (stamp (pos 7) 1 1) (stamp (pos 1) 1 1))
+
+long_graph : left empty_opening long_batches ≡ graph_of_edge (stamp (pos 1) 1 1)
+long_graph = ap (after_all (add_to_edge (negsuc 5) 1)) (first_graph (pos 7) 1) ∙ add_over
+
+-- Posts that are done
+
+once_one : (e : Edge) → HasKeysOnce (e ∷ [])
+once_one e = once_cons e [] (λ k d h. absurd (omega arith)) once_none
+
+shows_one : (g : Graph) (weight : ℤ) (time : ℕ) → g ≡ graph_of_edge (stamp weight time time)
+    → are_edges_of g (edge_of weight time) ≡ true
+shows_one g weight time is = (Decides-edges g (edge_of weight time)).1
+    (record { once = once_one _; same = ap (λ h. h.edges) (sym is) })
+
+-- no edges are once each the edges of the graph without edges
+shows_none : are_edges_of (left empty_opening []) [] ≡ true
+shows_none = (Decides-edges (left empty_opening []) []).1 (record { once = once_none; same = refl })
+
+sees : (s : ℕ) (w : World) (batch : List NamedOp) (blocks : List ℕ) (rest : List Event)
+    → can_post w.opening w.heap w.status w.versions batch blocks ≡ true → observations s w (Post batch blocks ∷ rest)
+    ≡ observations s (posted w batch blocks) rest
+sees s w batch blocks rest can =
+    ap (λ b. (if is_some (if b then Some (posted w batch blocks) else None) then [] else [])
+    ++ observations s (unwrap_or (if b then Some (posted w batch blocks) else None) w) rest) can
+
+-- The short run
+
+abbrev short_fill : World
+short_fill = run (Take 0 ∷ Fill 0 (edge_of (pos 1) 1) ∷ []) (start_world 1 1)
+
+abbrev short_rest : List Event
+short_rest = Pin 0 ∷ Enter 0 ∷ Ask 0 ask_edge ∷ Read 0 ∷ Reply 0 ∷ []
+
+short_holdings : of_short ≡ record { graph = left empty_opening short_batches; answered = ask_edge ∷ [] } ∷ []
+short_holdings = ap holdings_of (sees 0 short_fill (put_edge (pos 1) 1) (0 ∷ []) short_rest
+    (shows_one _ (pos 1) 1 (first_graph (pos 1) 1)))
+
+-- The long run
+
+abbrev long_fill : World
+long_fill = run (Take 1 ∷ Fill 1 (edge_of (pos 7) 1) ∷ []) (posted (start_world 2 3) [] [])
+
+abbrev long_more : World
+long_more = run (Pin 1 ∷ Take 2 ∷ Fill 2 (edge_of (pos 1) 1) ∷ []) (posted long_fill (put_edge (pos 7) 1) (1 ∷ []))
+
+abbrev long_rest : List Event
+long_rest = Enter 1 ∷ Pin 0 ∷ Enter 0 ∷ Settle 0 ∷ Floor ∷ Ask 0 ask_edge ∷ Read 0 ∷ Reply 0 ∷ Release 0 ∷ []
+
+abbrev long_after : List Event
+long_after = Pin 1 ∷ Take 2 ∷ Fill 2 (edge_of (pos 1) 1) ∷ Post (add_to_edge (negsuc 5) 1) (2 ∷ []) ∷ long_rest
+
+long_holdings : of_long ≡ record { graph = left empty_opening long_batches; answered = ask_edge ∷ [] } ∷ []
+long_holdings =
+    ap holdings_of (sees 0 (start_world 2 3) [] [] (Take 1 ∷ Fill 1 (edge_of (pos 7) 1) ∷ Post (put_edge (pos 7) 1) (1 ∷ [])
+    ∷ long_after) shows_none)
+    ∙ ap holdings_of (sees 0 long_fill (put_edge (pos 7) 1) (1 ∷ []) long_after (shows_one _ (pos 7) 1 (first_graph (pos 7) 1)))
+    ∙ ap holdings_of (sees 0 long_more (add_to_edge (negsuc 5) 1) (2 ∷ []) long_rest (shows_one _ (pos 1) 1 long_graph))
+
+abbrev held_with : Graph → List Holding
+held_with g = record { graph = g; answered = ask_edge ∷ [] } ∷ []
+
+two_worlds_agree : Agree of_short of_long
+two_worlds_agree =
+    subst (λ hs. Agree hs of_long) (sym short_holdings)
+    (subst (λ gs. Agree (held_with (left empty_opening short_batches)) gs) (sym long_holdings)
+    (first_graph (pos 1) 1 ∙ sym long_graph, refl, tt))
+
+other_names : Agree (held_with (left empty_opening short_batches))
+    (record { graph = left empty_opening []; answered = [] } ∷ []) → ⊥
+other_names agree = let no : name_a ∷ name_b ∷ [] ≡ [] = ap (λ g. g.names) agree.0 in cc
+
+pub are_examples : AreExamples
+are_examples = record {
+  short = short_holdings;
+  long = long_holdings;
+  twice = refl;
+  agree = two_worlds_agree;
+  other_count = λ agree. agree.2;
+  other_graph = λ agree. other_names (subst (λ hs. Agree hs
+      (record { graph = left empty_opening []; answered = [] } ∷ [])) short_holdings agree);
+  blocks = refl;
+}

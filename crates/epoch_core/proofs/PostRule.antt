@@ -1,0 +1,90 @@
+-- The test of a Post decides its rule.
+use Rattle.std.proofs.Common.{◌≡◌, ◌≢◌, ◌⊎◌, ◌↔◌, ℕ, zero, suc, ◌<◌, ◌≤◌, Bool, true, false, not, ◌&&◌, inl, inr, List, [], ◌∷◌, length, get_or, Decides, refl, sym, ap, ◌∙◌, arith, eqb, leb}
+use Rattle.std.specs.Prelude.{slice_get, if◌then◌else◌, is_some, All, AllPairs, IsTrue}
+use Rattle.std.specs.declared.option.Option.{Option}
+use Rattle.std.specs.declared.option.Option.TheVariants.{None, Some}
+use Rattle.std.proofs.lemmas.Bool.Decides.{Decides-and, Decides-or, Decides-not, Decides-like, Decides-by_and, Decides-eqb, Decides-ltb, leb_tells}
+use Rattle.std.proofs.lemmas.List.Kept.{AllPairs-cons}
+use Rattle.graph_model.specs.Limits.{batch_limit, name_limit, kind_limit}
+use Rattle.graph_model.specs.declared.batches.NamedOp.{NamedOp}
+use Rattle.epoch_core.specs.declared.states.Status.{Status}
+use Rattle.epoch_core.specs.declared.states.Status.TheVariants.{Free, Fresh, Used, Retired}
+use Rattle.epoch_core.specs.declared.events.Event.TheVariants.{Post}
+use Rattle.epoch_core.specs.Blocks.{all_differ, is_at, is_fresh, is_listed}
+use Rattle.epoch_core.specs.Worlds.{World, edges_of, last_blocks, last_number}
+use Rattle.epoch_core.specs.Posting.{MayPost, all_listable, can_post, graph_after, is_listable, posted}
+use Rattle.epoch_core.specs.Runs.{is_done}
+use Rattle.epoch_core.proofs.Lists.{and_left, and_right, neither}
+use Rattle.epoch_core.proofs.Edges.{Decides-edges}
+
+Decides-fresh : (o : Option Status) → Decides (is_at is_fresh o) (o ≡ Some Fresh)
+Decides-fresh None = (λ e. cc, λ e. cc)
+Decides-fresh (Some Free) = (λ e. cc, λ e. cc)
+Decides-fresh (Some Fresh) = (λ _. refl, λ _. refl)
+Decides-fresh (Some (Used birth)) = (λ e. cc, λ e. cc)
+Decides-fresh (Some (Retired birth since)) = (λ e. cc, λ e. cc)
+
+Decides-listable : (status : List Status) (last : List ℕ) (blocks : List ℕ)
+    → Decides (all_listable status last blocks) (All (λ b. (slice_get status b ≡ Some Fresh) ⊎ IsTrue (is_listed b last)) blocks)
+Decides-listable status last blocks =
+    Decides-by_and (is_listable status last) (λ b. (slice_get status b ≡ Some Fresh) ⊎ IsTrue (is_listed b last))
+    (all_listable status last)
+    (λ b. Decides-or _ _ (Decides-fresh (slice_get status b)) (λ t. t, λ t. t)) refl (λ _ _. refl) blocks
+
+-- a number that isn't listed differs from each that is
+Decides-unlisted : (b : ℕ) (bs : List ℕ) → Decides (not (is_listed b bs)) (All (λ c. b ≢ c) bs)
+Decides-unlisted b bs =
+    Decides-by_and (λ c. not (eqb c b)) (λ c. b ≢ c) (λ cs. not (is_listed b cs))
+    (λ c. Decides-like _ (λ apart same. apart (sym same)) (λ apart same. apart (sym same)) (Decides-not _ (Decides-eqb c b)))
+    refl (λ c cs. neither (eqb c b) (is_listed b cs)) bs
+
+differ_head : (b : ℕ) (bs : List ℕ) → AllPairs ◌≢◌ (b ∷ bs) → All (λ c. b ≢ c) bs
+differ_head b bs all = λ k d h. all 0 (suc k) d (omega arith) (omega arith)
+
+differ_tail : (b : ℕ) (bs : List ℕ) → AllPairs ◌≢◌ (b ∷ bs) → AllPairs ◌≢◌ bs
+differ_tail b bs all = λ i j d h g. all (suc i) (suc j) d (omega arith) (omega arith)
+
+Decides-differ : (bs : List ℕ) → Decides (all_differ bs) (AllPairs ◌≢◌ bs)
+Decides-differ [] = (λ _. λ i j d h g. absurd (omega arith), λ _. refl)
+Decides-differ (b ∷ bs) =
+    Decides-like _ (λ p. AllPairs-cons ◌≢◌ b bs p.0 p.1) (λ all. (differ_head b bs all, differ_tail b bs all))
+    (Decides-and _ _ (Decides-unlisted b bs) (Decides-differ bs))
+
+-- a limit that isn't passed
+Decides-within : (n most : ℕ) → Decides (leb n most) ((most < n) → ⊥)
+Decides-within n most =
+    elim (leb_tells n most) [
+      | inl h ↦ (λ _ over. let low = h.1 in absurd (omega arith), λ _. h.0)
+      | inr h ↦ (λ e. let no = h.0 in cc, λ never. absurd (never h.1))
+    ]
+
+pub Decides-post : (w : World) (batch : List NamedOp) (blocks : List ℕ)
+    → Decides (can_post w.opening w.heap w.status w.versions batch blocks) (MayPost w batch blocks)
+Decides-post w batch blocks =
+    Decides-like _
+    (λ p. record { few = p.0.0.0.0; listable = p.0.0.0.1; different = p.0.0.1; names = p.0.1.0; kinds = p.0.1.1; shown = p.1 })
+    (λ may. ((((may.few, may.listable), may.different), (may.names, may.kinds)), may.shown))
+    (Decides-and _ _
+    (Decides-and _ _
+    (Decides-and _ _ (Decides-and _ _ (Decides-ltb (last_number w) batch_limit)
+    (Decides-listable w.status (last_blocks w) blocks)) (Decides-differ blocks))
+    (Decides-and _ _ (Decides-within (length (graph_after w.opening w.versions batch).names) name_limit)
+    (Decides-within (length (graph_after w.opening w.versions batch).kinds) kind_limit)))
+    (Decides-edges (graph_after w.opening w.versions batch) (edges_of w.heap blocks)))
+
+pub listable_of : (w : World) (batch : List NamedOp) (blocks : List ℕ)
+    → can_post w.opening w.heap w.status w.versions batch blocks ≡ true → all_listable w.status (last_blocks w) blocks ≡ true
+listable_of w batch blocks can = and_right _ _ (and_left _ _ (and_left _ _ (and_left _ _ can)))
+
+some_if : {A : Type 0} (t : Bool) (x : A) → is_some (if t then Some x else None) ≡ t
+some_if true x = refl
+some_if false x = refl
+
+-- in every world a Post is done exactly where its rule holds
+pub posts_by_rule : (w : World) (batch : List NamedOp) (blocks : List ℕ) → IsTrue (is_done w (Post batch blocks))
+    ↔ MayPost w batch blocks
+posts_by_rule w batch blocks =
+    let test = Decides-post w batch blocks in
+    let same : is_done w (Post batch blocks) ≡ can_post w.opening w.heap w.status w.versions batch blocks =
+    some_if (can_post w.opening w.heap w.status w.versions batch blocks) (posted w batch blocks) in
+    (λ t. test.0 (sym same ∙ t), λ may. same ∙ test.1 may)

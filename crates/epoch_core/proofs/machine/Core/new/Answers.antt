@@ -1,0 +1,13 @@
+use Rattle.std.proofs.Common.{sym, subst}
+use Rattle.epoch_core.specs.Sound.{IsCore}
+use Rattle.epoch_core.specs.Worlds.{IsStart}
+use Rattle.epoch_core.proofs.Steps.{start_is_start}
+use Rattle.epoch_core.proofs.Cores.{core_start}
+use Rattle.epoch_core.proofs.machine.Core.new.Goals as goal
+
+pub invariant_of-result : goal.invariant_of-result
+invariant_of-result c = subst IsCore (sym c.in_ok-parts.ensures)
+    (core_start c.args.sessions c.args.blocks c.requires.few_sessions)
+
+pub returns-clause-starts : goal.returns-clause-starts
+returns-clause-starts c = subst IsStart (sym c.in_ok-parts.ensures) (start_is_start c.args.sessions c.args.blocks)

@@ -1,0 +1,16 @@
+-- What the fields of the machine show.
+use Rattle.epoch_core.specs.declared.states.Parts.{Parts}
+use Rattle.epoch_core.specs.Worlds.{State}
+
+abbrev pub state_of : Parts → State
+state_of p = record {
+  world = record {
+    opening = p.opening;
+    heap = p.heap.items;
+    status = p.status.items;
+    versions = p.versions.items;
+    floor = p.floor;
+    sessions = p.sessions.items;
+  };
+  replies = p.replies.items;
+}
