@@ -1,0 +1,20 @@
+use Rattle.std.proofs.Common.{sym, subst, All}
+use Rattle.graph_model.specs.declared.ids.VertexId.{VertexId}
+use Rattle.shard_work.specs.RowBlocks.{IsOf}
+use Rattle.shard_work.specs.Done.{row_in}
+use Rattle.shard_work.specs.declared.shard.OpenRow.{OpenRow}
+use Rattle.shard_work.proofs.Finish.{opened_more}
+use Rattle.shard_work.proofs.shard.open_rows.Goals as goal
+
+pub loop-source-preserved : goal.loop-source-preserved
+loop-source-preserved c =
+    let r : OpenRow = c.in_ok-row.row in
+    let more = opened_more (row_in c.args.version.now) c.args.sources.now c.loop-source.source-index c.loop-source-test.true c.loop-source.work.items c.push.new.self.items r c.row_of.result.now c.in_ok-push.ensures.items
+    c.in_ok-row.ensures.source c.row_of.ensures.row c.in_ok-row.ensures.blocks c.in_ok-row.ensures.had c.in_ok-row.ensures.none_own (subst (λ (s : VertexId). All (IsOf s.0) r.blocks.items) (sym c.in_ok-row.ensures.source) c.in_ok-row.ensures.own) in
+    record {
+      sources = more.0 c.loop-source.invariant.sources;
+      blocks = more.1 c.loop-source.invariant.blocks;
+      had = more.2 c.loop-source.invariant.had;
+      none_own = more.3 c.loop-source.invariant.none_own;
+      own = more.4 c.loop-source.invariant.own;
+    }

@@ -1,0 +1,4 @@
+pub mod RowBlocks
+pub mod Shards
+pub mod Closing
+pub mod Done

@@ -1,0 +1,14 @@
+//! The work of a batch on the rows of some sources: one worker's part, without threads.
+//!
+//! A row's blocks are shared with the version before until the batch touches them. A touched block is copied once, into
+//! a fresh block that the shard owns, and takes its place.
+#![tactic(auto)]
+
+mod row_blocks;
+mod rows;
+mod shard;
+
+pub use shard::{Leavings, Place, Shard, ShardDone, Step, work_on};
+
+#[cfg(test)]
+mod tests;

@@ -1,0 +1,94 @@
+//! One block of a row.
+
+ghost use Rattle.std.specs.Prelude.{◌≡◌, ◌+◌, ◌<◌, ◌≤◌, IsTrue, OnOk, vec_len};
+ghost use Rattle.graph_model.specs.Graph.{IsWeight, IsTime};
+ghost use Rattle.edge_block.specs.Slots.{has_room_for, put_slot, take_slot, edge_slot};
+ghost use Rattle.block_layout.specs.Rows as layout;
+
+use edge_block::Block;
+use graph_model::KindId;
+use std::alloc::AllocError;
+use std::sync::Arc;
+
+/// A block of a row while a batch goes on.
+#[derive(Drop)]
+pub struct RowBlock {
+    pub block: Arc<Block>,
+    /// Whether the batch has touched it: then it is one of the batch's fresh blocks.
+    pub touched: bool,
+    /// The block that stood here before the batch, where the batch has touched it.
+    pub before: Option<Arc<Block>>,
+}
+
+impl RowBlock {
+    ghost use Rattle.shard_work.specs.RowBlocks.{block_of, open_of, numbers_of, own_here, IsTouched, HaveSame};
+
+    /// Whether it has an edge of the kind to the target.
+    pub fn has_edge(&self, kind: KindId, target: u32) -> bool
+        ensures { result ≡ layout.has_edge (kind.0, target) (open_of self.now) }
+    {
+        self.block.kind() == kind && self.block.find(target).is_some()
+    }
+
+    /// Whether it is a block of the kind with a free slot.
+    pub fn has_room(&self, kind: KindId) -> bool
+        ensures { result ≡ layout.has_room kind.0 (open_of self.now).shape }
+    {
+        self.block.kind() == kind && !self.block.is_full()
+    }
+
+    /// Puts a fresh block in the block's place, with the same edges, where the batch has not yet done so.
+    fn own(&mut self, fresh: &mut Vec<Arc<Block>>) -> Result<(), AllocError>
+        requires { 0 < vec_len fresh.old }
+        ensures touched { OnOk result (IsTouched (λ slots. slots) self.old self.new) }
+        ensures numbers { OnOk result (HaveSame (own_here self.new) (numbers_of fresh.new.items) (own_here self.old) (numbers_of fresh.old.items)) }
+        ensures few { OnOk result (vec_len fresh.old ≤ vec_len fresh.new + 1) }
+    {
+        if self.touched {
+            return Ok(());
+        }
+        let Some(mut own) = fresh.pop() else {
+            return Ok(());
+        };
+        Arc::make_mut(&mut own)?.copy_from(&self.block);
+        let before = std::mem::replace(&mut self.block, own);
+        self.before = Some(before);
+        self.touched = true;
+        Ok(())
+    }
+
+    /// Writes an edge, as [`Block::put`].
+    pub fn put(
+        &mut self,
+        fresh: &mut Vec<Arc<Block>>,
+        target: u32,
+        weight: i64,
+        first: u64,
+        recent: u64,
+    ) -> Result<(), AllocError>
+        requires fresh { 0 < vec_len fresh.old }
+        requires room { IsTrue (has_room_for target (block_of self.old.block).slots) }
+        requires weight { IsWeight weight }
+        requires first { IsTime first }
+        requires recent { IsTime recent }
+        ensures touched { OnOk result (IsTouched (put_slot (edge_slot target weight first recent)) self.old self.new) }
+        ensures numbers { OnOk result (HaveSame (own_here self.new) (numbers_of fresh.new.items) (own_here self.old) (numbers_of fresh.old.items)) }
+        ensures few { OnOk result (vec_len fresh.old ≤ vec_len fresh.new + 1) }
+    {
+        self.own(fresh)?;
+        Arc::make_mut(&mut self.block)?.put(target, weight, first, recent);
+        Ok(())
+    }
+
+    /// Takes the edge to a target out.
+    pub fn take(&mut self, fresh: &mut Vec<Arc<Block>>, target: u32) -> Result<(), AllocError>
+        requires { 0 < vec_len fresh.old }
+        ensures touched { OnOk result (IsTouched (take_slot target) self.old self.new) }
+        ensures numbers { OnOk result (HaveSame (own_here self.new) (numbers_of fresh.new.items) (own_here self.old) (numbers_of fresh.old.items)) }
+        ensures few { OnOk result (vec_len fresh.old ≤ vec_len fresh.new + 1) }
+    {
+        self.own(fresh)?;
+        let _ = Arc::make_mut(&mut self.block)?.take(target);
+        Ok(())
+    }
+}

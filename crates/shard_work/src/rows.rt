@@ -1,0 +1,175 @@
+//! Changes of a row.
+
+ghost use Rattle.std.specs.Prelude.{◌≡◌, ◌+◌, ◌<◌, ◌≤◌, IsTrue, IfOk, IfSome, OnOk, All, vec_len, [], true, false};
+ghost use Rattle.std.specs.List.{list_any, position};
+ghost use Rattle.std.specs.Option.{is_some};
+ghost use Rattle.graph_model.specs.Graph.{IsWeight, IsTime};
+ghost use Rattle.graph_model.specs.Step.{stamp_after, outcome_at};
+ghost use Rattle.edge_block.specs.Slots.{has_room_for, stamp_at, edge_slot};
+ghost use Rattle.block_layout.specs.Rows as layout;
+ghost use Rattle.block_layout.specs.Rows.{touch, touches, change_row, edge_at, put_edge};
+ghost use Rattle.shard_work.specs.RowBlocks.{block_of, open_of, opens, had_here, had_in, numbers_of, own_here, own_in, set_slot, HaveSame, IsOf, IsChanged, IsTouched};
+ghost use Rattle.graph_model.specs.Changes.{option_stamp, AreMarks, IsChange};
+
+use crate::row_blocks::RowBlock;
+use edge_block::Block;
+use graph_model::{EdgeChange, EdgeMarks, KindId, Outcome, VertexId, change_edge};
+use std::alloc::{AllocError, Global};
+use std::sync::Arc;
+
+/// The place of the block with the edge of the kind to the target.
+pub fn place_of(row: &[RowBlock], kind: KindId, target: u32) -> Option<usize>
+    ensures { result ≡ position (λ h. layout.has_edge (kind.0, target) (open_of h)) row.now }
+{
+    row.iter().position(|here| here.has_edge(kind, target))
+}
+
+/// The place of the first block of the kind with a free slot.
+pub fn room_in(row: &[RowBlock], kind: KindId) -> Option<usize>
+    ensures { result ≡ position (λ h. layout.has_room kind.0 (open_of h).shape) row.now }
+{
+    row.iter().position(|here| here.has_room(kind))
+}
+
+/// Changes the edge to a target, which the block has, and answers the outcome.
+fn change_here(
+    here: &mut RowBlock,
+    fresh: &mut Vec<Arc<Block>>,
+    target: u32,
+    change: EdgeChange,
+) -> Result<Outcome, AllocError>
+    requires valid { IsChange change }
+    requires fresh { 0 < vec_len fresh.old }
+    requires edge { is_some (stamp_at (block_of here.old.block).slots target) ≡ true }
+    ensures outcome { IfOk result (λ o. o ≡ outcome_at change (stamp_at (block_of here.old.block).slots target)) }
+    ensures changed { OnOk result (IsChanged change target here.old here.new) }
+    ensures numbers { OnOk result (HaveSame (own_here here.new) (numbers_of fresh.new.items) (own_here here.old) (numbers_of fresh.old.items)) }
+    ensures few { OnOk result (vec_len fresh.old ≤ vec_len fresh.new + 1) }
+{
+    let Some(edge) = here.block.find(target) else {
+        return Ok(Outcome::Absent);
+    };
+    let before = EdgeMarks {
+        weight: *edge.weight,
+        first: *edge.first,
+        recent: *edge.recent,
+    };
+    let (outcome, after) = change_edge(change, Some(before));
+    match outcome {
+        Outcome::Absent | Outcome::Overflow => Ok(outcome),
+        Outcome::Inserted | Outcome::Updated | Outcome::Removed => {
+            set_edge(here, fresh, target, after)?;
+            Ok(outcome)
+        }
+    }
+}
+
+/// Writes this at the target, or takes the edge to the target out.
+fn set_edge(
+    here: &mut RowBlock,
+    fresh: &mut Vec<Arc<Block>>,
+    target: u32,
+    after: Option<EdgeMarks>,
+) -> Result<(), AllocError>
+    requires fresh { 0 < vec_len fresh.old }
+    requires room { IsTrue (has_room_for target (block_of here.old.block).slots) }
+    requires after { IfSome after AreMarks }
+    ensures touched { OnOk result (IsTouched (set_slot target (option_stamp after)) here.old here.new) }
+    ensures numbers { OnOk result (HaveSame (own_here here.new) (numbers_of fresh.new.items) (own_here here.old) (numbers_of fresh.old.items)) }
+    ensures few { OnOk result (vec_len fresh.old ≤ vec_len fresh.new + 1) }
+{
+    match after {
+        Some(marks) => here.put(fresh, target, marks.weight, marks.first, marks.recent),
+        None => here.take(fresh, target),
+    }
+}
+
+/// Adds an edge to a target that the row doesn't have: into the first block of the kind that isn't full, else
+/// into a block that is appended.
+fn add_edge(
+    row: &mut Vec<RowBlock>,
+    fresh: &mut Vec<Arc<Block>>,
+    source: VertexId,
+    kind: KindId,
+    target: u32,
+    marks: EdgeMarks,
+) -> Result<(), AllocError>
+    requires fresh { 0 < vec_len fresh.old }
+    requires absent { list_any (layout.has_edge (kind.0, target)) (opens row.old.items) ≡ false }
+    requires marks { AreMarks marks }
+    requires own { All (IsOf source.0) row.old.items }
+    ensures row { OnOk result (opens row.new.items ≡ put_edge kind.0 (edge_slot target marks.weight marks.first marks.recent) (opens row.old.items)) }
+    ensures had { OnOk result (had_in row.new.items ≡ had_in row.old.items) }
+    ensures own { OnOk result (All (IsOf source.0) row.new.items) }
+    ensures numbers { OnOk result (HaveSame (own_in row.new.items) (numbers_of fresh.new.items) (own_in row.old.items) (numbers_of fresh.old.items)) }
+    ensures few { OnOk result (vec_len fresh.old ≤ vec_len fresh.new + 1) }
+{
+    match room_in(row.as_slice(), kind) {
+        Some(place) => row[place].put(fresh, target, marks.weight, marks.first, marks.recent),
+        None => {
+            let block = new_block(fresh, source, kind, target, marks)?;
+            row.push(block)?;
+            Ok(())
+        }
+    }
+}
+
+/// A block of the batch's own with one edge.
+fn new_block(
+    fresh: &mut Vec<Arc<Block>>,
+    source: VertexId,
+    kind: KindId,
+    target: u32,
+    marks: EdgeMarks,
+) -> Result<RowBlock, AllocError>
+    requires fresh { 0 < vec_len fresh.old }
+    requires marks { AreMarks marks }
+    ensures shown { IfOk result (λ h. open_of h ≡ layout.new_block kind.0 (edge_slot target marks.weight marks.first marks.recent)) }
+    ensures had { IfOk result (λ h. had_here h ≡ []) }
+    ensures own { IfOk result (λ h. IsOf source.0 h) }
+    ensures numbers { IfOk result (λ h. HaveSame (own_here h) (numbers_of fresh.new.items) [] (numbers_of fresh.old.items)) }
+    ensures few { OnOk result (vec_len fresh.old ≤ vec_len fresh.new + 1) }
+{
+    let Some(mut block) = fresh.pop() else {
+        return Err(AllocError);
+    };
+    let own = Arc::make_mut(&mut block)?;
+    own.clear_for(source, kind);
+    own.put(target, marks.weight, marks.first, marks.recent);
+    Ok(RowBlock {
+        block,
+        touched: true,
+        before: None,
+    })
+}
+
+/// Changes the edge of a kind to a target, and answers the outcome.
+pub fn apply_step(
+    row: &mut Vec<RowBlock>,
+    fresh: &mut Vec<Arc<Block>>,
+    source: VertexId,
+    kind: KindId,
+    target: u32,
+    change: EdgeChange,
+) -> Result<Outcome, AllocError>
+    requires valid { IsChange change }
+    requires fresh { 0 < vec_len fresh.old }
+    requires own { All (IsOf source.0) row.old.items }
+    ensures outcome { IfOk result (λ o. o ≡ outcome_at change (edge_at (opens row.old.items) (kind.0, target))) }
+    ensures row { OnOk result (opens row.new.items ≡ change_row change (kind.0, target) (opens row.old.items)) }
+    ensures had { OnOk result (had_in row.new.items ≡ had_in row.old.items) }
+    ensures own { OnOk result (All (IsOf source.0) row.new.items) }
+    ensures numbers { OnOk result (HaveSame (own_in row.new.items) (numbers_of fresh.new.items) (own_in row.old.items) (numbers_of fresh.old.items)) }
+    ensures few { OnOk result (vec_len fresh.old ≤ vec_len fresh.new + 1) }
+{
+    match place_of(row.as_slice(), kind, target) {
+        Some(place) => change_here(&mut row[place], fresh, target, change),
+        None => {
+            let (outcome, after) = change_edge(change, None);
+            if let Some(marks) = after {
+                add_edge(row, fresh, source, kind, target, marks)?;
+            }
+            Ok(outcome)
+        }
+    }
+}
