@@ -1,11 +1,17 @@
-//! Tests of the types: names, lists, batches, and the copies of each.
+//! Tests of the types: names, lists, changes of an edge, batches, and the copies of each.
+
+ghost use Rattle.std.specs.Prelude.{◌≡◌, IfSome};
+ghost use Rattle.graph_model.specs.Changes.{AreMarks, IsChange};
 
 use crate::tests::Act::{Incr, Insert, Remove};
 use crate::{
-    Batch, Content, Edge, KindId, List, Name, NamedFilter, NamedOp, PushError, Request, VertexId,
-    is_kind_name, is_name,
+    Batch, Content, Edge, EdgeChange, EdgeMarks, KindId, List, Name, NamedFilter, NamedOp, Outcome,
+    PushError, Request, VertexId, change_edge, is_kind_name, is_name, law_edge_order,
+    law_first_time_stays, law_names_stay_names, law_one_answer, law_one_table, law_some_answer,
+    law_some_table, law_within_limits,
 };
 use std::alloc::{AllocError, Global};
+use std::process::Abort;
 use std::test::Fail;
 
 #[derive(Clone, Copy, Debug, PartialEq, Eq)]
@@ -50,30 +56,20 @@ fn operation(alloc: Global, row: &Row) -> Result<NamedOp, AllocError> {
     })
 }
 
-/// Appends the operations to the batch.
-fn push_rows(alloc: Global, batch: &mut Batch, rows: &[Row]) -> Result<(), PushError> {
-    for row in rows {
-        let Ok(op) = operation(alloc, row) else {
-            return Err(PushError::OutOfMemory);
-        };
-        batch.push(op)?;
+/// Appends an operation to the batch.
+fn push_row(alloc: Global, batch: &mut Batch, row: &Row) -> Result<(), PushError> {
+    match operation(alloc, row) {
+        Ok(op) => batch.push(op),
+        Err(AllocError) => Err(PushError::OutOfMemory),
     }
-    Ok(())
 }
 
 fn batch_of(alloc: Global, rows: &[Row]) -> Result<Batch, PushError> {
     let mut batch = Batch::new(alloc);
-    push_rows(alloc, &mut batch, rows)?;
+    for row in rows {
+        push_row(alloc, &mut batch, row)?;
+    }
     Ok(batch)
-}
-
-fn are_called(names: &List<Name>, texts: &[&str]) -> bool {
-    let names = names.as_slice();
-    names.len() == texts.len()
-        && names
-            .iter()
-            .zip(texts)
-            .all(|(name, text)| name.as_str() == *text)
 }
 
 /// Tells `tools/refuse-each-growth` that a growth was refused, which the test accepted.
@@ -113,6 +109,15 @@ fn are_rows(batch: &Batch, rows: &[Row]) -> bool {
             .all(|(op, row)| is_row(op, row))
 }
 
+/// Whether the batch can be copied and the copy has the operations of the rows; nothing where memory is refused.
+fn is_copied(batch: &Batch, rows: &[Row]) -> Option<bool> {
+    let copy: Result<Batch, AllocError> = batch.clone();
+    match copy {
+        Ok(copy) => Some(are_rows(&copy, rows)),
+        Err(AllocError) => None,
+    }
+}
+
 #[test]
 fn names_are_short_printable_texts(rt: HostRuntime) -> Result<(), Fail> {
     let longest = "0123456789012345678901234567890123456789012345678901234567890123";
@@ -132,10 +137,8 @@ fn names_are_short_printable_texts(rt: HostRuntime) -> Result<(), Fail> {
 fn a_name_shows_its_text(rt: HostRuntime) -> Result<(), Fail> {
     let ann = name(rt.alloc(), "ann")?;
     assert_eq!(rt; ann.as_str(), "ann");
-    let copy = ann.clone()?;
-    assert_eq!(rt; copy.as_str(), "ann");
-    let text = ann.into_string();
-    assert_eq!(rt; text.as_str(), "ann");
+    assert_eq!(rt; ann.into_string().as_str(), "ann");
+    assert_eq!(rt; name(rt.alloc(), "bob")?.clone()?.as_str(), "bob");
     Ok(())
 }
 
@@ -143,11 +146,121 @@ fn a_name_shows_its_text(rt: HostRuntime) -> Result<(), Fail> {
 fn a_list_shows_its_items(rt: HostRuntime) -> Result<(), Fail> {
     let list = List::of(vec![in rt.alloc(); 4, 9]?);
     assert_eq!(rt; list.as_slice(), [4, 9].as_slice());
-    let copy = list.clone()?;
-    assert_eq!(rt; copy.as_slice(), [4, 9].as_slice());
-    let items = list.into_vec();
-    assert_eq!(rt; items.as_slice(), [4, 9].as_slice());
+    assert_eq!(rt; list.into_vec().as_slice(), [4, 9].as_slice());
     Ok(())
+}
+
+#[test]
+fn laws_can_be_called() {
+    law_one_answer();
+    law_some_answer();
+    law_edge_order();
+    law_within_limits();
+    law_names_stay_names();
+    law_first_time_stays();
+    law_one_table();
+    law_some_table();
+}
+
+/// Marks of this weight, first seen at 10 and last touched at this time.
+fn marks(weight: i64, recent: u64) -> Option<EdgeMarks>
+    ensures { result ≡ Some (record { weight = weight; first = 10; recent = recent }) }
+{
+    Some(EdgeMarks {
+        weight,
+        first: 10,
+        recent,
+    })
+}
+
+/// What a change does where these marks, or none, stand at the key.
+fn assert_change(
+    rt: &impl Abort,
+    change: EdgeChange,
+    before: Option<EdgeMarks>,
+    outcome: Outcome,
+    after: Option<EdgeMarks>,
+)
+    requires change { IsChange change }
+    requires before { IfSome before AreMarks }
+{
+    assert_eq!(rt; change_edge(change, before), (outcome, after));
+}
+
+/// An insertion of this weight at this time.
+fn to_insert(weight: i64, time: u64) -> EdgeChange
+    ensures { result ≡ EdgeChange.Insert weight time }
+{
+    EdgeChange::Insert { weight, time }
+}
+
+/// An increment by this amount at this time.
+fn to_incr(amount: i64, time: u64) -> EdgeChange
+    ensures { result ≡ EdgeChange.Incr amount time }
+{
+    EdgeChange::Incr { amount, time }
+}
+
+#[test]
+fn insertions_and_removals_follow_the_rule(rt: HostRuntime) {
+    let absent = marks(5, 10);
+    assert_change(&rt, to_insert(5, 10), None, Outcome::Inserted, absent);
+    assert_change(
+        &rt,
+        to_insert(7, 12),
+        marks(5, 11),
+        Outcome::Updated,
+        marks(7, 12),
+    );
+    assert_change(
+        &rt,
+        to_insert(7, 3),
+        marks(5, 11),
+        Outcome::Updated,
+        marks(7, 3),
+    );
+    assert_change(&rt, EdgeChange::Remove, None, Outcome::Absent, None);
+    assert_change(
+        &rt,
+        EdgeChange::Remove,
+        marks(5, 11),
+        Outcome::Removed,
+        None,
+    );
+}
+
+#[test]
+fn increments_follow_the_rule(rt: HostRuntime) {
+    let most = 1_099_511_627_776;
+    assert_change(&rt, to_incr(5, 10), None, Outcome::Inserted, marks(5, 10));
+    assert_change(
+        &rt,
+        to_incr(-2, 12),
+        marks(5, 11),
+        Outcome::Updated,
+        marks(3, 12),
+    );
+    assert_change(
+        &rt,
+        to_incr(1, 12),
+        marks(most - 1, 11),
+        Outcome::Updated,
+        marks(most, 12),
+    );
+    assert_change(
+        &rt,
+        to_incr(1, 12),
+        marks(most, 11),
+        Outcome::Overflow,
+        marks(most, 11),
+    );
+    assert_change(
+        &rt,
+        to_incr(-1, 12),
+        marks(-most, 11),
+        Outcome::Overflow,
+        marks(-most, 11),
+    );
 }
 
 const ONE_OF_EACH: [Row; 3] = [
@@ -165,19 +278,16 @@ const ONE_OF_EACH: [Row; 3] = [
 
 #[test]
 fn a_batch_keeps_its_operations_in_order(rt: HostRuntime) -> Result<(), Fail> {
-    let mut batch = Batch::new(rt.alloc());
-    assert!(rt; batch.is_empty());
-    assert_eq!(rt; batch.len(), 0);
-    push_rows(rt.alloc(), &mut batch, &ONE_OF_EACH)?;
+    assert!(rt; Batch::new(rt.alloc()).is_empty());
+    let batch = batch_of(rt.alloc(), &ONE_OF_EACH)?;
     assert!(rt; !batch.is_empty());
     assert!(rt; are_rows(&batch, &ONE_OF_EACH));
-    let copy = batch.clone()?;
-    assert!(rt; are_rows(&copy, &ONE_OF_EACH));
+    assert_eq!(rt; is_copied(&batch, &ONE_OF_EACH), Some(true));
     Ok(())
 }
 
 #[test]
-fn a_batch_refuses_bad_operations_in_order(rt: HostRuntime) -> Result<(), Fail> {
+fn a_batch_refuses_bad_operations_in_order(rt: HostRuntime) {
     let past = 1_099_511_627_777;
     let late = 9_223_372_036_854_775_808;
     let mut batch = Batch::new(rt.alloc());
@@ -204,18 +314,17 @@ fn a_batch_refuses_bad_operations_in_order(rt: HostRuntime) -> Result<(), Fail> 
             PushError::BadTime,
         ),
     ] {
-        assert_eq!(rt; batch.push(operation(rt.alloc(), &row)?), Err(refusal));
+        assert_eq!(rt; push_row(rt.alloc(), &mut batch, &row), Err(refusal));
     }
     assert_eq!(rt; batch.len(), 0);
-    Ok(())
 }
 
 #[test]
-fn a_batch_has_at_most_4096_operations(rt: HostRuntime) -> Result<(), Fail> {
+fn a_batch_has_at_most_4096_operations(rt: HostRuntime) {
     let mut batch = Batch::new(rt.alloc());
     for time in 0..4096 {
         let row = Row(Insert, "knows", "ann", "bob", 1, time);
-        batch.push(operation(rt.alloc(), &row)?)?;
+        assert_eq!(rt; push_row(rt.alloc(), &mut batch, &row), Ok(()));
     }
     for (row, refusal) in [
         (
@@ -224,20 +333,20 @@ fn a_batch_has_at_most_4096_operations(rt: HostRuntime) -> Result<(), Fail> {
         ),
         (Row(Remove, "knows", "", "bob", 0, 0), PushError::BadName),
     ] {
-        assert_eq!(rt; batch.push(operation(rt.alloc(), &row)?), Err(refusal));
+        assert_eq!(rt; push_row(rt.alloc(), &mut batch, &row), Err(refusal));
     }
     assert_eq!(rt; batch.len(), 4096);
-    Ok(())
 }
 
 /// A request for degrees of a kind, from 3 to 7.
 fn request(alloc: Global) -> Result<Request, AllocError> {
-    let filter = NamedFilter {
-        kind: Some(name(alloc, "knows")?),
-        lo: 3,
-        hi: 7,
-    };
-    Ok(Request::Degrees { filter })
+    Ok(Request::Degrees {
+        filter: NamedFilter {
+            kind: Some(name(alloc, "knows")?),
+            lo: 3,
+            hi: 7,
+        },
+    })
 }
 
 /// Whether it is that request.
@@ -251,43 +360,61 @@ fn is_request(request: &Request) -> bool {
     }
 }
 
-#[test]
-fn requests_are_copied_whole(rt: HostRuntime) -> Result<(), Fail> {
-    let copy = request(rt.alloc())?.clone()?;
-    assert!(rt; is_request(&copy));
-    Ok(())
+/// Whether the request can be copied and the copy is that request; nothing where memory is refused.
+fn is_request_copied(request: &Request) -> Option<bool> {
+    let copy: Result<Request, AllocError> = request.clone();
+    match copy {
+        Ok(copy) => Some(is_request(&copy)),
+        Err(AllocError) => None,
+    }
 }
 
-#[test]
-fn contents_are_copied_whole(rt: HostRuntime) -> Result<(), Fail> {
-    let alloc = rt.alloc();
-    let edge = Edge {
-        kind: KindId(0),
-        source: VertexId(1),
-        target: VertexId(0),
-        weight: -2,
-        first: 4,
-        recent: 3,
-    };
-    let content = Content {
+const LOOSE_EDGE: Edge = Edge {
+    kind: KindId(0),
+    source: VertexId(1),
+    target: VertexId(0),
+    weight: -2,
+    first: 4,
+    recent: 3,
+};
+
+/// Vertices ann and bob, the kind knows, and one edge.
+fn small_content(alloc: Global) -> Result<Content, AllocError> {
+    Ok(Content {
         names: List::of(vec![in alloc; name(alloc, "ann")?, name(alloc, "bob")?]?),
         kinds: List::of(vec![in alloc; name(alloc, "knows")?]?),
-        edges: List::of(vec![in alloc; edge]?),
-    };
-    let copy = content.clone()?;
-    assert!(rt; are_called(&copy.names, &["ann", "bob"]));
-    assert!(rt; are_called(&copy.kinds, &["knows"]));
-    assert_eq!(rt; copy.edges.as_slice(), [edge].as_slice());
-    Ok(())
+        edges: List::of(vec![in alloc; LOOSE_EDGE]?),
+    })
+}
+
+fn are_called(names: &List<Name>, texts: &[&str]) -> bool {
+    let names = names.as_slice();
+    names.len() == texts.len()
+        && names
+            .iter()
+            .zip(texts)
+            .all(|(name, text)| name.as_str() == *text)
+}
+
+fn is_small_content(content: &Content) -> bool {
+    are_called(&content.names, &["ann", "bob"])
+        && are_called(&content.kinds, &["knows"])
+        && content.edges.as_slice() == [LOOSE_EDGE].as_slice()
+}
+
+/// Whether the content can be copied and the copy is that content; nothing where memory is refused.
+fn is_content_copied(content: &Content) -> Option<bool> {
+    let copy: Result<Content, AllocError> = content.clone();
+    match copy {
+        Ok(copy) => Some(is_small_content(&copy)),
+        Err(AllocError) => None,
+    }
 }
 
 #[test]
 fn refused_push_leaves_the_batch(rt: HostRuntime) -> Result<(), Fail> {
-    let Ok(op) = operation(rt.alloc(), &ONE_OF_EACH[0]) else {
-        return refused(&rt);
-    };
     let mut batch = Batch::new(rt.alloc());
-    match batch.push(op) {
+    match push_row(rt.alloc(), &mut batch, &ONE_OF_EACH[0]) {
         Ok(()) => assert_eq!(rt; batch.len(), 1),
         Err(refusal) => {
             assert_eq!(rt; (refusal, batch.len()), (PushError::OutOfMemory, 0));
@@ -302,11 +429,11 @@ fn refused_copies_leave_the_batch(rt: HostRuntime) -> Result<(), Fail> {
     let Ok(batch) = batch_of(rt.alloc(), &ONE_OF_EACH) else {
         return refused(&rt);
     };
-    let copy: Result<Batch, AllocError> = batch.clone();
+    let copied = is_copied(&batch, &ONE_OF_EACH);
     assert!(rt; are_rows(&batch, &ONE_OF_EACH));
-    match copy {
-        Ok(copy) => assert!(rt; are_rows(&copy, &ONE_OF_EACH)),
-        Err(AllocError) => return refused(&rt),
+    match copied {
+        Some(right) => assert!(rt; right),
+        None => return refused(&rt),
     }
     Ok(())
 }
@@ -316,11 +443,25 @@ fn refused_copies_leave_the_request(rt: HostRuntime) -> Result<(), Fail> {
     let Ok(request) = request(rt.alloc()) else {
         return refused(&rt);
     };
-    let copy: Result<Request, AllocError> = request.clone();
+    let copied = is_request_copied(&request);
     assert!(rt; is_request(&request));
-    match copy {
-        Ok(copy) => assert!(rt; is_request(&copy)),
-        Err(AllocError) => return refused(&rt),
+    match copied {
+        Some(right) => assert!(rt; right),
+        None => return refused(&rt),
+    }
+    Ok(())
+}
+
+#[test]
+fn refused_copies_leave_the_content(rt: HostRuntime) -> Result<(), Fail> {
+    let Ok(content) = small_content(rt.alloc()) else {
+        return refused(&rt);
+    };
+    let copied = is_content_copied(&content);
+    assert!(rt; is_small_content(&content));
+    match copied {
+        Some(right) => assert!(rt; right),
+        None => return refused(&rt),
     }
     Ok(())
 }

@@ -1,5 +1,5 @@
 -- What one operation exceeds, a batch exceeds; and the names that are left without looking at edges.
-use Rattle.std.proofs.Common.{◌≡◌, ℕ, ◌<◌, ◌≤◌, List, [], ◌∷◌, length, get_or, zero, suc, drop, ◌⊎◌, inl, inr, refl, sym, ap, subst, arith}
+use Rattle.std.proofs.Common.{◌≡◌, ℕ, ◌<◌, ◌≤◌, List, [], ◌∷◌, length, get_or, zero, suc, drop, inl, inr, refl, sym, ap, subst, arith}
 use Rattle.graph_model.specs.Limits.{name_limit}
 use Rattle.graph_model.specs.Graph.{Graph}
 use Rattle.graph_model.specs.Step.{after, after_all}

@@ -19,7 +19,14 @@ shown_key k = record { kind = k.kind.0; source = k.source.0; target = k.target.0
 
 -- the edge at the key that bears these marks
 abbrev pub edge_with : EdgeKey → EdgeMarks → Edge
-edge_with k m = record { kind = k.kind; source = k.source; target = k.target; weight = m.weight; first = m.first; recent = m.recent }
+edge_with k m = record {
+  kind = k.kind;
+  source = k.source;
+  target = k.target;
+  weight = m.weight;
+  first = m.first;
+  recent = m.recent;
+}
 
 -- the vertices' names that an operation leaves, and that operations leave: they depend on no kinds and on no edges
 abbrev pub names_after : NamedOp → List (List ℕ) → List (List ℕ)

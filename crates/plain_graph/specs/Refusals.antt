@@ -1,6 +1,5 @@
 -- When a batch is refused.
-use Rattle.std.specs.Prelude.{◌≡◌, ◌≢◌, ◌⊎◌, ◌<◌, List, length}
-use Rattle.std.specs.Prelude.{ℕ}
+use Rattle.std.specs.Prelude.{◌≡◌, ◌≢◌, ◌⊎◌, ◌<◌, ℕ, List, length}
 use Rattle.graph_model.specs.Limits.{name_limit, kind_limit}
 use Rattle.graph_model.specs.Graph.{Graph}
 use Rattle.graph_model.specs.GraphLimits.{MeetsNameLimit, MeetsKindLimit}
@@ -16,7 +15,8 @@ Refuses OutOfMemory ops g = Unit {0}
 
 -- a batch that meets both limits is refused for the names
 abbrev pub TellsNamesFirst : Type 0
-TellsNamesFirst = (error : PlainError) (ops : List NamedOp) (g : Graph) → MeetsNameLimit ops g → Refuses error ops g → error ≢ KindsFull
+TellsNamesFirst =
+    (error : PlainError) (ops : List NamedOp) (g : Graph) → MeetsNameLimit ops g → Refuses error ops g → error ≢ KindsFull
 
 -- a graph past the limit that an error speaks of; want of memory may come at any time
 abbrev pub Exceeds : PlainError → Graph → Type 0

@@ -102,10 +102,13 @@ impl Draft {
     ) -> Result<Outcome, PlainError>
         requires content { IsContent (shown_by self.old) }
         requires change { IsChange change }
-        ensures outcome { IfOk result (λ o. o ≡ step.change_outcome change kind.now source.now target.now (graph_of (shown_by self.old))) }
-        ensures graph { OnOk result (graph_of (shown_by self.new) ≡ step.changed change kind.now source.now target.now (graph_of (shown_by self.old))) }
+        ensures outcome { IfOk result (λ o.
+            o ≡ step.change_outcome change kind.now source.now target.now (graph_of (shown_by self.old))) }
+        ensures graph { OnOk result
+            (graph_of (shown_by self.new) ≡ step.changed change kind.now source.now target.now (graph_of (shown_by self.old))) }
         ensures content { OnOk result (IsContent (shown_by self.new)) }
-        ensures refused { IfErr result (λ e. Exceeds e (step.changed change kind.now source.now target.now (graph_of (shown_by self.old)))) }
+        ensures refused { IfErr result (λ e.
+            Exceeds e (step.changed change kind.now source.now target.now (graph_of (shown_by self.old)))) }
     {
         make_names(&mut self.names, change, source, target)?;
         make_kind(&mut self.kinds, change, kind)?;

@@ -99,7 +99,8 @@ pub(crate) fn put_at(
     key: EdgeKey,
     marks: Option<EdgeMarks>,
 ) -> Result<(), AllocError>
-    ensures { OnOk result (edges.new.items ≡ graph.without (shown_key key) edges.old.items ++ option_to_list (option_map (edge_with key) marks)) }
+    ensures { OnOk result
+        (edges.new.items ≡ graph.without (shown_key key) edges.old.items ++ option_to_list (option_map (edge_with key) marks)) }
 {
     clear_at(edges, key);
     match marks {

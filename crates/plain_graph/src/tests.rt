@@ -1,15 +1,18 @@
 //! What the tests build with: operations, batches and contents.
 
+ghost use Rattle.graph_model.specs.Graph.{IsContent};
+
 mod applying;
 mod replying;
 
 use crate::tests::Act::{Incr, Insert, Remove};
-use graph_model::{Batch, Content, List, Name, NamedOp, PushError};
+use crate::{law_names_before_kinds, plain_apply};
+use graph_model::{Batch, Content, List, Name, NamedOp, Outcome, PushError};
 use std::alloc::{AllocError, Global};
 use std::test::Fail;
 
-#[derive(Clone, Copy, Debug, PartialEq, Eq)]
-pub(crate) enum Act {
+#[derive(Clone, Copy, PartialEq, Eq)]
+enum Act {
     Insert,
     Incr,
     Remove,
@@ -17,20 +20,13 @@ pub(crate) enum Act {
 
 /// An operation: kind, source, target, weight or amount, and time; a removal has neither of the last two.
 #[derive(Clone, Copy)]
-pub(crate) struct Row(
-    pub(crate) Act,
-    pub(crate) &'static str,
-    pub(crate) &'static str,
-    pub(crate) &'static str,
-    pub(crate) i64,
-    pub(crate) u64,
-);
+struct Row(Act, &'static str, &'static str, &'static str, i64, u64);
 
-pub(crate) fn name(alloc: Global, text: &str) -> Result<Name, AllocError> {
+fn name(alloc: Global, text: &str) -> Result<Name, AllocError> {
     Ok(Name::of(String::from_str(alloc, text)?))
 }
 
-pub(crate) fn operation(alloc: Global, row: &Row) -> Result<NamedOp, AllocError> {
+fn operation(alloc: Global, row: &Row) -> Result<NamedOp, AllocError> {
     let kind = name(alloc, row.1)?;
     let source = name(alloc, row.2)?;
     let target = name(alloc, row.3)?;
@@ -58,23 +54,45 @@ pub(crate) fn operation(alloc: Global, row: &Row) -> Result<NamedOp, AllocError>
 }
 
 /// Appends the operations to the batch.
-pub(crate) fn push_rows(alloc: Global, batch: &mut Batch, rows: &[Row]) -> Result<(), PushError> {
+fn push_rows(alloc: Global, batch: &mut Batch, rows: &[Row]) -> Result<(), PushError> {
     for row in rows {
-        let Ok(op) = operation(alloc, row) else {
-            return Err(PushError::OutOfMemory);
-        };
-        batch.push(op)?;
+        match operation(alloc, row) {
+            Ok(op) => batch.push(op)?,
+            Err(AllocError) => return Err(PushError::OutOfMemory),
+        }
     }
     Ok(())
 }
 
-pub(crate) fn batch_of(alloc: Global, rows: &[Row]) -> Result<Batch, PushError> {
+fn batch_of(alloc: Global, rows: &[Row]) -> Result<Batch, PushError> {
     let mut batch = Batch::new(alloc);
     push_rows(alloc, &mut batch, rows)?;
     Ok(batch)
 }
 
-pub(crate) fn are_called(names: &List<Name>, texts: &[&str]) -> bool {
+fn empty(alloc: Global) -> Content
+    ensures { IsContent result }
+{
+    Content {
+        names: List::of(Vec::new(alloc)),
+        kinds: List::of(Vec::new(alloc)),
+        edges: List::of(Vec::new(alloc)),
+    }
+}
+
+/// Applies the operations as one batch: whether they have these outcomes. Nothing where memory is refused.
+fn applies(alloc: Global, content: &mut Content, rows: &[Row], outcomes: &[Outcome]) -> Option<bool>
+    requires { IsContent content.old }
+    ensures { IsContent content.new }
+{
+    let batch = batch_of(alloc, rows).ok()?;
+    match plain_apply(alloc, content, &batch) {
+        Ok(told) => Some(told.as_slice() == outcomes),
+        Err(_) => None,
+    }
+}
+
+fn are_called(names: &List<Name>, texts: &[&str]) -> bool {
     let names = names.as_slice();
     names.len() == texts.len()
         && names
@@ -84,7 +102,7 @@ pub(crate) fn are_called(names: &List<Name>, texts: &[&str]) -> bool {
 }
 
 /// How many names, kinds and edges the content has.
-pub(crate) fn sizes(content: &Content) -> (usize, usize, usize) {
+fn sizes(content: &Content) -> (usize, usize, usize) {
     (
         content.names.as_slice().len(),
         content.kinds.as_slice().len(),
@@ -93,7 +111,12 @@ pub(crate) fn sizes(content: &Content) -> (usize, usize, usize) {
 }
 
 /// Tells `tools/refuse-each-growth` that a growth was refused, which the test accepted.
-pub(crate) fn refused(rt: &impl Print) -> Result<(), Fail> {
+fn refused(rt: &impl Print) -> Result<(), Fail> {
     println!(rt; "refused")?;
     Ok(())
+}
+
+#[test]
+fn the_law_can_be_called() {
+    law_names_before_kinds();
 }

@@ -4,74 +4,51 @@ ghost use Rattle.std.specs.Prelude.{IfSome};
 ghost use Rattle.graph_model.specs.Graph.{IsContent};
 
 use crate::tests::Act::Insert;
-use crate::tests::{Row, batch_of, name, refused, sizes};
+use crate::tests::{Row, batch_of, empty, name, refused, sizes};
 use crate::{plain_apply, plain_reply};
-use graph_model::{AskError, Content, Degree, List, Name, NamedFilter, Reply, Request};
+use graph_model::{AskError, Content, Degree, Name, NamedFilter, Reply, Request};
 use std::alloc::{AllocError, Global};
-use std::process::Abort;
 use std::test::Fail;
 
-/// A request: the kind, or none for any, and the window; or kind, source and target of an edge.
-#[derive(Clone, Copy)]
-enum Question {
-    Degrees(Option<&'static str>, u64, u64),
-    Edge(&'static str, &'static str, &'static str),
-}
-
-/// The answer that is wanted: each vertex with its degrees out and in and its weight out; weight and times of an
-/// edge; or a refusal.
-#[derive(Clone, Copy)]
-enum Wanted {
-    Degrees(&'static [(&'static str, u32, u32, i64)]),
-    Edge(Option<(i64, u64, u64)>),
-    Refusal(AskError),
-}
+/// A vertex's name, its degrees out and in, and its weight out.
+type DegreeRow = (&'static str, u32, u32, i64);
 
 /// The content that these operations leave, where memory allows it.
 fn content_of(alloc: Global, rows: &[Row]) -> Option<Content>
     ensures { IfSome result IsContent }
 {
     let batch = batch_of(alloc, rows).ok()?;
-    let mut content = Content {
-        names: List::of(Vec::new(alloc)),
-        kinds: List::of(Vec::new(alloc)),
-        edges: List::of(Vec::new(alloc)),
-    };
+    let mut content = empty(alloc);
     plain_apply(alloc, &mut content, &batch).ok()?;
     Some(content)
 }
 
-fn filter(alloc: Global, kind: Option<&str>, lo: u64, hi: u64) -> Result<NamedFilter, AllocError> {
-    let kind = match kind {
-        Some(text) => Some(name(alloc, text)?),
-        None => None,
+/// A request for degrees; the kind `*` is any.
+fn degrees(alloc: Global, kind: &str, lo: u64, hi: u64) -> Result<Request, AllocError> {
+    let kind = if kind == "*" {
+        None
+    } else {
+        Some(name(alloc, kind)?)
     };
-    Ok(NamedFilter { kind, lo, hi })
+    Ok(Request::Degrees {
+        filter: NamedFilter { kind, lo, hi },
+    })
 }
 
-fn request(alloc: Global, question: &Question) -> Result<Request, AllocError> {
-    match question {
-        Question::Degrees(kind, lo, hi) => Ok(Request::Degrees {
-            filter: filter(alloc, *kind, *lo, *hi)?,
-        }),
-        Question::Edge(kind, source, target) => Ok(Request::OneEdge {
-            kind: name(alloc, kind)?,
-            source: name(alloc, source)?,
-            target: name(alloc, target)?,
-        }),
-    }
+fn one_edge(alloc: Global, kind: &str, source: &str, target: &str) -> Result<Request, AllocError> {
+    Ok(Request::OneEdge {
+        kind: name(alloc, kind)?,
+        source: name(alloc, source)?,
+        target: name(alloc, target)?,
+    })
 }
 
-fn is_row(row: &(Name, Degree), wanted: &(&str, u32, u32, i64)) -> bool {
-    let degree = Degree {
-        outgoing: wanted.1,
-        incoming: wanted.2,
-        out_weight: wanted.3,
-    };
-    row.0.as_str() == wanted.0 && row.1 == degree
+fn is_row(row: &(Name, Degree), wanted: &DegreeRow) -> bool {
+    row.0.as_str() == wanted.0
+        && (row.1.outgoing, row.1.incoming, row.1.out_weight) == (wanted.1, wanted.2, wanted.3)
 }
 
-fn are_rows(rows: &[(Name, Degree)], wanted: &[(&str, u32, u32, i64)]) -> bool {
+fn are_rows(rows: &[(Name, Degree)], wanted: &[DegreeRow]) -> bool {
     rows.len() == wanted.len()
         && rows
             .iter()
@@ -79,166 +56,178 @@ fn are_rows(rows: &[(Name, Degree)], wanted: &[(&str, u32, u32, i64)]) -> bool {
             .all(|(row, wanted)| is_row(row, wanted))
 }
 
-fn is_wanted(answer: &Result<Reply, AskError>, wanted: &Wanted) -> bool {
-    match (answer, wanted) {
-        (Ok(Reply::Degrees(rows)), Wanted::Degrees(degrees)) => {
-            are_rows(rows.as_slice(), degrees)
+/// The answer: whether it has these rows.
+fn answers_rows(
+    alloc: Global,
+    content: &Content,
+    request: &Request,
+    rows: &[DegreeRow],
+) -> Result<bool, AskError>
+    requires { IsContent content.now }
+{
+    match plain_reply(alloc, content, request)? {
+        Reply::Degrees(list) => Ok(are_rows(list.as_slice(), rows)),
+        Reply::OneEdge(_) => Ok(false),
+    }
+}
+
+/// The answer: weight and times of the edge.
+fn answers_edge(
+    alloc: Global,
+    content: &Content,
+    request: &Request,
+) -> Result<Option<(i64, u64, u64)>, AskError>
+    requires { IsContent content.now }
+{
+    match plain_reply(alloc, content, request)? {
+        Reply::OneEdge(edge) => Ok(edge),
+        Reply::Degrees(_) => Ok(None),
+    }
+}
+
+/// Whether the degrees over the content that the operations leave are these.
+fn has_degrees(
+    alloc: Global,
+    rows: &[Row],
+    kind: &str,
+    lo: u64,
+    hi: u64,
+    wanted: &[DegreeRow],
+) -> bool {
+    match (content_of(alloc, rows), degrees(alloc, kind, lo, hi)) {
+        (Some(content), Ok(request)) => {
+            answers_rows(alloc, &content, &request, wanted) == Ok(true)
         }
-        (Ok(Reply::OneEdge(edge)), Wanted::Edge(stamp)) => edge == stamp,
-        (Err(error), Wanted::Refusal(refusal)) => error == refusal,
         _ => false,
     }
 }
 
-/// Asks each question of the content that the operations leave.
-fn assert_answers(
-    rt: &impl Abort,
+/// Weight and times of an edge of the content that the operations leave.
+fn edge_of(
     alloc: Global,
     rows: &[Row],
-    questions: &[(Question, Wanted)],
-) -> Result<(), Fail> {
-    let content = content_of(alloc, rows).ok_or("no content")?;
-    for (question, wanted) in questions {
-        let answer = plain_reply(alloc, &content, &request(alloc, question)?);
-        assert!(rt; is_wanted(&answer, wanted), "{answer:?}");
+    kind: &str,
+    source: &str,
+    target: &str,
+) -> Result<Option<(i64, u64, u64)>, AskError> {
+    match (
+        content_of(alloc, rows),
+        one_edge(alloc, kind, source, target),
+    ) {
+        (Some(content), Ok(request)) => answers_edge(alloc, &content, &request),
+        _ => Err(AskError::OutOfMemory),
     }
-    Ok(())
 }
 
-const ACQUAINTANCES: [Row; 2] = [
+const ACQUAINTANCES: [Row; 3] = [
     Row(Insert, "knows", "ann", "bob", 5, 10),
     Row(Insert, "knows", "bob", "cat", 2, 11),
+    Row(Insert, "knows", "bob", "cat", 3, 7),
 ];
 
-const THEIR_DEGREES: [(&'static str, u32, u32, i64); 3] = [
-    ("ann", 1, 0, 5),
-    ("bob", 1, 1, 2),
-    ("cat", 0, 1, 0),
-];
+const THEIR_DEGREES: [DegreeRow; 3] = [("ann", 1, 0, 5), ("bob", 1, 1, 3), ("cat", 0, 1, 0)];
 
 #[test]
-fn degrees_of_two_edges(rt: HostRuntime) -> Result<(), Fail> {
-    let questions = [(
-        Question::Degrees(None, 0, 100),
-        Wanted::Degrees(&THEIR_DEGREES),
-    )];
-    assert_answers(&rt, rt.alloc(), &ACQUAINTANCES, &questions)
-}
-
-#[test]
-fn a_window_has_both_its_ends(rt: HostRuntime) -> Result<(), Fail> {
+fn a_window_has_both_its_ends(rt: HostRuntime) {
     let rows = [
         Row(Insert, "k", "a", "b", 1, 9),
         Row(Insert, "k", "a", "c", 2, 10),
         Row(Insert, "k", "a", "d", 3, 20),
         Row(Insert, "k", "a", "e", 4, 21),
     ];
-    let degrees = Wanted::Degrees(&[
+    let wanted = [
         ("a", 2, 0, 5),
         ("b", 0, 0, 0),
         ("c", 0, 1, 0),
         ("d", 0, 1, 0),
         ("e", 0, 0, 0),
-    ]);
-    assert_answers(
-        &rt,
-        rt.alloc(),
-        &rows,
-        &[(Question::Degrees(Some("k"), 10, 20), degrees)],
-    )
+    ];
+    assert!(rt; has_degrees(rt.alloc(), &rows, "k", 10, 20, &wanted));
 }
 
 #[test]
-fn a_loop_counts_once_each_way_and_kinds_apart(rt: HostRuntime) -> Result<(), Fail> {
+fn a_loop_counts_once_each_way_and_kinds_apart(rt: HostRuntime) {
     let rows = [
         Row(Insert, "k", "a", "a", 1, 1),
         Row(Insert, "k", "a", "b", 1, 1),
         Row(Insert, "m", "a", "b", 1, 1),
     ];
-    let questions = [
-        (
-            Question::Degrees(None, 0, 9),
-            Wanted::Degrees(&[("a", 3, 1, 3), ("b", 0, 2, 0)]),
-        ),
-        (
-            Question::Degrees(Some("m"), 0, 9),
-            Wanted::Degrees(&[("a", 1, 0, 1), ("b", 0, 1, 0)]),
-        ),
-    ];
-    assert_answers(&rt, rt.alloc(), &rows, &questions)
+    assert!(rt;
+        has_degrees(
+            rt.alloc(),
+            &rows,
+            "*",
+            0,
+            9,
+            &[("a", 3, 1, 3), ("b", 0, 2, 0)]
+        )
+    );
+    assert!(rt;
+        has_degrees(
+            rt.alloc(),
+            &rows,
+            "m",
+            0,
+            9,
+            &[("a", 1, 0, 1), ("b", 0, 1, 0)]
+        )
+    );
 }
 
 #[test]
-fn one_edge_has_a_weight_and_two_times(rt: HostRuntime) -> Result<(), Fail> {
-    let rows = [
-        Row(Insert, "knows", "ann", "bob", 5, 10),
-        Row(Insert, "knows", "bob", "cat", 2, 11),
-        Row(Insert, "knows", "bob", "cat", 3, 7),
-    ];
-    let questions = [
-        (
-            Question::Edge("knows", "ann", "bob"),
-            Wanted::Edge(Some((5, 10, 10))),
-        ),
-        (
-            Question::Edge("knows", "bob", "cat"),
-            Wanted::Edge(Some((3, 11, 7))),
-        ),
-        (Question::Edge("knows", "bob", "ann"), Wanted::Edge(None)),
-    ];
-    assert_answers(&rt, rt.alloc(), &rows, &questions)
+fn one_edge_has_a_weight_and_two_times(rt: HostRuntime) {
+    for (source, target, wanted) in [
+        ("ann", "bob", Ok(Some((5, 10, 10)))),
+        ("bob", "cat", Ok(Some((3, 11, 7)))),
+        ("bob", "ann", Ok(None)),
+        ("dan", "ann", Err(AskError::NoVertex)),
+        ("ann", "dan", Err(AskError::NoVertex)),
+    ] {
+        assert_eq!(rt;
+            edge_of(rt.alloc(), &ACQUAINTANCES, "knows", source, target),
+            wanted
+        );
+    }
+    assert_eq!(rt;
+        edge_of(rt.alloc(), &ACQUAINTANCES, "likes", "dan", "ann"),
+        Err(AskError::NoKind)
+    );
 }
 
 #[test]
-fn refusals_come_in_order(rt: HostRuntime) -> Result<(), Fail> {
-    let questions = [
-        (
-            Question::Degrees(None, 5, 4),
-            Wanted::Refusal(AskError::BadWindow),
-        ),
-        (
-            Question::Degrees(Some("m"), 5, 4),
-            Wanted::Refusal(AskError::BadWindow),
-        ),
-        (
-            Question::Degrees(Some("m"), 0, 9),
-            Wanted::Refusal(AskError::NoKind),
-        ),
-        (
-            Question::Edge("m", "z", "b"),
-            Wanted::Refusal(AskError::NoKind),
-        ),
-        (
-            Question::Edge("k", "z", "b"),
-            Wanted::Refusal(AskError::NoVertex),
-        ),
-        (
-            Question::Edge("k", "a", "z"),
-            Wanted::Refusal(AskError::NoVertex),
-        ),
-    ];
-    assert_answers(
-        &rt,
-        rt.alloc(),
-        &[Row(Insert, "k", "a", "b", 1, 1)],
-        &questions,
-    )
+fn refused_requests_for_degrees(rt: HostRuntime) -> Result<(), Fail> {
+    let Some(content) = content_of(rt.alloc(), &ACQUAINTANCES) else {
+        return refused(&rt);
+    };
+    for (kind, lo, hi, refusal) in [
+        ("*", 5, 4, AskError::BadWindow),
+        ("likes", 5, 4, AskError::BadWindow),
+        ("likes", 0, 9, AskError::NoKind),
+    ] {
+        let Ok(request) = degrees(rt.alloc(), kind, lo, hi) else {
+            return refused(&rt);
+        };
+        assert_eq!(rt;
+            answers_rows(rt.alloc(), &content, &request, &[]),
+            Err(refusal)
+        );
+    }
+    Ok(())
 }
 
 #[test]
 fn refused_answers_leave_the_content(rt: HostRuntime) -> Result<(), Fail> {
-    let alloc = rt.alloc();
-    let Some(content) = content_of(alloc, &ACQUAINTANCES) else {
+    let Some(content) = content_of(rt.alloc(), &ACQUAINTANCES) else {
         return refused(&rt);
     };
-    let Ok(request) = request(alloc, &Question::Degrees(None, 0, 100)) else {
+    let Ok(request) = degrees(rt.alloc(), "*", 0, 100) else {
         return refused(&rt);
     };
-    let answer = plain_reply(alloc, &content, &request);
+    let answer = answers_rows(rt.alloc(), &content, &request, &THEIR_DEGREES);
     assert_eq!(rt; sizes(&content), (3, 1, 2));
-    if is_wanted(&answer, &Wanted::Refusal(AskError::OutOfMemory)) {
+    if answer == Err(AskError::OutOfMemory) {
         return refused(&rt);
     }
-    assert!(rt; is_wanted(&answer, &Wanted::Degrees(&THEIR_DEGREES)));
+    assert_eq!(rt; answer, Ok(true));
     Ok(())
 }

@@ -1,5 +1,5 @@
 -- The steps of the body are those of a change on plain lists.
-use Rattle.std.proofs.Common.{◌≡◌, ◌≤◌, ◌∙◌, length, ap, arith}
+use Rattle.std.proofs.Common.{◌≡◌, ◌∙◌, length, ap, arith}
 use Rattle.std.specs.Option.{option_map}
 use Rattle.std.specs.FinMap.{get}
 use Rattle.graph_model.specs.Graph.{Key, graph_of, map_of}
