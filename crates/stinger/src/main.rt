@@ -2,8 +2,9 @@
 #![tactic(auto)]
 
 use std::env;
+use std::io::ErrorKind;
 use std::process::ExitCode;
-use stinger_server::stinger;
+use stinger_server::{refuse_arguments, stinger};
 
 fn main(rt: HostRuntime) -> ExitCode {
     match run(&rt) {
@@ -12,14 +13,27 @@ fn main(rt: HostRuntime) -> ExitCode {
     }
 }
 
-// The words after the program's name, over the real streams.
+/// The arguments after the program's name, over the real streams.
 fn run(rt: &HostRuntime) -> anyhow::Result<u8> {
-    let given: Vec<String> = env::args(rt)?.skip(1).collect(rt.alloc())?;
-    let mut words = Vec::new(rt.alloc());
-    for word in &given {
-        words.push(word.as_str())?;
+    let mut faults = rt.stderr();
+    let all = match env::args(rt) {
+        Ok(all) => all,
+        Err(error) if error.kind() == ErrorKind::InvalidData => {
+            return Ok(refuse_arguments(&mut faults));
+        }
+        Err(error) => return Err(error.into()),
+    };
+    let given: Vec<String> = all.skip(1).collect(rt.alloc())?;
+    let mut arguments = Vec::new(rt.alloc());
+    for argument in &given {
+        arguments.push(argument.as_str())?;
     }
     let mut writer = rt.stdout();
-    let mut faults = rt.stderr();
-    Ok(stinger(rt, words.as_slice(), rt.stdin(), &mut writer, &mut faults))
+    Ok(stinger(
+        rt,
+        arguments.as_slice(),
+        rt.stdin(),
+        &mut writer,
+        &mut faults,
+    ))
 }

@@ -1,12 +1,12 @@
 pub mod Writing
-pub mod Ends
+pub mod EndLine
 pub mod Versions
 pub mod Commands
 pub mod Edges
 pub mod Replies
-pub mod Turning
-pub mod Reached
-pub mod Causes
+pub mod OneRecord
+pub mod RunSoFar
+pub mod RunEnd
 pub mod OneText
 pub mod Asked
-pub mod Telling
+pub mod HelpText

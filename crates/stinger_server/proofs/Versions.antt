@@ -5,7 +5,7 @@ use Rattle.std.proofs.lemmas.List.{length-map, map-append, get_or-map}
 use Rattle.std.proofs.lemmas.List.Elements.{All-append}
 use Rattle.std.proofs.Math.Seq.{take-length}
 use Rattle.graph_model.specs.Graph.{Graph, IsContent, graph_of}
-use Rattle.graph_model.specs.Step.{after_all, empty_graph, left_by}
+use Rattle.graph_model.specs.Step.{after_all, left_by}
 use Rattle.graph_model.specs.declared.batches.NamedOp.{NamedOp}
 use Rattle.graph_model.specs.declared.contents.Content.{Content}
 use Rattle.stinger_server.specs.Servers.{IsBelow, versions_from}
@@ -28,43 +28,43 @@ get_or-versions_from g (batch ∷ batches) zero d few = refl
 get_or-versions_from g (batch ∷ batches) (suc n) d few = get_or-versions_from (after_all batch g) batches n d (omega arith)
 
 -- contents of these graphs are one more than the batches
-pub length-contents : (contents : List Content) (batches : List (List NamedOp)) → map graph_of contents ≡ versions_from empty_graph batches
+pub length-contents : (opening : Graph) (contents : List Content) (batches : List (List NamedOp)) → map graph_of contents ≡ versions_from opening batches
     → length contents ≡ length batches + 1
-length-contents contents batches same = sym (length-map contents graph_of) ∙ (ap length same ∙ length-versions_from empty_graph batches)
+length-contents opening contents batches same = sym (length-map contents graph_of) ∙ (ap length same ∙ length-versions_from opening batches)
 
 -- content n is what n batches leave
-pub graph_of-contents : (contents : List Content) (batches : List (List NamedOp)) (n : ℕ) (d : Content)
-    → map graph_of contents ≡ versions_from empty_graph batches → n < length contents
-    → graph_of (get_or contents n d) ≡ left_by (take n batches) empty_graph
-graph_of-contents contents batches n d same below =
-    let count : length contents ≡ length batches + 1 = length-contents contents batches same in
+pub graph_of-contents : (opening : Graph) (contents : List Content) (batches : List (List NamedOp)) (n : ℕ) (d : Content)
+    → map graph_of contents ≡ versions_from opening batches → n < length contents
+    → graph_of (get_or contents n d) ≡ left_by (take n batches) opening
+graph_of-contents opening contents batches n d same below =
+    let count : length contents ≡ length batches + 1 = length-contents opening contents batches same in
     sym (get_or-map graph_of contents n d (graph_of d) below)
-    ∙ (ap (λ graphs. get_or graphs n (graph_of d)) same ∙ get_or-versions_from empty_graph batches n (graph_of d) (omega arith))
+    ∙ (ap (λ graphs. get_or graphs n (graph_of d)) same ∙ get_or-versions_from opening batches n (graph_of d) (omega arith))
 
 -- the last content is what all batches leave
-pub graph_of-last : (contents : List Content) (batches : List (List NamedOp)) (n : ℕ) (d : Content)
-    → map graph_of contents ≡ versions_from empty_graph batches → n + 1 ≡ length contents
-    → graph_of (get_or contents n d) ≡ left_by batches empty_graph
-graph_of-last contents batches n d same last =
-    let count : length contents ≡ length batches + 1 = length-contents contents batches same in
+pub graph_of-last : (opening : Graph) (contents : List Content) (batches : List (List NamedOp)) (n : ℕ) (d : Content)
+    → map graph_of contents ≡ versions_from opening batches → n + 1 ≡ length contents
+    → graph_of (get_or contents n d) ≡ left_by batches opening
+graph_of-last opening contents batches n d same last =
+    let count : length contents ≡ length batches + 1 = length-contents opening contents batches same in
     let all : n ≡ length batches = omega arith in
-    graph_of-contents contents batches n d same (omega arith)
-    ∙ (ap (λ k. left_by (take k batches) empty_graph) all ∙ ap (λ some. left_by some empty_graph) (take-length batches))
+    graph_of-contents opening contents batches n d same (omega arith)
+    ∙ (ap (λ k. left_by (take k batches) opening) all ∙ ap (λ some. left_by some opening) (take-length batches))
 
 -- contents of one more batch
-pub contents-append : (contents : List Content) (batches : List (List NamedOp)) (content : Content) (batch : List NamedOp)
-    → map graph_of contents ≡ versions_from empty_graph batches → graph_of content ≡ after_all batch (left_by batches empty_graph)
-    → map graph_of (contents ++ content ∷ []) ≡ versions_from empty_graph (batches ++ batch ∷ [])
-contents-append contents batches content batch same next =
+pub contents-append : (opening : Graph) (contents : List Content) (batches : List (List NamedOp)) (content : Content) (batch : List NamedOp)
+    → map graph_of contents ≡ versions_from opening batches → graph_of content ≡ after_all batch (left_by batches opening)
+    → map graph_of (contents ++ content ∷ []) ≡ versions_from opening (batches ++ batch ∷ [])
+contents-append opening contents batches content batch same next =
     map-append graph_of contents (content ∷ []) ∙ (ap (λ graphs. graphs ++ graph_of content ∷ []) same
-    ∙ (ap (λ graph. versions_from empty_graph batches ++ graph ∷ []) next ∙ sym (versions_from-append empty_graph batches batch)))
+    ∙ (ap (λ graph. versions_from opening batches ++ graph ∷ []) next ∙ sym (versions_from-append opening batches batch)))
 
 -- a copy of the last content is what all batches leave
-pub graph_of-copy : (contents : List Content) (batches : List (List NamedOp)) (n : ℕ) (last copy : Content)
-    → map graph_of contents ≡ versions_from empty_graph batches → n + 1 ≡ length contents → last ≡ get_or contents n last → copy ≡ last
-    → graph_of copy ≡ left_by batches empty_graph
-graph_of-copy contents batches n last copy same end is_last is_copy =
-    ap graph_of is_copy ∙ (ap graph_of is_last ∙ graph_of-last contents batches n last same end)
+pub graph_of-copy : (opening : Graph) (contents : List Content) (batches : List (List NamedOp)) (n : ℕ) (last copy : Content)
+    → map graph_of contents ≡ versions_from opening batches → n + 1 ≡ length contents → last ≡ get_or contents n last → copy ≡ last
+    → graph_of copy ≡ left_by batches opening
+graph_of-copy opening contents batches n last copy same end is_last is_copy =
+    ap graph_of is_copy ∙ (ap graph_of is_last ∙ graph_of-last opening contents batches n last same end)
 
 below-next : (n : ℕ) (held : Option ℕ) → IsBelow n held → IsBelow (n + 1) held
 below-next n None below = tt
@@ -79,9 +79,9 @@ all-append contents content all one = All-append IsContent contents (content ∷
   single content one zero d h = one
   single content one (suc k) d h = absurd (omega arith)
 
-pub version_is : (contents : List Content) (batches : List (List NamedOp)) (n : ℕ) (content : Content) → content ≡ get_or contents n content
-    → map graph_of contents ≡ versions_from empty_graph batches → n < length contents → graph_of content ≡ left_by (take n batches) empty_graph
-version_is contents batches n content is same below = ap graph_of is ∙ graph_of-contents contents batches n content same below
+pub version_is : (opening : Graph) (contents : List Content) (batches : List (List NamedOp)) (n : ℕ) (content : Content) → content ≡ get_or contents n content
+    → map graph_of contents ≡ versions_from opening batches → n < length contents → graph_of content ≡ left_by (take n batches) opening
+version_is opening contents batches n content is same below = ap graph_of is ∙ graph_of-contents opening contents batches n content same below
 
 pub content_is : (contents : List Content) (n : ℕ) (content : Content) → content ≡ get_or contents n content
     → All IsContent contents → n < length contents → IsContent content

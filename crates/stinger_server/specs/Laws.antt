@@ -1,11 +1,11 @@
 -- A law about the text of a script.
 use Rattle.std.specs.Prelude.{◌≡◌, ℕ, List}
 use Rattle.feed_csv.specs.Records.{records_of}
-use Rattle.stinger_server.specs.States.{Progress}
+use Rattle.stinger_server.specs.States.{Progress, Setup}
 use Rattle.stinger_server.specs.Texts.{IsWhole}
 
 -- a script has one text, and leaves one state
 abbrev pub HasOneText : Type 0
 HasOneText =
-    (seats : ℕ) (bytes : List ℕ) (text other : List ℕ) (there elsewhere : Progress) → IsWhole seats (records_of bytes) text there
-    → IsWhole seats (records_of bytes) other elsewhere → (text ≡ other) × (there ≡ elsewhere)
+    (setup : Setup) (bytes : List ℕ) (text other : List ℕ) (there elsewhere : Progress) → IsWhole setup (records_of bytes) text there
+    → IsWhole setup (records_of bytes) other elsewhere → (text ≡ other) × (there ≡ elsewhere)

@@ -1,5 +1,5 @@
 -- One turn of a run: from the record that the feed gives to what is written of it.
-use Rattle.std.specs.Prelude.{◌≡◌, ◌≤◌, ◌⊎◌, ℕ, ◌+◌, Bool, true, false, List, [], Option, Result, Ok, Err}
+use Rattle.std.specs.Prelude.{◌≡◌, ◌≤◌, ◌⊎◌, ℕ, ◌+◌, ◌-◌, Bool, true, false, List, [], Option, Result, Ok, Err}
 use Rattle.std.specs.Io.KnownBytes.{Appends}
 use Rattle.feed_csv.specs.Commands.{item_of}
 use Rattle.feed_csv.specs.Records.{Row, record_limit}
@@ -7,6 +7,7 @@ use Rattle.feed_csv.specs.Script.{MeetsEnd, Script, TakesRow}
 use Rattle.feed_csv.specs.declared.command.Command.{Command}
 use Rattle.feed_csv.specs.declared.command.FeedWord.{FeedWord}
 use Rattle.feed_csv.specs.declared.command.FeedWord.TheVariants as word
+use Rattle.feed_csv.specs.declared.phase.Phase.{Phase}
 use Rattle.feed_csv.specs.declared.phase.Phase.TheVariants.{Ended, Reading, Stopped}
 use Rattle.stinger_server.specs.declared.script.Run.{Run}
 use Rattle.stinger_server.specs.declared.script.ServeFault.{ServeFault}
@@ -17,7 +18,7 @@ use Rattle.stinger_server.specs.declared.server.Response.TheVariants.{Lines, Ref
 use Rattle.stinger_server.specs.declared.words.Word.TheVariants.{Feed}
 use Rattle.stinger_server.specs.Lines.{error_line}
 use Rattle.stinger_server.specs.Servers.{IsServer, Shows}
-use Rattle.stinger_server.specs.States.{IsOutcome, Outcome, Progress, after_record, opening, printed}
+use Rattle.stinger_server.specs.States.{IsRecordResult, RecordResult, Progress, Setup, after_record, beginning, printed}
 use Rattle.stinger_server.specs.Writes.{AppendsPart}
 
 -- a feed that gave nothing yet
@@ -41,12 +42,12 @@ pub record ShowsRun (run : Run) (here : Progress) : Type 0 where
   pub errors : run.errors ≡ here.errors
 
 -- nothing is counted, and nothing is written; or there is no memory for a first record
-abbrev pub Starts : ℕ → Option (List ℕ) → Result Run ServeFault → Option (List ℕ) → Type 0
-Starts seats before (Ok run) after =
-    IsServer run.server × (run.records ≡ 0) × (run.errors ≡ 0) × ShowsRun run (opening seats) × (after ≡ before)
-Starts seats before (Err Read) after = ⊥
-Starts seats before (Err Memory) after = Appends before after (error_line 1 (Feed word.Memory))
-Starts seats before (Err Write) after = AppendsPart before after (error_line 1 (Feed word.Memory))
+abbrev pub Starts : Setup → Option (List ℕ) → Result Run ServeFault → Option (List ℕ) → Type 0
+Starts setup before (Ok run) after =
+    IsServer run.server × (run.records ≡ 0) × (run.errors ≡ 0) × ShowsRun run (beginning setup) × (after ≡ before)
+Starts setup before (Err Read) after = ⊥
+Starts setup before (Err Memory) after = Appends before after (error_line 1 (Feed word.Memory))
+Starts setup before (Err Write) after = AppendsPart before after (error_line 1 (Feed word.Memory))
 
 abbrev pub refusals : Response → ℕ
 refusals Lines = 0
@@ -63,14 +64,14 @@ pub record Done (item : Result Command FeedWord) (old : Run) (before : Option (L
   pub server : IsServer new.server
   pub records : new.records ≡ old.records + 1
   pub errors : new.errors ≤ old.errors + 1
-  pub step : (here : Progress) → ShowsRun old here → (outcome : Outcome) × IsOutcome item here.state outcome
+  pub step : (here : Progress) → ShowsRun old here → (outcome : RecordResult) × IsRecordResult item here.state outcome
       × Appends before after (printed (here.records + 1) outcome) × ShowsRun new (after_record item outcome here)
 
 -- a part was written of what the record came to, or of the error line of another end
 abbrev pub BreaksOff : Result Command FeedWord → Run → Option (List ℕ) → Option (List ℕ) → Type 0
 BreaksOff item old before after =
     (here : Progress) → ShowsRun old here
-    → ((outcome : Outcome) × IsOutcome item here.state outcome × AppendsPart before after (printed (here.records + 1) outcome))
+    → ((outcome : RecordResult) × IsRecordResult item here.state outcome × AppendsPart before after (printed (here.records + 1) outcome))
     ⊎ AppendsPart before after (error_line (here.records + 1) (Feed word.Memory))
 
 -- what a record did, by its result
@@ -84,13 +85,24 @@ Does item old before (Err Write) new after = BreaksOff item old before after
 abbrev pub HasReadFault : Script → Type 0
 HasReadFault feed = (feed.phase ≡ Stopped) × ((feed.failed ≡ true) ⊎ (feed.given ≡ record_limit))
 
+-- how many records a run has done whose feed gave so many: each of them where the feed has ended or stopped, and else all but
+-- the last, at which a growth was refused
+abbrev pub done_by : Phase → ℕ → ℕ
+done_by Reading given = given - 1
+done_by Ended given = given
+done_by Stopped given = given
+
+abbrev pub records_done : Script → ℕ
+records_done feed = done_by feed.phase feed.given
+
 -- a turn: the next record was done; or there is none; or a fault ended the run
 abbrev pub Turns : Script → Run → Option (List ℕ) → Result Bool ServeFault → Script → Run → Option (List ℕ) → Type 0
 Turns feed run before (Ok true) feed' run' after = (row : Row) × TakesRow feed row feed' × Done (item_of row) run before run' after
 Turns feed run before (Ok false) feed' run' after = MeetsEnd feed feed' × (run' ≡ run) × Appends before after []
 Turns feed run before (Err Read) feed' run' after =
-    HasReadFault feed' × Appends before after (error_line (run.records + 1) (Feed word.Read))
-Turns feed run before (Err Memory) feed' run' after = Appends before after (error_line (run.records + 1) (Feed word.Memory))
+    HasReadFault feed' × (records_done feed' ≡ run.records) × Appends before after (error_line (run.records + 1) (Feed word.Read))
+Turns feed run before (Err Memory) feed' run' after =
+    (records_done feed' ≡ run.records) × Appends before after (error_line (run.records + 1) (Feed word.Memory))
 Turns feed run before (Err Write) feed' run' after =
     ((row : Row) × TakesRow feed row feed' × BreaksOff (item_of row) run before after)
     ⊎ (AppendsPart before after (error_line (run.records + 1) (Feed word.Read))

@@ -1,13 +1,13 @@
 -- A server's fields, and the states that they show.
 use Rattle.std.specs.Prelude.{◌≡◌, ℕ, ◌<◌, ◌≤◌, List, [], ◌∷◌, All, length, map, sum_by, Option, None, Some, Ok, Err}
 use Rattle.graph_model.specs.Graph.{Graph, IsContent, graph_of}
-use Rattle.graph_model.specs.Step.{after_all, empty_graph}
+use Rattle.graph_model.specs.Step.{after_all}
 use Rattle.graph_model.specs.declared.batches.NamedOp.{NamedOp}
 use Rattle.graph_model.specs.declared.requests.Reply.{Reply}
 use Rattle.graph_model.specs.declared.requests.Reply.TheVariants.{Degrees, OneEdge}
 use Rattle.feed_csv.specs.declared.command.Command.{Command}
 use Rattle.stinger_server.specs.Lines.{degree_lines, edge_line}
-use Rattle.stinger_server.specs.States.{IsDone, Outcome, State, after_command}
+use Rattle.stinger_server.specs.States.{IsDone, RecordResult, State, after_command}
 use Rattle.stinger_server.specs.declared.server.Server.{Server}
 use Rattle.stinger_server.specs.declared.server.Response.{Response}
 use Rattle.stinger_server.specs.declared.server.Response.TheVariants.{Lines, Refused}
@@ -30,19 +30,19 @@ pub record IsServer (server : Server) : Type 0 where
 -- the fields are those of the state: a content for each version
 pub record Shows (server : Server) (s : State) : Type 0 where
   pub pending : server.pending ≡ s.pending
-  pub contents : map graph_of server.contents.items ≡ versions_from empty_graph s.batches
+  pub contents : map graph_of server.contents.items ≡ versions_from s.opening s.batches
   pub held : server.held.items ≡ s.held
 
 -- what a record came to, with the lines in the buffer
-abbrev pub outcome_of : Response → List ℕ → Outcome
-outcome_of Lines lines = Ok lines
-outcome_of (Refused word) lines = Err word
+abbrev pub result_of : Response → List ℕ → RecordResult
+result_of Lines lines = Ok lines
+result_of (Refused word) lines = Err word
 
 -- the server did the command, in each state that it may show
 abbrev pub Obeys : Command → Server → Response → List ℕ → Server → Type 0
 Obeys command old response lines new =
     (s : State) → Shows old s
-    → IsDone command s (outcome_of response lines) × Shows new (after_command command (outcome_of response lines) s)
+    → IsDone command s (result_of response lines) × Shows new (after_command command (result_of response lines) s)
 
 -- a reply names at most so many vertices
 abbrev pub HasFewEntries : Reply → Type 0

@@ -19,13 +19,24 @@ use Rattle.feed_csv.specs.declared.command.Command.{Command}
 use Rattle.feed_csv.specs.declared.command.Command.TheVariants.{Op, Commit, OpenSlot, CloseSlot, Query}
 use Rattle.feed_csv.specs.declared.command.FeedWord.{FeedWord}
 use Rattle.feed_csv.specs.declared.command.FeedWord.TheVariants as feed
+use Rattle.stinger_server.specs.declared.config.Config.{Config}
 use Rattle.stinger_server.specs.declared.words.Word.{Word}
 use Rattle.stinger_server.specs.declared.words.Word.TheVariants.{Feed, NotOpen, AlreadyOpen, BadWindow, NoKind, NoVertex, BatchFull, NamesFull, KindsFull}
 use Rattle.stinger_server.specs.Lines.{close_line, commit_line, degree_lines, edge_line, error_line, open_line}
 
--- the pending operations; the batches accepted so far, in order; and the version that each slot holds, or none, for as
--- many slots as there are seats
+-- how a run is set up: the graph that it opens with, and how many seats there are
+pub record Setup : Type 0 where
+  pub opening : Graph
+  pub seats : ℕ
+
+-- a configuration opens with the empty graph
+abbrev pub set_up : Config → Setup
+set_up config = record { opening = empty_graph; seats = config.seats }
+
+-- the graph of version 0; the pending operations; the batches accepted so far, in order; and the version that each slot
+-- holds, or none, for as many slots as there are seats
 pub record State : Type 0 where
+  pub opening : Graph
   pub pending : List NamedOp
   pub batches : List (List NamedOp)
   pub held : List (Option ℕ)
@@ -37,22 +48,26 @@ pub record Progress : Type 0 where
   pub errors : ℕ
 
 -- at the start nothing is pending, accepted or held
-abbrev pub opening : ℕ → Progress
-opening seats = record { state = record { pending = []; batches = []; held = replicate seats None }; records = 0; errors = 0 }
+abbrev pub beginning : Setup → Progress
+beginning setup = record {
+  state = record { opening = setup.opening; pending = []; batches = []; held = replicate setup.seats None };
+  records = 0;
+  errors = 0;
+}
 
--- version n is what the first n batches leave
+-- version n is what the first n batches leave of the opening graph
 abbrev pub version : ℕ → State → Graph
-version n s = left_by (take n s.batches) empty_graph
+version n s = left_by (take n s.batches) s.opening
 
 abbrev pub last_version : State → Graph
-last_version s = left_by s.batches empty_graph
+last_version s = left_by s.batches s.opening
 
 -- what a record comes to: the lines that it prints, or the word of its refusal
-abbrev pub Outcome : Type 0
-Outcome = Result (List ℕ) Word
+abbrev pub RecordResult : Type 0
+RecordResult = Result (List ℕ) Word
 
 -- these lines, unless there is a refusal
-abbrev pub lines_unless : Option Word → List ℕ → Outcome
+abbrev pub lines_unless : Option Word → List ℕ → RecordResult
 lines_unless None lines = Ok lines
 lines_unless (Some word) lines = Err word
 
@@ -70,9 +85,10 @@ ask_word ask.NoKind = NoKind
 ask_word ask.NoVertex = NoVertex
 ask_word ask.OutOfMemory = Feed feed.Memory
 
--- a batch is refused where it would leave more than 65,536 names, and else where more than 64 kinds
-abbrev pub commit_refusal : Graph → Option Word
-commit_refusal left =
+-- the pending batch is refused where it would leave more than 65,536 names, and else where more than 64 kinds
+abbrev pub commit_refusal : State → Option Word
+commit_refusal s =
+    let left = after_all s.pending (last_version s) in
     if nat_lt 65536 (length left.names) then Some NamesFull
     else (if nat_lt 64 (length left.kinds) then Some KindsFull else None)
 
@@ -92,41 +108,41 @@ open_refusal None = Some (Feed feed.BadSlot)
 open_refusal (Some None) = None
 open_refusal (Some (Some n)) = Some AlreadyOpen
 
-abbrev pub close_outcome : ℕ → Result ℕ Word → Outcome
-close_outcome slot (Ok n) = Ok (close_line slot)
-close_outcome slot (Err word) = Err word
+abbrev pub close_result : ℕ → Result ℕ Word → RecordResult
+close_result slot (Ok n) = Ok (close_line slot)
+close_result slot (Err word) = Err word
 
--- the lines of a reply; those of degrees begin with the number of edges in the view
+-- the lines of a reply; those of degrees begin with the number of edges in the view. A reply of another kind than its request
+-- has none, and is no answer
 abbrev pub reply_lines : ℕ → Request → Graph → Reply → List ℕ
 reply_lines slot (request.Degrees filter) g (reply.Degrees entries_of) =
     degree_lines slot (count_by (in_view (resolved g filter)) (entries g.edges)) entries_of
 reply_lines slot (request.OneEdge kind source target) g (reply.OneEdge shown) = edge_line slot shown
-reply_lines slot (request.Degrees filter) g (reply.OneEdge shown) = []
-reply_lines slot (request.OneEdge kind source target) g (reply.Degrees entries_of) = []
+reply_lines slot asked g other = []
 
-abbrev pub answer_outcome : ℕ → Request → Graph → Result Reply AskError → Outcome
-answer_outcome slot request g (Ok reply) = Ok (reply_lines slot request g reply)
-answer_outcome slot request g (Err error) = Err (ask_word error)
+abbrev pub answer_result : ℕ → Request → Graph → Result Reply AskError → RecordResult
+answer_result slot request g (Ok reply) = Ok (reply_lines slot request g reply)
+answer_result slot request g (Err error) = Err (ask_word error)
 
 -- a request's outcome is that of its answer over the version that the slot holds
-abbrev pub IsReplied : ℕ → Request → State → Result ℕ Word → Outcome → Type 0
+abbrev pub IsReplied : ℕ → Request → State → Result ℕ Word → RecordResult → Type 0
 IsReplied slot request s (Err word) outcome = outcome ≡ Err word
 IsReplied slot request s (Ok n) outcome =
     (answer : Result Reply AskError) × IsAnswer request (version n s) answer
-    × (outcome ≡ answer_outcome slot request (version n s) answer)
+    × (outcome ≡ answer_result slot request (version n s) answer)
 
 -- what a command comes to
-abbrev pub IsDone : Command → State → Outcome → Type 0
+abbrev pub IsDone : Command → State → RecordResult → Type 0
 IsDone (Op op) s outcome = outcome ≡ lines_unless (op_refusal (push_refusal op (length s.pending))) []
 IsDone Commit s outcome =
-    outcome ≡ lines_unless (commit_refusal (after_all s.pending (last_version s)))
+    outcome ≡ lines_unless (commit_refusal s)
     (commit_line (length s.batches + 1) (outcomes s.pending (last_version s)))
 IsDone (OpenSlot slot) s outcome = outcome ≡ lines_unless (open_refusal (slice_get s.held slot)) (open_line slot (length s.batches))
-IsDone (CloseSlot slot) s outcome = outcome ≡ close_outcome slot (version_in (slice_get s.held slot))
+IsDone (CloseSlot slot) s outcome = outcome ≡ close_result slot (version_in (slice_get s.held slot))
 IsDone (Query slot request) s outcome = IsReplied slot request s (version_in (slice_get s.held slot)) outcome
 
 -- the state that a command leaves: a refused one changes nothing, but a refused batch is given up
-abbrev pub after_command : Command → Outcome → State → State
+abbrev pub after_command : Command → RecordResult → State → State
 after_command (Op op) (Ok lines) s = record s { pending = s.pending ++ op ∷ [] }
 after_command Commit (Ok lines) s = record s { pending = []; batches = s.batches ++ s.pending ∷ [] }
 after_command Commit (Err word) s = record s { pending = [] }
@@ -139,20 +155,20 @@ after_command (CloseSlot slot) (Err word) s = s
 after_command (Query slot request) (Err word) s = s
 
 -- a record is a command, or is refused for the word that its fields have
-abbrev pub IsOutcome : Result Command FeedWord → State → Outcome → Type 0
-IsOutcome (Ok command) s outcome = IsDone command s outcome
-IsOutcome (Err word) s outcome = outcome ≡ Err (Feed word)
+abbrev pub IsRecordResult : Result Command FeedWord → State → RecordResult → Type 0
+IsRecordResult (Ok command) s outcome = IsDone command s outcome
+IsRecordResult (Err word) s outcome = outcome ≡ Err (Feed word)
 
-abbrev pub after_item : Result Command FeedWord → Outcome → State → State
+abbrev pub after_item : Result Command FeedWord → RecordResult → State → State
 after_item (Ok command) outcome s = after_command command outcome s
 after_item (Err word) outcome s = s
 
 -- one error line where the record was refused
-abbrev pub error_count : Outcome → ℕ
+abbrev pub error_count : RecordResult → ℕ
 error_count (Ok lines) = 0
 error_count (Err word) = 1
 
-abbrev pub after_record : Result Command FeedWord → Outcome → Progress → Progress
+abbrev pub after_record : Result Command FeedWord → RecordResult → Progress → Progress
 after_record item outcome p = record {
   state = after_item item outcome p.state;
   records = p.records + 1;
@@ -160,6 +176,6 @@ after_record item outcome p = record {
 }
 
 -- what a record prints: its lines, or an error line with its number, counted from 1
-abbrev pub printed : ℕ → Outcome → List ℕ
+abbrev pub printed : ℕ → RecordResult → List ℕ
 printed number (Ok lines) = lines
 printed number (Err word) = error_line number word

@@ -14,7 +14,7 @@ mod words;
 
 pub use config::{BadConfig, Config};
 pub use laws::law_one_text;
-pub use program::stinger;
+pub use program::{refuse_arguments, stinger};
 pub use script::{ServeFault, Summary, serve};
 
 #[cfg(test)]

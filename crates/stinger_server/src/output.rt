@@ -1,17 +1,21 @@
-//! Texts to the writer. A call here gives up exactly where the sink has failed, and then the sink takes no other.
+//! Texts to the writer. A call here gives up exactly where the sink has failed, and then the sink takes no other. No
+//! memory is taken here.
 
-ghost use Rattle.std.specs.Prelude.{◌≡◌, false, is_err, OnOk, OnErr};
+ghost use Rattle.std.specs.Prelude.{◌≡◌, false, true, is_err, OnOk, OnErr};
 ghost use Rattle.std.specs.Io.KnownBytes.{Appends};
-ghost use Rattle.stinger_server.specs.Lines.{end_line, error_line};
+ghost use Rattle.stinger_server.specs.Lines as lines_of;
 ghost use Rattle.stinger_server.specs.Writes.{AppendsPart, held};
 
 use crate::sink::{Sink, Unwritten};
 use crate::words::Word;
-use feed_csv::FeedWord;
+use arrayvec::ArrayString;
 use itoa::Buffer;
 use std::io::Write;
 
-// Writes a text, by as many writes as it takes. No memory is taken here or below.
+// Room for a line that is built on the stack: the longest has 39 bytes.
+const LINE_ROOM: usize = 64;
+
+/// Writes a text, by as many writes as it takes.
 pub(crate) fn put<W: Write>(sink: &mut Sink<'_, W>, text: &str) -> Result<(), Unwritten>
     requires working { sink.old.failed ≡ false }
     ensures same_writer { sink.new.writer.ghost_name ≡ sink.old.writer.ghost_name }
@@ -27,6 +31,7 @@ pub(crate) fn put<W: Write>(sink: &mut Sink<'_, W>, text: &str) -> Result<(), Un
     Ok(())
 }
 
+/// Writes an error line, by one write where the writer takes it whole.
 pub(crate) fn error_line<W: Write>(
     sink: &mut Sink<'_, W>,
     number: u64,
@@ -35,49 +40,70 @@ pub(crate) fn error_line<W: Write>(
     requires working { sink.old.failed ≡ false }
     ensures same_writer { sink.new.writer.ghost_name ≡ sink.old.writer.ghost_name }
     ensures failed { sink.new.failed ≡ is_err result }
-    ensures whole { OnOk result (Appends (held W.contents sink.old) (held W.contents sink.new) (error_line number word)) }
-    ensures part { OnErr result (AppendsPart (held W.contents sink.old) (held W.contents sink.new) (error_line number word)) }
+    ensures whole { OnOk result (Appends (held W.contents sink.old) (held W.contents sink.new)
+        (lines_of.error_line number word)) }
+    ensures part { OnErr result (AppendsPart (held W.contents sink.old) (held W.contents sink.new)
+        (lines_of.error_line number word)) }
 {
-    let mut digits = Buffer::new();
-    put(sink, "error ")?;
-    put(sink, digits.format(number))?;
-    put(sink, " ")?;
-    put(sink, word.text())?;
-    put(sink, "\n")?;
-    Ok(())
+    put(sink, error_text(number, word).as_str())
 }
 
+/// Writes the line on pending operations, if there are any, by one write where the writer takes it whole.
 pub(crate) fn end_line<W: Write>(sink: &mut Sink<'_, W>, pending: usize) -> Result<(), Unwritten>
     requires working { sink.old.failed ≡ false }
     ensures same_writer { sink.new.writer.ghost_name ≡ sink.old.writer.ghost_name }
     ensures failed { sink.new.failed ≡ is_err result }
-    ensures whole { OnOk result (Appends (held W.contents sink.old) (held W.contents sink.new) (end_line pending)) }
-    ensures part { OnErr result (AppendsPart (held W.contents sink.old) (held W.contents sink.new) (end_line pending)) }
+    ensures whole { OnOk result (Appends (held W.contents sink.old) (held W.contents sink.new)
+        (lines_of.end_line pending)) }
+    ensures part { OnErr result (AppendsPart (held W.contents sink.old) (held W.contents sink.new)
+        (lines_of.end_line pending)) }
 {
-    if pending == 0 {
-        return Ok(());
-    }
-    let mut digits = Buffer::new();
-    put(sink, "end pending=")?;
-    put(sink, digits.format(pending))?;
-    put(sink, "\n")?;
-    Ok(())
+    put(sink, end_text(pending).as_str())
 }
 
-// Writes the error line that ends a run.
+/// Writes the error line that ends a run, and flushes.
 pub(crate) fn last_line<W: Write>(
     sink: &mut Sink<'_, W>,
     number: u64,
-    word: FeedWord,
+    word: Word,
 ) -> Result<(), Unwritten>
     requires working { sink.old.failed ≡ false }
     ensures same_writer { sink.new.writer.ghost_name ≡ sink.old.writer.ghost_name }
     ensures failed { sink.new.failed ≡ is_err result }
+    ensures flushed { OnOk result (sink.new.flushed ≡ true) }
     ensures whole { OnOk result (Appends (held W.contents sink.old) (held W.contents sink.new)
-        (error_line number (Word.Feed word))) }
+        (lines_of.error_line number word)) }
     ensures part { OnErr result (AppendsPart (held W.contents sink.old) (held W.contents sink.new)
-        (error_line number (Word.Feed word))) }
+        (lines_of.error_line number word)) }
 {
-    error_line(sink, number, Word::Feed(word))?;
+    error_line(sink, number, word)?;
     sink.flush()
+}
+
+/// The error line of a record.
+fn error_text(number: u64, word: Word) -> ArrayString<LINE_ROOM>
+    ensures { result.bytes ≡ lines_of.error_line number word }
+{
+    let mut digits = Buffer::new();
+    let mut line = ArrayString::new();
+    line.push_str("error ");
+    line.push_str(digits.format(number));
+    line.push_str(" ");
+    line.push_str(word.text());
+    line.push_str("\n");
+    line
+}
+
+/// The line on so many pending operations, and nothing where there are none.
+fn end_text(pending: usize) -> ArrayString<LINE_ROOM>
+    ensures { result.bytes ≡ lines_of.end_line pending }
+{
+    let mut line = ArrayString::new();
+    if pending > 0 {
+        let mut digits = Buffer::new();
+        line.push_str("end pending=");
+        line.push_str(digits.format(pending));
+        line.push_str("\n");
+    }
+    line
 }

@@ -1,28 +1,36 @@
-//! The program over its words.
+//! The program over its arguments.
 
 ghost use Rattle.std.specs.Prelude.{◌≡◌, ◌⊎◌, ◌++◌, ◌∷◌, [], codes, false, IfOk, map, OnOk, OnErr};
 ghost use Rattle.clap.specs.Words.{app_of};
 ghost use Rattle.std.specs.Io.KnownBytes.{Appends};
-ghost use Rattle.stinger_server.specs.Program.{EachAsks, IsServed, IsTold, OnlyRunServes, asked, program, without_help};
+ghost use Rattle.stinger_server.specs.Program.{EachAsks, EndsWith, IsServed, IsTold, OnlyRunServes, asked, asked_of_command, is_version, program, without_help};
 ghost use Rattle.stinger_server.specs.Writes.{AppendsPart, held};
 
 use crate::sink::{Sink, Unwritten};
-use crate::{Config, output, serve};
+use crate::{Config, ServeFault, output, serve};
 use clap::error::ErrorKind;
 use clap::{Command, Error};
 use std::alloc::AllocError;
 use std::io::{Read, Write};
 
-// The whole input was read and no record was refused; some was refused, or the run broke off; the words mean
-// nothing.
+// The whole input was read and no record was refused, or the text that was asked for was written.
 const DONE: u8 = 0;
 
+// Some record was refused, or the run broke off.
 const FAULTY: u8 = 1;
 
+// The arguments are wrong.
 const USAGE: u8 = 2;
 
 const ABOUT: &str =
     "A store of a directed graph that changes by batches, with held snapshots (STINGER, HPEC 2012).";
+
+const VERSION: &str = "stinger 0.1.0\n";
+
+// What stands on standard error where the output could not be written.
+const UNWRITTEN: &str = "error: the output can't be written\n";
+
+const NOT_TEXT: &str = "error: an argument is not UTF-8\n";
 
 // What stands at the end of each help.
 const FORMATS: &str = "
@@ -54,95 +62,154 @@ is from -1099511627776 to 1099511627776. A time is from 0 to 9223372036854775807
 0 or 1. A batch has at most 4,096 operations, a graph 65,536 names and 64 kinds. A script
 has fewer than 1,000,000 records.
 
-A refused record prints `error <record> <Word>`, where the first record is 1, and the run
-goes on. It changes nothing, but a refused commit gives its batch up. The words:
+A session, with what each record prints beside it:
+
+  i,knows,ann,bob,5,10
+  commit                           commit v=1 ins=1 upd=0 rem=0 abs=0 ovf=0
+  open,0                           open 0 v=1
+  edge,0,knows,ann,bob             edge 0 5 10 10
+
+A refused record prints `error <record> <Word>`, where the first record is 1 and blank lines
+aren't counted, and the run goes on. It changes nothing, but a refused commit gives its batch up. The words:
 BadCommand, BadFields, BadName, BadWeight, BadTime, BadSlot, NotOpen, AlreadyOpen,
 BadWindow, NoKind, NoVertex, BatchFull, NamesFull, KindsFull. Two more end the run: Read,
 where the input can't be read or has a record too many, and Memory.
 
 Status: 0 where the script was read to its end without an error line, 1 with an error line
-or where the run broke off, 2 for words that are none. `stinger help` is `stinger --help`.
+or where the run broke off, 2 for wrong arguments. `stinger help` is `stinger --help`, and
+`stinger --version` tells the version.
 ";
 
-// What stands at the end of what is said of words that are none.
+// What stands at the end of what is said of wrong arguments.
 const HINT: &str = "\
 `stinger run` reads a script on standard input. `stinger --help` says what a script is.
 ";
 
 static HELP_FLAG: [&str; 1] = ["--help"];
 
-// What the words ask for.
+/// What the arguments ask for.
 #[derive(Clone, Copy, Debug, PartialEq, Eq)]
 pub(crate) enum Asked {
     Serve,
     Help,
+    Version,
     Usage,
 }
 
-/// The whole program over the words after its name, with `faults` as its standard error: `run` serves `reader`
-/// into `writer` at 2 seats, and `--help`, `-h`, `help` and `run --help` write a text to `writer` which ends with
-/// the formats of records.
+/// The whole program over the arguments after its name, with `faults` as its standard error: `run` serves `reader`
+/// into `writer` at 2 seats; `--help`, `-h`, `help` and `run --help` write a text to `writer` which ends with the
+/// formats of records; `--version` writes the version.
 ///
-/// The answer is the exit status: 0 where the script was read to its end without an error line, or the whole help
+/// The answer is the exit status: 0 where the script was read to its end without an error line, or the whole text
 /// was written; 1 where there was an error line or the run broke off, and where memory or a writer failed outside
-/// the run; and 2, with a text on `faults` alone, where the words are none of these. That a write, a flush or a
-/// growth failed is told by the writers and the memory, so no clause says when 1 comes in place of 0 or 2.
+/// the run; and 2, with a text on `faults` alone, where the arguments are none of these. Where `writer` failed, a
+/// line on `faults` says so. That a write, a flush or a growth failed is told by the writers and the memory, so no
+/// clause says when 1 comes in place of 0 or 2.
 pub fn stinger<'a, A: AllocGlobal, R: Read + Drop, W: Write, F: Write>(
     rt: &A,
-    words: &'a [&'a str],
+    arguments: &'a [&'a str],
     reader: R,
     writer: &mut W,
     faults: &mut F,
 ) -> u8
-    ensures served { asked (map (λ word. word.now) words.now) ≡ Asked.Serve
+    ensures served { asked (map (λ argument. argument.now) arguments.now) ≡ Asked.Serve
+        → ((result ≡ 1) × (writer.new ≡ writer.old) × (faults.new ≡ faults.old))
+        ⊎ IsServed (R.remaining reader) result (W.contents writer.old) (W.contents writer.new)
+        F.contents UNWRITTEN.now faults.old faults.new }
+    ensures helped { asked (map (λ argument. argument.now) arguments.now) ≡ Asked.Help
+        → IsTold (EndsWith FORMATS.now) 0 result (W.contents writer.old) (W.contents writer.new) }
+    ensures version { asked (map (λ argument. argument.now) arguments.now) ≡ Asked.Version
+        → IsTold (λ text. text ≡ VERSION.now) 0 result (W.contents writer.old) (W.contents writer.new) }
+    ensures noted { (asked (map (λ argument. argument.now) arguments.now) ≡ Asked.Help)
+        ⊎ (asked (map (λ argument. argument.now) arguments.now) ≡ Asked.Version)
         → (faults.new ≡ faults.old)
-        × (((result ≡ 1) × (writer.new ≡ writer.old))
-        ⊎ IsServed (R.remaining reader) result (W.contents writer.old) (W.contents writer.new)) }
-    ensures helped { asked (map (λ word. word.now) words.now) ≡ Asked.Help
-        → (faults.new ≡ faults.old) × IsTold FORMATS.now 0 result (W.contents writer.old) (W.contents writer.new) }
-    ensures refused { asked (map (λ word. word.now) words.now) ≡ Asked.Usage
-        → (writer.new ≡ writer.old) × IsTold HINT.now 2 result (F.contents faults.old) (F.contents faults.new) }
+        ⊎ ((result ≡ 1) × AppendsPart (F.contents faults.old) (F.contents faults.new) UNWRITTEN.now) }
+    ensures refused { asked (map (λ argument. argument.now) arguments.now) ≡ Asked.Usage
+        → (writer.new ≡ writer.old) × IsTold (EndsWith HINT.now) 2 result (F.contents faults.old) (F.contents faults.new) }
 {
-    match read_words(rt, words) {
-        Ok((Asked::Serve, _)) => run(rt, reader, writer),
-        Ok((Asked::Help, text)) => tell(writer, text.as_str(), FORMATS, DONE),
+    match read_arguments(rt, arguments) {
+        Ok((Asked::Serve, _)) => run(rt, reader, writer, faults),
+        Ok((Asked::Help, text)) => show(writer, faults, text.as_str(), FORMATS),
+        Ok((Asked::Version, _)) => show(writer, faults, "", VERSION),
         Ok((Asked::Usage, text)) => tell(faults, text.as_str(), HINT, USAGE),
         Err(_) => FAULTY,
     }
 }
 
-/// What words ask for, at words that are written out, and that no others have a script served.
-pub(crate) fn law_words()
+/// Says on `faults` that an argument is not UTF-8, and answers the status for wrong arguments, 2; or 1, where that
+/// could not be written.
+pub fn refuse_arguments<F: Write>(faults: &mut F) -> u8
+    ensures { IsTold (λ text. text ≡ NOT_TEXT.now ++ HINT.now) 2 result (F.contents faults.old) (F.contents faults.new) }
+{
+    tell(faults, NOT_TEXT, HINT, USAGE)
+}
+
+/// What arguments ask for, at lists that are written out, and that no others have a script served.
+pub(crate) fn law_arguments()
     ensures serve { EachAsks Asked.Serve ((codes "run" ∷ []) ∷ (codes "run" ∷ codes "--" ∷ []) ∷ []) }
     ensures help { EachAsks Asked.Help ((codes "--help" ∷ []) ∷ (codes "-h" ∷ []) ∷ (codes "help" ∷ [])
         ∷ (codes "help" ∷ codes "run" ∷ []) ∷ (codes "run" ∷ codes "--help" ∷ []) ∷ (codes "run" ∷ codes "-h" ∷ []) ∷ []) }
+    ensures version { EachAsks Asked.Version ((codes "--version" ∷ []) ∷ (codes "--version" ∷ codes "run" ∷ []) ∷ []) }
     ensures usage { EachAsks Asked.Usage ([] ∷ (codes "fly" ∷ []) ∷ (codes "run" ∷ codes "now" ∷ [])
         ∷ (codes "run" ∷ codes "run" ∷ []) ∷ (codes "--" ∷ codes "run" ∷ []) ∷ (codes "--help=run" ∷ []) ∷ (codes "-w" ∷ [])
-        ∷ (codes "" ∷ []) ∷ []) }
+        ∷ (codes "" ∷ []) ∷ (codes "run" ∷ codes "--version" ∷ []) ∷ []) }
     ensures only { OnlyRunServes }
 {}
 
-// Without options: 4 workers, 16,384 blocks and 2 seats.
-fn run<A: AllocGlobal, R: Read + Drop, W: Write>(rt: &A, reader: R, writer: &mut W) -> u8
-    ensures { IsServed (R.remaining reader) result (W.contents writer.old) (W.contents writer.new) }
+/// Serves the reader: 4 workers, 16,384 blocks and 2 seats.
+fn run<A: AllocGlobal, R: Read + Drop, W: Write, F: Write>(
+    rt: &A,
+    reader: R,
+    writer: &mut W,
+    faults: &mut F,
+) -> u8
+    ensures { IsServed (R.remaining reader) result (W.contents writer.old) (W.contents writer.new)
+        F.contents UNWRITTEN.now faults.old faults.new }
 {
     let Ok(config) = Config::new(4, 16_384, 2) else {
         return FAULTY;
     };
     match serve(rt, config, reader, writer) {
         Ok(summary) if summary.errors == 0 => DONE,
+        Err(ServeFault::Write) => {
+            note(faults);
+            FAULTY
+        }
         _ => FAULTY,
     }
 }
 
-// What the words ask for, and the text that clap has for those that don't serve.
-fn read_words<'a, A: AllocGlobal>(
+/// What the arguments ask for, and the text that clap has for those that don't serve.
+fn read_arguments<'a, A: AllocGlobal>(
     rt: &A,
-    words: &'a [&'a str],
+    arguments: &'a [&'a str],
 ) -> Result<(Asked, String), AllocError>
-    ensures { IfOk result (λ read. read.0 ≡ asked (map (λ word. word.now) words.now)) }
+    ensures { IfOk result (λ read. read.0 ≡ asked (map (λ argument. argument.now) arguments.now)) }
 {
-    let Err(error) = command(rt)?.try_get_matches_from(without_help(words)) else {
+    if is_version(arguments) {
+        return Ok((Asked::Version, String::new(rt.alloc())));
+    }
+    read_command(rt, arguments)
+}
+
+/// Whether `--version` comes first.
+fn is_version(arguments: &[&str]) -> bool
+    ensures { result ≡ is_version (map (λ argument. argument.now) arguments.now) }
+{
+    match arguments.first() {
+        Some(first) => "--version" == *first,
+        None => false,
+    }
+}
+
+/// What clap makes of the arguments.
+fn read_command<'a, A: AllocGlobal>(
+    rt: &A,
+    arguments: &'a [&'a str],
+) -> Result<(Asked, String), AllocError>
+    ensures { IfOk result (λ read. read.0 ≡ asked_of_command (map (λ argument. argument.now) arguments.now)) }
+{
+    let Err(error) = command(rt)?.try_get_matches_from(without_help(arguments)) else {
         return Ok((Asked::Serve, String::new(rt.alloc())));
     };
     let asked = match error.kind() {
@@ -153,16 +220,17 @@ fn read_words<'a, A: AllocGlobal>(
     Ok((asked, error.to_string(rt.alloc())?))
 }
 
-// `help` asks for what `--help` does, whatever follows it.
-fn without_help<'a>(words: &'a [&'a str]) -> &'a [&'a str]
-    ensures { map (λ word. word.now) result.now ≡ without_help (map (λ word. word.now) words.now) }
+/// `help` asks for what `--help` does, whatever follows it.
+fn without_help<'a>(arguments: &'a [&'a str]) -> &'a [&'a str]
+    ensures { map (λ argument. argument.now) result.now ≡ without_help (map (λ argument. argument.now) arguments.now) }
 {
-    match words.first() {
+    match arguments.first() {
         Some(&"help") => HELP_FLAG.as_slice(),
-        _ => words,
+        _ => arguments,
     }
 }
 
+/// The command line, as clap sees it.
 fn command<'a, A: AllocGlobal>(rt: &A) -> Result<Command<'a>, AllocError>
     ensures { IfOk result (λ command. app_of command ≡ program) }
 {
@@ -177,9 +245,25 @@ fn command<'a, A: AllocGlobal>(rt: &A) -> Result<Command<'a>, AllocError>
         .subcommand(run)
 }
 
-// Writes a text and then its end: the status is this one, or 1 where a write failed.
+/// Writes a text that was asked for, and then its end: the status is 0; or 1 where a write failed, and then a line on
+/// `faults` says so.
+fn show<W: Write, F: Write>(writer: &mut W, faults: &mut F, text: &str, end: &str) -> u8
+    ensures told { IsTold (λ told. told ≡ text.now ++ end.now) 0 result (W.contents writer.old) (W.contents writer.new) }
+    ensures noted { (faults.new ≡ faults.old)
+        ⊎ ((result ≡ 1) × AppendsPart (F.contents faults.old) (F.contents faults.new) UNWRITTEN.now) }
+{
+    match write_all(writer, text, end) {
+        Ok(()) => DONE,
+        Err(Unwritten) => {
+            note(faults);
+            FAULTY
+        }
+    }
+}
+
+/// Writes a text and then its end: the status is this one, or 1 where a write failed.
 fn tell<W: Write>(writer: &mut W, text: &str, end: &str, status: u8) -> u8
-    ensures { IsTold end.now status result (W.contents writer.old) (W.contents writer.new) }
+    ensures { IsTold (λ told. told ≡ text.now ++ end.now) status result (W.contents writer.old) (W.contents writer.new) }
 {
     match write_all(writer, text, end) {
         Ok(()) => status,
@@ -187,6 +271,14 @@ fn tell<W: Write>(writer: &mut W, text: &str, end: &str, status: u8) -> u8
     }
 }
 
+/// Says that the output could not be written, as far as that can be written.
+fn note<F: Write>(faults: &mut F)
+    ensures { AppendsPart (F.contents faults.old) (F.contents faults.new) UNWRITTEN.now }
+{
+    let _ = write_all(faults, "", UNWRITTEN);
+}
+
+/// Writes a text and then its end, and flushes.
 fn write_all<W: Write>(writer: &mut W, text: &str, end: &str) -> Result<(), Unwritten>
     ensures whole { OnOk result (Appends (W.contents writer.old) (W.contents writer.new) (text.now ++ end.now)) }
     ensures part { OnErr result (AppendsPart (W.contents writer.old) (W.contents writer.new) (text.now ++ end.now)) }
@@ -194,6 +286,7 @@ fn write_all<W: Write>(writer: &mut W, text: &str, end: &str) -> Result<(), Unwr
     put_both(&mut Sink::over(writer), text, end)
 }
 
+/// The same over a sink.
 fn put_both<W: Write>(sink: &mut Sink<'_, W>, text: &str, end: &str) -> Result<(), Unwritten>
     requires working { sink.old.failed ≡ false }
     ensures same_writer { sink.new.writer.ghost_name ≡ sink.old.writer.ghost_name }

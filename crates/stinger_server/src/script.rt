@@ -1,13 +1,13 @@
 //! A script from bytes to bytes.
 
-ghost use Rattle.std.specs.Prelude.{◌≡◌, ℕ, ◌+◌, ◌<◌, ◌≤◌, false, is_err, length, string_bytes, Ok, IfOk, IfErr, IfSome, OnOk, OnErr};
+ghost use Rattle.std.specs.Prelude.{◌≡◌, ℕ, ◌+◌, ◌<◌, ◌≤◌, false, true, is_err, length, string_bytes, Ok, IfOk, IfErr, IfSome, OnOk, OnErr};
 ghost use Rattle.std.specs.Io.KnownBytes.{Appends};
 ghost use Rattle.feed_csv.specs.Records.{record_limit, records_of};
 ghost use Rattle.stinger_server.specs.Lines.{end_line};
-ghost use Rattle.stinger_server.specs.States.{opening, printed};
-ghost use Rattle.stinger_server.specs.Servers.{IsServer, outcome_of};
+ghost use Rattle.stinger_server.specs.States.{Setup, beginning, printed, set_up};
+ghost use Rattle.stinger_server.specs.Servers.{IsServer, result_of};
 ghost use Rattle.stinger_server.specs.Texts.{IsText};
-ghost use Rattle.stinger_server.specs.Runs.{CountsRecord, Does, HasCause, IsFresh, IsReady, ShowsRun, Starts, Turns, is_write};
+ghost use Rattle.stinger_server.specs.Runs.{CountsRecord, Does, HasCause, IsFresh, IsReady, ShowsRun, Starts, Turns, is_write, records_done};
 ghost use Rattle.stinger_server.specs.Writes.{AppendsPart, AppendsSome, held};
 
 use crate::server::{Response, Server};
@@ -41,7 +41,7 @@ pub enum ServeFault {
     Write,
 }
 
-// A run between two records.
+/// A run between two records.
 #[derive(Drop)]
 struct Run {
     server: Server,
@@ -55,8 +55,8 @@ struct Run {
 /// the operations that are still pending.
 ///
 /// A record's lines are built whole before a byte of them is written. `Read` where the reader fails or
-/// 1,000,000 records were read, and `Memory` where a growth was refused, each after an error line with the
-/// number of the record that was not done; `Write` where a write failed or took nothing, or the flush at the end
+/// 1,000,000 records were read, and `Memory` where a growth was refused, each after the lines of exactly the records
+/// done before and an error line with the number of the record that was not done; `Write` where a write failed or took nothing, or the flush at the end
 /// failed, after which nothing more is written. No clause here says when each of these ends comes, since a reader
 /// and a writer have no word for a call that failed; `HasCause` in `specs/Runs.antt` says it of the run itself.
 pub fn serve<A: AllocGlobal, R: Read + Drop, W: Write>(
@@ -66,17 +66,17 @@ pub fn serve<A: AllocGlobal, R: Read + Drop, W: Write>(
     writer: &mut W,
 ) -> Result<Summary, ServeFault>
     ensures text { IfSome (R.remaining reader) (λ bytes.
-        AppendsSome (W.contents writer.old) (W.contents writer.new) (IsText config.seats (records_of bytes) result)) }
+        (done : ℕ) × AppendsSome (W.contents writer.old) (W.contents writer.new) (IsText (set_up config) (records_of bytes) done result)) }
 {
     let mut feed = Feed::over(rt.alloc(), reader);
     let mut sink = Sink::over(writer);
-    run_script(rt.alloc(), config.seats, &mut feed, &mut sink)
+    run_script(rt.alloc(), config, &mut feed, &mut sink)
 }
 
-// A run from the first record on, over a feed that gave nothing yet and a sink that hasn't failed.
+/// A run from the first record on, over a feed that gave nothing yet and a sink that hasn't failed.
 fn run_script<R: Read, W: Write>(
     alloc: Global,
-    seats: u8,
+    config: Config,
     feed: &mut Feed<R>,
     sink: &mut Sink<'_, W>,
 ) -> Result<Summary, ServeFault>
@@ -84,46 +84,48 @@ fn run_script<R: Read, W: Write>(
     requires sink { sink.old.failed ≡ false }
     ensures same_writer { sink.new.writer.ghost_name ≡ sink.old.writer.ghost_name }
     ensures cause { HasCause feed.new sink.new.failed result }
-    ensures text { IfSome feed.old.left (λ rows.
-        AppendsSome (held W.contents sink.old) (held W.contents sink.new) (IsText seats rows result)) }
+    ensures flushed { sink.new.failed ≡ false → sink.new.flushed ≡ true }
+    ensures text { IfSome feed.old.left (λ rows. AppendsSome (held W.contents sink.old) (held W.contents sink.new)
+        (IsText (set_up config) rows (records_done feed.new) result)) }
 {
-    match start(alloc, seats, sink) {
+    match start(alloc, config, sink) {
         Ok(mut run) => turn_all(feed, &mut run, sink),
         Err(fault) => Err(fault),
     }
 }
 
-// A run before its first record; or the end of one for which there is no memory.
-fn start<W: Write>(alloc: Global, seats: u8, sink: &mut Sink<'_, W>) -> Result<Run, ServeFault>
+/// A run before its first record; or the end of one for which there is no memory.
+fn start<W: Write>(alloc: Global, config: Config, sink: &mut Sink<'_, W>) -> Result<Run, ServeFault>
     requires working { sink.old.failed ≡ false }
     ensures same_writer { sink.new.writer.ghost_name ≡ sink.old.writer.ghost_name }
     ensures failed { sink.new.failed ≡ is_write result }
-    ensures starts { Starts seats (held W.contents sink.old) result (held W.contents sink.new) }
+    ensures flushed { OnErr result (sink.new.failed ≡ false → sink.new.flushed ≡ true) }
+    ensures starts { Starts (set_up config) (held W.contents sink.old) result (held W.contents sink.new) }
 {
-    match Run::new(alloc, seats) {
+    match Run::new(alloc, config) {
         Ok(run) => Ok(run),
         Err(_) => {
-            output::last_line(sink, 1, FeedWord::Memory)?;
+            output::last_line(sink, 1, Word::Feed(FeedWord::Memory))?;
             Err(ServeFault::Memory)
         }
     }
 }
 
 impl Run {
-    fn new(alloc: Global, seats: u8) -> Result<Run, AllocError>
+    fn new(alloc: Global, config: Config) -> Result<Run, AllocError>
         ensures server { IfOk result (λ run. IsServer run.server) }
         ensures counts { IfOk result (λ run. (run.records ≡ 0) × (run.errors ≡ 0)) }
-        ensures opening { IfOk result (λ run. ShowsRun run (opening seats)) }
+        ensures beginning { IfOk result (λ run. ShowsRun run (beginning (set_up config))) }
     {
         Ok(Run {
-            server: Server::new(alloc, seats)?,
+            server: Server::new(alloc, config)?,
             lines: String::new(alloc),
             records: 0,
             errors: 0,
         })
     }
 
-    // Does a command, and writes what it came to. The lines are built before a byte of them is written.
+    /// Does a command, and writes what it came to. The lines are built before a byte of them is written.
     fn obey<W: Write>(&mut self, command: Command, sink: &mut Sink<'_, W>) -> Result<(), ServeFault>
         requires server { IsServer self.old.server }
         requires room { self.old.records < record_limit }
@@ -131,6 +133,7 @@ impl Run {
         requires working { sink.old.failed ≡ false }
         ensures same_writer { sink.new.writer.ghost_name ≡ sink.old.writer.ghost_name }
         ensures failed { sink.new.failed ≡ is_write result }
+        ensures flushed { OnErr result (sink.new.failed ≡ false → sink.new.flushed ≡ true) }
         ensures does { Does (Ok command) self.old (held W.contents sink.old) result self.new (held W.contents sink.new) }
     {
         match self.server.obey(command, &mut self.lines) {
@@ -139,13 +142,13 @@ impl Run {
                 Err(_) => Err(ServeFault::Write),
             },
             Err(_) => {
-                output::last_line(sink, self.records + 1, FeedWord::Memory)?;
+                output::last_line(sink, self.records + 1, Word::Feed(FeedWord::Memory))?;
                 Err(ServeFault::Memory)
             }
         }
     }
 
-    // Writes what a record came to, and counts it.
+    /// Writes what a record came to, and counts it.
     fn print<W: Write>(
         &mut self,
         response: Response,
@@ -157,9 +160,9 @@ impl Run {
         ensures same_writer { sink.new.writer.ghost_name ≡ sink.old.writer.ghost_name }
         ensures failed { sink.new.failed ≡ is_err result }
         ensures whole { OnOk result (Appends (held W.contents sink.old) (held W.contents sink.new)
-            (printed (self.old.records + 1) (outcome_of response (string_bytes self.old.lines)))) }
+            (printed (self.old.records + 1) (result_of response (string_bytes self.old.lines)))) }
         ensures part { OnErr result (AppendsPart (held W.contents sink.old) (held W.contents sink.new)
-            (printed (self.old.records + 1) (outcome_of response (string_bytes self.old.lines)))) }
+            (printed (self.old.records + 1) (result_of response (string_bytes self.old.lines)))) }
         ensures counted { OnOk result (CountsRecord self.old response self.new) }
     {
         match response {
@@ -173,11 +176,12 @@ impl Run {
         Ok(())
     }
 
-    // Writes the line on pending operations, and counts them.
+    /// Writes the line on pending operations, counts them, and flushes.
     fn finish<W: Write>(&self, sink: &mut Sink<'_, W>) -> Result<Summary, ServeFault>
         requires working { sink.old.failed ≡ false }
         ensures same_writer { sink.new.writer.ghost_name ≡ sink.old.writer.ghost_name }
         ensures failed { sink.new.failed ≡ is_err result }
+        ensures flushed { OnOk result (sink.new.flushed ≡ true) }
         ensures whole { OnOk result (Appends (held W.contents sink.old) (held W.contents sink.new)
             (end_line (length self.now.server.pending))) }
         ensures summary { IfOk result (λ summary. summary ≡ record {
@@ -200,7 +204,7 @@ impl Run {
     }
 }
 
-// Takes records until there is none.
+/// Takes records until there is none.
 fn turn_all<R: Read, W: Write>(
     feed: &mut Feed<R>,
     run: &mut Run,
@@ -210,8 +214,9 @@ fn turn_all<R: Read, W: Write>(
     requires working { sink.old.failed ≡ false }
     ensures same_writer { sink.new.writer.ghost_name ≡ sink.old.writer.ghost_name }
     ensures cause { HasCause feed.new sink.new.failed result }
-    ensures text { IfSome feed.old.left (λ rows. (seats : ℕ) → ShowsRun run.old (opening seats)
-        → AppendsSome (held W.contents sink.old) (held W.contents sink.new) (IsText seats rows result)) }
+    ensures flushed { sink.new.failed ≡ false → sink.new.flushed ≡ true }
+    ensures text { IfSome feed.old.left (λ rows. (setup : Setup) → ShowsRun run.old (beginning setup)
+        → AppendsSome (held W.contents sink.old) (held W.contents sink.new) (IsText setup rows (records_done feed.new) result)) }
 {
     'records: loop {
         match turn(feed, run, sink) {
@@ -222,7 +227,7 @@ fn turn_all<R: Read, W: Write>(
     }
 }
 
-// Takes the next record, and says whether there was one.
+/// Takes the next record, and says whether there was one.
 fn turn<R: Read, W: Write>(
     feed: &mut Feed<R>,
     run: &mut Run,
@@ -232,6 +237,7 @@ fn turn<R: Read, W: Write>(
     requires working { sink.old.failed ≡ false }
     ensures same_writer { sink.new.writer.ghost_name ≡ sink.old.writer.ghost_name }
     ensures failed { sink.new.failed ≡ is_write result }
+    ensures flushed { OnErr result (sink.new.failed ≡ false → sink.new.flushed ≡ true) }
     ensures turns { Turns feed.old run.old (held W.contents sink.old) result feed.new run.new (held W.contents sink.new) }
 {
     match feed.next() {
@@ -242,11 +248,11 @@ fn turn<R: Read, W: Write>(
         Ok(None) => Ok(false),
         Err(fault) => match fault.word {
             FeedWord::Read => {
-                output::last_line(sink, fault.at, FeedWord::Read)?;
+                output::last_line(sink, fault.at, Word::Feed(FeedWord::Read))?;
                 Err(ServeFault::Read)
             }
             FeedWord::Memory => {
-                output::last_line(sink, fault.at, FeedWord::Memory)?;
+                output::last_line(sink, fault.at, Word::Feed(FeedWord::Memory))?;
                 Err(ServeFault::Memory)
             }
             word => match run.print(Response::Refused(Word::Feed(word)), sink) {

@@ -5,8 +5,8 @@ ghost use Rattle.graph_model.specs.Valid.{push_refusal};
 ghost use Rattle.stinger_server.specs.Servers.{HasFewEntries, IsServer, Obeys, Shows, shown_lines};
 ghost use Rattle.stinger_server.specs.States as states;
 
-use crate::lines;
 use crate::words::Word;
+use crate::{Config, lines};
 use feed_csv::{Command, FeedWord};
 use graph_model::{
     AskError, Batch, Content, List, NamedOp, PlainError, PushError, Reply, Request, plain_apply,
@@ -14,13 +14,14 @@ use graph_model::{
 };
 use std::alloc::{AllocError, Global};
 
-// What a record came to: its lines stand in the buffer, or it was refused.
+/// What a record came to: its lines stand in the buffer, or it was refused.
 #[derive(Clone, Copy, Debug, PartialEq, Eq)]
 pub(crate) enum Response {
     Lines,
     Refused(Word),
 }
 
+/// The content of each version, and what each slot holds.
 #[derive(Drop)]
 pub(crate) struct Server {
     alloc: Global,
@@ -32,9 +33,10 @@ pub(crate) struct Server {
 }
 
 impl Server {
-    pub(crate) fn new(alloc: Global, seats: u8) -> Result<Server, AllocError>
+    /// The state before the first record: version 0 is the empty graph, and each slot is free.
+    pub(crate) fn new(alloc: Global, config: Config) -> Result<Server, AllocError>
         ensures server { IfOk result IsServer }
-        ensures opening { IfOk result (λ server. Shows server (states.opening seats).state) }
+        ensures beginning { IfOk result (λ server. Shows server (states.beginning (states.set_up config)).state) }
     {
         let mut contents = Vec::new(alloc);
         contents.push(Content {
@@ -42,7 +44,7 @@ impl Server {
             kinds: List::of(Vec::new(alloc)),
             edges: List::of(Vec::new(alloc)),
         })?;
-        let held = vec![in alloc; None; usize::from(seats)]?;
+        let held = vec![in alloc; None; usize::from(config.seats)]?;
         Ok(Server {
             alloc,
             pending: Batch::new(alloc),
@@ -51,14 +53,14 @@ impl Server {
         })
     }
 
-    // How many operations are pending.
+    /// How many operations are pending.
     pub(crate) fn pending(&self) -> usize
         ensures { result ≡ length self.now.pending }
     {
         self.pending.len()
     }
 
-    // Does a command. Its lines replace those in the buffer; where it was refused, these mean nothing.
+    /// Does a command. Its lines replace those in the buffer; where it was refused, these mean nothing.
     pub(crate) fn obey(
         &mut self,
         command: Command,
@@ -78,6 +80,7 @@ impl Server {
         }
     }
 
+    /// Appends an operation to the pending batch.
     fn push(&mut self, op: NamedOp) -> Result<Response, AllocError>
         requires { IsServer self.old }
         ensures kept { IsServer self.new }
@@ -90,6 +93,7 @@ impl Server {
         }
     }
 
+    /// Applies the pending batch, which is empty afterwards, also where it was refused.
     fn commit(&mut self, lines: &mut String) -> Result<Response, AllocError>
         requires server { IsServer self.old }
         requires empty { string_bytes lines.old ≡ [] }
@@ -117,6 +121,7 @@ impl Server {
         }
     }
 
+    /// Lets a slot hold the last version.
     fn open(&mut self, slot: u8, lines: &mut String) -> Result<Response, AllocError>
         requires server { IsServer self.old }
         requires empty { string_bytes lines.old ≡ [] }
@@ -135,7 +140,7 @@ impl Server {
         }
     }
 
-    // The number of the last version.
+    /// The number of the last version.
     fn last_version(&self) -> usize
         requires { IsServer self.now }
         ensures { result + 1 ≡ length self.now.contents.items }
@@ -143,6 +148,7 @@ impl Server {
         self.contents.len() - 1
     }
 
+    /// Frees a slot.
     fn close(&mut self, slot: u8, lines: &mut String) -> Result<Response, AllocError>
         requires server { IsServer self.old }
         requires empty { string_bytes lines.old ≡ [] }
@@ -159,6 +165,7 @@ impl Server {
         }
     }
 
+    /// Answers a request over the version that a slot holds.
     fn ask(&self, slot: u8, request: &Request, lines: &mut String) -> Result<Response, AllocError>
         requires server { IsServer self.now }
         requires empty { string_bytes lines.old ≡ [] }
@@ -180,7 +187,7 @@ impl Server {
         }
     }
 
-    // The version that a slot holds, or why it holds none.
+    /// The version that a slot holds, or why it holds none.
     fn held_version(&self, slot: u8) -> Result<usize, Word>
         requires { IsServer self.now }
         ensures slot { result ≡ states.version_in (slice_get self.now.held.items slot) }
@@ -194,6 +201,7 @@ impl Server {
     }
 }
 
+/// Appends the lines of a reply.
 fn write_reply(lines: &mut String, slot: u8, reply: &Reply) -> Result<(), AllocError>
     requires { HasFewEntries reply.now }
     ensures { OnOk result (string_bytes lines.new ≡ string_bytes lines.old ++ shown_lines slot reply.now) }
@@ -204,6 +212,7 @@ fn write_reply(lines: &mut String, slot: u8, reply: &Reply) -> Result<(), AllocE
     }
 }
 
+/// The word for an operation's refusal.
 fn push_word(error: PushError) -> Word
     ensures { result ≡ states.push_word error }
 {
@@ -216,7 +225,7 @@ fn push_word(error: PushError) -> Word
     }
 }
 
-// The word for a request's refusal; want of memory has none.
+/// The word for a request's refusal; want of memory has none.
 fn ask_word(error: AskError) -> Result<Word, AllocError>
     ensures known { OnOk result (error ≢ AskError.OutOfMemory) }
     ensures word { IfOk result (λ word. word ≡ states.ask_word error) }

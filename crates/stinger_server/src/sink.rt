@@ -1,21 +1,25 @@
-//! The writer of a run, with a mark for a call of it that failed. The trait `Write` has no word for such a call: that
-//! the mark is set where one failed, and nowhere else, is to be read in the two calls below, and proved from there
-//! on. No other module sees the fields.
+//! The writer of a run, with a mark for a call of it that failed, and one for a flush after the last write. The trait
+//! `Write` has no word for such calls: that the marks are set where one failed, or flushed, and nowhere else, is to be
+//! read in the two calls below, and proved from there on. No other module sees the fields.
 
-ghost use Rattle.std.specs.Prelude.{◌≡◌, ◌<◌, ◌≤◌, false, is_err, length, IfOk};
+ghost use Rattle.std.specs.Prelude.{◌≡◌, ◌<◌, ◌≤◌, false, true, is_err, length, IfOk, OnOk};
 ghost use Rattle.std.specs.Io.KnownBytes.{Keeps, WriteAppends};
 ghost use Rattle.stinger_server.specs.Writes.{held};
 
 use std::io::Write;
 
+/// A writer with its marks.
 #[derive(Drop)]
 pub(crate) struct Sink<'w, W> {
     writer: &'w mut W,
     // A write failed or took nothing, or a flush failed.
     failed: bool,
+    // A flush succeeded, and nothing was written since.
+    flushed: bool,
 }
 
 impl<'w, W: Write> Sink<'w, W> {
+    /// The writer, of which no call has failed, and which was not flushed.
     pub(crate) fn over(writer: &'w mut W) -> Sink<'w, W>
         ensures same_writer { result.writer.ghost_name ≡ writer.entry.ghost_name }
         ensures held { result.writer.now ≡ writer.old }
@@ -24,10 +28,11 @@ impl<'w, W: Write> Sink<'w, W> {
         Sink {
             writer,
             failed: false,
+            flushed: false,
         }
     }
 
-    // Writes some of the bytes, at least one.
+    /// Writes some of the bytes, at least one, and answers how many.
     pub(crate) fn write(&mut self, bytes: &[u8]) -> Result<usize, Unwritten>
         requires some { 0 < length bytes.now }
         requires working { self.old.failed ≡ false }
@@ -36,6 +41,7 @@ impl<'w, W: Write> Sink<'w, W> {
         ensures bytes { WriteAppends (held W.contents self.old) (held W.contents self.new) result bytes.now }
         ensures failed { self.new.failed ≡ is_err result }
     {
+        self.flushed = false;
         match self.writer.write(bytes) {
             Ok(n) if n > 0 => Ok(n),
             _ => {
@@ -45,14 +51,19 @@ impl<'w, W: Write> Sink<'w, W> {
         }
     }
 
+    /// Flushes the writer.
     pub(crate) fn flush(&mut self) -> Result<(), Unwritten>
         requires working { self.old.failed ≡ false }
         ensures same_writer { self.new.writer.ghost_name ≡ self.old.writer.ghost_name }
         ensures bytes { Keeps (held W.contents self.old) (held W.contents self.new) }
         ensures failed { self.new.failed ≡ is_err result }
+        ensures flushed { OnOk result (self.new.flushed ≡ true) }
     {
         match self.writer.flush() {
-            Ok(()) => Ok(()),
+            Ok(()) => {
+                self.flushed = true;
+                Ok(())
+            }
             Err(_) => {
                 self.failed = true;
                 Err(Unwritten)
@@ -61,6 +72,6 @@ impl<'w, W: Write> Sink<'w, W> {
     }
 }
 
-// The sink is marked.
+/// A call of the writer failed: the sink is marked.
 #[derive(Clone, Copy, Debug, PartialEq, Eq)]
 pub(crate) struct Unwritten;

@@ -1,6 +1,6 @@
 //! The words of refusals.
 
-ghost use Rattle.std.specs.Prelude.{◌≡◌};
+ghost use Rattle.std.specs.Prelude.{◌≡◌, ◌≤◌, length};
 ghost use Rattle.stinger_server.specs.Lines.{word_text};
 
 use feed_csv::FeedWord;
@@ -21,8 +21,10 @@ pub enum Word {
 }
 
 impl Word {
+    /// How the word is written; at most 11 bytes.
     pub(crate) fn text(self) -> &'static str
-        ensures { result.now ≡ word_text self }
+        ensures text { result.now ≡ word_text self }
+        ensures short { length result.now ≤ 11 }
     {
         match self {
             Word::Feed(word) => word.word(),

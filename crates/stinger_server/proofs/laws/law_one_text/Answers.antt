@@ -3,4 +3,4 @@ use Rattle.stinger_server.proofs.OneText.{one_text}
 use Rattle.stinger_server.proofs.laws.law_one_text.Goals as goal
 
 pub returns : goal.returns
-returns c = λ seats bytes. one_text seats (records_of bytes)
+returns c = λ setup bytes. one_text setup (records_of bytes)

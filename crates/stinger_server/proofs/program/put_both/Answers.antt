@@ -1,4 +1,4 @@
-use Rattle.stinger_server.proofs.Telling.{both_parts}
+use Rattle.stinger_server.proofs.HelpText.{both_parts}
 use Rattle.stinger_server.proofs.Writing.{on_err, part_longer, part_then}
 use Rattle.stinger_server.proofs.program.put_both.Goals as goal
 

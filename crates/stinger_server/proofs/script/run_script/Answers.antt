@@ -1,5 +1,8 @@
-use Rattle.stinger_server.proofs.Reached.{never_started}
+use Rattle.stinger_server.proofs.RunSoFar.{from_run, never_started}
 use Rattle.stinger_server.proofs.script.run_script.Goals as goal
 
 pub returns-in-Err-clause-text : goal.returns-in-Err-clause-text
-returns-in-Err-clause-text g c = never_started _ c.args.seats _ _ c.in-Err.fault c.in-Err.ensures.starts
+returns-in-Err-clause-text g c = never_started _ _ _ _ _ c.in-Err.fault c.requires.feed c.in-Err.ensures.starts
+
+pub returns-in-Ok-clause-text : goal.returns-in-Ok-clause-text
+returns-in-Ok-clause-text g c = from_run _ _ _ _ _ _ _ _ c.in-Ok.ensures.starts.3 c.in-Ok.ensures.starts.4 c.turn_all.ensures.text

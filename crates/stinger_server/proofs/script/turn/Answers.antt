@@ -1,5 +1,5 @@
 use Rattle.std.proofs.Common.{inl}
-use Rattle.stinger_server.proofs.Turning.{breaks_refused, fault_row, refused}
+use Rattle.stinger_server.proofs.OneRecord.{breaks_refused, fault_row, refused}
 use Rattle.stinger_server.proofs.script.turn.Goals as goal
 
 pub returns-in-Ok-clause-turns : goal.returns-in-Ok-clause-turns

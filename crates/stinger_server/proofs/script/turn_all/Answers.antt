@@ -1,6 +1,6 @@
 use Rattle.std.proofs.Common.{refl, ◌∙◌}
-use Rattle.stinger_server.proofs.Causes.{cause_ended, cause_stopped}
-use Rattle.stinger_server.proofs.Reached.{all_ended, all_stopped, reaches_more, reaches_nothing, ready_more}
+use Rattle.stinger_server.proofs.RunEnd.{cause_ended, cause_stopped}
+use Rattle.stinger_server.proofs.RunSoFar.{all_ended, all_stopped, reaches_more, reaches_nothing, ready_more}
 use Rattle.stinger_server.proofs.script.turn_all.Goals as goal
 
 pub records-init : goal.records-init
@@ -8,7 +8,7 @@ records-init g c = record {
   ready = c.requires.ready;
   working = c.requires.working;
   same = refl;
-  reaches = λ seats shows. reaches_nothing seats _ _ _ shows;
+  reaches = λ setup shows. reaches_nothing setup _ _ _ shows;
 }
 
 pub records-preserved : goal.records-preserved
@@ -18,7 +18,7 @@ records-preserved g c =
       ready = ready_more _ _ _ _ _ _ c.records.invariant.ready turned;
       working = c.in-Ok-true.ensures.failed;
       same = c.in-Ok-true.ensures.same_writer ∙ c.records.invariant.same;
-      reaches = λ seats shows. reaches_more seats _ _ _ _ _ _ _ _ (c.records.invariant.reaches seats shows) turned;
+      reaches = λ setup shows. reaches_more setup _ _ _ _ _ _ _ _ (c.records.invariant.reaches setup shows) turned;
     }
 
 pub returns-in-Err-clause-cause : goal.returns-in-Err-clause-cause

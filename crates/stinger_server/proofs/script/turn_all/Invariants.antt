@@ -1,9 +1,9 @@
-use Rattle.std.proofs.Common.{◌≡◌, ℕ, ◌-◌, false}
+use Rattle.std.proofs.Common.{◌≡◌, ◌-◌, false}
 use Rattle.feed_csv.specs.Records.{record_limit}
 use Rattle.stinger_server.specs.Runs.{IsReady, ShowsRun}
-use Rattle.stinger_server.specs.States.{opening}
+use Rattle.stinger_server.specs.States.{Setup, beginning}
 use Rattle.stinger_server.specs.Writes.{held}
-use Rattle.stinger_server.proofs.Reached.{Reaches}
+use Rattle.stinger_server.proofs.RunSoFar.{Reaches}
 use Rattle.stinger_server.proofs.script.turn_all.Given as goal
 
 abbrev pub invariant-records : goal.invariant-records
@@ -11,8 +11,8 @@ invariant-records g l = record {
   ready : IsReady l.feed l.run;
   working : l.sink.failed ≡ false;
   same : l.sink.writer.ghost_name ≡ l.initial.sink.writer.ghost_name;
-  reaches : (seats : ℕ) → ShowsRun l.initial.run (opening seats)
-      → Reaches seats l.initial.feed.left l.feed.left l.run (held g.W.Write.contents l.initial.sink) (held g.W.Write.contents l.sink);
+  reaches : (setup : Setup) → ShowsRun l.initial.run (beginning setup)
+      → Reaches setup l.initial.feed.left l.feed.left l.run (held g.W.Write.contents l.initial.sink) (held g.W.Write.contents l.sink);
 }
 
 abbrev pub decreases-records : goal.decreases-records

@@ -6,14 +6,15 @@ use Rattle.stinger_server.specs.declared.script.Run.{Run}
 use Rattle.stinger_server.specs.declared.script.ServeFault.{ServeFault}
 use Rattle.stinger_server.specs.declared.script.ServeFault.TheVariants.{Read, Memory, Write}
 use Rattle.stinger_server.specs.declared.script.Summary.{Summary}
+use Rattle.stinger_server.specs.States.{Setup}
 use Rattle.stinger_server.specs.Runs.{HasCause, IsReady, Starts, Turns, is_write}
 
 -- there was no memory for a first record
-pub cause_unstarted : (feed : Script) (seats : ℕ) (before after : Option (List ℕ)) (failed : Bool) (fault : ServeFault)
-    → Starts seats before (Err fault) after → failed ≡ is_write {T = Run} (Err fault) → HasCause feed failed (Err fault)
-cause_unstarted feed seats before after failed Read ends marked = absurd ends
-cause_unstarted feed seats before after failed Memory ends marked = marked
-cause_unstarted feed seats before after failed Write ends marked = marked
+pub cause_unstarted : (feed : Script) (setup : Setup) (before after : Option (List ℕ)) (failed : Bool) (fault : ServeFault)
+    → Starts setup before (Err fault) after → failed ≡ is_write {T = Run} (Err fault) → HasCause feed failed (Err fault)
+cause_unstarted feed setup before after failed Read ends marked = absurd ends
+cause_unstarted feed setup before after failed Memory ends marked = marked
+cause_unstarted feed setup before after failed Write ends marked = marked
 
 -- a turn ended the run
 pub cause_stopped : (feed feed' : Script) (run run' : Run) (now after : Option (List ℕ)) (failed : Bool) (fault : ServeFault)

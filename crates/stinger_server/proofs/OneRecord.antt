@@ -12,7 +12,7 @@ use Rattle.stinger_server.specs.declared.server.Response.TheVariants.{Lines, Ref
 use Rattle.stinger_server.specs.declared.words.Word.TheVariants.{Feed}
 use Rattle.stinger_server.specs.Lines.{error_line}
 use Rattle.stinger_server.specs.Runs.{BreaksOff, CountsRecord, Done, refusals}
-use Rattle.stinger_server.specs.Servers.{IsServer, Obeys, outcome_of}
+use Rattle.stinger_server.specs.Servers.{IsServer, Obeys, result_of}
 use Rattle.stinger_server.specs.States.{error_count, printed}
 use Rattle.stinger_server.specs.Writes.{AppendsPart}
 
@@ -27,9 +27,9 @@ fault_row BadWeight old new read memory step = step
 fault_row BadTime old new read memory step = step
 fault_row BadSlot old new read memory step = step
 
-error_count-outcome_of : (response : Response) (lines : List ℕ) → error_count (outcome_of response lines) ≡ refusals response
-error_count-outcome_of Lines lines = refl
-error_count-outcome_of (Refused word) lines = refl
+error_count-result_of : (response : Response) (lines : List ℕ) → error_count (result_of response lines) ≡ refusals response
+error_count-result_of Lines lines = refl
+error_count-result_of (Refused word) lines = refl
 
 refusals-few : (response : Response) → refusals response ≤ 1
 refusals-few Lines = omega arith
@@ -39,7 +39,7 @@ refusals-few (Refused word) = omega arith
 pub obeyed : (command : Command) (response : Response) (old mid new : Run) (before after : Option (List ℕ))
     → Obeys command old.server response (string_bytes mid.lines) mid.server → IsServer mid.server
     → mid.records ≡ old.records → mid.errors ≡ old.errors
-    → Appends before after (printed (mid.records + 1) (outcome_of response (string_bytes mid.lines))) → CountsRecord mid response new
+    → Appends before after (printed (mid.records + 1) (result_of response (string_bytes mid.lines))) → CountsRecord mid response new
     → Done (Ok command) old before new after
 obeyed command response old mid new before after obeys server records errors written counted =
     let few : refusals response ≤ 1 = refusals-few response in
@@ -51,13 +51,13 @@ obeyed command response old mid new before after obeys server records errors wri
       step = λ here shows.
           let taken = obeys here.state shows.server in
           let number : mid.records ≡ here.records = records ∙ shows.records in (
-            outcome_of response (string_bytes mid.lines),
+            result_of response (string_bytes mid.lines),
             taken.0,
             rw (← number) written,
             record {
               server = rw same taken.1;
               records = counted.records ∙ ap (λ n. n + 1) number;
-              errors = let count = error_count-outcome_of response (string_bytes mid.lines) in let errors_here = shows.errors in omega (arith, counted.errors);
+              errors = let count = error_count-result_of response (string_bytes mid.lines) in let errors_here = shows.errors in omega (arith, counted.errors);
             },
           );
     }
@@ -65,7 +65,7 @@ obeyed command response old mid new before after obeys server records errors wri
 -- a record that is no command was refused
 pub refused : (row_item : Result Command FeedWord) (word : FeedWord) (old new : Run) (before after : Option (List ℕ))
     → row_item ≡ Err word → IsServer old.server
-    → Appends before after (printed (old.records + 1) (outcome_of (Refused (Feed word)) (string_bytes old.lines))) → CountsRecord old (Refused (Feed word)) new
+    → Appends before after (printed (old.records + 1) (result_of (Refused (Feed word)) (string_bytes old.lines))) → CountsRecord old (Refused (Feed word)) new
     → Done row_item old before new after
 refused row_item word old new before after is server written counted =
     let same : new.server ≡ old.server = counted.server in
@@ -88,13 +88,13 @@ refused row_item word old new before after is server written counted =
 
 pub breaks_obeyed : (command : Command) (response : Response) (old mid : Run) (before after : Option (List ℕ))
     → Obeys command old.server response (string_bytes mid.lines) mid.server → mid.records ≡ old.records
-    → AppendsPart before after (printed (mid.records + 1) (outcome_of response (string_bytes mid.lines))) → BreaksOff (Ok command) old before after
+    → AppendsPart before after (printed (mid.records + 1) (result_of response (string_bytes mid.lines))) → BreaksOff (Ok command) old before after
 breaks_obeyed command response old mid before after obeys records part = λ here shows.
     let number : mid.records ≡ here.records = records ∙ shows.records in
-    inl (outcome_of response (string_bytes mid.lines), (obeys here.state shows.server).0, rw (← number) part)
+    inl (result_of response (string_bytes mid.lines), (obeys here.state shows.server).0, rw (← number) part)
 
 pub breaks_refused : (row_item : Result Command FeedWord) (word : FeedWord) (old : Run) (before after : Option (List ℕ)) → row_item ≡ Err word
-    → AppendsPart before after (printed (old.records + 1) (outcome_of (Refused (Feed word)) (string_bytes old.lines))) → BreaksOff row_item old before after
+    → AppendsPart before after (printed (old.records + 1) (result_of (Refused (Feed word)) (string_bytes old.lines))) → BreaksOff row_item old before after
 breaks_refused row_item word old before after is part = λ here shows.
     inl (Err (Feed word), rw is refl, rw (← shows.records) part)
 

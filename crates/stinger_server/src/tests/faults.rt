@@ -1,0 +1,78 @@
+// Readers and writers that fail.
+
+use super::{FIRST, FIRST_TEXT, FakeWriter, REFUSED, REFUSED_TEXT, TornReader, is_cut, two_seats};
+use crate::{ServeFault, serve};
+use std::process::Abort;
+
+// A run of the script into a writer of each smaller size writes that many bytes of the text and tells `Write`, and
+// calls the writer no more.
+fn fills_each_writer(rt: &(impl Abort + AllocGlobal), script: &str, text: &str, fails: bool) {
+    for room in 0..text.len() {
+        let mut writer = FakeWriter::new(rt, room, fails);
+        let answer = serve(rt, two_seats(rt), script.as_bytes(), &mut writer);
+        assert_eq!(rt; answer, Err(ServeFault::Write), "{room} {fails}");
+        assert_eq!(rt;
+            writer.held.as_slice(),
+            &text.as_bytes()[..room],
+            "{room} {fails}"
+        );
+        assert_eq!(rt; writer.refusals, 1, "{room} {fails}");
+    }
+}
+
+#[test]
+fn writes_the_bytes_that_a_writer_takes(rt: HostRuntime) {
+    for fails in [true, false] {
+        fills_each_writer(&rt, FIRST, FIRST_TEXT, fails);
+        fills_each_writer(&rt, REFUSED, REFUSED_TEXT, fails);
+    }
+}
+
+#[test]
+fn writes_to_a_writer_that_takes_a_byte_a_call(rt: HostRuntime) {
+    for (script, text) in [(FIRST, FIRST_TEXT), (REFUSED, REFUSED_TEXT)] {
+        let mut writer = FakeWriter::new(&rt, text.len(), true);
+        writer.piece = 1;
+        let answer = serve(&rt, two_seats(&rt), script.as_bytes(), &mut writer);
+        assert!(rt; answer.is_ok(), "{script}");
+        assert_eq!(rt; writer.held.as_slice(), text.as_bytes(), "{script}");
+    }
+}
+
+// The run over a reader that fails after so many reads, and a writer whose flush fails, ends with this.
+fn tells_a_failed_flush(rt: &(impl Abort + AllocGlobal), reads: usize, text: &str) {
+    let mut writer = FakeWriter::new(rt, usize::MAX, true);
+    writer.flush_fails = true;
+    let reader = TornReader {
+        bytes: FIRST.as_bytes(),
+        reads,
+    };
+    let answer = serve(rt, two_seats(rt), reader, &mut writer);
+    assert_eq!(rt; answer, Err(ServeFault::Write), "{reads}");
+    assert_eq!(rt; writer.held.as_slice(), text.as_bytes(), "{reads}");
+}
+
+#[test]
+fn tells_failed_flushes(rt: HostRuntime) {
+    tells_a_failed_flush(&rt, usize::MAX, FIRST_TEXT);
+    tells_a_failed_flush(&rt, 0, "error 1 Read\n");
+}
+
+#[test]
+fn tells_the_record_that_a_reader_failed_at(rt: HostRuntime) {
+    for reads in 0..=FIRST.len() {
+        let mut writer = FakeWriter::new(&rt, usize::MAX, true);
+        let reader = TornReader {
+            bytes: FIRST.as_bytes(),
+            reads,
+        };
+        let answer = serve(&rt, two_seats(&rt), reader, &mut writer);
+        let given = FIRST.as_bytes()[..reads]
+            .iter()
+            .filter(|byte| **byte == b'\n')
+            .count();
+        assert_eq!(rt; answer, Err(ServeFault::Read), "{reads}");
+        assert!(rt; is_cut(writer.held.as_slice(), given, "Read"), "{reads}");
+        assert!(rt; writer.flushed, "{reads}");
+    }
+}

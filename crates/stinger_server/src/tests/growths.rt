@@ -1,0 +1,86 @@
+// Growths that are refused: `tools/refuse-each-growth` refuses each in turn.
+
+use super::arguments::{HELP, UNKNOWN};
+use super::{FIRST, FIRST_ENDS, FIRST_TEXT, FakeWriter, begins, is_cut, two_seats};
+use crate::{ServeFault, serve, stinger};
+
+// Whether a run of `FIRST` was ended by a refused growth.
+fn is_cut_by_memory(output: &[u8]) -> bool {
+    (0..FIRST_ENDS.len()).any(|given| is_cut(output, given, "Memory"))
+}
+
+// Tells `tools/refuse-each-growth` that a growth was refused, which the test accepted.
+fn refused(rt: &impl Print) {
+    let _ = println!(rt; "refused");
+}
+
+#[test]
+fn refused_growth_ends_a_run_at_its_record(rt: HostRuntime) {
+    let Ok(mut output) = Vec::with_capacity(rt.alloc(), 1_024) else {
+        return refused(&rt);
+    };
+    match serve(&rt, two_seats(&rt), FIRST.as_bytes(), &mut output) {
+        Ok(_) => assert_eq!(rt; output.as_slice(), FIRST_TEXT.as_bytes()),
+        Err(fault) => {
+            assert_eq!(rt; fault, ServeFault::Memory);
+            assert!(rt; is_cut_by_memory(output.as_slice()));
+            refused(&rt);
+        }
+    }
+}
+
+// Both end the run: the writer is told, which was full at the first line or at the error line for want of memory.
+#[test]
+fn refused_growth_into_a_full_writer_tells_the_writer(rt: HostRuntime) {
+    let Ok(held) = Vec::with_capacity(rt.alloc(), 16) else {
+        return refused(&rt);
+    };
+    let mut writer = FakeWriter::new(&rt, 5, true);
+    writer.held = held;
+    let answer = serve(&rt, two_seats(&rt), FIRST.as_bytes(), &mut writer);
+    assert_eq!(rt; answer, Err(ServeFault::Write));
+    assert_eq!(rt; writer.refusals, 1);
+    if writer.held.as_slice() == b"error".as_slice() {
+        refused(&rt);
+    } else {
+        assert_eq!(rt; writer.held.as_slice(), b"commi".as_slice());
+    }
+}
+
+#[test]
+fn refused_growth_gives_the_program_status_1(rt: HostRuntime) {
+    let Ok(mut output) = Vec::with_capacity(rt.alloc(), 1_024) else {
+        return refused(&rt);
+    };
+    let mut faults = Vec::new(rt.alloc());
+    let status = stinger(&rt, &["run"], FIRST.as_bytes(), &mut output, &mut faults);
+    if status == 0 {
+        assert_eq!(rt; output.as_slice(), FIRST_TEXT.as_bytes());
+    } else {
+        assert_eq!(rt; status, 1);
+        assert!(rt; output.is_empty() || is_cut_by_memory(output.as_slice()));
+        refused(&rt);
+    }
+    assert!(rt; faults.is_empty());
+}
+
+#[test]
+fn refused_growth_leaves_the_arguments_untold(rt: HostRuntime) {
+    for (argument, told, text, complaint) in [("--help", 0, HELP, ""), ("fly", 2, "", UNKNOWN)] {
+        let Ok(mut output) = Vec::with_capacity(rt.alloc(), 8_192) else {
+            return refused(&rt);
+        };
+        let Ok(mut faults) = Vec::with_capacity(rt.alloc(), 1_024) else {
+            return refused(&rt);
+        };
+        let status = stinger(&rt, &[argument], b"".as_slice(), &mut output, &mut faults);
+        if status == 1 {
+            assert!(rt; output.is_empty() && faults.is_empty(), "{argument}");
+            refused(&rt);
+        } else {
+            assert_eq!(rt; status, told, "{argument}");
+            assert!(rt; begins(output.as_slice(), text), "{argument}");
+            assert!(rt; begins(faults.as_slice(), complaint), "{argument}");
+        }
+    }
+}
