@@ -6,26 +6,12 @@ use Rattle.feed_csv.specs.Records.{Row}
 use Rattle.feed_csv.specs.declared.command.Command.{Command}
 use Rattle.feed_csv.specs.declared.command.Command.TheVariants.{Op, Commit, OpenSlot, CloseSlot, Query}
 use Rattle.feed_csv.specs.declared.command.FeedWord.{FeedWord}
-use Rattle.graph_model.specs.Graph.{Graph}
-use Rattle.graph_model.specs.Answer.{IsAnswer, IsReply}
+use Rattle.graph_model.proofs.OneAnswer.{one_answer}
 use Rattle.graph_model.specs.declared.requests.Request.{Request}
-use Rattle.graph_model.specs.declared.requests.Request.TheVariants.{Degrees, OneEdge}
-use Rattle.graph_model.specs.declared.requests.Reply.{Reply}
-use Rattle.graph_model.specs.declared.requests.AskError.{AskError}
 use Rattle.stinger_server.specs.declared.words.Word.{Word}
 use Rattle.stinger_server.specs.Lines.{end_line}
 use Rattle.stinger_server.specs.States.{IsRecordResult, IsReplied, Progress, RecordResult, Setup, State, after_record, answer_result, beginning, printed, version, version_in}
 use Rattle.stinger_server.specs.Texts.{IsRun, IsWhole}
-
-one_reply : (request : Request) (g : Graph) (a b : Reply) → IsReply request g a → IsReply request g b → a ≡ b
-one_reply (Degrees filter) g a b first second = first ∙ sym second
-one_reply (OneEdge kind source target) g a b first second = first ∙ sym second
-
-one_answer : (request : Request) (g : Graph) (a b : Result Reply AskError) → IsAnswer request g a → IsAnswer request g b → a ≡ b
-one_answer request g (Ok a) (Ok b) first second = ap (λ reply. Ok reply) (one_reply request g a b first.1 second.1)
-one_answer request g (Ok a) (Err b) first second = cc (first.0, second)
-one_answer request g (Err a) (Ok b) first second = cc (first, second.0)
-one_answer request g (Err a) (Err b) first second = cc
 
 one_replied : (slot : ℕ) (request : Request) (s : State) (held : Result ℕ Word) (a b : RecordResult) → IsReplied slot request s held a
     → IsReplied slot request s held b → a ≡ b

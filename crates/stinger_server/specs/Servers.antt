@@ -1,6 +1,7 @@
 -- A server's fields, and the states that they show.
 use Rattle.std.specs.Prelude.{◌≡◌, ℕ, ◌<◌, ◌≤◌, List, [], ◌∷◌, All, length, map, sum_by, Option, None, Some, Ok, Err}
 use Rattle.graph_model.specs.Graph.{Graph, IsContent, graph_of}
+use Rattle.graph_model.specs.Limits.{name_limit}
 use Rattle.graph_model.specs.Step.{after_all}
 use Rattle.graph_model.specs.declared.batches.NamedOp.{NamedOp}
 use Rattle.graph_model.specs.declared.requests.Reply.{Reply}
@@ -46,7 +47,7 @@ Obeys command old response lines new =
 
 -- a reply names at most so many vertices
 abbrev pub HasFewEntries : Reply → Type 0
-HasFewEntries (Degrees entries) = length entries ≤ 65536
+HasFewEntries (Degrees entries) = length entries ≤ name_limit
 HasFewEntries (OneEdge shown) = Unit {0}
 
 -- a reply's lines, read off the reply alone: each edge of the view leaves one vertex

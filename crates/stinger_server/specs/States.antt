@@ -2,6 +2,7 @@
 use Rattle.std.specs.Prelude.{◌≡◌, ℕ, ◌+◌, nat_lt, List, [], ◌∷◌, ◌++◌, length, take, replicate, slice_get, slice_set, count_by, if◌then◌else◌, Option, None, Some, Result, Ok, Err}
 use Rattle.std.specs.FinMap.{entries}
 use Rattle.graph_model.specs.Graph.{Graph}
+use Rattle.graph_model.specs.Limits.{kind_limit, name_limit}
 use Rattle.graph_model.specs.Step.{after_all, empty_graph, left_by, outcomes}
 use Rattle.graph_model.specs.View.{in_view}
 use Rattle.graph_model.specs.Valid.{push_refusal}
@@ -85,12 +86,12 @@ ask_word ask.NoKind = NoKind
 ask_word ask.NoVertex = NoVertex
 ask_word ask.OutOfMemory = Feed feed.Memory
 
--- the pending batch is refused where it would leave more than 65,536 names, and else where more than 64 kinds
+-- the pending batch is refused where it would leave more names than the limit, and else where more kinds
 abbrev pub commit_refusal : State → Option Word
 commit_refusal s =
     let left = after_all s.pending (last_version s) in
-    if nat_lt 65536 (length left.names) then Some NamesFull
-    else (if nat_lt 64 (length left.kinds) then Some KindsFull else None)
+    if nat_lt name_limit (length left.names) then Some NamesFull
+    else (if nat_lt kind_limit (length left.kinds) then Some KindsFull else None)
 
 abbrev pub op_refusal : Option PushError → Option Word
 op_refusal None = None

@@ -8,10 +8,8 @@ ghost use Rattle.stinger_server.specs.States as states;
 use crate::words::Word;
 use crate::{Config, lines};
 use feed_csv::{Command, FeedWord};
-use graph_model::{
-    AskError, Batch, Content, List, NamedOp, PlainError, PushError, Reply, Request, plain_apply,
-    plain_reply,
-};
+use graph_model::{AskError, Batch, Content, List, NamedOp, PushError, Reply, Request};
+use plain_graph::{PlainError, plain_apply, plain_reply};
 use std::alloc::{AllocError, Global};
 
 /// What a record came to: its lines stand in the buffer, or it was refused.
