@@ -1,0 +1,225 @@
+-- The blocks that all workers take and drop are those of the batch.
+use Rattle.std.proofs.Common.{◌≡◌, ◌≢◌, ℕ, zero, suc, ◌+◌, ◌%◌, ◌<◌, ◌≤◌, ◌==◌, List, [], ◌∷◌, ◌++◌, length, map, flat_map, get_or, count_by, Bool, true, false, cond, refl, sym, ap, ap₂, ◌∙◌, arith, subst, Option, Some, None, All, AllPairs, mod-lt, zip}
+use Rattle.std.specs.List.{sum_by, range_with_len, AllZip}
+use Rattle.std.specs.declared.sync.Arc.{Arc}
+use Rattle.std.specs.declared.alloc.Global.{Global}
+use Rattle.std.specs.declared.vec.Vec.{Vec}
+use Rattle.std.proofs.lemmas.Bool.{true≢false, false≢true, eqb-true, eqb-false, false_from_ne_true, true_from_ne_false}
+use Rattle.std.proofs.lemmas.List.{length-map, get_or-map}
+use Rattle.std.proofs.lemmas.List.Sums.{sum_by-cons, sum_by-append}
+use Rattle.std.proofs.lemmas.List.Elements.{All-head, All-tail, All-cons, All-nil, All-append, All-map}
+use Rattle.graph_model.specs.Graph.{Graph, Key}
+use Rattle.graph_model.specs.Step.{after_all}
+use Rattle.graph_model.specs.declared.batches.NamedOp.{NamedOp}
+use Rattle.edge_block.specs.declared.blocks.Block.{Block}
+use Rattle.graph_model.specs.declared.changes.EdgeChange.{EdgeChange}
+use Rattle.block_layout.specs.Rows.{Shape, OpenBlock, taken_in, dropped_in, shape_of, row_end}
+use Rattle.block_layout.specs.Batches.{Resolved, resolved, shard_ops, sum_below, rows_all, opened, key_is_of, taken_by, dropped_by, outcomes_all, layout_after}
+use Rattle.shard_work.specs.Shards.{IsPlace, key_at, resolved_at, resolved_in}
+use Rattle.shard_work.specs.Done.{IsShardDone, sources_in, steps_in, rows_by, layout_by, sum_of}
+use Rattle.shard_work.specs.declared.shard.Shard.{Shard}
+use Rattle.shard_work.specs.declared.shard.ShardDone.{ShardDone}
+use Rattle.shard_work.specs.declared.shard.Step.{Step}
+use Rattle.shard_work.specs.declared.shard.Place.{Place}
+use Rattle.batch_apply.specs.Plans.{acts, results, is_of}
+use Rattle.batch_apply.specs.Sums.{IsShardFor, ArePlanned}
+use Rattle.batch_apply.proofs.Totals.{sum_all, worker_rows, worker_unnamed, count_more, same_outcomes}
+use Rattle.batch_apply.proofs.Merge.{same_ops, shard_places}
+use Rattle.shard_work.specs.Closing.{row_values}
+use Rattle.edge_block.specs.Slots.{BlockView}
+use Rattle.graph_model.specs.declared.batches.Outcome.{Outcome}
+
+abbrev times : ℕ → List ℕ → ℕ
+times m xs = count_by (λ x. x == m) xs
+
+times_append : (m : ℕ) (xs ys : List ℕ) → times m (xs ++ ys) ≡ times m xs + times m ys
+times_append m xs ys = sum_by-append (λ x. cond (x == m) 1 0) xs ys
+
+same_number : (a : ℕ) → (a == a) ≡ true
+same_number a = true_from_ne_false (a == a) (λ e. eqb-false a a e refl)
+
+no_times : (m : ℕ) (xs : List ℕ) → All (λ x. x ≡ m → ⊥) xs → times m xs ≡ 0
+no_times m [] none = refl
+no_times m (x ∷ xs) none =
+    let rest = no_times m xs (All-tail (λ x. x ≡ m → ⊥) x xs none) in
+    let c = count_more (λ x. x == m) x xs in
+    let no : (let k : ℕ = cond (x == m) 1 0 in k) ≡ 0 = ap (λ b. cond b 1 0) (false_from_ne_true (x == m) (λ e. All-head (λ x. x ≡ m → ⊥) x xs none (eqb-true x m e))) in
+    omega arith
+
+some_times : (xs : List ℕ) (i d : ℕ) → i < length xs → 1 ≤ times (get_or xs i d) xs
+some_times [] i d lt = absurd (omega arith)
+some_times (x ∷ xs) zero d lt =
+    let c = count_more (λ y. y == x) x xs in
+    let yes : (let k : ℕ = cond (x == x) 1 0 in k) ≡ 1 = ap (λ b. cond b 1 0) (same_number x) in
+    omega arith
+some_times (x ∷ xs) (suc i) d lt =
+    let c = count_more (λ y. y == get_or xs i d) x xs in
+    let rest = some_times xs i d (omega arith) in
+    omega arith
+
+once : (m : ℕ) (xs : List ℕ) → AllPairs (λ a b. a ≢ b) xs → times m xs ≤ 1
+once m [] pairs = omega arith
+once m (x ∷ xs) pairs =
+    let c = count_more (λ x. x == m) x xs in
+    let rest = once m xs (λ i j d lt within. pairs (suc i) (suc j) d (omega arith) (omega arith)) in
+    elim (x == m) as (λ b. x == m ≡ b → times m (x ∷ xs) ≡ cond b 1 0 + times m xs → times m (x ∷ xs) ≤ 1) [
+      | true ↦ λ t z.
+          let same : x ≡ m = eqb-true x m t in
+          let none = no_times m xs (λ k d lt e. pairs 0 (suc k) d (omega arith) (omega arith) (same ∙ sym e)) in
+          omega arith
+      | false ↦ λ t z. omega arith
+    ] refl c
+
+module _ (workers : ℕ) (ops : List NamedOp) (g : Graph) where
+  abbrev sources_all : List Shard → List ℕ
+  sources_all shards = flat_map sources_in shards
+
+  abbrev Zipped : ℕ → ℕ → List Shard → Type 0
+  Zipped a k shards = AllZip (IsShardFor workers ops g) (range_with_len a k) shards
+
+  other_worker : (w m : ℕ) (shard : Shard) → IsShardFor workers ops g w shard → (m % workers ≡ w → ⊥) → times m (sources_in shard) ≡ 0
+  other_worker w m shard is ne = no_times m (sources_in shard) (λ k d lt e. ne (ap (λ x. x % workers) (sym e) ∙ is.own k d lt))
+
+  none_before : (a k m : ℕ) (shards : List Shard) → Zipped a k shards → m % workers < a → times m (sources_all shards) ≡ 0
+  none_before a zero m [] z lt = refl
+  none_before a zero m (s ∷ shards) z lt = absurd z
+  none_before a (suc k) m [] z lt = absurd z
+  none_before a (suc k) m (s ∷ shards) z lt =
+      let here = other_worker a m s z.0 (λ e. omega arith) in
+      let rest = none_before (a + 1) k m shards z.1 (omega arith) in
+      let both = times_append m (sources_in s) (sources_all shards) in
+      omega arith
+
+  all_once : (a k m : ℕ) (shards : List Shard) → Zipped a k shards → times m (sources_all shards) ≤ 1
+  all_once a zero m [] z = omega arith
+  all_once a zero m (s ∷ shards) z = absurd z
+  all_once a (suc k) m [] z = absurd z
+  all_once a (suc k) m (s ∷ shards) z =
+      let both = times_append m (sources_in s) (sources_all shards) in
+      elim (m % workers == a) as (λ b. m % workers == a ≡ b → times m (sources_in s ++ sources_all shards) ≤ 1) [
+        | true ↦ λ t.
+            let same : m % workers ≡ a = eqb-true (m % workers) a t in
+            let here = once m (sources_in s) z.0.distinct in
+            let rest = none_before (a + 1) k m shards z.1 (omega arith) in omega arith
+        | false ↦ λ t.
+            let here = other_worker a m s z.0 (eqb-false (m % workers) a t) in
+            let rest = all_once (a + 1) k m shards z.1 in omega arith
+      ] refl
+
+  abbrev n : ℕ
+  n = length (after_all ops g).names
+
+  all_within : (a k : ℕ) (shards : List Shard) → Zipped a k shards → All (λ s. s < n) (sources_all shards)
+  all_within a zero [] z = All-nil (λ s. s < n)
+  all_within a zero (s ∷ shards) z = absurd z
+  all_within a (suc k) [] z = absurd z
+  all_within a (suc k) (s ∷ shards) z = All-append (λ s. s < n) (sources_in s) (sources_all shards) z.0.within (all_within (a + 1) k shards z.1)
+
+  -- the shard of a worker
+  pick : (a k w : ℕ) (shards : List Shard) → Zipped a k shards → a ≤ w → w < a + k
+      → (shard : Shard) × (IsShardFor workers ops g w shard × ((m : ℕ) → times m (sources_in shard) ≤ times m (sources_all shards)))
+  pick a zero w shards z le lt = absurd (omega arith)
+  pick a (suc k) w [] z le lt = absurd z
+  pick a (suc k) w (s ∷ shards) z le lt =
+      elim (a == w) as (λ b. a == w ≡ b → (shard : Shard) × (IsShardFor workers ops g w shard × ((m : ℕ) → times m (sources_in shard) ≤ times m (sources_all (s ∷ shards))))) [
+        | true ↦ λ t. (s, (subst (λ v. IsShardFor workers ops g v s) (eqb-true a w t) z.0, λ m. let both = times_append m (sources_in s) (sources_all shards) in omega arith))
+        | false ↦ λ t.
+            let ne : a ≡ w → ⊥ = eqb-false a w t in
+            let rest = pick (a + 1) k w shards z.1 (omega arith) (omega arith) in
+            (rest.0, (rest.1.0, λ m. let r = rest.1.1 m in let both = times_append m (sources_in s) (sources_all shards) in omega arith))
+      ] refl
+
+  -- a source that a shard doesn't list is named by none of its operations
+  unlisted : (w m : ℕ) (shard : Shard) → IsShardFor workers ops g w shard → times m (sources_in shard) ≡ 0 → All (λ r. key_is_of m r.key ≡ false) (shard_ops workers w (resolved ops g.names g.kinds))
+  unlisted w m shard is none =
+      let P : (Option Key × EdgeChange) → Type 0 = λ a. key_is_of m a.0 ≡ false in
+      let steps : All P (acts (steps_in shard)) = All-map P (λ (r : Resolved). (r.key, r.change)) (steps_in shard)
+      (All-map (λ (r : Resolved). key_is_of m r.key ≡ false) (λ (s : Step). resolved_at (sources_in shard) s.change s.place) shard.steps.items
+      (λ k d lt. one (get_or shard.steps.items k d).place (is.steps k d lt).0)) in
+      from_acts P (shard_ops workers w (resolved ops g.names g.kinds)) (subst (λ as'. All P as') is.acts_are steps)
+    where
+      one : (p : Option Place) → IsPlace (length (sources_in shard)) p → key_is_of m (key_at (sources_in shard) p) ≡ false
+      one None h = refl
+      one (Some p) h = false_from_ne_true (m == get_or (sources_in shard) p.row 0) (λ e.
+          let same : m ≡ get_or (sources_in shard) p.row 0 = eqb-true m (get_or (sources_in shard) p.row 0) e in
+          let some = some_times (sources_in shard) p.row 0 h in
+          let zero_is : times (get_or (sources_in shard) p.row 0) (sources_in shard) ≡ 0 = subst (λ k. times k (sources_in shard) ≡ 0) same none in
+          omega arith)
+
+      from_acts : (P : (Option Key × EdgeChange) → Type 0) (rs : List Resolved) → All P (acts rs) → All (λ r. P (r.key, r.change)) rs
+      from_acts P [] all = All-nil (λ (r : Resolved). P (r.key, r.change))
+      from_acts P (r ∷ rs) all = All-cons (λ (r : Resolved). P (r.key, r.change)) r rs (All-head P (r.key, r.change) (acts rs) all) (from_acts P rs (All-tail P (r.key, r.change) (acts rs) all))
+
+  module _ (positive : 0 < workers) (shards : List Shard) (planned : ArePlanned workers ops g shards) (layout : ℕ → List Shape) where
+    abbrev left : ℕ → List OpenBlock
+    left = rows_all (resolved ops g.names g.kinds) (opened layout)
+
+    quiet : (m : ℕ) → times m (sources_all shards) ≡ 0 → (taken_in (left m) ≡ 0) × (dropped_in (left m) ≡ 0)
+    quiet m none =
+        let lt = mod-lt m positive in
+        let s = pick 0 workers (m % workers) shards planned (omega arith) (omega arith) in
+        let few = s.1.1 m in
+        worker_unnamed workers (m % workers) ops g layout m (same_number (m % workers)) (unlisted (m % workers) m s.0 s.1.0 (omega arith))
+
+    pub taken_sum : sum_by (λ m. taken_in (left m)) (sources_all shards) ≡ taken_by ops g layout n
+    taken_sum = sum_all (λ m. taken_in (left m)) n (sources_all shards) (λ m. all_once 0 workers m shards planned) (all_within 0 workers shards planned) (λ m lt none. (quiet m none).0)
+
+    pub dropped_sum : sum_by (λ m. dropped_in (left m)) (sources_all shards) ≡ dropped_by ops g layout n
+    dropped_sum = sum_all (λ m. dropped_in (left m)) n (sources_all shards) (λ m. all_once 0 workers m shards planned) (all_within 0 workers shards planned) (λ m lt none. (quiet m none).1)
+
+  sum_same : (f h : ℕ → ℕ) (xs : List ℕ) → All (λ x. f x ≡ h x) xs → sum_by f xs ≡ sum_by h xs
+  sum_same f h [] all = refl
+  sum_same f h (x ∷ xs) all =
+      sum_by-cons f x xs ∙ ap₂ (λ a b. a + b) (All-head (λ x. f x ≡ h x) x xs all) (sum_same f h xs (All-tail (λ x. f x ≡ h x) x xs all)) ∙ sym (sum_by-cons h x xs)
+
+  -- what the shards' results take together
+  together : (before : ℕ → List BlockView) (f : List OpenBlock → ℕ) (count : ShardDone → ℕ)
+      → ((shard : Shard) (done : ShardDone) → IsShardDone before shard done → count done ≡ sum_of (λ m. f (rows_by before shard m)) (sources_in shard))
+      → (a k : ℕ) (shards : List Shard) (dones : List ShardDone) → Zipped a k shards → AllZip (IsShardDone before) shards dones
+      → sum_by count dones ≡ sum_by (λ m. f (rows_all (resolved ops g.names g.kinds) (opened (layout_by before)) m)) (sources_all shards)
+  together before f count each a zero [] [] z d = refl
+  together before f count each a zero [] (x ∷ dones) z d = absurd d
+  together before f count each a zero (s ∷ shards) dones z d = absurd z
+  together before f count each a (suc k) [] dones z d = absurd z
+  together before f count each a (suc k) (s ∷ shards) [] z d = absurd d
+  together before f count each a (suc k) (s ∷ shards) (x ∷ dones) z d =
+      let all : ℕ → ℕ = λ m. f (rows_all (resolved ops g.names g.kinds) (opened (layout_by before)) m) in
+      sum_by-cons count x dones
+      ∙ ap₂ (λ a b. a + b)
+      (each s x d.0 ∙ sum_same (λ m. f (rows_by before s m)) all (sources_in s)
+      (λ i e lt. ap f (worker_rows workers a ops g s z.0 (opened (layout_by before)) (get_or (sources_in s) i e) (ap (λ b. b == a) (z.0.own i e lt) ∙ same_number a))))
+      (together before f count each (a + 1) k shards dones z.1 d.1)
+      ∙ sym (sum_by-append all (sources_in s) (sources_all shards))
+
+-- all workers together take and drop as many blocks as the layout rule says of the batch, for every number of workers
+pub batch_totals : (workers : ℕ) (ops : List NamedOp) (g : Graph) (before : ℕ → List BlockView) (shards : List Shard) (dones : List ShardDone)
+    → 0 < workers → ArePlanned workers ops g shards → AllZip (IsShardDone before) shards dones
+    → (sum_by (λ d. length d.left.taken.items) dones ≡ taken_by ops g (layout_by before) (length (after_all ops g).names))
+    × (sum_by (λ d. length d.left.dropped.items) dones ≡ dropped_by ops g (layout_by before) (length (after_all ops g).names))
+batch_totals workers ops g before shards dones positive planned done = (
+  together workers ops g before taken_in (λ d. length d.left.taken.items) (λ s x is. is.taken_are) 0 workers shards dones planned done ∙ taken_sum workers ops g positive shards planned (layout_by before),
+  together workers ops g before dropped_in (λ d. length d.left.dropped.items) (λ s x is. is.dropped_are) 0 workers shards dones planned done ∙ dropped_sum workers ops g positive shards planned (layout_by before),
+)
+
+module _ (workers w : ℕ) (ops : List NamedOp) (g : Graph) (before : ℕ → List BlockView) (shard : Shard) (done : ShardDone) (planned : IsShardFor workers ops g w shard) (is : IsShardDone before shard done) where
+  abbrev all_outcomes : List Outcome
+  all_outcomes = outcomes_all (resolved ops g.names g.kinds) (opened (layout_by before))
+
+  -- a shard's outcomes are the batch's at the shard's places
+  pub shard_outcomes_at : done.outcomes.items ≡ results (is_of workers w) (resolved ops g.names g.kinds) all_outcomes 0
+  shard_outcomes_at =
+      is.outcomes_are
+      ∙ ap₂ zip planned.places
+      (same_outcomes (steps_in shard) (shard_ops workers w (resolved ops g.names g.kinds)) planned.acts_are (opened (layout_by before))
+      ∙ ap (λ rs. outcomes_all rs (opened (layout_by before))) (sym (same_ops workers w ops g (layout_by before))))
+      ∙ shard_places workers w ops g (layout_by before)
+
+  -- a shard's rows have the layout that the batch leaves
+  pub shard_layout_at : All (λ r. map shape_of r.1 ≡ layout_after ops g (layout_by before) r.0) (row_values done.rows.items)
+  shard_layout_at k d lt =
+      let r : ℕ × List BlockView = get_or (row_values done.rows.items) k d in
+      let long : length (map (λ (r : ℕ × List BlockView). r.0) (row_values done.rows.items)) ≡ length (row_values done.rows.items) = length-map (row_values done.rows.items) (λ (r : ℕ × List BlockView). r.0) in
+      let source : get_or (sources_in shard) k 0 ≡ r.0 = ap (λ ss. get_or ss k 0) (sym is.sources_are) ∙ get_or-map (λ (r : ℕ × List BlockView). r.0) (row_values done.rows.items) k d 0 lt in
+      let within : k < length (sources_in shard) = omega (arith, ap length is.sources_are) in
+      let own : r.0 % workers ≡ w = ap (λ s. s % workers) (sym source) ∙ planned.own k 0 within in
+      is.layout k d lt ∙ ap row_end (worker_rows workers w ops g shard planned (opened (layout_by before)) r.0 (ap (λ b. b == w) own ∙ same_number w))

@@ -1,0 +1,144 @@
+-- Sums over the sources of shards are sums over all sources.
+use Rattle.std.proofs.Common.{◌≡◌, ◌≢◌, ℕ, zero, suc, ◌+◌, ◌*◌, ◌%◌, ◌<◌, ◌≤◌, ◌==◌, List, [], ◌∷◌, ◌++◌, length, map, filter, count_by, Bool, true, false, cond, not, ◌&&◌, refl, sym, ap, ap₂, ◌∙◌, arith, subst, Option, Some, None, All, AllPairs}
+use Rattle.std.specs.List.{sum_by}
+use Rattle.std.proofs.lemmas.Bool.{true≢false, false≢true, eqb-true, eqb-false, false_from_ne_true}
+use Rattle.std.proofs.lemmas.List.Sums.{sum_by-cons}
+use Rattle.std.proofs.lemmas.List.Elements.{All-head, All-tail, All-cons, All-nil}
+use Rattle.graph_model.specs.Graph.{Graph, Key}
+use Rattle.graph_model.specs.declared.batches.NamedOp.{NamedOp}
+use Rattle.graph_model.specs.declared.batches.Outcome.{Outcome}
+use Rattle.graph_model.specs.declared.changes.EdgeChange.{EdgeChange}
+use Rattle.block_layout.specs.Rows.{Shape, OpenBlock, untouched, taken_in, dropped_in, row_end, has_none}
+use Rattle.block_layout.specs.Batches.{Resolved, resolved, shard_ops, sum_below, rows_all, rows_step, row_step, outcome_in, outcomes_all, opened, key_is_of, layout_after}
+use Rattle.block_layout.proofs.ShardLaws.{shard_rows}
+use Rattle.batch_apply.specs.Plans.{acts}
+use Rattle.batch_apply.specs.Sums.{IsShardFor}
+use Rattle.shard_work.specs.Done.{steps_in}
+use Rattle.shard_work.specs.declared.shard.Shard.{Shard}
+use Rattle.batch_apply.proofs.Merge.{unnamed_rows}
+
+-- rows and outcomes depend on the operations and their keys alone
+pub same_rows : (rs ss : List Resolved) → acts rs ≡ acts ss → (rows : ℕ → List OpenBlock) → rows_all rs rows ≡ rows_all ss rows
+same_rows [] [] e rows = refl
+same_rows [] (s ∷ ss) e rows = cc
+same_rows (r ∷ rs) [] e rows = cc
+same_rows (r ∷ rs) (s ∷ ss) e rows =
+    let pair : (let p : Option Key × EdgeChange = (r.key, r.change) in p) ≡ (s.key, s.change) = cc in
+    let key : r.key ≡ s.key = ap (λ (p : Option Key × EdgeChange). p.0) pair in
+    let change : r.change ≡ s.change = ap (λ (p : Option Key × EdgeChange). p.1) pair in
+    let rest : acts rs ≡ acts ss = cc in
+    ap (rows_all rs) (λ i source. cond (key_is_of source (key i)) (row_step (change i) (key i) (rows source)) (rows source)) ∙ same_rows rs ss rest (rows_step s rows)
+
+pub same_outcomes : (rs ss : List Resolved) → acts rs ≡ acts ss → (rows : ℕ → List OpenBlock) → outcomes_all rs rows ≡ outcomes_all ss rows
+same_outcomes [] [] e rows = refl
+same_outcomes [] (s ∷ ss) e rows = cc
+same_outcomes (r ∷ rs) [] e rows = cc
+same_outcomes (r ∷ rs) (s ∷ ss) e rows =
+    let pair : (let p : Option Key × EdgeChange = (r.key, r.change) in p) ≡ (s.key, s.change) = cc in
+    let key : r.key ≡ s.key = ap (λ (p : Option Key × EdgeChange). p.0) pair in
+    let change : r.change ≡ s.change = ap (λ (p : Option Key × EdgeChange). p.1) pair in
+    let rest : acts rs ≡ acts ss = cc in
+    ap₂ (λ o os. o ∷ os) (λ i. outcome_in (change i) (key i) rows)
+    (ap (outcomes_all rs) (λ i source. cond (key_is_of source (key i)) (row_step (change i) (key i) (rows source)) (rows source)) ∙ same_outcomes rs ss rest (rows_step s rows))
+
+-- a row that is not touched takes and drops nothing
+pub count_more : {A : Type 0} (p : A → Bool) (x : A) (xs : List A) → count_by p (x ∷ xs) ≡ cond (p x) 1 0 + count_by p xs
+count_more p x xs = sum_by-cons (λ x. cond (p x) 1 0) x xs
+
+pub none_taken : (row : List Shape) → taken_in (map untouched row) ≡ 0
+none_taken [] = refl
+none_taken (b ∷ row) =
+    let one = count_more (λ (h : OpenBlock). h.touched && not (has_none h.shape)) (untouched b) (map untouched row) in
+    let rest = none_taken row in omega arith
+
+pub none_dropped : (row : List Shape) → dropped_in (map untouched row) ≡ 0
+none_dropped [] = refl
+none_dropped (b ∷ row) =
+    let one = count_more (λ (h : OpenBlock). h.touched && h.had) (untouched b) (map untouched row) in
+    let rest = none_dropped row in omega arith
+
+abbrev others : ℕ → List ℕ → List ℕ
+others n xs = filter (λ x. not (x == n)) xs
+
+count_filter : (p : ℕ → Bool) (n : ℕ) (xs : List ℕ) → count_by p (others n xs) ≤ count_by p xs
+count_filter p n [] = omega arith
+count_filter p n (x ∷ xs) =
+    let rest = count_filter p n xs in
+    let m = count_more p x xs in
+    elim (x == n) as (λ b. count_by p (cond (not b) (x ∷ others n xs) (others n xs)) ≤ count_by p (x ∷ xs)) [
+      | true ↦ omega arith
+      | false ↦ let k = count_more p x (others n xs) in omega arith
+    ]
+
+count_others : (m n : ℕ) → (m ≡ n → ⊥) → (xs : List ℕ) → count_by (λ x. x == m) (others n xs) ≡ count_by (λ x. x == m) xs
+count_others m n ne [] = refl
+count_others m n ne (x ∷ xs) =
+    let rest = count_others m n ne xs in
+    let c = count_more (λ x. x == m) x xs in
+    elim (x == n) as (λ b. x == n ≡ b → count_by (λ x. x == m) (cond (not b) (x ∷ others n xs) (others n xs)) ≡ count_by (λ x. x == m) (x ∷ xs)) [
+      | true ↦ λ t.
+          let no : (x == m) ≡ false = false_from_ne_true (x == m) (λ e. ne (sym (eqb-true x m e) ∙ eqb-true x n t)) in
+          let none : count_by (λ x. x == m) (x ∷ xs) ≡ 0 + count_by (λ x. x == m) xs = c ∙ ap (λ b. cond b 1 0 + count_by (λ x. x == m) xs) no in omega arith
+      | false ↦ λ t. count_more (λ x. x == m) x (others n xs) ∙ ap (λ k. cond (x == m) 1 0 + k) rest ∙ sym c
+    ] refl
+
+sum_zero : (f : ℕ → ℕ) (n : ℕ) (xs : List ℕ) → count_by (λ x. x == n) xs ≡ 0 → sum_by f xs ≡ sum_by f (others n xs)
+sum_zero f n [] e = refl
+sum_zero f n (x ∷ xs) e =
+    elim (x == n) as (λ b. cond b 1 0 + count_by (λ x. x == n) xs ≡ 0 → sum_by f (x ∷ xs) ≡ sum_by f (cond (not b) (x ∷ others n xs) (others n xs))) [
+      | true ↦ λ z. absurd (omega arith)
+      | false ↦ λ z. sum_by-cons f x xs ∙ ap (λ k. f x + k) (sum_zero f n xs (omega arith)) ∙ sym (sum_by-cons f x (others n xs))
+    ] (sym (count_more (λ x. x == n) x xs) ∙ e)
+
+sum_one : (f : ℕ → ℕ) (n : ℕ) (xs : List ℕ) → count_by (λ x. x == n) xs ≡ 1 → sum_by f xs ≡ f n + sum_by f (others n xs)
+sum_one f n [] e = absurd (omega arith)
+sum_one f n (x ∷ xs) e =
+    elim (x == n) as (λ b. x == n ≡ b → cond b 1 0 + count_by (λ x. x == n) xs ≡ 1 → sum_by f (x ∷ xs) ≡ f n + sum_by f (cond (not b) (x ∷ others n xs) (others n xs))) [
+      | true ↦ λ t z. sum_by-cons f x xs ∙ ap₂ (λ a b. a + b) (ap f (eqb-true x n t)) (sum_zero f n xs (omega arith))
+      | false ↦ λ t z. let a = sum_by-cons f x xs in let b = sum_by-cons f x (others n xs) in let rest = sum_one f n xs (omega arith) in omega arith
+    ] refl (sym (count_more (λ x. x == n) x xs) ∙ e)
+
+others_below : (n : ℕ) (xs : List ℕ) → All (λ x. x < suc n) xs → All (λ x. x < n) (others n xs)
+others_below n [] all = All-nil (λ x. x < n)
+others_below n (x ∷ xs) all =
+    let rest = others_below n xs (All-tail (λ x. x < suc n) x xs all) in
+    let here : x < suc n = All-head (λ x. x < suc n) x xs all in
+    elim (x == n) as (λ b. x == n ≡ b → All (λ x. x < n) (cond (not b) (x ∷ others n xs) (others n xs))) [
+      | true ↦ λ t. rest
+      | false ↦ λ t. let ne : x ≡ n → ⊥ = eqb-false x n t in All-cons (λ x. x < n) x (others n xs) (omega arith) rest
+    ] refl
+
+none_below : (f : ℕ → ℕ) (xs : List ℕ) → All (λ x. x < 0) xs → sum_by f xs ≡ 0
+none_below f [] all = refl
+none_below f (x ∷ xs) all = let here : x < 0 = All-head (λ x. x < 0) x xs all in absurd (omega arith)
+
+-- a sum over different numbers below n is one over all numbers below n, where the others add nothing
+pub sum_all : (f : ℕ → ℕ) (n : ℕ) (xs : List ℕ) → ((m : ℕ) → count_by (λ x. x == m) xs ≤ 1) → All (λ x. x < n) xs
+    → ((m : ℕ) → m < n → count_by (λ x. x == m) xs ≡ 0 → f m ≡ 0) → sum_by f xs ≡ sum_below n f
+sum_all f zero xs once below rest = none_below f xs below
+sum_all f (suc n) xs once below rest =
+    let few = once n in
+    let ys : List ℕ = others n xs in
+    let again : sum_by f ys ≡ sum_below n f =
+    sum_all f n ys (λ m. let a = once m in let b = count_filter (λ x. x == m) n xs in omega arith) (others_below n xs below)
+    (λ m lt none. rest m (omega arith) (sym (count_others m n (λ e. omega arith) xs) ∙ none)) in
+    elim (count_by (λ x. x == n) xs) as (λ k. count_by (λ x. x == n) xs ≡ k → sum_by f xs ≡ f n + sum_below n f) [
+      | zero ↦ λ e. let none = rest n (omega arith) e in let z = sum_zero f n xs e in omega arith
+      | suc k ↦ λ e. let z = sum_one f n xs (omega arith) in omega arith
+    ] refl
+
+-- a worker's shard leaves the rows of its sources as the batch does
+pub worker_rows : (workers w : ℕ) (ops : List NamedOp) (g : Graph) (shard : Shard) → IsShardFor workers ops g w shard → (rows : ℕ → List OpenBlock) (source : ℕ) → (source % workers == w) ≡ true
+    → rows_all (steps_in shard) rows source ≡ rows_all (resolved ops g.names g.kinds) rows source
+worker_rows workers w ops g shard is rows source own =
+    ap (λ (after : ℕ → List OpenBlock). after source) (same_rows (steps_in shard) (shard_ops workers w (resolved ops g.names g.kinds)) is.acts_are rows)
+    ∙ shard_rows workers w ops g.names g.kinds rows source own
+
+-- the row of a source that no operation of its shard names stays, and neither takes nor drops a block
+pub worker_unnamed : (workers w : ℕ) (ops : List NamedOp) (g : Graph) (layout : ℕ → List Shape) (source : ℕ) → (source % workers == w) ≡ true
+    → All (λ r. key_is_of source r.key ≡ false) (shard_ops workers w (resolved ops g.names g.kinds))
+    → (taken_in (rows_all (resolved ops g.names g.kinds) (opened layout) source) ≡ 0) × (dropped_in (rows_all (resolved ops g.names g.kinds) (opened layout) source) ≡ 0)
+worker_unnamed workers w ops g layout source own none =
+    let same : rows_all (resolved ops g.names g.kinds) (opened layout) source ≡ map untouched (layout source) =
+    sym (shard_rows workers w ops g.names g.kinds (opened layout) source own) ∙ unnamed_rows (shard_ops workers w (resolved ops g.names g.kinds)) (opened layout) source none in
+    (ap taken_in same ∙ none_taken (layout source), ap dropped_in same ∙ none_dropped (layout source))

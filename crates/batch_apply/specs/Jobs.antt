@@ -1,0 +1,19 @@
+-- The work on shards.
+use Rattle.std.specs.Prelude.{◌≡◌, ◌≢◌, ℕ, ◌≤◌, List, map, length, AllPairs, All}
+use Rattle.std.specs.List.{AllZip}
+use Rattle.edge_block.specs.Slots.{BlockView}
+use Rattle.shard_work.specs.Shards.{AreSteps}
+use Rattle.shard_work.specs.Done.{IsShardDone}
+use Rattle.shard_work.specs.declared.shard.Shard.{Shard}
+use Rattle.shard_work.specs.declared.shard.ShardDone.{ShardDone}
+use Rattle.batch_apply.specs.declared.workers.Job.{Job}
+
+-- a shard that can be worked on: its sources are distinct, and it has a fresh block for each operation
+pub record IsShard (shard : Shard) : Type 0 where
+  pub fresh : length shard.steps.items ≤ length shard.fresh.items
+  pub steps : AreSteps (length shard.sources.items) shard.steps.items
+  pub distinct : AllPairs (λ a b. a ≢ b) (map (λ s. s.0) shard.sources.items)
+
+-- what the work on each job's shard must leave of these rows, in the order of the jobs
+abbrev pub AreDone : (ℕ → List BlockView) → List Job → List ShardDone → Type 0
+AreDone rows jobs done = AllZip (λ j d. IsShardDone rows j.shard d) jobs done

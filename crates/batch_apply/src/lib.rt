@@ -1,0 +1,10 @@
+//! The work of a batch, by workers.
+#![tactic(auto)]
+
+mod laws;
+mod workers;
+
+pub use laws::{
+    law_all_written, law_batch_totals, law_shard_results, law_sum_all, law_worker_rows,
+};
+pub use workers::{Gate, Job, PassAll, do_all};
