@@ -46,7 +46,8 @@ impl Rows {
 
     /// How many rows there are: the row of each further source is empty.
     pub fn len(&self) -> usize
-        ensures { result ≡ length self.now }
+        ensures count { result ≡ length self.now }
+        ensures few { length self.now ≤ 2 ^ 32 }
     {
         self.pages.len() * PAGE
     }

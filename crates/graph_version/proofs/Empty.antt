@@ -1,0 +1,36 @@
+-- The version without batches is a version.
+use Rattle.std.proofs.Common.{◌≡◌, ◌∙◌, ℕ, List, [], refl, sym, ap, arith, true≢false}
+use Rattle.std.specs.Option.{is_some}
+use Rattle.std.specs.FinMap.{get-empty, len-empty}
+use Rattle.graph_model.specs.Graph.{Stamp, key_cmp}
+use Rattle.graph_model.specs.declared.batches.NamedOp.{NamedOp}
+use Rattle.edge_block.specs.Slots.{BlockView}
+use Rattle.vertex_names.specs.Book.{Book, empty_book}
+use Rattle.graph_version.specs.Versions.{IsVersion, empty_version}
+use Rattle.graph_version.specs.Kept.{version_of, IsKept}
+use Rattle.block_layout.specs.Rows.{IsRow}
+
+no_row : IsRow []
+no_row = record { within = λ k d h. absurd (omega arith); between = tt }
+
+pub is_empty_version : IsVersion empty_version
+is_empty_version = record {
+  rows = record {
+    layout = record { distinct = λ source. no_row; shows = λ k. sym (get-empty key_cmp k) };
+    blocks = λ source k d h. absurd (omega arith);
+    numbers = λ i j d h g. absurd (omega arith);
+  };
+  within = λ k is. absurd (true≢false (sym is ∙ ap is_some (get-empty key_cmp k)));
+  small = record { names = omega arith; kinds = omega arith; count = omega arith };
+}
+
+-- what a version keeps is true of the one without batches
+pub is_kept_empty : (names kinds : Book) (batches : List (List NamedOp)) (rows : List (List BlockView)) (edges : ℕ)
+    → names ≡ empty_book 65536 → kinds ≡ empty_book 64 → batches ≡ [] → rows ≡ [] → edges ≡ 0 → IsKept names kinds edges (version_of batches rows)
+is_kept_empty names kinds batches rows edges n k b r e =
+    rw (n, k, b, r, e) (record {
+      names_are = refl;
+      kinds_are = refl;
+      edges_are = sym (len-empty key_cmp Stamp);
+      version = is_empty_version;
+    })

@@ -1,0 +1,50 @@
+use Rattle.std.proofs.Common.{◌≡◌, ◌∙◌, List, get_or, ap, sym, arith, Some, None}
+use Rattle.std.proofs.lemmas.List.{take_all}
+use Rattle.std.specs.Option.{option_map}
+use Rattle.std.specs.declared.sync.Arc.{Arc}
+use Rattle.std.specs.declared.alloc.Global.{Global}
+use Rattle.edge_block.specs.Slots.{BlockView, first_some}
+use Rattle.edge_block.specs.Lending.{lent_edge}
+use Rattle.edge_block.specs.declared.blocks.Block.{Block}
+use Rattle.block_layout.specs.Rows.{shape_of, block_at}
+use Rattle.row_pages.specs.Rows.{row_of}
+use Rattle.row_pages.specs.Sharing.{block_value, block_values}
+use Rattle.graph_version.specs.Versions.{VersionView, IsVersion}
+use Rattle.graph_version.specs.Edges.{lent_to}
+use Rattle.graph_version.proofs.Looks.{place_at, found_edge, no_edge, none_more, none_there}
+use Rattle.graph_version.proofs.versions.Version.edge.Goals as goal
+
+pub returns-in-Some : goal.returns-in-Some
+returns-in-Some c =
+    let k = c.args.kind.0 in
+    let t = c.args.target.0 in
+    let blocks : List (Arc Block Global) = c.row_blocks-block-items.result.now in
+    let block : Arc Block Global = c.block-item.result in
+    let item : block ≡ get_or blocks c.loop-block.block-index block = c.block-item.is in
+    let is : IsVersion c.args.self.now = rw (← c.self.view_is) c.self.invariant.version in
+    let same : block_values blocks ≡ row_of c.args.self.now.rows c.args.source.0 = c.row_blocks-block-items.ensures ∙ ap (λ (v : VersionView). row_of v.rows c.args.source.0) c.self.view_is in
+    let here : Some (lent_edge c.in-Some.edge) ≡ lent_to k t (place_at (k, t) (get_or blocks c.loop-block.block-index block)) =
+    c.in-Some.ensures ∙ ap (λ (b : BlockView). lent_to k t (block_at (shape_of b) (k, t))) (c.deref.ensures ∙ ap block_value item) in
+    found_edge c.args.self.now k c.args.source.0 t blocks c.loop-block.block-index block (lent_edge c.in-Some.edge) is same c.loop-block-test.true c.loop-block.invariant here
+
+pub loop-block-preserved : goal.loop-block-preserved
+loop-block-preserved c =
+    let k = c.args.kind.0 in
+    let t = c.args.target.0 in
+    let blocks : List (Arc Block Global) = c.row_blocks-block-items.result.now in
+    let block : Arc Block Global = c.block-item.result in
+    let item : block ≡ get_or blocks c.loop-block.block-index block = c.block-item.is in
+    let none : c.edge_in.result ≡ None = c.in_default.is in
+    let here : None ≡ lent_to k t (place_at (k, t) (get_or blocks c.loop-block.block-index block)) =
+    sym (ap (option_map lent_edge) none) ∙ c.edge_in.ensures ∙ ap (λ (b : BlockView). lent_to k t (block_at (shape_of b) (k, t))) (c.deref.ensures ∙ ap block_value item) in
+    none_more (place_at (k, t)) blocks c.loop-block.block-index block c.loop-block-test.true c.loop-block.invariant (none_there k t (get_or blocks c.loop-block.block-index block) here)
+
+pub returns : goal.returns
+returns c =
+    let k = c.args.kind.0 in
+    let t = c.args.target.0 in
+    let blocks : List (Arc Block Global) = c.row_blocks-block-items.result.now in
+    let is : IsVersion c.args.self.now = rw (← c.self.view_is) c.self.invariant.version in
+    let same : block_values blocks ≡ row_of c.args.self.now.rows c.args.source.0 = c.row_blocks-block-items.ensures ∙ ap (λ (v : VersionView). row_of v.rows c.args.source.0) c.self.view_is in
+    let all : first_some (place_at (k, t)) blocks ≡ None = ap (first_some (place_at (k, t))) (sym (take_all c.loop-block.block-index blocks (omega arith))) ∙ c.loop-block.invariant in
+    no_edge c.args.self.now k c.args.source.0 t blocks is same all

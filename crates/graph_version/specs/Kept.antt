@@ -1,0 +1,31 @@
+-- What a version keeps beside its batches and rows: two books of names, and how many edges there are.
+use Rattle.std.specs.Prelude.{◌≡◌, ℕ, List}
+use Rattle.std.specs.FinMap.{len}
+use Rattle.graph_model.specs.Limits.{name_limit, kind_limit}
+use Rattle.graph_model.specs.Step.{empty_graph}
+use Rattle.graph_model.specs.declared.batches.NamedOp.{NamedOp}
+use Rattle.edge_block.specs.Slots.{BlockView}
+use Rattle.vertex_names.specs.Book.{Book}
+use Rattle.graph_version.specs.Versions.{VersionView, content, IsVersion}
+
+-- a book of at most 65,536 vertex names, and one of at most 64 kind names
+abbrev pub vertex_book : List (List ℕ) → Book
+vertex_book names = record { limit = name_limit; names = names }
+
+abbrev pub kind_book : List (List ℕ) → Book
+kind_book kinds = record { limit = kind_limit; names = kinds }
+
+-- the version of these batches and rows: every opening graph is empty so far
+abbrev pub version_of : List (List NamedOp) → List (List BlockView) → VersionView
+version_of batches rows = record { opening = empty_graph; batches = batches; rows = rows }
+
+-- how many edges a version has
+abbrev pub edge_total : VersionView → ℕ
+edge_total v = len (content v).edges
+
+-- the books list the content's names, and the count is that of its edges
+pub record IsKept (names kinds : Book) (edges : ℕ) (v : VersionView) : Type 0 where
+  pub names_are : names ≡ vertex_book (content v).names
+  pub kinds_are : kinds ≡ kind_book (content v).kinds
+  pub edges_are : edges ≡ edge_total v
+  pub version : IsVersion v

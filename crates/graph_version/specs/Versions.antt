@@ -1,0 +1,56 @@
+-- A version of a graph: what it began with, its batches, and its rows of blocks.
+use Rattle.std.specs.Prelude.{◌≡◌, ◌≢◌, ℕ, ◌≤◌, List, [], map, length, All, AllPairs, Bool, false, ◌==◌}
+use Rattle.std.specs.List.{list_any, list_all}
+use Rattle.graph_model.specs.Graph.{Graph}
+use Rattle.graph_model.specs.Limits.{name_limit, kind_limit, batch_limit}
+use Rattle.graph_model.specs.Step.{left_by, empty_graph}
+use Rattle.graph_model.specs.declared.batches.NamedOp.{NamedOp}
+use Rattle.edge_block.specs.Slots.{BlockView, is_free}
+use Rattle.block_layout.specs.Rows.{Shape, shape_of}
+use Rattle.block_layout.specs.Batches.{IsLayoutOf, IsWithin}
+use Rattle.row_pages.specs.Rows.{row_of, blocks_of, numbers_of}
+
+-- the graph that it began with, the batches since, and a row of blocks for each source
+pub record VersionView : Type 0 where
+  pub opening : Graph
+  pub batches : List (List NamedOp)
+  pub rows : List (List BlockView)
+
+-- the content: what the batches leave of the opening graph
+abbrev pub content : VersionView → Graph
+content v = left_by v.batches v.opening
+
+-- the layout: each source's row without numbers and source
+abbrev pub layout_of : List (List BlockView) → ℕ → List Shape
+layout_of rows source = map shape_of (row_of rows source)
+
+-- a block of a source's row: of that source, with an edge
+pub record IsBlockOf (source : ℕ) (b : BlockView) : Type 0 where
+  pub source_is : b.source ≡ source
+  pub has_edges : list_all is_free b.slots ≡ false
+
+-- the rows have the graph's edges, each once, and no two blocks have one number
+pub record AreRowsOf (g : Graph) (rows : List (List BlockView)) : Type 0 where
+  pub layout : IsLayoutOf (layout_of rows) g.edges
+  pub blocks : (source : ℕ) → All (IsBlockOf source) (row_of rows source)
+  pub numbers : AllPairs ◌≢◌ (numbers_of (blocks_of rows))
+
+-- the limits
+pub record IsSmall (v : VersionView) : Type 0 where
+  pub names : length (content v).names ≤ name_limit
+  pub kinds : length (content v).kinds ≤ kind_limit
+  pub count : length v.batches ≤ batch_limit
+
+-- what is true of every version: its rows have its content, whose edges join its vertices, and it is within the limits
+pub record IsVersion (v : VersionView) : Type 0 where
+  pub rows : AreRowsOf (content v) v.rows
+  pub within : IsWithin (content v)
+  pub small : IsSmall v
+
+-- the version without batches
+abbrev pub empty_version : VersionView
+empty_version = record { opening = empty_graph; batches = []; rows = [] }
+
+-- whether a number is in a list
+abbrev pub is_in : ℕ → List ℕ → Bool
+is_in n numbers = list_any (λ c. c == n) numbers

@@ -1,0 +1,131 @@
+//! The draft of a version.
+
+ghost use Rattle.std.specs.Prelude.{◌≡◌, ◌%◌, ◌^◌, ◌<◌, length, IfOk};
+ghost use Rattle.batch_pages.specs.Batches.{batch_value};
+ghost use Rattle.row_pages.specs.Sharing.{block_values};
+ghost use Rattle.graph_version.specs.Edges.{edges_in_blocks};
+ghost use Rattle.graph_version.specs.Drafts.{drafted_over, with_batch, ReplacesRow, IsWhole};
+
+use crate::versions::Version;
+use batch_pages::BatchList;
+use edge_block::Block;
+use graph_model::{Batch, VertexId};
+use row_pages::Rows;
+use std::alloc::AllocError;
+use std::marker::Model;
+use std::sync::Arc;
+use vertex_names::NameBook;
+
+/// A version that is being made over another one, from which it takes all that isn't set or replaced.
+///
+/// After a refused growth the draft is given up, and the version that it was drafted over is as before.
+#[derive(Drop)]
+pub struct VersionDraft {
+    names: NameBook,
+    kinds: NameBook,
+    batches: BatchList,
+    rows: Rows,
+    /// The number of edges in all rows, modulo 2^64: while rows are replaced one by one, they need not yet be those of
+    /// a graph within its limits.
+    edges: u64,
+}
+
+impl Model for VersionDraft {
+    ghost use Rattle.std.specs.Prelude.{◌≡◌, ◌%◌, ◌^◌, length};
+    ghost use Rattle.row_pages.specs.Rows.{blocks_of};
+    ghost use Rattle.graph_version.specs.Kept.{version_of};
+    ghost use Rattle.graph_version.specs.Edges.{edges_in_blocks};
+    ghost use Rattle.graph_version.specs.Drafts.{DraftView};
+    ghost use Rattle.std.specs.Coded.{codes};
+    ghost use Rattle.graph_model.specs.Coded.{graph_code};
+
+    ghost Value = { DraftView };
+
+    ghost coded = { Prim.hlevel (codes, graph_code) };
+
+    ghost view = { λ d. record { names = d.names; kinds = d.kinds; version = version_of d.batches d.rows } };
+
+    ghost invariant = { λ d. d.edges ≡ length (edges_in_blocks (blocks_of d.rows)) % 2 ^ 64 };
+}
+
+impl VersionDraft {
+    /// A draft of a version like this one. It shares the rows, the batches and the names: one reference for each 64
+    /// rows, 256 batches or 256 names.
+    pub fn over(version: &Version) -> Result<VersionDraft, AllocError>
+        ensures { IfOk result (λ draft. draft ≡ drafted_over version.now) }
+    {
+        Ok(VersionDraft {
+            names: version.names.share()?,
+            kinds: version.kinds.share()?,
+            batches: version.batches.share()?,
+            rows: version.rows.share()?,
+            edges: version.edges,
+        })
+    }
+
+    /// With these books of vertex names and of kind names.
+    pub fn set_names(self, names: NameBook, kinds: NameBook) -> VersionDraft
+        ensures { result ≡ record self { names = names; kinds = kinds } }
+    {
+        VersionDraft {
+            names,
+            kinds,
+            ..self
+        }
+    }
+
+    /// With these blocks as the row of a source; no block leaves no row.
+    pub fn replace_row(
+        self,
+        source: VertexId,
+        blocks: Vec<Arc<Block>>,
+    ) -> Result<VersionDraft, AllocError>
+        ensures { IfOk result (λ draft. ReplacesRow source.0 (block_values blocks.items) self draft) }
+    {
+        let before = edges_in_row(self.rows.row_blocks(source));
+        let edges = self
+            .edges
+            .wrapping_sub(before)
+            .wrapping_add(edges_in_row(&blocks));
+        Ok(VersionDraft {
+            rows: self.rows.replace_row(source, blocks)?,
+            edges,
+            ..self
+        })
+    }
+
+    /// With one more batch.
+    pub fn push_batch(mut self, batch: Arc<Batch>) -> Result<VersionDraft, AllocError>
+        requires { length self.version.batches < 2 ^ 32 }
+        ensures { IfOk result (λ draft. draft ≡ with_batch self (batch_value batch)) }
+    {
+        self.batches.push(batch)?;
+        Ok(self)
+    }
+
+    /// The version, once its rows have what its batches leave, each block with its row's source and with an edge, no
+    /// two edges of one key and no two blocks of one number, and its books have the names.
+    pub fn finish(self) -> Result<Version, AllocError>
+        requires { IsWhole self }
+        ensures { IfOk result (λ version. version ≡ self.version) }
+    {
+        Ok(Version {
+            names: self.names,
+            kinds: self.kinds,
+            batches: self.batches,
+            rows: self.rows,
+            edges: self.edges,
+        })
+    }
+}
+
+/// How many edges blocks have, modulo 2^64.
+fn edges_in_row(blocks: &[Arc<Block>]) -> u64
+    ensures { result ≡ length (edges_in_blocks (block_values blocks.now)) % 2 ^ 64 }
+{
+    let mut edges = 0_u64;
+    for block in blocks {
+        edges = edges.wrapping_add(block.len() as u64);
+    }
+    edges
+}

@@ -1,0 +1,161 @@
+//! The version and its calls.
+
+ghost use Rattle.std.specs.Prelude.{◌≡◌, ◌++◌, ◌∷◌, [], List, length, MatchOption};
+ghost use Rattle.std.specs.Option.{option_map};
+ghost use Rattle.graph_model.specs.declared.batches.NamedOp.{NamedOp};
+ghost use Rattle.edge_block.specs.Lending.{lent_edge};
+ghost use Rattle.row_pages.specs.Rows.{row_of, blocks_of, numbers_of};
+ghost use Rattle.row_pages.specs.Sharing.{block_values};
+ghost use Rattle.graph_version.specs.Versions.{IsVersion, empty_version, content};
+ghost use Rattle.block_layout.specs.Rows.{shape_of, block_at};
+ghost use Rattle.graph_version.specs.Edges.{lent_to};
+ghost use Rattle.graph_version.specs.Kept.{vertex_book, kind_book, edge_total};
+
+use crate::lending::{BlockNumbers, RowIter};
+use batch_pages::{BatchIter, BatchList};
+use edge_block::{Block, EdgeRef};
+use graph_model::{Batch, KindId, VertexId};
+use row_pages::Rows;
+use std::alloc::Global;
+use std::marker::Model;
+use std::sync::Arc;
+use vertex_names::NameBook;
+
+/// How many vertices a graph may have.
+const NAMES: u32 = 65_536;
+
+/// How many kinds a graph may have.
+const KINDS: u32 = 64;
+
+/// A graph after some batches. It never changes.
+///
+/// A version's rows, batches and names are shared with the versions before and after it but where a batch changed
+/// them. It is dropped in time linear in what it alone holds.
+#[derive(Drop)]
+pub struct Version {
+    pub(crate) names: NameBook,
+    pub(crate) kinds: NameBook,
+    pub(crate) batches: BatchList,
+    pub(crate) rows: Rows,
+    pub(crate) edges: u64,
+}
+
+impl Model for Version {
+    ghost use Rattle.graph_version.specs.Versions.{VersionView};
+    ghost use Rattle.graph_version.specs.Kept.{version_of, IsKept};
+    ghost use Rattle.std.specs.Coded.{codes};
+    ghost use Rattle.graph_model.specs.Coded.{graph_code};
+
+    ghost Value = { VersionView };
+
+    ghost coded = { Prim.hlevel (codes, graph_code) };
+
+    ghost view = { λ v. version_of v.batches v.rows };
+
+    ghost invariant = { λ v. IsKept v.names v.kinds v.edges (version_of v.batches v.rows) };
+}
+
+impl Version {
+    ghost use Rattle.batch_pages.specs.Lending.{batches_left};
+    ghost use Rattle.graph_version.specs.Lending.{lent_at, lent_in_blocks, row_left, numbers_left};
+
+    /// The version without batches: no name, no kind, no edge. It takes no memory.
+    pub fn empty(alloc: Global) -> Version
+        ensures { result ≡ empty_version }
+    {
+        Version {
+            names: NameBook::new(alloc, NAMES),
+            kinds: NameBook::new(alloc, KINDS),
+            batches: BatchList::new(alloc),
+            rows: Rows::new(alloc),
+            edges: 0,
+        }
+    }
+
+    /// How many batches there are.
+    pub fn number(&self) -> u64
+        ensures number { result ≡ length self.now.batches }
+        ensures version { IsVersion self.now }
+    {
+        self.batches.len() as u64
+    }
+
+    /// Lends the batches, the first one first.
+    pub fn batches(&self) -> BatchIter<'_>
+        ensures { batches_left result ≡ self.now.batches }
+    {
+        self.batches.iter()
+    }
+
+    /// The last batch.
+    pub fn last_batch(&self) -> Option<&Batch>
+        ensures { MatchOption result (self.now.batches ≡ []) (λ b. (others : List (List NamedOp)) × (self.now.batches ≡ others ++ b.now ∷ [])) }
+    {
+        self.batches.last()
+    }
+
+    /// The vertex names: a vertex's number is the place of its name.
+    pub fn names(&self) -> &NameBook
+        ensures { result.now ≡ vertex_book (content self.now).names }
+    {
+        &self.names
+    }
+
+    /// The kind names.
+    pub fn kinds(&self) -> &NameBook
+        ensures { result.now ≡ kind_book (content self.now).kinds }
+    {
+        &self.kinds
+    }
+
+    /// How many edges there are. The number is kept, and no block is read.
+    pub fn edge_count(&self) -> u64
+        ensures { result ≡ edge_total self.now }
+    {
+        self.edges
+    }
+
+    /// The edge of a kind from a source to a target.
+    pub fn edge(&self, kind: KindId, source: VertexId, target: VertexId) -> Option<EdgeRef<'_>>
+        ensures { option_map lent_edge result ≡ lent_at self.now kind.0 source.0 target.0 }
+    {
+        for block in self.rows.row_blocks(source) {
+            if let Some(edge) = edge_in(block, kind, target) {
+                return Some(edge);
+            }
+        }
+        None
+    }
+
+    /// Lends the edges that leave a vertex: blocks in row order, slots rising.
+    pub fn row(&self, source: VertexId) -> RowIter<'_>
+        ensures { row_left result ≡ lent_in_blocks (row_of self.now.rows source.0) }
+    {
+        RowIter::over(self.rows.row_blocks(source))
+    }
+
+    /// The blocks of a vertex's row, in row order.
+    pub fn row_blocks(&self, source: VertexId) -> &[Arc<Block>]
+        ensures { block_values result.now ≡ row_of self.now.rows source.0 }
+    {
+        self.rows.row_blocks(source)
+    }
+
+    /// The numbers of the blocks, row by row.
+    pub fn blocks(&self) -> BlockNumbers<'_>
+        ensures { numbers_left result ≡ numbers_of (blocks_of self.now.rows) }
+    {
+        BlockNumbers::over(&self.rows)
+    }
+}
+
+/// A block's edge of a kind to a target.
+fn edge_in(block: &Block, kind: KindId, target: VertexId) -> Option<EdgeRef<'_>>
+    ensures { option_map lent_edge result ≡ lent_to kind.0 target.0 (block_at (shape_of block.now) (kind.0, target.0)) }
+{
+    if block.kind() == kind {
+        block.find(target.0)
+    } else {
+        None
+    }
+}
