@@ -201,3 +201,6 @@ impl<'a> Iterator for BatchIter<'a> {
         Some(batch)
     }
 }
+
+#[cfg(test)]
+mod tests;

@@ -1,0 +1,99 @@
+use super::*;
+use std::io::Print;
+use std::process::Abort;
+use std::test::Fail;
+
+// So many blank blocks, numbered from the first.
+fn blocks_from(alloc: Global, first: u32, count: u32) -> Result<Vec<Arc<Block>>, AllocError> {
+    let mut blocks = Vec::new(alloc);
+    for number in 0..count {
+        blocks.push(Arc::new(alloc, Block::blank(first.saturating_add(number)))?)?;
+    }
+    Ok(blocks)
+}
+
+// The same rows, but for the row of a source, which has so many blocks, numbered from the first.
+fn replaced(rows: &Rows, source: u32, first: u32, count: u32) -> Result<Rows, AllocError> {
+    let alloc = *rows.pages.allocator();
+    let shared = rows.share()?;
+    shared.replace_row(VertexId(source), blocks_from(alloc, first, count)?)
+}
+
+// The row of a source has so many blocks, numbered from the first.
+fn assert_row(rt: &impl Abort, rows: &Rows, source: u32, first: u32, count: usize) {
+    let blocks = rows.row_blocks(VertexId(source));
+    assert_eq!(rt; blocks.len(), count, "source {source}");
+    let mut number = first;
+    for block in blocks {
+        assert_eq!(rt; block.number(), number, "source {source}");
+        number = number.saturating_add(1);
+    }
+}
+
+// Rows of which one source's is changed: it alone is another, and the rows before are as they were.
+fn check_change(rt: &impl Abort, before: &Rows, after: &Rows, source: u32) {
+    assert_row(rt, before, source, 5, 1);
+    assert_row(rt, before, source.saturating_add(1), 0, 0);
+    assert_row(rt, after, source, 5, 1);
+    assert_row(rt, after, source.saturating_add(1), 6, 2);
+    assert_row(rt, after, source.saturating_add(2), 0, 0);
+    assert_eq!(rt;
+        before.len(),
+        (source as usize / 64).saturating_add(1).saturating_mul(64)
+    );
+}
+
+fn check_source(rt: &impl Abort, before: &Rows, source: u32) -> Result<(), Fail> {
+    check_change(
+        rt,
+        before,
+        &replaced(before, source.saturating_add(1), 6, 2)?,
+        source,
+    );
+    Ok(())
+}
+
+// A row can be replaced again, and by an empty one.
+fn check_again(rt: &impl Abort, before: &Rows) -> Result<(), Fail> {
+    assert_row(rt, &replaced(before, 7, 9, 3)?, 7, 9, 3);
+    assert_row(rt, &replaced(before, 7, 9, 0)?, 7, 9, 0);
+    assert_row(rt, before, 7, 5, 1);
+    Ok(())
+}
+
+#[test]
+fn changes_one_row_at_the_ends_of_parts_and_pages(rt: HostRuntime) -> Result<(), Fail> {
+    for source in [0, 7, 8, 63, 64, 65, 4096] {
+        check_source(
+            &rt,
+            &replaced(&Rows::new(rt.alloc()), source, 5, 1)?,
+            source,
+        )?;
+    }
+    Ok(())
+}
+
+#[test]
+fn replaces_a_row_again(rt: HostRuntime) -> Result<(), Fail> {
+    check_again(&rt, &replaced(&Rows::new(rt.alloc()), 7, 5, 1)?)
+}
+
+// Where a growth is refused, the rows that were shared before are as they were.
+#[test]
+fn refused_changes_leave_other_rows(rt: HostRuntime) {
+    let Ok(before) = replaced(&Rows::new(rt.alloc()), 64, 5, 1) else {
+        let _ = println!(rt; "refused");
+        return;
+    };
+    let mut after = replaced(&before, 65, 6, 2);
+    if after.is_err() {
+        let _ = println!(rt; "refused");
+        assert_row(&rt, &before, 64, 5, 1);
+        assert_row(&rt, &before, 65, 0, 0);
+        after = replaced(&before, 65, 6, 2);
+    }
+    match after {
+        Ok(after) => check_change(&rt, &before, &after, 64),
+        Err(_) => assert!(&rt; false, "one growth alone is refused"),
+    }
+}
