@@ -35,6 +35,19 @@ impl Clone for NamedFilter {
 /// A request about a graph, with names as texts.
 #[derive(Debug, Drop)]
 pub enum Request {
+    /// The level of each vertex from the source over the view of the filter.
+    Levels {
+        source: Name,
+        filter: NamedFilter,
+    },
+    /// The label of each vertex over the view of the filter.
+    Labels {
+        filter: NamedFilter,
+    },
+    /// The core number of each vertex over the view of the filter.
+    Cores {
+        filter: NamedFilter,
+    },
     /// The degrees of each vertex over the view of the filter.
     Degrees {
         filter: NamedFilter,
@@ -52,6 +65,16 @@ impl Clone for Request {
 
     fn clone(&self) -> Result<Request, AllocError> {
         match self {
+            Request::Levels { source, filter } => Ok(Request::Levels {
+                source: source.clone()?,
+                filter: filter.clone()?,
+            }),
+            Request::Labels { filter } => Ok(Request::Labels {
+                filter: filter.clone()?,
+            }),
+            Request::Cores { filter } => Ok(Request::Cores {
+                filter: filter.clone()?,
+            }),
             Request::Degrees { filter } => Ok(Request::Degrees {
                 filter: filter.clone()?,
             }),
@@ -71,6 +94,12 @@ impl Clone for Request {
 /// The reply to a request; lists are in order of the vertices' numbers.
 #[derive(Debug, Drop)]
 pub enum Reply {
+    /// The name and the level of each vertex to which a walk leads from the source.
+    Levels(List<(Name, u32)>),
+    /// Each vertex's name, and the name of the least vertex of its part.
+    Labels(List<(Name, Name)>),
+    /// Each vertex's name and core number.
+    Cores(List<(Name, u32)>),
     /// Each vertex's name and degrees.
     Degrees(List<(Name, Degree)>),
     /// Weight, first time and recent time, where the edge is there.

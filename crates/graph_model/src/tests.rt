@@ -356,7 +356,7 @@ fn is_request(request: &Request) -> bool {
             Some(kind) => kind.as_str() == "knows" && filter.lo == 3 && filter.hi == 7,
             None => false,
         },
-        Request::OneEdge { .. } => false,
+        _ => false,
     }
 }
 

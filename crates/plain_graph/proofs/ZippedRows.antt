@@ -13,3 +13,7 @@ module _ {A B : Type 0} (xs : List A) (ys : List B) where
 
   pub rows_all : (rows : List (A × B)) (k : ℕ) → rows ≡ take k (zip xs ys) → k ≡ min (length xs) (length ys) → rows ≡ zip xs ys
   rows_all rows k is end = is ∙ take_all k (zip xs ys) (omega (arith, length-zip xs ys))
+
+  -- the row that comes next
+  pub next_row : (k n : ℕ) (x : A) (y : B) → n ≡ k + 1 → (k < length xs) × (k < length ys) × ((d : A) → x ≡ get_or xs k d) × ((d : B) → y ≡ get_or ys k d) → take n (zip xs ys) ≡ take k (zip xs ys) ++ (x, y) ∷ []
+  next_row k n x y next turn = sym (rows_more (take k (zip xs ys)) k n x y (λ i. take k (zip xs ys)) next turn)

@@ -2,6 +2,7 @@
 //! batch, [`plain_reply`] answers a request. The fast layers are compared with them.
 #![tactic(auto)]
 
+mod analyses;
 mod apply;
 mod drafts;
 mod edges;

@@ -13,6 +13,7 @@ ghost use Rattle.plain_graph.specs.Replies.{takes_memory};
 ghost use Rattle.std.specs.FinMap.{get};
 ghost use Rattle.std.specs.Option.{option_map};
 
+use crate::analyses::{reply_cores, reply_labels, reply_levels};
 use crate::edges::{EdgeKey, marks_at};
 use crate::names::place_in;
 use graph_model::{
@@ -32,6 +33,9 @@ pub fn plain_reply(alloc: Global, content: &Content, request: &Request) -> Resul
     ensures without_memory { takes_memory request.now ≡ false → IsAnswer request.now (graph_of content.now) result }
 {
     match request {
+        Request::Levels { source, filter } => reply_levels(alloc, content, source, filter),
+        Request::Labels { filter } => reply_labels(alloc, content, filter),
+        Request::Cores { filter } => reply_cores(alloc, content, filter),
         Request::Degrees { filter } => reply_degrees(alloc, content, filter),
         Request::OneEdge {
             kind,
@@ -92,7 +96,7 @@ fn times_of(marks: EdgeMarks) -> (i64, u64, u64)
 }
 
 /// The filter with its kind's number in place of the name.
-fn resolve(content: &Content, filter: &NamedFilter) -> Result<Filter, AskError>
+pub(crate) fn resolve(content: &Content, filter: &NamedFilter) -> Result<Filter, AskError>
     requires { length content.now.kinds ≤ kind_limit }
     ensures found { IfOk result (λ f. f ≡ resolved (graph_of content.now) filter.now) }
     ensures refused { MatchResult result

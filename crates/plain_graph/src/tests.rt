@@ -2,6 +2,7 @@
 
 ghost use Rattle.graph_model.specs.Graph.{IsContent};
 
+mod analysing;
 mod applying;
 mod replying;
 

@@ -1,6 +1,5 @@
-use Rattle.graph_model.specs.Graph.{graph_of}
 use Rattle.graph_model.proofs.OneAnswer.{some_answer}
 use Rattle.graph_model.proofs.laws.law_some_answer.Goals as goal
 
 pub returns : goal.returns
-returns c = λ request content is. some_answer request (graph_of content)
+returns c = λ request content is. some_answer request content is
