@@ -4,8 +4,8 @@ use Rattle.csv.specs.Machine.{next_record}
 use Rattle.csv.specs.Reading.{records_from, strip_bom}
 use Rattle.csv.specs.Records.{field_at}
 use Rattle.graph_model.specs.declared.batches.NamedOp.TheVariants.{Insert, Incr}
-use Rattle.graph_model.specs.declared.requests.Request.TheVariants.{Degrees}
-use Rattle.feed_csv.specs.Commands.{commit_of, degrees_of, incr_of, insert_of, item_of}
+use Rattle.graph_model.specs.declared.requests.Request.TheVariants.{Degrees, Levels}
+use Rattle.feed_csv.specs.Commands.{commit_of, degrees_of, incr_of, insert_of, item_of, levels_of}
 use Rattle.feed_csv.specs.Fields.{any_kind_at, kind_at, name_at, of_length, slot_at, time_at, weight_at}
 use Rattle.feed_csv.specs.Records.{records_of}
 use Rattle.feed_csv.specs.declared.command.Command.TheVariants.{Op, Query}
@@ -31,6 +31,11 @@ pub a-request : item_of (codes "deg" ∷ codes "015" ∷ codes "*" ∷ codes "0"
     ≡ Ok (Query 15 (Degrees (record { kind = None; lo = 0; hi = 9223372036854775807 })))
 unfolding item_of degrees_of of_length any_kind_at time_at slot_at field_at
 a-request = refl
+
+pub a-search : item_of (codes "bfs" ∷ codes "0" ∷ codes "*" ∷ codes "*" ∷ codes "3" ∷ codes "2" ∷ [])
+    ≡ Ok (Query 0 (Levels (codes "*") (record { kind = None; lo = 3; hi = 2 })))
+unfolding item_of levels_of of_length name_at any_kind_at time_at slot_at field_at
+a-search = refl
 
 -- a time comes before the slot, and a name before a time
 pub a-bad-time : item_of (codes "deg" ∷ codes "x" ∷ codes "k" ∷ codes "0" ∷ codes "9223372036854775808" ∷ []) ≡ Err BadTime

@@ -1,6 +1,6 @@
 -- A record is refused for what it says, and never for a failed read or want of memory.
 use Rattle.std.proofs.Common.{◌≡◌, ◌≢◌, ℕ, Bool, true, false, cond, codes, List, Option, Some, None, Result, Ok, Err, refl, rules}
-use Rattle.feed_csv.specs.Commands.{Refuses, close_of, commit_of, degrees_of, edge_of, incr_of, insert_of, item_of, open_of, remove_of}
+use Rattle.feed_csv.specs.Commands.{Refuses, close_of, commit_of, cores_of, degrees_of, edge_of, incr_of, insert_of, item_of, labels_of, levels_of, open_of, remove_of}
 use Rattle.feed_csv.specs.Fields.{◌>>=◌, any_kind_at, field, kind_at, name_at, of_length, required, slot_at, time_at, weight_at}
 use Rattle.feed_csv.specs.Records.{Row}
 use Rattle.std.specs.Str.{bytes_eq}
@@ -106,6 +106,27 @@ close_of-fails row =
     then (of_length 2 row) _ (of_length-fails 2 row) (λ r.
     then (slot_at r 1) _ (slot_at-fails r 1) (λ v0. given _))
 
+levels_of-fails : (row : Row) → FailsByRecord (levels_of row)
+unfolding levels_of
+levels_of-fails row =
+    then (of_length 6 row) _ (of_length-fails 6 row) (λ r. then (name_at r 2) _ (name_at-fails r 2) (λ v0.
+    then (any_kind_at r 3) _ (any_kind_at-fails r 3) (λ v1. then (time_at r 4) _ (time_at-fails r 4) (λ v2. then (time_at r 5) _ (time_at-fails r 5) (λ v3.
+    then (slot_at r 1) _ (slot_at-fails r 1) (λ v4. given _))))))
+
+labels_of-fails : (row : Row) → FailsByRecord (labels_of row)
+unfolding labels_of
+labels_of-fails row =
+    then (of_length 5 row) _ (of_length-fails 5 row) (λ r.
+    then (any_kind_at r 2) _ (any_kind_at-fails r 2) (λ v0. then (time_at r 3) _ (time_at-fails r 3) (λ v1. then (time_at r 4) _ (time_at-fails r 4) (λ v2.
+    then (slot_at r 1) _ (slot_at-fails r 1) (λ v3. given _)))))
+
+cores_of-fails : (row : Row) → FailsByRecord (cores_of row)
+unfolding cores_of
+cores_of-fails row =
+    then (of_length 5 row) _ (of_length-fails 5 row) (λ r.
+    then (any_kind_at r 2) _ (any_kind_at-fails r 2) (λ v0. then (time_at r 3) _ (time_at-fails r 3) (λ v1. then (time_at r 4) _ (time_at-fails r 4) (λ v2.
+    then (slot_at r 1) _ (slot_at-fails r 1) (λ v3. given _)))))
+
 degrees_of-fails : (row : Row) → FailsByRecord (degrees_of row)
 unfolding degrees_of
 degrees_of-fails row =
@@ -128,7 +149,9 @@ item_of-fails row =
     tested (is (codes "i")) _ _ (insert_of-fails row) (tested (is (codes "a")) _ _ (incr_of-fails row)
     (tested (is (codes "r")) _ _ (remove_of-fails row) (tested (is (codes "commit")) _ _ (commit_of-fails row)
     (tested (is (codes "open")) _ _ (open_of-fails row) (tested (is (codes "close")) _ _ (close_of-fails row)
-    (tested (is (codes "deg")) _ _ (degrees_of-fails row) (tested (is (codes "edge")) _ _ (edge_of-fails row) (refused BadCommand tt))))))))
+    (tested (is (codes "bfs")) _ _ (levels_of-fails row) (tested (is (codes "comp")) _ _ (labels_of-fails row)
+    (tested (is (codes "core")) _ _ (cores_of-fails row) (tested (is (codes "deg")) _ _ (degrees_of-fails row)
+    (tested (is (codes "edge")) _ _ (edge_of-fails row) (refused BadCommand tt)))))))))))
 
 -- a record that was taken and refused is a step of the feed
 pub refused_step : (word : FeedWord) (row : Row) (old new : Script) → word ≢ Memory → Refuses word (item_of row) → TakesRow old row new → FaultStep word old new

@@ -2,7 +2,7 @@
 -- order of refusals: how many there are, names and kinds, the weight, times, the slot.
 use Rattle.std.specs.Prelude.{◌≡◌, ℕ, bytes_eq, codes, List, if◌then◌else◌, Result, Ok, Err}
 use Rattle.graph_model.specs.declared.batches.NamedOp.TheVariants.{Insert, Incr, Remove}
-use Rattle.graph_model.specs.declared.requests.Request.TheVariants.{Degrees, OneEdge}
+use Rattle.graph_model.specs.declared.requests.Request.TheVariants.{Levels, Labels, Cores, Degrees, OneEdge}
 use Rattle.feed_csv.specs.Fields.{◌>>=◌, any_kind_at, field, kind_at, name_at, of_length, slot_at, time_at, weight_at}
 use Rattle.feed_csv.specs.Records.{Row}
 use Rattle.feed_csv.specs.declared.command.Command.{Command}
@@ -61,6 +61,37 @@ close_of record_fields = do
   slot ← slot_at row 1
   Ok (CloseSlot slot)
 
+-- bfs,slot,source,kind or *,lo,hi
+unfoldable pub levels_of : Row → Result Command FeedWord
+levels_of record_fields = do
+  row ← of_length 6 record_fields
+  source ← name_at row 2
+  kind ← any_kind_at row 3
+  lo ← time_at row 4
+  hi ← time_at row 5
+  slot ← slot_at row 1
+  Ok (Query slot (Levels source (record { kind = kind; lo = lo; hi = hi })))
+
+-- comp,slot,kind or *,lo,hi
+unfoldable pub labels_of : Row → Result Command FeedWord
+labels_of record_fields = do
+  row ← of_length 5 record_fields
+  kind ← any_kind_at row 2
+  lo ← time_at row 3
+  hi ← time_at row 4
+  slot ← slot_at row 1
+  Ok (Query slot (Labels (record { kind = kind; lo = lo; hi = hi })))
+
+-- core,slot,kind or *,lo,hi
+unfoldable pub cores_of : Row → Result Command FeedWord
+cores_of record_fields = do
+  row ← of_length 5 record_fields
+  kind ← any_kind_at row 2
+  lo ← time_at row 3
+  hi ← time_at row 4
+  slot ← slot_at row 1
+  Ok (Query slot (Cores (record { kind = kind; lo = lo; hi = hi })))
+
 -- deg,slot,kind or *,lo,hi
 unfoldable pub degrees_of : Row → Result Command FeedWord
 degrees_of record_fields = do
@@ -91,9 +122,12 @@ item_of row =
     else (if bytes_eq word (codes "commit") then commit_of row
     else (if bytes_eq word (codes "open") then open_of row
     else (if bytes_eq word (codes "close") then close_of row
+    else (if bytes_eq word (codes "bfs") then levels_of row
+    else (if bytes_eq word (codes "comp") then labels_of row
+    else (if bytes_eq word (codes "core") then cores_of row
     else (if bytes_eq word (codes "deg") then degrees_of row
     else (if bytes_eq word (codes "edge") then edge_of row
-    else Err BadCommand)))))))
+    else Err BadCommand))))))))))
 
 -- how a word of refusal is written
 abbrev pub word_text : FeedWord → List ℕ

@@ -29,6 +29,12 @@ pub(crate) fn command_of(alloc: Global, row: &ByteRecord) -> Result<Command, Fee
         open(row)
     } else if word == b"close".as_slice() {
         close(row)
+    } else if word == b"bfs".as_slice() {
+        levels(alloc, row)
+    } else if word == b"comp".as_slice() {
+        labels(alloc, row)
+    } else if word == b"core".as_slice() {
+        cores(alloc, row)
     } else if word == b"deg".as_slice() {
         degrees(alloc, row)
     } else if word == b"edge".as_slice() {
@@ -146,6 +152,59 @@ fn close(row: &ByteRecord) -> Result<Command, FeedWord>
     check_length(row, 2)?;
     let slot = slot_at(row, 1)?;
     Ok(Command::CloseSlot(slot))
+}
+
+#[tactic(auto, using(crate::proofs::Giving::refuses_same), unfolding(crate::specs::Commands::levels_of))]
+fn levels(alloc: Global, row: &ByteRecord) -> Result<Command, FeedWord>
+    ensures { spec.Gives result (spec.levels_of (fields_of row.now)) }
+{
+    check_length(row, 6)?;
+    let source = name_at(row, 2)?;
+    let kind = any_kind_at(row, 3)?;
+    let lo = time_at(row, 4)?;
+    let hi = time_at(row, 5)?;
+    let slot = slot_at(row, 1)?;
+    let source = name(alloc, source)?;
+    let kind = match kind {
+        Some(text) => Some(name(alloc, text)?),
+        None => None,
+    };
+    let filter = NamedFilter { kind, lo, hi };
+    Ok(Command::Query(slot, Request::Levels { source, filter }))
+}
+
+#[tactic(auto, using(crate::proofs::Giving::refuses_same), unfolding(crate::specs::Commands::labels_of))]
+fn labels(alloc: Global, row: &ByteRecord) -> Result<Command, FeedWord>
+    ensures { spec.Gives result (spec.labels_of (fields_of row.now)) }
+{
+    check_length(row, 5)?;
+    let kind = any_kind_at(row, 2)?;
+    let lo = time_at(row, 3)?;
+    let hi = time_at(row, 4)?;
+    let slot = slot_at(row, 1)?;
+    let kind = match kind {
+        Some(text) => Some(name(alloc, text)?),
+        None => None,
+    };
+    let filter = NamedFilter { kind, lo, hi };
+    Ok(Command::Query(slot, Request::Labels { filter }))
+}
+
+#[tactic(auto, using(crate::proofs::Giving::refuses_same), unfolding(crate::specs::Commands::cores_of))]
+fn cores(alloc: Global, row: &ByteRecord) -> Result<Command, FeedWord>
+    ensures { spec.Gives result (spec.cores_of (fields_of row.now)) }
+{
+    check_length(row, 5)?;
+    let kind = any_kind_at(row, 2)?;
+    let lo = time_at(row, 3)?;
+    let hi = time_at(row, 4)?;
+    let slot = slot_at(row, 1)?;
+    let kind = match kind {
+        Some(text) => Some(name(alloc, text)?),
+        None => None,
+    };
+    let filter = NamedFilter { kind, lo, hi };
+    Ok(Command::Query(slot, Request::Cores { filter }))
 }
 
 #[tactic(auto, using(crate::proofs::Giving::refuses_same), unfolding(crate::specs::Commands::degrees_of))]

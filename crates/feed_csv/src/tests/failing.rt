@@ -3,7 +3,7 @@
 use super::readers::{Pieces, Repeating, in_pieces};
 use super::texts::gives;
 use crate::{Command, Feed, FeedFault, FeedWord};
-use graph_model::{Name, NamedOp, Request};
+use graph_model::{Name, NamedFilter, NamedOp, Request};
 use std::alloc::Global;
 use std::io;
 use std::process::Abort;
@@ -130,6 +130,9 @@ a,k,a,b,-3,4
 deg,3,k,5,6
 edge,3,k,a,b
 close,3
+bfs,3,a,k,5,6
+comp,3,k,5,6
+core,3,k,5,6
 x,0123456789,0123456789,0123456789,0123456789,0123456789,0123456789,x,x,x,x,x,x,x,x,x,x,x,x,x,x,x,x,x,x,x,x,x,x,x,x,x
 ";
 
@@ -161,12 +164,21 @@ fn is_op(call: u64, op: &NamedOp) -> bool {
     }
 }
 
+fn is_view(filter: &NamedFilter) -> bool {
+    match &filter.kind {
+        Some(kind) => kind.as_str() == "k" && filter.lo == 5 && filter.hi == 6,
+        None => false,
+    }
+}
+
 fn is_request(call: u64, request: &Request) -> bool {
     match request {
-        Request::Degrees { filter } => match &filter.kind {
-            Some(kind) => { call == 6 && kind.as_str() == "k" && filter.lo == 5 && filter.hi == 6 }
-            None => false,
-        },
+        Request::Degrees { filter } => call == 6 && is_view(filter),
+        Request::Levels { source, filter } => {
+            call == 9 && source.as_str() == "a" && is_view(filter)
+        }
+        Request::Labels { filter } => call == 10 && is_view(filter),
+        Request::Cores { filter } => call == 11 && is_view(filter),
         Request::OneEdge {
             kind,
             source,
@@ -183,15 +195,15 @@ fn is_given(call: u64, outcome: &Result<Option<Command>, FeedFault>) -> bool {
         Ok(Some(Command::Query(slot, request))) => *slot == 3 && is_request(call, request),
         Ok(Some(Command::CloseSlot(slot))) => call == 8 && *slot == 3,
         Ok(Some(Command::Commit)) => false,
-        Err(_) => (call == 3 || call == 9) && is_fault(outcome, call, FeedWord::BadCommand),
-        Ok(None) => call >= 10,
+        Err(_) => (call == 3 || call == 12) && is_fault(outcome, call, FeedWord::BadCommand),
+        Ok(None) => call >= 13,
     }
 }
 
 #[test]
 fn refused_next(rt: HostRuntime) {
     let mut feed = Feed::over(rt.alloc(), SCRIPT.as_bytes());
-    for call in 1..13 {
+    for call in 1..16 {
         let outcome = feed.next();
         if is_fault(&outcome, call, FeedWord::Memory) {
             for _ in 0..3 {

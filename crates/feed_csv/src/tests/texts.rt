@@ -2,7 +2,7 @@
 
 use super::readers::Pieces;
 use crate::{Command, Feed, FeedFault};
-use graph_model::{Name, NamedOp, Request};
+use graph_model::{Name, NamedFilter, NamedOp, Request};
 use std::alloc::{AllocError, Global};
 
 fn edge_text(
@@ -46,18 +46,39 @@ fn op_text(alloc: Global, op: &NamedOp) -> Result<String, AllocError> {
     }
 }
 
+fn view_text(
+    alloc: Global,
+    word: &str,
+    slot: u8,
+    filter: &NamedFilter,
+) -> Result<String, AllocError> {
+    let (lo, hi) = (filter.lo, filter.hi);
+    match &filter.kind {
+        Some(kind) => {
+            let kind = kind.as_str();
+            format!(in alloc; "{word} {slot} {kind} {lo} {hi}")
+        }
+        None => format!(in alloc; "{word} {slot} any {lo} {hi}"),
+    }
+}
+
+fn levels_text(
+    alloc: Global,
+    slot: u8,
+    source: &Name,
+    filter: &NamedFilter,
+) -> Result<String, AllocError> {
+    let source = source.as_str();
+    let word = format!(in alloc; "bfs {source}")?;
+    view_text(alloc, word.as_str(), slot, filter)
+}
+
 fn request_text(alloc: Global, slot: u8, request: &Request) -> Result<String, AllocError> {
     match request {
-        Request::Degrees { filter } => {
-            let (lo, hi) = (filter.lo, filter.hi);
-            match &filter.kind {
-                Some(kind) => {
-                    let kind = kind.as_str();
-                    format!(in alloc; "deg {slot} {kind} {lo} {hi}")
-                }
-                None => format!(in alloc; "deg {slot} any {lo} {hi}"),
-            }
-        }
+        Request::Levels { source, filter } => levels_text(alloc, slot, source, filter),
+        Request::Labels { filter } => view_text(alloc, "comp", slot, filter),
+        Request::Cores { filter } => view_text(alloc, "core", slot, filter),
+        Request::Degrees { filter } => view_text(alloc, "deg", slot, filter),
         Request::OneEdge {
             kind,
             source,
