@@ -1,5 +1,5 @@
 -- Names put in, and refusals that stay what they are where a vertex is asked for as well.
-use Rattle.std.proofs.Common.{◌≡◌, ℕ, ◌+◌, ◌<◌, ◌≤◌, Bool, true, false, List, [], ◌∷◌, ◌++◌, length, get_or, map, take, Option, Some, None, not, subst, refl, sym, ap, ◌∙◌, arith}
+use Rattle.std.proofs.Common.{◌≡◌, ℕ, ◌+◌, ◌<◌, Bool, true, false, List, [], ◌∷◌, ◌++◌, length, get_or, take, Option, Some, None, not, subst, refl, sym, ap, ◌∙◌, arith}
 use Rattle.std.specs.Prelude.{All, zip, Ok, position, bytes_eq, nat_lt}
 use Rattle.std.specs.List.{filter_map, cons_option}
 use Rattle.std.specs.Option.{option_to_list}

@@ -1,4 +1,4 @@
-use Rattle.std.proofs.Common.{◌≡◌, ◌∙◌, inr}
+use Rattle.std.proofs.Common.{◌∙◌, inr}
 use Rattle.std.specs.Prelude.{zip}
 use Rattle.plain_graph.proofs.AnalysisReplies.{cores_answer}
 use Rattle.plain_graph.proofs.analyses.reply_cores.Goals as goal

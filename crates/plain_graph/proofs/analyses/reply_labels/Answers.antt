@@ -1,4 +1,4 @@
-use Rattle.std.proofs.Common.{◌≡◌, ◌<◌, ◌∙◌, ℕ, List, length, sym, subst, inr}
+use Rattle.std.proofs.Common.{◌<◌, ◌∙◌, ℕ, List, length, sym, subst, inr}
 use Rattle.std.specs.Prelude.{All, zip}
 use Rattle.graph_model.specs.Graph.{graph_of}
 use Rattle.graph_model.specs.Answer.{names_of}

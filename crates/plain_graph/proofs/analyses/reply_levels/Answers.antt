@@ -1,11 +1,16 @@
-use Rattle.std.proofs.Common.{◌≡◌, ◌∙◌, ap, subst, inr, Option}
-use Rattle.graph_model.specs.Graph.{graph_of}
-use Rattle.graph_model.specs.Analyses.{AreLevels}
+use Rattle.std.proofs.Common.{◌≡◌, ◌∙◌, Some, sym, ap, inr}
+use Rattle.std.specs.Prelude.{position, bytes_eq}
 use Rattle.graph_model.specs.Answer.{reached}
-use Rattle.graph_model.specs.declared.requests.Reply.TheVariants.{Levels}
-use Rattle.graph_model.proofs.NameNumbers.{place_number, place_some, place_within}
-use Rattle.plain_graph.proofs.AnalysisReplies.{vertex_listed}
+use Rattle.plain_graph.proofs.AnalysisReplies.{levels_answer}
 use Rattle.plain_graph.proofs.analyses.reply_levels.Goals as goal
 
 pub returns : goal.returns
-returns c = let none = c.in_ok-filter.ensures.refused in let place = c.place_in.ensures in let levels = c.in_ok-levels.ensures in let rows = c.in_ok-rows.ensures in ?
+returns c =
+    let names = c.as_slice-2.ensures in
+    let read = c.deref.ensures.value in
+    let at : Some c.in-Some.source ≡ position (bytes_eq c.args.source.now) c.args.content.now.names =
+      sym c.in-Some.is ∙ c.place_in.ensures ∙ ap (position (bytes_eq c.args.source.now)) c.as_slice.ensures
+    in
+    inr (levels_answer c.args.content.now c.args.filter.now c.in_ok-filter.filter c.in_ok-filter.ensures.found c.in_ok-filter.ensures.refused
+      c.args.source.now c.in-Some.source c.in_ok-levels.levels.items c.of.result at c.in_ok-levels.ensures
+      (c.of.ensures ∙ c.in_ok-rows.ensures ∙ (λ i. reached (names i) (read i))))
