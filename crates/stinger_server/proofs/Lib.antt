@@ -3,6 +3,7 @@ pub mod EndLine
 pub mod Versions
 pub mod Commands
 pub mod Edges
+pub mod OwnLabels
 pub mod Replies
 pub mod OneRecord
 pub mod RunSoFar

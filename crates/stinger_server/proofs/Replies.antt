@@ -3,7 +3,7 @@ use Rattle.std.proofs.Common.{◌≡◌, ◌≢◌, ℕ, ◌≤◌, List, [], �
 use Rattle.std.specs.Prelude.{Result, Ok, Err, ◌⊎◌, slice_get}
 use Rattle.std.specs.List.{zip}
 use Rattle.std.specs.FinMap.{entries}
-use Rattle.graph_model.specs.Answer.{IsAnswer, IsReply, resolved, degree_table}
+use Rattle.graph_model.specs.Answer.{IsAnswer, IsReply, resolved, degree_table, names_of}
 use Rattle.graph_model.specs.Graph.{Graph, IsContent, graph_of}
 use Rattle.graph_model.specs.View.{in_view}
 use Rattle.graph_model.specs.declared.contents.Content.{Content}
@@ -15,6 +15,8 @@ use Rattle.graph_model.specs.declared.requests.Reply.TheVariants as reply
 use Rattle.graph_model.specs.declared.requests.AskError.{AskError}
 use Rattle.graph_model.specs.declared.requests.AskError.TheVariants as ask
 use Rattle.stinger_server.proofs.Edges.{edges_in_view}
+use Rattle.stinger_server.proofs.OwnLabels.{own_labels}
+use Rattle.stinger_server.specs.Lines.{degree_lines, label_lines}
 use Rattle.stinger_server.specs.Servers.{HasFewEntries, shown_lines}
 use Rattle.stinger_server.specs.States.{IsReplied, State, ask_word, reply_lines, version, version_in}
 use Rattle.stinger_server.specs.declared.words.Word.{Word}
@@ -27,27 +29,27 @@ length-zip (x ∷ xs) (y ∷ ys) = omega (arith, length-zip xs ys)
 -- a table of degrees has at most one entry for each vertex
 pub few_entries : (request : Request) (content : Content) (reply : Reply) → IsContent content → IsReply request (graph_of content) reply
     → HasFewEntries reply
-few_entries (request.Degrees filter) content (reply.Degrees table) valid is =
-    let short : length table ≤ length content.names = rw (inner table is) (length-zip content.names (degree_table (resolved (graph_of content) filter) (graph_of content))) in
+few_entries (request.Degrees filter) content reply valid is =
+    let short = length-zip content.names (degree_table (resolved (graph_of content) filter) (graph_of content)) in
     let few : length content.names ≤ 65536 = valid.names_few in
-    omega arith where
-      inner : (table : List (List ℕ × Degree)) → reply.Degrees table ≡ reply.Degrees (zip content.names (degree_table (resolved (graph_of content) filter) (graph_of content)))
-          → table ≡ zip content.names (degree_table (resolved (graph_of content) filter) (graph_of content))
-      inner table same = cc
-few_entries (request.Degrees filter) content (reply.OneEdge shown) valid is = tt
-few_entries (request.OneEdge kind source target) content (reply.Degrees table) valid is = cc
-few_entries (request.OneEdge kind source target) content (reply.OneEdge shown) valid is = tt
+    rw is (omega arith)
+few_entries (request.Levels source filter) content reply valid is = rw is.2 tt
+few_entries (request.Labels filter) content reply valid is = rw is.2 tt
+few_entries (request.Cores filter) content reply valid is = rw is.2 tt
+few_entries (request.OneEdge kind source target) content reply valid is = rw is tt
 
 pub shown_lines-reply : (slot : ℕ) (request : Request) (content : Content) (reply : Reply) → IsContent content
     → IsReply request (graph_of content) reply → shown_lines slot reply ≡ reply_lines slot request (graph_of content) reply
-shown_lines-reply slot (request.Degrees filter) content (reply.Degrees table) valid is =
-    let same : table ≡ zip content.names (degree_table (resolved (graph_of content) filter) (graph_of content)) = cc in
-    let edges : sum_by (λ (entry : List ℕ × Degree). entry.1.outgoing) table ≡ count_by (in_view (resolved (graph_of content) filter)) (entries (graph_of content).edges) =
-    rw same (edges_in_view (resolved (graph_of content) filter) content valid) in
-    rw edges refl
-shown_lines-reply slot (request.Degrees filter) content (reply.OneEdge shown) valid is = cc
-shown_lines-reply slot (request.OneEdge kind source target) content (reply.Degrees table) valid is = cc
-shown_lines-reply slot (request.OneEdge kind source target) content (reply.OneEdge shown) valid is = refl
+shown_lines-reply slot (request.Levels source filter) content reply valid is = rw is.2 refl
+shown_lines-reply slot (request.Labels filter) content reply valid is =
+    let table = zip content.names (names_of content.names is.0) in
+    let parts = own_labels (resolved (graph_of content) filter) (graph_of content) is.0 valid.names_distinct is.1 in
+    rw is.2 (ap (λ n. label_lines slot n table) parts)
+shown_lines-reply slot (request.Cores filter) content reply valid is = rw is.2 refl
+shown_lines-reply slot (request.Degrees filter) content reply valid is =
+    let table = zip content.names (degree_table (resolved (graph_of content) filter) (graph_of content)) in
+    rw is (ap (λ n. degree_lines slot n table) (edges_in_view (resolved (graph_of content) filter) content valid))
+shown_lines-reply slot (request.OneEdge kind source target) content reply valid is = rw is refl
 
 -- a result that isn't want of memory is an answer
 answer_ok : (request : Request) (g : Graph) (reply : Reply)

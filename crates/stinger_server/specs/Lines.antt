@@ -1,7 +1,8 @@
 -- The lines that a run prints. Each ends with one line feed, and numbers are plain decimals.
-use Rattle.std.specs.Prelude.{ℕ, ℤ, Bool, true, false, codes, decimal, zero, suc, List, [], ◌++◌, count_by, Option, None, Some}
+use Rattle.std.specs.Prelude.{ℕ, ℤ, Bool, true, false, codes, decimal, zero, suc, List, [], ◌++◌, length, max, fold, count_by, Option, None, Some}
 use Rattle.std.specs.Fmt.{signed_decimal}
 use Rattle.std.specs.List.{flat_map}
+use Rattle.graph_model.specs.Step.{with_name}
 use Rattle.graph_model.specs.declared.ids.Degree.{Degree}
 use Rattle.graph_model.specs.declared.batches.Outcome.{Outcome}
 use Rattle.graph_model.specs.declared.batches.Outcome.TheVariants.{Inserted, Updated, Removed, Absent, Overflow}
@@ -51,6 +52,37 @@ open_line slot version = codes "open " ++ (decimal slot ++ (codes " v=" ++ (deci
 -- close <slot>
 abbrev pub close_line : ℕ → List ℕ
 close_line slot = codes "close " ++ (decimal slot ++ codes "\n")
+
+-- <name> <number>
+abbrev pub number_line : List ℕ × ℕ → List ℕ
+number_line entry = entry.0 ++ (codes " " ++ (decimal entry.1 ++ codes "\n"))
+
+-- bfs <slot> reached=<n>, and then a line for each vertex that was reached, with its level
+abbrev pub level_lines : ℕ → List (List ℕ × ℕ) → List ℕ
+level_lines slot entries =
+    (codes "bfs " ++ (decimal slot ++ (codes " reached=" ++ (decimal (length entries) ++ codes "\n")))) ++ flat_map number_line entries
+
+-- how many different names there are among these
+abbrev pub count_different : List (List ℕ) → ℕ
+count_different names = length (fold with_name [] names)
+
+-- <name> <name of the label>
+abbrev pub label_line : List ℕ × List ℕ → List ℕ
+label_line entry = entry.0 ++ (codes " " ++ (entry.1 ++ codes "\n"))
+
+-- comp <slot> parts=<n>, and then a line for each vertex
+abbrev pub label_lines : ℕ → ℕ → List (List ℕ × List ℕ) → List ℕ
+label_lines slot parts entries =
+    (codes "comp " ++ (decimal slot ++ (codes " parts=" ++ (decimal parts ++ codes "\n")))) ++ flat_map label_line entries
+
+-- the greatest number of the entries, and 0 where there is no entry
+abbrev pub greatest : List (List ℕ × ℕ) → ℕ
+greatest entries = fold (λ most entry. max most entry.1) 0 entries
+
+-- core <slot> max=<n>, and then a line for each vertex, with its core number
+abbrev pub core_lines : ℕ → List (List ℕ × ℕ) → List ℕ
+core_lines slot entries =
+    (codes "core " ++ (decimal slot ++ (codes " max=" ++ (decimal (greatest entries) ++ codes "\n")))) ++ flat_map number_line entries
 
 -- <name> <out> <in> <weight out>
 abbrev pub degree_line : List ℕ × Degree → List ℕ

@@ -1,13 +1,13 @@
 -- A server's fields, and the states that they show.
-use Rattle.std.specs.Prelude.{◌≡◌, ℕ, ◌<◌, ◌≤◌, List, [], ◌∷◌, All, length, map, sum_by, Option, None, Some, Ok, Err}
+use Rattle.std.specs.Prelude.{◌≡◌, ℕ, ◌<◌, ◌≤◌, List, [], ◌∷◌, All, bytes_eq, length, map, count_by, sum_by, Option, None, Some, Ok, Err}
 use Rattle.graph_model.specs.Graph.{Graph, IsContent, graph_of}
 use Rattle.graph_model.specs.Limits.{name_limit}
 use Rattle.graph_model.specs.Step.{after_all}
 use Rattle.graph_model.specs.declared.batches.NamedOp.{NamedOp}
 use Rattle.graph_model.specs.declared.requests.Reply.{Reply}
-use Rattle.graph_model.specs.declared.requests.Reply.TheVariants.{Degrees, OneEdge}
+use Rattle.graph_model.specs.declared.requests.Reply.TheVariants.{Cores, Degrees, Labels, Levels, OneEdge}
 use Rattle.feed_csv.specs.declared.command.Command.{Command}
-use Rattle.stinger_server.specs.Lines.{degree_lines, edge_line}
+use Rattle.stinger_server.specs.Lines.{core_lines, degree_lines, edge_line, label_lines, level_lines}
 use Rattle.stinger_server.specs.States.{IsDone, RecordResult, State, after_command}
 use Rattle.stinger_server.specs.declared.server.Server.{Server}
 use Rattle.stinger_server.specs.declared.server.Response.{Response}
@@ -45,12 +45,19 @@ Obeys command old response lines new =
     (s : State) → Shows old s
     → IsDone command s (result_of response lines) × Shows new (after_command command (result_of response lines) s)
 
--- a reply names at most so many vertices
+-- a table of degrees has at most so many entries
 abbrev pub HasFewEntries : Reply → Type 0
+HasFewEntries (Levels entries) = Unit {0}
+HasFewEntries (Labels entries) = Unit {0}
+HasFewEntries (Cores entries) = Unit {0}
 HasFewEntries (Degrees entries) = length entries ≤ name_limit
 HasFewEntries (OneEdge shown) = Unit {0}
 
--- a reply's lines, read off the reply alone: each edge of the view leaves one vertex
+-- a reply's lines, read off the reply alone: of the vertices with one label, one is that label itself, and each edge of the
+-- view leaves one vertex
 abbrev pub shown_lines : ℕ → Reply → List ℕ
+shown_lines slot (Levels entries) = level_lines slot entries
+shown_lines slot (Labels entries) = label_lines slot (count_by (λ entry. bytes_eq entry.0 entry.1) entries) entries
+shown_lines slot (Cores entries) = core_lines slot entries
 shown_lines slot (Degrees entries) = degree_lines slot (sum_by (λ entry. entry.1.outgoing) entries) entries
 shown_lines slot (OneEdge shown) = edge_line slot shown

@@ -1,5 +1,5 @@
 -- Where a run stands between two records, and what one record does.
-use Rattle.std.specs.Prelude.{◌≡◌, ℕ, ◌+◌, nat_lt, List, [], ◌∷◌, ◌++◌, length, take, replicate, slice_get, slice_set, count_by, if◌then◌else◌, Option, None, Some, Result, Ok, Err}
+use Rattle.std.specs.Prelude.{◌≡◌, ℕ, ◌+◌, nat_lt, List, [], ◌∷◌, ◌++◌, length, map, take, replicate, slice_get, slice_set, count_by, if◌then◌else◌, Option, None, Some, Result, Ok, Err}
 use Rattle.std.specs.FinMap.{entries}
 use Rattle.graph_model.specs.Graph.{Graph}
 use Rattle.graph_model.specs.Limits.{kind_limit, name_limit}
@@ -23,7 +23,7 @@ use Rattle.feed_csv.specs.declared.command.FeedWord.TheVariants as feed
 use Rattle.stinger_server.specs.declared.config.Config.{Config}
 use Rattle.stinger_server.specs.declared.words.Word.{Word}
 use Rattle.stinger_server.specs.declared.words.Word.TheVariants.{Feed, NotOpen, AlreadyOpen, BadWindow, NoKind, NoVertex, BatchFull, NamesFull, KindsFull}
-use Rattle.stinger_server.specs.Lines.{close_line, commit_line, degree_lines, edge_line, error_line, open_line}
+use Rattle.stinger_server.specs.Lines.{close_line, commit_line, core_lines, count_different, degree_lines, edge_line, error_line, label_lines, level_lines, open_line}
 
 -- how a run is set up: the graph that it opens with, and how many seats there are
 pub record Setup : Type 0 where
@@ -113,9 +113,13 @@ abbrev pub close_result : ℕ → Result ℕ Word → RecordResult
 close_result slot (Ok n) = Ok (close_line slot)
 close_result slot (Err word) = Err word
 
--- the lines of a reply; those of degrees begin with the number of edges in the view. A reply of another kind than its request
--- has none, and is no answer
+-- the lines of a reply; those of labels begin with the number of different labels, and those of degrees with the number
+-- of edges in the view. A reply of another kind than its request has none, and is no answer
 abbrev pub reply_lines : ℕ → Request → Graph → Reply → List ℕ
+reply_lines slot (request.Levels source filter) g (reply.Levels entries_of) = level_lines slot entries_of
+reply_lines slot (request.Labels filter) g (reply.Labels entries_of) =
+    label_lines slot (count_different (map (λ entry. entry.1) entries_of)) entries_of
+reply_lines slot (request.Cores filter) g (reply.Cores entries_of) = core_lines slot entries_of
 reply_lines slot (request.Degrees filter) g (reply.Degrees entries_of) =
     degree_lines slot (count_by (in_view (resolved g filter)) (entries g.edges)) entries_of
 reply_lines slot (request.OneEdge kind source target) g (reply.OneEdge shown) = edge_line slot shown

@@ -47,6 +47,15 @@ be quoted, and nothing is trimmed. Each record, and below it what it prints:
       open <slot> v=<version>
   close,<slot>                                 releases it
       close <slot>
+  bfs,<slot>,<source>,<kind or *>,<lo>,<hi>    levels from the source, over the edges with a recent time in
+                                               lo to hi: the least numbers of edges on a walk from it
+      bfs <slot> reached=<n>, and then a line for each vertex that was reached: <name> <level>
+  comp,<slot>,<kind or *>,<lo>,<hi>            labels, over the edges of such a time in either direction: the
+                                               first vertex of those that a walk joins
+      comp <slot> parts=<n>, and then a line for each vertex: <name> <name of its label>
+  core,<slot>,<kind or *>,<lo>,<hi>            core numbers, over them: the greatest k so that the vertex is in a
+                                               set of which each has k neighbors in the set
+      core <slot> max=<n>, and then a line for each vertex: <name> <core number>
   deg,<slot>,<kind or *>,<lo>,<hi>             degrees over the edges with a recent time in lo to hi
       deg <slot> edges=<n>, and then a line for each vertex: <name> <out> <in> <weight out>
   edge,<slot>,<kind>,<source>,<target>         one edge: its weight, first and recent time

@@ -205,6 +205,9 @@ fn write_reply(lines: &mut String, slot: u8, reply: &Reply) -> Result<(), AllocE
     ensures { OnOk result (string_bytes lines.new ≡ string_bytes lines.old ++ shown_lines slot reply.now) }
 {
     match reply {
+        Reply::Levels(entries) => lines::levels(lines, slot, entries.as_slice()),
+        Reply::Labels(entries) => lines::labels(lines, slot, entries.as_slice()),
+        Reply::Cores(entries) => lines::cores(lines, slot, entries.as_slice()),
         Reply::Degrees(entries) => lines::degrees(lines, slot, entries.as_slice()),
         Reply::OneEdge(shown) => lines::edge(lines, slot, *shown),
     }
