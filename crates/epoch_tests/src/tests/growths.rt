@@ -1,0 +1,156 @@
+// Any growth may be refused: what stood before stands after. Each test sets up little, so that few growths come
+// before the one that it is about.
+
+ghost use Rattle.std.specs.Prelude.{◌≡◌, ◌<◌, length};
+
+use super::parts::{LineError, event, push};
+use epoch_core::{Core, Event, Step, run};
+use graph_model::Reply;
+use std::alloc::Global;
+use std::process::Abort;
+use std::test::Fail;
+
+/// Tells `tools/refuse-each-growth` that a growth was refused, which the test accepted.
+fn refused(rt: &impl Print) -> Result<(), Fail> {
+    println!(rt; "refused")?;
+    Ok(())
+}
+
+/// What is seen of session 0 and of the floor.
+type Shown = (u64, Option<u64>, Option<u64>, usize);
+
+fn shown(core: &Core) -> Shown
+    requires { 0 < length core.now.world.sessions }
+{
+    (
+        core.floor(),
+        core.held(0),
+        core.pin_of(0),
+        core.replies(0).len(),
+    )
+}
+
+/// Does the event of a line, where there was memory for it: it is done, or a growth was refused and all that is seen
+/// stands as before.
+fn is_done(rt: &impl Abort, alloc: Global, core: &mut Core, line: &str) -> bool
+    requires { 0 < length core.old.world.sessions }
+    ensures { length core.new.world.sessions ≡ length core.old.world.sessions }
+{
+    let Ok(event) = event(alloc, line) else {
+        return false;
+    };
+    let before = shown(core);
+    match core.step(event) {
+        Ok(step) => {
+            assert_eq!(rt; step, Step::Done);
+            true
+        }
+        Err(_) => {
+            assert_eq!(rt; shown(core), before);
+            false
+        }
+    }
+}
+
+/// Does the events of these lines up to one whose growth was refused, and tells whether none was.
+fn are_done(rt: &impl Abort, alloc: Global, core: &mut Core, table: &str) -> bool
+    requires { 0 < length core.old.world.sessions }
+    ensures { length core.new.world.sessions ≡ length core.old.world.sessions }
+{
+    for line in table.lines() {
+        if !is_done(rt, alloc, core, line) {
+            return false;
+        }
+    }
+    true
+}
+
+#[test]
+fn refused_start(rt: HostRuntime) -> Result<(), Fail> {
+    let Ok(core) = Core::new(rt.alloc(), 2, 3) else {
+        return refused(&rt);
+    };
+    assert_eq!(rt; shown(&core), (0, None, None, 0));
+    Ok(())
+}
+
+const POSTING: &str = "take 0
+fill 0 0,0,1,1,1,1
+post i,k,a,b,1,1 | 0
+pin 0
+enter 0";
+
+#[test]
+fn refused_post(rt: HostRuntime) -> Result<(), Fail> {
+    let alloc = rt.alloc();
+    let Ok(mut core) = Core::new(alloc, 1, 1) else {
+        return refused(&rt);
+    };
+    if !are_done(&rt, alloc, &mut core, POSTING) {
+        return refused(&rt);
+    }
+    assert_eq!(rt; shown(&core), (0, Some(1), Some(0), 0));
+    Ok(())
+}
+
+const REPLYING: &str = "ask 0 edge k a b
+read 0
+reply 0";
+
+#[test]
+fn refused_reply(rt: HostRuntime) -> Result<(), Fail> {
+    let alloc = rt.alloc();
+    let Ok(mut core) = Core::new(alloc, 1, 1) else {
+        return refused(&rt);
+    };
+    let is_replied = are_done(&rt, alloc, &mut core, POSTING)
+        && are_done(&rt, alloc, &mut core, REPLYING);
+    if !is_replied {
+        return refused(&rt);
+    }
+    assert!(rt; matches!(core.replies(0), [Ok(Reply::OneEdge(Some((1, 1, 1))))]));
+    Ok(())
+}
+
+/// A session pins, a version with one edge is posted, and the session holds it.
+fn entering(alloc: Global) -> Result<Vec<Event>, LineError> {
+    let mut events = Vec::new(alloc);
+    for line in "pin 0\ntake 0\nfill 0 0,0,1,1,1,1\npost i,k,a,b,1,1 | 0\nenter 0".lines() {
+        push(&mut events, event(alloc, line)?)?;
+    }
+    Ok(events)
+}
+
+/// What is seen is what is seen after some of the events, from the first one on.
+fn is_after_some(alloc: Global, core: &Core, events: &[Event]) -> Result<bool, Fail>
+    requires { 0 < length core.now.world.sessions }
+{
+    let mut is_after = false;
+    for count in 0..events.len() {
+        let mut other = Core::new(alloc, 1, 1)?;
+        run(&mut other, &events[..count])?;
+        is_after = is_after || shown(core) == shown(&other);
+    }
+    Ok(is_after)
+}
+
+#[test]
+fn refused_run_stands_after_the_events_before(rt: HostRuntime) -> Result<(), Fail> {
+    let alloc = rt.alloc();
+    let Ok(mut core) = Core::new(alloc, 1, 1) else {
+        return refused(&rt);
+    };
+    let Ok(events) = entering(alloc) else {
+        return refused(&rt);
+    };
+    match run(&mut core, events.as_slice()) {
+        Ok(done) => {
+            assert_eq!(rt; done, 5);
+            Ok(())
+        }
+        Err(_) => {
+            assert!(rt; is_after_some(alloc, &core, events.as_slice())?);
+            refused(&rt)
+        }
+    }
+}

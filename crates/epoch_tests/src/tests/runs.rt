@@ -1,0 +1,234 @@
+// Runs of the machine as stories.
+
+use super::lines::{check, check_replies};
+use super::parts::event;
+use epoch_core::{Core, Event, run};
+use std::alloc::{AllocError, Global};
+use std::test::Fail;
+
+// A session pinned before the second version was posted; it holds that one, settles, and the first one's block is
+// recycled before it reads.
+const TWO_VERSIONS: &str = "take 0 => done
+fill 0 0,0,1,1,1,1 => done
+post i,k,a,b,1,1 | 0 => done
+pin 0 => done: 0 0 - 0
+take 1 => done
+fill 1 0,0,1,2,1,2 => done
+post i,k,a,b,2,2 | 1 => done
+floor => done: 0 0 - 0
+recycle 0 => skipped
+enter 0 => done: 0 0 2 0
+settle 0 => done: 0 2 2 0
+floor => done: 2 2 2 0
+recycle 0 => done
+ask 0 edge k a b => done
+read 0 => done
+reply 0 => done: 2 2 2 1
+release 0 => done: 2 - - 1
+release 0 => skipped: 2 - - 1";
+
+#[test]
+fn recycles_a_block_that_no_pin_needs(rt: HostRuntime) -> Result<(), Fail> {
+    let alloc = rt.alloc();
+    let mut core = Core::new(alloc, 1, 2)?;
+    check(&rt, alloc, &mut core, TWO_VERSIONS)?;
+    check_replies(&rt, alloc, core.replies(0), "edge 2 1 2")
+}
+
+// Posts whose blocks have other edges, none, an edge twice, or stand twice; the last one is right.
+const BAD_POSTS: &str = "take 0 => done
+take 1 => done
+fill 0 0,0,1,1,1,1 => done
+post i,k,a,b,2,1 | 0 => skipped
+post i,k,a,b,1,1 | => skipped
+post i,k,a,b,1,1 | 0 0 => skipped
+post i,k,a,b,1,1 | 0 2 => skipped
+fill 1 0,0,1,1,1,1 => done
+post i,k,a,b,1,1 | 0 1 => skipped
+fill 1 => done
+post i,k,a,b,1,1 | 0 1 => done";
+
+#[test]
+fn posts_only_what_the_batch_leaves(rt: HostRuntime) -> Result<(), Fail> {
+    let alloc = rt.alloc();
+    let mut core = Core::new(alloc, 1, 3)?;
+    check(&rt, alloc, &mut core, BAD_POSTS)
+}
+
+// Nine of these are done.
+const HOSTILE: &str = "fill 0
+release 0
+take 0
+take 0
+take 1
+post | 0 0
+post | 0
+pin 0
+pin 0
+read 0
+enter 0
+settle 0
+release 0
+recycle 0
+post |
+floor
+recycle 0";
+
+fn events(alloc: Global, table: &str) -> Result<Vec<Event>, Fail> {
+    let mut list = Vec::new(alloc);
+    for line in table.lines() {
+        list.push(event(alloc, line)?)?;
+    }
+    Ok(list)
+}
+
+#[test]
+fn runs_through_hostile_events(rt: HostRuntime) -> Result<(), Fail> {
+    let alloc = rt.alloc();
+    let mut core = Core::new(alloc, 1, 1)?;
+    assert_eq!(rt; run(&mut core, events(alloc, HOSTILE)?.as_slice())?, 9);
+    assert_eq!(rt; core.floor(), 2);
+    assert_eq!(rt; core.held(0), None);
+    assert_eq!(rt; core.pin_of(0), None);
+    Ok(())
+}
+
+// Session 0 holds the version of three edges, which are in two blocks: a to b and a loop at c of kind k, and b to c of
+// kind m.
+const THREE_EDGES: &str = "take 0 => done
+take 1 => done
+fill 0 0,2,2,-3,12,12 => done
+fill 1 1,1,2,2,11,11 0,0,1,5,10,10 => done
+post i,k,a,b,5,10 i,m,b,c,2,11 i,k,c,c,-3,12 | 1 0 => done
+pin 0 => done
+enter 0 => done";
+
+// Each of these is asked, and answered once both blocks are read.
+const REQUESTS: &str = "deg * 0 100
+deg * 10 11
+deg k 11 12
+deg x 5 4
+deg x 4 5
+edge x z b
+edge k z b
+edge k a z
+edge k b a
+edge m b c";
+
+const REPLIES: &str = "deg a 1 0 5 b 1 1 2 c 1 2 -3
+deg a 1 0 5 b 1 1 2 c 0 1 0
+deg a 0 0 0 b 0 0 0 c 1 1 -3
+BadWindow
+NoKind
+NoKind
+NoVertex
+NoVertex
+edge none
+edge 2 11 11";
+
+// Session 0 asks each of these of a version of two blocks.
+fn asking(alloc: Global, requests: &str) -> Result<String, AllocError> {
+    let mut lines = String::new(alloc);
+    for request in requests.lines() {
+        lines.push_str(format!(in alloc; "ask 0 {request} => done\n")?.as_str())?;
+        lines.push_str("read 0 => done\nreply 0 => skipped\nread 0 => done\nread 0 => skipped\n")?;
+        lines.push_str("reply 0 => done\n")?;
+    }
+    Ok(lines)
+}
+
+#[test]
+fn answers_once_all_blocks_are_read(rt: HostRuntime) -> Result<(), Fail> {
+    let alloc = rt.alloc();
+    let mut core = Core::new(alloc, 1, 2)?;
+    check(&rt, alloc, &mut core, THREE_EDGES)?;
+    check(&rt, alloc, &mut core, asking(alloc, REQUESTS)?.as_str())?;
+    check_replies(&rt, alloc, core.replies(0), REPLIES)
+}
+
+// Two worlds that agree for session 0 and differ in all else. In the small one session 0 alone holds version 1, of
+// one edge of weight 3, and later version 2, without it.
+const SMALL: &str = "take 0 => done
+fill 0 0,0,1,3,1,1 => done
+post i,k,a,b,3,1 | 0 => done
+pin 0 => done
+enter 0 => done
+ask 0 edge k a b => done
+read 0 => done
+reply 0 => done
+ask 0 deg * 0 9 => done
+read 0 => done
+reply 0 => done
+ask 0 edge x a b => done
+read 0 => done
+reply 0 => done
+release 0 => done
+post r,k,a,b | => done
+pin 0 => done
+enter 0 => done
+ask 0 edge k a b => done
+reply 0 => done: 0 0 2 4";
+
+// In the large one it holds version 3, whose edge got its weight by an increment, while session 1 holds version 2 and
+// session 2 version 0; then version 4 is posted, the other sessions let go, and the block of version 2 is filled anew.
+const LARGE: &str = "pin 2 => done
+enter 2 => done
+post | => done
+take 4 => done
+fill 4 0,0,1,7,1,1 => done
+post i,k,a,b,7,1 | 4 => done
+pin 1 => done
+enter 1 => done
+pin 0 => done
+take 3 => done
+fill 3 0,0,1,3,1,1 => done
+post a,k,a,b,-4,1 | 3 => done
+enter 0 => done: 0 0 3 0
+ask 0 edge k a b => done
+read 0 => done
+reply 0 => done
+ask 1 edge k a b => done
+take 2 => done
+fill 2 0,1,0,9,5,5 => done
+post r,k,a,b i,k,b,a,9,5 | 2 => done
+settle 0 => done
+release 2 => done
+read 1 => done
+reply 1 => done
+floor => done: 0 3 3 1
+recycle 4 => skipped
+release 1 => done
+floor => done: 3 3 3 1
+recycle 4 => done
+recycle 3 => skipped
+take 4 => done
+fill 4 0,1,0,9,5,5 => done
+ask 0 deg * 0 9 => done
+read 0 => done
+reply 0 => done
+ask 0 edge x a b => done
+read 0 => done
+reply 0 => done
+release 0 => done
+post r,k,b,a | => done
+pin 0 => done
+enter 0 => done
+ask 0 edge k a b => done
+reply 0 => done: 3 3 5 4";
+
+const ALIKE: &str = "edge 3 1 1
+deg a 1 0 3 b 0 1 0
+NoKind
+edge none";
+
+#[test]
+fn a_session_is_answered_alike_in_two_worlds(rt: HostRuntime) -> Result<(), Fail> {
+    let alloc = rt.alloc();
+    let mut small = Core::new(alloc, 1, 1)?;
+    check(&rt, alloc, &mut small, SMALL)?;
+    check_replies(&rt, alloc, small.replies(0), ALIKE)?;
+    let mut large = Core::new(alloc, 3, 5)?;
+    check(&rt, alloc, &mut large, LARGE)?;
+    check_replies(&rt, alloc, large.replies(0), ALIKE)?;
+    check_replies(&rt, alloc, large.replies(1), "edge 7 1 1")
+}
