@@ -4,6 +4,30 @@ use super::{FIRST, FIRST_TEXT, FakeWriter, REFUSED, REFUSED_TEXT, TornReader, is
 use crate::{ServeFault, serve};
 use std::process::Abort;
 
+// A run of the script into a writer of each smaller size writes that many bytes of the text and tells `Write`, and
+// calls the writer no more.
+fn fills_each_writer(rt: &(impl Abort + AllocGlobal), script: &str, text: &str, fails: bool) {
+    for room in 0..text.len() {
+        let mut writer = FakeWriter::new(rt, room, fails);
+        let answer = serve(rt, two_seats(rt), script.as_bytes(), &mut writer);
+        assert_eq!(rt; answer, Err(ServeFault::Write), "{room} {fails}");
+        assert_eq!(rt;
+            writer.held.as_slice(),
+            &text.as_bytes()[..room],
+            "{room} {fails}"
+        );
+        assert_eq!(rt; writer.refusals, 1, "{room} {fails}");
+    }
+}
+
+#[test]
+fn writes_the_bytes_that_a_writer_takes(rt: HostRuntime) {
+    for fails in [true, false] {
+        fills_each_writer(&rt, FIRST, FIRST_TEXT, fails);
+        fills_each_writer(&rt, REFUSED, REFUSED_TEXT, fails);
+    }
+}
+
 #[test]
 fn writes_to_a_writer_that_takes_a_byte_a_call(rt: HostRuntime) {
     for (script, text) in [(FIRST, FIRST_TEXT), (REFUSED, REFUSED_TEXT)] {
