@@ -137,7 +137,17 @@ fn fill(alloc: Global, text: &str) -> Result<Event, LineError> {
     Ok(Event::Fill(block, List::of(edges(alloc, listed)?)))
 }
 
-// `edge KIND SOURCE TARGET`, or `deg KIND LO HI` with `*` for any kind.
+// The view of a kind, `*` for any, and a window.
+fn view(alloc: Global, kind: &str, lo: &str, hi: &str) -> Result<NamedFilter, LineError> {
+    let (lo, hi) = (lo.parse()?, hi.parse()?);
+    let kind = match kind {
+        "*" => None,
+        text => Some(name(alloc, text)?),
+    };
+    Ok(NamedFilter { kind, lo, hi })
+}
+
+// `edge KIND SOURCE TARGET`; `bfs SOURCE KIND LO HI`; `comp`, `core` or `deg`, and KIND LO HI.
 fn request(alloc: Global, words: &[&str]) -> Result<Request, LineError> {
     match *words {
         ["edge", kind, source, target] => Ok(Request::OneEdge {
@@ -145,16 +155,19 @@ fn request(alloc: Global, words: &[&str]) -> Result<Request, LineError> {
             source: name(alloc, source)?,
             target: name(alloc, target)?,
         }),
-        ["deg", kind, lo, hi] => {
-            let (lo, hi) = (lo.parse()?, hi.parse()?);
-            let kind = match kind {
-                "*" => None,
-                text => Some(name(alloc, text)?),
-            };
-            Ok(Request::Degrees {
-                filter: NamedFilter { kind, lo, hi },
-            })
-        }
+        ["bfs", source, kind, lo, hi] => Ok(Request::Levels {
+            source: name(alloc, source)?,
+            filter: view(alloc, kind, lo, hi)?,
+        }),
+        ["comp", kind, lo, hi] => Ok(Request::Labels {
+            filter: view(alloc, kind, lo, hi)?,
+        }),
+        ["core", kind, lo, hi] => Ok(Request::Cores {
+            filter: view(alloc, kind, lo, hi)?,
+        }),
+        ["deg", kind, lo, hi] => Ok(Request::Degrees {
+            filter: view(alloc, kind, lo, hi)?,
+        }),
         _ => Err(LineError::Wrong),
     }
 }
@@ -217,6 +230,26 @@ fn table_text(alloc: Global, rows: &[(Name, Degree)]) -> Result<String, AllocErr
     Ok(text)
 }
 
+// A word, and each vertex with its number.
+fn numbers_text(alloc: Global, word: &str, rows: &[(Name, u32)]) -> Result<String, AllocError> {
+    let mut text = String::from_str(alloc, word)?;
+    for (name, number) in rows {
+        let name = name.as_str();
+        text.push_str(format!(in alloc; " {name} {number}")?.as_str())?;
+    }
+    Ok(text)
+}
+
+// Each vertex with its label.
+fn labels_text(alloc: Global, rows: &[(Name, Name)]) -> Result<String, AllocError> {
+    let mut text = String::from_str(alloc, "comp")?;
+    for (name, label) in rows {
+        let (name, label) = (name.as_str(), label.as_str());
+        text.push_str(format!(in alloc; " {name} {label}")?.as_str())?;
+    }
+    Ok(text)
+}
+
 fn refusal_text(refusal: AskError) -> &'static str {
     match refusal {
         AskError::BadWindow => "BadWindow",
@@ -236,6 +269,9 @@ pub(super) fn reply_text(
             format!(in alloc; "edge {weight} {first} {recent}")
         }
         Ok(Reply::OneEdge(None)) => String::from_str(alloc, "edge none"),
+        Ok(Reply::Levels(rows)) => numbers_text(alloc, "bfs", rows.as_slice()),
+        Ok(Reply::Labels(rows)) => labels_text(alloc, rows.as_slice()),
+        Ok(Reply::Cores(rows)) => numbers_text(alloc, "core", rows.as_slice()),
         Ok(Reply::Degrees(rows)) => table_text(alloc, rows.as_slice()),
         Err(refusal) => String::from_str(alloc, refusal_text(*refusal)),
     }

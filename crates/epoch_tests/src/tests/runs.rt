@@ -113,7 +113,15 @@ edge x z b
 edge k z b
 edge k a z
 edge k b a
-edge m b c";
+edge m b c
+bfs a * 0 100
+bfs c * 0 100
+bfs a k 0 100
+bfs z * 0 9
+bfs z x 5 4
+comp k 0 100
+core * 0 100
+core k 11 12";
 
 const REPLIES: &str = "deg a 1 0 5 b 1 1 2 c 1 2 -3
 deg a 1 0 5 b 1 1 2 c 0 1 0
@@ -124,7 +132,15 @@ NoKind
 NoVertex
 NoVertex
 edge none
-edge 2 11 11";
+edge 2 11 11
+bfs a 0 b 1 c 2
+bfs c 0
+bfs a 0 b 1
+NoVertex
+BadWindow
+comp a a b a c c
+core a 1 b 1 c 1
+core a 0 b 0 c 0";
 
 // Session 0 asks each of these of a version of two blocks.
 fn asking(alloc: Global, requests: &str) -> Result<String, AllocError> {
