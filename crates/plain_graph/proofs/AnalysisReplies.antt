@@ -33,11 +33,11 @@ pub label_turn : (names : List (List ℕ)) (labels : List ℕ) (k : ℕ) (x : Li
     → (k < length names) × (k < length (names_of names labels)) × ((d : List ℕ) → x ≡ get_or names k d) × ((d : List ℕ) → y ≡ get_or (names_of names labels) k d)
 label_turn names labels k x label y turn within is =
     let long : length (names_of names labels) ≡ length labels = length-map labels (λ v. get_or names v []) in
-    let h = turn.1 in
-    ( turn.0
-    , omega arith
-    , turn.2
-    , λ d. is ∙ get_or_default names label y [] within ∙ ap (λ v. get_or names v []) (turn.3 0) ∙ sym (get_or-map (λ v. get_or names v []) labels k 0 d h)
+    let h = turn.1 in (
+      turn.0,
+      omega arith,
+      turn.2,
+      λ d. is ∙ get_or_default names label y [] within ∙ ap (λ v. get_or names v []) (turn.3 0) ∙ sym (get_or-map (λ v. get_or names v []) labels k 0 d h),
     )
 
 -- what is refused of the window or the kind is refused all the same
@@ -56,7 +56,7 @@ pub vertex_listed : (window kind vertex : Bool) → first_refusal window kind tr
 vertex_listed window kind vertex none listed = ap (first_refusal window kind) listed ∙ none
 
 kept_row : (row : List ℕ × Option ℕ) → filter_map level_row (row ∷ []) ≡ option_to_list (level_row row)
-kept_row row = elim (level_row row) as (λ o. cons_option o [] ≡ option_to_list o) [ | None ↦ refl | Some x ↦ refl ]
+kept_row row = elim (level_row row) as (λ o. cons_option o [] ≡ option_to_list o) [ None ↦ refl | Some x ↦ refl ]
 
 -- one row more, where there is a level
 pub level_rows_more : (names : List (List ℕ)) (levels : List (Option ℕ)) (rows new : List (List ℕ × ℕ)) (k n : ℕ) (x : List ℕ) (level : Option ℕ)
@@ -75,9 +75,9 @@ module _ (c : Content) (named : NamedFilter) (f : Filter) (found : f ≡ resolve
       → rows ≡ reached c.names levels → IsAnswer (AskLevels source named) (graph_of c) (Ok (Levels rows))
   levels_answer source place levels rows at table is =
       let listed = place_some c.names source place at in
-      let number = place_number c.names source place at in
-      ( vertex_listed (not (nat_lt named.hi named.lo)) (is_kind_listed c.kinds named.kind) (is_listed c.names source) fine listed
-      , (levels, subst (λ v. AreLevels (resolved (graph_of c) named) (graph_of c) v levels) number (subst (λ x. AreLevels x (graph_of c) place levels) found table), ap (λ r. Levels r) is)
+      let number = place_number c.names source place at in (
+        vertex_listed (not (nat_lt named.hi named.lo)) (is_kind_listed c.kinds named.kind) (is_listed c.names source) fine listed,
+        (levels, subst (λ v. AreLevels (resolved (graph_of c) named) (graph_of c) v levels) number (subst (λ x. AreLevels x (graph_of c) place levels) found table), ap (λ r. Levels r) is),
       )
 
   pub labels_answer : (labels : List ℕ) (rows : List (List ℕ × List ℕ)) → AreLabels f (graph_of c) labels → rows ≡ zip c.names (names_of c.names labels) → IsAnswer (AskLabels named) (graph_of c) (Ok (Labels rows))

@@ -1,5 +1,6 @@
 //! What the tests build with: operations, batches and contents.
 
+ghost use Rattle.std.specs.Prelude.{IfSome};
 ghost use Rattle.graph_model.specs.Graph.{IsContent};
 
 mod analysing;
@@ -8,7 +9,7 @@ mod replying;
 
 use crate::tests::Act::{Incr, Insert, Remove};
 use crate::{law_names_before_kinds, plain_apply};
-use graph_model::{Batch, Content, List, Name, NamedOp, Outcome, PushError};
+use graph_model::{Batch, Content, List, Name, NamedFilter, NamedOp, Outcome, PushError};
 use std::alloc::{AllocError, Global};
 use std::test::Fail;
 
@@ -79,6 +80,26 @@ fn empty(alloc: Global) -> Content
         kinds: List::of(Vec::new(alloc)),
         edges: List::of(Vec::new(alloc)),
     }
+}
+
+/// The content that these operations leave, where memory allows it.
+fn content_of(alloc: Global, rows: &[Row]) -> Option<Content>
+    ensures { IfSome result IsContent }
+{
+    let batch = batch_of(alloc, rows).ok()?;
+    let mut content = empty(alloc);
+    plain_apply(alloc, &mut content, &batch).ok()?;
+    Some(content)
+}
+
+/// A filter; the kind `*` is any.
+fn filter(alloc: Global, kind: &str, lo: u64, hi: u64) -> Result<NamedFilter, AllocError> {
+    let kind = if kind == "*" {
+        None
+    } else {
+        Some(name(alloc, kind)?)
+    };
+    Ok(NamedFilter { kind, lo, hi })
 }
 
 /// Applies the operations as one batch: whether they have these outcomes. Nothing where memory is refused.
