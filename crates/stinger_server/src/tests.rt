@@ -45,6 +45,74 @@ error 3 BadSlot
 end pending=1
 ";
 
+// A script of levels, labels and core numbers without refusals, and what it prints.
+const TABLES: &str = "\
+i,k,a,b,1,1
+commit
+open,0
+bfs,0,a,*,0,9
+comp,0,*,0,9
+core,0,*,0,9
+";
+
+const TABLES_TEXT: &str = "\
+commit v=1 ins=1 upd=0 rem=0 abs=0 ovf=0
+open 0 v=1
+bfs 0 reached=2
+a 0
+b 1
+comp 0 parts=1
+a a
+b a
+core 0 max=1
+a 1
+b 1
+";
+
+// How many bytes of `TABLES_TEXT` stand before each record of `TABLES`, and at its end.
+const TABLES_ENDS: [usize; 7] = [0, 0, 41, 52, 76, 99, 120];
+
+// A script of levels, labels and core numbers, with the refusals of each in their order, and what it prints.
+const ANALYSES: &str = "\
+i,k,a,b,1,1
+i,k,c,c,1,2
+commit
+open,0
+bfs,0,z,m,5,4
+bfs,0,z,m,0,9
+bfs,0,z,k,0,9
+comp,0,m,5,4
+comp,0,m,0,9
+core,0,m,5,4
+core,0,m,0,9
+bfs,0,a,*,0,9
+comp,0,*,0,9
+core,0,k,0,9
+";
+
+const ANALYSES_TEXT: &str = "\
+commit v=1 ins=2 upd=0 rem=0 abs=0 ovf=0
+open 0 v=1
+error 5 BadWindow
+error 6 NoKind
+error 7 NoVertex
+error 8 BadWindow
+error 9 NoKind
+error 10 BadWindow
+error 11 NoKind
+bfs 0 reached=2
+a 0
+b 1
+comp 0 parts=2
+a a
+b a
+c c
+core 0 max=1
+a 1
+b 1
+c 0
+";
+
 fn two_seats(rt: &impl Abort) -> Config {
     Config::new(4, 16, 2).expect(rt, "within the limits")
 }
@@ -152,10 +220,15 @@ impl Read for TornReader<'_> {
 
 // Whether these are the lines of the first records of `FIRST`, so many, and then the error line of the next.
 fn is_cut(output: &[u8], given: usize, word: &str) -> bool {
-    let Some(end) = FIRST_ENDS.get(given) else {
+    is_cut_of(FIRST_TEXT, FIRST_ENDS.as_slice(), output, given, word)
+}
+
+// The same of a text, where so many bytes of it stand before each record and at the end.
+fn is_cut_of(text: &str, ends: &[usize], output: &[u8], given: usize, word: &str) -> bool {
+    let Some(end) = ends.get(given) else {
         return false;
     };
-    let lines = &FIRST_TEXT.as_bytes()[..(*end).min(FIRST_TEXT.len())];
+    let lines = &text.as_bytes()[..(*end).min(text.len())];
     let n = lines.len();
     if output.len() < n || &output[..n] != lines {
         return false;

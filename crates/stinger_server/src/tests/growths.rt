@@ -1,7 +1,10 @@
 // Growths that are refused: `tools/refuse-each-growth` refuses each in turn.
 
 use super::arguments::{HELP, UNKNOWN};
-use super::{FIRST, FIRST_ENDS, FIRST_TEXT, FakeWriter, begins, is_cut, two_seats};
+use super::{
+    FIRST, FIRST_ENDS, FIRST_TEXT, FakeWriter, TABLES, TABLES_ENDS, TABLES_TEXT, begins, is_cut,
+    is_cut_of, two_seats,
+};
 use crate::{ServeFault, serve, stinger};
 
 // Whether a run of `FIRST` was ended by a refused growth.
@@ -24,6 +27,27 @@ fn refused_growth_ends_a_run_at_its_record(rt: HostRuntime) {
         Err(fault) => {
             assert_eq!(rt; fault, ServeFault::Memory);
             assert!(rt; is_cut_by_memory(output.as_slice()));
+            refused(&rt);
+        }
+    }
+}
+
+// Whether a run of `TABLES` was ended by a refused growth.
+fn is_analysis_cut_by_memory(output: &[u8]) -> bool {
+    let ends = TABLES_ENDS.as_slice();
+    (0..ends.len()).any(|given| is_cut_of(TABLES_TEXT, ends, output, given, "Memory"))
+}
+
+#[test]
+fn refused_growth_leaves_no_line_of_an_analysis(rt: HostRuntime) {
+    let Ok(mut output) = Vec::with_capacity(rt.alloc(), 1_024) else {
+        return refused(&rt);
+    };
+    match serve(&rt, two_seats(&rt), TABLES.as_bytes(), &mut output) {
+        Ok(_) => assert_eq!(rt; output.as_slice(), TABLES_TEXT.as_bytes()),
+        Err(fault) => {
+            assert_eq!(rt; fault, ServeFault::Memory);
+            assert!(rt; is_analysis_cut_by_memory(output.as_slice()));
             refused(&rt);
         }
     }

@@ -1,6 +1,8 @@
 // Scripts whose lines, counts and seats are told.
 
-use super::{FIRST, FIRST_TEXT, FakeWriter, REFUSED, REFUSED_TEXT, two_seats};
+use super::{
+    ANALYSES, ANALYSES_TEXT, FIRST, FIRST_TEXT, FakeWriter, REFUSED, REFUSED_TEXT, two_seats,
+};
 use crate::{Config, Summary, law_one_text, serve, stinger};
 
 #[test]
@@ -27,6 +29,19 @@ fn counts_records_errors_and_pending_operations(rt: HostRuntime) {
     assert_eq!(rt; writer.held.as_slice(), REFUSED_TEXT.as_bytes());
     assert_eq!(rt; writer.writes, 3, "one write a line");
     assert!(rt; writer.flushed);
+}
+
+#[test]
+fn answers_levels_labels_and_core_numbers(rt: HostRuntime) {
+    let mut output = Vec::new(rt.alloc());
+    let summary = serve(&rt, two_seats(&rt), ANALYSES.as_bytes(), &mut output);
+    let counted = Summary {
+        records: 14,
+        errors: 7,
+        pending: 0,
+    };
+    assert_eq!(rt; summary, Ok(counted));
+    assert_eq!(rt; output.as_slice(), ANALYSES_TEXT.as_bytes());
 }
 
 #[test]
