@@ -9,7 +9,7 @@ use Rattle.std.proofs.lemmas.List.Sums.{sum_by-cons}
 use Rattle.std.proofs.lemmas.List.{length-append}
 use Rattle.std.proofs.lemmas.Option.{slice_get-get_or}
 use Rattle.std.proofs.lemmas.Slice.Eq.{bytes_eq-Decides}
-use Rattle.graph_model.specs.Analyses.{AreLabels, Connects, IsLabel, Joins, Walk}
+use Rattle.graph_model.specs.Analyses.{AreLabels, IsLabel, Joins, Walk}
 use Rattle.graph_model.specs.Answer.{names_of}
 use Rattle.graph_model.specs.Graph.{Graph}
 use Rattle.graph_model.specs.Step.{with_name}

@@ -1,17 +1,13 @@
 -- The lines of a reply, from what the reply says.
-use Rattle.std.proofs.Common.{◌≡◌, ◌≢◌, ℕ, ◌≤◌, List, [], ◌∷◌, length, sum_by, count_by, arith, refl, ◌∙◌, ap, inl, inr}
+use Rattle.std.proofs.Common.{◌≡◌, ◌≢◌, ℕ, ◌≤◌, List, [], ◌∷◌, length, arith, refl, ◌∙◌, ap, inl, inr}
 use Rattle.std.specs.Prelude.{Result, Ok, Err, ◌⊎◌, slice_get}
 use Rattle.std.specs.List.{zip}
-use Rattle.std.specs.FinMap.{entries}
 use Rattle.graph_model.specs.Answer.{IsAnswer, IsReply, resolved, degree_table, names_of}
 use Rattle.graph_model.specs.Graph.{Graph, IsContent, graph_of}
-use Rattle.graph_model.specs.View.{in_view}
 use Rattle.graph_model.specs.declared.contents.Content.{Content}
-use Rattle.graph_model.specs.declared.ids.Degree.{Degree}
 use Rattle.graph_model.specs.declared.requests.Request.{Request}
 use Rattle.graph_model.specs.declared.requests.Request.TheVariants as request
 use Rattle.graph_model.specs.declared.requests.Reply.{Reply}
-use Rattle.graph_model.specs.declared.requests.Reply.TheVariants as reply
 use Rattle.graph_model.specs.declared.requests.AskError.{AskError}
 use Rattle.graph_model.specs.declared.requests.AskError.TheVariants as ask
 use Rattle.stinger_server.proofs.Edges.{edges_in_view}

@@ -1,4 +1,4 @@
-use Rattle.std.proofs.Common.{ℕ, List, unwrap_or, ap, ◌∙◌, rules, tests}
+use Rattle.std.proofs.Common.{unwrap_or, ap, ◌∙◌, rules, tests}
 use Rattle.std.proofs.lemmas.Iterator.{YieldsList-from_slice, YieldsList-from_map}
 use Rattle.std.proofs.lemmas.Iterator.Consumers.{reduce_from_yields_List}
 use Rattle.std.proofs.lemmas.List.Folds.{max_of_map}
