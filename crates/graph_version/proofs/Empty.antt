@@ -10,7 +10,7 @@ use Rattle.graph_version.specs.Versions.{IsVersion, empty_version}
 use Rattle.graph_version.specs.Kept.{version_of, IsKept}
 use Rattle.block_layout.specs.Rows.{IsRow}
 
-no_row : IsRow []
+pub no_row : IsRow []
 no_row = record { within = λ k d h. absurd (omega arith); between = tt }
 
 pub is_empty_version : IsVersion empty_version

@@ -5,3 +5,4 @@ pub mod Totals
 pub mod Few
 pub mod Drafting
 pub mod Lent
+pub mod TakenBack

@@ -49,10 +49,10 @@ changed (suc source) row before after here others =
     let rest = changed source row (later before) (later after) (later_row after source ∙ here) (λ s apart. later_row after s ∙ others (suc s) (λ e. apart (omega arith)) ∙ sym (later_row before s)) in
     omega (arith, rest, split after, split before, ap count_in first, ap count_in (later_row before source))
 
-at_source : (source s : ℕ) (row rest : List BlockView) → s ≡ source → (if s == source then row else rest) ≡ row
+pub at_source : (source s : ℕ) (row rest : List BlockView) → s ≡ source → (if s == source then row else rest) ≡ row
 at_source source s row rest same = elim (eqb_tells s source) [ inl e ↦ rw e.0 refl | inr e ↦ absurd (e.1 same) ]
 
-elsewhere : (source s : ℕ) (row rest : List BlockView) → s ≢ source → (if s == source then row else rest) ≡ rest
+pub elsewhere : (source s : ℕ) (row rest : List BlockView) → s ≢ source → (if s == source then row else rest) ≡ rest
 elsewhere source s row rest apart = elim (eqb_tells s source) [ inl e ↦ absurd (apart e.1) | inr e ↦ rw e.0 refl ]
 
 -- the edges of all rows, where a row took the place of another

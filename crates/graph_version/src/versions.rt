@@ -89,7 +89,8 @@ impl Version {
 
     /// The last batch.
     pub fn last_batch(&self) -> Option<&Batch>
-        ensures { MatchOption result (self.now.batches ≡ []) (λ b. (others : List (List NamedOp)) × (self.now.batches ≡ others ++ b.now ∷ [])) }
+        ensures { MatchOption result (self.now.batches ≡ [])
+            (λ b. (others : List (List NamedOp)) × (self.now.batches ≡ others ++ b.now ∷ [])) }
     {
         self.batches.last()
     }
