@@ -1,0 +1,3 @@
+pub mod Names
+pub mod Growth
+pub mod Resolving

@@ -1,0 +1,50 @@
+-- Both passes together give the batch's operations with the numbers of their names.
+use Rattle.std.proofs.Common.{◌≡◌, ℕ, List, [], ◌∷◌, length, Bool, true, false, cond, ◌&&◌, refl, sym, ap, subst, All, Option, Some, None, arith}
+use Rattle.graph_model.specs.Graph.{Key}
+use Rattle.graph_model.specs.Step.{number_of}
+use Rattle.graph_model.specs.declared.batches.NamedOp.{NamedOp}
+use Rattle.block_layout.specs.Operations.{source_name, target_name, kind_name, change_of, names_after, kinds_after}
+use Rattle.block_layout.specs.Batches.{Resolved, is_known, resolve, resolved}
+use Rattle.std.proofs.lemmas.List.Elements.{All-nil, All-cons}
+use Rattle.batch_plan.specs.Shards.{IsPlaced}
+use Rattle.batch_plan.specs.declared.resolve.Ends.{Ends}
+use Rattle.batch_plan.specs.Plan.{known, ends_in, ends_all, key_from, with_kind, with_kinds}
+
+key_cases : (a b c : Bool) (k s t : ℕ)
+    → key_from (cond a (Some k) None) (cond b (Some s) None) (cond c (Some t) None) ≡ cond (a && (b && c)) (Some (let key : Key = record { kind = k; source = s; target = t } in key)) None
+key_cases false b c k s t = refl
+key_cases true false c k s t = refl
+key_cases true true false k s t = refl
+key_cases true true true k s t = refl
+
+one_resolved : (names kinds : List (List ℕ)) (op : NamedOp) → with_kind kinds (ends_in names op) op ≡ resolve names kinds op
+one_resolved names kinds op =
+    ap (λ (key : Option Key). let r : Resolved = record { source = known names (source_name op); key = key; change = change_of op } in r)
+    (key_cases (is_known kinds (kind_name op)) (is_known names (source_name op)) (is_known names (target_name op)) (number_of kinds (kind_name op)) (number_of names (source_name op)) (number_of names (target_name op)))
+
+pub resolved_is : (ops : List NamedOp) (names kinds : List (List ℕ)) → with_kinds (ends_all ops names) ops kinds ≡ resolved ops names kinds
+resolved_is [] names kinds = refl
+resolved_is (op ∷ ops) names kinds = λ i. one_resolved (names_after op names) (kinds_after op kinds) op i ∷ resolved_is ops (names_after op names) (kinds_after op kinds) i
+
+pub as_many_ends : (ops : List NamedOp) (names : List (List ℕ)) → length (ends_all ops names) ≡ length ops
+as_many_ends [] names = refl
+as_many_ends (op ∷ ops) names = let rest = as_many_ends ops (names_after op names) in omega arith
+
+placed_parts : (kind source target : Option ℕ) (k : Key) → key_from kind source target ≡ Some k → source ≡ Some k.source
+placed_parts None source target k e = cc
+placed_parts (Some a) None target k e = cc
+placed_parts (Some a) (Some s) None k e = cc
+placed_parts (Some a) (Some s) (Some t) k e =
+    let same : (let key : Key = record { kind = a; source = s; target = t } in key) ≡ k = cc in
+    ap (λ (q : Key). Some q.source) same
+
+all_placed : (ends : List Ends) (ops : List NamedOp) (kinds : List (List ℕ)) → All IsPlaced (with_kinds ends ops kinds)
+all_placed [] ops kinds = All-nil IsPlaced
+all_placed (e ∷ ends) [] kinds = All-nil IsPlaced
+all_placed (e ∷ ends) (op ∷ ops) kinds =
+    All-cons IsPlaced (with_kind (kinds_after op kinds) e op) (with_kinds ends ops (kinds_after op kinds))
+    (placed_parts (known (kinds_after op kinds) (kind_name op)) e.source e.target) (all_placed ends ops (kinds_after op kinds))
+
+-- an operation with a key is on the key's source
+pub placed_in : (rs : List Resolved) (ends : List Ends) (ops : List NamedOp) (kinds : List (List ℕ)) → rs ≡ with_kinds ends ops kinds → All IsPlaced rs
+placed_in rs ends ops kinds e = subst (λ ss. All IsPlaced ss) (sym e) (all_placed ends ops kinds)

@@ -1,0 +1,16 @@
+//! The plan of a batch: its names resolved to numbers, and its operations by worker.
+//!
+//! Names are resolved in two passes, the vertex names first, so that too many kinds are met only where every vertex name
+//! fits, as in the batch rule.
+#![tactic(auto)]
+
+mod plan;
+mod resolve;
+mod shards;
+
+pub use plan::{PlanError, resolve_batch};
+pub use resolve::{EdgeKey, ResolvedOp};
+pub use shards::shard_for;
+
+#[cfg(test)]
+mod tests;

@@ -1,0 +1,198 @@
+//! The numbers of a batch's names, each operation by the names at its place.
+
+ghost use Rattle.std.specs.Prelude.{◌≡◌, ◌≤◌, ◌<◌, [], length, map, IfOk, IfErr, OnOk, IsTrue, All};
+ghost use Rattle.graph_model.specs.Step.{with_name};
+ghost use Rattle.graph_model.specs.Changes.{IsChange};
+ghost use Rattle.graph_model.specs.Valid.{is_name, is_kind_name, has_names, IsValid};
+ghost use Rattle.std.specs.Option.{option_map};
+ghost use Rattle.block_layout.specs.Operations.{kind_name, change_of, names_after, kinds_after};
+ghost use Rattle.batch_plan.specs.Plan as plan;
+ghost use Rattle.batch_plan.specs.Plan.{known, ends_in, ends_all, names_all, kinds_all, key_from, key_of, shown, with_names, IsRefusal};
+
+use graph_model::{EdgeChange, KindId, NamedOp};
+use std::alloc::Global;
+use vertex_names::{AddError, NameBook};
+
+/// The numbers of an operation's source and target: none where a name has not appeared.
+#[derive(Clone, Copy, Debug)]
+pub struct Ends {
+    pub source: Option<u32>,
+    pub target: Option<u32>,
+}
+
+/// Which edge: the numbers of its kind, its source and its target.
+#[derive(Clone, Copy, Debug)]
+pub struct EdgeKey {
+    pub kind: KindId,
+    pub source: u32,
+    pub target: u32,
+}
+
+/// An operation with its names resolved: its source's number and its edge's key, none where a name has not appeared, and
+/// what it does to the edge.
+#[derive(Clone, Copy, Debug)]
+pub struct ResolvedOp {
+    pub source: Option<u32>,
+    pub key: Option<EdgeKey>,
+    pub change: EdgeChange,
+}
+
+/// The numbers of two names, which are added, the source before the target.
+fn add_ends(names: &mut NameBook, source: &str, target: &str) -> Result<Ends, AddError>
+    requires source { IsTrue (is_name source.now) }
+    requires target { IsTrue (is_name target.now) }
+    ensures ends { let after = with_name (with_name names.old.names source.now) target.now in
+        IfOk result (λ e. e ≡ record { source = known after source.now; target = known after target.now }) }
+    ensures names { OnOk result (names.new ≡ with_names names.old (with_name (with_name names.old.names source.now) target.now)) }
+    ensures refused { IfErr result (λ error. IsRefusal error names.old (with_name (with_name names.old.names source.now) target.now)) }
+{
+    let source = names.add(source)?;
+    let target = names.add(target)?;
+    Ok(Ends {
+        source: Some(source),
+        target: Some(target),
+    })
+}
+
+/// The numbers of an operation's ends; its names are added first, where it makes any.
+fn op_ends(names: &mut NameBook, op: &NamedOp) -> Result<Ends, AddError>
+    requires { IsTrue (has_names op.now) }
+    ensures ends { IfOk result (λ e. e ≡ ends_in (names_after op.now names.old.names) op.now) }
+    ensures names { OnOk result (names.new ≡ with_names names.old (names_after op.now names.old.names)) }
+    ensures refused { IfErr result (λ error. IsRefusal error names.old (names_after op.now names.old.names)) }
+{
+    match op {
+        NamedOp::Insert { source, target, .. } => {
+            add_ends(names, source.as_str(), target.as_str())
+        }
+        NamedOp::Incr { source, target, .. } => {
+            add_ends(names, source.as_str(), target.as_str())
+        }
+        NamedOp::Remove { source, target, .. } => Ok(Ends {
+            source: names.number(source.as_str()),
+            target: names.number(target.as_str()),
+        }),
+    }
+}
+
+/// The numbers of the ends of operations in order, each by the names that it leaves.
+///
+/// After an error the book has some of the names.
+pub fn ends_of(alloc: Global, names: &mut NameBook, ops: &[NamedOp]) -> Result<Vec<Ends>, AddError>
+    requires { All IsValid ops.now }
+    ensures ends { IfOk result (λ e. e.items ≡ ends_all ops.now names.old.names) }
+    ensures names { OnOk result (names.new ≡ with_names names.old (names_all ops.now names.old.names)) }
+    ensures refused { IfErr result (λ error. IsRefusal error names.old (names_all ops.now names.old.names)) }
+{
+    let mut found = Vec::with_capacity(alloc, ops.len())?;
+    for op in ops {
+        found.push(op_ends(names, op)?)?;
+    }
+    Ok(found)
+}
+
+/// The kind of a number that a book of at most 64 kinds has.
+fn kind_id(kinds: &NameBook, number: u32) -> KindId
+    requires limit { kinds.now.limit ≤ 64 }
+    requires number { number < length kinds.now.names }
+    ensures { result.0 ≡ number }
+{
+    let _count = kinds.len();
+    KindId(number as u8)
+}
+
+/// The number of a kind, which is added.
+fn add_kind(kinds: &mut NameBook, kind: &str) -> Result<Option<KindId>, AddError>
+    requires limit { kinds.old.limit ≤ 64 }
+    requires kind { IsTrue (is_name kind.now) }
+    ensures kind { IfOk result (λ k. option_map (λ k. k.0) k ≡ known (with_name kinds.old.names kind.now) kind.now) }
+    ensures kinds { OnOk result (kinds.new ≡ with_names kinds.old (with_name kinds.old.names kind.now)) }
+    ensures refused { IfErr result (λ error. IsRefusal error kinds.old (with_name kinds.old.names kind.now)) }
+{
+    let number = kinds.add(kind)?;
+    Ok(Some(kind_id(kinds, number)))
+}
+
+/// The number of a kind, where it has appeared.
+fn find_kind(kinds: &NameBook, kind: &str) -> Option<KindId>
+    requires { kinds.now.limit ≤ 64 }
+    ensures { option_map (λ k. k.0) result ≡ known kinds.now.names kind.now }
+{
+    let number = kinds.number(kind)?;
+    Some(kind_id(kinds, number))
+}
+
+/// The number of an operation's kind, which is added first, where the operation makes kinds.
+fn op_kind(kinds: &mut NameBook, op: &NamedOp) -> Result<Option<KindId>, AddError>
+    requires limit { kinds.old.limit ≤ 64 }
+    requires names { IsTrue (has_names op.now) }
+    ensures kind { IfOk result (λ k. option_map (λ k. k.0) k ≡ known (kinds_after op.now kinds.old.names) (kind_name op.now)) }
+    ensures kinds { OnOk result (kinds.new ≡ with_names kinds.old (kinds_after op.now kinds.old.names)) }
+    ensures refused { IfErr result (λ error. IsRefusal error kinds.old (kinds_after op.now kinds.old.names)) }
+{
+    match op {
+        NamedOp::Insert { kind, .. } => add_kind(kinds, kind.as_str()),
+        NamedOp::Incr { kind, .. } => add_kind(kinds, kind.as_str()),
+        NamedOp::Remove { kind, .. } => Ok(find_kind(kinds, kind.as_str())),
+    }
+}
+
+/// What an operation does to the edge at its key.
+fn change_by(op: &NamedOp) -> EdgeChange
+    requires { IsValid op.now }
+    ensures change { result ≡ change_of op.now }
+    ensures valid { IsChange result }
+{
+    match op {
+        NamedOp::Insert { weight, time, .. } => EdgeChange::Insert {
+            weight: *weight,
+            time: *time,
+        },
+        NamedOp::Incr { amount, time, .. } => EdgeChange::Incr {
+            amount: *amount,
+            time: *time,
+        },
+        NamedOp::Remove { .. } => EdgeChange::Remove,
+    }
+}
+
+/// The key of numbers of which each is known.
+fn key_by(ends: Ends, kind: Option<KindId>) -> Option<EdgeKey>
+    ensures { option_map key_of result ≡ key_from (option_map (λ k. k.0) kind) ends.source ends.target }
+{
+    Some(EdgeKey {
+        kind: kind?,
+        source: ends.source?,
+        target: ends.target?,
+    })
+}
+
+/// Operations with these ends, in order, each with its kind by the kinds that it leaves.
+///
+/// After an error the book has some of the kinds.
+pub fn with_kinds(
+    alloc: Global,
+    kinds: &mut NameBook,
+    ops: &[NamedOp],
+    ends: &[Ends],
+) -> Result<Vec<ResolvedOp>, AddError>
+    requires limit { kinds.old.limit ≤ 64 }
+    requires valid { All IsValid ops.now }
+    requires ends { length ends.now ≡ length ops.now }
+    ensures ops { IfOk result (λ v. map shown v.items ≡ plan.with_kinds ends.now ops.now kinds.old.names) }
+    ensures changes { IfOk result (λ v. All (λ op. IsChange op.change) v.items) }
+    ensures kinds { OnOk result (kinds.new ≡ with_names kinds.old (kinds_all ops.now kinds.old.names)) }
+    ensures refused { IfErr result (λ error. IsRefusal error kinds.old (kinds_all ops.now kinds.old.names)) }
+{
+    let mut found = Vec::with_capacity(alloc, ops.len())?;
+    for k in 0..ops.len() {
+        let op = &ops[k];
+        let kind = op_kind(kinds, op)?;
+        found.push(ResolvedOp {
+            source: ends[k].source,
+            key: key_by(ends[k], kind),
+            change: change_by(op),
+        })?;
+    }
+    Ok(found)
+}
