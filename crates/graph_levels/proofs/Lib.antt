@@ -1,0 +1,5 @@
+pub mod Arcs
+pub mod Frontiers
+pub mod Targets
+pub mod Trees
+pub mod Walks

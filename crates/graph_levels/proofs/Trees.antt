@@ -1,0 +1,162 @@
+-- Changes of trees that keep what they say.
+use Rattle.std.proofs.Common.{◌≡◌, ◌≢◌, ℕ, ◌+◌, ◌<◌, ◌≤◌, zero, suc, arith, refl, sym, ap, ◌∙◌, subst, ◌⊎◌, inl, inr, List, length, get_or, set, ◌++◌, ◌∷◌, []}
+use Rattle.std.proofs.lemmas.Bool.{cases_eq, cases_lt}
+use Rattle.std.proofs.lemmas.List.{get_or-set_same, get_or-set_other, get_or_default, get_or_past}
+use Rattle.std.specs.List.{range_with_len}
+use Rattle.std.proofs.lemmas.List.FromFn.{length-range_with_len, get_or-range_with_len, map-range_with_len_more}
+use Rattle.std.proofs.lemmas.List.{map-id}
+use Rattle.graph_model.specs.Graph.{Graph}
+use Rattle.graph_model.specs.Analyses.{Connects, Joins}
+use Rattle.graph_model.specs.declared.ids.Filter.{Filter}
+use Rattle.graph_levels.specs.Forest.{parent, IsForest, IsSound, Respects}
+use Rattle.graph_levels.proofs.Walks.{itself, then, one_step, backward}
+
+-- a read of a place within
+pub read : (ps : List ℕ) (v : ℕ) → v < length ps → get_or ps v 0 ≡ parent ps v
+read ps v lt = get_or_default ps v 0 v lt
+
+pub parent_set_same : (ps : List ℕ) (v a : ℕ) → v < length ps → parent (set ps v a) v ≡ a
+parent_set_same ps v a lt = get_or-set_same ps v a v lt
+
+pub parent_set_other : (ps : List ℕ) (v a w : ℕ) → (w ≡ v → ⊥) → parent (set ps v a) w ≡ parent ps w
+parent_set_other ps v a w ne = get_or-set_other ps v w a w ne
+
+-- a parent that is no greater
+pub forest_set : (ps : List ℕ) (v a : ℕ) → v < length ps → a ≤ v → IsForest ps → IsForest (set ps v a)
+forest_set ps v a lt le low = λ w. elim (cases_eq w v) [
+  | inl e ↦ let same = parent_set_same ps v a lt in let there = ap (parent (set ps v a)) e in omega arith
+  | inr ne ↦ let same = parent_set_other ps v a w ne in let below = low w in omega arith
+]
+
+-- a parent that walks join
+pub sound_set : (f : Filter) (g : Graph) (ps : List ℕ) (v a : ℕ) → v < length ps → Connects f g a v → IsSound f g ps → IsSound f g (set ps v a)
+sound_set f g ps v a lt c sound = λ w. elim (cases_eq w v) [
+  | inl e ↦ subst (λ x. Connects f g (parent (set ps v a) x) x) (sym e) (subst (λ x. Connects f g x v) (sym (parent_set_same ps v a lt)) c)
+  | inr ne ↦ subst (λ x. Connects f g x w) (sym (parent_set_other ps v a w ne)) (sound w)
+]
+
+-- the parent's parent in place of the parent
+pub respects_halved : (ps : List ℕ) (v : ℕ) (label : ℕ → ℕ) → v < length ps → Respects (set ps v (parent ps (parent ps v))) label → Respects ps label
+respects_halved ps v label lt new = λ w. elim (cases_eq w v) [
+  | inl e ↦
+      let p = parent ps v in
+      let a = parent ps p in
+      let here : label v ≡ label a = new v ∙ ap label (parent_set_same ps v a lt) in
+      let at : label v ≡ label p =
+      elim (cases_eq p v) [
+        | inl root ↦ ap label (sym root)
+        | inr ne ↦ here ∙ sym (new p ∙ ap label (parent_set_other ps v a p ne))
+      ] in
+      ap label e ∙ at ∙ ap (λ x. label (parent ps x)) (sym e)
+  | inr ne ↦ new w ∙ ap label (parent_set_other ps v (parent ps (parent ps v)) w ne)
+]
+
+-- a root put below another vertex
+pub respects_linked : (ps : List ℕ) (r a : ℕ) (label : ℕ → ℕ) → r < length ps → parent ps r ≡ r → Respects (set ps r a) label → Respects ps label
+respects_linked ps r a label lt root new = λ w. elim (cases_eq w r) [
+  | inl e ↦ ap label e ∙ ap label (sym root) ∙ ap (λ x. label (parent ps x)) (sym e)
+  | inr ne ↦ new w ∙ ap label (parent_set_other ps r a w ne)
+]
+
+pub linked_same : (ps : List ℕ) (r a : ℕ) (label : ℕ → ℕ) → r < length ps → Respects (set ps r a) label → label r ≡ label a
+linked_same ps r a label lt new = new r ∙ ap label (parent_set_same ps r a lt)
+
+-- all vertices below i are right below their roots
+abbrev pub FlatBelow : List ℕ → ℕ → Type 0
+FlatBelow ps i = (v : ℕ) → v < i → parent ps (parent ps v) ≡ parent ps v
+
+pub flat_more : (ps : List ℕ) (i : ℕ) → i < length ps → IsForest ps → FlatBelow ps i → FlatBelow (set ps i (parent ps (parent ps i))) (i + 1)
+flat_more ps i lt low flat = λ v below.
+    let p = parent ps i in
+    let a = parent ps p in
+    let new = set ps i a in
+    let p_low = low i in
+    let a_low = low p in
+    elim (cases_eq v i) [
+      | inl e ↦
+          let here : parent new v ≡ a = ap (parent new) e ∙ parent_set_same ps i a lt in
+          let there : parent new a ≡ a =
+          elim (cases_eq a i) [
+            | inl root ↦ ap (parent new) root ∙ parent_set_same ps i a lt
+            | inr ne ↦
+                elim (cases_eq p i) [
+                  | inl p_root ↦ absurd (ne (ap (parent ps) p_root ∙ p_root))
+                  | inr p_ne ↦ parent_set_other ps i a a ne ∙ flat p (omega arith)
+                ]
+          ] in
+          ap (parent new) here ∙ there ∙ sym here
+      | inr ne ↦
+          let q = parent ps v in
+          let q_low = low v in
+          let q_ne : q ≡ i → ⊥ = λ e. ne (omega arith) in
+          let here : parent new v ≡ q = parent_set_other ps i a v ne in
+          ap (parent new) here ∙ parent_set_other ps i a q q_ne ∙ flat v (omega arith) ∙ sym here
+    ]
+
+pub flat_all : (ps : List ℕ) → FlatBelow ps (length ps) → (v : ℕ) → parent ps (parent ps v) ≡ parent ps v
+flat_all ps flat v = elim (cases_lt v (length ps)) [
+  | inl lt ↦ flat v lt
+  | inr le ↦ let out : parent ps v ≡ v = get_or_past ps v v le in ap (parent ps) out
+]
+
+-- the parent's parent, as the code reads it
+abbrev pub up : List ℕ → ℕ → ℕ
+up ps v = get_or ps (get_or ps v 0) 0
+
+pub up_is : (ps : List ℕ) (v : ℕ) → v < length ps → IsForest ps → (up ps v ≡ parent ps (parent ps v)) × (get_or ps v 0 ≡ parent ps v) × (parent ps v ≤ v) × (up ps v ≤ parent ps v)
+up_is ps v lt low =
+    let r = read ps v lt in
+    let a = low v in
+    let p_lt : parent ps v < length ps = omega arith in
+    let b = low (parent ps v) in
+    let e : up ps v ≡ parent ps (parent ps v) = ap (λ x. get_or ps x 0) r ∙ read ps (parent ps v) p_lt in
+    (e, r, a, omega arith)
+
+pub halved_forest : (ps : List ℕ) (v : ℕ) → v < length ps → IsForest ps → IsForest (set ps v (up ps v))
+halved_forest ps v lt low = let u = up_is ps v lt low in forest_set ps v (up ps v) lt (omega arith) low
+
+pub halved_respects : (ps : List ℕ) (v : ℕ) (label : ℕ → ℕ) → v < length ps → IsForest ps → Respects (set ps v (up ps v)) label → Respects ps label × (label v ≡ label (up ps v))
+halved_respects ps v label lt low new =
+    let u = up_is ps v lt low in
+    let e = u.0 in
+    let old : Respects ps label = respects_halved ps v label lt (subst (λ x. Respects (set ps v x) label) e new) in
+    (old, linked_same ps v (up ps v) label lt new)
+
+pub halved_connects : (f : Filter) (g : Graph) (ps : List ℕ) (v : ℕ) → v < length ps → IsForest ps → IsSound f g ps → Connects f g (up ps v) v
+halved_connects f g ps v lt low sound =
+    let u = up_is ps v lt low in
+    subst (λ x. Connects f g x v) (sym u.0) (then f g _ _ _ (sound (parent ps v)) (sound v))
+
+pub halved_sound : (f : Filter) (g : Graph) (ps : List ℕ) (v : ℕ) → v < length ps → IsForest ps → IsSound f g ps → IsSound f g (set ps v (up ps v))
+halved_sound f g ps v lt low sound = sound_set f g ps v (up ps v) lt (halved_connects f g ps v lt low sound) sound
+
+pub halved_flat : (ps : List ℕ) (i : ℕ) → i < length ps → IsForest ps → FlatBelow ps i → FlatBelow (set ps i (up ps i)) (i + 1)
+halved_flat ps i lt low flat = let u = up_is ps i lt low in subst (λ x. FlatBelow (set ps i x) (i + 1)) (sym u.0) (flat_more ps i lt low flat)
+
+-- a root stays one
+pub halved_roots : (ps : List ℕ) (v w : ℕ) → v < length ps → parent ps w ≡ w → parent (set ps v (up ps v)) w ≡ w
+halved_roots ps v w lt root =
+    elim (cases_eq w v) [
+      | inl e ↦
+          let here : get_or ps v 0 ≡ v = read ps v lt ∙ ap (parent ps) (sym e) ∙ root ∙ e in
+          let there : up ps v ≡ v = ap (λ x. get_or ps x 0) here ∙ here in
+          ap (parent (set ps v (up ps v))) e ∙ parent_set_same ps v (up ps v) lt ∙ there ∙ sym e
+      | inr ne ↦ parent_set_other ps v (up ps v) w ne ∙ root
+    ]
+
+-- each vertex is its own parent
+pub fresh : (n v : ℕ) → parent (range_with_len 0 n) v ≡ v
+fresh n v = elim (cases_lt v n) [
+  | inl lt ↦ let e = get_or-range_with_len 0 n v v lt in omega arith
+  | inr le ↦ let long = length-range_with_len 0 n in get_or_past (range_with_len 0 n) v v (omega arith)
+]
+
+pub fresh_forest : (n : ℕ) (ps : List ℕ) → ps ≡ range_with_len 0 n → IsForest ps
+fresh_forest n ps e = λ v. let f = fresh n v in let same = ap (λ xs. parent xs v) e in omega arith
+
+pub fresh_sound : (f : Filter) (g : Graph) (n : ℕ) (ps : List ℕ) → ps ≡ range_with_len 0 n → IsSound f g ps
+fresh_sound f g n ps e = λ v. subst (λ x. Connects f g x v) (sym (ap (λ xs. parent xs v) e ∙ fresh n v)) (itself f g v)
+
+-- one number more
+pub range_more : (n : ℕ) → range_with_len 0 (n + 1) ≡ range_with_len 0 n ++ n ∷ []
+range_more n = sym (map-id (range_with_len 0 (n + 1))) ∙ map-range_with_len_more (λ x. x) 0 n n (omega arith) ∙ ap (λ xs. xs ++ n ∷ []) (map-id (range_with_len 0 n))

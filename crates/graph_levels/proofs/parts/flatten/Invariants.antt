@@ -1,0 +1,14 @@
+use Rattle.std.proofs.Common.{ℕ}
+use Rattle.graph_model.specs.Graph.{Graph}
+use Rattle.graph_model.specs.declared.ids.Filter.{Filter}
+use Rattle.graph_levels.specs.Forest.{IsForest, IsSound, Respects}
+use Rattle.graph_levels.proofs.Trees.{FlatBelow}
+use Rattle.graph_levels.proofs.parts.flatten.Given as goal
+
+abbrev pub invariant-loop-vertex : goal.invariant-loop-vertex
+invariant-loop-vertex l = record {
+  forest : IsForest l.parents;
+  flat : FlatBelow l.parents l.vertex;
+  coarser : (label : ℕ → ℕ) → Respects l.parents label → Respects l.fn.parents label;
+  sound : (f : Filter) (g : Graph) → IsSound f g l.fn.parents → IsSound f g l.parents;
+}

@@ -1,0 +1,6 @@
+use Rattle.std.proofs.Common.{◌≡◌}
+use Rattle.std.specs.List.{range_with_len}
+use Rattle.graph_levels.proofs.parts.own_parents.Given as goal
+
+abbrev pub invariant-loop-vertex : goal.invariant-loop-vertex
+invariant-loop-vertex l = l.parents.items ≡ range_with_len 0 l.vertex

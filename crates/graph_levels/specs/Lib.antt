@@ -1,0 +1,4 @@
+pub mod Forest
+pub mod Listed
+pub mod Search
+pub mod Visit

@@ -1,0 +1,30 @@
+-- A search by frontiers, as it goes on.
+use Rattle.std.specs.Prelude.{◌≡◌, ℕ, ◌+◌, ◌≤◌, List, slice_index_or, Option, Some, None, All, count_by, ◌⊎◌}
+use Rattle.std.specs.List.{Contains}
+use Rattle.graph_model.specs.Graph.{Graph}
+use Rattle.graph_model.specs.Analyses.{LeadsTo, Walk}
+use Rattle.graph_model.specs.declared.ids.Filter.{Filter}
+use Rattle.graph_levels.specs.Visit.{has_none}
+
+abbrev pub level_of : List (Option ℕ) → ℕ → Option ℕ
+level_of levels v = slice_index_or levels v None
+
+abbrev pub HasLevel : List (Option ℕ) → ℕ → ℕ → Type 0
+HasLevel levels d v = level_of levels v ≡ Some d
+
+abbrev pub IsReached : List (Option ℕ) → ℕ → ℕ → Type 0
+IsReached levels k v = (j : ℕ) × (level_of levels v ≡ Some j) × (j ≤ k)
+
+-- vertices without a level
+abbrev pub unreached : List (Option ℕ) → ℕ
+unreached levels = count_by has_none levels
+
+-- Between two frontiers: each level is that of a walk and at most depth + 1; those of rest have depth, those of next
+-- depth + 1; an edge out of a vertex that is in neither leads to a level that is at most one more.
+pub record IsSearch (f : Filter) (g : Graph) (source : ℕ) (levels : List (Option ℕ)) (rest next : List ℕ) (depth : ℕ) : Type 0 where
+  pub start : HasLevel levels 0 source
+  pub sound : (v k : ℕ) → HasLevel levels k v → Walk (LeadsTo f g) source v k
+  pub low : (v k : ℕ) → HasLevel levels k v → k ≤ depth + 1
+  pub now : All (HasLevel levels depth) rest
+  pub later : All (HasLevel levels (depth + 1)) next
+  pub closed : (u v k : ℕ) → HasLevel levels k u → LeadsTo f g u v → IsReached levels (k + 1) v ⊎ (Contains rest u ⊎ Contains next u)
