@@ -83,20 +83,41 @@ pub(crate) fn measure<R: CpuClock + Print + AllocGlobal>(rt: &R, rounds: u32) ->
         measure_find(rt, "find_hit", &blocks, 0, edges, rounds)?;
         measure_find(rt, "find_miss", &blocks, 1000, edges, rounds)?;
         measure_select(rt, "select_all", &blocks, 0, edges, rounds)?;
-        measure_select(rt, "select_half", &blocks, 10 + u64::from(edges / 2), edges, rounds)?;
+        measure_select(
+            rt,
+            "select_half",
+            &blocks,
+            10 + u64::from(edges / 2),
+            edges,
+            rounds,
+        )?;
         measure_select(rt, "select_none", &blocks, 1000, edges, rounds)?;
     }
     Ok(())
 }
 
-fn measure_find<R: CpuClock + Print>(rt: &R, name: &str, blocks: &Vec<Block>, from: u32, edges: u32, rounds: u32) -> io::Result<()> {
+fn measure_find<R: CpuClock + Print>(
+    rt: &R,
+    name: &str,
+    blocks: &Vec<Block>,
+    from: u32,
+    edges: u32,
+    rounds: u32,
+) -> io::Result<()> {
     let before = rt.thread_cpu_time()?.as_nanos();
     let sum = search(blocks, from, edges, rounds);
     let spent = rt.thread_cpu_time()?.as_nanos().saturating_sub(before);
     println!(rt; "{name} {edges} {spent} {sum}")
 }
 
-fn measure_select<R: CpuClock + Print>(rt: &R, name: &str, blocks: &Vec<Block>, lo: u64, edges: u32, rounds: u32) -> io::Result<()> {
+fn measure_select<R: CpuClock + Print>(
+    rt: &R,
+    name: &str,
+    blocks: &Vec<Block>,
+    lo: u64,
+    edges: u32,
+    rounds: u32,
+) -> io::Result<()> {
     let view = Filter {
         kind: Some(KindId(0)),
         lo,

@@ -5,9 +5,8 @@
 
 mod blocks;
 
-use std::env;
-use std::io;
 use std::time::CpuClock;
+use std::{env, io};
 
 fn main(rt: HostRuntime) -> io::Result<()> {
     let mut words = env::args(&rt)?.skip(1);
