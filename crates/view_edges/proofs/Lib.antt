@@ -1,0 +1,4 @@
+pub mod Arcs
+pub mod Members
+pub mod Rows
+pub mod Targets
