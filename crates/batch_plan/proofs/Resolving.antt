@@ -1,5 +1,5 @@
 -- Both passes together give the batch's operations with the numbers of their names.
-use Rattle.std.proofs.Common.{◌≡◌, ℕ, List, [], ◌∷◌, length, Bool, true, false, cond, ◌&&◌, refl, sym, ap, subst, All, Option, Some, None, arith}
+use Rattle.std.proofs.Common.{◌≡◌, ℕ, List, [], ◌∷◌, length, map, Bool, true, false, cond, ◌&&◌, refl, sym, ap, subst, All, Option, Some, None, arith}
 use Rattle.graph_model.specs.Graph.{Key}
 use Rattle.graph_model.specs.Step.{number_of}
 use Rattle.graph_model.specs.declared.batches.NamedOp.{NamedOp}
@@ -8,7 +8,9 @@ use Rattle.block_layout.specs.Batches.{Resolved, is_known, resolve, resolved}
 use Rattle.std.proofs.lemmas.List.Elements.{All-nil, All-cons}
 use Rattle.batch_plan.specs.Shards.{IsPlaced}
 use Rattle.batch_plan.specs.declared.resolve.Ends.{Ends}
-use Rattle.batch_plan.specs.Plan.{known, ends_in, ends_all, key_from, with_kind, with_kinds}
+use Rattle.std.proofs.lemmas.List.{length-map}
+use Rattle.batch_plan.specs.declared.resolve.ResolvedOp.{ResolvedOp}
+use Rattle.batch_plan.specs.Plan.{known, shown, ends_in, ends_all, key_from, with_kind, with_kinds}
 
 key_cases : (a b c : Bool) (k s t : ℕ)
     → key_from (cond a (Some k) None) (cond b (Some s) None) (cond c (Some t) None) ≡ cond (a && (b && c)) (Some (let key : Key = record { kind = k; source = s; target = t } in key)) None
@@ -29,6 +31,16 @@ resolved_is (op ∷ ops) names kinds = λ i. one_resolved (names_after op names)
 pub as_many_ends : (ops : List NamedOp) (names : List (List ℕ)) → length (ends_all ops names) ≡ length ops
 as_many_ends [] names = refl
 as_many_ends (op ∷ ops) names = let rest = as_many_ends ops (names_after op names) in omega arith
+
+as_many_resolved : (ops : List NamedOp) (names kinds : List (List ℕ)) → length (resolved ops names kinds) ≡ length ops
+as_many_resolved [] names kinds = refl
+as_many_resolved (op ∷ ops) names kinds = let rest = as_many_resolved ops (names_after op names) (kinds_after op kinds) in omega arith
+
+-- as many operations are resolved as there are
+pub as_many_shown : (found : List ResolvedOp) (ops : List NamedOp) (names kinds : List (List ℕ)) → map shown found ≡ resolved ops names kinds → length found ≡ length ops
+as_many_shown found ops names kinds are =
+    let all : length (map shown found) ≡ length (resolved ops names kinds) = ap length are in
+    omega (arith, all, length-map found shown, as_many_resolved ops names kinds)
 
 placed_parts : (kind source target : Option ℕ) (k : Key) → key_from kind source target ≡ Some k → source ≡ Some k.source
 placed_parts None source target k e = cc

@@ -11,8 +11,8 @@ use Rattle.vertex_names.specs.declared.book.AddError.{AddError}
 use Rattle.vertex_names.specs.declared.book.AddError.TheVariants.{NamesFull, OutOfMemory}
 use Rattle.block_layout.specs.Operations.{source_name, target_name, kind_name, change_of, names_after, kinds_after}
 use Rattle.block_layout.specs.Batches.{Resolved, is_known}
-use Rattle.batch_plan.specs.declared.plan.PlanError.{PlanError}
-use Rattle.batch_plan.specs.declared.plan.PlanError.TheVariants as plan
+use Rattle.batch_plan.specs.declared.plans.PlanError.{PlanError}
+use Rattle.batch_plan.specs.declared.plans.PlanError.TheVariants as plan
 use Rattle.batch_plan.specs.declared.resolve.Ends.{Ends}
 use Rattle.batch_plan.specs.declared.resolve.EdgeKey.{EdgeKey}
 use Rattle.batch_plan.specs.declared.resolve.ResolvedOp.{ResolvedOp}

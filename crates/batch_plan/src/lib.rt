@@ -4,11 +4,17 @@
 //! fits, as in the batch rule.
 #![tactic(auto)]
 
-mod plan;
+mod laws;
+mod naming;
+mod planning;
+mod plans;
 mod resolve;
 mod shards;
 
-pub use plan::{PlanError, resolve_batch};
+pub use laws::law_sources_within;
+pub use naming::resolve_batch;
+pub use planning::plan;
+pub use plans::{Plan, PlanError};
 pub use resolve::{EdgeKey, ResolvedOp};
 pub use shards::shard_for;
 

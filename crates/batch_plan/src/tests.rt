@@ -1,10 +1,12 @@
 ghost use Rattle.std.specs.Prelude.{◌<◌, ◌≤◌};
 
-use crate::{PlanError, resolve_batch, shard_for};
-use graph_model::{Batch, Name, NamedOp, PushError, VertexId};
+use crate::{Plan, PlanError, law_sources_within, plan, resolve_batch};
+use graph_model::{Batch, Name, NamedOp, PushError};
+use graph_version::Version;
 use shard_work::Shard;
 use std::alloc::{AllocError, Global};
 use std::io::Print;
+use std::process::Abort;
 use std::test::Fail;
 use vertex_names::NameBook;
 
@@ -12,22 +14,23 @@ fn name(alloc: Global, text: &str) -> Result<Name, AllocError> {
     Ok(Name::of(String::from_str(alloc, text)?))
 }
 
-/// An operation of kind `k`: a removal, or an insertion of weight 1 at time 1.
+/// An operation: a removal, or an insertion of weight 1 at time 1.
 fn operation(
     alloc: Global,
     removes: bool,
+    kind: &str,
     source: &str,
     target: &str,
 ) -> Result<NamedOp, AllocError> {
     if removes {
         return Ok(NamedOp::Remove {
-            kind: name(alloc, "k")?,
+            kind: name(alloc, kind)?,
             source: name(alloc, source)?,
             target: name(alloc, target)?,
         });
     }
     Ok(NamedOp::Insert {
-        kind: name(alloc, "k")?,
+        kind: name(alloc, kind)?,
         source: name(alloc, source)?,
         target: name(alloc, target)?,
         weight: 1,
@@ -35,7 +38,15 @@ fn operation(
     })
 }
 
-/// Two insertions from different sources, a removal with an unknown source, and the first insertion again.
+fn push(batch: &mut Batch, op: Result<NamedOp, AllocError>) -> Result<(), PushError> {
+    match op {
+        Ok(op) => batch.push(op),
+        Err(AllocError) => Err(PushError::OutOfMemory),
+    }
+}
+
+/// Two insertions from different sources, a removal whose source is unknown, the first insertion again, and a removal
+/// whose target is unknown.
 fn batch(alloc: Global) -> Result<Batch, PushError> {
     let mut batch = Batch::new(alloc);
     for (removes, source, target) in [
@@ -43,94 +54,153 @@ fn batch(alloc: Global) -> Result<Batch, PushError> {
         (false, "b", "c"),
         (true, "z", "a"),
         (false, "a", "b"),
+        (true, "b", "z"),
     ] {
-        let Ok(op) = operation(alloc, removes, source, target) else {
-            return Err(PushError::OutOfMemory);
-        };
-        batch.push(op)?;
+        push(&mut batch, operation(alloc, removes, "k", source, target))?;
     }
     Ok(batch)
 }
 
-/// The batch's operations of a worker, on empty books of these limits.
+/// An insertion of a kind of its own.
+fn insertion_of_kind(alloc: Global, number: u32) -> Result<NamedOp, AllocError> {
+    operation(
+        alloc,
+        false,
+        format!(in alloc; "k{number}")?.as_str(),
+        "a",
+        "b",
+    )
+}
+
+/// Insertions of so many kinds.
+fn batch_of_kinds(alloc: Global, kinds: u32) -> Result<Batch, PushError> {
+    let mut batch = Batch::new(alloc);
+    for number in 0..kinds {
+        push(&mut batch, insertion_of_kind(alloc, number))?;
+    }
+    Ok(batch)
+}
+
+/// The plan of a batch, if it was built, over the version without batches.
 fn planned(
     alloc: Global,
-    limits: (u32, u32),
+    batch: Result<Batch, PushError>,
     workers: usize,
-    worker: usize,
-) -> Result<Shard, PlanError>
-    requires kinds { limits.1 ≤ 64 }
-    requires workers { 0 < workers }
+) -> Result<Plan, PlanError> {
+    match batch {
+        Ok(batch) if workers > 0 => plan(alloc, &Version::empty(alloc), &batch, workers),
+        _ => Err(PlanError::OutOfMemory),
+    }
+}
+
+/// Each operation's place in the batch and its source's place in the shard, `-` where a name is unknown; then the
+/// sources.
+fn shard_text(alloc: Global, shard: &Shard) -> Result<String, AllocError> {
+    let mut text = String::new(alloc);
+    for step in &shard.steps {
+        let op = step.op;
+        let word = match step.place {
+            Some(place) => format!(in alloc; "{op}@{} ", place.row)?,
+            None => format!(in alloc; "{op}@- ")?,
+        };
+        text.push_str(word.as_str())?;
+    }
+    text.push_str("of")?;
+    for source in &shard.sources {
+        text.push_str(format!(in alloc; " {}", source.0)?.as_str())?;
+    }
+    Ok(text)
+}
+
+/// These are the plan's shards, a line each; each has no fresh block.
+fn check_shards(rt: &impl Abort, alloc: Global, plan: &Plan, table: &str) -> Result<(), Fail> {
+    let mut lines = table.lines();
+    for shard in &plan.shards {
+        assert!(rt; shard.fresh.is_empty());
+        assert_eq!(rt; Some(shard_text(alloc, shard)?.as_str()), lines.next());
+    }
+    assert_eq!(rt; lines.next(), None);
+    Ok(())
+}
+
+/// A vertex's operations are those of the worker of its number modulo the workers; the one with the unknown source is
+/// worker 0's, and the one with the unknown target its source's worker's.
+#[test]
+fn plans_by_source(rt: HostRuntime) -> Result<(), Fail> {
+    let alloc = rt.alloc();
+    for (workers, table) in [
+        (1, "0@0 1@1 2@- 3@0 4@- of 0 1"),
+        (2, "0@0 2@- 3@0 of 0\n1@0 4@- of 1"),
+        (4, "0@0 2@- 3@0 of 0\n1@0 4@- of 1\nof\nof"),
+        (8, "0@0 2@- 3@0 of 0\n1@0 4@- of 1\nof\nof\nof\nof\nof\nof"),
+    ] {
+        check_shards(&rt, alloc, &planned(alloc, batch(alloc), workers)?, table)?;
+    }
+    Ok(())
+}
+
+/// A plan has the names that the insertions make, and no others.
+#[test]
+fn plans_the_names(rt: HostRuntime) -> Result<(), Fail> {
+    let plan = planned(rt.alloc(), batch(rt.alloc()), 2)?;
+    assert_eq!(rt; (plan.names.len(), plan.kinds.len()), (3, 1));
+    assert_eq!(rt; plan.names.number("c"), Some(2));
+    assert_eq!(rt; plan.names.number("z"), None);
+    assert_eq!(rt; plan.kinds.number("k"), Some(0));
+    law_sources_within();
+    Ok(())
+}
+
+/// The kinds of a plan for one worker.
+fn kinds_of(alloc: Global, kinds: u32) -> Result<usize, PlanError> {
+    match planned(alloc, batch_of_kinds(alloc, kinds), 1) {
+        Ok(plan) => Ok(plan.kinds.len()),
+        Err(error) => Err(error),
+    }
+}
+
+#[test]
+fn refuses_a_kind_too_many(rt: HostRuntime) {
+    assert_eq!(rt; kinds_of(rt.alloc(), 64), Ok(64));
+    assert_eq!(rt; kinds_of(rt.alloc(), 65), Err(PlanError::KindsFull));
+}
+
+/// How many operations are resolved, on empty books of these limits.
+fn resolved(alloc: Global, names: u32, kinds: u32) -> Result<usize, PlanError>
+    requires { kinds ≤ 64 }
 {
     let Ok(batch) = batch(alloc) else {
         return Err(PlanError::OutOfMemory);
     };
-    let mut names = NameBook::new(alloc, limits.0);
-    let mut kinds = NameBook::new(alloc, limits.1);
-    let ops = resolve_batch(alloc, &mut names, &mut kinds, batch.ops())?;
-    if ops.len() > 4096 {
-        return Err(PlanError::OutOfMemory);
-    }
-    match shard_for(alloc, workers, worker, ops.as_slice()) {
-        Ok(shard) => Ok(shard),
-        Err(AllocError) => Err(PlanError::OutOfMemory),
-    }
-}
-
-/// Each operation is its source's worker's, with its place in the batch; the one with the unknown source is worker 0's.
-#[test]
-fn plans_by_source(rt: HostRuntime) -> Result<(), Fail> {
-    let even = planned(rt.alloc(), (3, 1), 2, 0)?;
-    let mut steps = even
-        .steps
-        .as_slice()
-        .iter()
-        .map(|step| (step.op, step.place.is_some()));
-    assert_eq!(rt; steps.next(), Some((0, true)));
-    assert_eq!(rt; steps.next(), Some((2, false)));
-    assert_eq!(rt; steps.next(), Some((3, true)));
-    assert_eq!(rt; steps.next(), None);
-    assert_eq!(rt; even.sources.as_slice(), [VertexId(0)].as_slice());
-    Ok(())
-}
-
-#[test]
-fn plans_the_other_worker(rt: HostRuntime) -> Result<(), Fail> {
-    let odd = planned(rt.alloc(), (3, 1), 2, 1)?;
-    let mut steps = odd
-        .steps
-        .as_slice()
-        .iter()
-        .map(|step| (step.op, step.place.is_some()));
-    assert_eq!(rt; steps.next(), Some((1, true)));
-    assert_eq!(rt; steps.next(), None);
-    assert_eq!(rt; odd.sources.as_slice(), [VertexId(1)].as_slice());
-    Ok(())
+    let mut names = NameBook::new(alloc, names);
+    let mut kinds = NameBook::new(alloc, kinds);
+    Ok(resolve_batch(alloc, &mut names, &mut kinds, batch.ops())?.len())
 }
 
 /// Three names and one kind against books that are too small for them: the names come first.
 #[test]
-fn meets_the_limit_of_names_before_that_of_kinds(rt: HostRuntime) -> Result<(), Fail> {
-    assert_eq!(rt;
-        planned(rt.alloc(), (2, 0), 1, 0).err(),
-        Some(PlanError::NamesFull)
-    );
-    assert_eq!(rt;
-        planned(rt.alloc(), (3, 0), 1, 0).err(),
-        Some(PlanError::KindsFull)
-    );
-    Ok(())
+fn meets_the_limit_of_names_before_that_of_kinds(rt: HostRuntime) {
+    let alloc = rt.alloc();
+    assert_eq!(rt; resolved(alloc, 2, 0), Err(PlanError::NamesFull));
+    assert_eq!(rt; resolved(alloc, 3, 0), Err(PlanError::KindsFull));
+    assert_eq!(rt; resolved(alloc, 3, 1), Ok(5));
 }
 
-/// Where memory is refused there is no shard; the books that it was planned by are let go with it.
+/// Where memory is refused there is no plan, and the version has no more names than before.
 #[test]
-fn refused_plan_gives_the_batch_up(rt: HostRuntime) -> Result<(), Fail> {
-    match planned(rt.alloc(), (3, 1), 2, 0) {
-        Ok(shard) => assert_eq!(rt; shard.steps.len(), 3),
+fn refused_plan_leaves_the_version(rt: HostRuntime) -> Result<(), Fail> {
+    let version = Version::empty(rt.alloc());
+    let Ok(batch) = batch(rt.alloc()) else {
+        println!(rt; "refused")?;
+        return Ok(());
+    };
+    match plan(rt.alloc(), &version, &batch, 2) {
+        Ok(plan) => assert_eq!(rt; plan.shards.len(), 2),
         Err(error) => {
             assert_eq!(rt; error, PlanError::OutOfMemory);
             println!(rt; "refused")?;
         }
     }
+    assert_eq!(rt; (version.names().len(), version.kinds().len()), (0, 0));
     Ok(())
 }

@@ -7,22 +7,11 @@ ghost use Rattle.batch_plan.specs.Shards.{IsPlaced};
 ghost use Rattle.block_layout.specs.Batches.{resolved};
 ghost use Rattle.batch_plan.specs.Plan.{names_all, kinds_all, shown, with_names, IsUnplanned};
 
+use crate::plans::PlanError;
 use crate::resolve::{ResolvedOp, ends_of, with_kinds};
 use graph_model::NamedOp;
 use std::alloc::Global;
-use thiserror::Error;
 use vertex_names::{AddError, NameBook};
-
-/// Why a batch was not planned.
-#[derive(Clone, Copy, Debug, PartialEq, Eq, Error)]
-pub enum PlanError {
-    #[error("the batch would leave more vertex names than the limit")]
-    NamesFull,
-    #[error("the batch would leave more kinds than the limit")]
-    KindsFull,
-    #[error("out of memory")]
-    OutOfMemory,
-}
 
 /// A batch's operations with the numbers of their names, each by the names at its place; the books then have the names
 /// that the batch leaves.

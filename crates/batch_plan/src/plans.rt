@@ -1,0 +1,40 @@
+//! What a plan is, and why there may be none.
+
+ghost use Rattle.std.specs.Prelude.{◌≡◌};
+
+use shard_work::Shard;
+use std::alloc::AllocError;
+use thiserror::Error;
+use vertex_names::NameBook;
+
+/// What the workers of a batch need of it.
+#[derive(Drop)]
+pub struct Plan {
+    /// The vertex names that the batch leaves.
+    pub names: NameBook,
+    /// The kind names that the batch leaves.
+    pub kinds: NameBook,
+    /// The batch's operations by worker: a shard for each worker, in order, without fresh blocks.
+    pub shards: Vec<Shard>,
+}
+
+/// Why a batch was not planned.
+#[derive(Clone, Copy, Debug, PartialEq, Eq, Error)]
+pub enum PlanError {
+    #[error("the batch would leave more vertex names than the limit")]
+    NamesFull,
+    #[error("the batch would leave more kinds than the limit")]
+    KindsFull,
+    #[error("out of memory")]
+    OutOfMemory,
+}
+
+impl From<AllocError> for PlanError {
+    ghost use Rattle.batch_plan.specs.declared.plans.PlanError.TheVariants.{OutOfMemory};
+
+    ghost from_gives = { λ _ e. e ≡ OutOfMemory };
+
+    fn from(_refused: AllocError) -> PlanError {
+        PlanError::OutOfMemory
+    }
+}
