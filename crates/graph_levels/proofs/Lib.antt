@@ -1,4 +1,3 @@
-pub mod Arcs
 pub mod Frontiers
 pub mod Targets
 pub mod Trees

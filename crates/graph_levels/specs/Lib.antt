@@ -1,4 +1,3 @@
 pub mod Forest
-pub mod Listed
 pub mod Search
 pub mod Visit

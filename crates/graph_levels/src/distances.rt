@@ -5,9 +5,9 @@ ghost use Rattle.graph_model.specs.Analyses.{AreLevels, LeadsTo};
 ghost use Rattle.graph_levels.specs.Visit.{visited};
 ghost use Rattle.graph_levels.specs.Search.{IsSearch, unreached};
 
-use crate::source::ViewEdges;
 use graph_model::VertexId;
 use std::alloc::{AllocError, Global};
+use view_edges::ViewEdges;
 
 /// Gives the level to each target that has none, and adds it to the next frontier.
 fn visit(
@@ -78,11 +78,11 @@ fn search<R: ViewEdges>(
 }
 
 /// The level of each vertex from the source, in number order: the least number of edges of a walk in the view, each taken
-/// from its source to its target, and none where no walk leads there.
+/// from its source to its target, and none where no walk leads there. The source is a vertex.
 ///
 /// A breadth-first search: each vertex that a walk reaches is asked for its targets once. The table comes before the work;
 /// beside it there are two frontiers and one vertex's targets. The error is want of memory.
-pub fn levels<R: ViewEdges>(
+pub fn levels_over<R: ViewEdges>(
     alloc: Global,
     edges: &R,
     source: VertexId,

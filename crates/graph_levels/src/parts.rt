@@ -7,8 +7,8 @@ ghost use Rattle.graph_model.specs.Graph.{Graph};
 ghost use Rattle.graph_model.specs.declared.ids.Filter.{Filter};
 ghost use Rattle.graph_levels.specs.Forest.{parent, IsForest, IsSound, Respects};
 
-use crate::source::ViewEdges;
 use std::alloc::{AllocError, Global};
+use view_edges::ViewEdges;
 
 /// The root of a vertex. The path to it gets shorter: each vertex on it is put below its parent's parent.
 fn find(parents: &mut [u32], start: u32) -> u32
@@ -109,7 +109,7 @@ fn own_parents(alloc: Global, count: u32) -> Result<Vec<u32>, AllocError>
 /// Trees of vertices, joined along each edge (Tarjan, Efficiency of a good but not linear set union algorithm, 1975), with
 /// the least vertex of a tree at its root. Each vertex is asked for its targets once. The table comes before the work;
 /// beside it there is one vertex's targets. The error is want of memory.
-pub fn labels<R: ViewEdges>(alloc: Global, edges: &R) -> Result<Vec<u32>, AllocError>
+pub fn labels_over<R: ViewEdges>(alloc: Global, edges: &R) -> Result<Vec<u32>, AllocError>
     ensures { IfOk result (λ labels. AreLabels (R.filter edges.now) (R.graph edges.now) labels.items) }
 {
     let count = edges.vertex_count() as u32;

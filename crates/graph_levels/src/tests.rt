@@ -1,9 +1,11 @@
 //! Levels and labels of small views, with values written by hand from the definitions, and of a long path.
 
-use crate::{ListedArcs, labels, levels};
-use graph_model::VertexId;
+use crate::{LevelError, labels, labels_over, levels, levels_over};
+use graph_model::{Filter, VertexId};
+use graph_version::Version;
 use std::alloc::{AllocError, Global};
 use std::test::Fail;
+use view_edges::ListedArcs;
 
 /// How many vertices, the arcs, the source, the levels from it, and the labels.
 type Case = (
@@ -31,7 +33,7 @@ fn are_levels(
     if source >= edges.count as u32 {
         return Some(false);
     }
-    match levels(alloc, edges, VertexId(source)) {
+    match levels_over(alloc, edges, VertexId(source)) {
         Ok(levels) => Some(levels.as_slice() == wanted),
         Err(AllocError) => None,
     }
@@ -39,60 +41,62 @@ fn are_levels(
 
 /// Whether these are the labels; nothing where memory is refused.
 fn are_labels(alloc: Global, edges: &ListedArcs, wanted: &[u32]) -> Option<bool> {
-    match labels(alloc, edges) {
+    match labels_over(alloc, edges) {
         Ok(labels) => Some(labels.as_slice() == wanted),
         Err(AllocError) => None,
     }
 }
 
+/// Small views.
+const CASES: [Case; 7] = [
+    // a triangle with a tail, from its corner and from the tail's end
+    (
+        4,
+        &[(0, 1), (1, 2), (2, 0), (2, 3)],
+        0,
+        &[Some(0), Some(1), Some(2), Some(3)],
+        &[0, 0, 0, 0],
+    ),
+    (
+        4,
+        &[(0, 1), (1, 2), (2, 0), (2, 3)],
+        3,
+        &[None, None, None, Some(0)],
+        &[0, 0, 0, 0],
+    ),
+    // levels go by direction, and labels against it too
+    (2, &[(1, 0)], 0, &[Some(0), None], &[0, 0]),
+    // loops, and an arc twice
+    (
+        4,
+        &[(0, 0), (0, 1), (0, 1), (2, 2)],
+        0,
+        &[Some(0), Some(1), None, None],
+        &[0, 0, 2, 3],
+    ),
+    // the shorter of two ways
+    (
+        5,
+        &[(0, 1), (1, 2), (2, 3), (0, 3), (3, 4)],
+        0,
+        &[Some(0), Some(1), Some(2), Some(1), Some(2)],
+        &[0, 0, 0, 0, 0],
+    ),
+    // trees that are joined by their ends
+    (
+        6,
+        &[(3, 4), (1, 2), (2, 4)],
+        3,
+        &[None, None, None, Some(0), Some(1), None],
+        &[0, 1, 1, 1, 1, 5],
+    ),
+    // one vertex, and an arc to none
+    (1, &[(0, 1)], 0, &[Some(0)], &[0]),
+];
+
 #[test]
 fn small_views_have_their_levels_and_labels(rt: HostRuntime) -> Result<(), Fail> {
-    let cases: [Case; 7] = [
-        // a triangle with a tail, from its corner and from the tail's end
-        (
-            4,
-            &[(0, 1), (1, 2), (2, 0), (2, 3)],
-            0,
-            &[Some(0), Some(1), Some(2), Some(3)],
-            &[0, 0, 0, 0],
-        ),
-        (
-            4,
-            &[(0, 1), (1, 2), (2, 0), (2, 3)],
-            3,
-            &[None, None, None, Some(0)],
-            &[0, 0, 0, 0],
-        ),
-        // levels go by direction, and labels against it too
-        (2, &[(1, 0)], 0, &[Some(0), None], &[0, 0]),
-        // loops, and an arc twice
-        (
-            4,
-            &[(0, 0), (0, 1), (0, 1), (2, 2)],
-            0,
-            &[Some(0), Some(1), None, None],
-            &[0, 0, 2, 3],
-        ),
-        // the shorter of two ways
-        (
-            5,
-            &[(0, 1), (1, 2), (2, 3), (0, 3), (3, 4)],
-            0,
-            &[Some(0), Some(1), Some(2), Some(1), Some(2)],
-            &[0, 0, 0, 0, 0],
-        ),
-        // trees that are joined by their ends
-        (
-            6,
-            &[(3, 4), (1, 2), (2, 4)],
-            3,
-            &[None, None, None, Some(0), Some(1), None],
-            &[0, 1, 1, 1, 1, 5],
-        ),
-        // one vertex, and an arc to none
-        (1, &[(0, 1)], 0, &[Some(0)], &[0]),
-    ];
-    for (count, arcs, source, wanted_levels, wanted_labels) in cases {
+    for (count, arcs, source, wanted_levels, wanted_labels) in CASES {
         let edges = view(rt.alloc(), count, arcs)?;
         assert_eq!(rt;
             are_levels(rt.alloc(), &edges, source, wanted_levels),
@@ -127,11 +131,11 @@ fn path_ends(alloc: Global, count: u16) -> Option<(Option<u32>, Option<u32>)> {
         return None;
     }
     let far = {
-        let levels = levels(alloc, &edges, VertexId(last)).ok()?;
-        levels.first().copied()?
+        let table = levels_over(alloc, &edges, VertexId(last)).ok()?;
+        table.first().copied()?
     };
-    let labels = labels(alloc, &edges).ok()?;
-    Some((far, labels.last().copied()))
+    let least = labels_over(alloc, &edges).ok()?;
+    Some((far, least.last().copied()))
 }
 
 #[test]
@@ -161,5 +165,19 @@ fn refused_tables_leave_the_view(rt: HostRuntime) -> Result<(), Fail> {
             println!(rt; "refused")?;
         }
     }
+    Ok(())
+}
+
+#[test]
+fn a_version_without_vertices(rt: HostRuntime) -> Result<(), Fail> {
+    let version = Version::empty(rt.alloc());
+    let view = Filter {
+        kind: None,
+        lo: 0,
+        hi: u64::MAX,
+    };
+    let refused = levels(rt.alloc(), &version, VertexId(0), &view).err();
+    assert_eq!(rt; refused, Some(LevelError::NoVertex));
+    assert_eq!(rt; labels(rt.alloc(), &version, &view)?.len(), 0);
     Ok(())
 }

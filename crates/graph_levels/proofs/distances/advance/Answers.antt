@@ -1,4 +1,4 @@
-use Rattle.std.proofs.Common.{◌≡◌, ◌<◌, ◌+◌, ◌∷◌, List, Option, arith, length, ◌∙◌, sym, ap, get_or, ℕ, subst, inl, inr, drop, drop-cons, add-one}
+use Rattle.std.proofs.Common.{◌≡◌, ◌<◌, ◌+◌, ◌∷◌, List, Option, arith, length, ◌∙◌, sym, get_or, ℕ, subst, drop, drop-cons, add-one}
 use Rattle.std.specs.Prelude.{All}
 use Rattle.graph_model.specs.Analyses.{LeadsTo}
 use Rattle.graph_levels.specs.Search.{IsSearch, IsReached, unreached}

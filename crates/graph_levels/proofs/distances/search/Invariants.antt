@@ -1,4 +1,4 @@
-use Rattle.std.proofs.Common.{◌≡◌, ℕ, ◌+◌, ◌≤◌, [], length}
+use Rattle.std.proofs.Common.{◌+◌, ◌≤◌, [], length}
 use Rattle.graph_levels.specs.Search.{IsSearch, unreached}
 use Rattle.graph_levels.proofs.distances.search.Given as goal
 

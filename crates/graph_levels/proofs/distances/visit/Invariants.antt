@@ -1,4 +1,4 @@
-use Rattle.std.proofs.Common.{◌≡◌, drop, length, All, ◌<◌}
+use Rattle.std.proofs.Common.{◌≡◌, drop}
 use Rattle.graph_levels.specs.Visit.{visited}
 use Rattle.graph_levels.proofs.distances.visit.Given as goal
 

@@ -1,8 +1,6 @@
-use Rattle.std.proofs.Common.{◌<◌, ◌≤◌, ◌≡◌, arith, length, ◌∙◌, get_or}
-use Rattle.graph_model.specs.Analyses.{Connects}
-use Rattle.graph_levels.proofs.Trees.{up_is, up, halved_roots, halved_forest, halved_respects, halved_sound, halved_connects, read}
-use Rattle.graph_levels.proofs.Walks.{then, itself}
-use Rattle.graph_levels.specs.Forest.{parent}
+use Rattle.std.proofs.Common.{◌<◌, arith, length, ◌∙◌}
+use Rattle.graph_levels.proofs.Trees.{up_is, halved_roots, halved_forest, halved_respects, halved_sound, halved_connects}
+use Rattle.graph_levels.proofs.Walks.{then}
 use Rattle.graph_levels.proofs.parts.find.Goals as goal
 
 pub bounds-parents-parents : goal.bounds-parents-parents

@@ -1,5 +1,5 @@
-use Rattle.std.proofs.Common.{◌<◌, ◌≤◌, ◌≡◌, arith, length, ◌∙◌, get_or}
-use Rattle.graph_levels.proofs.Trees.{up_is, up, halved_forest, halved_respects, halved_sound, halved_flat, flat_all}
+use Rattle.std.proofs.Common.{◌<◌, arith, length}
+use Rattle.graph_levels.proofs.Trees.{up_is, halved_forest, halved_respects, halved_sound, halved_flat}
 use Rattle.graph_levels.proofs.parts.flatten.Goals as goal
 
 pub bounds-parents-parents : goal.bounds-parents-parents

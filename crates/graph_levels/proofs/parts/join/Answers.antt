@@ -1,8 +1,7 @@
-use Rattle.std.proofs.Common.{◌<◌, ◌≤◌, ◌≡◌, arith, length, ◌∙◌, sym, get_or, ℕ, List}
+use Rattle.std.proofs.Common.{◌<◌, arith, length, ◌∙◌, sym, ℕ}
 use Rattle.graph_model.specs.Graph.{Graph}
 use Rattle.graph_model.specs.Analyses.{Connects, Joins}
 use Rattle.graph_model.specs.declared.ids.Filter.{Filter}
-use Rattle.graph_levels.specs.Forest.{parent, IsForest, IsSound, Respects}
 use Rattle.graph_levels.proofs.Trees.{respects_linked, linked_same, sound_set}
 use Rattle.graph_levels.proofs.Walks.{then, one_step, backward}
 use Rattle.graph_levels.proofs.parts.join.Goals as goal

@@ -1,7 +1,6 @@
-use Rattle.std.proofs.Common.{◌<◌, ◌≤◌, ◌≡◌, arith, length, ◌∙◌, sym, ap, get_or, ℕ, List, take, subst}
+use Rattle.std.proofs.Common.{◌<◌, ◌≡◌, arith, length, get_or, ℕ, subst}
 use Rattle.std.proofs.lemmas.List.{take_all}
-use Rattle.std.proofs.lemmas.List.Elements.{All-more, All-same}
-use Rattle.graph_model.specs.Analyses.{Joins}
+use Rattle.std.proofs.lemmas.List.Elements.{All-more}
 use Rattle.graph_levels.proofs.parts.join_all.Goals as goal
 
 pub loop-target-preserved : goal.loop-target-preserved

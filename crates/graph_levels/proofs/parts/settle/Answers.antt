@@ -1,8 +1,7 @@
-use Rattle.std.proofs.Common.{◌≡◌, ◌<◌, arith, length, ◌∙◌, sym, ap, get_or, ℕ, subst, inl, inr}
+use Rattle.std.proofs.Common.{◌≡◌, ◌<◌, arith, length, ◌∙◌, sym, ap, get_or, subst, inl, inr}
 use Rattle.std.specs.Prelude.{All}
 use Rattle.std.proofs.lemmas.Bool.{cases_lt}
-use Rattle.std.proofs.lemmas.List.Elements.{All-weaker}
-use Rattle.graph_model.specs.Analyses.{LeadsTo, Joins}
+use Rattle.graph_model.specs.Analyses.{LeadsTo}
 use Rattle.graph_levels.specs.Forest.{parent, Respects}
 use Rattle.graph_levels.proofs.Targets.{told, each_target}
 use Rattle.graph_levels.proofs.Walks.{flat_trees}

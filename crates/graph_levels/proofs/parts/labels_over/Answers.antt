@@ -1,10 +1,9 @@
-use Rattle.std.proofs.Common.{◌≡◌, ◌++◌, arith, length, ◌∙◌, sym, ap, ℕ, subst, take, drop}
-use Rattle.std.specs.List.{range_with_len}
+use Rattle.std.proofs.Common.{◌≡◌, length, ◌∙◌, sym, ap, subst, drop}
 use Rattle.std.proofs.lemmas.List.{take_at}
 use Rattle.std.proofs.lemmas.List.FromFn.{length-range_with_len}
 use Rattle.graph_model.specs.Analyses.{IsTable, IsLabel}
 use Rattle.graph_levels.proofs.Trees.{fresh_forest, fresh_sound}
-use Rattle.graph_levels.proofs.parts.labels.Goals as goal
+use Rattle.graph_levels.proofs.parts.labels_over.Goals as goal
 
 pub settle-requires-clause-forest : goal.settle-requires-clause-forest
 settle-requires-clause-forest g c = fresh_forest c.vertex_count-count.result _ (c.deref_mut.ensures.value ∙ c.in_ok-labels.ensures)
