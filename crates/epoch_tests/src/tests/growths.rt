@@ -134,6 +134,27 @@ fn is_after_some(alloc: Global, core: &Core, events: &[Event]) -> Result<bool, F
     Ok(is_after)
 }
 
+/// Runs through the events. Where a growth was refused, what is seen is what is seen after some of them.
+fn check_run(
+    rt: &(impl Abort + Print),
+    alloc: Global,
+    core: &mut Core,
+    events: &[Event],
+) -> Result<(), Fail>
+    requires { 0 < length core.old.world.sessions }
+{
+    match run(core, events) {
+        Ok(done) => {
+            assert_eq!(rt; done, 5);
+            Ok(())
+        }
+        Err(_) => {
+            assert!(rt; is_after_some(alloc, core, events)?);
+            refused(rt)
+        }
+    }
+}
+
 #[test]
 fn refused_run_stands_after_the_events_before(rt: HostRuntime) -> Result<(), Fail> {
     let alloc = rt.alloc();
@@ -143,14 +164,5 @@ fn refused_run_stands_after_the_events_before(rt: HostRuntime) -> Result<(), Fai
     let Ok(events) = entering(alloc) else {
         return refused(&rt);
     };
-    match run(&mut core, events.as_slice()) {
-        Ok(done) => {
-            assert_eq!(rt; done, 5);
-            Ok(())
-        }
-        Err(_) => {
-            assert!(rt; is_after_some(alloc, &core, events.as_slice())?);
-            refused(&rt)
-        }
-    }
+    check_run(&rt, alloc, &mut core, events.as_slice())
 }

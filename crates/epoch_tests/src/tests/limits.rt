@@ -1,72 +1,73 @@
 // The limits that a Post meets.
 
-use super::lines::check_line;
+use super::lines::check_new;
 use super::parts::event;
 use epoch_core::{Core, Step};
 use std::alloc::{AllocError, Global};
+use std::process::Abort;
 use std::test::Fail;
 
-// A Post of insertions of an edge from a to b, of each of this many kinds, on these blocks.
-fn post(alloc: Global, kinds: u8, blocks: &str) -> Result<String, AllocError> {
-    let mut line = String::from_str(alloc, "post")?;
-    for kind in 0..kinds {
-        line.push_str(format!(in alloc; " i,kind{kind},a,b,1,1")?.as_str())?;
-    }
-    line.push_str(blocks)?;
-    Ok(line)
+// A line of events: what it begins with, the kinds from the first one up to the last of which it has an edge from a
+// to b each, and what it ends with.
+const KIND_LINES: [(&str, u8, u8, &str); 6] = [
+    ("fill 0", 0, 63, " => done\n"),
+    ("fill 1", 64, 64, " => done\n"),
+    ("post", 0, 64, " | 0 1 => skipped\n"),
+    ("post", 0, 63, " | 0 => done\n"),
+    ("post", 0, 64, " | 0 1 => skipped\n"),
+    ("post", 0, 63, " | 0 => done\n"),
+];
+
+// The edge of a kind: its insertion in a Post, and itself in a Fill.
+fn push_edge(alloc: Global, text: &mut String, begin: &str, kind: u8) -> Result<(), AllocError> {
+    let edge = if begin == "post" {
+        format!(in alloc; " i,kind{kind},a,b,1,1")?
+    } else {
+        format!(in alloc; " {kind},0,1,1,1,1")?
+    };
+    text.push_str(edge.as_str())
 }
 
-// A Fill of a block with those edges, of the kinds from `from` on.
-fn fill(alloc: Global, block: u8, from: u8, to: u8) -> Result<String, AllocError> {
-    let mut line = format!(in alloc; "fill {block}")?;
-    for kind in from..to {
-        line.push_str(format!(in alloc; " {kind},0,1,1,1,1")?.as_str())?;
+fn push_line(
+    alloc: Global,
+    text: &mut String,
+    line: (&str, u8, u8, &str),
+) -> Result<(), AllocError> {
+    let (begin, first, last, end) = line;
+    text.push_str(begin)?;
+    for kind in first..=last {
+        push_edge(alloc, text, begin, kind)?;
     }
-    line.push_str(" => done")?;
-    Ok(line)
+    text.push_str(end)
+}
+
+fn kind_lines(alloc: Global) -> Result<String, AllocError> {
+    let mut text = String::from_str(alloc, "take 0 => done\ntake 1 => done\n")?;
+    for line in KIND_LINES {
+        push_line(alloc, &mut text, line)?;
+    }
+    Ok(text)
 }
 
 #[test]
 fn posts_at_most_64_kinds(rt: HostRuntime) -> Result<(), Fail> {
     let alloc = rt.alloc();
-    let mut core = Core::new(alloc, 1, 2)?;
-    check_line(&rt, alloc, &mut core, "take 0 => done")?;
-    check_line(&rt, alloc, &mut core, "take 1 => done")?;
-    check_line(&rt, alloc, &mut core, fill(alloc, 0, 0, 64)?.as_str())?;
-    check_line(&rt, alloc, &mut core, fill(alloc, 1, 64, 65)?.as_str())?;
-    check_line(
-        &rt,
-        alloc,
-        &mut core,
-        post(alloc, 65, " | 0 1 => skipped")?.as_str(),
-    )?;
-    check_line(
-        &rt,
-        alloc,
-        &mut core,
-        post(alloc, 64, " | 0 => done")?.as_str(),
-    )?;
-    check_line(
-        &rt,
-        alloc,
-        &mut core,
-        post(alloc, 65, " | 0 1 => skipped")?.as_str(),
-    )?;
-    check_line(
-        &rt,
-        alloc,
-        &mut core,
-        post(alloc, 64, " | 0 => done")?.as_str(),
-    )
+    let story = kind_lines(alloc)?;
+    let story = story.as_str();
+    check_new(&rt, alloc, 1, 2, &[story])
+}
+
+fn check_batches(rt: &impl Abort, alloc: Global, core: &mut Core) -> Result<(), Fail> {
+    for _ in 0..65_536u32 {
+        assert_eq!(rt; core.step(event(alloc, "post |")?)?, Step::Done);
+    }
+    assert_eq!(rt; core.step(event(alloc, "post |")?)?, Step::Skipped);
+    Ok(())
 }
 
 #[test]
 fn posts_at_most_65536_batches(rt: HostRuntime) -> Result<(), Fail> {
     let alloc = rt.alloc();
     let mut core = Core::new(alloc, 1, 1)?;
-    for _ in 0..65_536u32 {
-        assert_eq!(rt; core.step(event(alloc, "post |")?)?, Step::Done);
-    }
-    assert_eq!(rt; core.step(event(alloc, "post |")?)?, Step::Skipped);
-    Ok(())
+    check_batches(&rt, alloc, &mut core)
 }

@@ -1,8 +1,8 @@
 // Every event in every state of a session and of a block, by the rules of the events.
 
-ghost use Rattle.std.specs.Prelude.{◌≡◌, ◌<◌, length};
+ghost use Rattle.std.specs.Prelude.{◌≡◌, length};
 
-use super::lines::{check, check_line};
+use super::lines::{check_new, check_table};
 use super::parts::event;
 use epoch_core::{Core, Step};
 use std::alloc::Global;
@@ -77,10 +77,8 @@ fn each_event_in_each_state_of_a_session(rt: HostRuntime) -> Result<(), Fail> {
     let alloc = rt.alloc();
     for row in SESSION_ROWS.lines() {
         let (state, line) = row.split_once(", ").ok_or("no state")?;
-        let mut core = Core::new(alloc, 1, 1)?;
-        check(&rt, alloc, &mut core, VERSION)?;
-        check(&rt, alloc, &mut core, session_setup(state))?;
-        check_line(&rt, alloc, &mut core, line)?;
+        let setup = session_setup(state);
+        check_new(&rt, alloc, 1, 1, &[VERSION, setup, line])?;
     }
     Ok(())
 }
@@ -123,9 +121,7 @@ fn block_setup(state: &str) -> &'static str {
     }
 }
 
-fn is_done(alloc: Global, core: &mut Core, line: &str) -> Result<bool, Fail>
-    ensures { length core.new.world.sessions ≡ length core.old.world.sessions }
-{
+fn is_done(alloc: Global, core: &mut Core, line: &str) -> Result<bool, Fail> {
     Ok(core.step(event(alloc, line)?)? == Step::Done)
 }
 
@@ -145,16 +141,27 @@ fn status(alloc: Global, core: &mut Core) -> Result<&'static str, Fail> {
     Ok("used")
 }
 
+fn check_block(rt: &impl Abort, alloc: Global, core: &mut Core, row: &str) -> Result<(), Fail>
+    requires { length core.old.world.sessions ≡ 1 }
+{
+    let (state, rest) = row.split_once(", ").ok_or("no state")?;
+    let (line, after) = rest.split_once("; ").ok_or("no status")?;
+    check_table(rt, alloc, core, 1, block_setup(state))?;
+    check_table(rt, alloc, core, 1, line)?;
+    assert_eq!(rt; status(alloc, core)?, after, "{row}");
+    Ok(())
+}
+
+fn check_block_row(rt: &impl Abort, alloc: Global, row: &str) -> Result<(), Fail> {
+    let mut core = Core::new(alloc, 1, 1)?;
+    check_block(rt, alloc, &mut core, row)
+}
+
 #[test]
 fn each_event_in_each_state_of_a_block(rt: HostRuntime) -> Result<(), Fail> {
     let alloc = rt.alloc();
     for row in BLOCK_ROWS.lines() {
-        let (state, rest) = row.split_once(", ").ok_or("no state")?;
-        let (line, after) = rest.split_once("; ").ok_or("no status")?;
-        let mut core = Core::new(alloc, 1, 1)?;
-        check(&rt, alloc, &mut core, block_setup(state))?;
-        check_line(&rt, alloc, &mut core, line)?;
-        assert_eq!(rt; status(alloc, &mut core)?, after, "{row}");
+        check_block_row(&rt, alloc, row)?;
     }
     Ok(())
 }
@@ -177,10 +184,8 @@ floor => done";
 fn skips_what_is_out_of_range_in_each_state(rt: HostRuntime) -> Result<(), Fail> {
     let alloc = rt.alloc();
     for state in ["idle", "pinned", "holding", "asking", "reading", "settled"] {
-        let mut core = Core::new(alloc, 1, 1)?;
-        check(&rt, alloc, &mut core, VERSION)?;
-        check(&rt, alloc, &mut core, session_setup(state))?;
-        check(&rt, alloc, &mut core, OUT_OF_RANGE)?;
+        let setup = session_setup(state);
+        check_new(&rt, alloc, 1, 1, &[VERSION, setup, OUT_OF_RANGE])?;
     }
     Ok(())
 }

@@ -1,9 +1,12 @@
 // Runs of the machine as stories.
 
-use super::lines::{check, check_replies};
-use super::parts::event;
+ghost use Rattle.std.specs.Prelude.{◌≡◌, ◌<◌, length};
+
+use super::lines::check_new;
+use super::parts::{LineError, event, push};
 use epoch_core::{Core, Event, run};
 use std::alloc::{AllocError, Global};
+use std::process::Abort;
 use std::test::Fail;
 
 // A session pinned before the second version was posted; it holds that one, settles, and the first one's block is
@@ -25,14 +28,12 @@ ask 0 edge k a b => done
 read 0 => done
 reply 0 => done: 2 2 2 1
 release 0 => done: 2 - - 1
-release 0 => skipped: 2 - - 1";
+release 0 => skipped: 2 - - 1
+said 0 0 => edge 2 1 2";
 
 #[test]
 fn recycles_a_block_that_no_pin_needs(rt: HostRuntime) -> Result<(), Fail> {
-    let alloc = rt.alloc();
-    let mut core = Core::new(alloc, 1, 2)?;
-    check(&rt, alloc, &mut core, TWO_VERSIONS)?;
-    check_replies(&rt, alloc, core.replies(0), "edge 2 1 2")
+    check_new(&rt, rt.alloc(), 1, 2, &[TWO_VERSIONS])
 }
 
 // Posts whose blocks have other edges, none, an edge twice, or stand twice; the last one is right.
@@ -50,9 +51,7 @@ post i,k,a,b,1,1 | 0 1 => done";
 
 #[test]
 fn posts_only_what_the_batch_leaves(rt: HostRuntime) -> Result<(), Fail> {
-    let alloc = rt.alloc();
-    let mut core = Core::new(alloc, 1, 3)?;
-    check(&rt, alloc, &mut core, BAD_POSTS)
+    check_new(&rt, rt.alloc(), 1, 3, &[BAD_POSTS])
 }
 
 // Nine of these are done.
@@ -74,23 +73,40 @@ post |
 floor
 recycle 0";
 
-fn events(alloc: Global, table: &str) -> Result<Vec<Event>, Fail> {
+fn events(alloc: Global, table: &str) -> Result<Vec<Event>, LineError> {
     let mut list = Vec::new(alloc);
     for line in table.lines() {
-        list.push(event(alloc, line)?)?;
+        push(&mut list, event(alloc, line)?)?;
     }
     Ok(list)
+}
+
+// Runs through the events of these lines, and tells how many were done.
+fn done_of(alloc: Global, core: &mut Core, table: &str) -> Result<u32, LineError>
+    ensures { length core.new.world.sessions ≡ length core.old.world.sessions }
+{
+    let events = events(alloc, table)?;
+    match run(core, events.as_slice()) {
+        Ok(done) => Ok(done),
+        Err(_) => Err(LineError::OutOfMemory),
+    }
+}
+
+fn check_hostile(rt: &impl Abort, alloc: Global, core: &mut Core) -> Result<(), Fail>
+    requires { 0 < length core.old.world.sessions }
+{
+    assert_eq!(rt; done_of(alloc, core, HOSTILE)?, 9);
+    assert_eq!(rt; core.floor(), 2);
+    assert_eq!(rt; core.held(0), None);
+    assert_eq!(rt; core.pin_of(0), None);
+    Ok(())
 }
 
 #[test]
 fn runs_through_hostile_events(rt: HostRuntime) -> Result<(), Fail> {
     let alloc = rt.alloc();
     let mut core = Core::new(alloc, 1, 1)?;
-    assert_eq!(rt; run(&mut core, events(alloc, HOSTILE)?.as_slice())?, 9);
-    assert_eq!(rt; core.floor(), 2);
-    assert_eq!(rt; core.held(0), None);
-    assert_eq!(rt; core.pin_of(0), None);
-    Ok(())
+    check_hostile(&rt, alloc, &mut core)
 }
 
 // Session 0 holds the version of three edges, which are in two blocks: a to b and a loop at c of kind k, and b to c of
@@ -103,63 +119,53 @@ post i,k,a,b,5,10 i,m,b,c,2,11 i,k,c,c,-3,12 | 1 0 => done
 pin 0 => done
 enter 0 => done";
 
-// Each of these is asked, and answered once both blocks are read.
-const REQUESTS: &str = "deg * 0 100
-deg * 10 11
-deg k 11 12
-deg x 5 4
-deg x 4 5
-edge x z b
-edge k z b
-edge k a z
-edge k b a
-edge m b c
-bfs a * 0 100
-bfs c * 0 100
-bfs a k 0 100
-bfs z * 0 9
-bfs z x 5 4
-comp k 0 100
-core * 0 100
-core k 11 12";
+// Each of these is asked, and answered so once both blocks are read.
+const REQUESTS: &str = "deg * 0 100 => deg a 1 0 5 b 1 1 2 c 1 2 -3
+deg * 10 11 => deg a 1 0 5 b 1 1 2 c 0 1 0
+deg k 11 12 => deg a 0 0 0 b 0 0 0 c 1 1 -3
+deg x 5 4 => BadWindow
+deg x 4 5 => NoKind
+edge x z b => NoKind
+edge k z b => NoVertex
+edge k a z => NoVertex
+edge k b a => edge none
+edge m b c => edge 2 11 11
+bfs a * 0 100 => bfs a 0 b 1 c 2
+bfs c * 0 100 => bfs c 0
+bfs a k 0 100 => bfs a 0 b 1
+bfs z * 0 9 => NoVertex
+bfs z x 5 4 => BadWindow
+comp k 0 100 => comp a a b a c c
+core * 0 100 => core a 1 b 1 c 1
+core k 11 12 => core a 0 b 0 c 0";
 
-const REPLIES: &str = "deg a 1 0 5 b 1 1 2 c 1 2 -3
-deg a 1 0 5 b 1 1 2 c 0 1 0
-deg a 0 0 0 b 0 0 0 c 1 1 -3
-BadWindow
-NoKind
-NoKind
-NoVertex
-NoVertex
-edge none
-edge 2 11 11
-bfs a 0 b 1 c 2
-bfs c 0
-bfs a 0 b 1
-NoVertex
-BadWindow
-comp a a b a c c
-core a 1 b 1 c 1
-core a 0 b 0 c 0";
+// Session 0 asks one of these of a version of two blocks, and has got as many replies before.
+fn push_asking(
+    alloc: Global,
+    text: &mut String,
+    row: &str,
+    earlier: usize,
+) -> Result<(), AllocError> {
+    let (request, reply) = row.split_once(" => ").unwrap_or((row, ""));
+    text.push_str(format!(in alloc; "ask 0 {request} => done\n")?.as_str())?;
+    text.push_str("read 0 => done\nreply 0 => skipped\nread 0 => done\nread 0 => skipped\n")?;
+    text.push_str(format!(in alloc; "reply 0 => done\nsaid 0 {earlier} => {reply}\n")?.as_str())
+}
 
-// Session 0 asks each of these of a version of two blocks.
-fn asking(alloc: Global, requests: &str) -> Result<String, AllocError> {
-    let mut lines = String::new(alloc);
-    for request in requests.lines() {
-        lines.push_str(format!(in alloc; "ask 0 {request} => done\n")?.as_str())?;
-        lines.push_str("read 0 => done\nreply 0 => skipped\nread 0 => done\nread 0 => skipped\n")?;
-        lines.push_str("reply 0 => done\n")?;
+fn asking(alloc: Global, rows: &str) -> Result<String, AllocError> {
+    let mut text = String::new(alloc);
+    for (earlier, row) in rows.lines().enumerate() {
+        push_asking(alloc, &mut text, row, earlier)?;
     }
-    Ok(lines)
+    Ok(text)
 }
 
 #[test]
 fn answers_once_all_blocks_are_read(rt: HostRuntime) -> Result<(), Fail> {
     let alloc = rt.alloc();
-    let mut core = Core::new(alloc, 1, 2)?;
-    check(&rt, alloc, &mut core, THREE_EDGES)?;
-    check(&rt, alloc, &mut core, asking(alloc, REQUESTS)?.as_str())?;
-    check_replies(&rt, alloc, core.replies(0), REPLIES)
+    let asked = asking(alloc, REQUESTS)?;
+    let asked = asked.as_str();
+    check_new(&rt, alloc, 1, 2, &[THREE_EDGES, asked])
 }
 
 // Two worlds that agree for session 0 and differ in all else. In the small one session 0 alone holds version 1, of
@@ -232,19 +238,14 @@ enter 0 => done
 ask 0 edge k a b => done
 reply 0 => done: 3 3 5 4";
 
-const ALIKE: &str = "edge 3 1 1
-deg a 1 0 3 b 0 1 0
-NoKind
-edge none";
+const ALIKE: &str = "said 0 0 => edge 3 1 1
+said 0 1 => deg a 1 0 3 b 0 1 0
+said 0 2 => NoKind
+said 0 3 => edge none";
 
 #[test]
 fn a_session_is_answered_alike_in_two_worlds(rt: HostRuntime) -> Result<(), Fail> {
     let alloc = rt.alloc();
-    let mut small = Core::new(alloc, 1, 1)?;
-    check(&rt, alloc, &mut small, SMALL)?;
-    check_replies(&rt, alloc, small.replies(0), ALIKE)?;
-    let mut large = Core::new(alloc, 3, 5)?;
-    check(&rt, alloc, &mut large, LARGE)?;
-    check_replies(&rt, alloc, large.replies(0), ALIKE)?;
-    check_replies(&rt, alloc, large.replies(1), "edge 7 1 1")
+    check_new(&rt, alloc, 1, 1, &[SMALL, ALIKE])?;
+    check_new(&rt, alloc, 3, 5, &[LARGE, ALIKE, "said 1 0 => edge 7 1 1"])
 }
