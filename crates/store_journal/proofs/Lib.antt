@@ -1,0 +1,17 @@
+pub mod NumberLists
+pub mod ChangedLists
+pub mod Counting
+pub mod OneNumber
+pub mod BlockMoves
+pub mod Accepting
+pub mod Filling
+pub mod OneStatus
+pub mod Posting
+pub mod Collecting
+pub mod CollectedDesk
+pub mod BoardSteps
+pub mod Histories
+pub mod OpeningShown
+pub mod Reached
+pub mod RetiredCounts
+pub mod BatchLaws

@@ -1,0 +1,9 @@
+use Rattle.store_journal.proofs.CollectedDesk.{collected_is_desk}
+use Rattle.store_journal.proofs.Collecting.{collected_takes}
+use Rattle.store_journal.proofs.laws.law_collected.Goals as goal
+
+pub returns-clause-desk : goal.returns-clause-desk
+returns-clause-desk c = collected_is_desk
+
+pub returns-clause-steps : goal.returns-clause-steps
+returns-clause-steps c = collected_takes

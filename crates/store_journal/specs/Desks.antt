@@ -1,0 +1,70 @@
+-- A desk: the last version, the journal, and what each block number is. A batch and a collection change it.
+use Rattle.std.specs.Prelude.{◌≡◌, ℕ, ◌+◌, ◌==◌, List, [], ◌∷◌, ◌++◌, length, map, count_by, if◌then◌else◌, All, Contains, Bool, true, false}
+use Rattle.std.specs.declared.option.Option.TheVariants.{Some}
+use Rattle.graph_model.specs.declared.batches.NamedOp.{NamedOp}
+use Rattle.edge_block.specs.Slots.{BlockView}
+use Rattle.row_pages.specs.Rows.{blocks_of, numbers_of}
+use Rattle.graph_version.specs.Versions.{VersionView, IsVersion, is_in}
+use Rattle.block_pool.specs.Pools.{Status, AreFree, is_born_at, is_past, recycled}
+use Rattle.store_journal.specs.Exchanges.{Exchanges}
+use Rattle.store_journal.specs.Journal.{Entry, Applied, Collected, Ledger, empty_ledger, replay, is_legal, after_entry, exchanged}
+
+pub record DeskView : Type 0 where
+  pub last : VersionView
+  pub journal : List Entry
+  pub pool : List Status
+
+-- the numbers of the last version's blocks
+abbrev pub last_numbers : DeskView → List ℕ
+last_numbers d = numbers_of (blocks_of d.last.rows)
+
+abbrev pub ledger_of : DeskView → Ledger
+ledger_of d = record { batches = d.last.batches; pool = d.pool }
+
+-- the journal replays legally to the last version's batches and to what each number is, and the numbers of the last
+-- version's blocks are those that may be retired
+pub record IsDesk (d : DeskView) : Type 0 where
+  pub version : IsVersion d.last
+  pub replays : replay d.journal (empty_ledger (length d.pool)) ≡ Some (ledger_of d)
+  pub listed : (n : ℕ) → is_born_at d.pool n ≡ is_in n (last_numbers d)
+
+-- Batches
+
+-- a batch was applied to the desk's last version with granted blocks of these numbers
+pub record IsAppliedTo (d : DeskView) (ops : List NamedOp) (numbers : List ℕ) (version : VersionView) (taken : List ℕ) (dropped : List BlockView) (unused : List ℕ) : Type 0 where
+  pub free : AreFree d.pool numbers
+  pub version_is : IsVersion version
+  pub opening : version.opening ≡ d.last.opening
+  pub batches : version.batches ≡ d.last.batches ++ ops ∷ []
+  pub exchanged : Exchanges (blocks_of d.last.rows) (blocks_of version.rows) taken dropped
+  pub handed : (q : ℕ → Bool) → count_by q taken + count_by q unused ≡ count_by q numbers
+
+-- the desk with that version as the last one, the batch in the journal, and the blocks exchanged
+abbrev pub desk_after : DeskView → List NamedOp → VersionView → List ℕ → List BlockView → DeskView
+desk_after d ops version taken dropped = record {
+  last = version;
+  journal = d.journal ++ Applied ops taken (numbers_of dropped) ∷ [];
+  pool = exchanged (length d.last.batches + 1) taken (numbers_of dropped) d.pool;
+}
+
+-- the desk has accepted the batch, and nothing else
+pub record IsAccepted (old : DeskView) (ops : List NamedOp) (taken dropped : List ℕ) (new : DeskView) : Type 0 where
+  pub opening : new.last.opening ≡ old.last.opening
+  pub journal : new.journal ≡ old.journal ++ Applied ops taken dropped ∷ []
+  pub legal : is_legal (ledger_of old) (Applied ops taken dropped) ≡ true
+  pub ledger : ledger_of new ≡ after_entry (ledger_of old) (Applied ops taken dropped)
+  -- blocks that weren't taken are those of the version before, unchanged
+  pub kept : All (λ b. is_in b.number taken ≡ false → Contains (blocks_of old.last.rows) b) (blocks_of new.last.rows)
+
+-- Collections
+
+-- the entries of a collection: one where it recycles a block
+abbrev pub collections : ℕ → ℕ → List Entry
+collections floor count = if count == 0 then [] else Collected floor count ∷ []
+
+-- the desk has collected at this floor: it has recycled what is past the floor, and the journal has an entry where that
+-- is anything
+pub record IsCollected (old : DeskView) (floor : ℕ) (new : DeskView) : Type 0 where
+  pub last : new.last ≡ old.last
+  pub pool : new.pool ≡ map (recycled floor) old.pool
+  pub journal : new.journal ≡ old.journal ++ collections floor (count_by (is_past floor) old.pool)

@@ -1,0 +1,9 @@
+pub mod Exchanges
+pub mod Journal
+pub mod Desks
+pub mod Shown
+pub mod Boards
+pub mod Steps
+pub mod Histories
+pub mod Opening
+pub mod Reached
