@@ -81,14 +81,15 @@ fn batch_of_kinds(alloc: Global, kinds: u32) -> Result<Batch, PushError> {
     Ok(batch)
 }
 
-/// The plan of a batch, if it was built, over the version without batches.
+/// The plan of a batch, if it was built, over a version.
 fn planned(
     alloc: Global,
+    version: &Version,
     batch: Result<Batch, PushError>,
     workers: usize,
 ) -> Result<Plan, PlanError> {
     match batch {
-        Ok(batch) if workers > 0 => plan(alloc, &Version::empty(alloc), &batch, workers),
+        Ok(batch) if workers > 0 => plan(alloc, version, &batch, workers),
         _ => Err(PlanError::OutOfMemory),
     }
 }
@@ -123,46 +124,61 @@ fn check_shards(rt: &impl Abort, alloc: Global, plan: &Plan, table: &str) -> Res
     Ok(())
 }
 
+// The batch's shards for so many workers are these.
+fn check_plan(rt: &impl Abort, alloc: Global, workers: usize, table: &str) -> Result<(), Fail> {
+    match planned(alloc, &Version::empty(alloc), batch(alloc), workers) {
+        Ok(plan) => check_shards(rt, alloc, &plan, table),
+        Err(error) => Err(Fail::from(error)),
+    }
+}
+
 /// A vertex's operations are those of the worker of its number modulo the workers; the one with the unknown source is
 /// worker 0's, and the one with the unknown target its source's worker's.
 #[test]
 fn plans_by_source(rt: HostRuntime) -> Result<(), Fail> {
-    let alloc = rt.alloc();
     for (workers, table) in [
         (1, "0@0 1@1 2@- 3@0 4@- of 0 1"),
         (2, "0@0 2@- 3@0 of 0\n1@0 4@- of 1"),
         (4, "0@0 2@- 3@0 of 0\n1@0 4@- of 1\nof\nof"),
         (8, "0@0 2@- 3@0 of 0\n1@0 4@- of 1\nof\nof\nof\nof\nof\nof"),
     ] {
-        check_shards(&rt, alloc, &planned(alloc, batch(alloc), workers)?, table)?;
+        check_plan(&rt, rt.alloc(), workers, table)?;
     }
     Ok(())
 }
 
-/// A plan has the names that the insertions make, and no others.
-#[test]
-fn plans_the_names(rt: HostRuntime) -> Result<(), Fail> {
-    let plan = planned(rt.alloc(), batch(rt.alloc()), 2)?;
-    assert_eq!(rt; (plan.names.len(), plan.kinds.len()), (3, 1));
-    assert_eq!(rt; plan.names.number("c"), Some(2));
-    assert_eq!(rt; plan.names.number("z"), None);
-    assert_eq!(rt; plan.kinds.number("k"), Some(0));
-    law_sources_within();
-    Ok(())
+/// How many vertex names, kinds and shards a plan has.
+fn sizes_of(plan: &Plan) -> (usize, usize, usize) {
+    (plan.names.len(), plan.kinds.len(), plan.shards.len())
 }
 
-/// The kinds of a plan for one worker.
-fn kinds_of(alloc: Global, kinds: u32) -> Result<usize, PlanError> {
-    match planned(alloc, batch_of_kinds(alloc, kinds), 1) {
-        Ok(plan) => Ok(plan.kinds.len()),
+/// The sizes of the plan of a batch for two workers.
+fn sizes(
+    alloc: Global,
+    version: &Version,
+    batch: Result<Batch, PushError>,
+) -> Result<(usize, usize, usize), PlanError> {
+    match planned(alloc, version, batch, 2) {
+        Ok(plan) => Ok(sizes_of(&plan)),
         Err(error) => Err(error),
     }
 }
 
+/// A plan has the names that the insertions make, and no others; one kind too many is refused.
 #[test]
-fn refuses_a_kind_too_many(rt: HostRuntime) {
-    assert_eq!(rt; kinds_of(rt.alloc(), 64), Ok(64));
-    assert_eq!(rt; kinds_of(rt.alloc(), 65), Err(PlanError::KindsFull));
+fn plans_the_names(rt: HostRuntime) {
+    let alloc = rt.alloc();
+    let version = Version::empty(alloc);
+    assert_eq!(rt; sizes(alloc, &version, batch(alloc)), Ok((3, 1, 2)));
+    assert_eq!(rt;
+        sizes(alloc, &version, batch_of_kinds(alloc, 64)),
+        Ok((2, 64, 2))
+    );
+    assert_eq!(rt;
+        sizes(alloc, &version, batch_of_kinds(alloc, 65)),
+        Err(PlanError::KindsFull)
+    );
+    law_sources_within();
 }
 
 /// How many operations are resolved, on empty books of these limits.
@@ -186,21 +202,21 @@ fn meets_the_limit_of_names_before_that_of_kinds(rt: HostRuntime) {
     assert_eq!(rt; resolved(alloc, 3, 1), Ok(5));
 }
 
-/// Where memory is refused there is no plan, and the version has no more names than before.
-#[test]
-fn refused_plan_leaves_the_version(rt: HostRuntime) -> Result<(), Fail> {
-    let version = Version::empty(rt.alloc());
-    let Ok(batch) = batch(rt.alloc()) else {
-        println!(rt; "refused")?;
-        return Ok(());
-    };
-    match plan(rt.alloc(), &version, &batch, 2) {
-        Ok(plan) => assert_eq!(rt; plan.shards.len(), 2),
+// The sizes are those of the batch's plan, or memory was refused.
+fn check_told(rt: &(impl Abort + Print), told: Result<(usize, usize, usize), PlanError>) {
+    match told {
+        Ok(sizes) => assert_eq!(rt; sizes, (3, 1, 2)),
         Err(error) => {
             assert_eq!(rt; error, PlanError::OutOfMemory);
-            println!(rt; "refused")?;
+            let _ = println!(rt; "refused");
         }
     }
+}
+
+/// Where memory is refused there is no plan, and the version has no more names than before.
+#[test]
+fn refused_plan_leaves_the_version(rt: HostRuntime) {
+    let version = Version::empty(rt.alloc());
+    check_told(&rt, sizes(rt.alloc(), &version, batch(rt.alloc())));
     assert_eq!(rt; (version.names().len(), version.kinds().len()), (0, 0));
-    Ok(())
 }
