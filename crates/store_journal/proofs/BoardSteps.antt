@@ -8,9 +8,9 @@ use Rattle.epoch_core.specs.declared.states.SessionState.TheVariants.{Idle, Pinn
 use Rattle.epoch_core.specs.Worlds.{World, session_of, pin_in, held_in, last_number}
 use Rattle.epoch_core.specs.Machine.{least_pin, lesser, to_pin, to_settle, to_release}
 use Rattle.epoch_core.proofs.Moves.{Moved, moved, session_after, session_else, least_first, least_each}
-use Rattle.version_shelf.specs.Board.{BoardState, IsBoard, IsLeast, IsBelowPins, pin_at, with_pin, unsettled, settled}
-use Rattle.version_shelf.specs.declared.board.Pin.{Pin as SeatPin}
-use Rattle.version_shelf.specs.declared.board.TheConstants.{SEATS}
+use Rattle.seat_board.specs.Board.{BoardState, IsBoard, IsLeast, IsBelowPins, pin_at, with_pin, unsettled, settled}
+use Rattle.seat_board.specs.declared.board.Pin.{Pin as SeatPin}
+use Rattle.seat_board.specs.declared.board.TheConstants.{SEATS}
 use Rattle.store_journal.specs.Desks.{DeskView}
 use Rattle.store_journal.specs.Shown.{Shows}
 use Rattle.store_journal.specs.Boards.{seat_pin, ShowsBoard, PinsAsMachine, SettlesAsMachine, UnpinsAsMachine, RaisesAsMachine}

@@ -16,7 +16,7 @@ use Rattle.epoch_core.specs.Worlds.{World, session_of, blocks_at, last_number}
 use Rattle.epoch_core.specs.Machine.{step, read_on, is_all_read, to_enter, to_ask, to_read, to_reply}
 use Rattle.epoch_core.specs.Runs.{run}
 use Rattle.epoch_core.proofs.Moves.{Moved, moved, session_after, session_else}
-use Rattle.version_shelf.specs.Board.{BoardState}
+use Rattle.seat_board.specs.Board.{BoardState}
 use Rattle.store_journal.specs.Desks.{DeskView}
 use Rattle.store_journal.specs.Shown.{Shows}
 use Rattle.store_journal.specs.Boards.{seat_pin, ShowsBoard}

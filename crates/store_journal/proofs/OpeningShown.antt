@@ -6,7 +6,7 @@ use Rattle.graph_version.proofs.Empty.{is_empty_version}
 use Rattle.block_pool.specs.Pools.{Free as PoolFree, is_used, passes}
 use Rattle.epoch_core.specs.declared.states.Status.TheVariants.{Free}
 use Rattle.epoch_core.proofs.Steps.{all_idle}
-use Rattle.version_shelf.specs.Board.{pin_at}
+use Rattle.seat_board.specs.Board.{pin_at}
 use Rattle.store_journal.specs.Journal.{empty_ledger}
 use Rattle.store_journal.specs.Desks.{IsDesk}
 use Rattle.store_journal.specs.Shown.{SameStatus}

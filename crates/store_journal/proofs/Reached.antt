@@ -19,7 +19,7 @@ use Rattle.epoch_core.proofs.Moves.{Moved, moved, session_after}
 use Rattle.epoch_core.proofs.Steps.{always_sound, start_is_start}
 use Rattle.epoch_core.proofs.Sizes.{size_run}
 use Rattle.epoch_core.proofs.Epochs.{pins_in_order}
-use Rattle.version_shelf.specs.Board.{BoardState, IsLeast, pin_at, with_pin, unsettled, settled}
+use Rattle.seat_board.specs.Board.{BoardState, IsLeast, pin_at, with_pin, unsettled, settled}
 use Rattle.store_journal.specs.Desks.{DeskView}
 use Rattle.store_journal.specs.Shown.{Shows}
 use Rattle.store_journal.specs.Boards.{seat_pin, ShowsBoard, ShowsIfDone}

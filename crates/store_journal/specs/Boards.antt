@@ -7,9 +7,9 @@ use Rattle.epoch_core.specs.declared.states.SessionState.{SessionState}
 use Rattle.epoch_core.specs.declared.states.SessionState.TheVariants.{Idle, Pinned, Holding, Asking}
 use Rattle.epoch_core.specs.Worlds.{World, session_of, pin_in, held_in, last_number}
 use Rattle.epoch_core.specs.Machine.{step}
-use Rattle.version_shelf.specs.Board.{BoardState, IsBoard, IsLeast, pin_at, with_pin, unsettled, settled}
-use Rattle.version_shelf.specs.declared.board.Pin.{Pin as SeatPin}
-use Rattle.version_shelf.specs.declared.board.TheConstants.{SEATS}
+use Rattle.seat_board.specs.Board.{BoardState, IsBoard, IsLeast, pin_at, with_pin, unsettled, settled}
+use Rattle.seat_board.specs.declared.board.Pin.{Pin as SeatPin}
+use Rattle.seat_board.specs.declared.board.TheConstants.{SEATS}
 use Rattle.store_journal.specs.Desks.{DeskView}
 use Rattle.store_journal.specs.Shown.{Shows}
 

@@ -3,7 +3,7 @@ use Rattle.std.specs.Prelude.{ℕ, [], replicate}
 use Rattle.graph_version.specs.Versions.{empty_version}
 use Rattle.block_pool.specs.Pools.{Free}
 use Rattle.epoch_core.specs.Worlds.{start_world}
-use Rattle.version_shelf.specs.Board.{no_pins}
+use Rattle.seat_board.specs.Board.{no_pins}
 use Rattle.store_journal.specs.Desks.{DeskView, IsDesk}
 use Rattle.store_journal.specs.Shown.{Shows}
 use Rattle.store_journal.specs.Boards.{ShowsBoard}

@@ -5,8 +5,8 @@ use Rattle.epoch_core.specs.declared.events.Event.TheVariants.{Floor, Pin, Enter
 use Rattle.epoch_core.specs.Worlds.{World, start_world, session_of, held_in}
 use Rattle.epoch_core.specs.Runs.{run, is_done}
 use Rattle.graph_model.specs.declared.requests.Request.{Request}
-use Rattle.version_shelf.specs.Board.{BoardState, IsBoard, IsLeast, no_pins, pin_at, with_pin, unsettled, settled}
-use Rattle.version_shelf.specs.declared.board.TheConstants.{SEATS}
+use Rattle.seat_board.specs.Board.{BoardState, IsBoard, IsLeast, no_pins, pin_at, with_pin, unsettled, settled}
+use Rattle.seat_board.specs.declared.board.TheConstants.{SEATS}
 use Rattle.store_journal.specs.Desks.{DeskView}
 use Rattle.store_journal.specs.Shown.{Shows}
 use Rattle.store_journal.specs.Boards.{ShowsBoard}

@@ -1,1 +1,4 @@
-pub mod Least
+pub mod Beginnings
+pub mod Adding
+pub mod Steps
+pub mod Openings

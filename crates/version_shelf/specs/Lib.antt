@@ -1,1 +1,3 @@
-pub mod Board
+pub mod Histories
+pub mod Shelves
+pub mod Lending

@@ -1,14 +1,21 @@
-//! The board of a store of versions: which version each reader's seat may still need, and the
-//! floor below which no reader looks.
+//! The shelf of a store of versions: one writer posts versions, and up to sixteen readers enter the newest one shown.
 //!
-//! A reader acquires a version in three steps: its seat is pinned at the present floor, the last
-//! version is entered, and the pin is raised to that version's number. What a version gave up is
-//! free for reuse once the floor has reached the number of the version that gave it up. The
-//! protocol is the acquire and release of Aspen ("Low-Latency Graph Streaming using Compressed
-//! Purely-Functional Trees"; Dhulipala, Blelloch, Shun; PLDI 2019), as this project fixes it:
-//! numbers and pins in place of reference counts. Nothing here allocates.
+//! The shelf stands on two copies that readers read without a lock (`left_right`), and on a history of the posted
+//! batches that exists in the proofs alone but for its length (`logbook`). Its rule: what is shown begins with all that
+//! each reader had seen. So a reader never goes back, whether it learnt of a version by an entry or by what another
+//! thread told it. Each version is posted whole and never changes, as in Aspen ("Low-Latency Graph Streaming using
+//! Compressed Purely-Functional Trees"; Dhulipala, Blelloch, Shun; PLDI 2019).
 #![tactic(auto)]
 
-mod board;
+mod history;
+mod readers;
+mod rules;
+mod told;
+mod writers;
 
-pub use board::{Board, Pin, SEATS, SeatNo};
+pub use readers::ShelfReader;
+pub use told::Told;
+pub use writers::{ShelfError, ShelfWriter, shelf};
+
+#[cfg(test)]
+mod tests;

@@ -1,0 +1,7 @@
+use Rattle.std.proofs.Common.{subst, sym}
+use Rattle.version_shelf.specs.Shelves.{ToldView, Begins}
+use Rattle.version_shelf.proofs.Steps.{begins_self}
+use Rattle.version_shelf.proofs.readers.ShelfReader.look.Goals as goal
+
+pub returns-else-is_below : goal.returns-else-is_below
+returns-else-is_below c = subst (λ (x : ToldView). Begins c.args.self.now x) (sym c.self.view_is) (begins_self c.args.self.now)

@@ -1,0 +1,206 @@
+//! The writer of the shelf, and its opening.
+
+ghost use Rattle.std.specs.Prelude.{◌≡◌, ◌<◌, ◌≤◌, ◌⊎◌, [], IfOk, MatchResult, All, vec_len, Some};
+ghost use Rattle.std.specs.Arc.{arc_value};
+ghost use Rattle.left_right.specs.Sides.{view};
+ghost use Rattle.graph_version.specs.declared.versions.Version.{Version};
+ghost use Rattle.version_shelf.specs.Shelves.{ToldView, Begins, IsNext, opened_shelf};
+
+use crate::history::{History, HistoryEnd};
+use crate::readers::ShelfReader;
+use crate::rules::{Look, Notes, WriterPlace};
+use crate::told::Told;
+use core::mem::replace_with;
+use graph_version::Version;
+use left_right::writer::Writer;
+use std::alloc::{AllocError, Global};
+use std::marker::Model;
+use std::mem::ManuallyDrop;
+use std::sync::{Arc, Wait};
+use thiserror::Error;
+
+/// Why a shelf wasn't opened.
+#[derive(Clone, Copy, Debug, PartialEq, Eq, Error)]
+pub enum ShelfError {
+    #[error("no reader's place was to be had")]
+    NoReader,
+    #[error("out of memory")]
+    OutOfMemory,
+}
+
+/// The writer of a shelf. Contracts see it as the posted batches, and those of the version that readers find.
+pub struct ShelfWriter {
+    place: WriterPlace,
+    end: HistoryEnd,
+    history: History,
+}
+
+impl Model for ShelfWriter {
+    ghost use Rattle.std.specs.Prelude.{◌≡◌, Some};
+    ghost use Rattle.version_shelf.specs.Shelves.{ShelfView};
+    ghost use Rattle.left_right.specs.Sides.{view as seen_at};
+    ghost use Rattle.version_shelf.specs.Histories.{end_of};
+    ghost use Rattle.version_shelf.specs.Shelves.{shelf_of, IsShowing};
+    ghost use Rattle.std.specs.Coded.{codes};
+    ghost use Rattle.graph_model.specs.Coded.{graph_code};
+
+    ghost Value = { ShelfView };
+
+    ghost coded = { Prim.hlevel (codes, graph_code) };
+
+    ghost view = { λ w. shelf_of w.history w.place.desk.shown.value };
+
+    ghost invariant = { λ w. (w.end.word ≡ end_of w.history.book) × IsShowing w.history w.place.desk.shown.value
+        × (seen_at w.place.desk.place ≡ Some w.place.desk.shown.value) };
+}
+
+impl Drop for ShelfWriter {
+    /// What the shelf shows stays for its readers.
+    fn drop(self) {
+        let ShelfWriter {
+            place,
+            end: _end,
+            history: _history,
+        } = self;
+        let _left = unsafe { ManuallyDrop::new_unchecked(place) };
+    }
+}
+
+/// A shelf that shows a version without batches, and its readers, 1 to 16. It waits for nobody.
+#[tactic(auto, using(crate::proofs::Openings::all_same_more))]
+pub fn shelf<R: Wait>(
+    rt: &R,
+    alloc: Global,
+    opening: Version,
+    readers: usize,
+) -> Result<(ShelfWriter, Vec<ShelfReader>), ShelfError>
+    requires opening { opening.batches ≡ [] }
+    requires readers { (0 < readers) × (readers ≤ 16) }
+    ensures writer { IfOk result (λ r. r.0 ≡ opened_shelf r.0.book opening) }
+    ensures count { IfOk result (λ r. vec_len r.1 ≡ readers) }
+    ensures readers { IfOk result (λ r. All (λ (x : ToldView). x ≡ record { book = r.0.book; version = opening }) r.1.items) }
+{
+    let (end, history) = History::open();
+    let version = Arc::new(alloc, opening).map_err(|_| ShelfError::OutOfMemory)?;
+    let told = Told {
+        version,
+        history: history.again(),
+    };
+    let place = opened(rt, alloc, &told, readers)?;
+    let mut writer = ShelfWriter {
+        place,
+        end,
+        history,
+    };
+    let mut places = Vec::new(alloc);
+    for _ in 0..readers {
+        let reader = writer.reader(&told)?;
+        places.push(reader).map_err(|_| ShelfError::OutOfMemory)?;
+    }
+    Ok((writer, places))
+}
+
+/// A writer's place that has seen what it shows.
+fn opened<R: Wait>(
+    rt: &R,
+    alloc: Global,
+    told: &Told,
+    readers: usize,
+) -> Result<WriterPlace, ShelfError>
+    requires { (0 < readers) × (readers ≤ 16) }
+    ensures { IfOk result (λ w. (w.desk.shown.value ≡ told.now) × (view w.desk.place ≡ Some w.desk.shown.value)) }
+{
+    let Ok(first) = told.share() else {
+        return Err(ShelfError::OutOfMemory);
+    };
+    let Ok(second) = told.share() else {
+        return Err(ShelfError::OutOfMemory);
+    };
+    let Ok(fresh) = Writer::new(alloc, first, second, readers) else {
+        return Err(ShelfError::OutOfMemory);
+    };
+    let (writer, shown) = fresh.publish_as::<Look, R>(rt);
+    match shown {
+        Ok(()) => Ok(writer),
+        Err(_) => {
+            writer.take(rt);
+            Err(ShelfError::OutOfMemory)
+        }
+    }
+}
+
+/// Shows readers what was told, where there is memory for it.
+fn show<R: Wait>(rt: &R, mut place: WriterPlace, told: Told) -> WriterPlace
+    requires view { view place.desk.place ≡ Some place.desk.shown.value }
+    requires newer { Begins place.desk.shown.value told }
+    ensures view { view result.desk.place ≡ Some result.desk.shown.value }
+    ensures shown { (result.desk.shown.value ≡ place.desk.shown.value) ⊎ (result.desk.shown.value ≡ told) }
+{
+    match place.append(told) {
+        Ok(()) => {}
+        Err(_) => return place,
+    }
+    let (place, _) = place.publish_as::<Look, R>(rt);
+    place
+}
+
+fn show_in<R: Wait>(rt: &R, place: &mut WriterPlace, told: Told)
+    requires view { view place.old.desk.place ≡ Some place.old.desk.shown.value }
+    requires newer { Begins place.old.desk.shown.value told }
+    ensures view { view place.new.desk.place ≡ Some place.new.desk.shown.value }
+    ensures shown { (place.new.desk.shown.value ≡ place.old.desk.shown.value) ⊎ (place.new.desk.shown.value ≡ told) }
+{
+    replace_with(place, (rt, told), |place, (rt, told)| {
+        (show(rt, place, told), ())
+    })
+}
+
+impl ShelfWriter {
+    /// Posts the next version: one publication. What is refused is posted nowhere and never shown.
+    ///
+    /// A version whose batch was entered in the history is posted, also where the growth that would show it at once was
+    /// refused: then readers find it by what is told of it, or find the next version.
+    pub fn post<R: Wait>(&mut self, rt: &R, version: Arc<Version>) -> Result<Told, AllocError>
+        requires next { IsNext self.old (arc_value {X = Version} version) }
+        ensures posted { MatchResult result
+            (λ told. (self.new.posted ≡ (arc_value {X = Version} version).batches) × (told ≡ record { book = self.old.book; version = arc_value {X = Version} version }))
+            (λ _. self.new ≡ self.old) }
+        ensures shown { (self.new.shown ≡ self.old.shown) ⊎ (self.new.shown ≡ self.new.posted) }
+        ensures same { (self.new.book ≡ self.old.book) × (self.new.opening ≡ self.old.opening) }
+    {
+        // A version's contract says with its number that it has at most 65,536 batches.
+        let _number = version.number();
+        let copy = Arc::try_clone(&version)?;
+        let Some(batch) = version.last_batch() else {
+            unreachable!()
+        };
+        let mut history = self.history.again();
+        if !history.push(&self.end, batch) {
+            return Err(AllocError);
+        }
+        self.history = history.again();
+        let shown = Told {
+            version: copy,
+            history: history.again(),
+        };
+        show_in(rt, &mut self.place, shown);
+        Ok(Told { version, history })
+    }
+
+    /// A reader that has learnt what was told.
+    fn reader(&mut self, told: &Told) -> Result<ShelfReader, ShelfError>
+        requires book { told.now.book ≡ self.old.book }
+        requires opening { told.now.version.opening ≡ self.old.opening }
+        ensures reader { IfOk result (λ r. r ≡ told.now) }
+        ensures writer { self.new ≡ self.old }
+    {
+        let mut place = self
+            .place
+            .factory()
+            .reader()
+            .map_err(|_| ShelfError::NoReader)?;
+        place.learn::<Notes>(self.place.tell::<Notes>());
+        let newest = told.share().map_err(|_| ShelfError::OutOfMemory)?;
+        Ok(ShelfReader { place, newest })
+    }
+}
