@@ -1,5 +1,6 @@
 -- Lemmas on the value of decimal digits.
-use Rattle.std.proofs.Common.{◌≡◌, ℕ, suc, ◌+◌, ◌-◌, ◌*◌, ◌^◌, ◌<◌, ◌≤◌, List, [], ◌∷◌, ◌++◌, length, Bool, false, refl, true, ◌&&◌, arith, length-append}
+use Rattle.std.proofs.Common.{◌≡◌, ℕ, suc, ◌+◌, ◌-◌, ◌*◌, ◌^◌, ◌<◌, ◌≤◌, List, [], ◌∷◌, ◌++◌, length, Bool, false, refl, true}
+use Rattle.std.proofs.Common.{◌&&◌, arith, length-append}
 use Rattle.std.proofs.Math.Nat.{pow-suc, pow-le-pow_right, mul-le-mul_right}
 use Rattle.std.specs.Char.{is_ascii_digit}
 use Rattle.std.specs.List.{list_all}
@@ -10,11 +11,13 @@ place : (n p d v w digit : ℕ) → p ≡ n * 10 → w ≡ v * 10 + digit → d 
 place n p d v w digit a b = rw (a, b) (omega arith)
 
 -- one more digit at the end moves each other by a place
-pub decimal_value-push : (digits : List ℕ) (digit : ℕ) → decimal_value (digits ++ (digit ∷ [])) ≡ decimal_value digits * 10 + (digit - 48)
+pub decimal_value-push : (digits : List ℕ) (digit : ℕ)
+    → decimal_value (digits ++ (digit ∷ [])) ≡ decimal_value digits * 10 + (digit - 48)
 decimal_value-push [] digit = omega arith
 decimal_value-push (first ∷ rest) digit =
     let longer : length (rest ++ (digit ∷ [])) ≡ suc (length rest) = omega (arith, length-append rest (digit ∷ [])) in
-    place (10 ^ length rest) _ (first - 48) (decimal_value rest) _ (digit - 48) (rw longer (pow-suc 10 (length rest))) (decimal_value-push rest digit)
+    place (10 ^ length rest) _ (first - 48) (decimal_value rest) _ (digit - 48) (rw longer (pow-suc 10 (length rest)))
+    (decimal_value-push rest digit)
 
 digit-le : (first : ℕ) → is_ascii_digit first ≡ true → first - 48 ≤ 9
 digit-le first digit = grind (arith, nat_tests)
@@ -31,10 +34,12 @@ pub decimal_value-lt : (digits : List ℕ) → list_all is_ascii_digit digits �
 decimal_value-lt [] all = omega arith
 decimal_value-lt (first ∷ rest) all =
     let each = both (is_ascii_digit first) (list_all is_ascii_digit rest) all in
-    rw (pow-suc 10 (length rest)) (below_place (first - 48) (10 ^ length rest) (decimal_value rest) (digit-le first each.0) (decimal_value-lt rest each.1))
+    rw (pow-suc 10 (length rest)) (below_place (first - 48) (10 ^ length rest) (decimal_value rest) (digit-le first each.0)
+    (decimal_value-lt rest each.1))
 
 -- the digits before the last of 19
-pub decimal_value-lt_19 : (digits : List ℕ) → list_all is_ascii_digit digits ≡ true → length digits < 19 → decimal_value digits < 10 ^ 18
+pub decimal_value-lt_19 : (digits : List ℕ) → list_all is_ascii_digit digits ≡ true → length digits < 19
+    → decimal_value digits < 10 ^ 18
 decimal_value-lt_19 digits all few =
     let shorter : length digits ≤ 18 = omega arith in
     let power : 10 ^ length digits ≤ 10 ^ 18 = pow-le-pow_right (omega arith) shorter in

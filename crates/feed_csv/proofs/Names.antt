@@ -17,7 +17,11 @@ IsAscii-printable : (bytes : List ℕ) → list_all is_printable bytes ≡ true 
 IsAscii-printable [] all = λ i. omega arith
 IsAscii-printable (first ∷ rest) all =
     let each = both (is_printable first) (list_all is_printable rest) all in
-    λ i. elim i as (λ i. get_or (first ∷ rest) i 0 < 128) [ zero ↦ is_printable-lt first each.0 | suc i ↦ IsAscii-printable rest each.1 i ]
+    λ i. elim i as (λ i. get_or (first ∷ rest) i 0 < 128) [
+      | zero ↦ is_printable-lt first each.0
+      | suc i ↦
+          IsAscii-printable rest each.1 i
+    ]
 
 is_name-text : (bytes : List ℕ) → is_name bytes ≡ true → IsUtf8 bytes
 is_name-text bytes name = IsUtf8-from_ascii bytes (IsAscii-printable bytes (both _ _ name).1)

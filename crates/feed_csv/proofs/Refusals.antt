@@ -1,12 +1,14 @@
 -- A record is refused for what it says, and never for a failed read or want of memory.
 use Rattle.std.proofs.Common.{◌≡◌, ◌≢◌, ℕ, Bool, true, false, cond, codes, List, Option, Some, None, Result, Ok, Err, refl, rules}
-use Rattle.feed_csv.specs.Commands.{Refuses, close_of, commit_of, cores_of, degrees_of, edge_of, incr_of, insert_of, item_of, labels_of, levels_of, open_of, remove_of}
+use Rattle.feed_csv.specs.Commands.{Refuses, close_of, commit_of, cores_of, degrees_of, edge_of, incr_of, insert_of, item_of}
+use Rattle.feed_csv.specs.Commands.{labels_of, levels_of, open_of, remove_of}
 use Rattle.feed_csv.specs.Fields.{◌>>=◌, any_kind_at, field, kind_at, name_at, of_length, required, slot_at, time_at, weight_at}
 use Rattle.feed_csv.specs.Records.{Row}
 use Rattle.std.specs.Str.{bytes_eq}
 use Rattle.feed_csv.specs.Script.{FaultStep, Script, TakesRow}
 use Rattle.feed_csv.specs.declared.command.FeedWord.{FeedWord}
-use Rattle.feed_csv.specs.declared.command.FeedWord.TheVariants.{Read, BadCommand, BadFields, BadName, BadWeight, BadTime, BadSlot, Memory}
+use Rattle.feed_csv.specs.declared.command.FeedWord.TheVariants.{Read, BadCommand, BadFields, BadName, BadWeight, BadTime}
+use Rattle.feed_csv.specs.declared.command.FeedWord.TheVariants.{BadSlot, Memory}
 
 abbrev pub IsOfRecord : FeedWord → Type 0
 IsOfRecord Read = ⊥
@@ -28,12 +30,14 @@ given value = record { fails = λ word same. cc same }
 refused : {A : Type 0} (word : FeedWord) → IsOfRecord word → FailsByRecord {A = A} (Err word)
 refused word of = record { fails = λ other same. let e : word ≡ other = cc same in rw (← e) of }
 
-then : {A B : Type 0} (first : Result A FeedWord) (next : A → Result B FeedWord) → FailsByRecord first → ((value : A) → FailsByRecord (next value))
+then : {A B : Type 0} (first : Result A FeedWord) (next : A → Result B FeedWord) → FailsByRecord first
+    → ((value : A) → FailsByRecord (next value))
     → FailsByRecord (first >>= next)
 then (Ok value) next here there = there value
 then (Err word) next here there = refused word (here.fails word refl)
 
-tested : {A : Type 0} (test : Bool) (one other : Result A FeedWord) → FailsByRecord one → FailsByRecord other → FailsByRecord (cond test one other)
+tested : {A : Type 0} (test : Bool) (one other : Result A FeedWord) → FailsByRecord one → FailsByRecord other
+    → FailsByRecord (cond test one other)
 tested true one other a b = a
 tested false one other a b = b
 
@@ -73,21 +77,24 @@ insert_of-fails : (row : Row) → FailsByRecord (insert_of row)
 unfolding insert_of
 insert_of-fails row =
     then (of_length 6 row) _ (of_length-fails 6 row) (λ r.
-    then (kind_at r 1) _ (kind_at-fails r 1) (λ v0. then (name_at r 2) _ (name_at-fails r 2) (λ v1. then (name_at r 3) _ (name_at-fails r 3) (λ v2.
+    then (kind_at r 1) _ (kind_at-fails r 1)
+    (λ v0. then (name_at r 2) _ (name_at-fails r 2) (λ v1. then (name_at r 3) _ (name_at-fails r 3) (λ v2.
     then (weight_at r 4) _ (weight_at-fails r 4) (λ v3. then (time_at r 5) _ (time_at-fails r 5) (λ v4. given _))))))
 
 incr_of-fails : (row : Row) → FailsByRecord (incr_of row)
 unfolding incr_of
 incr_of-fails row =
     then (of_length 6 row) _ (of_length-fails 6 row) (λ r.
-    then (kind_at r 1) _ (kind_at-fails r 1) (λ v0. then (name_at r 2) _ (name_at-fails r 2) (λ v1. then (name_at r 3) _ (name_at-fails r 3) (λ v2.
+    then (kind_at r 1) _ (kind_at-fails r 1)
+    (λ v0. then (name_at r 2) _ (name_at-fails r 2) (λ v1. then (name_at r 3) _ (name_at-fails r 3) (λ v2.
     then (weight_at r 4) _ (weight_at-fails r 4) (λ v3. then (time_at r 5) _ (time_at-fails r 5) (λ v4. given _))))))
 
 remove_of-fails : (row : Row) → FailsByRecord (remove_of row)
 unfolding remove_of
 remove_of-fails row =
     then (of_length 4 row) _ (of_length-fails 4 row) (λ r.
-    then (kind_at r 1) _ (kind_at-fails r 1) (λ v0. then (name_at r 2) _ (name_at-fails r 2) (λ v1. then (name_at r 3) _ (name_at-fails r 3) (λ v2. given _))))
+    then (kind_at r 1) _ (kind_at-fails r 1)
+    (λ v0. then (name_at r 2) _ (name_at-fails r 2) (λ v1. then (name_at r 3) _ (name_at-fails r 3) (λ v2. given _))))
 
 commit_of-fails : (row : Row) → FailsByRecord (commit_of row)
 unfolding commit_of
@@ -110,35 +117,40 @@ levels_of-fails : (row : Row) → FailsByRecord (levels_of row)
 unfolding levels_of
 levels_of-fails row =
     then (of_length 6 row) _ (of_length-fails 6 row) (λ r. then (name_at r 2) _ (name_at-fails r 2) (λ v0.
-    then (any_kind_at r 3) _ (any_kind_at-fails r 3) (λ v1. then (time_at r 4) _ (time_at-fails r 4) (λ v2. then (time_at r 5) _ (time_at-fails r 5) (λ v3.
+    then (any_kind_at r 3) _ (any_kind_at-fails r 3)
+    (λ v1. then (time_at r 4) _ (time_at-fails r 4) (λ v2. then (time_at r 5) _ (time_at-fails r 5) (λ v3.
     then (slot_at r 1) _ (slot_at-fails r 1) (λ v4. given _))))))
 
 labels_of-fails : (row : Row) → FailsByRecord (labels_of row)
 unfolding labels_of
 labels_of-fails row =
     then (of_length 5 row) _ (of_length-fails 5 row) (λ r.
-    then (any_kind_at r 2) _ (any_kind_at-fails r 2) (λ v0. then (time_at r 3) _ (time_at-fails r 3) (λ v1. then (time_at r 4) _ (time_at-fails r 4) (λ v2.
+    then (any_kind_at r 2) _ (any_kind_at-fails r 2)
+    (λ v0. then (time_at r 3) _ (time_at-fails r 3) (λ v1. then (time_at r 4) _ (time_at-fails r 4) (λ v2.
     then (slot_at r 1) _ (slot_at-fails r 1) (λ v3. given _)))))
 
 cores_of-fails : (row : Row) → FailsByRecord (cores_of row)
 unfolding cores_of
 cores_of-fails row =
     then (of_length 5 row) _ (of_length-fails 5 row) (λ r.
-    then (any_kind_at r 2) _ (any_kind_at-fails r 2) (λ v0. then (time_at r 3) _ (time_at-fails r 3) (λ v1. then (time_at r 4) _ (time_at-fails r 4) (λ v2.
+    then (any_kind_at r 2) _ (any_kind_at-fails r 2)
+    (λ v0. then (time_at r 3) _ (time_at-fails r 3) (λ v1. then (time_at r 4) _ (time_at-fails r 4) (λ v2.
     then (slot_at r 1) _ (slot_at-fails r 1) (λ v3. given _)))))
 
 degrees_of-fails : (row : Row) → FailsByRecord (degrees_of row)
 unfolding degrees_of
 degrees_of-fails row =
     then (of_length 5 row) _ (of_length-fails 5 row) (λ r.
-    then (any_kind_at r 2) _ (any_kind_at-fails r 2) (λ v0. then (time_at r 3) _ (time_at-fails r 3) (λ v1. then (time_at r 4) _ (time_at-fails r 4) (λ v2.
+    then (any_kind_at r 2) _ (any_kind_at-fails r 2)
+    (λ v0. then (time_at r 3) _ (time_at-fails r 3) (λ v1. then (time_at r 4) _ (time_at-fails r 4) (λ v2.
     then (slot_at r 1) _ (slot_at-fails r 1) (λ v3. given _)))))
 
 edge_of-fails : (row : Row) → FailsByRecord (edge_of row)
 unfolding edge_of
 edge_of-fails row =
     then (of_length 5 row) _ (of_length-fails 5 row) (λ r.
-    then (kind_at r 2) _ (kind_at-fails r 2) (λ v0. then (name_at r 3) _ (name_at-fails r 3) (λ v1. then (name_at r 4) _ (name_at-fails r 4) (λ v2.
+    then (kind_at r 2) _ (kind_at-fails r 2)
+    (λ v0. then (name_at r 3) _ (name_at-fails r 3) (λ v1. then (name_at r 4) _ (name_at-fails r 4) (λ v2.
     then (slot_at r 1) _ (slot_at-fails r 1) (λ v3. given _)))))
 
 -- no record is refused for Read or Memory
@@ -154,7 +166,8 @@ item_of-fails row =
     (tested (is (codes "edge")) _ _ (edge_of-fails row) (refused BadCommand tt)))))))))))
 
 -- a record that was taken and refused is a step of the feed
-pub refused_step : (word : FeedWord) (row : Row) (old new : Script) → word ≢ Memory → Refuses word (item_of row) → TakesRow old row new → FaultStep word old new
+pub refused_step : (word : FeedWord) (row : Row) (old new : Script) → word ≢ Memory → Refuses word (item_of row)
+    → TakesRow old row new → FaultStep word old new
 refused_step Read row old new other same takes = absurd ((item_of-fails row).fails Read same)
 refused_step Memory row old new other same takes = absurd (other refl)
 refused_step BadCommand row old new other same takes = (row, same, takes)

@@ -1,8 +1,10 @@
 -- A record that is taken from a text is the first of the text's records.
-use Rattle.std.proofs.Common.{◌≡◌, ℕ, zero, suc, ◌+◌, ◌<◌, ◌⊎◌, inl, inr, List, [], ◌∷◌, ◌++◌, length, refl, ap, sym, ◌∙◌, Bool, true, false, cond, Option, Some, None, Result, Ok, Err, arith, add-one}
+use Rattle.std.proofs.Common.{◌≡◌, ℕ, zero, suc, ◌+◌, ◌<◌, ◌⊎◌, inl, inr, List, [], ◌∷◌, ◌++◌, length, refl, ap, sym, ◌∙◌, Bool}
+use Rattle.std.proofs.Common.{true, false, cond, Option, Some, None, Result, Ok, Err, arith, add-one}
 use Rattle.std.specs.Prelude.{option_map, IfOk}
 use Rattle.csv.specs.Machine.{Read, next_record, ends_at_end, is_end, step, fields_after, field_after}
-use Rattle.csv.specs.Reading.{NextIs, ReadRecord, ReadsNext, Ready, default_config, pending_of, reader_trim, records_from, records_next, source_of}
+use Rattle.csv.specs.Reading.{NextIs, ReadRecord, ReadsNext, Ready, default_config, pending_of, reader_trim, records_from}
+use Rattle.csv.specs.Reading.{records_next, source_of}
 use Rattle.csv.specs.declared.parser.Config.{Config}
 use Rattle.csv.specs.declared.parser.State.{State}
 use Rattle.csv.specs.declared.parser.State.TheVariants as st
@@ -25,13 +27,19 @@ next_record-shortens : (config : Config) (state : State) (fields : List (List �
     → Shortens bytes (next_record config state fields field bytes)
 unfolding next_record
 next_record-shortens config state fields field [] =
-    elim (ends_at_end state) as (λ b. Shortens [] (cond b (Some (fields ++ (field ∷ []), st.StartRecord, [])) None)) [ true ↦ inr (refl, refl) | false ↦ tt ]
+    elim (ends_at_end state) as (λ b. Shortens [] (cond b (Some (fields ++ (field ∷ []), st.StartRecord, [])) None)) [
+      | true ↦
+          inr (refl, refl)
+      | false ↦ tt
+    ]
 next_record-shortens config state fields field (byte ∷ bytes) =
     let next = step config state byte in
     elim (is_end next.1) as (λ b. Shortens (byte ∷ bytes) (cond b (Some (fields_after next.1 fields field, next.0, bytes))
     (next_record config next.0 (fields_after next.1 fields field) (field_after next.1 byte field) bytes))) [
       | true ↦ inl (omega arith)
-      | false ↦ Shortens-more byte bytes _ (next_record-shortens config next.0 (fields_after next.1 fields field) (field_after next.1 byte field) bytes)
+      | false ↦
+          Shortens-more byte bytes _ (next_record-shortens config next.0 (fields_after next.1 fields field)
+          (field_after next.1 byte field) bytes)
     ]
 
 -- there is no record where nothing is left
@@ -51,7 +59,8 @@ unfolding records_from
 records_from-turns config zero n state bytes low high = absurd (omega arith)
 records_from-turns config (suc m) zero state bytes low high = absurd (omega arith)
 records_from-turns config (suc m) (suc n) state bytes low high =
-    elim (next_record config state [] [] bytes) as (λ (found : Option Read). Shortens bytes found → records_next (records_from config m) found ≡ records_next (records_from config n) found) [
+    elim (next_record config state [] [] bytes) as (λ (found : Option Read). Shortens bytes found
+    → records_next (records_from config m) found ≡ records_next (records_from config n) found) [
       | None ↦ λ s. refl
       | Some read ↦ λ s. ap (λ (rows : List (List (List ℕ))). read.0 ∷ rows)
           (elim s [
@@ -63,30 +72,36 @@ records_from-turns config (suc m) (suc n) state bytes low high =
 
 after_first : (config : Config) (state : State) (bytes : List ℕ) (read : Read) → Shortens bytes (Some read)
     → records_from config (length bytes) read.1 read.2 ≡ records_from config (length read.2 + 1) read.1 read.2
-after_first config state bytes read (inl shorter) = records_from-turns config (length bytes) (length read.2 + 1) read.1 read.2 shorter (omega arith)
+after_first config state bytes read (inl shorter) =
+    records_from-turns config (length bytes) (length read.2 + 1) read.1 read.2 shorter (omega arith)
 after_first config state bytes read (inr end) = at_end config (length bytes) (length read.2 + 1) read.1 read.2 end.0 end.1
 
 -- the record that is read first is the first of the records, and those after it are the others
-records_from-first : (config : Config) (state : State) (bytes : List ℕ) (read : Read) → next_record config state [] [] bytes ≡ Some read
+records_from-first : (config : Config) (state : State) (bytes : List ℕ) (read : Read)
+    → next_record config state [] [] bytes ≡ Some read
     → records_from config (length bytes + 1) state bytes ≡ read.0 ∷ records_from config (length read.2 + 1) read.1 read.2
 unfolding records_from
 records_from-first config state bytes read found =
     let shortens : Shortens bytes (Some read) = rw found at (next_record-shortens config state [] [] bytes) in
-    rw (add-one (length bytes), found) (ap (λ (rows : List (List (List ℕ))). read.0 ∷ rows) (after_first config state bytes read shortens))
+    rw (add-one (length bytes), found) (ap (λ (rows : List (List (List ℕ))). read.0 ∷ rows)
+    (after_first config state bytes read shortens))
 
 records_from-none : (config : Config) (state : State) (bytes : List ℕ) → next_record config state [] [] bytes ≡ None
     → records_from config (length bytes + 1) state bytes ≡ []
 unfolding records_from
 records_from-none config state bytes none = rw (add-one (length bytes), none) refl
 
-takes_next : (state after : State) (bytes rest : List ℕ) (fields : List (List ℕ)) (found : Option Read) → next_record default_config state [] [] bytes ≡ found
+takes_next : (state after : State) (bytes rest : List ℕ) (fields : List (List ℕ)) (found : Option Read)
+    → next_record default_config state [] [] bytes ≡ found
     → NextIs found true fields after rest
-    → records_from default_config (length bytes + 1) state bytes ≡ fields ∷ records_from default_config (length rest + 1) after rest
+    → records_from default_config (length bytes + 1) state bytes ≡ fields
+    ∷ records_from default_config (length rest + 1) after rest
 takes_next state after bytes rest fields None next is = cc is
 takes_next state after bytes rest fields (Some read) next is =
     rw (is.1, is.2, is.3) (records_from-first default_config state bytes read next)
 
-is_over_next : (state after : State) (bytes rest : List ℕ) (fields : List (List ℕ)) (found : Option Read) → next_record default_config state [] [] bytes ≡ found
+is_over_next : (state after : State) (bytes rest : List ℕ) (fields : List (List ℕ)) (found : Option Read)
+    → next_record default_config state [] [] bytes ≡ found
     → NextIs found false fields after rest → records_from default_config (length bytes + 1) state bytes ≡ []
 is_over_next state after bytes rest fields None next is = records_from-none default_config state bytes next
 is_over_next state after bytes rest fields (Some read) next is = cc (is.0)
@@ -94,14 +109,16 @@ is_over_next state after bytes rest fields (Some read) next is = cc (is.0)
 rows_in : State → Option (List ℕ) → Option (List (List (List ℕ)))
 rows_in state source = option_map (λ bytes. records_from default_config (length bytes + 1) state bytes) source
 
-takes_from : (state after : State) (before left : Option (List ℕ)) (fields : List (List ℕ)) → ReadsNext default_config state before left true fields after
+takes_from : (state after : State) (before left : Option (List ℕ)) (fields : List (List ℕ))
+    → ReadsNext default_config state before left true fields after
     → Takes (rows_in state before) fields (rows_in after left)
 unfolding rows_in
 takes_from state after None left fields reads = tt
 takes_from state after (Some bytes) None fields reads = absurd reads
 takes_from state after (Some bytes) (Some rest) fields reads = takes_next state after bytes rest fields _ refl reads
 
-is_over_from : (state after : State) (before left : Option (List ℕ)) (fields : List (List ℕ)) → ReadsNext default_config state before left false fields after
+is_over_from : (state after : State) (before left : Option (List ℕ)) (fields : List (List ℕ))
+    → ReadsNext default_config state before left false fields after
     → IsOver (rows_in state before)
 unfolding rows_in
 is_over_from state after None left fields reads = tt
@@ -114,14 +131,17 @@ source_of-begun : {R : Type 0} (remaining : R → Option (List ℕ)) (reader : R
 source_of-begun remaining reader begun = rw begun refl
 
 -- a read that found a record took the first of those left
-takes-first : {R : Type 0} (remaining : R → Option (List ℕ)) (old new : Reader R) (fields : List (List ℕ)) → old.config ≡ default_config
+takes-first : {R : Type 0} (remaining : R → Option (List ℕ)) (old new : Reader R) (fields : List (List ℕ))
+    → old.config ≡ default_config
     → ReadRecord remaining old new true fields → Takes (rows_left remaining old) fields (rows_left remaining new)
 unfolding rows_in
 takes-first remaining old new fields plain reads =
-    rw (source_of-begun remaining new reads.1) (takes_from old.state new.state (source_of remaining old) (pending_of (remaining new.rdr) new) fields (rw plain at reads.0))
+    rw (source_of-begun remaining new reads.1)
+    (takes_from old.state new.state (source_of remaining old) (pending_of (remaining new.rdr) new) fields (rw plain at reads.0))
 
 -- a read that found none shows that none are left
-is_over-none : {R : Type 0} (remaining : R → Option (List ℕ)) (old new : Reader R) (fields : List (List ℕ)) → old.config ≡ default_config
+is_over-none : {R : Type 0} (remaining : R → Option (List ℕ)) (old new : Reader R) (fields : List (List ℕ))
+    → old.config ≡ default_config
     → ReadRecord remaining old new false fields → IsOver (rows_left remaining old)
 unfolding rows_in
 is_over-none remaining old new fields plain reads =
@@ -132,7 +152,8 @@ abbrev pub ReadsIf : {R : Type 0} → (R → Option (List ℕ)) → Reader R →
 ReadsIf remaining old new fields result =
     IfOk result (λ found. (reader_trim old ≡ trim.None) → Ready old → ReadRecord remaining old new found fields)
 
-pub finds_if_read : {R : Type 0} (remaining : R → Option (List ℕ)) (old new : Reader R) (fields : List (List ℕ)) (result : Result Bool Error)
+pub finds_if_read : {R : Type 0} (remaining : R → Option (List ℕ)) (old new : Reader R) (fields : List (List ℕ))
+    (result : Result Bool Error)
     → IsPlain old → ReadsIf remaining old new fields result
     → IfOk result (λ found. Finds found (rows_left remaining old) fields (rows_left remaining new))
 finds_if_read remaining old new fields (Ok true) plain reads =

@@ -8,7 +8,8 @@ use Rattle.feed_csv.specs.Records.{Row}
 use Rattle.feed_csv.specs.declared.command.Command.{Command}
 use Rattle.feed_csv.specs.declared.command.Command.TheVariants.{Op, Commit, OpenSlot, CloseSlot, Query}
 use Rattle.feed_csv.specs.declared.command.FeedWord.{FeedWord}
-use Rattle.feed_csv.specs.declared.command.FeedWord.TheVariants.{Read, BadCommand, BadFields, BadName, BadWeight, BadTime, BadSlot, Memory}
+use Rattle.feed_csv.specs.declared.command.FeedWord.TheVariants.{Read, BadCommand, BadFields, BadName, BadWeight, BadTime}
+use Rattle.feed_csv.specs.declared.command.FeedWord.TheVariants.{BadSlot, Memory}
 
 -- i,kind,source,target,weight,time
 unfoldable pub insert_of : Row → Result Command FeedWord

@@ -1,5 +1,6 @@
 -- What a record's fields stand for, one at a time. Places are counted from 0, and the word of the command has place 0.
-use Rattle.std.specs.Prelude.{ℕ, ℤ, nat_eq, bytes_eq, codes, List, [], length, if◌then◌else◌, Option, Some, None, unwrap_or, Result, Ok, Err}
+use Rattle.std.specs.Prelude.{ℕ, ℤ, nat_eq, bytes_eq, codes, List, [], length, if◌then◌else◌, Option, Some, None, unwrap_or}
+use Rattle.std.specs.Prelude.{Result, Ok, Err}
 use Rattle.csv.specs.Records.{field_at}
 use Rattle.graph_model.specs.Valid.{is_kind_name, is_name}
 use Rattle.feed_csv.specs.Number.{slot_of, time_of, weight_of}

@@ -1,5 +1,6 @@
 -- Numbers as a script writes them: decimal digits, the greatest place first.
-use Rattle.std.specs.Prelude.{ℕ, ◌+◌, ◌-◌, ◌*◌, ◌^◌, nat_eq, nat_le, ◌&&◌, ℤ, pos, neg_ℤ, Bool, List, [], ◌∷◌, length, drop, if◌then◌else◌, Option, Some, None, option_map}
+use Rattle.std.specs.Prelude.{ℕ, ◌+◌, ◌-◌, ◌*◌, ◌^◌, nat_eq, nat_le, ◌&&◌, ℤ, pos, neg_ℤ, Bool, List, [], ◌∷◌, length, drop}
+use Rattle.std.specs.Prelude.{if◌then◌else◌, Option, Some, None, option_map}
 use Rattle.std.specs.Char.{is_ascii_digit}
 use Rattle.std.specs.List.{list_all, starts_with}
 

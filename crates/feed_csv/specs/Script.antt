@@ -5,7 +5,8 @@ use Rattle.feed_csv.specs.Records.{IsOver, Row, Takes, record_limit}
 use Rattle.feed_csv.specs.declared.command.Command.{Command}
 use Rattle.feed_csv.specs.declared.command.FeedFault.{FeedFault}
 use Rattle.feed_csv.specs.declared.command.FeedWord.{FeedWord}
-use Rattle.feed_csv.specs.declared.command.FeedWord.TheVariants.{Read, BadCommand, BadFields, BadName, BadWeight, BadTime, BadSlot, Memory}
+use Rattle.feed_csv.specs.declared.command.FeedWord.TheVariants.{Read, BadCommand, BadFields, BadName, BadWeight, BadTime}
+use Rattle.feed_csv.specs.declared.command.FeedWord.TheVariants.{BadSlot, Memory}
 use Rattle.feed_csv.specs.declared.phase.Phase.{Phase}
 use Rattle.feed_csv.specs.declared.phase.Phase.TheVariants.{Reading, Ended, Stopped}
 
