@@ -1,0 +1,5 @@
+pub mod Parts
+pub mod Counting
+pub mod Blocks
+pub mod Turns
+pub mod Whole
