@@ -16,16 +16,19 @@ use Rattle.stinger_server.specs.declared.words.Word.TheVariants.{KindsFull, Name
 abbrev left_of : State → Graph
 left_of s = after_all s.pending (last_version s)
 
-commit_refusal-none : (s : State) → length (left_of s).names ≤ name_limit → length (left_of s).kinds ≤ kind_limit → commit_refusal s ≡ None
+commit_refusal-none : (s : State) → length (left_of s).names ≤ name_limit → length (left_of s).kinds ≤ kind_limit
+    → commit_refusal s ≡ None
 commit_refusal-none s names kinds = grind (arith, nat_tests)
 
 commit_refusal-names : (s : State) → name_limit < length (left_of s).names → commit_refusal s ≡ Some NamesFull
 commit_refusal-names s names = grind (arith, nat_tests)
 
-commit_refusal-kinds : (s : State) → length (left_of s).names ≤ name_limit → kind_limit < length (left_of s).kinds → commit_refusal s ≡ Some KindsFull
+commit_refusal-kinds : (s : State) → length (left_of s).names ≤ name_limit → kind_limit < length (left_of s).kinds
+    → commit_refusal s ≡ Some KindsFull
 commit_refusal-kinds s names kinds = grind (arith, nat_tests)
 
-pub commit_done : (s : State) (pending : List NamedOp) (start : Graph) (version : ℕ) (lines : List ℕ) → pending ≡ s.pending → start ≡ last_version s
+pub commit_done : (s : State) (pending : List NamedOp) (start : Graph) (version : ℕ) (lines : List ℕ) → pending ≡ s.pending
+    → start ≡ last_version s
     → length (after_all pending start).names ≤ name_limit → length (after_all pending start).kinds ≤ kind_limit
     → version ≡ length s.batches + 1 → lines ≡ commit_line version (outcomes pending start) → IsDone Commit s (Ok lines)
 commit_done s pending start version lines same_pending same_start names kinds same_version same_lines =
@@ -56,4 +59,5 @@ not_open (Some (Some n)) not = cc
 pub open_done : (s : State) (slot version : ℕ) (lines : List ℕ) → version_in (slice_get s.held slot) ≡ Err NotOpen
     → version ≡ length s.batches → lines ≡ open_line slot version → IsDone (OpenSlot slot) s (Ok lines)
 open_done s slot version lines free same_version same_lines =
-    let held : slice_get s.held slot ≡ Some None = not_open (slice_get s.held slot) free in rw (held, same_lines, same_version) refl
+    let held : slice_get s.held slot ≡ Some None =
+    not_open (slice_get s.held slot) free in rw (held, same_lines, same_version) refl

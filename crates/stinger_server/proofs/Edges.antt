@@ -1,5 +1,6 @@
 -- The out-degrees of a graph add up to the number of edges in the view: each of them leaves one vertex.
-use Rattle.std.proofs.Common.{◌≡◌, ℕ, ◌+◌, ◌<◌, ◌≤◌, zero, suc, Bool, true, false, cond, ◌&&◌, List, [], ◌∷◌, length, map, arith, refl, sym, ◌∙◌, inl, inr}
+use Rattle.std.proofs.Common.{◌≡◌, ℕ, ◌+◌, ◌<◌, ◌≤◌, zero, suc, Bool, true, false, cond, ◌&&◌, List, [], ◌∷◌, length, map, arith}
+use Rattle.std.proofs.Common.{refl, sym, ◌∙◌, inl, inr}
 use Rattle.std.specs.Prelude.{All, count_by, sum_by, ◌==◌}
 use Rattle.std.specs.List.{range_with_len, zip}
 use Rattle.std.specs.FinMap.{entries}
@@ -59,13 +60,15 @@ one_shown false s n below = sum_from-zero 0 n
 
 -- each listed edge in the view leaves one of the first n vertices
 by_sources : (f : Filter) (es : List Edge) (n : ℕ) → All (λ e. e.source.0 < n) es
-    → sum_from (λ v. count_by (λ e. leaves f v (key_of e, stamp_of e)) es) 0 n ≡ count_by (λ e. in_view f (key_of e, stamp_of e)) es
+    → sum_from (λ v. count_by (λ e. leaves f v (key_of e, stamp_of e)) es) 0 n
+    ≡ count_by (λ e. in_view f (key_of e, stamp_of e)) es
 by_sources f [] n all = sum_from-zero 0 n
 by_sources f (e ∷ es) n all =
     let split = sum_from-ext (λ v. count_by (λ e. leaves f v (key_of e, stamp_of e)) (e ∷ es))
     (λ v. cond (leaves f v (key_of e, stamp_of e)) 1 0 + count_by (λ e. leaves f v (key_of e, stamp_of e)) es)
     (λ v. sum_by-cons (λ e. cond (leaves f v (key_of e, stamp_of e)) 1 0) e es) 0 n in
-    let added = sum_from-add (λ v. cond (leaves f v (key_of e, stamp_of e)) 1 0) (λ v. count_by (λ e. leaves f v (key_of e, stamp_of e)) es) 0 n in
+    let added = sum_from-add (λ v. cond (leaves f v (key_of e, stamp_of e)) 1 0)
+    (λ v. count_by (λ e. leaves f v (key_of e, stamp_of e)) es) 0 n in
     let one = one_shown (in_view f (key_of e, stamp_of e)) e.source.0 n (all 0 e (omega arith)) in
     let rest = by_sources f es n (λ k d h. all (suc k) d (omega arith)) in
     let counted = sum_by-cons (λ e. cond (in_view f (key_of e, stamp_of e)) 1 0) e es in
@@ -73,19 +76,23 @@ by_sources f (e ∷ es) n all =
 
 -- a table's column of out-degrees, added up
 column : (h : ℕ → Degree) (names : List (List ℕ)) (a : ℕ)
-    → sum_by (λ entry. entry.1.outgoing) (zip names (map h (range_with_len a (length names)))) ≡ sum_from (λ v. (h v).outgoing) a (length names)
+    → sum_by (λ entry. entry.1.outgoing) (zip names (map h (range_with_len a (length names))))
+    ≡ sum_from (λ v. (h v).outgoing) a (length names)
 column h [] a = refl
 column h (name ∷ names) a =
-    let first = sum_by-cons (λ (entry : List ℕ × Degree). entry.1.outgoing) (name, h a) (zip names (map h (range_with_len (a + 1) (length names)))) in
+    let first = sum_by-cons (λ (entry : List ℕ × Degree). entry.1.outgoing) (name, h a)
+    (zip names (map h (range_with_len (a + 1) (length names)))) in
     omega (arith, first, column h names (a + 1))
 
 pub edges_in_view : (filter : Filter) (content : Content) → IsContent content
     → sum_by (λ entry. entry.1.outgoing) (zip content.names (degree_table filter (graph_of content)))
     ≡ count_by (in_view filter) (entries (graph_of content).edges)
 edges_in_view filter content valid =
-    let sources : All (λ (e : Edge). e.source.0 < length content.names) content.edges = λ k d h. (valid.edges_within k d h).source in
+    let sources : All (λ (e : Edge). e.source.0 < length content.names) content.edges =
+    λ k d h. (valid.edges_within k d h).source in
     column (degree_at filter (graph_of content)) content.names 0
-    ∙ (sum_from-ext (λ v. (degree_at filter (graph_of content) v).outgoing) (λ v. count_by (λ e. leaves filter v (key_of e, stamp_of e)) content.edges)
+    ∙ (sum_from-ext (λ v. (degree_at filter (graph_of content) v).outgoing)
+    (λ v. count_by (λ e. leaves filter v (key_of e, stamp_of e)) content.edges)
     (λ v. count_entries (leaves filter v) content.edges valid.keys_distinct) 0 (length content.names)
     ∙ (by_sources filter content.edges (length content.names) sources
     ∙ sym (count_entries (in_view filter) content.edges valid.keys_distinct)))

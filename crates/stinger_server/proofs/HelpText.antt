@@ -7,7 +7,8 @@ use Rattle.stinger_server.specs.Writes.{AppendsPart}
 use Rattle.stinger_server.proofs.Writing.{appends_kept, appends_nothing, appends_then}
 
 -- a text of two parts ends with the second
-pub told_ending : (front end : List ℕ) (told status : ℕ) (old new : Option (List ℕ)) → IsTold (λ text. text ≡ front ++ end) told status old new
+pub told_ending : (front end : List ℕ) (told status : ℕ) (old new : Option (List ℕ))
+    → IsTold (λ text. text ≡ front ++ end) told status old new
     → IsTold (EndsWith end) told status old new
 told_ending front end told status old new said = elim said [
   | inl whole ↦ inl (whole.0, (whole.1.0, whole.1.1, (front, whole.1.2)))
@@ -15,7 +16,8 @@ told_ending front end told status old new said = elim said [
 ]
 
 -- nothing was told of a text
-pub told_nothing : (IsSaid : List ℕ → Type 0) (text : List ℕ) (told : ℕ) (old : Option (List ℕ)) → IsSaid text → IsTold IsSaid told 1 old old
+pub told_nothing : (IsSaid : List ℕ → Type 0) (text : List ℕ) (told : ℕ) (old : Option (List ℕ)) → IsSaid text
+    → IsTold IsSaid told 1 old old
 told_nothing IsSaid text told old said = inr (refl, (text, said, ([], text, refl, appends_nothing old)))
 
 -- both parts were written, and the flush failed

@@ -5,7 +5,8 @@ use Rattle.std.specs.Io.KnownBytes.{Appends}
 use Rattle.feed_csv.specs.Script.{FaultStep, RefusesRow, Script}
 use Rattle.feed_csv.specs.declared.command.Command.{Command}
 use Rattle.feed_csv.specs.declared.command.FeedWord.{FeedWord}
-use Rattle.feed_csv.specs.declared.command.FeedWord.TheVariants.{Read, BadCommand, BadFields, BadName, BadWeight, BadTime, BadSlot, Memory}
+use Rattle.feed_csv.specs.declared.command.FeedWord.TheVariants.{Read, BadCommand, BadFields, BadName, BadWeight, BadTime}
+use Rattle.feed_csv.specs.declared.command.FeedWord.TheVariants.{BadSlot, Memory}
 use Rattle.stinger_server.specs.declared.script.Run.{Run}
 use Rattle.stinger_server.specs.declared.server.Response.{Response}
 use Rattle.stinger_server.specs.declared.server.Response.TheVariants.{Lines, Refused}
@@ -17,7 +18,8 @@ use Rattle.stinger_server.specs.States.{error_count, printed}
 use Rattle.stinger_server.specs.Writes.{AppendsPart}
 
 -- a word of the feed that ends nothing refuses a record
-pub fault_row : (word : FeedWord) (old new : Script) → (word ≡ Read → ⊥) → (word ≡ Memory → ⊥) → FaultStep word old new → RefusesRow old word new
+pub fault_row : (word : FeedWord) (old new : Script) → (word ≡ Read → ⊥) → (word ≡ Memory → ⊥) → FaultStep word old new
+    → RefusesRow old word new
 fault_row Read old new read memory step = absurd (read refl)
 fault_row Memory old new read memory step = absurd (memory refl)
 fault_row BadCommand old new read memory step = step
@@ -39,7 +41,8 @@ refusals-few (Refused word) = omega arith
 pub obeyed : (command : Command) (response : Response) (old mid new : Run) (before after : Option (List ℕ))
     → Obeys command old.server response (string_bytes mid.lines) mid.server → IsServer mid.server
     → mid.records ≡ old.records → mid.errors ≡ old.errors
-    → Appends before after (printed (mid.records + 1) (result_of response (string_bytes mid.lines))) → CountsRecord mid response new
+    → Appends before after (printed (mid.records + 1) (result_of response (string_bytes mid.lines)))
+    → CountsRecord mid response new
     → Done (Ok command) old before new after
 obeyed command response old mid new before after obeys server records errors written counted =
     let few : refusals response ≤ 1 = refusals-few response in
@@ -57,7 +60,8 @@ obeyed command response old mid new before after obeys server records errors wri
             record {
               server = rw same taken.1;
               records = counted.records ∙ ap (λ n. n + 1) number;
-              errors = let count = error_count-result_of response (string_bytes mid.lines) in let errors_here = shows.errors in omega (arith, counted.errors);
+              errors = let count = error_count-result_of response (string_bytes mid.lines) in let errors_here =
+                  shows.errors in omega (arith, counted.errors);
             },
           );
     }
@@ -65,7 +69,8 @@ obeyed command response old mid new before after obeys server records errors wri
 -- a record that is no command was refused
 pub refused : (row_item : Result Command FeedWord) (word : FeedWord) (old new : Run) (before after : Option (List ℕ))
     → row_item ≡ Err word → IsServer old.server
-    → Appends before after (printed (old.records + 1) (result_of (Refused (Feed word)) (string_bytes old.lines))) → CountsRecord old (Refused (Feed word)) new
+    → Appends before after (printed (old.records + 1) (result_of (Refused (Feed word)) (string_bytes old.lines)))
+    → CountsRecord old (Refused (Feed word)) new
     → Done row_item old before new after
 refused row_item word old new before after is server written counted =
     let same : new.server ≡ old.server = counted.server in
@@ -88,13 +93,16 @@ refused row_item word old new before after is server written counted =
 
 pub breaks_obeyed : (command : Command) (response : Response) (old mid : Run) (before after : Option (List ℕ))
     → Obeys command old.server response (string_bytes mid.lines) mid.server → mid.records ≡ old.records
-    → AppendsPart before after (printed (mid.records + 1) (result_of response (string_bytes mid.lines))) → BreaksOff (Ok command) old before after
+    → AppendsPart before after (printed (mid.records + 1) (result_of response (string_bytes mid.lines)))
+    → BreaksOff (Ok command) old before after
 breaks_obeyed command response old mid before after obeys records part = λ here shows.
     let number : mid.records ≡ here.records = records ∙ shows.records in
     inl (result_of response (string_bytes mid.lines), (obeys here.state shows.server).0, rw (← number) part)
 
-pub breaks_refused : (row_item : Result Command FeedWord) (word : FeedWord) (old : Run) (before after : Option (List ℕ)) → row_item ≡ Err word
-    → AppendsPart before after (printed (old.records + 1) (result_of (Refused (Feed word)) (string_bytes old.lines))) → BreaksOff row_item old before after
+pub breaks_refused : (row_item : Result Command FeedWord) (word : FeedWord) (old : Run) (before after : Option (List ℕ))
+    → row_item ≡ Err word
+    → AppendsPart before after (printed (old.records + 1) (result_of (Refused (Feed word)) (string_bytes old.lines)))
+    → BreaksOff row_item old before after
 breaks_refused row_item word old before after is part = λ here shows.
     inl (Err (Feed word), rw is refl, rw (← shows.records) part)
 

@@ -1,5 +1,6 @@
 -- As many vertices are their own label as there are different labels.
-use Rattle.std.proofs.Common.{◌≡◌, ◌≢◌, ℕ, ◌+◌, ◌<◌, ◌≤◌, zero, suc, List, [], ◌∷◌, ◌++◌, Bool, true, false, cond, ◌||◌, length, map, get_or, bytes_eq, fold, zip, count_by, arith, refl, sym, ◌∙◌, ap, inl, inr}
+use Rattle.std.proofs.Common.{◌≡◌, ◌≢◌, ℕ, ◌+◌, ◌<◌, ◌≤◌, zero, suc, List, [], ◌∷◌, ◌++◌, Bool, true, false, cond, ◌||◌, length}
+use Rattle.std.proofs.Common.{map, get_or, bytes_eq, fold, zip, count_by, arith, refl, sym, ◌∙◌, ap, inl, inr}
 use Rattle.std.specs.Prelude.{◌⊎◌, AllPairs}
 use Rattle.std.specs.List.{list_any, range_with_len}
 use Rattle.std.proofs.lemmas.Bool.{cases_lt, false≢true}
@@ -41,7 +42,8 @@ with_name-listed names name n listed = go (list_any (bytes_eq name) names) refl 
     go : (b : Bool) → list_any (bytes_eq name) names ≡ b → list_any (bytes_eq n) (cond b names (names ++ name ∷ [])) ≡ true
         → (list_any (bytes_eq n) names ≡ true) ⊎ (n ≡ name)
     go true is h = inl h
-    go false is h = split (list_any (bytes_eq n) names) (bytes_eq n name) refl (sym (list_any-append (bytes_eq n) names (name ∷ [])) ∙ h)
+    go false is h = split (list_any (bytes_eq n) names) (bytes_eq n name) refl
+        (sym (list_any-append (bytes_eq n) names (name ∷ [])) ∙ h)
 
 seen_more : (label : ℕ → ℕ) (name : ℕ → List ℕ) (v : ℕ) (seen : List (List ℕ)) → Seen label name v seen
     → Seen label name (v + 1) (with_name seen (name (label v)))
@@ -59,7 +61,8 @@ seen_more label name v seen before = record {
   at_most w below = omega arith
 
 -- a label that wasn't seen is that of its own vertex
-grown : (total : ℕ) (label : ℕ → ℕ) (name : ℕ → List ℕ) (v : ℕ) (seen : List (List ℕ)) → AreOwn total label name → v < total → Seen label name v seen
+grown : (total : ℕ) (label : ℕ → ℕ) (name : ℕ → List ℕ) (v : ℕ) (seen : List (List ℕ)) → AreOwn total label name → v < total
+    → Seen label name v seen
     → length (with_name seen (name (label v))) ≡ length seen + cond (bytes_eq (name v) (name (label v))) 1 0
 grown total label name v seen are within before =
     go (bytes_eq (name v) (name (label v))) refl (list_any (bytes_eq (name (label v))) seen) refl
@@ -88,7 +91,8 @@ grown total label name v seen are within before =
 
     never : label v < v → list_any (bytes_eq (name (label v))) seen ≡ false → ⊥
     never lower unseen =
-        false≢true (sym unseen ∙ (ap (λ u. list_any (bytes_eq (name u)) seen) (sym (are.own v within)) ∙ before.each (label v) lower))
+        false≢true
+        (sym unseen ∙ (ap (λ u. list_any (bytes_eq (name u)) seen) (sym (are.own v within)) ∙ before.each (label v) lower))
 
     go : (b : Bool) → bytes_eq (name v) (name (label v)) ≡ b → (s : Bool) → list_any (bytes_eq (name (label v))) seen ≡ s
         → length (cond s seen (seen ++ name (label v) ∷ [])) ≡ length seen + cond b 1 0
@@ -103,14 +107,17 @@ row label name v = (name v, name (label v))
 one_more : (all old new own more both : ℕ) → new ≡ old + own → all ≡ new + more → both ≡ own + more → all ≡ old + both
 one_more all old new own more both first rest sums = omega arith
 
-counted : (total : ℕ) (label : ℕ → ℕ) (name : ℕ → List ℕ) → AreOwn total label name → (v n : ℕ) (seen : List (List ℕ)) → v + n ≤ total → Seen label name v seen
+counted : (total : ℕ) (label : ℕ → ℕ) (name : ℕ → List ℕ) → AreOwn total label name → (v n : ℕ) (seen : List (List ℕ))
+    → v + n ≤ total → Seen label name v seen
     → length (fold with_name seen (map (λ entry. entry.1) (map (row label name) (range_with_len v n))))
     ≡ length seen + count_by (λ entry. bytes_eq entry.0 entry.1) (map (row label name) (range_with_len v n))
 counted total label name are v zero seen within before = omega arith
 counted total label name are v (suc n) seen within before =
     let first = grown total label name v seen are (omega arith) before in
-    let rest = counted total label name are (v + 1) n (with_name seen (name (label v))) (omega arith) (seen_more label name v seen before) in
-    let sums = sum_by-cons (λ (entry : List ℕ × List ℕ). cond (bytes_eq entry.0 entry.1) 1 0) (row label name v) (map (row label name) (range_with_len (v + 1) n)) in
+    let rest = counted total label name are (v + 1) n (with_name seen (name (label v))) (omega arith)
+    (seen_more label name v seen before) in
+    let sums = sum_by-cons (λ (entry : List ℕ × List ℕ). cond (bytes_eq entry.0 entry.1) 1 0) (row label name v)
+    (map (row label name) (range_with_len (v + 1) n)) in
     one_more _ _ _ _ _ _ first rest sums
 
 -- the rows of the vertices from one on, in number order
@@ -125,7 +132,8 @@ rows_from label name v (n ∷ names) (l ∷ labels) long are label_is =
     let second : l ≡ label v = label_is 0 v (omega arith) (omega arith) in
     let rest : zip names (map name labels) ≡ map (row label name) (range_with_len (v + 1) (length names)) =
     rows_from label name (v + 1) names labels (omega (arith, long))
-    (λ k j is below. are (suc k) j (omega arith) (omega arith)) (λ k j is below. label_is (suc k) j (omega arith) (omega arith)) in
+    (λ k j is below. are (suc k) j (omega arith) (omega arith))
+    (λ k j is below. label_is (suc k) j (omega arith) (omega arith)) in
     ap (λ xs. (n, name l) ∷ xs) rest ∙ ap (λ x. (x, name l) ∷ map (row label name) (range_with_len (v + 1) (length names))) first
     ∙ ap (λ u. (name v, name u) ∷ map (row label name) (range_with_len (v + 1) (length names))) second
 
@@ -146,7 +154,8 @@ pub own_labels : (f : Filter) (g : Graph) (labels : List ℕ) → AllPairs (λ a
     → count_by (λ entry. bytes_eq entry.0 entry.1) (zip g.names (names_of g.names labels))
     ≡ count_different (map (λ entry. entry.1) (zip g.names (names_of g.names labels)))
 own_labels f g labels distinct table =
-    rw (rows_from label name 0 g.names labels table.one_each (λ k j is below. ap name (place k j is)) (λ k j is below. ap label (place k j is)))
+    rw (rows_from label name 0 g.names labels table.one_each (λ k j is below. ap name (place k j is))
+    (λ k j is below. ap label (place k j is)))
     (nothing_before _ _ (counted (length g.names) label name are 0 (length g.names) [] (omega arith) none))
   where
     nothing_before : (a b : ℕ) → a ≡ 0 + b → b ≡ a

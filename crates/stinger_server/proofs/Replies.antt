@@ -23,7 +23,8 @@ length-zip (x ∷ xs) [] = omega arith
 length-zip (x ∷ xs) (y ∷ ys) = omega (arith, length-zip xs ys)
 
 -- a table of degrees has at most one entry for each vertex
-pub few_entries : (request : Request) (content : Content) (reply : Reply) → IsContent content → IsReply request (graph_of content) reply
+pub few_entries : (request : Request) (content : Content) (reply : Reply) → IsContent content
+    → IsReply request (graph_of content) reply
     → HasFewEntries reply
 few_entries (request.Degrees filter) content reply valid is =
     let short = length-zip content.names (degree_table (resolved (graph_of content) filter) (graph_of content)) in
@@ -49,15 +50,18 @@ shown_lines-reply slot (request.OneEdge kind source target) content reply valid 
 
 -- a result that isn't want of memory is an answer
 answer_ok : (request : Request) (g : Graph) (reply : Reply)
-    → ((let r : Result Reply AskError = Ok reply in r ≡ Err ask.OutOfMemory) ⊎ IsAnswer request g (Ok reply)) → IsAnswer request g (Ok reply)
+    → ((let r : Result Reply AskError = Ok reply in r ≡ Err ask.OutOfMemory) ⊎ IsAnswer request g (Ok reply))
+    → IsAnswer request g (Ok reply)
 answer_ok request g reply answer = elim answer [ inl short ↦ cc | inr is ↦ is ]
 
 answer_err : (request : Request) (g : Graph) (error : AskError) → (error ≡ ask.OutOfMemory → ⊥)
-    → ((let r : Result Reply AskError = Err error in r ≡ Err ask.OutOfMemory) ⊎ IsAnswer request g (Err error)) → IsAnswer request g (Err error)
+    → ((let r : Result Reply AskError = Err error in r ≡ Err ask.OutOfMemory) ⊎ IsAnswer request g (Err error))
+    → IsAnswer request g (Err error)
 answer_err request g error known answer = elim answer [ inl short ↦ absurd (known cc) | inr is ↦ is ]
 
 pub few_answered : (request : Request) (content : Content) (reply : Reply) → IsContent content
-    → ((let r : Result Reply AskError = Ok reply in r ≡ Err ask.OutOfMemory) ⊎ IsAnswer request (graph_of content) (Ok reply)) → HasFewEntries reply
+    → ((let r : Result Reply AskError = Ok reply in r ≡ Err ask.OutOfMemory) ⊎ IsAnswer request (graph_of content) (Ok reply))
+    → HasFewEntries reply
 few_answered request content reply valid answer =
     few_entries request content reply valid (answer_ok request (graph_of content) reply answer).1
 
@@ -68,7 +72,8 @@ pub replied_ok : (slot : ℕ) (request : Request) (s : State) (content : Content
     → lines ≡ shown_lines slot reply → IsReplied slot request s (version_in (slice_get s.held slot)) (Ok lines)
 replied_ok slot request s content n reply lines held valid same answer shown =
     let is = answer_ok request (graph_of content) reply answer in
-    let text : lines ≡ reply_lines slot request (graph_of content) reply = shown ∙ shown_lines-reply slot request content reply valid is.1 in
+    let text : lines ≡ reply_lines slot request (graph_of content) reply =
+    shown ∙ shown_lines-reply slot request content reply valid is.1 in
     rw (held, ← same) (Ok reply, is, ap (λ text. Ok text) text)
 
 pub replied_err : (slot : ℕ) (request : Request) (s : State) (content : Content) (n : ℕ) (error : AskError) (word : Word)

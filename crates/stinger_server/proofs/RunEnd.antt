@@ -18,15 +18,18 @@ cause_unstarted feed setup before after failed Write ends marked = marked
 
 -- a turn ended the run
 pub cause_stopped : (feed feed' : Script) (run run' : Run) (now after : Option (List ℕ)) (failed : Bool) (fault : ServeFault)
-    → Turns feed run now (Err fault) feed' run' after → failed ≡ is_write {T = Bool} (Err fault) → HasCause feed' failed (Err fault)
+    → Turns feed run now (Err fault) feed' run' after → failed ≡ is_write {T = Bool} (Err fault)
+    → HasCause feed' failed (Err fault)
 cause_stopped feed feed' run run' now after failed Read turned marked = (turned.0, marked)
 cause_stopped feed feed' run run' now after failed Memory turned marked = marked
 cause_stopped feed feed' run run' now after failed Write turned marked = marked
 
 -- the feed met the end of the input, and the run was finished
-pub cause_ended : (feed feed' : Script) (run run' : Run) (now mid : Option (List ℕ)) (failed : Bool) (result : Result Summary ServeFault)
+pub cause_ended : (feed feed' : Script) (run run' : Run) (now mid : Option (List ℕ)) (failed : Bool)
+    (result : Result Summary ServeFault)
     → IsReady feed run → Turns feed run now (Ok false) feed' run' mid
-    → IfOk result (λ summary. summary ≡ record { records = run'.records; errors = run'.errors; pending = length run'.server.pending })
+    → IfOk result
+    (λ summary. summary ≡ record { records = run'.records; errors = run'.errors; pending = length run'.server.pending })
     → IfErr result (λ fault. fault ≡ Write) → failed ≡ is_err result → HasCause feed' failed result
 cause_ended feed feed' run run' now mid failed (Ok summary) ready turned counts fault marked = (
   turned.0.ended,

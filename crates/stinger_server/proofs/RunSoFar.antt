@@ -1,5 +1,6 @@
 -- What a run has written so far, and what it has written when it ends.
-use Rattle.std.proofs.Common.{◌≡◌, ℕ, ◌+◌, ◌<◌, List, [], ◌∷◌, ◌++◌, length, append_assoc, append-nil, arith, refl, sym, ◌∙◌, ap, subst, inl, inr}
+use Rattle.std.proofs.Common.{◌≡◌, ℕ, ◌+◌, ◌<◌, List, [], ◌∷◌, ◌++◌, length, append_assoc, append-nil, arith, refl, sym, ◌∙◌, ap}
+use Rattle.std.proofs.Common.{subst, inl, inr}
 use Rattle.std.specs.Prelude.{true, false, Option, None, Some, Result, Ok, Err, IfErr, IfOk, IfSome, OnErr, OnOk, option_map}
 use Rattle.std.specs.Io.KnownBytes.{Appends}
 use Rattle.feed_csv.specs.Commands.{item_of}
@@ -37,7 +38,8 @@ leaves-append (Some rows) given row (Some more) None leaves takes = absurd takes
 leaves-append (Some rows) given row (Some more) (Some others) leaves takes =
     leaves ∙ (ap (λ rows. given ++ rows) takes ∙ sym (append_assoc given (row ∷ []) others))
 
-pub run-append : (rows : List Row) (row : Row) (here there : Progress) (text : List ℕ) (outcome : RecordResult) → IsRun rows here text there
+pub run-append : (rows : List Row) (row : Row) (here there : Progress) (text : List ℕ) (outcome : RecordResult)
+    → IsRun rows here text there
     → IsRecordResult (item_of row) there.state outcome
     → IsRun (rows ++ row ∷ []) here (text ++ printed (there.records + 1) outcome) (after_record (item_of row) outcome there)
 run-append [] row here there text outcome run is =
@@ -46,7 +48,8 @@ run-append (first ∷ rows) row here there text outcome run is = (
   run.0,
   run.1 ++ printed (there.records + 1) outcome,
   run.2,
-  ap (λ text. text ++ printed (there.records + 1) outcome) run.3 ∙ append_assoc (printed (here.records + 1) run.0) run.1 (printed (there.records + 1) outcome),
+  ap (λ text. text ++ printed (there.records + 1) outcome) run.3
+      ∙ append_assoc (printed (here.records + 1) run.0) run.1 (printed (there.records + 1) outcome),
   run-append rows row (after_record (item_of first) run.0 here) there run.1 outcome run.4 is,
 )
 
@@ -60,7 +63,8 @@ pub record Reaches (setup : Setup) (first left : Option (List Row)) (run : Run) 
   pub written : Appends before now lines
   pub shows : ShowsRun run here
 
-pub reaches_nothing : (setup : Setup) (first : Option (List Row)) (run : Run) (before : Option (List ℕ)) → ShowsRun run (beginning setup)
+pub reaches_nothing : (setup : Setup) (first : Option (List Row)) (run : Run) (before : Option (List ℕ))
+    → ShowsRun run (beginning setup)
     → Reaches setup first first run before before
 reaches_nothing setup first run before shows = record {
   given = [];
@@ -72,7 +76,8 @@ reaches_nothing setup first run before shows = record {
   shows = shows;
 }
 
-pub reaches_more : (setup : Setup) (first : Option (List Row)) (feed feed' : Script) (run run' : Run) (before now after : Option (List ℕ))
+pub reaches_more : (setup : Setup) (first : Option (List Row)) (feed feed' : Script) (run run' : Run)
+    (before now after : Option (List ℕ))
     → Reaches setup first feed.left run before now → Turns feed run now (Ok true) feed' run' after
     → Reaches setup first feed'.left run' before after
 reaches_more setup first feed feed' run run' before now after reached turned =
@@ -94,7 +99,8 @@ start_of setup rows None run before now reached = absurd reached.leaves
 start_of setup rows (Some rest) run before now reached = (reached.given, rest, reached.leaves, reached.is_run)
 
 -- the text so far, and then the error line of an end
-cut_of : (setup : Setup) (rows : List Row) (left : Option (List Row)) (run : Run) (before now : Option (List ℕ)) (word : Word) (count : ℕ)
+cut_of : (setup : Setup) (rows : List Row) (left : Option (List Row)) (run : Run) (before now : Option (List ℕ)) (word : Word)
+    (count : ℕ)
     → (reached : Reaches setup (Some rows) left run before now) → count ≡ run.records
     → IsCut setup rows word count (reached.lines ++ error_line (run.records + 1) word)
 cut_of setup rows left run before now word count reached same = (
@@ -106,8 +112,10 @@ cut_of setup rows left run before now word count reached same = (
 )
 
 -- a part of what follows the text so far
-part_of : (setup : Setup) (rows : List Row) (left : Option (List Row)) (run : Run) (before now after : Option (List ℕ)) (next : List ℕ) (count : ℕ)
-    → (reached : Reaches setup (Some rows) left run before now) → IsWanted setup rows (reached.lines ++ next) → AppendsPart now after next
+part_of : (setup : Setup) (rows : List Row) (left : Option (List Row)) (run : Run) (before now after : Option (List ℕ))
+    (next : List ℕ) (count : ℕ)
+    → (reached : Reaches setup (Some rows) left run before now) → IsWanted setup rows (reached.lines ++ next)
+    → AppendsPart now after next
     → AppendsSome before after (IsText setup rows count (Err Write))
 part_of setup rows left run before now after next count reached wanted part = (
   reached.lines ++ part.0,
@@ -121,9 +129,12 @@ part_of setup rows left run before now after next count reached wanted part = (
 )
 
 -- the run breaks off in what a record prints
-started_with : (setup : Setup) (rows : List Row) (row : Row) (left rest : Option (List Row)) (run : Run) (before now : Option (List ℕ)) (outcome : RecordResult)
-    → (reached : Reaches setup (Some rows) left run before now) → Takes left row rest → IsRecordResult (item_of row) reached.here.state outcome
-    → IsStart setup rows (reached.lines ++ printed (reached.here.records + 1) outcome) (after_record (item_of row) outcome reached.here)
+started_with : (setup : Setup) (rows : List Row) (row : Row) (left rest : Option (List Row)) (run : Run)
+    (before now : Option (List ℕ)) (outcome : RecordResult)
+    → (reached : Reaches setup (Some rows) left run before now) → Takes left row rest
+    → IsRecordResult (item_of row) reached.here.state outcome
+    → IsStart setup rows (reached.lines ++ printed (reached.here.records + 1) outcome)
+    (after_record (item_of row) outcome reached.here)
 started_with setup rows row left None run before now outcome reached takes is =
     absurd (leaves-append (Some rows) reached.given row left None reached.leaves takes)
 started_with setup rows row left (Some others) run before now outcome reached takes is = (
@@ -134,7 +145,8 @@ started_with setup rows row left (Some others) run before now outcome reached ta
 )
 
 -- a turn that ended the run
-pub stopped : (setup : Setup) (rows : List Row) (feed feed' : Script) (run run' : Run) (before now after : Option (List ℕ)) (fault : ServeFault)
+pub stopped : (setup : Setup) (rows : List Row) (feed feed' : Script) (run run' : Run) (before now after : Option (List ℕ))
+    (fault : ServeFault)
     → Reaches setup (Some rows) feed.left run before now → Turns feed run now (Err fault) feed' run' after
     → AppendsSome before after (IsText setup rows (records_done feed') (Err fault))
 stopped setup rows feed feed' run run' before now after Read reached turned = (
@@ -150,22 +162,34 @@ stopped setup rows feed feed' run run' before now after Memory reached turned = 
 stopped setup rows feed feed' run run' before now after Write reached turned = elim turned [
   | inl broken ↦ broken_off broken
   | inr line ↦ elim line [
-    | inl part ↦ part_of setup rows feed.left run before now after (error_line (run.records + 1) (Feed feed_word.Read)) (records_done feed') reached
-        (inr (inr (run.records, inl (cut_of setup rows feed.left run before now (Feed feed_word.Read) run.records reached refl)))) part
-    | inr part ↦ part_of setup rows feed.left run before now after (error_line (run.records + 1) (Feed feed_word.Memory)) (records_done feed') reached
-        (inr (inr (run.records, inr (cut_of setup rows feed.left run before now (Feed feed_word.Memory) run.records reached refl)))) part
+    | inl part ↦ part_of setup rows feed.left run before now after (error_line (run.records + 1) (Feed feed_word.Read))
+        (records_done feed') reached
+        (inr (inr (run.records, inl (cut_of setup rows feed.left run before now (Feed feed_word.Read) run.records reached refl))))
+        part
+    | inr part ↦ part_of setup rows feed.left run before now after (error_line (run.records + 1) (Feed feed_word.Memory))
+        (records_done feed') reached
+        (inr
+        (inr (run.records, inr (cut_of setup rows feed.left run before now (Feed feed_word.Memory) run.records reached refl))))
+        part
   ]
 ] where
   broken_off : ((row : Row) × TakesRow feed row feed' × BreaksOff (item_of row) run now after)
       → AppendsSome before after (IsText setup rows (records_done feed') (Err Write))
   broken_off broken = elim (broken.2 reached.here reached.shows) [
-    | inl part ↦ part_of setup rows feed.left run before now after (printed (reached.here.records + 1) part.0) (records_done feed') reached
+    | inl part ↦ part_of setup rows feed.left run before now after (printed (reached.here.records + 1) part.0)
+        (records_done feed') reached
         (inl (
           after_record (item_of broken.0) part.0 reached.here,
           started_with setup rows broken.0 feed.left feed'.left run before now part.0 reached broken.1.left part.1,
         )) part.2
-    | inr part ↦ part_of setup rows feed.left run before now after (error_line (reached.here.records + 1) (Feed feed_word.Memory)) (records_done feed') reached
-        (inr (inr (reached.here.records, inr (reached.lines, reached.here, start_of setup rows feed.left run before now reached, refl, refl)))) part
+    | inr part ↦ part_of setup rows feed.left run before now after (error_line (reached.here.records + 1) (Feed feed_word.Memory))
+        (records_done feed') reached
+        (inr
+        (inr (
+          reached.here.records,
+          inr
+              (reached.lines, reached.here, start_of setup rows feed.left run before now reached, refl, refl),
+        ))) part
   ]
 
 -- all records were given
@@ -182,8 +206,10 @@ whole_of setup rows (Some rest) run before now reached over few =
       rw (← number) few,
     )
 
-pub finished : (setup : Setup) (rows : List Row) (left : Option (List Row)) (run : Run) (before now after : Option (List ℕ)) (count : ℕ)
-    (summary : Summary) → Reaches setup (Some rows) left run before now → IsOver left → run.records < record_limit → count ≡ run.records
+pub finished : (setup : Setup) (rows : List Row) (left : Option (List Row)) (run : Run) (before now after : Option (List ℕ))
+    (count : ℕ)
+    (summary : Summary) → Reaches setup (Some rows) left run before now → IsOver left → run.records < record_limit
+    → count ≡ run.records
     → Appends now after (end_line (length run.server.pending))
     → summary ≡ record { records = run.records; errors = run.errors; pending = length run.server.pending }
     → AppendsSome before after (IsText setup rows count (Ok summary))
@@ -198,7 +224,8 @@ finished setup rows left run before now after count summary reached over few sam
   ),
 )
 
-pub unfinished : (setup : Setup) (rows : List Row) (left : Option (List Row)) (run : Run) (before now after : Option (List ℕ)) (count : ℕ)
+pub unfinished : (setup : Setup) (rows : List Row) (left : Option (List Row)) (run : Run) (before now after : Option (List ℕ))
+    (count : ℕ)
     → Reaches setup (Some rows) left run before now → IsOver left → run.records < record_limit
     → AppendsPart now after (end_line (length run.server.pending))
     → AppendsSome before after (IsText setup rows count (Err Write))
@@ -207,12 +234,14 @@ unfinished setup rows left run before now after count reached over few part =
     (inr (inl (reached.here, whole_of setup rows left run before now reached over few))) part
 
 -- a run that memory ended before its first record
-pub unstarted : (setup : Setup) (rows : List Row) (before after : Option (List ℕ)) → Appends before after (error_line 1 (Feed feed_word.Memory))
+pub unstarted : (setup : Setup) (rows : List Row) (before after : Option (List ℕ))
+    → Appends before after (error_line 1 (Feed feed_word.Memory))
     → AppendsSome before after (IsText setup rows 0 (Err Memory))
 unstarted setup rows before after written =
     (error_line 1 (Feed feed_word.Memory), written, ([], beginning setup, ([], rows, refl, (refl, refl)), refl, refl))
 
-pub unstarted_part : (setup : Setup) (rows : List Row) (before after : Option (List ℕ)) (count : ℕ) → AppendsPart before after (error_line 1 (Feed feed_word.Memory))
+pub unstarted_part : (setup : Setup) (rows : List Row) (before after : Option (List ℕ)) (count : ℕ)
+    → AppendsPart before after (error_line 1 (Feed feed_word.Memory))
     → AppendsSome before after (IsText setup rows count (Err Write))
 unstarted_part setup rows before after count part = (
   part.0,
@@ -226,7 +255,8 @@ unstarted_part setup rows before after count part = (
 )
 
 -- a run is ready for the next record again
-pub ready_more : (feed feed' : Script) (run run' : Run) (now after : Option (List ℕ)) → IsReady feed run → Turns feed run now (Ok true) feed' run' after
+pub ready_more : (feed feed' : Script) (run run' : Run) (now after : Option (List ℕ)) → IsReady feed run
+    → Turns feed run now (Ok true) feed' run' after
     → IsReady feed' run'
 ready_more feed feed' run run' now after ready turned = record {
   server = turned.2.server;
@@ -244,29 +274,36 @@ done_ended : (feed feed' : Script) (run : Run) → IsReady feed run → MeetsEnd
 done_ended feed feed' run ready meets = rw meets.ended (meets.given ∙ sym ready.records)
 
 -- the end of the input, by what the run's finish answers
-pub whole_or_part : (setup : Setup) (rows : List Row) (feed feed' : Script) (run run' : Run) (before now mid after : Option (List ℕ))
-    (result : Result Summary ServeFault) → IsReady feed run → Reaches setup (Some rows) feed.left run before now → Turns feed run now (Ok false) feed' run' mid
+pub whole_or_part : (setup : Setup) (rows : List Row) (feed feed' : Script) (run run' : Run)
+    (before now mid after : Option (List ℕ))
+    (result : Result Summary ServeFault) → IsReady feed run → Reaches setup (Some rows) feed.left run before now
+    → Turns feed run now (Ok false) feed' run' mid
     → OnOk result (Appends mid after (end_line (length run'.server.pending)))
-    → IfOk result (λ summary. summary ≡ record { records = run'.records; errors = run'.errors; pending = length run'.server.pending })
+    → IfOk result
+    (λ summary. summary ≡ record { records = run'.records; errors = run'.errors; pending = length run'.server.pending })
     → OnErr result (AppendsPart mid after (end_line (length run'.server.pending)))
     → IfErr result (λ fault. fault ≡ Write)
     → AppendsSome before after (IsText setup rows (records_done feed') result)
 whole_or_part setup rows feed feed' run run' before now mid after (Ok summary) ready reached turned whole counts part fault =
     let same : run' ≡ run = turned.1 in
     let few : run.records < record_limit = few_given feed run ready turned.0.open_before in
-    let written : Appends now after (end_line (length run.server.pending)) = appends_then now mid after [] (end_line (length run.server.pending)) turned.2 (rw same at whole) in
+    let written : Appends now after (end_line (length run.server.pending)) =
+    appends_then now mid after [] (end_line (length run.server.pending)) turned.2 (rw same at whole) in
     finished setup rows feed.left run before now after (records_done feed') summary reached turned.0.over few
     (done_ended feed feed' run ready turned.0) written (rw same at counts)
 whole_or_part setup rows feed feed' run run' before now mid after (Err error) ready reached turned whole counts part fault =
     let same : run' ≡ run = turned.1 in
     let few : run.records < record_limit = few_given feed run ready turned.0.open_before in
-    let written : AppendsPart now after (end_line (length run.server.pending)) = part_then now mid after [] (end_line (length run.server.pending)) turned.2 (rw same at part) in
+    let written : AppendsPart now after (end_line (length run.server.pending)) =
+    part_then now mid after [] (end_line (length run.server.pending)) turned.2 (rw same at part) in
     let text = unfinished setup rows feed.left run before now after (records_done feed') reached turned.0.over few written in
     rw fault text
 
 -- the same of all records that are left, where they are known
-pub all_stopped : (first : Option (List Row)) (feed feed' : Script) (start run run' : Run) (before now after : Option (List ℕ)) (fault : ServeFault)
-    → ((setup : Setup) → ShowsRun start (beginning setup) → Reaches setup first feed.left run before now) → Turns feed run now (Err fault) feed' run' after
+pub all_stopped : (first : Option (List Row)) (feed feed' : Script) (start run run' : Run) (before now after : Option (List ℕ))
+    (fault : ServeFault)
+    → ((setup : Setup) → ShowsRun start (beginning setup) → Reaches setup first feed.left run before now)
+    → Turns feed run now (Err fault) feed' run' after
     → IfSome first (λ rows. (setup : Setup) → ShowsRun start (beginning setup)
     → AppendsSome before after (IsText setup rows (records_done feed') (Err fault)))
 all_stopped None feed feed' start run run' before now after fault reached turned = tt
@@ -275,28 +312,35 @@ all_stopped (Some rows) feed feed' start run run' before now after fault reached
 
 pub all_ended : (first : Option (List Row)) (feed feed' : Script) (start run run' : Run) (before now mid after : Option (List ℕ))
     (result : Result Summary ServeFault) → IsReady feed run
-    → ((setup : Setup) → ShowsRun start (beginning setup) → Reaches setup first feed.left run before now) → Turns feed run now (Ok false) feed' run' mid
+    → ((setup : Setup) → ShowsRun start (beginning setup) → Reaches setup first feed.left run before now)
+    → Turns feed run now (Ok false) feed' run' mid
     → OnOk result (Appends mid after (end_line (length run'.server.pending)))
-    → IfOk result (λ summary. summary ≡ record { records = run'.records; errors = run'.errors; pending = length run'.server.pending })
+    → IfOk result
+    (λ summary. summary ≡ record { records = run'.records; errors = run'.errors; pending = length run'.server.pending })
     → OnErr result (AppendsPart mid after (end_line (length run'.server.pending)))
     → IfErr result (λ fault. fault ≡ Write)
     → IfSome first (λ rows. (setup : Setup) → ShowsRun start (beginning setup)
     → AppendsSome before after (IsText setup rows (records_done feed') result))
 all_ended None feed feed' start run run' before now mid after result ready reached turned whole counts part fault = tt
-all_ended (Some rows) feed feed' start run run' before now mid after result ready reached turned whole counts part fault = λ setup shows.
-    whole_or_part setup rows feed feed' run run' before now mid after result ready (reached setup shows) turned whole counts part fault
+all_ended (Some rows) feed feed' start run run' before now mid after result ready reached turned whole counts part fault =
+    λ setup shows.
+    whole_or_part setup rows feed feed' run run' before now mid after result ready
+    (reached setup shows) turned whole counts part fault
 
 -- from a run to the records that are left
-pub from_run : (left : Option (List Row)) (start : Run) (setup : Setup) (count : ℕ) (before mid after : Option (List ℕ)) (result : Result Summary ServeFault)
+pub from_run : (left : Option (List Row)) (start : Run) (setup : Setup) (count : ℕ) (before mid after : Option (List ℕ))
+    (result : Result Summary ServeFault)
     → ShowsRun start (beginning setup) → mid ≡ before
-    → IfSome left (λ rows. (setup : Setup) → ShowsRun start (beginning setup) → AppendsSome mid after (IsText setup rows count result))
+    → IfSome left (λ rows. (setup : Setup) → ShowsRun start (beginning setup)
+    → AppendsSome mid after (IsText setup rows count result))
     → IfSome left (λ rows. AppendsSome before after (IsText setup rows count result))
 from_run None start setup count before mid after result shows same all = tt
 from_run (Some rows) start setup count before mid after result shows same all =
     subst (λ from. AppendsSome from after (IsText setup rows count result)) same (all setup shows)
 
 -- from the records that are left to the bytes
-pub from_bytes : (known : Option (List ℕ)) (left : Option (List Row)) (setup : Setup) (count : ℕ) (before mid after : Option (List ℕ))
+pub from_bytes : (known : Option (List ℕ)) (left : Option (List Row)) (setup : Setup) (count : ℕ)
+    (before mid after : Option (List ℕ))
     (result : Result Summary ServeFault) → left ≡ option_map records_of known → mid ≡ before
     → IfSome left (λ rows. AppendsSome mid after (IsText setup rows count result))
     → IfSome known (λ bytes. (done : ℕ) × AppendsSome before after (IsText setup (records_of bytes) done result))
@@ -311,9 +355,13 @@ from_bytes (Some bytes) left setup count before mid after result same held all =
 done_none : (feed : Script) → IsFresh feed → records_done feed ≡ 0
 done_none feed fresh = rw (fresh.reading, fresh.given) refl
 
-pub never_started : (left : Option (List Row)) (setup : Setup) (feed : Script) (before after : Option (List ℕ)) (fault : ServeFault) → IsFresh feed
-    → Starts setup before (Err fault) after → IfSome left (λ rows. AppendsSome before after (IsText setup rows (records_done feed) (Err fault)))
+pub never_started : (left : Option (List Row)) (setup : Setup) (feed : Script) (before after : Option (List ℕ))
+    (fault : ServeFault) → IsFresh feed
+    → Starts setup before (Err fault) after → IfSome left
+    (λ rows. AppendsSome before after (IsText setup rows (records_done feed) (Err fault)))
 never_started None setup feed before after fault fresh ends = tt
 never_started (Some rows) setup feed before after Read fresh ends = absurd ends
-never_started (Some rows) setup feed before after Memory fresh ends = rw (done_none feed fresh) (unstarted setup rows before after ends)
-never_started (Some rows) setup feed before after Write fresh ends = unstarted_part setup rows before after (records_done feed) ends
+never_started (Some rows) setup feed before after Memory fresh ends =
+    rw (done_none feed fresh) (unstarted setup rows before after ends)
+never_started (Some rows) setup feed before after Write fresh ends =
+    unstarted_part setup rows before after (records_done feed) ends

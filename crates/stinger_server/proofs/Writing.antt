@@ -1,5 +1,6 @@
 -- Known bytes that grow by one text and then by another.
-use Rattle.std.proofs.Common.{◌≡◌, ℕ, ◌+◌, ◌-◌, List, [], ◌++◌, append_assoc, append-nil, refl, sym, ◌∙◌, ap, take, drop, length, length-drop}
+use Rattle.std.proofs.Common.{◌≡◌, ℕ, ◌+◌, ◌-◌, List, [], ◌++◌, append_assoc, append-nil, refl, sym, ◌∙◌, ap, take, drop, length}
+use Rattle.std.proofs.Common.{length-drop}
 use Rattle.std.specs.Prelude.{Option, None, Some, Result, Ok, Err, OnErr, OnOk}
 use Rattle.std.proofs.lemmas.List.{take-append-drop}
 use Rattle.std.proofs.Math.Seq.{take-add, take-length}
@@ -24,8 +25,13 @@ appends_kept (Some xs) (Some ys) (Some zs) x first kept = kept ∙ first
 
 -- a part of the second text, behind the whole first
 pub part_then : (a b c : Option (List ℕ)) (x y : List ℕ) → Appends a b x → AppendsPart b c y → AppendsPart a c (x ++ y)
-part_then a b c x y first second =
-    (x ++ second.0, second.1, ap (λ text. x ++ text) second.2 ∙ sym (append_assoc x second.0 second.1), appends_then a b c x second.0 first second.3)
+part_then a b c x y first second = (
+  x ++ second.0,
+  second.1,
+  ap (λ text. x ++ text) second.2
+      ∙ sym (append_assoc x second.0 second.1),
+  appends_then a b c x second.0 first second.3,
+)
 
 -- a part of a text is a part of a longer one
 pub part_longer : (a b : Option (List ℕ)) (x y : List ℕ) → AppendsPart a b x → AppendsPart a b (x ++ y)
@@ -48,8 +54,10 @@ taken_more a b c at n text before more =
     rw (take-add at n text) (appends_then a b c (take at text) (take n (drop at text)) before (rw (slice_rest at text) at more))
 
 -- the first bytes of a text, and nothing more
-pub part_taken : (a b c : Option (List ℕ)) (at : ℕ) (text : List ℕ) → Appends a b (take at text) → Keeps b c → AppendsPart a c text
-part_taken a b c at text before kept = (take at text, drop at text, sym (take-append-drop at text), appends_kept a b c (take at text) before kept)
+pub part_taken : (a b c : Option (List ℕ)) (at : ℕ) (text : List ℕ) → Appends a b (take at text) → Keeps b c
+    → AppendsPart a c text
+part_taken a b c at text before kept =
+    (take at text, drop at text, sym (take-append-drop at text), appends_kept a b c (take at text) before kept)
 
 -- the first bytes of a text, and then n more
 pub part_more : (a b c : Option (List ℕ)) (at n : ℕ) (text : List ℕ) → Appends a b (take at text)

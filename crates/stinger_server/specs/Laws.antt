@@ -7,5 +7,6 @@ use Rattle.stinger_server.specs.Texts.{IsWhole}
 -- a script has one text, and leaves one state
 abbrev pub HasOneText : Type 0
 HasOneText =
-    (setup : Setup) (bytes : List ℕ) (text other : List ℕ) (there elsewhere : Progress) → IsWhole setup (records_of bytes) text there
+    (setup : Setup) (bytes : List ℕ) (text other : List ℕ) (there elsewhere : Progress)
+    → IsWhole setup (records_of bytes) text there
     → IsWhole setup (records_of bytes) other elsewhere → (text ≡ other) × (there ≡ elsewhere)

@@ -1,5 +1,6 @@
 -- The lines that a run prints. Each ends with one line feed, and numbers are plain decimals.
-use Rattle.std.specs.Prelude.{ℕ, ℤ, Bool, true, false, codes, decimal, zero, suc, List, [], ◌++◌, length, max, fold, count_by, Option, None, Some}
+use Rattle.std.specs.Prelude.{ℕ, ℤ, Bool, true, false, codes, decimal, zero, suc, List, [], ◌++◌, length, max, fold, count_by}
+use Rattle.std.specs.Prelude.{Option, None, Some}
 use Rattle.std.specs.Fmt.{signed_decimal}
 use Rattle.std.specs.List.{flat_map}
 use Rattle.graph_model.specs.Step.{with_name}
@@ -8,7 +9,8 @@ use Rattle.graph_model.specs.declared.batches.Outcome.{Outcome}
 use Rattle.graph_model.specs.declared.batches.Outcome.TheVariants.{Inserted, Updated, Removed, Absent, Overflow}
 use Rattle.feed_csv.specs.Commands.{word_text as feed_word_text}
 use Rattle.stinger_server.specs.declared.words.Word.{Word}
-use Rattle.stinger_server.specs.declared.words.Word.TheVariants.{Feed, NotOpen, AlreadyOpen, BadWindow, NoKind, NoVertex, BatchFull, NamesFull, KindsFull}
+use Rattle.stinger_server.specs.declared.words.Word.TheVariants.{Feed, NotOpen, AlreadyOpen, BadWindow, NoKind, NoVertex}
+use Rattle.stinger_server.specs.declared.words.Word.TheVariants.{BatchFull, NamesFull, KindsFull}
 
 -- how a refusal is written
 abbrev pub word_text : Word → List ℕ
@@ -60,7 +62,8 @@ number_line entry = entry.0 ++ (codes " " ++ (decimal entry.1 ++ codes "\n"))
 -- bfs <slot> reached=<n>, and then a line for each vertex that was reached, with its level
 abbrev pub level_lines : ℕ → List (List ℕ × ℕ) → List ℕ
 level_lines slot entries =
-    (codes "bfs " ++ (decimal slot ++ (codes " reached=" ++ (decimal (length entries) ++ codes "\n")))) ++ flat_map number_line entries
+    (codes "bfs " ++ (decimal slot ++ (codes " reached=" ++ (decimal (length entries) ++ codes "\n"))))
+    ++ flat_map number_line entries
 
 -- how many different names there are among these
 abbrev pub count_different : List (List ℕ) → ℕ
@@ -82,7 +85,8 @@ greatest entries = fold (λ most entry. max most entry.1) 0 entries
 -- core <slot> max=<n>, and then a line for each vertex, with its core number
 abbrev pub core_lines : ℕ → List (List ℕ × ℕ) → List ℕ
 core_lines slot entries =
-    (codes "core " ++ (decimal slot ++ (codes " max=" ++ (decimal (greatest entries) ++ codes "\n")))) ++ flat_map number_line entries
+    (codes "core " ++ (decimal slot ++ (codes " max=" ++ (decimal (greatest entries) ++ codes "\n"))))
+    ++ flat_map number_line entries
 
 -- <name> <out> <in> <weight out>
 abbrev pub degree_line : List ℕ × Degree → List ℕ

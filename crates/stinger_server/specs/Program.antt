@@ -1,5 +1,6 @@
 -- The program over its arguments: what they ask for, and what is done and told.
-use Rattle.std.specs.Prelude.{◌≡◌, ◌⊎◌, ◌==◌, ◌++◌, ℕ, Bool, true, false, codes, List, [], ◌∷◌, slice_get, if◌then◌else◌, IfSome, Option, None, Some, Result, Ok, Err}
+use Rattle.std.specs.Prelude.{◌≡◌, ◌⊎◌, ◌==◌, ◌++◌, ℕ, Bool, true, false, codes, List, [], ◌∷◌, slice_get, if◌then◌else◌, IfSome}
+use Rattle.std.specs.Prelude.{Option, None, Some, Result, Ok, Err}
 use Rattle.std.specs.Str.{bytes_eq, chars}
 use Rattle.std.specs.Option.{option_map_or}
 use Rattle.clap.specs.Lexer.{long_of, short_of}
@@ -58,7 +59,8 @@ EachAsks wanted (arguments ∷ more) = (asked arguments ≡ wanted) × EachAsks 
 
 -- no arguments but `run` and `run --` have a script served
 abbrev pub OnlyRunServes : Type 0
-OnlyRunServes = (arguments : List (List ℕ)) → asked arguments ≡ Serve → (arguments ≡ codes "run" ∷ []) ⊎ (arguments ≡ codes "run" ∷ codes "--" ∷ [])
+OnlyRunServes = (arguments : List (List ℕ)) → asked arguments ≡ Serve
+    → (arguments ≡ codes "run" ∷ []) ⊎ (arguments ≡ codes "run" ∷ codes "--" ∷ [])
 
 -- the status of a run: 0 where it came to the end of the script without an error line
 abbrev pub status_of : Result Summary ServeFault → ℕ
@@ -75,7 +77,8 @@ IsNoted contents line false old new = new ≡ old
 IsNoted contents line true old new = AppendsPart (contents old) (contents new) line
 
 -- the bytes that were to be read were served: the run came to this, with its status, its text, and its line on standard error
-pub record IsServed {F : Type 0} (remaining : Option (List ℕ)) (status : ℕ) (old new : Option (List ℕ)) (contents : F → Option (List ℕ))
+pub record IsServed {F : Type 0} (remaining : Option (List ℕ)) (status : ℕ) (old new : Option (List ℕ)) (contents : F
+    → Option (List ℕ))
     (line : List ℕ) (faults faults' : F) : Type 0 where
   pub outcome : Result Summary ServeFault
   pub ends : status ≡ status_of outcome

@@ -60,7 +60,8 @@ pub record CountsRecord (old : Run) (response : Response) (new : Run) : Type 0 w
   pub errors : new.errors ≡ old.errors + refusals response
 
 -- the record was done: what it came to was written and counted
-pub record Done (item : Result Command FeedWord) (old : Run) (before : Option (List ℕ)) (new : Run) (after : Option (List ℕ)) : Type 0 where
+pub record Done (item : Result Command FeedWord) (old : Run) (before : Option (List ℕ)) (new : Run)
+    (after : Option (List ℕ)) : Type 0 where
   pub server : IsServer new.server
   pub records : new.records ≡ old.records + 1
   pub errors : new.errors ≤ old.errors + 1
@@ -71,7 +72,8 @@ pub record Done (item : Result Command FeedWord) (old : Run) (before : Option (L
 abbrev pub BreaksOff : Result Command FeedWord → Run → Option (List ℕ) → Option (List ℕ) → Type 0
 BreaksOff item old before after =
     (here : Progress) → ShowsRun old here
-    → ((outcome : RecordResult) × IsRecordResult item here.state outcome × AppendsPart before after (printed (here.records + 1) outcome))
+    → ((outcome : RecordResult) × IsRecordResult item here.state outcome
+    × AppendsPart before after (printed (here.records + 1) outcome))
     ⊎ AppendsPart before after (error_line (here.records + 1) (Feed word.Memory))
 
 -- what a record did, by its result
@@ -97,7 +99,8 @@ records_done feed = done_by feed.phase feed.given
 
 -- a turn: the next record was done; or there is none; or a fault ended the run
 abbrev pub Turns : Script → Run → Option (List ℕ) → Result Bool ServeFault → Script → Run → Option (List ℕ) → Type 0
-Turns feed run before (Ok true) feed' run' after = (row : Row) × TakesRow feed row feed' × Done (item_of row) run before run' after
+Turns feed run before (Ok true) feed' run' after =
+    (row : Row) × TakesRow feed row feed' × Done (item_of row) run before run' after
 Turns feed run before (Ok false) feed' run' after = MeetsEnd feed feed' × (run' ≡ run) × Appends before after []
 Turns feed run before (Err Read) feed' run' after =
     HasReadFault feed' × (records_done feed' ≡ run.records) × Appends before after (error_line (run.records + 1) (Feed word.Read))

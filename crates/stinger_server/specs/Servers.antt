@@ -1,5 +1,6 @@
 -- A server's fields, and the states that they show.
-use Rattle.std.specs.Prelude.{◌≡◌, ℕ, ◌<◌, ◌≤◌, List, [], ◌∷◌, All, bytes_eq, length, map, count_by, sum_by, Option, None, Some, Ok, Err}
+use Rattle.std.specs.Prelude.{◌≡◌, ℕ, ◌<◌, ◌≤◌, List, [], ◌∷◌, All, bytes_eq, length, map, count_by, sum_by, Option, None, Some}
+use Rattle.std.specs.Prelude.{Ok, Err}
 use Rattle.graph_model.specs.Graph.{Graph, IsContent, graph_of}
 use Rattle.graph_model.specs.Limits.{name_limit}
 use Rattle.graph_model.specs.Step.{after_all}

@@ -1,5 +1,6 @@
 -- Where a run stands between two records, and what one record does.
-use Rattle.std.specs.Prelude.{◌≡◌, ℕ, ◌+◌, nat_lt, List, [], ◌∷◌, ◌++◌, length, map, take, replicate, slice_get, slice_set, count_by, if◌then◌else◌, Option, None, Some, Result, Ok, Err}
+use Rattle.std.specs.Prelude.{◌≡◌, ℕ, ◌+◌, nat_lt, List, [], ◌∷◌, ◌++◌, length, map, take, replicate, slice_get, slice_set}
+use Rattle.std.specs.Prelude.{count_by, if◌then◌else◌, Option, None, Some, Result, Ok, Err}
 use Rattle.std.specs.FinMap.{entries}
 use Rattle.graph_model.specs.Graph.{Graph}
 use Rattle.graph_model.specs.Limits.{kind_limit, name_limit}
@@ -22,8 +23,10 @@ use Rattle.feed_csv.specs.declared.command.FeedWord.{FeedWord}
 use Rattle.feed_csv.specs.declared.command.FeedWord.TheVariants as feed
 use Rattle.stinger_server.specs.declared.config.Config.{Config}
 use Rattle.stinger_server.specs.declared.words.Word.{Word}
-use Rattle.stinger_server.specs.declared.words.Word.TheVariants.{Feed, NotOpen, AlreadyOpen, BadWindow, NoKind, NoVertex, BatchFull, NamesFull, KindsFull}
-use Rattle.stinger_server.specs.Lines.{close_line, commit_line, core_lines, count_different, degree_lines, edge_line, error_line, label_lines, level_lines, open_line}
+use Rattle.stinger_server.specs.declared.words.Word.TheVariants.{Feed, NotOpen, AlreadyOpen, BadWindow, NoKind, NoVertex}
+use Rattle.stinger_server.specs.declared.words.Word.TheVariants.{BatchFull, NamesFull, KindsFull}
+use Rattle.stinger_server.specs.Lines.{close_line, commit_line, core_lines, count_different, degree_lines, edge_line, error_line}
+use Rattle.stinger_server.specs.Lines.{label_lines, level_lines, open_line}
 
 -- how a run is set up: the graph that it opens with, and how many seats there are
 pub record Setup : Type 0 where
@@ -142,7 +145,8 @@ IsDone (Op op) s outcome = outcome ≡ lines_unless (op_refusal (push_refusal op
 IsDone Commit s outcome =
     outcome ≡ lines_unless (commit_refusal s)
     (commit_line (length s.batches + 1) (outcomes s.pending (last_version s)))
-IsDone (OpenSlot slot) s outcome = outcome ≡ lines_unless (open_refusal (slice_get s.held slot)) (open_line slot (length s.batches))
+IsDone (OpenSlot slot) s outcome = outcome
+    ≡ lines_unless (open_refusal (slice_get s.held slot)) (open_line slot (length s.batches))
 IsDone (CloseSlot slot) s outcome = outcome ≡ close_result slot (version_in (slice_get s.held slot))
 IsDone (Query slot request) s outcome = IsReplied slot request s (version_in (slice_get s.held slot)) outcome
 

@@ -50,7 +50,8 @@ summary_of p = record { records = p.records; errors = p.errors; pending = length
 -- what a run that did so many records has written when it returns: the whole text; or the text up to a fault; or, where a write
 -- failed, a first part of such a text
 abbrev pub IsText : Setup → List Row → ℕ → Result Summary ServeFault → List ℕ → Type 0
-IsText setup rows count (Ok summary) text = (there : Progress) × IsWhole setup rows text there × (there.records ≡ count) × (summary ≡ summary_of there)
+IsText setup rows count (Ok summary) text =
+    (there : Progress) × IsWhole setup rows text there × (there.records ≡ count) × (summary ≡ summary_of there)
 IsText setup rows count (Err Read) text = IsCut setup rows (Feed feed.Read) count text
 IsText setup rows count (Err Memory) text = IsCut setup rows (Feed feed.Memory) count text
 IsText setup rows count (Err Write) text = (full : List ℕ) × (rest : List ℕ) × IsWanted setup rows full × (full ≡ text ++ rest)

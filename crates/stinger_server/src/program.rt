@@ -3,7 +3,8 @@
 ghost use Rattle.std.specs.Prelude.{◌≡◌, ◌⊎◌, ◌++◌, ◌∷◌, [], codes, false, IfOk, map, OnOk, OnErr};
 ghost use Rattle.clap.specs.Words.{app_of};
 ghost use Rattle.std.specs.Io.KnownBytes.{Appends};
-ghost use Rattle.stinger_server.specs.Program.{EachAsks, EndsWith, IsServed, IsTold, OnlyRunServes, asked, asked_of_command, is_version, program, without_help};
+ghost use Rattle.stinger_server.specs.Program.{EachAsks, EndsWith, IsServed, IsTold, OnlyRunServes, asked, asked_of_command};
+ghost use Rattle.stinger_server.specs.Program.{is_version, program, without_help};
 ghost use Rattle.stinger_server.specs.Writes.{AppendsPart, held};
 
 use crate::sink::{Sink, Unwritten};

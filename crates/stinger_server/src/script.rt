@@ -1,13 +1,15 @@
 //! A script from bytes to bytes.
 
-ghost use Rattle.std.specs.Prelude.{◌≡◌, ℕ, ◌+◌, ◌<◌, ◌≤◌, false, true, is_err, length, string_bytes, Ok, IfOk, IfErr, IfSome, OnOk, OnErr};
+ghost use Rattle.std.specs.Prelude.{◌≡◌, ℕ, ◌+◌, ◌<◌, ◌≤◌, false, true, is_err, length, string_bytes, Ok, IfOk, IfErr, IfSome};
+ghost use Rattle.std.specs.Prelude.{OnOk, OnErr};
 ghost use Rattle.std.specs.Io.KnownBytes.{Appends};
 ghost use Rattle.feed_csv.specs.Records.{record_limit, records_of};
 ghost use Rattle.stinger_server.specs.Lines.{end_line};
 ghost use Rattle.stinger_server.specs.States.{Setup, beginning, printed, set_up};
 ghost use Rattle.stinger_server.specs.Servers.{IsServer, result_of};
 ghost use Rattle.stinger_server.specs.Texts.{IsText};
-ghost use Rattle.stinger_server.specs.Runs.{CountsRecord, Does, HasCause, IsFresh, IsReady, ShowsRun, Starts, Turns, is_write, records_done};
+ghost use Rattle.stinger_server.specs.Runs.{CountsRecord, Does, HasCause, IsFresh, IsReady, ShowsRun, Starts, Turns, is_write};
+ghost use Rattle.stinger_server.specs.Runs.{records_done};
 ghost use Rattle.stinger_server.specs.Writes.{AppendsPart, AppendsSome, held};
 
 use crate::server::{Response, Server};
@@ -56,9 +58,10 @@ struct Run {
 ///
 /// A record's lines are built whole before a byte of them is written. `Read` where the reader fails or
 /// 1,000,000 records were read, and `Memory` where a growth was refused, each after the lines of exactly the records
-/// done before and an error line with the number of the record that was not done; `Write` where a write failed or took nothing, or the flush at the end
-/// failed, after which nothing more is written. No clause here says when each of these ends comes, since a reader
-/// and a writer have no word for a call that failed; `HasCause` in `specs/Runs.antt` says it of the run itself.
+/// done before and an error line with the number of the record that was not done; `Write` where a write failed or
+/// took nothing, or the flush at the end failed, after which nothing more is written. No clause here says when each
+/// of these ends comes, since a reader and a writer have no word for a call that failed; `HasCause` in
+/// `specs/Runs.antt` says it of the run itself.
 pub fn serve<A: AllocGlobal, R: Read + Drop, W: Write>(
     rt: &A,
     config: Config,
@@ -66,7 +69,8 @@ pub fn serve<A: AllocGlobal, R: Read + Drop, W: Write>(
     writer: &mut W,
 ) -> Result<Summary, ServeFault>
     ensures text { IfSome (R.remaining reader) (λ bytes.
-        (done : ℕ) × AppendsSome (W.contents writer.old) (W.contents writer.new) (IsText (set_up config) (records_of bytes) done result)) }
+        (done : ℕ) × AppendsSome (W.contents writer.old) (W.contents writer.new)
+        (IsText (set_up config) (records_of bytes) done result)) }
 {
     let mut feed = Feed::over(rt.alloc(), reader);
     let mut sink = Sink::over(writer);

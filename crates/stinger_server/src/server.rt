@@ -124,7 +124,8 @@ impl Server {
         requires server { IsServer self.old }
         requires empty { string_bytes lines.old ≡ [] }
         ensures kept { IsServer self.new }
-        ensures obeys { IfOk result (λ response. Obeys (Command.OpenSlot slot) self.old response (string_bytes lines.new) self.new) }
+        ensures obeys { IfOk result (λ response. Obeys (Command.OpenSlot slot) self.old response
+            (string_bytes lines.new) self.new) }
     {
         match self.held_version(slot) {
             Err(Word::NotOpen) => {
@@ -151,7 +152,8 @@ impl Server {
         requires server { IsServer self.old }
         requires empty { string_bytes lines.old ≡ [] }
         ensures kept { IsServer self.new }
-        ensures obeys { IfOk result (λ response. Obeys (Command.CloseSlot slot) self.old response (string_bytes lines.new) self.new) }
+        ensures obeys { IfOk result (λ response. Obeys (Command.CloseSlot slot) self.old response
+            (string_bytes lines.new) self.new) }
     {
         match self.held_version(slot) {
             Ok(_) => {
@@ -167,7 +169,8 @@ impl Server {
     fn ask(&self, slot: u8, request: &Request, lines: &mut String) -> Result<Response, AllocError>
         requires server { IsServer self.now }
         requires empty { string_bytes lines.old ≡ [] }
-        ensures obeys { IfOk result (λ response. Obeys (Command.Query slot request.now) self.now response (string_bytes lines.new) self.now) }
+        ensures obeys { IfOk result (λ response. Obeys (Command.Query slot request.now) self.now response
+            (string_bytes lines.new) self.now) }
     {
         let version = match self.held_version(slot) {
             Ok(version) => version,

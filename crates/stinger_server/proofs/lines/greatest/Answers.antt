@@ -8,5 +8,6 @@ pub returns : goal.returns
 returns c =
     let entries = c.args.entries.now in
     c.unwrap_or.ensures ∙ ap (λ o. unwrap_or o 0) (reduce_from_yields_List _ c.map.result _ c.max.ensures.ran
-    (YieldsList-from_map _ (λ entry. entry.1) (YieldsList-from_slice entries cc) c.map.ensures.closure (λ x b q k. search (rules, tests))))
+    (YieldsList-from_map _ (λ entry. entry.1) (YieldsList-from_slice entries cc) c.map.ensures.closure
+    (λ x b q k. search (rules, tests))))
     ∙ max_of_map (λ entry. entry.1) entries

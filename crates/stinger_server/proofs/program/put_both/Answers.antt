@@ -10,4 +10,5 @@ returns-in_err-put-2-clause-part g c =
     on_err _ _ (part_then _ _ _ c.args.text.now _ c.in_ok-put.ensures.whole c.in_err-put-2.ensures.part)
 
 pub returns-clause-part : goal.returns-clause-part
-returns-clause-part g c = on_err _ _ (both_parts _ _ _ _ _ _ c.in_ok-put.ensures.whole c.in_ok-put-2.ensures.whole c.flush.ensures.bytes)
+returns-clause-part g c =
+    on_err _ _ (both_parts _ _ _ _ _ _ c.in_ok-put.ensures.whole c.in_ok-put-2.ensures.whole c.flush.ensures.bytes)

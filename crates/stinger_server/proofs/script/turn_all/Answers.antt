@@ -29,7 +29,8 @@ returns-in-Err-clause-text g c = all_stopped _ _ _ _ _ _ _ _ _ _ c.records.invar
 
 pub returns-in-Ok-false-clause-cause : goal.returns-in-Ok-false-clause-cause
 returns-in-Ok-false-clause-cause g c =
-    cause_ended _ _ _ _ _ _ _ c.finish.result c.records.invariant.ready (rw c.in-Ok-false.field-0-test at c.in-Ok-false.ensures.turns)
+    cause_ended _ _ _ _ _ _ _ c.finish.result c.records.invariant.ready
+    (rw c.in-Ok-false.field-0-test at c.in-Ok-false.ensures.turns)
     c.finish.ensures.summary c.finish.ensures.fault c.finish.ensures.failed
 
 pub returns-in-Ok-false-clause-text : goal.returns-in-Ok-false-clause-text

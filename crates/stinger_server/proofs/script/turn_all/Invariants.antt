@@ -12,7 +12,8 @@ invariant-records g l = record {
   working : l.sink.failed ≡ false;
   same : l.sink.writer.ghost_name ≡ l.initial.sink.writer.ghost_name;
   reaches : (setup : Setup) → ShowsRun l.initial.run (beginning setup)
-      → Reaches setup l.initial.feed.left l.feed.left l.run (held g.W.Write.contents l.initial.sink) (held g.W.Write.contents l.sink);
+      → Reaches setup l.initial.feed.left l.feed.left l.run (held g.W.Write.contents l.initial.sink)
+      (held g.W.Write.contents l.sink);
 }
 
 abbrev pub decreases-records : goal.decreases-records

@@ -5,7 +5,8 @@ use Rattle.stinger_server.proofs.server.Server.ask.Goals as goal
 
 pub write_reply-requires : goal.write_reply-requires
 write_reply-requires c =
-    few_answered c.args.request.now _ _ (content_is _ _ _ c.index.ensures c.requires.server.contents c.in-Ok.ensures.within) c.in-Ok-plain_reply.ensures.answer
+    few_answered c.args.request.now _ _ (content_is _ _ _ c.index.ensures c.requires.server.contents c.in-Ok.ensures.within)
+    c.in-Ok-plain_reply.ensures.answer
 
 pub returns-in_ok-write_reply-in-Ok-plain_reply : goal.returns-in_ok-write_reply-in-Ok-plain_reply
 returns-in_ok-write_reply-in-Ok-plain_reply c = record {

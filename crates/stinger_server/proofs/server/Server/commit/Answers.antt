@@ -19,10 +19,13 @@ returns-in-Ok-clause-obeys c = λ s shows.
     let some = c.requires.server.some_content in
     let items = c.args.self.now.contents.ok.0 in
     let start : graph_of c.in_ok-content.content ≡ last_version s =
-    graph_of-copy _ _ _ (c.len-version.result - 1) c.index.result.now _ shows.contents (omega (arith, c.len-version.ensures)) c.index.ensures c.in_ok-content.ensures.cases in
-    let left : after_all c.args.self.now.pending (graph_of c.in_ok-content.content) ≡ after_all s.pending (last_version s) = rw (shows.pending, start) refl in (
+    graph_of-copy _ _ _ (c.len-version.result - 1) c.index.result.now _ shows.contents
+    (omega (arith, c.len-version.ensures)) c.index.ensures c.in_ok-content.ensures.cases in
+    let left : after_all c.args.self.now.pending (graph_of c.in_ok-content.content) ≡ after_all s.pending (last_version s) =
+    rw (shows.pending, start) refl in (
       commit_done s c.args.self.now.pending (graph_of c.in_ok-content.content) c.len-version.result _ shows.pending start
-          (rw (← c.in-Ok.ensures.graph) c.in-Ok.ensures.content.names_few) (rw (← c.in-Ok.ensures.graph) c.in-Ok.ensures.content.kinds_few)
+          (rw (← c.in-Ok.ensures.graph) c.in-Ok.ensures.content.names_few)
+          (rw (← c.in-Ok.ensures.graph) c.in-Ok.ensures.content.kinds_few)
           (omega (arith, c.len-version.ensures))
           (rw (c.requires.empty, c.as_slice.ensures.value, c.in-Ok.ensures.outcomes) at c.in_ok-commit-in-Ok.ensures),
       record {
@@ -37,8 +40,10 @@ returns-in-Err-NamesFull-clause-obeys c = λ s shows.
     let some = c.requires.server.some_content in
     let items = c.args.self.now.contents.ok.0 in
     let start : graph_of c.in_ok-content.content ≡ last_version s =
-    graph_of-copy _ _ _ (c.len-version.result - 1) c.index.result.now _ shows.contents (omega (arith, c.len-version.ensures)) c.index.ensures c.in_ok-content.ensures.cases in (
-      commit_names s c.args.self.now.pending (graph_of c.in_ok-content.content) shows.pending start (rw c.in-Err-NamesFull.field-0-is at c.in-Err-NamesFull.ensures.refused),
+    graph_of-copy _ _ _ (c.len-version.result - 1) c.index.result.now _ shows.contents
+    (omega (arith, c.len-version.ensures)) c.index.ensures c.in_ok-content.ensures.cases in (
+      commit_names s c.args.self.now.pending (graph_of c.in_ok-content.content) shows.pending start
+          (rw c.in-Err-NamesFull.field-0-is at c.in-Err-NamesFull.ensures.refused),
       record { pending = c.new-in-Err-NamesFull.ensures; contents = shows.contents; held = shows.held },
     )
 
@@ -47,7 +52,8 @@ returns-clause-obeys c = λ s shows.
     let some = c.requires.server.some_content in
     let items = c.args.self.now.contents.ok.0 in
     let start : graph_of c.in_ok-content.content ≡ last_version s =
-    graph_of-copy _ _ _ (c.len-version.result - 1) c.index.result.now _ shows.contents (omega (arith, c.len-version.ensures)) c.index.ensures c.in_ok-content.ensures.cases in
+    graph_of-copy _ _ _ (c.len-version.result - 1) c.index.result.now _ shows.contents
+    (omega (arith, c.len-version.ensures)) c.index.ensures c.in_ok-content.ensures.cases in
     let refused = rw c.in-Err-KindsFull.field-0-is at c.in-Err-KindsFull.ensures.refused in (
       commit_kinds s c.args.self.now.pending (graph_of c.in_ok-content.content) shows.pending start refused.0 refused.1,
       record { pending = c.new-in-Err-KindsFull.ensures; contents = shows.contents; held = shows.held },
