@@ -15,3 +15,5 @@ pub mod OpeningShown
 pub mod Reached
 pub mod RetiredCounts
 pub mod BatchLaws
+pub mod StatusCounts
+pub mod Examples

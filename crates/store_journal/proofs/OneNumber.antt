@@ -22,13 +22,13 @@ pub record OneNumber (n : ℕ) (p : Option Status) (kept dropped taken unused : 
       ≡ number_after n p (is_some_times taken) (is_some_times dropped)
   pub used : passes is_used (number_after n p (is_some_times taken) (is_some_times dropped)) ≡ is_some_times (kept + taken)
 
-free_is : (p : Option Status) → passes is_free p ≡ true → p ≡ Some Free
+pub free_is : (p : Option Status) → passes is_free p ≡ true → p ≡ Some Free
 free_is None e = cc
 free_is (Some Free) e = refl
 free_is (Some Used) e = cc
 free_is (Some (Retired v)) e = cc
 
-used_is : (p : Option Status) → passes is_used p ≡ true → p ≡ Some Used
+pub used_is : (p : Option Status) → passes is_used p ≡ true → p ≡ Some Used
 used_is None e = cc
 used_is (Some Free) e = cc
 used_is (Some Used) e = refl

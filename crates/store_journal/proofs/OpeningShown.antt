@@ -30,7 +30,7 @@ same_free zero m = tt
 same_free (suc n) zero = tt
 same_free (suc n) (suc m) = same_free n m
 
-no_pin : (n s : ℕ) → pin_at (replicate n None) s ≡ None
+pub no_pin : (n s : ℕ) → pin_at (replicate n None) s ≡ None
 no_pin zero s = refl
 no_pin (suc n) zero = refl
 no_pin (suc n) (suc s) = no_pin n s

@@ -5,7 +5,7 @@ use Rattle.graph_model.specs.declared.batches.NamedOp.{NamedOp}
 use Rattle.edge_block.specs.Slots.{BlockView}
 use Rattle.row_pages.specs.Rows.{blocks_of, numbers_of}
 use Rattle.graph_version.specs.Versions.{VersionView, IsVersion, is_in}
-use Rattle.block_pool.specs.Pools.{Status, AreFree, is_born_at, is_past, recycled}
+use Rattle.block_pool.specs.Pools.{Status, AreFree, is_free, is_retired, is_born_at, is_past, recycled}
 use Rattle.store_journal.specs.Exchanges.{Exchanges}
 use Rattle.store_journal.specs.Journal.{Entry, Applied, Collected, Ledger, empty_ledger, replay, is_legal, after_entry, exchanged}
 
@@ -56,6 +56,11 @@ pub record IsAccepted (old : DeskView) (ops : List NamedOp) (taken dropped : Lis
   -- blocks that weren't taken are those of the version before, unchanged
   pub kept : All (λ b. is_in b.number taken ≡ false → Contains (blocks_of old.last.rows) b) (blocks_of new.last.rows)
 
+-- free falls by what the batch takes, and retired grows by what it drops
+pub record AcceptedCounts (old : DeskView) (taken dropped : List ℕ) (new : DeskView) : Type 0 where
+  pub free : count_by is_free new.pool + length taken ≡ count_by is_free old.pool
+  pub retired : count_by is_retired new.pool ≡ count_by is_retired old.pool + length dropped
+
 -- Collections
 
 -- the entries of a collection: one where it recycles a block
@@ -68,3 +73,8 @@ pub record IsCollected (old : DeskView) (floor : ℕ) (new : DeskView) : Type 0 
   pub last : new.last ≡ old.last
   pub pool : new.pool ≡ map (recycled floor) old.pool
   pub journal : new.journal ≡ old.journal ++ collections floor (count_by (is_past floor) old.pool)
+
+-- what the collection recycles was retired and is free
+pub record CollectedCounts (old : DeskView) (floor : ℕ) (new : DeskView) : Type 0 where
+  pub free : count_by is_free new.pool ≡ count_by is_free old.pool + count_by (is_past floor) old.pool
+  pub retired : count_by is_retired new.pool + count_by (is_past floor) old.pool ≡ count_by is_retired old.pool

@@ -7,3 +7,4 @@ pub mod Steps
 pub mod Histories
 pub mod Opening
 pub mod Reached
+pub mod Examples

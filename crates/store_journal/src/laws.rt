@@ -8,12 +8,13 @@ ghost use Rattle.row_pages.specs.Rows.{numbers_of};
 ghost use Rattle.graph_version.specs.Versions.{VersionView, is_in};
 ghost use Rattle.block_pool.specs.Pools.{Free, Used, retired, is_free_at, is_born_at, marked, changed};
 ghost use Rattle.store_journal.specs.Journal.{Entry, Applied, Ledger, entered, replay};
-ghost use Rattle.store_journal.specs.Desks.{DeskView, IsDesk, IsAppliedTo, IsAccepted, IsCollected, desk_after};
+ghost use Rattle.store_journal.specs.Desks.{DeskView, IsDesk, IsAppliedTo, IsAccepted, IsCollected, AcceptedCounts, CollectedCounts, desk_after};
 ghost use Rattle.store_journal.specs.Steps.{Takes, TakesAt, posting, recycling};
 ghost use Rattle.store_journal.specs.Boards.{PinsAsMachine, SettlesAsMachine, UnpinsAsMachine, RaisesAsMachine};
 ghost use Rattle.store_journal.specs.Histories.{DoneIsRun, ReadersAreUnseen};
 ghost use Rattle.store_journal.specs.Opening.{OpensAsMachine};
 ghost use Rattle.store_journal.specs.Reached.{StaysReached};
+ghost use Rattle.store_journal.specs.Examples.{AreExamples};
 
 /// Replay of a journal.
 ///
@@ -37,6 +38,7 @@ pub fn law_journal()
 ///   ones retired with the new version's number, the unused ones given back.
 /// - `steps`: in each world of the machine that the desk showed, Take and Fill of each taken block and one Post of the
 ///   batch are all done, and leave a world that the new desk shows.
+/// - `counts`: free falls by as many blocks as it takes, and retired grows by as many as it drops.
 pub fn law_accepted()
     ensures accepted { (old : DeskView) (ops : List NamedOp) (numbers : List ℕ) (version : VersionView) (taken : List ℕ)
         (dropped : List BlockView) (unused : List ℕ) → IsDesk old → IsAppliedTo old ops numbers version taken dropped unused
@@ -50,6 +52,8 @@ pub fn law_accepted()
         ≡ (desk_after old ops version taken dropped).pool }
     ensures steps { (old new : DeskView) (ops : List NamedOp) (taken dropped : List ℕ) → IsDesk old → IsDesk new
         → IsAccepted old ops taken dropped new → Takes old (posting new.last ops taken) new }
+    ensures counts { (old new : DeskView) (ops : List NamedOp) (taken dropped : List ℕ)
+        → IsAccepted old ops taken dropped new → AcceptedCounts old taken dropped new }
 {}
 
 /// A collection at a floor.
@@ -57,9 +61,11 @@ pub fn law_accepted()
 /// - `desk`: it leaves a desk, where the floor is at most the number of batches.
 /// - `steps`: in each world of the machine with this floor that the desk showed, Recycle of each block that is past the
 ///   floor is done, which leaves a world that the new desk shows, and no further block goes.
+/// - `counts`: free grows, and retired falls, by as many blocks as are past the floor.
 pub fn law_collected()
     ensures desk { (old new : DeskView) (floor : ℕ) → IsDesk old → floor ≤ length old.last.batches → IsCollected old floor new → IsDesk new }
     ensures steps { (old new : DeskView) (floor : ℕ) → IsCollected old floor new → TakesAt floor old (recycling floor old.pool) new }
+    ensures counts { (old new : DeskView) (floor : ℕ) → IsCollected old floor new → CollectedCounts old floor new }
 {}
 
 /// What `Board::pin`, `settle` with the number that the session holds, `unpin` and `raise` with the last number leave of
@@ -91,6 +97,12 @@ pub fn law_stays_reached()
     ensures { (sessions blocks : ℕ) → StaysReached sessions blocks }
 {}
 
+/// Small stores worked out by hand: journals that replay and journals that don't, a desk and a world that it shows, the
+/// events of a batch and of a collection, and a board beside sessions.
+pub fn law_examples()
+    ensures { AreExamples }
+{}
+
 #[cfg(test)]
 mod tests {
     use super::*;
@@ -104,5 +116,6 @@ mod tests {
         law_opening_shown();
         law_histories();
         law_stays_reached();
+        law_examples();
     }
 }

@@ -1,4 +1,5 @@
 use Rattle.store_journal.proofs.BatchLaws.{applied_accepted, applied_desk, applied_moves, accepted_steps}
+use Rattle.store_journal.proofs.StatusCounts.{accepted_counts}
 use Rattle.store_journal.proofs.laws.law_accepted.Goals as goal
 
 pub returns-clause-accepted : goal.returns-clause-accepted
@@ -12,3 +13,6 @@ returns-clause-moves c = applied_moves
 
 pub returns-clause-steps : goal.returns-clause-steps
 returns-clause-steps c = accepted_steps
+
+pub returns-clause-counts : goal.returns-clause-counts
+returns-clause-counts c = accepted_counts

@@ -1,0 +1,60 @@
+-- Small stores, computed.
+use Rattle.std.proofs.Common.{◌≡◌, ℕ, zero, suc, Bool, false, [], ◌∷◌, get_or, refl, sym, ap, ◌∙◌, arith}
+use Rattle.std.specs.Prelude.{All, slice_get, Option, Some, None}
+use Rattle.std.proofs.lemmas.Bool.{true≢false}
+use Rattle.std.proofs.lemmas.List.Elements.{All-cons}
+use Rattle.graph_version.specs.Edges.{edges_in_block}
+use Rattle.epoch_core.specs.declared.states.SessionState.TheVariants.{Idle}
+use Rattle.epoch_core.specs.Worlds.{session_of, edges_at}
+use Rattle.seat_board.specs.Board.{pin_at}
+use Rattle.seat_board.specs.declared.board.Pin.{Pin as SeatPin}
+use Rattle.store_journal.specs.Shown.{SameStatus}
+use Rattle.store_journal.specs.Boards.{seat_pin}
+use Rattle.store_journal.specs.Examples.{AreExamples, block_one, desk_of_edge, world_of_edge, board_of_two, world_of_two}
+use Rattle.store_journal.proofs.OpeningShown.{no_pin}
+
+status_shown : (birth n : ℕ) → SameStatus (slice_get desk_of_edge.pool n) (slice_get (world_of_edge birth).status n)
+status_shown birth zero = tt
+status_shown birth (suc zero) = tt
+status_shown birth (suc (suc zero)) = tt
+status_shown birth (suc (suc (suc n))) = tt
+
+edges_shown : (birth : ℕ) → All (λ b. edges_at (world_of_edge birth).heap b.number ≡ edges_in_block b) (block_one ∷ [])
+edges_shown birth = All-cons (λ b. edges_at (world_of_edge birth).heap b.number ≡ edges_in_block b) block_one [] refl (λ k d h. absurd (omega arith))
+
+one_idle : (s : ℕ) → get_or (Idle ∷ []) s Idle ≡ Idle
+one_idle zero = refl
+one_idle (suc s) = refl
+
+pins_shown : (s : ℕ) → seat_pin (session_of world_of_two s) ≡ pin_at board_of_two.pins s
+pins_shown zero = refl
+pins_shown (suc zero) = refl
+pins_shown (suc (suc s)) = ap seat_pin (one_idle s) ∙ sym (no_pin 14 s)
+
+abbrev is_settled_in : Option SeatPin → Bool
+is_settled_in None = false
+is_settled_in (Some p) = p.is_settled
+
+pub are_examples : AreExamples
+are_examples = record {
+  batches = refl;
+  collection = refl;
+  taken_used = refl;
+  taken_past = refl;
+  taken_twice = refl;
+  dropped_retired = refl;
+  collected_early = refl;
+  collected_late = refl;
+  collected_nothing = refl;
+  desk = λ birth. record { opening = refl; batches = refl; blocks = refl; edges = edges_shown birth; status = status_shown birth; sizes = refl };
+  fresh = λ w shows. shows.status 1;
+  posted = refl;
+  filled = refl;
+  kept = refl;
+  recycled = refl;
+  none_recycled = refl;
+  freed = refl;
+  past_the_floor = refl;
+  board = record { floor = refl; pins = pins_shown };
+  settled = λ w shows. true≢false (sym (ap is_settled_in (shows.pins 1)));
+}

@@ -1,0 +1,106 @@
+-- Small stores worked out by hand: journals that replay and journals that don't, a desk and a world that it shows, the
+-- events of a batch and of a collection, and a board beside sessions.
+use Rattle.std.specs.Prelude.{◌≡◌, pos, ℕ, List, [], ◌∷◌, ◌++◌, replicate, true, false, Some, None}
+use Rattle.graph_model.specs.Step.{empty_graph}
+use Rattle.edge_block.specs.Slots.{BlockView, edge_slot}
+use Rattle.block_pool.specs.Pools.{Status as PoolStatus, Free as PoolFree, Used as PoolUsed, Retired as PoolRetired}
+use Rattle.epoch_core.specs.declared.states.Status.TheVariants.{Free, Fresh, Used, Retired}
+use Rattle.epoch_core.specs.declared.states.SessionState.TheVariants.{Idle, Pinned, Holding}
+use Rattle.epoch_core.specs.declared.events.Event.TheVariants.{Take, Fill, Post, Recycle}
+use Rattle.epoch_core.specs.Examples.{name_a, name_b, kind_k, put_edge, edge_of}
+use Rattle.epoch_core.specs.Worlds.{World, empty_opening, start_world}
+use Rattle.seat_board.specs.Board.{BoardState}
+use Rattle.store_journal.specs.Journal.{Entry, Applied, Collected, empty_ledger, replay}
+use Rattle.store_journal.specs.Desks.{DeskView}
+use Rattle.store_journal.specs.Shown.{Shows}
+use Rattle.store_journal.specs.Boards.{ShowsBoard}
+use Rattle.store_journal.specs.Steps.{all_done, posting, recycling}
+
+-- Journals, over four blocks
+
+-- the first batch takes blocks 0 and 1; the second takes 2 and drops 0, which version 2 so retires
+abbrev pub two_batches : List Entry
+two_batches = Applied (put_edge (pos 1) 1) (0 ∷ 1 ∷ []) [] ∷ Applied (put_edge (pos 2) 2) (2 ∷ []) (0 ∷ []) ∷ []
+
+-- Desks
+
+-- the edge from a to b, in block 1
+abbrev pub block_one : BlockView
+block_one = record { number = 1; source = 0; kind = 0; slots = Some (edge_slot 1 (pos 1) 1 1) ∷ replicate 31 None }
+
+-- a desk of three blocks that has accepted the edge, in block 1
+abbrev pub desk_of_edge : DeskView
+desk_of_edge = record {
+  last = record { opening = empty_graph; batches = put_edge (pos 1) 1 ∷ []; rows = (block_one ∷ []) ∷ [] };
+  journal = Applied (put_edge (pos 1) 1) (1 ∷ []) [] ∷ [];
+  pool = PoolFree ∷ PoolUsed ∷ PoolFree ∷ [];
+}
+
+-- the machine's world after the edge was posted; block 1 was born with the version of this number
+abbrev pub world_of_edge : ℕ → World
+world_of_edge birth = record {
+  opening = empty_opening;
+  heap = [] ∷ edge_of (pos 1) 1 ∷ [] ∷ [];
+  status = Free ∷ Used birth ∷ Free ∷ [];
+  versions = record { batch = put_edge (pos 1) 1; blocks = 1 ∷ []; names = name_a ∷ name_b ∷ []; kinds = kind_k ∷ [] } ∷ [];
+  floor = 0;
+  sessions = Idle ∷ [];
+}
+
+-- Collections
+
+-- a pool in which version 2 retired block 0, and version 3 block 2
+abbrev pub retired_pool : List PoolStatus
+retired_pool = PoolRetired 2 ∷ PoolUsed ∷ PoolRetired 3 ∷ PoolFree ∷ []
+
+abbrev pub retired_world : World
+retired_world = record (start_world 0 0) { status = Retired 1 2 ∷ Used 1 ∷ Retired 1 3 ∷ Free ∷ []; floor = 2 }
+
+-- Boards
+
+-- seat 0 is pinned at floor 1, and seat 1 settled at 2
+abbrev pub board_of_two : BoardState
+board_of_two = record {
+  floor = 1;
+  pins = Some (record { number = 1; is_settled = false }) ∷ Some (record { number = 2; is_settled = true }) ∷ replicate 14 None;
+}
+
+abbrev pub world_of_two : World
+world_of_two = record (start_world 0 0) {
+  floor = 1;
+  sessions = Pinned 1 ∷ Holding (record { pin = 2; settled = true; version = 2 }) ∷ Idle ∷ [];
+}
+
+pub record AreExamples : Type 0 where
+  -- two batches leave block 0 retired with number 2; a collection at floor 2 frees it
+  pub batches : replay two_batches (empty_ledger 4)
+      ≡ Some (record { batches = put_edge (pos 1) 1 ∷ put_edge (pos 2) 2 ∷ []; pool = PoolRetired 2 ∷ PoolUsed ∷ PoolUsed ∷ PoolFree ∷ [] })
+  pub collection : replay (two_batches ++ Collected 2 1 ∷ []) (empty_ledger 4)
+      ≡ Some (record { batches = put_edge (pos 1) 1 ∷ put_edge (pos 2) 2 ∷ []; pool = PoolFree ∷ PoolUsed ∷ PoolUsed ∷ PoolFree ∷ [] })
+  -- no journal: a block taken that is used, or past the last; one taken twice; one dropped that isn't the last version's
+  pub taken_used : replay (two_batches ++ Applied [] (1 ∷ []) [] ∷ []) (empty_ledger 4) ≡ None
+  pub taken_past : replay (two_batches ++ Applied [] (4 ∷ []) [] ∷ []) (empty_ledger 4) ≡ None
+  pub taken_twice : replay (two_batches ++ Applied [] (3 ∷ 3 ∷ []) [] ∷ []) (empty_ledger 4) ≡ None
+  pub dropped_retired : replay (two_batches ++ Applied [] [] (0 ∷ []) ∷ []) (empty_ledger 4) ≡ None
+  -- nor: a collection below the number that retired the block, one past the last version, one that recycles nothing
+  pub collected_early : replay (two_batches ++ Collected 1 1 ∷ []) (empty_ledger 4) ≡ None
+  pub collected_late : replay (two_batches ++ Collected 3 1 ∷ []) (empty_ledger 4) ≡ None
+  pub collected_nothing : replay (two_batches ++ Collected 1 0 ∷ []) (empty_ledger 4) ≡ None
+  -- the desk shows the world after the edge, whatever block 1's birth; not one in which block 1 is fresh
+  pub desk : (birth : ℕ) → Shows desk_of_edge (world_of_edge birth)
+  pub fresh : (w : World) → Shows desk_of_edge (record w { status = Free ∷ Fresh ∷ Free ∷ [] }) → ⊥
+  -- the events of the batch, of which Take and Fill are done from the start
+  pub posted : posting desk_of_edge.last (put_edge (pos 1) 1) (1 ∷ []) ≡ Take 1 ∷ Fill 1 (edge_of (pos 1) 1) ∷ Post (put_edge (pos 1) 1) (1 ∷ []) ∷ []
+  pub filled : all_done (Take 1 ∷ Fill 1 (edge_of (pos 1) 1) ∷ []) (start_world 1 3)
+      ≡ Some (record (start_world 1 3) { heap = [] ∷ edge_of (pos 1) 1 ∷ [] ∷ []; status = Free ∷ Fresh ∷ Free ∷ [] })
+  -- a block that was kept is neither taken nor filled again
+  pub kept : posting desk_of_edge.last [] [] ≡ Post [] (1 ∷ []) ∷ []
+  -- at floor 2 block 0 alone goes, and at floor 1 none
+  pub recycled : recycling 2 retired_pool ≡ Recycle 0 ∷ []
+  pub none_recycled : recycling 1 retired_pool ≡ []
+  pub freed : all_done (recycling 2 retired_pool) retired_world
+      ≡ Some (record retired_world { status = Free ∷ Used 1 ∷ Retired 1 3 ∷ Free ∷ [] })
+  pub past_the_floor : all_done (recycling 3 retired_pool) retired_world ≡ None
+  -- the board shows the sessions' pins, settled and unsettled
+  pub board : ShowsBoard board_of_two world_of_two
+  pub settled : (w : World) → ShowsBoard board_of_two (record w { sessions = Pinned 1 ∷ Pinned 2 ∷ [] }) → ⊥
