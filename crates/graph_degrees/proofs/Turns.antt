@@ -10,15 +10,23 @@ use Rattle.graph_degrees.proofs.Parts.{IsBegun, begun_room, begun_more}
 use Rattle.graph_degrees.proofs.Counting.{IsCountable, countable, counts_edge}
 use Rattle.graph_degrees.proofs.Blocks.{edge_lent, edges_lent}
 
-module _ (f : Filter) (b : BlockView) (old table : List Degree) (left rest : List LentEdge) (l : LentEdge) (next : left ≡ l ∷ rest)
-    (long : length table ≡ length old) (room : HasRoomFor f (shown_block f b) old) (begun : IsBegun f (shown_block f b) (edges_lent b.source left) old table) where
+module _ (f : Filter) (b : BlockView) (old table : List Degree) (left rest : List LentEdge) (l : LentEdge)
+    (next : left ≡ l ∷ rest)
+    (long : length table ≡ length old) (room : HasRoomFor f (shown_block f b) old)
+    (begun : IsBegun f (shown_block f b) (edges_lent b.source left) old table) where
   pub next_room : IsCountable f (edge_lent b.source l) table
   next_room = countable f (edge_lent b.source l) table
-      (begun_room f (shown_block f b) (edges_lent b.source left) (edge_lent b.source l ∷ []) (edges_lent b.source rest) old table (ap (edges_lent b.source) next) long room begun)
+      (begun_room f (shown_block f b) (edges_lent b.source left) (edge_lent b.source l ∷ []) (edges_lent b.source rest) old table
+      (ap (edges_lent b.source) next) long room begun)
 
-  pub next_begun : (new : List Degree) (source : ℕ) → source ≡ b.source → IsStamp l.stamp → CountsEdge (edge_between source l.target l.stamp.weight) table new → IsBegun f (shown_block f b) (edges_lent b.source rest) old new
+  pub next_begun : (new : List Degree) (source : ℕ) → source ≡ b.source → IsStamp l.stamp
+      → CountsEdge (edge_between source l.target l.stamp.weight) table new
+      → IsBegun f (shown_block f b) (edges_lent b.source rest) old new
   next_begun new source same stamp counts =
-      let here : CountsEdge (edge_between b.source l.target l.stamp.weight) table new = subst (λ s. CountsEdge (edge_between s l.target l.stamp.weight) table new) same counts in
-      begun_more f (shown_block f b) (edges_lent b.source left) (edge_lent b.source l ∷ []) (edges_lent b.source rest) old table new (ap (edges_lent b.source) next)
-      (counts_edge f (edge_lent b.source l) table new next_room.shown stamp (record { size = here.size; at = λ v d h. here.at v d h }))
+      let here : CountsEdge (edge_between b.source l.target l.stamp.weight) table new =
+      subst (λ s. CountsEdge (edge_between s l.target l.stamp.weight) table new) same counts in
+      begun_more f (shown_block f b) (edges_lent b.source left) (edge_lent b.source l ∷ [])
+      (edges_lent b.source rest) old table new (ap (edges_lent b.source) next)
+      (counts_edge f (edge_lent b.source l) table new next_room.shown stamp
+      (record { size = here.size; at = λ v d h. here.at v d h }))
       begun

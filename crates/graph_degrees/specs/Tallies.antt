@@ -12,7 +12,15 @@ use Rattle.graph_version.specs.Edges.{edges_in_block, edges_in_blocks}
 
 -- an edge as degrees see it: of any kind and times
 abbrev pub edge_between : ℕ → ℕ → ℤ → Edge
-edge_between source target weight = record { kind = record { 0 = 0 }; source = record { 0 = source }; target = record { 0 = target }; weight = weight; first = 0; recent = 0 }
+edge_between source target weight =
+    record {
+      kind = record { 0 = 0 };
+      source = record { 0 = source };
+      target = record { 0 = target };
+      weight = weight;
+      first = 0;
+      recent = 0;
+    }
 
 -- whether a filter lets an edge through
 abbrev pub passes : Filter → Edge → Bool

@@ -37,7 +37,8 @@ fn count_edge(table: &mut [Degree], source: VertexId, target: u32, weight: i64)
 fn count_out(degree: &mut Degree, weight: i64)
     requires weight { IsWeight weight }
     requires limits { IsWithinLimits degree.old }
-    ensures { degree.new ≡ record degree.old { outgoing = degree.old.outgoing + 1; out_weight = degree.old.out_weight +ℤ weight } }
+    ensures { degree.new
+        ≡ record degree.old { outgoing = degree.old.outgoing + 1; out_weight = degree.old.out_weight +ℤ weight } }
 {
     degree.outgoing += 1;
     degree.out_weight += weight;

@@ -1,10 +1,12 @@
 -- Steps of a search by frontiers.
-use Rattle.std.proofs.Common.{◌≡◌, ℕ, ◌+◌, ◌<◌, ◌≤◌, zero, suc, arith, refl, sym, ap, ◌∙◌, subst, ◌⊎◌, inl, inr, List, [], ◌∷◌, ◌++◌, length, set, Option, Some, None, cond, true, false, Bool}
+use Rattle.std.proofs.Common.{◌≡◌, ℕ, ◌+◌, ◌<◌, ◌≤◌, zero, suc, arith, refl, sym, ap, ◌∙◌, subst, ◌⊎◌, inl, inr, List, [], ◌∷◌}
+use Rattle.std.proofs.Common.{◌++◌, length, set, Option, Some, None, cond, true, false, Bool}
 use Rattle.std.specs.Prelude.{All, replicate}
 use Rattle.std.specs.List.{Contains}
 use Rattle.std.proofs.lemmas.Bool.{cases_eq, cases_lt}
 use Rattle.std.proofs.lemmas.Option.{get_or_from_slice_get}
-use Rattle.std.proofs.lemmas.List.{get_or-set_same, get_or-set_other, get_or_past, length-set, length-append, length-replicate, get_or-replicate}
+use Rattle.std.proofs.lemmas.List.{get_or-set_same, get_or-set_other, get_or_past, length-set, length-append, length-replicate}
+use Rattle.std.proofs.lemmas.List.{get_or-replicate}
 use Rattle.std.proofs.lemmas.List.Sums.{sum_by-set, count_by-le-length}
 use Rattle.std.proofs.lemmas.List.Elements.{All-tail}
 use Rattle.graph_model.specs.Graph.{Graph}
@@ -37,10 +39,12 @@ Contains-nil y c = let lt = c.1 in omega arith
 abbrev no_level : Option ℕ
 no_level = None
 
-counted : (levels : List (Option ℕ)) (next : List ℕ) (d v : ℕ) → v < length levels → level_of levels v ≡ None → unreached (set levels v (Some d)) + length (next ++ v ∷ []) ≡ unreached levels + length next
+counted : (levels : List (Option ℕ)) (next : List ℕ) (d v : ℕ) → v < length levels → level_of levels v ≡ None
+    → unreached (set levels v (Some d)) + length (next ++ v ∷ []) ≡ unreached levels + length next
 counted levels next d v lt none =
     let e : unreached (set levels v (Some d)) + 1 ≡ unreached levels + 0 =
-    subst (λ o. unreached (set levels v (Some d)) + cond (has_none o) 1 0 ≡ unreached levels + 0) none (sum_by-set (λ o. cond (has_none o) 1 0) levels v (Some d) None lt) in
+    subst (λ o. unreached (set levels v (Some d)) + cond (has_none o) 1 0 ≡ unreached levels + 0) none
+    (sum_by-set (λ o. cond (has_none o) 1 0) levels v (Some d) None lt) in
     let n = length-append next (v ∷ []) in
     omega arith
 
@@ -55,9 +59,11 @@ visited_count (v ∷ ts) levels next d in' =
     let one = visited_count ts new (next ++ v ∷ []) d (λ k e l. let a = in' (suc k) e (omega arith) in omega arith) in
     let none = visited_count ts levels next d (All-tail (λ w. w < length levels) v ts in') in
     let choose : (b : Bool) → has_none (level_of levels v) ≡ b →
-    unreached (cond b (visited d ts new (next ++ v ∷ [])) (visited d ts levels next)).0 + length (cond b (visited d ts new (next ++ v ∷ [])) (visited d ts levels next)).1 ≡ unreached levels + length next =
+    unreached (cond b (visited d ts new (next ++ v ∷ [])) (visited d ts levels next)).0
+    + length (cond b (visited d ts new (next ++ v ∷ [])) (visited d ts levels next)).1 ≡ unreached levels + length next =
     λ b. elim b as (λ b. has_none (level_of levels v) ≡ b →
-    unreached (cond b (visited d ts new (next ++ v ∷ [])) (visited d ts levels next)).0 + length (cond b (visited d ts new (next ++ v ∷ [])) (visited d ts levels next)).1 ≡ unreached levels + length next) [
+    unreached (cond b (visited d ts new (next ++ v ∷ [])) (visited d ts levels next)).0
+    + length (cond b (visited d ts new (next ++ v ∷ [])) (visited d ts levels next)).1 ≡ unreached levels + length next) [
       | true ↦ λ e. one ∙ counted levels next d v lt (none_of (level_of levels v) e)
       | false ↦ λ e. none
     ] in
@@ -65,20 +71,24 @@ visited_count (v ∷ ts) levels next d in' =
 
 module _ (f : Filter) (g : Graph) (s : ℕ) where
   -- a vertex with no level gets one
-  kept : (levels : List (Option ℕ)) (v d : ℕ) → level_of levels v ≡ None → (w k : ℕ) → HasLevel levels k w → HasLevel (set levels v (Some d)) k w
+  kept : (levels : List (Option ℕ)) (v d : ℕ) → level_of levels v ≡ None → (w k : ℕ) → HasLevel levels k w
+      → HasLevel (set levels v (Some d)) k w
   kept levels v d none w k h = elim (cases_eq w v) [
     | inl e ↦ let both = sym none ∙ ap (level_of levels) (sym e) ∙ h in absurd (cc)
     | inr ne ↦ get_or-set_other levels v w (Some d) None ne ∙ h
   ]
 
-  mark : (levels : List (Option ℕ)) (rest next : List ℕ) (d u v : ℕ) → IsSearch f g s levels rest next d → HasLevel levels d u → LeadsTo f g u v → v < length levels → level_of levels v ≡ None
+  mark : (levels : List (Option ℕ)) (rest next : List ℕ) (d u v : ℕ) → IsSearch f g s levels rest next d → HasLevel levels d u
+      → LeadsTo f g u v → v < length levels → level_of levels v ≡ None
       → IsSearch f g s (set levels v (Some (d + 1))) rest (next ++ v ∷ []) d
   mark levels rest next d u v i at edge lt none =
       let new = set levels v (Some (d + 1)) in
       let here : HasLevel new (d + 1) v = get_or-set_same levels v (Some (d + 1)) None lt in
       let keep = kept levels v (d + 1) none in
-      let back : (w k : ℕ) → HasLevel new k w → (w ≡ v → ⊥) → HasLevel levels k w = λ w k h ne. sym (get_or-set_other levels v w (Some (d + 1)) None ne) ∙ h in
-      let is_next : (w k : ℕ) → HasLevel new k w → w ≡ v → k ≡ d + 1 = λ w k h e. same_level new v k (d + 1) (ap (level_of new) (sym e) ∙ h) here in
+      let back : (w k : ℕ) → HasLevel new k w → (w ≡ v → ⊥) → HasLevel levels k w =
+      λ w k h ne. sym (get_or-set_other levels v w (Some (d + 1)) None ne) ∙ h in
+      let is_next : (w k : ℕ) → HasLevel new k w → w ≡ v → k ≡ d + 1 =
+      λ w k h e. same_level new v k (d + 1) (ap (level_of new) (sym e) ∙ h) here in
       record {
         start = keep s 0 i.start;
         sound = λ w k h. elim (cases_eq w v) [
@@ -92,7 +102,8 @@ module _ (f : Filter) (g : Graph) (s : ℕ) where
           | inr ne ↦ i.low w k (back w k h ne)
         ];
         now = All-weaker (HasLevel levels d) (HasLevel new d) (λ w h. keep w d h) rest i.now;
-        later = All-push (HasLevel new (d + 1)) next v (All-weaker (HasLevel levels (d + 1)) (HasLevel new (d + 1)) (λ w h. keep w (d + 1) h) next i.later) here;
+        later = All-push (HasLevel new (d + 1)) next v
+            (All-weaker (HasLevel levels (d + 1)) (HasLevel new (d + 1)) (λ w h. keep w (d + 1) h) next i.later) here;
         closed = λ a b k h to. elim (cases_eq a v) [
           | inl e ↦ inr (inr (subst (Contains (next ++ v ∷ [])) (sym e) (Contains-push next v)))
           | inr ne ↦ elim (i.closed a b k (back a k h ne) to) [
@@ -104,12 +115,14 @@ module _ (f : Filter) (g : Graph) (s : ℕ) where
       }
 
   -- what visiting targets of u leaves
-  pub record Visited (levels : List (Option ℕ)) (rest next : List ℕ) (d : ℕ) (ts : List ℕ) (r : List (Option ℕ) × List ℕ) : Type 0 where
+  pub record Visited (levels : List (Option ℕ)) (rest next : List ℕ) (d : ℕ) (ts : List ℕ)
+      (r : List (Option ℕ) × List ℕ) : Type 0 where
     pub search : IsSearch f g s r.0 rest r.1 d
     pub reached : All (IsReached r.0 (d + 1)) ts
     pub keep : (w k : ℕ) → HasLevel levels k w → HasLevel r.0 k w
 
-  pub visit_all : (ts : List ℕ) (levels : List (Option ℕ)) (rest next : List ℕ) (d u : ℕ) → IsSearch f g s levels rest next d → HasLevel levels d u
+  pub visit_all : (ts : List ℕ) (levels : List (Option ℕ)) (rest next : List ℕ) (d u : ℕ) → IsSearch f g s levels rest next d
+      → HasLevel levels d u
       → All (LeadsTo f g u) ts → All (λ v. v < length levels) ts → Visited levels rest next d ts (visited (d + 1) ts levels next)
   visit_all [] levels rest next d u i at edges in' = record {
     search = i;
@@ -122,25 +135,32 @@ module _ (f : Filter) (g : Graph) (s : ℕ) where
       let others = All-tail (LeadsTo f g u) v ts edges in
       let new = set levels v (Some (d + 1)) in
       let long = length-set levels v (Some (d + 1)) in
-      let when_none : level_of levels v ≡ None → Visited levels rest next d (v ∷ ts) (visited (d + 1) ts new (next ++ v ∷ [])) = λ none.
+      let when_none : level_of levels v ≡ None → Visited levels rest next d (v ∷ ts) (visited (d + 1) ts new (next ++ v ∷ [])) =
+      λ none.
       let keep = kept levels v (d + 1) none in
       let here : HasLevel new (d + 1) v = get_or-set_same levels v (Some (d + 1)) None lt in
       let r = visit_all ts new rest (next ++ v ∷ []) d u (mark levels rest next d u v i at edge lt none) (keep u d at) others
       (λ k e l. let a = in' (suc k) e (omega arith) in omega arith) in
       record {
         search = r.search;
-        reached = All-cons (IsReached (visited (d + 1) ts new (next ++ v ∷ [])).0 (d + 1)) v ts (d + 1, r.keep v (d + 1) here, omega arith) r.reached;
+        reached = All-cons (IsReached (visited (d + 1) ts new (next ++ v ∷ [])).0 (d + 1)) v ts
+            (d + 1, r.keep v (d + 1) here, omega arith) r.reached;
         keep = λ w k h. r.keep w k (keep w k h);
       } in
-      let when_some : (j : ℕ) → HasLevel levels j v → Visited levels rest next d (v ∷ ts) (visited (d + 1) ts levels next) = λ j h.
+      let when_some : (j : ℕ) → HasLevel levels j v → Visited levels rest next d (v ∷ ts) (visited (d + 1) ts levels next) =
+      λ j h.
       let r = visit_all ts levels rest next d u i at others (All-tail (λ w. w < length levels) v ts in') in
       record {
         search = r.search;
         reached = All-cons (IsReached (visited (d + 1) ts levels next).0 (d + 1)) v ts (j, r.keep v j h, i.low v j h) r.reached;
         keep = r.keep;
       } in
-      let choose : (b : Bool) → has_none (level_of levels v) ≡ b → Visited levels rest next d (v ∷ ts) (cond b (visited (d + 1) ts new (next ++ v ∷ [])) (visited (d + 1) ts levels next)) =
-      λ b. elim b as (λ b. has_none (level_of levels v) ≡ b → Visited levels rest next d (v ∷ ts) (cond b (visited (d + 1) ts new (next ++ v ∷ [])) (visited (d + 1) ts levels next))) [
+      let choose : (b : Bool) → has_none (level_of levels v) ≡ b
+      → Visited levels rest next d (v ∷ ts) (cond b (visited (d + 1) ts new (next ++ v ∷ []))
+      (visited (d + 1) ts levels next)) =
+      λ b. elim b as (λ b. has_none (level_of levels v) ≡ b
+      → Visited levels rest next d (v ∷ ts) (cond b (visited (d + 1) ts new (next ++ v ∷ []))
+      (visited (d + 1) ts levels next))) [
         | true ↦ λ e. when_none (none_of (level_of levels v) e)
         | false ↦ λ e. let some = some_of (level_of levels v) e in when_some some.0 some.1
       ] in
@@ -171,7 +191,8 @@ module _ (f : Filter) (g : Graph) (s : ℕ) where
   }
 
   -- the next frontier becomes the frontier
-  pub deeper : (levels : List (Option ℕ)) (next : List ℕ) (d : ℕ) → IsSearch f g s levels [] next d → IsSearch f g s levels next [] (d + 1)
+  pub deeper : (levels : List (Option ℕ)) (next : List ℕ) (d : ℕ) → IsSearch f g s levels [] next d
+      → IsSearch f g s levels next [] (d + 1)
   deeper levels next d i = record {
     start = i.start;
     sound = i.sound;
@@ -209,9 +230,11 @@ module _ (f : Filter) (g : Graph) (s : ℕ) where
     )
 
   -- with no frontier left all levels are found
-  pub found : (levels : List (Option ℕ)) (n d : ℕ) → length levels ≡ n → IsSearch f g s levels [] [] d → IsTable n (IsLevel f g s) levels
+  pub found : (levels : List (Option ℕ)) (n d : ℕ) → length levels ≡ n → IsSearch f g s levels [] [] d
+      → IsTable n (IsLevel f g s) levels
   found levels n d long i =
-      let closed : (u v k : ℕ) → HasLevel levels k u → LeadsTo f g u v → IsReached levels (k + 1) v = λ u v k h to. elim (i.closed u v k h to) [
+      let closed : (u v k : ℕ) → HasLevel levels k u → LeadsTo f g u v → IsReached levels (k + 1) v =
+      λ u v k h to. elim (i.closed u v k h to) [
         | inl r ↦ r
         | inr (inl c) ↦ absurd (Contains-nil u c)
         | inr (inr c) ↦ absurd (Contains-nil u c)
@@ -227,8 +250,12 @@ module _ (f : Filter) (g : Graph) (s : ℕ) where
       let in' : s < length (replicate n no_level) = omega arith in
       elim (cases_eq v s) [
         | inl e ↦
-            let at : HasLevel (set (replicate n None) s (Some 0)) 0 s = get_or-set_same (replicate n None) s (Some 0) None in' in
-            (e, same_level (set (replicate n None) s (Some 0)) s k 0 (ap (level_of (set (replicate n None) s (Some 0))) (sym e) ∙ h) at)
+            let at : HasLevel (set (replicate n None) s (Some 0)) 0 s =
+            get_or-set_same (replicate n None) s (Some 0) None in' in (
+              e,
+              same_level (set (replicate n None) s (Some 0)) s k 0
+                  (ap (level_of (set (replicate n None) s (Some 0))) (sym e) ∙ h) at,
+            )
         | inr ne ↦
             let none : level_of (replicate n None) v ≡ None = elim (cases_lt v n) [
               | inl l ↦ get_or-replicate n v None None l
@@ -254,10 +281,12 @@ module _ (f : Filter) (g : Graph) (s : ℕ) where
       }
 
   -- only the source has a level
-  pub begin : (n : ℕ) (levels : List (Option ℕ)) → levels ≡ replicate n None → s < n → IsSearch f g s (set levels s (Some 0)) (s ∷ []) [] 0
+  pub begin : (n : ℕ) (levels : List (Option ℕ)) → levels ≡ replicate n None → s < n
+      → IsSearch f g s (set levels s (Some 0)) (s ∷ []) [] 0
   begin n levels e lt = subst (λ xs. IsSearch f g s (set xs s (Some 0)) (s ∷ []) [] 0) (sym e) (begin' n lt)
 
-pub begin_count : (s n : ℕ) (levels : List (Option ℕ)) → levels ≡ replicate n None → s < n → unreached (set levels s (Some 0)) + 1 ≤ n
+pub begin_count : (s n : ℕ) (levels : List (Option ℕ)) → levels ≡ replicate n None → s < n
+    → unreached (set levels s (Some 0)) + 1 ≤ n
 begin_count s n levels e lt =
     let long : length levels ≡ n = ap length e ∙ length-replicate n None in
     let none : level_of levels s ≡ None = ap (λ xs. level_of xs s) e ∙ get_or-replicate n s None None lt in

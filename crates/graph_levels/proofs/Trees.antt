@@ -1,5 +1,6 @@
 -- Changes of trees that keep what they say.
-use Rattle.std.proofs.Common.{◌≡◌, ℕ, ◌+◌, ◌<◌, ◌≤◌, arith, sym, ap, ◌∙◌, subst, inl, inr, List, length, get_or, set, ◌++◌, ◌∷◌, []}
+use Rattle.std.proofs.Common.{◌≡◌, ℕ, ◌+◌, ◌<◌, ◌≤◌, arith, sym, ap, ◌∙◌, subst, inl, inr, List, length, get_or, set, ◌++◌, ◌∷◌}
+use Rattle.std.proofs.Common.{[]}
 use Rattle.std.proofs.lemmas.Bool.{cases_eq, cases_lt}
 use Rattle.std.proofs.lemmas.List.{get_or-set_same, get_or-set_other, get_or_default, get_or_past}
 use Rattle.std.specs.List.{range_with_len}
@@ -29,14 +30,17 @@ forest_set ps v a lt le low = λ w. elim (cases_eq w v) [
 ]
 
 -- a parent that walks join
-pub sound_set : (f : Filter) (g : Graph) (ps : List ℕ) (v a : ℕ) → v < length ps → Connects f g a v → IsSound f g ps → IsSound f g (set ps v a)
+pub sound_set : (f : Filter) (g : Graph) (ps : List ℕ) (v a : ℕ) → v < length ps → Connects f g a v → IsSound f g ps
+    → IsSound f g (set ps v a)
 sound_set f g ps v a lt c sound = λ w. elim (cases_eq w v) [
-  | inl e ↦ subst (λ x. Connects f g (parent (set ps v a) x) x) (sym e) (subst (λ x. Connects f g x v) (sym (parent_set_same ps v a lt)) c)
+  | inl e ↦ subst (λ x. Connects f g (parent (set ps v a) x) x) (sym e)
+      (subst (λ x. Connects f g x v) (sym (parent_set_same ps v a lt)) c)
   | inr ne ↦ subst (λ x. Connects f g x w) (sym (parent_set_other ps v a w ne)) (sound w)
 ]
 
 -- the parent's parent in place of the parent
-pub respects_halved : (ps : List ℕ) (v : ℕ) (label : ℕ → ℕ) → v < length ps → Respects (set ps v (parent ps (parent ps v))) label → Respects ps label
+pub respects_halved : (ps : List ℕ) (v : ℕ) (label : ℕ → ℕ) → v < length ps → Respects (set ps v (parent ps (parent ps v))) label
+    → Respects ps label
 respects_halved ps v label lt new = λ w. elim (cases_eq w v) [
   | inl e ↦
       let p = parent ps v in
@@ -52,7 +56,8 @@ respects_halved ps v label lt new = λ w. elim (cases_eq w v) [
 ]
 
 -- a root put below another vertex
-pub respects_linked : (ps : List ℕ) (r a : ℕ) (label : ℕ → ℕ) → r < length ps → parent ps r ≡ r → Respects (set ps r a) label → Respects ps label
+pub respects_linked : (ps : List ℕ) (r a : ℕ) (label : ℕ → ℕ) → r < length ps → parent ps r ≡ r → Respects (set ps r a) label
+    → Respects ps label
 respects_linked ps r a label lt root new = λ w. elim (cases_eq w r) [
   | inl e ↦ ap label e ∙ ap label (sym root) ∙ ap (λ x. label (parent ps x)) (sym e)
   | inr ne ↦ new w ∙ ap label (parent_set_other ps r a w ne)
@@ -65,7 +70,8 @@ linked_same ps r a label lt new = new r ∙ ap label (parent_set_same ps r a lt)
 abbrev pub FlatBelow : List ℕ → ℕ → Type 0
 FlatBelow ps i = (v : ℕ) → v < i → parent ps (parent ps v) ≡ parent ps v
 
-pub flat_more : (ps : List ℕ) (i : ℕ) → i < length ps → IsForest ps → FlatBelow ps i → FlatBelow (set ps i (parent ps (parent ps i))) (i + 1)
+pub flat_more : (ps : List ℕ) (i : ℕ) → i < length ps → IsForest ps → FlatBelow ps i
+    → FlatBelow (set ps i (parent ps (parent ps i))) (i + 1)
 flat_more ps i lt low flat = λ v below.
     let p = parent ps i in
     let a = parent ps p in
@@ -103,7 +109,8 @@ flat_all ps flat v = elim (cases_lt v (length ps)) [
 abbrev pub up : List ℕ → ℕ → ℕ
 up ps v = get_or ps (get_or ps v 0) 0
 
-pub up_is : (ps : List ℕ) (v : ℕ) → v < length ps → IsForest ps → (up ps v ≡ parent ps (parent ps v)) × (get_or ps v 0 ≡ parent ps v) × (parent ps v ≤ v) × (up ps v ≤ parent ps v)
+pub up_is : (ps : List ℕ) (v : ℕ) → v < length ps → IsForest ps
+    → (up ps v ≡ parent ps (parent ps v)) × (get_or ps v 0 ≡ parent ps v) × (parent ps v ≤ v) × (up ps v ≤ parent ps v)
 up_is ps v lt low =
     let r = read ps v lt in
     let a = low v in
@@ -115,23 +122,27 @@ up_is ps v lt low =
 pub halved_forest : (ps : List ℕ) (v : ℕ) → v < length ps → IsForest ps → IsForest (set ps v (up ps v))
 halved_forest ps v lt low = let u = up_is ps v lt low in forest_set ps v (up ps v) lt (omega arith) low
 
-pub halved_respects : (ps : List ℕ) (v : ℕ) (label : ℕ → ℕ) → v < length ps → IsForest ps → Respects (set ps v (up ps v)) label → Respects ps label × (label v ≡ label (up ps v))
+pub halved_respects : (ps : List ℕ) (v : ℕ) (label : ℕ → ℕ) → v < length ps → IsForest ps → Respects (set ps v (up ps v)) label
+    → Respects ps label × (label v ≡ label (up ps v))
 halved_respects ps v label lt low new =
     let u = up_is ps v lt low in
     let e = u.0 in
     let old : Respects ps label = respects_halved ps v label lt (subst (λ x. Respects (set ps v x) label) e new) in
     (old, linked_same ps v (up ps v) label lt new)
 
-pub halved_connects : (f : Filter) (g : Graph) (ps : List ℕ) (v : ℕ) → v < length ps → IsForest ps → IsSound f g ps → Connects f g (up ps v) v
+pub halved_connects : (f : Filter) (g : Graph) (ps : List ℕ) (v : ℕ) → v < length ps → IsForest ps → IsSound f g ps
+    → Connects f g (up ps v) v
 halved_connects f g ps v lt low sound =
     let u = up_is ps v lt low in
     subst (λ x. Connects f g x v) (sym u.0) (then f g _ _ _ (sound (parent ps v)) (sound v))
 
-pub halved_sound : (f : Filter) (g : Graph) (ps : List ℕ) (v : ℕ) → v < length ps → IsForest ps → IsSound f g ps → IsSound f g (set ps v (up ps v))
+pub halved_sound : (f : Filter) (g : Graph) (ps : List ℕ) (v : ℕ) → v < length ps → IsForest ps → IsSound f g ps
+    → IsSound f g (set ps v (up ps v))
 halved_sound f g ps v lt low sound = sound_set f g ps v (up ps v) lt (halved_connects f g ps v lt low sound) sound
 
 pub halved_flat : (ps : List ℕ) (i : ℕ) → i < length ps → IsForest ps → FlatBelow ps i → FlatBelow (set ps i (up ps i)) (i + 1)
-halved_flat ps i lt low flat = let u = up_is ps i lt low in subst (λ x. FlatBelow (set ps i x) (i + 1)) (sym u.0) (flat_more ps i lt low flat)
+halved_flat ps i lt low flat = let u = up_is ps i lt low in
+    subst (λ x. FlatBelow (set ps i x) (i + 1)) (sym u.0) (flat_more ps i lt low flat)
 
 -- a root stays one
 pub halved_roots : (ps : List ℕ) (v w : ℕ) → v < length ps → parent ps w ≡ w → parent (set ps v (up ps v)) w ≡ w
@@ -159,4 +170,5 @@ fresh_sound f g n ps e = λ v. subst (λ x. Connects f g x v) (sym (ap (λ xs. p
 
 -- one number more
 pub range_more : (n : ℕ) → range_with_len 0 (n + 1) ≡ range_with_len 0 n ++ n ∷ []
-range_more n = sym (map-id (range_with_len 0 (n + 1))) ∙ map-range_with_len_more (λ x. x) 0 n n (omega arith) ∙ ap (λ xs. xs ++ n ∷ []) (map-id (range_with_len 0 n))
+range_more n = sym (map-id (range_with_len 0 (n + 1))) ∙ map-range_with_len_more (λ x. x) 0 n n (omega arith)
+    ∙ ap (λ xs. xs ++ n ∷ []) (map-id (range_with_len 0 n))

@@ -48,7 +48,8 @@ module _ (f : Filter) (g : Graph) where
       → ((a b : ℕ) → LeadsTo f g a b → parent ps a ≡ parent ps b)
       → IsTable n (IsLabel f g) ps
   flat_trees n ps long low sound flat closed =
-      let both : (u v : ℕ) → Joins f g u v → parent ps u ≡ parent ps v = λ u v j. elim j [ inl x ↦ closed u v x | inr x ↦ sym (closed v u x) ] in
+      let both : (u v : ℕ) → Joins f g u v → parent ps u ≡ parent ps v =
+      λ u v j. elim j [ inl x ↦ closed u v x | inr x ↦ sym (closed v u x) ] in
       record {
         one_each = long;
         each = λ v x is. subst (IsLabel f g v) (get_or_from_slice_get ps v x v is) (are_labels (parent ps) sound low both v);

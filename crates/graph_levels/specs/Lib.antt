@@ -1,3 +1,4 @@
 pub mod Forest
 pub mod Search
 pub mod Visit
+pub mod Vertices

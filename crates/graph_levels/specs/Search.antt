@@ -21,10 +21,12 @@ unreached levels = count_by has_none levels
 
 -- Between two frontiers: each level is that of a walk and at most depth + 1; those of rest have depth, those of next
 -- depth + 1; an edge out of a vertex that is in neither leads to a level that is at most one more.
-pub record IsSearch (f : Filter) (g : Graph) (source : ℕ) (levels : List (Option ℕ)) (rest next : List ℕ) (depth : ℕ) : Type 0 where
+pub record IsSearch (f : Filter) (g : Graph) (source : ℕ) (levels : List (Option ℕ)) (rest next : List ℕ)
+    (depth : ℕ) : Type 0 where
   pub start : HasLevel levels 0 source
   pub sound : (v k : ℕ) → HasLevel levels k v → Walk (LeadsTo f g) source v k
   pub low : (v k : ℕ) → HasLevel levels k v → k ≤ depth + 1
   pub now : All (HasLevel levels depth) rest
   pub later : All (HasLevel levels (depth + 1)) next
-  pub closed : (u v k : ℕ) → HasLevel levels k u → LeadsTo f g u v → IsReached levels (k + 1) v ⊎ (Contains rest u ⊎ Contains next u)
+  pub closed : (u v k : ℕ) → HasLevel levels k u → LeadsTo f g u v
+      → IsReached levels (k + 1) v ⊎ (Contains rest u ⊎ Contains next u)

@@ -39,9 +39,11 @@ fn advance<R: ViewEdges>(
     depth: u32,
 ) -> Result<Vec<u32>, AllocError>
     requires long { length levels.old ≡ length (R.graph edges.now).names }
-    requires within { (a b : ℕ) → LeadsTo (R.filter edges.now) (R.graph edges.now) a b → (a < length (R.graph edges.now).names) × (b < length (R.graph edges.now).names) }
+    requires within { (a b : ℕ) → LeadsTo (R.filter edges.now) (R.graph edges.now) a b
+        → (a < length (R.graph edges.now).names) × (b < length (R.graph edges.now).names) }
     requires few { depth < 65536 }
-    ensures search { IfOk result (λ next. (source : ℕ) → IsSearch (R.filter edges.now) (R.graph edges.now) source levels.old frontier.now [] depth
+    ensures search { IfOk result (λ next. (source : ℕ)
+        → IsSearch (R.filter edges.now) (R.graph edges.now) source levels.old frontier.now [] depth
         → IsSearch (R.filter edges.now) (R.graph edges.now) source levels.new [] next.items depth) }
     ensures count { IfOk result (λ next. unreached levels.new + length next.items ≡ unreached levels.old) }
 {
@@ -63,7 +65,8 @@ fn search<R: ViewEdges>(
 ) -> Result<(), AllocError>
     requires source { source < length (R.graph edges.now).names }
     requires fresh { levels.old ≡ replicate (length (R.graph edges.now).names) None }
-    requires within { (a b : ℕ) → LeadsTo (R.filter edges.now) (R.graph edges.now) a b → (a < length (R.graph edges.now).names) × (b < length (R.graph edges.now).names) }
+    requires within { (a b : ℕ) → LeadsTo (R.filter edges.now) (R.graph edges.now) a b
+        → (a < length (R.graph edges.now).names) × (b < length (R.graph edges.now).names) }
     requires few { length (R.graph edges.now).names ≤ 65536 }
     ensures { OnOk result (AreLevels (R.filter edges.now) (R.graph edges.now) source levels.new) }
 {

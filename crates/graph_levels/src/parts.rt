@@ -54,8 +54,10 @@ fn join_all(parents: &mut [u32], vertex: u32, targets: &[u32])
     requires vertex_within { vertex < length parents.old }
     requires targets_within { All (λ v. v < length parents.old) targets.now }
     ensures forest { IsForest parents.new }
-    ensures coarser { (label : ℕ → ℕ) → Respects parents.new label → Respects parents.old label × All (λ v. label vertex ≡ label v) targets.now }
-    ensures sound { (f : Filter) (g : Graph) → IsSound f g parents.old → All (λ v. Joins f g vertex v) targets.now → IsSound f g parents.new }
+    ensures coarser { (label : ℕ → ℕ) → Respects parents.new label
+        → Respects parents.old label × All (λ v. label vertex ≡ label v) targets.now }
+    ensures sound { (f : Filter) (g : Graph) → IsSound f g parents.old → All (λ v. Joins f g vertex v) targets.now
+        → IsSound f g parents.new }
 {
     for target in targets {
         join(parents, vertex, *target);
@@ -79,7 +81,8 @@ fn flatten(parents: &mut [u32])
 fn settle<R: ViewEdges>(alloc: Global, edges: &R, parents: &mut [u32]) -> Result<(), AllocError>
     requires forest { IsForest parents.old }
     requires long { length parents.old ≡ length (R.graph edges.now).names }
-    ensures labels { OnOk result (IsSound (R.filter edges.now) (R.graph edges.now) parents.old → AreLabels (R.filter edges.now) (R.graph edges.now) parents.new) }
+    ensures labels { OnOk result (IsSound (R.filter edges.now) (R.graph edges.now) parents.old
+        → AreLabels (R.filter edges.now) (R.graph edges.now) parents.new) }
 {
     let mut targets = Vec::new(alloc);
     for vertex in 0..edges.vertex_count() {

@@ -1,9 +1,9 @@
 //! Levels and labels of a version.
 
-ghost use Rattle.std.specs.Prelude.{◌≡◌, ◌<◌, ◌≤◌, ◌↔◌, length, map, IfOk, IfErr, OnOk};
+ghost use Rattle.std.specs.Prelude.{◌≡◌, ◌<◌, ◌≤◌, ◌↔◌, length, IfOk, IfErr, OnOk};
 ghost use Rattle.graph_model.specs.Analyses.{AreLevels, AreLabels};
-ghost use Rattle.graph_model.specs.declared.ids.VertexId.{VertexId};
 ghost use Rattle.graph_version.specs.Versions.{content};
+ghost use Rattle.graph_levels.specs.Vertices.{numbers_of};
 ghost use Rattle.graph_levels.specs.declared.versions.LevelError.TheVariants.{OutOfMemory};
 
 use crate::distances::levels_over;
@@ -59,7 +59,7 @@ pub fn levels(
 /// The label of each vertex of a version, in number order: the least vertex to which edges of the view join it, each taken
 /// in either direction. The error is want of memory. A window that ends before it begins is an empty view.
 pub fn labels(alloc: Global, version: &Version, view: &Filter) -> Result<Vec<VertexId>, AllocError>
-    ensures { IfOk result (λ labels. AreLabels view.now (content version.now) (map (λ (vertex : VertexId). vertex.0) labels.items)) }
+    ensures { IfOk result (λ labels. AreLabels view.now (content version.now) (numbers_of labels.items)) }
 {
     let edges = VersionEdges {
         version,
@@ -71,7 +71,7 @@ pub fn labels(alloc: Global, version: &Version, view: &Filter) -> Result<Vec<Ver
 
 /// The vertices of these numbers.
 fn vertices(alloc: Global, numbers: &[u32]) -> Result<Vec<VertexId>, AllocError>
-    ensures { IfOk result (λ vertices. map (λ (vertex : VertexId). vertex.0) vertices.items ≡ numbers.now) }
+    ensures { IfOk result (λ vertices. numbers_of vertices.items ≡ numbers.now) }
 {
     let mut vertices = Vec::with_capacity(alloc, numbers.len())?;
     for number in numbers {

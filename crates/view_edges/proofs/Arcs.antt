@@ -1,5 +1,6 @@
 -- Edges along arcs lead where the arcs do.
-use Rattle.std.proofs.Common.{◌≡◌, ℕ, zero, suc, ◌<◌, arith, refl, sym, ap, ◌∙◌, subst, List, [], ◌∷◌, ◌++◌, length, map, append-nil, append_assoc, Some, true, false, Bool, cond, Option}
+use Rattle.std.proofs.Common.{◌≡◌, ℕ, zero, suc, ◌<◌, arith, refl, sym, ap, ◌∙◌, subst, List, [], ◌∷◌, ◌++◌, length, map}
+use Rattle.std.proofs.Common.{append-nil, append_assoc, Some, true, false, Bool, cond, Option}
 use Rattle.std.specs.Prelude.{filter, nat_lt, ◌&&◌, ◌==◌, ◌↔◌}
 use Rattle.std.specs.List.{Contains}
 use Rattle.std.specs.FinMap.{find}
@@ -21,7 +22,8 @@ present : (key : Key) (arcs : List (ℕ × ℕ)) (x : ℕ × ℕ) → Contains a
     → find key_cmp key (map entry_of (map edge_along arcs)) ≡ Some (stamp_of (edge_along (0, 0)))
 present key [] x c same = let l = c.1 in absurd (omega arith)
 present key (y ∷ ys) x (zero, l, e) same =
-    ap (λ t. cond t (Some (stamp_of (edge_along (0, 0)))) (find key_cmp key (map entry_of (map edge_along ys)))) (has_key_at key (edge_along y) (same ∙ ap (λ arc. key_of (edge_along arc)) (sym e)))
+    ap (λ t. cond t (Some (stamp_of (edge_along (0, 0)))) (find key_cmp key (map entry_of (map edge_along ys))))
+    (has_key_at key (edge_along y) (same ∙ ap (λ arc. key_of (edge_along arc)) (sym e)))
 present key (y ∷ ys) x (suc k, l, e) same = pick (has_key key (edge_along y)) _ _ (present key ys x (k, omega arith, e) same)
 
 module _ (count : ℕ) (arcs : List (ℕ × ℕ)) where
@@ -41,7 +43,8 @@ module _ (count : ℕ) (arcs : List (ℕ × ℕ)) where
       let key : Key = record { kind = 0; source = a; target = b } in
       (0, stamp_of (edge_along (0, 0)), get_is key (map edge_along ws) ∙ present key ws (a, b) c refl, refl)
 
-  pub ends_within : (a b : ℕ) → LeadsTo all_edges (along count arcs) a b → (a < length (along count arcs).names) × (b < length (along count arcs).names)
+  pub ends_within : (a b : ℕ) → LeadsTo all_edges (along count arcs) a b
+      → (a < length (along count arcs).names) × (b < length (along count arcs).names)
   ends_within a b l =
       let passed = (filter_contains (is_within count) arcs (a, b) (arc_along a b l)).1 in
       let both = and_parts (nat_lt a count) (nat_lt b count) passed in
@@ -50,7 +53,8 @@ module _ (count : ℕ) (arcs : List (ℕ × ℕ)) where
       let second : b < count = grind (arith, nat_tests) in
       (omega (arith, long, first), omega (arith, long, second))
 
-  pub listed : (source b : ℕ) → Contains (map (λ (arc : ℕ × ℕ). arc.1) (filter (leaves count source) arcs)) b ↔ LeadsTo all_edges (along count arcs) source b
+  pub listed : (source b : ℕ) → Contains (map (λ (arc : ℕ × ℕ). arc.1) (filter (leaves count source) arcs)) b ↔ LeadsTo all_edges
+      (along count arcs) source b
   listed source b = (
     (λ c.
         let r = map_contains (λ (arc : ℕ × ℕ). arc.1) (filter (leaves count source) arcs) b c in
@@ -58,11 +62,14 @@ module _ (count : ℕ) (arcs : List (ℕ × ℕ)) where
         let parts = and_parts (r.0.0 == source) (is_within count r.0) kept.1 in
         let first = eqb-true r.0.0 source parts.0 in
         let same : ◌≡◌ {A = ℕ × ℕ} r.0 (source, b) = λ i. (first i, r.2 i) in
-        along_arc source b (subst (Contains (filter (is_within count) arcs)) same (contains_filter (is_within count) arcs r.0 parts.1 kept.0))),
+        along_arc source b (subst (Contains (filter (is_within count) arcs)) same
+        (contains_filter (is_within count) arcs r.0 parts.1 kept.0))),
     (λ l.
         let kept = filter_contains (is_within count) arcs (source, b) (arc_along source b l) in
-        let passes : leaves count source (source, b) ≡ true = ap (λ t. t && is_within count (source, b)) ((Decides-eqb source source).1 refl) ∙ kept.1 in
-        contains_map (λ (arc : ℕ × ℕ). arc.1) (filter (leaves count source) arcs) (source, b) (contains_filter (leaves count source) arcs (source, b) passes kept.0)),
+        let passes : leaves count source (source, b) ≡ true =
+        ap (λ t. t && is_within count (source, b)) ((Decides-eqb source source).1 refl) ∙ kept.1 in
+        contains_map (λ (arc : ℕ × ℕ). arc.1) (filter (leaves count source) arcs) (source, b)
+        (contains_filter (leaves count source) arcs (source, b) passes kept.0)),
   )
 
 pub put_is : (count source : ℕ) (arcs : List (ℕ × ℕ)) (targets : List ℕ)
@@ -71,7 +78,8 @@ put_is count source [] targets = sym (append-nil targets)
 put_is count source (arc ∷ arcs) targets =
     let rest = filter (leaves count source) arcs in
     let second : ℕ × ℕ → ℕ = λ arc. arc.1 in
-    elim (leaves count source arc) as (λ b. put_targets count source arcs (cond b (targets ++ arc.1 ∷ []) targets) ≡ targets ++ map second (cond b (arc ∷ rest) rest)) [
+    elim (leaves count source arc) as (λ b. put_targets count source arcs (cond b (targets ++ arc.1 ∷ []) targets) ≡ targets
+    ++ map second (cond b (arc ∷ rest) rest)) [
       | true ↦ put_is count source arcs (targets ++ arc.1 ∷ []) ∙ append_assoc targets (arc.1 ∷ []) (map second rest)
       | false ↦ put_is count source arcs targets
     ]

@@ -23,12 +23,14 @@ module _ {X A : Type 0} (h : X → List A) where
   ]
 
 -- the blocks of a row are among those of all rows, and each of these is in some row
-pub in_rows : (rows : List (List BlockView)) (source : ℕ) (b : BlockView) → Contains (row_of rows source) b → Contains (blocks_of rows) b
+pub in_rows : (rows : List (List BlockView)) (source : ℕ) (b : BlockView) → Contains (row_of rows source) b
+    → Contains (blocks_of rows) b
 in_rows [] source b c = absurd (Contains-nil b c)
 in_rows (row ∷ rows) zero b c = Contains-append_left row (blocks_of rows) b c
 in_rows (row ∷ rows) (suc source) b c = Contains-append_right row (blocks_of rows) b (in_rows rows source b c)
 
-pub row_with : (rows : List (List BlockView)) (b : BlockView) → Contains (blocks_of rows) b → (source : ℕ) × Contains (row_of rows source) b
+pub row_with : (rows : List (List BlockView)) (b : BlockView) → Contains (blocks_of rows) b
+    → (source : ℕ) × Contains (row_of rows source) b
 row_with [] b c = absurd (Contains-nil b c)
 row_with (row ∷ rows) b c = elim (Contains-append_cases row (blocks_of rows) b c) [
   | inl here ↦ (0, here)

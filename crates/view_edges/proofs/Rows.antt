@@ -29,12 +29,16 @@ module _ (g : Graph) (rows : List (List BlockView)) (is : AreRowsOf g rows) (f :
   block_source source b c = (All-contains (IsBlockOf source) (row_of rows source) b (is.blocks source) c).source_is
 
   -- an entry of the rows stands in the graph
-  pub stands : (b : BlockView) (e : Key × Stamp) → Contains (blocks_of rows) b → Contains (entries_of b) e → get g.edges e.0 ≡ Some e.1
+  pub stands : (b : BlockView) (e : Key × Stamp) → Contains (blocks_of rows) b → Contains (entries_of b) e
+      → get g.edges e.0 ≡ Some e.1
   stands b e in_blocks in_block =
       let each = rows_each_once g rows is in
-      let there : Contains (edges_in_blocks (blocks_of rows)) (edge_from e) = contains_flat edges_in_block (blocks_of rows) b (edge_from e) in_blocks (contains_map edge_from (entries_of b) e in_block) in
+      let there : Contains (edges_in_blocks (blocks_of rows)) (edge_from e) =
+      contains_flat edges_in_block (blocks_of rows) b (edge_from e) in_blocks
+      (contains_map edge_from (entries_of b) e in_block) in
       ap (λ m. get m e.0) (sym each.same)
-      ∙ All-contains (λ (x : Edge). get (map_of (edges_in_blocks (blocks_of rows))) (key_of x) ≡ Some (stamp_of x)) (edges_in_blocks (blocks_of rows)) (edge_from e) (get_listed (edges_in_blocks (blocks_of rows)) each.once) there
+      ∙ All-contains (λ (x : Edge). get (map_of (edges_in_blocks (blocks_of rows))) (key_of x) ≡ Some (stamp_of x))
+      (edges_in_blocks (blocks_of rows)) (edge_from e) (get_listed (edges_in_blocks (blocks_of rows)) each.once) there
 
   shown_leads : (source target : ℕ) → Contains (targets_of (shown_in f (row_of rows source))) target → LeadsTo f g source target
   shown_leads source target c =
@@ -44,7 +48,8 @@ module _ (g : Graph) (rows : List (List BlockView)) (is : AreRowsOf g rows) (f :
       let place = flat_contains (shown f) row e found.1 in
       let kept = filter_contains (in_view f) (entries_of place.0) e place.2 in
       let from : e.0.source ≡ source = of_source place.0 e kept.0 ∙ block_source source place.0 place.1 in
-      let key : ◌≡◌ {A = Key} e.0 (record { kind = e.0.kind; source = source; target = target }) = λ i. record { kind = e.0.kind; source = from i; target = found.2 i } in (
+      let key : ◌≡◌ {A = Key} e.0 (record { kind = e.0.kind; source = source; target = target }) =
+      λ i. record { kind = e.0.kind; source = from i; target = found.2 i } in (
         e.0.kind,
         e.1,
         subst (λ k. get g.edges k ≡ Some e.1) key (stands place.0 e (in_rows rows source place.0 place.1) kept.0),
@@ -64,12 +69,16 @@ module _ (g : Graph) (rows : List (List BlockView)) (is : AreRowsOf g rows) (f :
       let keys : ◌≡◌ {A = Key} key e.0 = r.1.1 ∙ ap key_of (sym back.2) in
       let stamps : ◌≡◌ {A = Stamp} e.1 l.1 = ap stamp_of back.2 ∙ r.1.2 in
       let row = row_with rows b place.1 in
-      let from : row.0 ≡ source = sym (block_source row.0 b row.1) ∙ sym (of_source b e back.1) ∙ ap (λ (k : Key). k.source) (sym keys) in
+      let from : row.0 ≡ source = sym (block_source row.0 b row.1) ∙ sym (of_source b e back.1)
+      ∙ ap (λ (k : Key). k.source) (sym keys) in
       let here : Contains (row_of rows source) b = subst (λ s. Contains (row_of rows s) b) from row.1 in
       let passes : in_view f e ≡ true = ap (in_view f) (λ i. (sym keys i, stamps i)) ∙ l.3 in
-      let in_row : Contains (shown_in f (row_of rows source)) e = contains_flat (shown f) (row_of rows source) b e here (contains_filter (in_view f) (entries_of b) e passes back.1) in
-      subst (Contains (targets_of (shown_in f (row_of rows source)))) (ap (λ (k : Key). k.target) (sym keys)) (contains_map (λ (x : Key × Stamp). x.0.target) (shown_in f (row_of rows source)) e in_row)
+      let in_row : Contains (shown_in f (row_of rows source)) e =
+      contains_flat (shown f) (row_of rows source) b e here (contains_filter (in_view f) (entries_of b) e passes back.1) in
+      subst (Contains (targets_of (shown_in f (row_of rows source)))) (ap (λ (k : Key). k.target) (sym keys))
+      (contains_map (λ (x : Key × Stamp). x.0.target) (shown_in f (row_of rows source)) e in_row)
 
   -- what the row of a source shows under a filter is where the view leads from it
-  pub row_targets : (source target : ℕ) → Contains (targets_of (shown_in f (row_of rows source))) target ↔ LeadsTo f g source target
+  pub row_targets : (source target : ℕ) → Contains
+      (targets_of (shown_in f (row_of rows source))) target ↔ LeadsTo f g source target
   row_targets source target = (shown_leads source target, leads_shown source target)

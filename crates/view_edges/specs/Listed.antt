@@ -7,7 +7,15 @@ use Rattle.graph_model.specs.declared.ids.Filter.{Filter}
 
 -- the edge along an arc, of weight 0 and time 0
 abbrev pub edge_along : ℕ × ℕ → Edge
-edge_along arc = record { kind = record { 0 = 0 }; source = record { 0 = arc.0 }; target = record { 0 = arc.1 }; weight = pos 0; first = 0; recent = 0 }
+edge_along arc =
+    record {
+      kind = record { 0 = 0 };
+      source = record { 0 = arc.0 };
+      target = record { 0 = arc.1 };
+      weight = pos 0;
+      first = 0;
+      recent = 0;
+    }
 
 abbrev pub is_within : ℕ → ℕ × ℕ → Bool
 is_within count arc = nat_lt arc.0 count && nat_lt arc.1 count
@@ -18,7 +26,8 @@ leaves count source arc = (arc.0 == source) && is_within count arc
 
 -- the graph of so many vertices with these arcs
 abbrev pub along : ℕ → List (ℕ × ℕ) → Graph
-along count arcs = record { names = replicate count []; kinds = []; edges = map_of (map edge_along (filter (is_within count) arcs)) }
+along count arcs =
+    record { names = replicate count []; kinds = []; edges = map_of (map edge_along (filter (is_within count) arcs)) }
 
 -- all edges of it
 abbrev pub all_edges : Filter

@@ -21,7 +21,8 @@ pub trait ViewEdges {
     fn vertex_count(&self) -> usize
         ensures is { result ≡ length (graph self.now).names }
         ensures few { result ≤ 65536 }
-        ensures within { (a b : ℕ) → LeadsTo (filter self.now) (graph self.now) a b → (a < length (graph self.now).names) × (b < length (graph self.now).names) };
+        ensures within { (a b : ℕ) → LeadsTo (filter self.now) (graph self.now) a b
+            → (a < length (graph self.now).names) × (b < length (graph self.now).names) };
 
     /// Puts the targets of the view's edges out of this vertex in place of what `targets` had, in any order; a target
     /// may stand more than once, as parallel edges of two kinds have it. None lead out of a number that is no vertex.

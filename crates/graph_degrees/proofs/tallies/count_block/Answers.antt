@@ -24,16 +24,22 @@ loop-edge-init c =
 
 pub count_edge-requires-clause-source : goal.count_edge-requires-clause-source
 count_edge-requires-clause-source c =
-    let now = next_room c.args.view.now c.args.block.now c.args.table.now c.loop-edge.table (edges_left c.loop-edge.edge-iterator) (edges_left c.next.new.self) (lent_edge c.in-Some.edge) c.in-Some.ensures.steps c.loop-edge.auto.table c.requires c.loop-edge.invariant.begun in
+    let now = next_room c.args.view.now c.args.block.now c.args.table.now c.loop-edge.table (edges_left c.loop-edge.edge-iterator)
+    (edges_left c.next.new.self) (lent_edge c.in-Some.edge) c.in-Some.ensures.steps c.loop-edge.auto.table c.requires
+    c.loop-edge.invariant.begun in
     omega (arith, now.source, c.source-source.ensures)
 
 pub count_edge-requires-clause-target : goal.count_edge-requires-clause-target
 count_edge-requires-clause-target c =
-    (next_room c.args.view.now c.args.block.now c.args.table.now c.loop-edge.table (edges_left c.loop-edge.edge-iterator) (edges_left c.next.new.self) (lent_edge c.in-Some.edge) c.in-Some.ensures.steps c.loop-edge.auto.table c.requires c.loop-edge.invariant.begun).target
+    (next_room c.args.view.now c.args.block.now c.args.table.now c.loop-edge.table (edges_left c.loop-edge.edge-iterator)
+    (edges_left c.next.new.self) (lent_edge c.in-Some.edge) c.in-Some.ensures.steps c.loop-edge.auto.table c.requires
+    c.loop-edge.invariant.begun).target
 
 pub count_edge-requires-clause-limits : goal.count_edge-requires-clause-limits
 count_edge-requires-clause-limits c =
-    (next_room c.args.view.now c.args.block.now c.args.table.now c.loop-edge.table (edges_left c.loop-edge.edge-iterator) (edges_left c.next.new.self) (lent_edge c.in-Some.edge) c.in-Some.ensures.steps c.loop-edge.auto.table c.requires c.loop-edge.invariant.begun).limits
+    (next_room c.args.view.now c.args.block.now c.args.table.now c.loop-edge.table (edges_left c.loop-edge.edge-iterator)
+    (edges_left c.next.new.self) (lent_edge c.in-Some.edge) c.in-Some.ensures.steps c.loop-edge.auto.table c.requires
+    c.loop-edge.invariant.begun).limits
 
 pub loop-edge-preserved : goal.loop-edge-preserved
 loop-edge-preserved c =
@@ -44,7 +50,9 @@ loop-edge-preserved c =
     let weight = c.in-Some.edge.weight.now in
     let counts = (rw (to_z-of_z w64 weight (weight_fits weight stamp.0)) at c.count_edge.ensures) in
     record {
-      begun = next_begun c.args.view.now c.args.block.now c.args.table.now c.loop-edge.table (edges_left c.loop-edge.edge-iterator) rest l c.in-Some.ensures.steps c.loop-edge.auto.table c.requires c.loop-edge.invariant.begun
+      begun = next_begun c.args.view.now c.args.block.now c.args.table.now c.loop-edge.table
+          (edges_left c.loop-edge.edge-iterator) rest l c.in-Some.ensures.steps c.loop-edge.auto.table c.requires
+          c.loop-edge.invariant.begun
           c.count_edge.new.table c.source-source.result.0 c.source-source.ensures stamp counts;
       stamps = All-tail (λ (e : LentEdge). IsStamp e.stamp) l rest stamps;
     }

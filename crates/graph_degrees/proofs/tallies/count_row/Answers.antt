@@ -19,8 +19,10 @@ count_block-requires c =
     let item : block ≡ get_or blocks i block = c.block-item.is in
     let same : block_value (get_or blocks i block) ≡ c.deref.result.now = ap block_value (sym item) ∙ sym c.deref.ensures in
     subst (λ (b : BlockView). HasRoomFor f (shown_block f b) c.loop-block.table) same
-    (begun_room f (shown_edges f (block_values blocks)) (shown_edges f (block_values (drop i blocks))) (shown_block f (block_value (get_or blocks i block))) (shown_edges f (block_values (drop (i + 1) blocks)))
-    c.args.table.now c.loop-block.table (next_block f blocks i block c.loop-block-test.true) c.loop-block.auto.table c.requires c.loop-block.invariant)
+    (begun_room f (shown_edges f (block_values blocks)) (shown_edges f (block_values (drop i blocks)))
+    (shown_block f (block_value (get_or blocks i block))) (shown_edges f (block_values (drop (i + 1) blocks)))
+    c.args.table.now c.loop-block.table (next_block f blocks i block c.loop-block-test.true) c.loop-block.auto.table c.requires
+    c.loop-block.invariant)
 
 pub loop-block-preserved : goal.loop-block-preserved
 loop-block-preserved c =
@@ -30,9 +32,13 @@ loop-block-preserved c =
     let block : Arc Block Global = c.block-item.result in
     let item : block ≡ get_or blocks i block = c.block-item.is in
     let same : c.deref.result.now ≡ block_value (get_or blocks i block) = c.deref.ensures ∙ ap block_value item in
-    let counts = subst (λ (b : BlockView). Counts f (shown_block f b) c.loop-block.table c.count_block.new.table) same c.count_block.ensures in
-    begun_more f (shown_edges f (block_values blocks)) (shown_edges f (block_values (drop i blocks))) (shown_block f (block_value (get_or blocks i block))) (shown_edges f (block_values (drop (i + 1) blocks)))
-    c.args.table.now c.loop-block.table c.count_block.new.table (next_block f blocks i block c.loop-block-test.true) counts c.loop-block.invariant
+    let counts =
+    subst (λ (b : BlockView). Counts f (shown_block f b) c.loop-block.table c.count_block.new.table) same
+    c.count_block.ensures in
+    begun_more f (shown_edges f (block_values blocks)) (shown_edges f (block_values (drop i blocks)))
+    (shown_block f (block_value (get_or blocks i block))) (shown_edges f (block_values (drop (i + 1) blocks)))
+    c.args.table.now c.loop-block.table c.count_block.new.table
+    (next_block f blocks i block c.loop-block-test.true) counts c.loop-block.invariant
 
 pub returns : goal.returns
 returns c =
@@ -40,5 +46,6 @@ returns c =
     let blocks : List (Arc Block Global) = c.args.blocks.now in
     let i = c.loop-block.block-index in
     let end : drop i blocks ≡ [] = drop_all i blocks (omega arith) in
-    begun_end f (shown_edges f (block_values blocks)) (shown_edges f (block_values (drop i blocks))) c.args.table.now c.loop-block.table
+    begun_end f (shown_edges f (block_values blocks))
+    (shown_edges f (block_values (drop i blocks))) c.args.table.now c.loop-block.table
     (ap (λ (bs : List (Arc Block Global)). shown_edges f (block_values bs)) end) c.loop-block.invariant

@@ -5,4 +5,5 @@ use Rattle.graph_degrees.proofs.Parts.{IsBegun}
 use Rattle.graph_degrees.proofs.tallies.count_row.Given as goal
 
 abbrev pub invariant-loop-block : goal.invariant-loop-block
-invariant-loop-block l = IsBegun l.view (shown_edges l.view (block_values l.blocks)) (shown_edges l.view (block_values (drop l.block-index l.blocks))) l.fn.table l.table
+invariant-loop-block l = IsBegun l.view (shown_edges l.view (block_values l.blocks))
+    (shown_edges l.view (block_values (drop l.block-index l.blocks))) l.fn.table l.table

@@ -8,6 +8,7 @@ invariant-loop-vertex g l =
     let gr = g.R.ViewEdges.graph l.edges in
     record {
       long : length l.levels ≡ length gr.names;
-      search : (source : ℕ) → IsSearch f gr source l.fn.levels l.frontier [] l.depth → IsSearch f gr source l.levels (drop l.vertex-index l.frontier) l.next.items l.depth;
+      search : (source : ℕ) → IsSearch f gr source l.fn.levels l.frontier [] l.depth
+          → IsSearch f gr source l.levels (drop l.vertex-index l.frontier) l.next.items l.depth;
       count : unreached l.levels + length l.next.items ≡ unreached l.fn.levels;
     }

@@ -15,7 +15,8 @@ frontiers-init g c =
     let long = ap length e in
     let count = begin_count s n c.args.levels.now c.requires.fresh c.requires.source in
     record {
-      search = subst (λ fr. IsSearch f gr s (set c.args.levels.now s (Some 0)) fr [] 0) (sym e) (begin f gr s n c.args.levels.now c.requires.fresh c.requires.source);
+      search = subst (λ fr. IsSearch f gr s (set c.args.levels.now s (Some 0)) fr [] 0) (sym e)
+          (begin f gr s n c.args.levels.now c.requires.fresh c.requires.source);
       bound = omega arith;
     }
 
@@ -26,7 +27,8 @@ frontiers-preserved g c =
     let s = c.args.source in
     let d = c.frontiers.depth in
     let i = c.frontiers.invariant in
-    let before : IsSearch f gr s c.frontiers.levels c.deref.result.now [] d = subst (λ fr. IsSearch f gr s c.frontiers.levels fr [] d) (sym c.deref.ensures.value) i.search in
+    let before : IsSearch f gr s c.frontiers.levels c.deref.result.now [] d =
+    subst (λ fr. IsSearch f gr s c.frontiers.levels fr [] d) (sym c.deref.ensures.value) i.search in
     let count = c.in_ok-frontier-2.ensures.count in
     let some : 0 < length c.frontiers.frontier.items = grind (arith, common_steps) in
     let bound = i.bound in
@@ -43,5 +45,8 @@ returns g c =
     let d = c.frontiers.depth in
     let n = length gr.names in
     let none : c.frontiers.frontier.items ≡ [] = grind (arith, common_steps) in
-    let long : length c.frontiers.levels ≡ n = c.frontiers.auto.levels ∙ length-set c.args.levels.now c.args.source (Some 0) ∙ ap length c.requires.fresh ∙ length-replicate n _ in
-    found f gr s c.frontiers.levels n d long (subst (λ fr. IsSearch f gr s c.frontiers.levels fr [] d) none c.frontiers.invariant.search)
+    let long : length c.frontiers.levels ≡ n =
+    c.frontiers.auto.levels ∙ length-set c.args.levels.now c.args.source (Some 0) ∙ ap length c.requires.fresh
+    ∙ length-replicate n _ in
+    found f gr s c.frontiers.levels n d long
+    (subst (λ fr. IsSearch f gr s c.frontiers.levels fr [] d) none c.frontiers.invariant.search)

@@ -15,7 +15,8 @@ returns-then-first-second-clause-coarser c = λ label new.
     let ps = c.find-second.new.parents in
     let r = c.find-second.result in
     let lt : r < length ps = omega arith in
-    let mid = c.find-second.ensures.coarser label (respects_linked ps r c.find-first.result label lt c.find-second.ensures.root new) in
+    let mid = c.find-second.ensures.coarser label
+    (respects_linked ps r c.find-first.result label lt c.find-second.ensures.root new) in
     let old = c.find-first.ensures.coarser label mid.0 in
     (old.0, old.1 ∙ sym (linked_same ps r c.find-first.result label lt new) ∙ sym mid.1)
 

@@ -21,5 +21,8 @@ loop-target-preserved c =
 pub returns-clause-coarser : goal.returns-clause-coarser
 returns-clause-coarser c = λ label new.
     let ts = c.args.targets.now in
-    let old = c.loop-target.invariant.coarser label new in
-    (old.0, subst (λ xs. (k d : ℕ) → k < length xs → label c.args.vertex ≡ label (get_or xs k d)) (take_all c.loop-target.target-index ts (omega arith)) old.1)
+    let old = c.loop-target.invariant.coarser label new in (
+      old.0,
+      subst (λ xs. (k d : ℕ) → k < length xs → label c.args.vertex ≡ label (get_or xs k d))
+          (take_all c.loop-target.target-index ts (omega arith)) old.1,
+    )

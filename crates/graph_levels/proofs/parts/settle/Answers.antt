@@ -14,7 +14,8 @@ join_all-requires-clause-targets_within g c =
     let v = c.loop-vertex.vertex in
     let n = length c.loop-vertex.parents in
     let long : n ≡ length gr.names = c.loop-vertex.invariant.long in
-    let all : All (LeadsTo f gr v) c.deref.result.now = told (LeadsTo f gr v) _ _ c.deref.ensures.value c.in_ok-list_targets.ensures in
+    let all : All (LeadsTo f gr v) c.deref.result.now =
+    told (LeadsTo f gr v) _ _ c.deref.ensures.value c.in_ok-list_targets.ensures in
     λ k d lt.
     let edge = all k d lt in
     let in' = c.vertex_count-vertex-end.ensures.within v (get_or c.deref.result.now k d) edge in
@@ -38,7 +39,9 @@ loop-vertex-preserved g c =
             | inl lt ↦ i.agree label step.0 a b lt edge
             | inr ge ↦
                 let here : a ≡ v = omega arith in
-                ap label here ∙ each_target (LeadsTo f gr v) (λ x. label v ≡ label x) ts _ c.deref.ensures.value c.in_ok-list_targets.ensures step.1 b (subst (λ x. LeadsTo f gr x b) here edge)
+                ap label here ∙ each_target (LeadsTo f gr v)
+                (λ x. label v ≡ label x) ts _ c.deref.ensures.value c.in_ok-list_targets.ensures step.1 b
+                (subst (λ x. LeadsTo f gr x b) here edge)
           ];
     }
 

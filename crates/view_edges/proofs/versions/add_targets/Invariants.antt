@@ -5,4 +5,5 @@ use Rattle.view_edges.proofs.Targets.{lent_targets}
 use Rattle.view_edges.proofs.versions.add_targets.Given as goal
 
 abbrev pub invariant-loop-edge : goal.invariant-loop-edge
-invariant-loop-edge l = l.targets.items ++ lent_targets (edges_left l.edge-iterator) ≡ l.fn.targets.items ++ targets_of (shown l.view l.block)
+invariant-loop-edge l = l.targets.items ++ lent_targets (edges_left l.edge-iterator) ≡ l.fn.targets.items
+    ++ targets_of (shown l.view l.block)

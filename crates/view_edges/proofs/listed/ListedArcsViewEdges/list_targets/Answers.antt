@@ -15,5 +15,7 @@ returns c =
     let targets = c.loop-arc.targets.items in
     let whole : drop c.loop-arc.arc-index arcs ≡ [] = drop_all c.loop-arc.arc-index arcs (omega arith) in
     let is : targets ≡ map (λ (arc : ℕ × ℕ). arc.1) (filter (leaves count source) arcs) =
-    sym (ap (λ (xs : List (ℕ × ℕ)). put_targets count source xs targets) whole) ∙ c.loop-arc.invariant ∙ put_is count source arcs [] in
-    λ b. subst (λ (xs : List ℕ). Contains xs b ↔ LeadsTo all_edges (along count arcs) source b) (sym is) (listed count arcs source b)
+    sym (ap (λ (xs : List (ℕ × ℕ)). put_targets count source xs targets) whole) ∙ c.loop-arc.invariant
+    ∙ put_is count source arcs [] in
+    λ b. subst (λ (xs : List ℕ). Contains xs b ↔ LeadsTo all_edges (along count arcs) source b) (sym is)
+    (listed count arcs source b)

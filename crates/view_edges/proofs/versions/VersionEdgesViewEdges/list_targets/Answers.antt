@@ -26,4 +26,5 @@ returns c =
     ∙ ap (λ (bs : List (Arc Block Global)). targets ++ targets_in f bs) (sym end)
     ∙ c.loop-block.invariant
     ∙ ap (λ row. targets_of (shown_in f row)) c.row_blocks-block-items.ensures in
-    λ b. subst (λ (ts : List ℕ). Contains ts b ↔ LeadsTo f (content v) source b) (sym whole) (row_targets (content v) v.rows c.number-number.ensures.version.rows f source b)
+    λ b. subst (λ (ts : List ℕ). Contains ts b ↔ LeadsTo f (content v) source b) (sym whole)
+    (row_targets (content v) v.rows c.number-number.ensures.version.rows f source b)
