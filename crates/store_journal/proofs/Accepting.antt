@@ -6,6 +6,7 @@ use Rattle.std.specs.Option.{option_map, option_and_then}
 use Rattle.std.specs.declared.option.Option.{Option}
 use Rattle.std.specs.declared.option.Option.TheVariants.{None, Some}
 use Rattle.std.proofs.lemmas.Bool.{true≢false}
+use Rattle.std.proofs.lemmas.List.{length-map}
 use Rattle.graph_model.specs.declared.batches.NamedOp.{NamedOp}
 use Rattle.edge_block.specs.Slots.{BlockView}
 use Rattle.row_pages.specs.Rows.{blocks_of, numbers_of}
@@ -269,6 +270,9 @@ made_accepted a = record {
   legal = is_legal_in a;
   ledger = λ i. record { batches = a.applied.batches i; pool = (next_desk a).pool };
   kept = λ k d h apart. kept_before a (get_or (blocks_of a.version.rows) k d) (k, h, default_same (blocks_of a.version.rows) k d h) apart;
+  layout =
+      let many : length (dropped_numbers a) ≡ length a.dropped = length-map a.dropped (λ b. b.number) in
+      record { rows = a.applied.layout.rows; taken_are = a.applied.layout.taken_are; dropped_are = many ∙ a.applied.layout.dropped_are };
 }
 
 pub made_desk : (a : Application) → IsDesk (next_desk a)

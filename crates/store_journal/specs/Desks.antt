@@ -2,9 +2,11 @@
 use Rattle.std.specs.Prelude.{◌≡◌, ℕ, ◌+◌, ◌==◌, List, [], ◌∷◌, ◌++◌, length, map, count_by, if◌then◌else◌, All, Contains, Bool, true, false}
 use Rattle.std.specs.declared.option.Option.TheVariants.{Some}
 use Rattle.graph_model.specs.declared.batches.NamedOp.{NamedOp}
+use Rattle.graph_model.specs.Step.{after_all}
 use Rattle.edge_block.specs.Slots.{BlockView}
+use Rattle.block_layout.specs.Batches.{layout_after, taken_by, dropped_by}
 use Rattle.row_pages.specs.Rows.{blocks_of, numbers_of}
-use Rattle.graph_version.specs.Versions.{VersionView, IsVersion, is_in}
+use Rattle.graph_version.specs.Versions.{VersionView, IsVersion, content, layout_of, is_in}
 use Rattle.block_pool.specs.Pools.{Status, AreFree, is_free, is_retired, is_born_at, is_past, recycled}
 use Rattle.store_journal.specs.Exchanges.{Exchanges}
 use Rattle.store_journal.specs.Journal.{Entry, Applied, Collected, Ledger, empty_ledger, replay, is_legal, after_entry, exchanged}
@@ -30,6 +32,13 @@ pub record IsDesk (d : DeskView) : Type 0 where
 
 -- Batches
 
+-- the next version's layout is the one that the layout rule has after the batch, and as many blocks were taken and
+-- dropped as the rule says
+pub record FollowsLayout (before : VersionView) (ops : List NamedOp) (after : VersionView) (taken dropped : ℕ) : Type 0 where
+  pub rows : (source : ℕ) → layout_of after.rows source ≡ layout_after ops (content before) (layout_of before.rows) source
+  pub taken_are : taken ≡ taken_by ops (content before) (layout_of before.rows) (length (after_all ops (content before)).names)
+  pub dropped_are : dropped ≡ dropped_by ops (content before) (layout_of before.rows) (length (after_all ops (content before)).names)
+
 -- a batch was applied to the desk's last version with granted blocks of these numbers
 pub record IsAppliedTo (d : DeskView) (ops : List NamedOp) (numbers : List ℕ) (version : VersionView) (taken : List ℕ) (dropped : List BlockView) (unused : List ℕ) : Type 0 where
   pub free : AreFree d.pool numbers
@@ -38,6 +47,7 @@ pub record IsAppliedTo (d : DeskView) (ops : List NamedOp) (numbers : List ℕ) 
   pub batches : version.batches ≡ d.last.batches ++ ops ∷ []
   pub exchanged : Exchanges (blocks_of d.last.rows) (blocks_of version.rows) taken dropped
   pub handed : (q : ℕ → Bool) → count_by q taken + count_by q unused ≡ count_by q numbers
+  pub layout : FollowsLayout d.last ops version (length taken) (length dropped)
 
 -- the desk with that version as the last one, the batch in the journal, and the blocks exchanged
 abbrev pub desk_after : DeskView → List NamedOp → VersionView → List ℕ → List BlockView → DeskView
@@ -55,6 +65,7 @@ pub record IsAccepted (old : DeskView) (ops : List NamedOp) (taken dropped : Lis
   pub ledger : ledger_of new ≡ after_entry (ledger_of old) (Applied ops taken dropped)
   -- blocks that weren't taken are those of the version before, unchanged
   pub kept : All (λ b. is_in b.number taken ≡ false → Contains (blocks_of old.last.rows) b) (blocks_of new.last.rows)
+  pub layout : FollowsLayout old.last ops new.last (length taken) (length dropped)
 
 -- free falls by what the batch takes, and retired grows by what it drops
 pub record AcceptedCounts (old : DeskView) (taken dropped : List ℕ) (new : DeskView) : Type 0 where

@@ -32,7 +32,7 @@ pub fn law_journal()
 /// A batch that was applied to a desk's last version with granted blocks.
 ///
 /// - `accepted`: the desk with the new version, the journal's entry and the blocks exchanged has accepted the batch, and
-///   nothing else.
+///   nothing else: its layout is the layout rule's, and it took and dropped as many blocks as the rule says.
 /// - `desk`: it is a desk: its journal replays to what it shows.
 /// - `moves`: its pool is what the moves of blocks leave, one set after another: all the granted blocks used, the dropped
 ///   ones retired with the new version's number, the unused ones given back.
