@@ -1,0 +1,111 @@
+-- What taking a neighbor from each listed vertex does.
+use Rattle.std.proofs.Common.{◌≡◌, ℕ, ◌+◌, ◌-◌, ◌<◌, ◌≤◌, suc, arith, refl, sym, ap, ◌∙◌, subst, inl, inr, List, [], ◌∷◌, ◌++◌, length, set, cond, true, false, Bool}
+use Rattle.std.specs.Prelude.{◌==◌, All, sum}
+use Rattle.std.specs.List.{Contains}
+use Rattle.std.proofs.lemmas.Bool.{cases_eq}
+use Rattle.std.proofs.lemmas.Bool.Decides.{Decides-eqb}
+use Rattle.std.proofs.lemmas.List.{get_or-set_same, get_or-set_other, length-set, length-append}
+use Rattle.std.proofs.lemmas.List.Sums.{sum_by-set}
+use Rattle.std.proofs.lemmas.List.Elements.{All-weaker, All-push, All-tail, Contains-push, Contains-append_left}
+use Rattle.graph_model.specs.Arcs.{at}
+use Rattle.graph_cores.specs.Peel.{lowered}
+use Rattle.graph_cores.proofs.Times.{times, times_yes, times_no}
+
+abbrev less : List ℕ → ℕ → List ℕ
+less ds w = set ds w (at ds w - 1)
+
+abbrev pushed : ℕ → List ℕ → List ℕ → ℕ → List ℕ
+pushed k ds st w = cond (at ds w == k + 1) (st ++ w ∷ []) st
+
+less_at : (ds : List ℕ) (w x : ℕ) → w < length ds → w ≡ x → at (less ds w) x ≡ at ds x - 1
+less_at ds w x lt e =
+    let a : at (less ds w) w ≡ at ds w - 1 = get_or-set_same ds w (at ds w - 1) 0 lt in
+    sym (ap (at (less ds w)) e) ∙ a ∙ ap (λ y. at ds y - 1) e
+
+less_other : (ds : List ℕ) (w x : ℕ) → (w ≡ x → ⊥) → at (less ds w) x ≡ at ds x
+less_other ds w x ne = get_or-set_other ds w x (at ds w - 1) 0 (λ e. ne (sym e))
+
+less_low : (ds : List ℕ) (w x : ℕ) → w < length ds → at (less ds w) x ≤ at ds x
+less_low ds w x lt = elim (cases_eq w x) [
+  | inl e ↦ let a = less_at ds w x lt e in omega arith
+  | inr ne ↦ let a = less_other ds w x ne in omega arith
+]
+
+rest_within : (ds : List ℕ) (w : ℕ) (ws : List ℕ) → All (λ x. x < length ds) (w ∷ ws) → All (λ x. x < length (less ds w)) ws
+rest_within ds w ws h = λ i d l. let a = h (suc i) d (omega arith) in let long = length-set ds w (at ds w - 1) in omega arith
+
+pub lowered_at : (k : ℕ) (ws ds st : List ℕ) (x : ℕ) → All (λ w. w < length ds) ws → at (lowered k ws ds st).0 x ≡ at ds x - times x ws
+lowered_at k [] ds st x h = omega arith
+lowered_at k (w ∷ ws) ds st x h =
+    let lt : w < length ds = h 0 0 (omega arith) in
+    let more = lowered_at k ws (less ds w) (pushed k ds st w) x (rest_within ds w ws h) in
+    elim (cases_eq w x) [
+      | inl e ↦ let a = less_at ds w x lt e in let t = times_yes x w ws e in omega arith
+      | inr ne ↦ let a = less_other ds w x ne in let t = times_no x w ws ne in omega arith
+    ]
+
+pushed_keeps : (b : Bool) (st : List ℕ) (w x : ℕ) → Contains st x → Contains (cond b (st ++ w ∷ []) st) x
+pushed_keeps true st w x c = Contains-append_left st (w ∷ []) x c
+pushed_keeps false st w x c = c
+
+pub lowered_keeps : (k : ℕ) (ws ds st : List ℕ) (x : ℕ) → Contains st x → Contains (lowered k ws ds st).1 x
+lowered_keeps k [] ds st x c = c
+lowered_keeps k (w ∷ ws) ds st x c = lowered_keeps k ws (less ds w) (pushed k ds st w) x (pushed_keeps (at ds w == k + 1) st w x c)
+
+pub lowered_pushes : (k : ℕ) (ws ds st : List ℕ) (x : ℕ) → All (λ w. w < length ds) ws → k + 1 ≤ at ds x → at (lowered k ws ds st).0 x ≤ k → Contains (lowered k ws ds st).1 x
+lowered_pushes k [] ds st x h many few = absurd (omega arith)
+lowered_pushes k (w ∷ ws) ds st x h many few =
+    let lt : w < length ds = h 0 0 (omega arith) in
+    let within = rest_within ds w ws h in
+    elim (cases_eq w x) [
+      | inl e ↦ elim (cases_eq (at ds w) (k + 1)) [
+        | inl full ↦
+            let now : pushed k ds st w ≡ st ++ w ∷ [] = ap (λ b. cond b (st ++ w ∷ []) st) ((Decides-eqb (at ds w) (k + 1)).1 full) in
+            lowered_keeps k ws (less ds w) (pushed k ds st w) x (subst (λ xs. Contains xs x) (sym now) (subst (Contains (st ++ w ∷ [])) e (Contains-push st w)))
+        | inr ne ↦
+            let a = less_at ds w x lt e in
+            let same = ap (at ds) e in
+            lowered_pushes k ws (less ds w) (pushed k ds st w) x within (omega arith) few
+      ]
+      | inr ne ↦
+          let a = less_other ds w x ne in
+          lowered_pushes k ws (less ds w) (pushed k ds st w) x within (omega arith) few
+    ]
+
+pushed_low : (b : Bool) (k : ℕ) (ds st : List ℕ) (w : ℕ) → w < length ds → (at ds w == k + 1) ≡ b → All (λ y. at ds y ≤ k) st → All (λ y. at (less ds w) y ≤ k) (cond b (st ++ w ∷ []) st)
+pushed_low true k ds st w lt e low =
+    All-push (λ y. at (less ds w) y ≤ k) st w
+    (All-weaker (λ y. at ds y ≤ k) (λ y. at (less ds w) y ≤ k) (λ y l. let a = less_low ds w y lt in omega arith) st low)
+    (let full : at ds w ≡ k + 1 = (Decides-eqb (at ds w) (k + 1)).0 e in let a = less_at ds w w lt refl in omega arith)
+pushed_low false k ds st w lt e low = All-weaker (λ y. at ds y ≤ k) (λ y. at (less ds w) y ≤ k) (λ y l. let a = less_low ds w y lt in omega arith) st low
+
+pub lowered_low : (k : ℕ) (ws ds st : List ℕ) → All (λ w. w < length ds) ws → All (λ y. at ds y ≤ k) st → All (λ y. at (lowered k ws ds st).0 y ≤ k) (lowered k ws ds st).1
+lowered_low k [] ds st h low = low
+lowered_low k (w ∷ ws) ds st h low =
+    lowered_low k ws (less ds w) (pushed k ds st w) (rest_within ds w ws h) (pushed_low (at ds w == k + 1) k ds st w (h 0 0 (omega arith)) refl low)
+
+pushed_all : (P : ℕ → Type 0) (b : Bool) (st : List ℕ) (w : ℕ) → P w → All P st → All P (cond b (st ++ w ∷ []) st)
+pushed_all P true st w p all = All-push P st w all p
+pushed_all P false st w p all = all
+
+pub lowered_all : (P : ℕ → Type 0) (k : ℕ) (ws ds st : List ℕ) → All P ws → All P st → All P (lowered k ws ds st).1
+lowered_all P k [] ds st new all = all
+lowered_all P k (w ∷ ws) ds st new all = lowered_all P k ws (less ds w) (pushed k ds st w) (All-tail P w ws new) (pushed_all P (at ds w == k + 1) st w (new 0 0 (omega arith)) all)
+
+pushed_sum : (b : Bool) (k : ℕ) (ds st : List ℕ) (w : ℕ) → w < length ds → (at ds w == k + 1) ≡ b → sum (less ds w) + length (cond b (st ++ w ∷ []) st) ≤ sum ds + length st
+pushed_sum true k ds st w lt e =
+    let full : at ds w ≡ k + 1 = (Decides-eqb (at ds w) (k + 1)).0 e in
+    let s : sum (less ds w) + at ds w ≡ sum ds + (at ds w - 1) = sum_by-set (λ x. x) ds w (at ds w - 1) 0 lt in
+    let long = length-append st (w ∷ []) in
+    omega arith
+pushed_sum false k ds st w lt e =
+    let s : sum (less ds w) + at ds w ≡ sum ds + (at ds w - 1) = sum_by-set (λ x. x) ds w (at ds w - 1) 0 lt in
+    omega arith
+
+-- each vertex that is pushed has lost a neighbor
+pub lowered_sum : (k : ℕ) (ws ds st : List ℕ) → All (λ w. w < length ds) ws → sum (lowered k ws ds st).0 + length (lowered k ws ds st).1 ≤ sum ds + length st
+lowered_sum k [] ds st h = omega arith
+lowered_sum k (w ∷ ws) ds st h =
+    let one = pushed_sum (at ds w == k + 1) k ds st w (h 0 0 (omega arith)) refl in
+    let more = lowered_sum k ws (less ds w) (pushed k ds st w) (rest_within ds w ws h) in
+    omega arith

@@ -1,0 +1,267 @@
+-- Steps of peeling.
+use Rattle.std.proofs.Common.{◌≡◌, ◌≢◌, ℕ, ◌+◌, ◌<◌, ◌≤◌, arith, refl, sym, ap, ◌∙◌, subst, ◌⊎◌, inl, inr, List, [], ◌∷◌, ◌++◌, length, get_or, set, true, false, Bool}
+use Rattle.std.specs.Prelude.{IsTrue, All, count_by, filter, nat_le, nat_lt, ◌&&◌, replicate}
+use Rattle.std.specs.List.{Contains}
+use Rattle.std.proofs.lemmas.Bool.{cases_eq, cases_Bool, cases_lt}
+use Rattle.std.proofs.lemmas.List.{get_or-set_same, get_or-set_other, get_or_default, get_or_append_left, length-append, length-set, length-replicate, get_or-replicate, get_or_past}
+use Rattle.std.proofs.lemmas.Option.{get_or_from_slice_get, slice_get_within}
+use Rattle.std.proofs.lemmas.Bool.Decides.{nat_tests}
+use Rattle.std.proofs.lemmas.List.Sums.{length-filter}
+use Rattle.std.proofs.lemmas.List.Kept.{AllPairs-filter}
+use Rattle.std.proofs.lemmas.List.Elements.{All-contains, All-tail, Contains-get_or, Contains-push, Contains-append_cases, filter_passes, All-weaker}
+use Rattle.graph_model.specs.Graph.{Graph}
+use Rattle.graph_model.specs.Analyses.{IsTable, Joins, IsCoreNumber}
+use Rattle.graph_model.specs.Arcs.{AreNeighbors, at}
+use Rattle.graph_model.specs.declared.ids.Filter.{Filter}
+use Rattle.graph_model.proofs.Counts.{Contains-cons_cases, Contains-nil, Contains-cons, count_yes, contains_filter, filter_contains, passing_length}
+use Rattle.graph_cores.specs.Peel.{is_alive, lowered, IsPeeling, IsBetween, is_low, is_high}
+use Rattle.graph_cores.proofs.Times.{times, has_times, times_has, apart_times, count_taken}
+use Rattle.graph_cores.proofs.Lowered.{lowered_at, lowered_keeps, lowered_pushes, lowered_low}
+
+-- what is left was left before
+pub still : (alive : List Bool) (v w : ℕ) → IsTrue (is_alive (set alive v false) w) → IsTrue (is_alive alive w)
+still alive v w h = elim (cases_eq w v) [
+  | inl e ↦ elim (cases_lt v (length alive)) [
+    | inl lt ↦ let gone = get_or-set_same alive v false false lt in let both = sym gone ∙ sym (ap (is_alive (set alive v false)) e) ∙ h in absurd (cc)
+    | inr ge ↦ let gone = get_or_past (set alive v false) v false (let long = length-set alive v false in omega arith) in let both = sym gone ∙ sym (ap (is_alive (set alive v false)) e) ∙ h in absurd (cc)
+  ]
+  | inr ne ↦ sym (get_or-set_other alive v w false false ne) ∙ h
+]
+
+other_way : (f : Filter) (g : Graph) (a b : ℕ) → Joins f g a b → Joins f g b a
+other_way f g a b j = elim j [ inl x ↦ inr x | inr x ↦ inl x ]
+
+-- all listed are left, or one was taken out
+left_or : (alive : List Bool) (ws : List ℕ) → ((x : ℕ) → Contains ws x → is_alive alive x ≡ true) ⊎ ((x : ℕ) × Contains ws x × (is_alive alive x ≡ false))
+left_or alive [] = inl (λ x c. absurd (Contains-nil x c))
+left_or alive (w ∷ ws) = elim (cases_Bool (is_alive alive w)) [
+  | inr off ↦ inr (w, (0, omega arith, refl), off)
+  | inl on ↦ elim (left_or alive ws) [
+    | inr r ↦ inr (r.0, Contains-cons w ws r.0 r.1, r.2)
+    | inl all ↦ inl (λ x c. elim (Contains-cons_cases w ws x c) [
+      | inl e ↦ sym (ap (is_alive alive) e) ∙ on
+      | inr more ↦ all x more
+    ])
+  ]
+]
+
+Contains-last : (xs : List ℕ) (x : ℕ) → Contains (xs ++ x ∷ []) x
+Contains-last xs x = Contains-push xs x
+
+pub front_low : (xs : List ℕ) (x : ℕ) (P : ℕ → Type 0) → All P (xs ++ x ∷ []) → All P xs
+front_low xs x P all = λ m d l.
+    let long = length-append xs (x ∷ []) in
+    subst P (get_or_append_left xs (x ∷ []) d m l) (all m d (omega arith))
+
+and_true : (a b : Bool) → a ≡ true → b ≡ true → (a && b) ≡ true
+and_true a b p q = ap (λ x. x && b) p ∙ q
+
+second_true : (a b : Bool) → (a && b) ≡ true → b ≡ true
+second_true true b h = h
+second_true false b h = cc
+
+le_test : (a b : ℕ) → a ≤ b → nat_le a b ≡ true
+le_test a b h = grind (arith, nat_tests)
+
+test_le : (a b : ℕ) → nat_le a b ≡ true → a ≤ b
+test_le a b h = grind (arith, nat_tests)
+
+lt_test : (a b : ℕ) → a < b → nat_lt a b ≡ true
+lt_test a b h = grind (arith, nat_tests)
+
+all_pass : (p : ℕ → Bool) (xs : List ℕ) → All (λ x. p x ≡ true) xs → length xs ≡ count_by p xs
+all_pass p [] h = refl
+all_pass p (x ∷ xs) h =
+    let c = count_yes p x xs (h 0 x (omega arith)) in
+    let more = all_pass p xs (All-tail (λ y. p y ≡ true) x xs h) in
+    omega arith
+
+module _ (f : Filter) (g : Graph) (n : ℕ) (neighbors : ℕ → List ℕ) (nb : AreNeighbors f g neighbors) (in' : (v : ℕ) → All (λ w. w < n) (neighbors v)) where
+  -- a neighbor has its neighbor listed, just as often
+  one_way : (v w : ℕ) → Contains (neighbors v) w → Contains (neighbors w) v
+  one_way v w c = let j = (nb.exact v w).0 c in (nb.exact w v).1 ((λ e. j.0 (sym e)), other_way f g v w j.1)
+
+  some_times : (v w : ℕ) → times w (neighbors v) ≤ times v (neighbors w)
+  some_times v w = elim (cases_lt 0 (times w (neighbors v))) [
+    | inl lt ↦
+        let a = has_times v (neighbors w) (one_way v w (times_has w (neighbors v) (omega arith))) in
+        let b = apart_times w (neighbors v) (nb.apart v) in
+        omega arith
+    | inr le ↦ omega arith
+  ]
+
+  same_times : (v w : ℕ) → times w (neighbors v) ≡ times v (neighbors w)
+  same_times v w = let a = some_times v w in let b = some_times w v in omega arith
+
+  -- a vertex with at most k neighbors left has core number k
+  settled : (alive : List Bool) (degrees cores stack : List ℕ) (k v : ℕ) → IsPeeling f g n neighbors alive degrees cores stack k → is_alive alive v ≡ true → at degrees v ≤ k → IsCoreNumber f g v k
+  settled alive degrees cores stack k v i on few = (
+    (i.dense.0, i.dense.2 v on, i.dense.1),
+    λ j c.
+        let around = c.2 v c.1 in
+        elim (left_or alive around.0) [
+          | inl all ↦
+              let most = passing_length (is_alive alive) around.0 (neighbors v) around.2
+              (λ x has. let a = All-contains (λ w. (w ≢ v) × IsTrue (c.0 w) × Joins f g v w) around.0 x around.3 has in ((nb.exact v x).1 (a.0, a.2), all x has)) in
+              let count = i.count v in
+              let many = around.1 in
+              omega arith
+          | inr out ↦
+              let w = out.0 in
+              let a = All-contains (λ w. (w ≢ v) × IsTrue (c.0 w) × Joins f g v w) around.0 w around.3 out.1 in
+              let lt : w < n = All-contains (λ x. x < n) (neighbors v) w (in' v) ((nb.exact v w).1 (a.0, a.2)) in
+              let known = i.known w lt out.2 in
+              let most = known.0.1 j (c.0, a.1, c.2) in
+              let low = known.1 in
+              omega arith
+        ],
+  )
+
+  -- v is taken out
+  pub take_out : (alive : List Bool) (degrees cores stack : List ℕ) (k v : ℕ) → length alive ≡ n → length degrees ≡ n → length cores ≡ n → v < n
+      → IsPeeling f g n neighbors alive degrees cores (stack ++ v ∷ []) k → is_alive alive v ≡ true
+      → IsPeeling f g n neighbors (set alive v false) (lowered k (neighbors v) degrees stack).0 (set cores v k) (lowered k (neighbors v) degrees stack).1 k
+  take_out alive degrees cores stack k v la ld lc lt i on =
+      let ws = neighbors v in
+      let within : All (λ w. w < length degrees) ws = λ m d l. let a = in' v m d l in omega arith in
+      let few : at degrees v ≤ k = All-contains (λ y. at degrees y ≤ k) (stack ++ v ∷ []) v i.low (Contains-last stack v) in
+      let a_lt : v < length alive = omega arith in
+      let c_lt : v < length cores = omega arith in
+      let new = set alive v false in
+      let gone : is_alive new v ≡ false = get_or-set_same alive v false false a_lt in
+      let old : (w : ℕ) → (w ≡ v → ⊥) → is_alive new w ≡ is_alive alive w = λ w ne. get_or-set_other alive v w false false ne in
+      let was : (w : ℕ) → IsTrue (is_alive new w) → (w ≡ v → ⊥) × IsTrue (is_alive alive w) = λ w h.
+      elim (cases_eq w v) [
+        | inl e ↦ let both = sym gone ∙ sym (ap (is_alive new) e) ∙ h in absurd (cc)
+        | inr ne ↦ (ne, subst IsTrue (old w ne) h)
+      ] in
+      record {
+        count = λ w.
+            let a = lowered_at k ws degrees stack w within in
+            let b = count_taken alive v (neighbors w) a_lt on in
+            let c = same_times v w in
+            let d = i.count w in
+            omega arith;
+        dense = (i.dense.0, i.dense.1, λ w h. i.dense.2 w (was w h).1);
+        known = λ w w_lt off. elim (cases_eq w v) [
+          | inl e ↦
+              let core : at (set cores v k) w ≡ k = ap (at (set cores v k)) e ∙ get_or-set_same cores v k 0 c_lt in
+              let number = settled alive degrees cores (stack ++ v ∷ []) k v i on few in
+              (subst (IsCoreNumber f g w) (sym core) (subst (λ x. IsCoreNumber f g x k) (sym e) number), omega arith)
+          | inr ne ↦
+              let core : at (set cores v k) w ≡ at cores w = get_or-set_other cores v w k 0 ne in
+              let before = i.known w w_lt (sym (old w ne) ∙ off) in
+              let low = before.1 in
+              (subst (IsCoreNumber f g w) (sym core) before.0, omega arith)
+        ];
+        listed = λ w h le.
+            let before = was w h in
+            elim (cases_lt k (at degrees w)) [
+              | inl many ↦ lowered_pushes k ws degrees stack w within (omega arith) le
+              | inr small ↦ lowered_keeps k ws degrees stack w (elim (Contains-append_cases stack (v ∷ []) w (i.listed w before.1 small)) [
+                | inl c ↦ c
+                | inr c ↦ absurd (elim (Contains-cons_cases v [] w c) [ inl e ↦ before.0 (sym e) | inr more ↦ Contains-nil w more ])
+              ])
+            ];
+        low = lowered_low k ws degrees stack within (λ m d l. front_low stack v (λ y. at degrees y ≤ k) i.low m d l);
+      }
+
+  -- v was taken out before
+  pub skip : (alive : List Bool) (degrees cores stack : List ℕ) (k v : ℕ) → IsPeeling f g n neighbors alive degrees cores (stack ++ v ∷ []) k → is_alive alive v ≡ false → IsPeeling f g n neighbors alive degrees cores stack k
+  skip alive degrees cores stack k v i off = record {
+    count = i.count;
+    dense = i.dense;
+    known = i.known;
+    listed = λ w h le. elim (Contains-append_cases stack (v ∷ []) w (i.listed w h le)) [
+      | inl c ↦ c
+      | inr c ↦ absurd (elim (Contains-cons_cases v [] w c) [
+        | inl e ↦ let both = sym (ap (is_alive alive) e ∙ h) ∙ off in (cc)
+        | inr more ↦ Contains-nil w more
+      ])
+    ];
+    low = front_low stack v (λ y. at degrees y ≤ k) i.low;
+  }
+
+  -- those that are left are dense in the next round
+  pub round : (alive : List Bool) (degrees cores left : List ℕ) (k : ℕ) → IsBetween f g n neighbors alive degrees cores left k
+      → IsPeeling f g n neighbors alive degrees cores (filter (is_low alive degrees k) left) k
+  round alive degrees cores left k i = record {
+    count = i.count;
+    dense = (
+      is_alive alive,
+      (λ v on.
+          let ws = neighbors v in
+          let c = i.count v in
+          let long = length-filter (is_alive alive) ws in
+          let pass = filter_passes (is_alive alive) ws in
+          let enough = i.many v on in
+          let many : k ≤ length (filter (is_alive alive) ws) = omega arith in (
+            filter (is_alive alive) ws,
+            many,
+            AllPairs-filter (λ a b. a ≢ b) (is_alive alive) ws (nb.apart v),
+            λ m d l.
+                let w = get_or (filter (is_alive alive) ws) m d in
+                let j = (nb.exact v w).0 (filter_contains (is_alive alive) ws w (Contains-get_or (filter (is_alive alive) ws) m d l)).0 in
+                (j.0, pass m d l, j.1),
+          )),
+      (λ v h. h),
+    );
+    known = λ v lt off. let b = i.known v lt off in let low = b.1 in (b.0, omega arith);
+    listed = λ v on le. contains_filter (is_low alive degrees k) left v (and_true (is_alive alive v) (nat_le (at degrees v) k) on (le_test (at degrees v) k le)) (i.all v on);
+    low = All-weaker (λ v. is_low alive degrees k v ≡ true) (λ v. at degrees v ≤ k) (λ v h. test_le (at degrees v) k (second_true (is_alive alive v) (nat_le (at degrees v) k) h)) (filter (is_low alive degrees k) left) (filter_passes (is_low alive degrees k) left);
+  }
+
+  -- after a round
+  pub after : (alive new : List Bool) (degrees lower cores left : List ℕ) (k : ℕ) → IsPeeling f g n neighbors new lower cores [] k
+      → ((v : ℕ) → IsTrue (is_alive alive v) → Contains left v)
+      → ((v : ℕ) → (IsTrue (is_alive new v) → IsTrue (is_alive alive v)) × (at lower v ≤ at degrees v))
+      → IsBetween f g n neighbors new lower cores (filter (is_high alive degrees k) left) (k + 1)
+  after alive new degrees lower cores left k i all shrinks =
+      let many : (v : ℕ) → IsTrue (is_alive new v) → k + 1 ≤ at lower v = λ v on. elim (cases_lt k (at lower v)) [
+        | inl lt ↦ omega arith
+        | inr le ↦ absurd (Contains-nil v (i.listed v on le))
+      ] in
+      record {
+        count = i.count;
+        many = many;
+        known = λ v lt off. let b = i.known v lt off in let low = b.1 in (b.0, omega arith);
+        all = λ v on.
+            let was = (shrinks v).0 on in
+            let down = (shrinks v).1 in
+            let enough = many v on in
+            contains_filter (is_high alive degrees k) left v (and_true (is_alive alive v) (nat_lt k (at degrees v)) was (lt_test k (at degrees v) (omega arith))) (all v was);
+      }
+
+  -- none is left
+  pub none_left : (alive : List Bool) (degrees cores left : List ℕ) (k : ℕ) → length cores ≡ n → IsBetween f g n neighbors alive degrees cores left k
+      → ((v : ℕ) → v < n → is_alive alive v ≡ false) → IsTable (n) (IsCoreNumber f g) cores
+  none_left alive degrees cores left k long i off = record {
+    one_each = long;
+    each = λ v x is.
+        let lt : v < n = (let l = slice_get_within cores v x is in omega arith) in
+        subst (IsCoreNumber f g v) (get_or_from_slice_get cores v x 0 is) (i.known v lt (off v lt)).0;
+  }
+
+  -- before the first round
+  pub first : (alive : List Bool) (degrees cores left : List ℕ) → alive ≡ replicate (n) true → ((v : ℕ) → at degrees v ≡ length (neighbors v)) → ((v : ℕ) → v < n → Contains left v)
+      → IsBetween f g n neighbors alive degrees cores left 0
+  first alive degrees cores left e degree all =
+      let on : (v : ℕ) → v < n → is_alive alive v ≡ true = λ v lt. ap (λ xs. is_alive xs v) e ∙ get_or-replicate (n) v true false lt in
+      record {
+        count = λ v. degree v ∙ all_pass (is_alive alive) (neighbors v) (λ m d l. on _ (in' v m d l));
+        many = λ v h. omega arith;
+        known = λ v lt off. let both = sym (on v lt) ∙ off in absurd (cc);
+        all = λ v h. elim (cases_lt v (n)) [
+          | inl lt ↦ all v lt
+          | inr ge ↦
+              let long : length alive ≡ n = ap length e ∙ length-replicate (n) true in
+              let off = get_or_past alive v false (omega arith) in
+              let both = sym off ∙ h in absurd (cc)
+        ];
+      }
+
+pub numbers_within : (n : ℕ) (xs : List ℕ) → length xs ≡ n → ((v : ℕ) → v < n → at xs v ≡ v) → All (λ w. w < n) xs
+numbers_within n xs long each k d lt = let e = each k (omega arith) in let same = get_or_default xs k d 0 lt in omega arith
+
+pub numbers_all : (n : ℕ) (xs : List ℕ) → length xs ≡ n → ((v : ℕ) → v < n → at xs v ≡ v) → (v : ℕ) → v < n → Contains xs v
+numbers_all n xs long each v lt = (v, omega arith, get_or_default xs v v 0 (omega arith) ∙ each v lt)

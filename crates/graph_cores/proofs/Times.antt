@@ -1,0 +1,89 @@
+-- How often a number is listed, and how many of a list are left.
+use Rattle.std.proofs.Common.{◌≡◌, ◌≢◌, ℕ, ◌+◌, ◌<◌, ◌≤◌, arith, refl, ap, ◌∙◌, inl, inr, List, [], ◌∷◌, length, set, true, false, Bool}
+use Rattle.std.specs.Prelude.{◌==◌, All, AllPairs, count_by}
+use Rattle.std.specs.List.{Contains, range_with_len}
+use Rattle.std.proofs.lemmas.Bool.{cases_eq, cases_Bool, cases_lt}
+use Rattle.std.proofs.lemmas.Bool.Decides.{Decides-eqb}
+use Rattle.std.proofs.lemmas.List.{get_or-set_same, get_or-set_other}
+use Rattle.std.proofs.lemmas.List.Elements.{All-contains}
+use Rattle.std.proofs.lemmas.List.FromFn.{length-range_with_len, get_or-range_with_len}
+use Rattle.graph_model.proofs.Counts.{Contains-cons_cases, Contains-nil, Contains-first, Contains-cons, apart_tail, apart_head, count_yes, count_no, sub_length}
+use Rattle.graph_cores.specs.Peel.{is_alive}
+
+differ : (y x : ℕ) → (y ≡ x → ⊥) → (y == x) ≡ false
+differ y x ne = elim (cases_Bool (y == x)) [ inl t ↦ absurd (ne ((Decides-eqb y x).0 t)) | inr f ↦ f ]
+
+-- how often x is listed
+abbrev pub times : ℕ → List ℕ → ℕ
+times x xs = count_by (λ y. y == x) xs
+
+pub times_yes : (x y : ℕ) (xs : List ℕ) → y ≡ x → times x (y ∷ xs) ≡ 1 + times x xs
+times_yes x y xs e = count_yes (λ z. z == x) y xs ((Decides-eqb y x).1 e)
+
+pub times_no : (x y : ℕ) (xs : List ℕ) → (y ≡ x → ⊥) → times x (y ∷ xs) ≡ times x xs
+times_no x y xs ne = count_no (λ z. z == x) y xs (differ y x ne)
+
+pub has_times : (x : ℕ) (xs : List ℕ) → Contains xs x → 1 ≤ times x xs
+has_times x [] c = absurd (Contains-nil x c)
+has_times x (y ∷ ys) c = elim (cases_eq y x) [
+  | inl e ↦ let t = times_yes x y ys e in omega arith
+  | inr ne ↦ elim (Contains-cons_cases y ys x c) [
+    | inl e ↦ absurd (ne e)
+    | inr more ↦ let t = times_no x y ys ne in let m = has_times x ys more in omega arith
+  ]
+]
+
+pub times_has : (x : ℕ) (xs : List ℕ) → 1 ≤ times x xs → Contains xs x
+times_has x [] m = absurd (omega arith)
+times_has x (y ∷ ys) m = elim (cases_eq y x) [
+  | inl e ↦ Contains-first y ys x e
+  | inr ne ↦ let t = times_no x y ys ne in Contains-cons y ys x (times_has x ys (omega arith))
+]
+
+pub apart_times : (x : ℕ) (xs : List ℕ) → AllPairs (λ a b. a ≢ b) xs → times x xs ≤ 1
+apart_times x [] h = omega arith
+apart_times x (y ∷ ys) h = elim (cases_eq y x) [
+  | inl e ↦
+      let t = times_yes x y ys e in
+      elim (cases_lt 0 (times x ys)) [
+        | inl lt ↦ absurd (apart_head y ys x h (times_has x ys (omega arith)) e)
+        | inr le ↦ omega arith
+      ]
+  | inr ne ↦ let t = times_no x y ys ne in let m = apart_times x ys (apart_tail y ys h) in omega arith
+]
+
+-- v is taken out
+pub count_taken : (alive : List Bool) (v : ℕ) (xs : List ℕ) → v < length alive → is_alive alive v ≡ true
+    → count_by (is_alive (set alive v false)) xs + times v xs ≡ count_by (is_alive alive) xs
+count_taken alive v [] lt on = refl
+count_taken alive v (y ∷ ys) lt on =
+    let more = count_taken alive v ys lt on in
+    elim (cases_eq y v) [
+      | inl e ↦
+          let t = times_yes v y ys e in
+          let a = count_no (is_alive (set alive v false)) y ys (ap (is_alive (set alive v false)) e ∙ get_or-set_same alive v false false lt) in
+          let b = count_yes (is_alive alive) y ys (ap (is_alive alive) e ∙ on) in
+          omega arith
+      | inr ne ↦
+          let t = times_no v y ys ne in
+          let same : is_alive (set alive v false) y ≡ is_alive alive y = get_or-set_other alive v y false false ne in
+          elim (cases_Bool (is_alive alive y)) [
+            | inl on' ↦
+                let a = count_yes (is_alive (set alive v false)) y ys (same ∙ on') in
+                let b = count_yes (is_alive alive) y ys on' in
+                omega arith
+            | inr off ↦
+                let a = count_no (is_alive (set alive v false)) y ys (same ∙ off) in
+                let b = count_no (is_alive alive) y ys off in
+                omega arith
+          ]
+    ]
+
+-- distinct numbers below n are at most n
+pub apart_few : (n : ℕ) (xs : List ℕ) → AllPairs (λ a b. a ≢ b) xs → All (λ x. x < n) xs → length xs ≤ n
+apart_few n xs apart within =
+    let long = length-range_with_len 0 n in
+    let few = sub_length xs (range_with_len 0 n) apart (λ w c.
+    let lt : w < n = All-contains (λ x. x < n) xs w within c in
+    (w, omega arith, (let x = get_or-range_with_len 0 n w w lt in omega arith))) in
+    omega arith

@@ -1,0 +1,14 @@
+use Rattle.std.proofs.Common.{◌≡◌, ◌<◌, All, [], length}
+use Rattle.graph_model.specs.Graph.{Graph}
+use Rattle.graph_model.specs.Arcs.{AreNeighbors}
+use Rattle.graph_model.specs.declared.ids.Filter.{Filter}
+use Rattle.graph_cores.specs.Rows.{row_of}
+use Rattle.graph_cores.specs.Peel.{IsBetween}
+use Rattle.graph_cores.proofs.peeling.rounds.Given as goal
+
+abbrev pub invariant-loop-k : goal.invariant-loop-k
+invariant-loop-k l = record {
+  empty : l.stack.items ≡ [];
+  within : All (λ w. w < length l.fn.cores) l.left.items;
+  between : (f : Filter) (g : Graph) → AreNeighbors f g (row_of l.rows) → IsBetween f g (length l.fn.cores) (row_of l.rows) l.alive l.degrees l.cores l.left.items l.k;
+}

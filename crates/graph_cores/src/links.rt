@@ -1,0 +1,40 @@
+//! The links of a view: pairs of different vertices that an edge joins, both ways.
+
+ghost use Rattle.std.specs.Prelude.{◌≡◌, ◌⊎◌, ◌↔◌, ℕ, length, IfOk, OnOk};
+ghost use Rattle.std.specs.List.{Contains};
+ghost use Rattle.graph_model.specs.Arcs.{AreWithin};
+ghost use Rattle.graph_cores.specs.Links.{AreLinks, IsLinked};
+
+use std::alloc::{AllocError, Global};
+use view_edges::ViewEdges;
+
+/// Links the source and each of the targets, both ways. A loop links nothing.
+fn link(links: &mut Vec<(u32, u32)>, source: u32, targets: &[u32]) -> Result<(), AllocError>
+    ensures { OnOk result ((v w : ℕ) → Contains links.new.items (v, w) ↔ (Contains links.old.items (v, w) ⊎ IsLinked source targets.now v w)) }
+{
+    for target in targets {
+        if *target != source {
+            links.push((source, *target))?;
+            links.push((*target, source))?;
+        }
+    }
+    Ok(())
+}
+
+/// The links of the view's edges. A pair stands as often as edges join it.
+pub(crate) fn list_links<E: ViewEdges>(
+    alloc: Global,
+    edges: &E,
+) -> Result<Vec<(u32, u32)>, AllocError>
+    ensures exact { IfOk result (λ links. AreLinks (E.filter edges.now) (E.graph edges.now) links.items) }
+    ensures within { IfOk result (λ links. AreWithin (length (E.graph edges.now).names) links.items) }
+{
+    let mut links = Vec::new(alloc);
+    let mut targets = Vec::new(alloc);
+    for vertex in 0..edges.vertex_count() {
+        let vertex = vertex as u32;
+        edges.list_targets(vertex, &mut targets)?;
+        link(&mut links, vertex, &targets)?;
+    }
+    Ok(links)
+}
