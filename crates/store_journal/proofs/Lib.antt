@@ -17,3 +17,4 @@ pub mod RetiredCounts
 pub mod BatchLaws
 pub mod StatusCounts
 pub mod Examples
+pub mod Held

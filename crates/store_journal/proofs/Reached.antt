@@ -135,7 +135,7 @@ held_entered last (Pinned pin) next is =
 held_entered last (Holding hold) next is = cc
 held_entered last (Asking hold inquiry) next is = cc
 
-same_count : (d : DeskView) (w : World) → Shows d w → last_number w ≡ length d.last.batches
+pub same_count : (d : DeskView) (w : World) → Shows d w → last_number w ≡ length d.last.batches
 same_count d w shows = sym (length-map w.versions (λ v. v.batch)) ∙ ap length shows.batches
 
 entered_holds : (sessions blocks : ℕ) (d : DeskView) (b : BoardState) (raised s : ℕ) (events : List Event) → IsReached sessions blocks events d b raised

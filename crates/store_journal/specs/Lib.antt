@@ -8,3 +8,4 @@ pub mod Histories
 pub mod Opening
 pub mod Reached
 pub mod Examples
+pub mod Held

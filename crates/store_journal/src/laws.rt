@@ -14,6 +14,7 @@ ghost use Rattle.store_journal.specs.Boards.{PinsAsMachine, SettlesAsMachine, Un
 ghost use Rattle.store_journal.specs.Histories.{DoneIsRun, ReadersAreUnseen};
 ghost use Rattle.store_journal.specs.Opening.{OpensAsMachine};
 ghost use Rattle.store_journal.specs.Reached.{StaysReached};
+ghost use Rattle.store_journal.specs.Held.{HeldIsSnapshot};
 ghost use Rattle.store_journal.specs.Examples.{AreExamples};
 
 /// Replay of a journal.
@@ -97,6 +98,14 @@ pub fn law_stays_reached()
     ensures { (sessions blocks : ℕ) → StaysReached sessions blocks }
 {}
 
+/// Held snapshots: where the desk and the board show what a run of the machine leaves, the blocks of the version that a
+/// session holds have, each once, the edges that the desk's first batches leave, as many batches as the version's number
+/// says, however many were accepted since; and none of these blocks is free, or would be freed by a collection at the
+/// floor raised last.
+pub fn law_held_versions()
+    ensures { HeldIsSnapshot }
+{}
+
 /// Small stores worked out by hand: journals that replay and journals that don't, a desk and a world that it shows, the
 /// events of a batch and of a collection, and a board beside sessions.
 pub fn law_examples()
@@ -116,6 +125,7 @@ mod tests {
         law_opening_shown();
         law_histories();
         law_stays_reached();
+        law_held_versions();
         law_examples();
     }
 }
