@@ -1,5 +1,6 @@
 -- Links from one source, and from all sources so far.
-use Rattle.std.proofs.Common.{◌≡◌, ◌≢◌, ℕ, ◌+◌, ◌<◌, ◌≤◌, arith, sym, ap, ◌∙◌, subst, ◌⊎◌, inl, inr, List, [], ◌∷◌, ◌++◌, length, get_or, take}
+use Rattle.std.proofs.Common.{◌≡◌, ◌≢◌, ℕ, ◌+◌, ◌<◌, ◌≤◌, arith, sym, ap, ◌∙◌, subst, ◌⊎◌, inl, inr, List, [], ◌∷◌, ◌++◌, length}
+use Rattle.std.proofs.Common.{get_or, take}
 use Rattle.std.specs.Prelude.{◌↔◌}
 use Rattle.std.specs.List.{Contains}
 use Rattle.std.proofs.lemmas.Bool.{cases_eq}
@@ -33,9 +34,13 @@ added xs a b v w = (
 more : (s : ℕ) (ts : List ℕ) (i t : ℕ) → take (i + 1) ts ≡ take i ts ++ t ∷ [] → (v w : ℕ)
     → IsLinked s (take (i + 1) ts) v w ↔ (IsLinked s (take i ts) v w ⊎ ((w ≢ v) × (((v ≡ s) × (w ≡ t)) ⊎ ((w ≡ s) × (v ≡ t)))))
 more s ts i t e v w =
-    let cut : (x : ℕ) → Contains (take (i + 1) ts) x → Contains (take i ts) x ⊎ (t ≡ x) = λ x c. Contains-push_cases (take i ts) t x (subst (λ xs. Contains xs x) e c) in
-    let keep : (x : ℕ) → Contains (take i ts) x → Contains (take (i + 1) ts) x = λ x c. subst (λ xs. Contains xs x) (sym e) (Contains-append_left (take i ts) (t ∷ []) x c) in
-    let last : (x : ℕ) → x ≡ t → Contains (take (i + 1) ts) x = λ x same. subst (λ xs. Contains xs x) (sym e) (subst (Contains (take i ts ++ t ∷ [])) (sym same) (Contains-push (take i ts) t)) in (
+    let cut : (x : ℕ) → Contains (take (i + 1) ts) x → Contains (take i ts) x ⊎ (t ≡ x) =
+    λ x c. Contains-push_cases (take i ts) t x (subst (λ xs. Contains xs x) e c) in
+    let keep : (x : ℕ) → Contains (take i ts) x → Contains (take (i + 1) ts) x =
+    λ x c. subst (λ xs. Contains xs x) (sym e) (Contains-append_left (take i ts) (t ∷ []) x c) in
+    let last : (x : ℕ) → x ≡ t → Contains (take (i + 1) ts) x =
+    λ x same. subst (λ xs. Contains xs x) (sym e) (subst (Contains (take i ts ++ t ∷ [])) (sym same)
+    (Contains-push (take i ts) t)) in (
       (λ l. elim l.1 [
         | inl a ↦ elim (cut w a.1) [ inl c ↦ inl (l.0, inl (a.0, c)) | inr same ↦ inr (l.0, inl (a.0, sym same)) ]
         | inr b ↦ elim (cut v b.1) [ inl c ↦ inl (l.0, inr (b.0, c)) | inr same ↦ inr (l.0, inr (b.0, sym same)) ]
@@ -50,9 +55,11 @@ more s ts i t e v w =
 abbrev pub LinkedSoFar : List (ℕ × ℕ) → ℕ → List ℕ → List (ℕ × ℕ) → Type 0
 LinkedSoFar start s ts links = (v w : ℕ) → Contains links (v, w) ↔ (Contains start (v, w) ⊎ IsLinked s ts v w)
 
-module _ (start before : List (ℕ × ℕ)) (s : ℕ) (ts : List ℕ) (i : ℕ) (lt : i < length ts) (so_far : LinkedSoFar start s (take i ts) before) where
+module _ (start before : List (ℕ × ℕ)) (s : ℕ) (ts : List ℕ) (i : ℕ) (lt : i < length ts)
+    (so_far : LinkedSoFar start s (take i ts) before) where
   -- a target that is another vertex
-  pub linked : (t : ℕ) → t ≡ get_or ts i 0 → (t ≡ s → ⊥) → LinkedSoFar start s (take (i + 1) ts) ((before ++ (s, t) ∷ []) ++ (t, s) ∷ [])
+  pub linked : (t : ℕ) → t ≡ get_or ts i 0 → (t ≡ s → ⊥)
+      → LinkedSoFar start s (take (i + 1) ts) ((before ++ (s, t) ∷ []) ++ (t, s) ∷ [])
   linked t is ne v w =
       let one = added before s t v w in
       let two = added (before ++ (s, t) ∷ []) t s v w in
@@ -106,7 +113,8 @@ module _ (f : Filter) (g : Graph) where
     (λ h. absurd (elim h.1 [ inl x ↦ (let lt = x.0 in omega arith) | inr x ↦ (let lt = x.0 in omega arith) ])),
   )
 
-  pub links_more : (i : ℕ) (old new : List (ℕ × ℕ)) (ts : List ℕ) → LinksBelow i old → ((b : ℕ) → Contains ts b ↔ LeadsTo f g i b) → LinkedSoFar old i ts new → LinksBelow (i + 1) new
+  pub links_more : (i : ℕ) (old new : List (ℕ × ℕ)) (ts : List ℕ) → LinksBelow i old
+      → ((b : ℕ) → Contains ts b ↔ LeadsTo f g i b) → LinkedSoFar old i ts new → LinksBelow (i + 1) new
   links_more i old new ts below told linked v w = (
     (λ c. elim ((linked v w).0 c) [
       | inl o ↦

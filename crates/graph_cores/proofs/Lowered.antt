@@ -1,5 +1,6 @@
 -- What taking a neighbor from each listed vertex does.
-use Rattle.std.proofs.Common.{◌≡◌, ℕ, ◌+◌, ◌-◌, ◌<◌, ◌≤◌, suc, arith, refl, sym, ap, ◌∙◌, subst, inl, inr, List, [], ◌∷◌, ◌++◌, length, set, cond, true, false, Bool}
+use Rattle.std.proofs.Common.{◌≡◌, ℕ, ◌+◌, ◌-◌, ◌<◌, ◌≤◌, suc, arith, refl, sym, ap, ◌∙◌, subst, inl, inr, List, [], ◌∷◌, ◌++◌}
+use Rattle.std.proofs.Common.{length, set, cond, true, false, Bool}
 use Rattle.std.specs.Prelude.{◌==◌, All, sum}
 use Rattle.std.specs.List.{Contains}
 use Rattle.std.proofs.lemmas.Bool.{cases_eq}
@@ -34,7 +35,8 @@ less_low ds w x lt = elim (cases_eq w x) [
 rest_within : (ds : List ℕ) (w : ℕ) (ws : List ℕ) → All (λ x. x < length ds) (w ∷ ws) → All (λ x. x < length (less ds w)) ws
 rest_within ds w ws h = λ i d l. let a = h (suc i) d (omega arith) in let long = length-set ds w (at ds w - 1) in omega arith
 
-pub lowered_at : (k : ℕ) (ws ds st : List ℕ) (x : ℕ) → All (λ w. w < length ds) ws → at (lowered k ws ds st).0 x ≡ at ds x - times x ws
+pub lowered_at : (k : ℕ) (ws ds st : List ℕ) (x : ℕ) → All (λ w. w < length ds) ws
+    → at (lowered k ws ds st).0 x ≡ at ds x - times x ws
 lowered_at k [] ds st x h = omega arith
 lowered_at k (w ∷ ws) ds st x h =
     let lt : w < length ds = h 0 0 (omega arith) in
@@ -50,9 +52,11 @@ pushed_keeps false st w x c = c
 
 pub lowered_keeps : (k : ℕ) (ws ds st : List ℕ) (x : ℕ) → Contains st x → Contains (lowered k ws ds st).1 x
 lowered_keeps k [] ds st x c = c
-lowered_keeps k (w ∷ ws) ds st x c = lowered_keeps k ws (less ds w) (pushed k ds st w) x (pushed_keeps (at ds w == k + 1) st w x c)
+lowered_keeps k (w ∷ ws) ds st x c = lowered_keeps k ws (less ds w) (pushed k ds st w) x
+    (pushed_keeps (at ds w == k + 1) st w x c)
 
-pub lowered_pushes : (k : ℕ) (ws ds st : List ℕ) (x : ℕ) → All (λ w. w < length ds) ws → k + 1 ≤ at ds x → at (lowered k ws ds st).0 x ≤ k → Contains (lowered k ws ds st).1 x
+pub lowered_pushes : (k : ℕ) (ws ds st : List ℕ) (x : ℕ) → All (λ w. w < length ds) ws → k + 1 ≤ at ds x
+    → at (lowered k ws ds st).0 x ≤ k → Contains (lowered k ws ds st).1 x
 lowered_pushes k [] ds st x h many few = absurd (omega arith)
 lowered_pushes k (w ∷ ws) ds st x h many few =
     let lt : w < length ds = h 0 0 (omega arith) in
@@ -60,8 +64,10 @@ lowered_pushes k (w ∷ ws) ds st x h many few =
     elim (cases_eq w x) [
       | inl e ↦ elim (cases_eq (at ds w) (k + 1)) [
         | inl full ↦
-            let now : pushed k ds st w ≡ st ++ w ∷ [] = ap (λ b. cond b (st ++ w ∷ []) st) ((Decides-eqb (at ds w) (k + 1)).1 full) in
-            lowered_keeps k ws (less ds w) (pushed k ds st w) x (subst (λ xs. Contains xs x) (sym now) (subst (Contains (st ++ w ∷ [])) e (Contains-push st w)))
+            let now : pushed k ds st w ≡ st ++ w ∷ [] =
+            ap (λ b. cond b (st ++ w ∷ []) st) ((Decides-eqb (at ds w) (k + 1)).1 full) in
+            lowered_keeps k ws (less ds w) (pushed k ds st w) x
+            (subst (λ xs. Contains xs x) (sym now) (subst (Contains (st ++ w ∷ [])) e (Contains-push st w)))
         | inr ne ↦
             let a = less_at ds w x lt e in
             let same = ap (at ds) e in
@@ -72,17 +78,21 @@ lowered_pushes k (w ∷ ws) ds st x h many few =
           lowered_pushes k ws (less ds w) (pushed k ds st w) x within (omega arith) few
     ]
 
-pushed_low : (b : Bool) (k : ℕ) (ds st : List ℕ) (w : ℕ) → w < length ds → (at ds w == k + 1) ≡ b → All (λ y. at ds y ≤ k) st → All (λ y. at (less ds w) y ≤ k) (cond b (st ++ w ∷ []) st)
+pushed_low : (b : Bool) (k : ℕ) (ds st : List ℕ) (w : ℕ) → w < length ds → (at ds w == k + 1) ≡ b → All (λ y. at ds y ≤ k) st
+    → All (λ y. at (less ds w) y ≤ k) (cond b (st ++ w ∷ []) st)
 pushed_low true k ds st w lt e low =
     All-push (λ y. at (less ds w) y ≤ k) st w
     (All-weaker (λ y. at ds y ≤ k) (λ y. at (less ds w) y ≤ k) (λ y l. let a = less_low ds w y lt in omega arith) st low)
     (let full : at ds w ≡ k + 1 = (Decides-eqb (at ds w) (k + 1)).0 e in let a = less_at ds w w lt refl in omega arith)
-pushed_low false k ds st w lt e low = All-weaker (λ y. at ds y ≤ k) (λ y. at (less ds w) y ≤ k) (λ y l. let a = less_low ds w y lt in omega arith) st low
+pushed_low false k ds st w lt e low = All-weaker (λ y. at ds y ≤ k) (λ y. at (less ds w) y ≤ k)
+    (λ y l. let a = less_low ds w y lt in omega arith) st low
 
-pub lowered_low : (k : ℕ) (ws ds st : List ℕ) → All (λ w. w < length ds) ws → All (λ y. at ds y ≤ k) st → All (λ y. at (lowered k ws ds st).0 y ≤ k) (lowered k ws ds st).1
+pub lowered_low : (k : ℕ) (ws ds st : List ℕ) → All (λ w. w < length ds) ws → All (λ y. at ds y ≤ k) st
+    → All (λ y. at (lowered k ws ds st).0 y ≤ k) (lowered k ws ds st).1
 lowered_low k [] ds st h low = low
 lowered_low k (w ∷ ws) ds st h low =
-    lowered_low k ws (less ds w) (pushed k ds st w) (rest_within ds w ws h) (pushed_low (at ds w == k + 1) k ds st w (h 0 0 (omega arith)) refl low)
+    lowered_low k ws (less ds w) (pushed k ds st w) (rest_within ds w ws h)
+    (pushed_low (at ds w == k + 1) k ds st w (h 0 0 (omega arith)) refl low)
 
 pushed_all : (P : ℕ → Type 0) (b : Bool) (st : List ℕ) (w : ℕ) → P w → All P st → All P (cond b (st ++ w ∷ []) st)
 pushed_all P true st w p all = All-push P st w all p
@@ -90,9 +100,11 @@ pushed_all P false st w p all = all
 
 pub lowered_all : (P : ℕ → Type 0) (k : ℕ) (ws ds st : List ℕ) → All P ws → All P st → All P (lowered k ws ds st).1
 lowered_all P k [] ds st new all = all
-lowered_all P k (w ∷ ws) ds st new all = lowered_all P k ws (less ds w) (pushed k ds st w) (All-tail P w ws new) (pushed_all P (at ds w == k + 1) st w (new 0 0 (omega arith)) all)
+lowered_all P k (w ∷ ws) ds st new all = lowered_all P k ws (less ds w) (pushed k ds st w) (All-tail P w ws new)
+    (pushed_all P (at ds w == k + 1) st w (new 0 0 (omega arith)) all)
 
-pushed_sum : (b : Bool) (k : ℕ) (ds st : List ℕ) (w : ℕ) → w < length ds → (at ds w == k + 1) ≡ b → sum (less ds w) + length (cond b (st ++ w ∷ []) st) ≤ sum ds + length st
+pushed_sum : (b : Bool) (k : ℕ) (ds st : List ℕ) (w : ℕ) → w < length ds → (at ds w == k + 1) ≡ b
+    → sum (less ds w) + length (cond b (st ++ w ∷ []) st) ≤ sum ds + length st
 pushed_sum true k ds st w lt e =
     let full : at ds w ≡ k + 1 = (Decides-eqb (at ds w) (k + 1)).0 e in
     let s : sum (less ds w) + at ds w ≡ sum ds + (at ds w - 1) = sum_by-set (λ x. x) ds w (at ds w - 1) 0 lt in
@@ -103,7 +115,8 @@ pushed_sum false k ds st w lt e =
     omega arith
 
 -- each vertex that is pushed has lost a neighbor
-pub lowered_sum : (k : ℕ) (ws ds st : List ℕ) → All (λ w. w < length ds) ws → sum (lowered k ws ds st).0 + length (lowered k ws ds st).1 ≤ sum ds + length st
+pub lowered_sum : (k : ℕ) (ws ds st : List ℕ) → All (λ w. w < length ds) ws
+    → sum (lowered k ws ds st).0 + length (lowered k ws ds st).1 ≤ sum ds + length st
 lowered_sum k [] ds st h = omega arith
 lowered_sum k (w ∷ ws) ds st h =
     let one = pushed_sum (at ds w == k + 1) k ds st w (h 0 0 (omega arith)) refl in

@@ -1,19 +1,23 @@
 -- Steps of peeling.
-use Rattle.std.proofs.Common.{◌≡◌, ◌≢◌, ℕ, ◌+◌, ◌<◌, ◌≤◌, arith, refl, sym, ap, ◌∙◌, subst, ◌⊎◌, inl, inr, List, [], ◌∷◌, ◌++◌, length, get_or, set, true, false, Bool}
+use Rattle.std.proofs.Common.{◌≡◌, ◌≢◌, ℕ, ◌+◌, ◌<◌, ◌≤◌, arith, refl, sym, ap, ◌∙◌, subst, ◌⊎◌, inl, inr, List, [], ◌∷◌, ◌++◌}
+use Rattle.std.proofs.Common.{length, get_or, set, true, false, Bool}
 use Rattle.std.specs.Prelude.{IsTrue, All, count_by, filter, nat_le, nat_lt, ◌&&◌, replicate}
 use Rattle.std.specs.List.{Contains}
 use Rattle.std.proofs.lemmas.Bool.{cases_eq, cases_Bool, cases_lt}
-use Rattle.std.proofs.lemmas.List.{get_or-set_same, get_or-set_other, get_or_default, get_or_append_left, length-append, length-set, length-replicate, get_or-replicate, get_or_past}
+use Rattle.std.proofs.lemmas.List.{get_or-set_same, get_or-set_other, get_or_default, get_or_append_left, length-append}
+use Rattle.std.proofs.lemmas.List.{length-set, length-replicate, get_or-replicate, get_or_past}
 use Rattle.std.proofs.lemmas.Option.{get_or_from_slice_get, slice_get_within}
 use Rattle.std.proofs.lemmas.Bool.Decides.{nat_tests}
 use Rattle.std.proofs.lemmas.List.Sums.{length-filter}
 use Rattle.std.proofs.lemmas.List.Kept.{AllPairs-filter}
-use Rattle.std.proofs.lemmas.List.Elements.{All-contains, All-tail, Contains-get_or, Contains-push, Contains-append_cases, filter_passes, All-weaker}
+use Rattle.std.proofs.lemmas.List.Elements.{All-contains, All-tail, Contains-get_or, Contains-push, Contains-append_cases}
+use Rattle.std.proofs.lemmas.List.Elements.{filter_passes, All-weaker}
 use Rattle.graph_model.specs.Graph.{Graph}
 use Rattle.graph_model.specs.Analyses.{IsTable, Joins, IsCoreNumber}
 use Rattle.graph_model.specs.Arcs.{AreNeighbors, at}
 use Rattle.graph_model.specs.declared.ids.Filter.{Filter}
-use Rattle.graph_model.proofs.Counts.{Contains-cons_cases, Contains-nil, Contains-cons, count_yes, contains_filter, filter_contains, passing_length}
+use Rattle.graph_model.proofs.Counts.{Contains-cons_cases, Contains-nil, Contains-cons, count_yes, contains_filter}
+use Rattle.graph_model.proofs.Counts.{filter_contains, passing_length}
 use Rattle.graph_cores.specs.Peel.{is_alive, lowered, IsPeeling, IsBetween, is_low, is_high}
 use Rattle.graph_cores.proofs.Times.{times, has_times, times_has, apart_times, count_taken}
 use Rattle.graph_cores.proofs.Lowered.{lowered_at, lowered_keeps, lowered_pushes, lowered_low}
@@ -22,8 +26,10 @@ use Rattle.graph_cores.proofs.Lowered.{lowered_at, lowered_keeps, lowered_pushes
 pub still : (alive : List Bool) (v w : ℕ) → IsTrue (is_alive (set alive v false) w) → IsTrue (is_alive alive w)
 still alive v w h = elim (cases_eq w v) [
   | inl e ↦ elim (cases_lt v (length alive)) [
-    | inl lt ↦ let gone = get_or-set_same alive v false false lt in let both = sym gone ∙ sym (ap (is_alive (set alive v false)) e) ∙ h in absurd (cc)
-    | inr ge ↦ let gone = get_or_past (set alive v false) v false (let long = length-set alive v false in omega arith) in let both = sym gone ∙ sym (ap (is_alive (set alive v false)) e) ∙ h in absurd (cc)
+    | inl lt ↦ let gone = get_or-set_same alive v false false lt in let both = sym gone
+        ∙ sym (ap (is_alive (set alive v false)) e) ∙ h in absurd (cc)
+    | inr ge ↦ let gone = get_or_past (set alive v false) v false (let long = length-set alive v false in omega arith) in
+        let both = sym gone ∙ sym (ap (is_alive (set alive v false)) e) ∙ h in absurd (cc)
   ]
   | inr ne ↦ sym (get_or-set_other alive v w false false ne) ∙ h
 ]
@@ -32,7 +38,8 @@ other_way : (f : Filter) (g : Graph) (a b : ℕ) → Joins f g a b → Joins f g
 other_way f g a b j = elim j [ inl x ↦ inr x | inr x ↦ inl x ]
 
 -- all listed are left, or one was taken out
-left_or : (alive : List Bool) (ws : List ℕ) → ((x : ℕ) → Contains ws x → is_alive alive x ≡ true) ⊎ ((x : ℕ) × Contains ws x × (is_alive alive x ≡ false))
+left_or : (alive : List Bool) (ws : List ℕ) → ((x : ℕ) → Contains ws x → is_alive alive x ≡ true) ⊎
+    ((x : ℕ) × Contains ws x × (is_alive alive x ≡ false))
 left_or alive [] = inl (λ x c. absurd (Contains-nil x c))
 left_or alive (w ∷ ws) = elim (cases_Bool (is_alive alive w)) [
   | inr off ↦ inr (w, (0, omega arith, refl), off)
@@ -76,7 +83,8 @@ all_pass p (x ∷ xs) h =
     let more = all_pass p xs (All-tail (λ y. p y ≡ true) x xs h) in
     omega arith
 
-module _ (f : Filter) (g : Graph) (n : ℕ) (neighbors : ℕ → List ℕ) (nb : AreNeighbors f g neighbors) (in' : (v : ℕ) → All (λ w. w < n) (neighbors v)) where
+module _ (f : Filter) (g : Graph) (n : ℕ) (neighbors : ℕ → List ℕ) (nb : AreNeighbors f g neighbors)
+    (in' : (v : ℕ) → All (λ w. w < n) (neighbors v)) where
   -- a neighbor has its neighbor listed, just as often
   one_way : (v w : ℕ) → Contains (neighbors v) w → Contains (neighbors w) v
   one_way v w c = let j = (nb.exact v w).0 c in (nb.exact w v).1 ((λ e. j.0 (sym e)), other_way f g v w j.1)
@@ -94,7 +102,8 @@ module _ (f : Filter) (g : Graph) (n : ℕ) (neighbors : ℕ → List ℕ) (nb :
   same_times v w = let a = some_times v w in let b = some_times w v in omega arith
 
   -- a vertex with at most k neighbors left has core number k
-  settled : (alive : List Bool) (degrees cores stack : List ℕ) (k v : ℕ) → IsPeeling f g n neighbors alive degrees cores stack k → is_alive alive v ≡ true → at degrees v ≤ k → IsCoreNumber f g v k
+  settled : (alive : List Bool) (degrees cores stack : List ℕ) (k v : ℕ) → IsPeeling f g n neighbors alive degrees cores stack k
+      → is_alive alive v ≡ true → at degrees v ≤ k → IsCoreNumber f g v k
   settled alive degrees cores stack k v i on few = (
     (i.dense.0, i.dense.2 v on, i.dense.1),
     λ j c.
@@ -102,7 +111,8 @@ module _ (f : Filter) (g : Graph) (n : ℕ) (neighbors : ℕ → List ℕ) (nb :
         elim (left_or alive around.0) [
           | inl all ↦
               let most = passing_length (is_alive alive) around.0 (neighbors v) around.2
-              (λ x has. let a = All-contains (λ w. (w ≢ v) × IsTrue (c.0 w) × Joins f g v w) around.0 x around.3 has in ((nb.exact v x).1 (a.0, a.2), all x has)) in
+              (λ x has. let a = All-contains (λ w. (w ≢ v) × IsTrue (c.0 w) × Joins f g v w) around.0 x around.3 has in
+              ((nb.exact v x).1 (a.0, a.2), all x has)) in
               let count = i.count v in
               let many = around.1 in
               omega arith
@@ -118,9 +128,11 @@ module _ (f : Filter) (g : Graph) (n : ℕ) (neighbors : ℕ → List ℕ) (nb :
   )
 
   -- v is taken out
-  pub take_out : (alive : List Bool) (degrees cores stack : List ℕ) (k v : ℕ) → length alive ≡ n → length degrees ≡ n → length cores ≡ n → v < n
+  pub take_out : (alive : List Bool) (degrees cores stack : List ℕ) (k v : ℕ) → length alive ≡ n → length degrees ≡ n
+      → length cores ≡ n → v < n
       → IsPeeling f g n neighbors alive degrees cores (stack ++ v ∷ []) k → is_alive alive v ≡ true
-      → IsPeeling f g n neighbors (set alive v false) (lowered k (neighbors v) degrees stack).0 (set cores v k) (lowered k (neighbors v) degrees stack).1 k
+      → IsPeeling f g n neighbors (set alive v false) (lowered k (neighbors v) degrees stack).0 (set cores v k)
+      (lowered k (neighbors v) degrees stack).1 k
   take_out alive degrees cores stack k v la ld lc lt i on =
       let ws = neighbors v in
       let within : All (λ w. w < length degrees) ws = λ m d l. let a = in' v m d l in omega arith in
@@ -158,16 +170,23 @@ module _ (f : Filter) (g : Graph) (n : ℕ) (neighbors : ℕ → List ℕ) (nb :
             let before = was w h in
             elim (cases_lt k (at degrees w)) [
               | inl many ↦ lowered_pushes k ws degrees stack w within (omega arith) le
-              | inr small ↦ lowered_keeps k ws degrees stack w (elim (Contains-append_cases stack (v ∷ []) w (i.listed w before.1 small)) [
-                | inl c ↦ c
-                | inr c ↦ absurd (elim (Contains-cons_cases v [] w c) [ inl e ↦ before.0 (sym e) | inr more ↦ Contains-nil w more ])
-              ])
+              | inr small ↦ lowered_keeps k ws degrees stack w
+                  (elim (Contains-append_cases stack (v ∷ []) w (i.listed w before.1 small)) [
+                    | inl c ↦ c
+                    | inr c ↦ absurd (elim (Contains-cons_cases v [] w c) [
+                      | inl e ↦ before.0 (sym e)
+                      | inr more ↦
+                          Contains-nil w more
+                    ])
+                  ])
             ];
         low = lowered_low k ws degrees stack within (λ m d l. front_low stack v (λ y. at degrees y ≤ k) i.low m d l);
       }
 
   -- v was taken out before
-  pub skip : (alive : List Bool) (degrees cores stack : List ℕ) (k v : ℕ) → IsPeeling f g n neighbors alive degrees cores (stack ++ v ∷ []) k → is_alive alive v ≡ false → IsPeeling f g n neighbors alive degrees cores stack k
+  pub skip : (alive : List Bool) (degrees cores stack : List ℕ) (k v : ℕ)
+      → IsPeeling f g n neighbors alive degrees cores (stack ++ v ∷ []) k → is_alive alive v ≡ false
+      → IsPeeling f g n neighbors alive degrees cores stack k
   skip alive degrees cores stack k v i off = record {
     count = i.count;
     dense = i.dense;
@@ -201,14 +220,18 @@ module _ (f : Filter) (g : Graph) (n : ℕ) (neighbors : ℕ → List ℕ) (nb :
             AllPairs-filter (λ a b. a ≢ b) (is_alive alive) ws (nb.apart v),
             λ m d l.
                 let w = get_or (filter (is_alive alive) ws) m d in
-                let j = (nb.exact v w).0 (filter_contains (is_alive alive) ws w (Contains-get_or (filter (is_alive alive) ws) m d l)).0 in
+                let j = (nb.exact v w).0 (filter_contains (is_alive alive) ws w
+                (Contains-get_or (filter (is_alive alive) ws) m d l)).0 in
                 (j.0, pass m d l, j.1),
           )),
       (λ v h. h),
     );
     known = λ v lt off. let b = i.known v lt off in let low = b.1 in (b.0, omega arith);
-    listed = λ v on le. contains_filter (is_low alive degrees k) left v (and_true (is_alive alive v) (nat_le (at degrees v) k) on (le_test (at degrees v) k le)) (i.all v on);
-    low = All-weaker (λ v. is_low alive degrees k v ≡ true) (λ v. at degrees v ≤ k) (λ v h. test_le (at degrees v) k (second_true (is_alive alive v) (nat_le (at degrees v) k) h)) (filter (is_low alive degrees k) left) (filter_passes (is_low alive degrees k) left);
+    listed = λ v on le. contains_filter (is_low alive degrees k) left v
+        (and_true (is_alive alive v) (nat_le (at degrees v) k) on (le_test (at degrees v) k le)) (i.all v on);
+    low = All-weaker (λ v. is_low alive degrees k v ≡ true) (λ v. at degrees v ≤ k)
+        (λ v h. test_le (at degrees v) k (second_true (is_alive alive v) (nat_le (at degrees v) k) h))
+        (filter (is_low alive degrees k) left) (filter_passes (is_low alive degrees k) left);
   }
 
   -- after a round
@@ -229,11 +252,13 @@ module _ (f : Filter) (g : Graph) (n : ℕ) (neighbors : ℕ → List ℕ) (nb :
             let was = (shrinks v).0 on in
             let down = (shrinks v).1 in
             let enough = many v on in
-            contains_filter (is_high alive degrees k) left v (and_true (is_alive alive v) (nat_lt k (at degrees v)) was (lt_test k (at degrees v) (omega arith))) (all v was);
+            contains_filter (is_high alive degrees k) left v
+            (and_true (is_alive alive v) (nat_lt k (at degrees v)) was (lt_test k (at degrees v) (omega arith))) (all v was);
       }
 
   -- none is left
-  pub none_left : (alive : List Bool) (degrees cores left : List ℕ) (k : ℕ) → length cores ≡ n → IsBetween f g n neighbors alive degrees cores left k
+  pub none_left : (alive : List Bool) (degrees cores left : List ℕ) (k : ℕ) → length cores ≡ n
+      → IsBetween f g n neighbors alive degrees cores left k
       → ((v : ℕ) → v < n → is_alive alive v ≡ false) → IsTable (n) (IsCoreNumber f g) cores
   none_left alive degrees cores left k long i off = record {
     one_each = long;
@@ -243,10 +268,12 @@ module _ (f : Filter) (g : Graph) (n : ℕ) (neighbors : ℕ → List ℕ) (nb :
   }
 
   -- before the first round
-  pub first : (alive : List Bool) (degrees cores left : List ℕ) → alive ≡ replicate (n) true → ((v : ℕ) → at degrees v ≡ length (neighbors v)) → ((v : ℕ) → v < n → Contains left v)
+  pub first : (alive : List Bool) (degrees cores left : List ℕ) → alive ≡ replicate n true
+      → ((v : ℕ) → at degrees v ≡ length (neighbors v)) → ((v : ℕ) → v < n → Contains left v)
       → IsBetween f g n neighbors alive degrees cores left 0
   first alive degrees cores left e degree all =
-      let on : (v : ℕ) → v < n → is_alive alive v ≡ true = λ v lt. ap (λ xs. is_alive xs v) e ∙ get_or-replicate (n) v true false lt in
+      let on : (v : ℕ) → v < n → is_alive alive v ≡ true = λ v lt. ap (λ xs. is_alive xs v) e
+      ∙ get_or-replicate n v true false lt in
       record {
         count = λ v. degree v ∙ all_pass (is_alive alive) (neighbors v) (λ m d l. on _ (in' v m d l));
         many = λ v h. omega arith;
@@ -254,7 +281,7 @@ module _ (f : Filter) (g : Graph) (n : ℕ) (neighbors : ℕ → List ℕ) (nb :
         all = λ v h. elim (cases_lt v (n)) [
           | inl lt ↦ all v lt
           | inr ge ↦
-              let long : length alive ≡ n = ap length e ∙ length-replicate (n) true in
+              let long : length alive ≡ n = ap length e ∙ length-replicate n true in
               let off = get_or_past alive v false (omega arith) in
               let both = sym off ∙ h in absurd (cc)
         ];

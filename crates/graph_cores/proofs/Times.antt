@@ -1,5 +1,6 @@
 -- How often a number is listed, and how many of a list are left.
-use Rattle.std.proofs.Common.{◌≡◌, ◌≢◌, ℕ, ◌+◌, ◌<◌, ◌≤◌, arith, refl, ap, ◌∙◌, inl, inr, List, [], ◌∷◌, length, set, true, false, Bool}
+use Rattle.std.proofs.Common.{◌≡◌, ◌≢◌, ℕ, ◌+◌, ◌<◌, ◌≤◌, arith, refl, ap, ◌∙◌, inl, inr, List, [], ◌∷◌, length, set, true, false}
+use Rattle.std.proofs.Common.{Bool}
 use Rattle.std.specs.Prelude.{◌==◌, All, AllPairs, count_by}
 use Rattle.std.specs.List.{Contains, range_with_len}
 use Rattle.std.proofs.lemmas.Bool.{cases_eq, cases_Bool, cases_lt}
@@ -7,7 +8,8 @@ use Rattle.std.proofs.lemmas.Bool.Decides.{Decides-eqb}
 use Rattle.std.proofs.lemmas.List.{get_or-set_same, get_or-set_other}
 use Rattle.std.proofs.lemmas.List.Elements.{All-contains}
 use Rattle.std.proofs.lemmas.List.FromFn.{length-range_with_len, get_or-range_with_len}
-use Rattle.graph_model.proofs.Counts.{Contains-cons_cases, Contains-nil, Contains-first, Contains-cons, apart_tail, apart_head, count_yes, count_no, sub_length}
+use Rattle.graph_model.proofs.Counts.{Contains-cons_cases, Contains-nil, Contains-first, Contains-cons, apart_tail, apart_head}
+use Rattle.graph_model.proofs.Counts.{count_yes, count_no, sub_length}
 use Rattle.graph_cores.specs.Peel.{is_alive}
 
 differ : (y x : ℕ) → (y ≡ x → ⊥) → (y == x) ≡ false
@@ -61,7 +63,8 @@ count_taken alive v (y ∷ ys) lt on =
     elim (cases_eq y v) [
       | inl e ↦
           let t = times_yes v y ys e in
-          let a = count_no (is_alive (set alive v false)) y ys (ap (is_alive (set alive v false)) e ∙ get_or-set_same alive v false false lt) in
+          let a = count_no (is_alive (set alive v false)) y ys
+          (ap (is_alive (set alive v false)) e ∙ get_or-set_same alive v false false lt) in
           let b = count_yes (is_alive alive) y ys (ap (is_alive alive) e ∙ on) in
           omega arith
       | inr ne ↦

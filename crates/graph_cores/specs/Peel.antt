@@ -1,5 +1,6 @@
 -- Peeling: vertices are taken out, those with fewest neighbors first.
-use Rattle.std.specs.Prelude.{◌≡◌, ℕ, ◌+◌, ◌-◌, ◌<◌, ◌≤◌, ◌==◌, List, [], ◌∷◌, ◌++◌, slice_index_or, slice_set, Bool, false, cond, IsTrue, All, count_by, ◌&&◌, nat_le, nat_lt}
+use Rattle.std.specs.Prelude.{◌≡◌, ℕ, ◌+◌, ◌-◌, ◌<◌, ◌≤◌, ◌==◌, List, [], ◌∷◌, ◌++◌, slice_index_or, slice_set, Bool, false, cond}
+use Rattle.std.specs.Prelude.{IsTrue, All, count_by, ◌&&◌, nat_le, nat_lt}
 use Rattle.std.specs.List.{Contains}
 use Rattle.graph_model.specs.Graph.{Graph}
 use Rattle.graph_model.specs.Analyses.{IsDense, IsCoreNumber}
@@ -25,7 +26,8 @@ is_high alive degrees k v = is_alive alive v && nat_lt k (at degrees v)
 
 -- On the way through round k: how many neighbors that are left each vertex has; a set that is k-dense and has all that are
 -- left; the core numbers of those of n that are taken out; and the stack, which has all that are left with at most k.
-pub record IsPeeling (f : Filter) (g : Graph) (n : ℕ) (neighbors : ℕ → List ℕ) (alive : List Bool) (degrees cores stack : List ℕ) (k : ℕ) : Type 0 where
+pub record IsPeeling (f : Filter) (g : Graph) (n : ℕ) (neighbors : ℕ → List ℕ) (alive : List Bool) (degrees cores stack : List ℕ)
+    (k : ℕ) : Type 0 where
   pub count : (v : ℕ) → at degrees v ≡ count_by (is_alive alive) (neighbors v)
   pub dense : (member : ℕ → Bool) × IsDense f g k member × ((v : ℕ) → IsTrue (is_alive alive v) → IsTrue (member v))
   pub known : (v : ℕ) → v < n → is_alive alive v ≡ false → IsCoreNumber f g v (at cores v) × (at cores v ≤ k)
@@ -34,7 +36,8 @@ pub record IsPeeling (f : Filter) (g : Graph) (n : ℕ) (neighbors : ℕ → Lis
 
 -- Before round k: how many neighbors that are left each vertex has, at least k where it is left; the core numbers of those
 -- of n that are taken out; and the list of those left, with others.
-pub record IsBetween (f : Filter) (g : Graph) (n : ℕ) (neighbors : ℕ → List ℕ) (alive : List Bool) (degrees cores left : List ℕ) (k : ℕ) : Type 0 where
+pub record IsBetween (f : Filter) (g : Graph) (n : ℕ) (neighbors : ℕ → List ℕ) (alive : List Bool) (degrees cores left : List ℕ)
+    (k : ℕ) : Type 0 where
   pub count : (v : ℕ) → at degrees v ≡ count_by (is_alive alive) (neighbors v)
   pub many : (v : ℕ) → IsTrue (is_alive alive v) → k ≤ at degrees v
   pub known : (v : ℕ) → v < n → is_alive alive v ≡ false → IsCoreNumber f g v (at cores v) × (at cores v < k)

@@ -10,7 +10,8 @@ use view_edges::ViewEdges;
 
 /// Links the source and each of the targets, both ways. A loop links nothing.
 fn link(links: &mut Vec<(u32, u32)>, source: u32, targets: &[u32]) -> Result<(), AllocError>
-    ensures { OnOk result ((v w : ℕ) → Contains links.new.items (v, w) ↔ (Contains links.old.items (v, w) ⊎ IsLinked source targets.now v w)) }
+    ensures { OnOk result ((v w : ℕ) → Contains links.new.items (v, w)
+        ↔ (Contains links.old.items (v, w) ⊎ IsLinked source targets.now v w)) }
 {
     for target in targets {
         if *target != source {

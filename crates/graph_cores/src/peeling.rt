@@ -35,7 +35,8 @@ fn peel(alloc: Global, rows: &Rows, count: usize) -> Result<Vec<u32>, AllocError
     requires rows { IsRows count rows.now }
     requires few { count ≤ 65536 }
     requires short { (v : ℕ) → length (row_of rows.now v) ≤ 65536 }
-    ensures { IfOk result (λ cores. (f : Filter) (g : Graph) → AreNeighbors f g (row_of rows.now) → IsTable count (IsCoreNumber f g) cores.items) }
+    ensures { IfOk result (λ cores. (f : Filter) (g : Graph) → AreNeighbors f g (row_of rows.now)
+        → IsTable count (IsCoreNumber f g) cores.items) }
 {
     let vertices = numbers(alloc, count as u32)?;
     let mut degrees = lengths(alloc, rows, count)?;
@@ -61,7 +62,8 @@ fn rounds(
     requires degrees { (v : ℕ) → at degrees.old v ≡ length (row_of rows.now v) }
     requires vertices_within { All (λ w. w < length cores.old) vertices.items }
     requires vertices { (v : ℕ) → v < length cores.old → Contains vertices.items v }
-    ensures { OnOk result ((f : Filter) (g : Graph) → AreNeighbors f g (row_of rows.now) → IsTable (length cores.old) (IsCoreNumber f g) cores.new) }
+    ensures { OnOk result ((f : Filter) (g : Graph) → AreNeighbors f g (row_of rows.now)
+        → IsTable (length cores.old) (IsCoreNumber f g) cores.new) }
 {
     let mut left = vertices;
     let mut more = Vec::with_capacity(alloc, cores.len())?;
@@ -119,9 +121,11 @@ fn peel_level(
     requires degrees { length degrees.old ≡ length cores.old }
     requires stack { All (λ w. w < length cores.old) stack.old.items }
     requires few { k < 65537 }
-    ensures shrinks { OnOk result ((v : ℕ) → (IsTrue (is_alive alive.new v) → IsTrue (is_alive alive.old v)) × (at degrees.new v ≤ at degrees.old v)) }
+    ensures shrinks { OnOk result ((v : ℕ) → (IsTrue (is_alive alive.new v) → IsTrue (is_alive alive.old v))
+        × (at degrees.new v ≤ at degrees.old v)) }
     ensures empty { OnOk result (stack.new.items ≡ []) }
-    ensures peeling { OnOk result ((f : Filter) (g : Graph) → AreNeighbors f g (row_of rows.now) → IsPeeling f g (length cores.old) (row_of rows.now) alive.old degrees.old cores.old stack.old.items k
+    ensures peeling { OnOk result ((f : Filter) (g : Graph) → AreNeighbors f g (row_of rows.now)
+        → IsPeeling f g (length cores.old) (row_of rows.now) alive.old degrees.old cores.old stack.old.items k
         → IsPeeling f g (length cores.old) (row_of rows.now) alive.new degrees.new cores.new [] k) }
 {
     while let Some(vertex) = stack.pop() {

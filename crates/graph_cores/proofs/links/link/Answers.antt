@@ -18,13 +18,17 @@ loop-target-preserved c =
     elim c.if-target-source.branch [
       | then-target-source+in_ok-push+in_ok-push-2 w ↦
           let e : c.if-target-source.links.items ≡ (before ++ (s, t) ∷ []) ++ (t, s) ∷ [] =
-          ap (λ (x : Vec (ℕ × ℕ) Global). x.items) w.links-is ∙ w.in_ok-push-2.ensures.items ∙ ap (λ (xs : List (ℕ × ℕ)). xs ++ (t, s) ∷ []) w.in_ok-push.ensures.items in
-          subst (LinkedSoFar start s (take (i + 1) ts)) (sym e) (linked start before s ts i lt c.loop-target.invariant t refl w.if-target-source.true)
+          ap (λ (x : Vec (ℕ × ℕ) Global). x.items) w.links-is ∙ w.in_ok-push-2.ensures.items
+          ∙ ap (λ (xs : List (ℕ × ℕ)). xs ++ (t, s) ∷ []) w.in_ok-push.ensures.items in
+          subst (LinkedSoFar start s (take (i + 1) ts)) (sym e)
+          (linked start before s ts i lt c.loop-target.invariant t refl w.if-target-source.true)
       | else-target-source w ↦
-          subst (LinkedSoFar start s (take (i + 1) ts)) (sym (ap (λ (x : Vec (ℕ × ℕ) Global). x.items) w.links-is)) (not_linked start before s ts i lt c.loop-target.invariant t refl w.if-target-source.false)
+          subst (LinkedSoFar start s (take (i + 1) ts)) (sym (ap (λ (x : Vec (ℕ × ℕ) Global). x.items) w.links-is))
+          (not_linked start before s ts i lt c.loop-target.invariant t refl w.if-target-source.false)
     ]
 
 pub returns : goal.returns
 returns c =
     let ts = c.args.targets.now in
-    subst (λ (xs : List ℕ). LinkedSoFar c.args.links.now.items c.args.source xs c.loop-target.links.items) (take_all c.loop-target.target-index ts (omega arith)) c.loop-target.invariant
+    subst (λ (xs : List ℕ). LinkedSoFar c.args.links.now.items c.args.source xs c.loop-target.links.items)
+    (take_all c.loop-target.target-index ts (omega arith)) c.loop-target.invariant

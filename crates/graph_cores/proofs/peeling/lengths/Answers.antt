@@ -17,7 +17,8 @@ loop-vertex-preserved c =
     record {
       long = ap length new ∙ length-append old (x ∷ []) ∙ omega arith;
       each = λ v lt. elim (cases_lt v i) [
-        | inl below ↦ ap (λ xs. at xs v) new ∙ get_or_append_left old (x ∷ []) 0 v (omega arith) ∙ c.loop-vertex.invariant.each v below
+        | inl below ↦ ap (λ xs. at xs v) new ∙ get_or_append_left old (x ∷ []) 0 v (omega arith)
+            ∙ c.loop-vertex.invariant.each v below
         | inr ge ↦
             let here : v ≡ i = omega arith in
             ap (λ xs. at xs v) new ∙ get_or_at old x [] 0 v (omega arith) ∙ e ∙ ap (λ w. length (row_of rows w)) (sym here)

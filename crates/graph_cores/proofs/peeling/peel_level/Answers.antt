@@ -12,11 +12,14 @@ use Rattle.graph_cores.proofs.peeling.peel_level.Goals as goal
 
 -- the popped vertex is one of n
 popped_within : (n v : ℕ) (old st : List ℕ) → old ≡ st ++ v ∷ [] → All (λ w. w < n) old → v < n
-popped_within n v old st popped all = All-contains (λ w. w < n) (st ++ v ∷ []) v (subst (All (λ w. w < n)) popped all) (Contains-push st v)
+popped_within n v old st popped all = All-contains (λ w. w < n) (st ++ v ∷ []) v (subst (All (λ w. w < n)) popped all)
+    (Contains-push st v)
 
 pub of-neighbors-requires-clause-within : goal.of-neighbors-requires-clause-within
 of-neighbors-requires-clause-within c =
-    let lt = popped_within (length c.args.cores.now) c.in-Some.vertex c.loop-vertex.stack.items c.pop.new.self.items c.in-Some.ensures.items c.loop-vertex.invariant.within in
+    let lt = popped_within
+    (length c.args.cores.now) c.in-Some.vertex c.loop-vertex.stack.items c.pop.new.self.items c.in-Some.ensures.items
+    c.loop-vertex.invariant.within in
     omega arith
 
 pub lower-requires-clause-within : goal.lower-requires-clause-within
@@ -38,13 +41,15 @@ loop-vertex-smaller-in-Continue-1 c =
     let ws = c.of-neighbors.result.now in
     let ds = c.loop-vertex.degrees in
     let popped : c.loop-vertex.stack.items ≡ st ++ v ∷ [] = c.in-Some.ensures.items in
-    let all : All (λ w. w < n) ws = subst (All (λ w. w < n)) (sym c.of-neighbors.ensures) (row_within n rows.starts.items rows.ends.items v c.requires.rows.within) in
+    let all : All (λ w. w < n) ws = subst (All (λ w. w < n)) (sym c.of-neighbors.ensures)
+    (row_within n rows.starts.items rows.ends.items v c.requires.rows.within) in
     let within : All (λ w. w < length ds) ws = λ k d lt. let below = all k d lt in omega arith in
     let e : (c.lower.new.degrees, c.lower.new.stack.items) ≡ lowered c.args.k ws ds st = c.in_ok-lower.ensures in
     let down : sum c.lower.new.degrees + length c.lower.new.stack.items ≤ sum ds + length st =
     subst (λ (r : List ℕ × List ℕ). sum r.0 + length r.1 ≤ sum ds + length st) (sym e) (lowered_sum c.args.k ws ds st within) in
     let long : length c.loop-vertex.stack.items ≡ length st + 1 = ap length popped ∙ length-append st (v ∷ []) in
-    let goal_is : sum c.lower.new.degrees + length c.lower.new.stack.items < sum ds + length c.loop-vertex.stack.items = omega arith in
+    let goal_is : sum c.lower.new.degrees + length c.lower.new.stack.items < sum ds + length c.loop-vertex.stack.items =
+    omega arith in
     goal_is
 
 pub loop-vertex-preserved-in-Continue-1 : goal.loop-vertex-preserved-in-Continue-1
@@ -62,8 +67,10 @@ loop-vertex-preserved-in-Continue-1 c =
     let popped : c.loop-vertex.stack.items ≡ st ++ v ∷ [] = c.in-Some.ensures.items in
     let all : All (λ w. w < n) (st ++ v ∷ []) = subst (All (λ w. w < n)) popped c.loop-vertex.invariant.within in
     let v_lt : v < n = popped_within n v c.loop-vertex.stack.items st popped c.loop-vertex.invariant.within in
-    let rows_in : (u : ℕ) → All (λ w. w < n) (row_of rows u) = λ u. row_within n rows.starts.items rows.ends.items u c.requires.rows.within in
-    let e : (c.lower.new.degrees, new) ≡ lowered k ws ds st = c.in_ok-lower.ensures ∙ ap (λ xs. lowered k xs ds st) c.of-neighbors.ensures in
+    let rows_in : (u : ℕ) → All (λ w. w < n) (row_of rows u) =
+    λ u. row_within n rows.starts.items rows.ends.items u c.requires.rows.within in
+    let e : (c.lower.new.degrees, new) ≡ lowered k ws ds st = c.in_ok-lower.ensures
+    ∙ ap (λ xs. lowered k xs ds st) c.of-neighbors.ensures in
     record {
       within = subst (λ (r : List ℕ × List ℕ). All (λ w. w < n) r.1) (sym e)
           (lowered_all (λ w. w < n) k ws ds st (rows_in v) (front_low st v (λ w. w < n) all));
@@ -75,9 +82,11 @@ loop-vertex-preserved-in-Continue-1 c =
           let down = before.1 in
           ((λ h. before.0 (still alive v w h)), omega arith);
       peeling = λ f g nb start.
-          let before = subst (λ xs. IsPeeling f g n (row_of rows) alive ds cores xs k) popped (c.loop-vertex.invariant.peeling f g nb start) in
+          let before = subst (λ xs. IsPeeling f g n (row_of rows) alive ds cores xs k) popped
+          (c.loop-vertex.invariant.peeling f g nb start) in
           subst (λ (r : List ℕ × List ℕ). IsPeeling f g n (row_of rows) (set alive v false) r.0 (set cores v k) r.1 k) (sym e)
-          (take_out f g n (row_of rows) nb rows_in alive ds cores st k v (omega arith) (omega arith) (omega arith) v_lt before c.if-alive-place.true);
+          (take_out f g n (row_of rows) nb rows_in alive ds cores st k v (omega arith) (omega arith)
+          (omega arith) v_lt before c.if-alive-place.true);
     }
 
 pub loop-vertex-preserved : goal.loop-vertex-preserved
@@ -92,6 +101,9 @@ loop-vertex-preserved c =
       within = front_low st v (λ w. w < n) (subst (All (λ w. w < n)) popped c.loop-vertex.invariant.within);
       shrinks = c.loop-vertex.invariant.shrinks;
       peeling = λ f g nb start.
-          skip f g n (row_of rows) nb (λ u. row_within n rows.starts.items rows.ends.items u c.requires.rows.within) c.loop-vertex.alive c.loop-vertex.degrees c.loop-vertex.cores st k v
-          (subst (λ xs. IsPeeling f g n (row_of rows) c.loop-vertex.alive c.loop-vertex.degrees c.loop-vertex.cores xs k) popped (c.loop-vertex.invariant.peeling f g nb start)) c.if-alive-place.false;
+          skip f g n (row_of rows) nb
+          (λ u. row_within n rows.starts.items rows.ends.items u c.requires.rows.within) c.loop-vertex.alive
+          c.loop-vertex.degrees c.loop-vertex.cores st k v
+          (subst (λ xs. IsPeeling f g n (row_of rows) c.loop-vertex.alive c.loop-vertex.degrees c.loop-vertex.cores xs k) popped
+          (c.loop-vertex.invariant.peeling f g nb start)) c.if-alive-place.false;
     }

@@ -11,7 +11,8 @@ abbrev pub invariant-loop-vertex : goal.invariant-loop-vertex
 invariant-loop-vertex l = record {
   within : All (λ w. w < length l.fn.cores) l.stack.items;
   shrinks : (v : ℕ) → (IsTrue (is_alive l.alive v) → IsTrue (is_alive l.fn.alive v)) × (at l.degrees v ≤ at l.fn.degrees v);
-  peeling : (f : Filter) (g : Graph) → AreNeighbors f g (row_of l.rows) → IsPeeling f g (length l.fn.cores) (row_of l.rows) l.fn.alive l.fn.degrees l.fn.cores l.fn.stack.items l.k
+  peeling : (f : Filter) (g : Graph) → AreNeighbors f g (row_of l.rows)
+      → IsPeeling f g (length l.fn.cores) (row_of l.rows) l.fn.alive l.fn.degrees l.fn.cores l.fn.stack.items l.k
       → IsPeeling f g (length l.fn.cores) (row_of l.rows) l.alive l.degrees l.cores l.stack.items l.k;
 }
 

@@ -10,5 +10,6 @@ abbrev pub invariant-loop-k : goal.invariant-loop-k
 invariant-loop-k l = record {
   empty : l.stack.items ≡ [];
   within : All (λ w. w < length l.fn.cores) l.left.items;
-  between : (f : Filter) (g : Graph) → AreNeighbors f g (row_of l.rows) → IsBetween f g (length l.fn.cores) (row_of l.rows) l.alive l.degrees l.cores l.left.items l.k;
+  between : (f : Filter) (g : Graph) → AreNeighbors f g (row_of l.rows)
+      → IsBetween f g (length l.fn.cores) (row_of l.rows) l.alive l.degrees l.cores l.left.items l.k;
 }
