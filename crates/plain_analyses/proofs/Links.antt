@@ -1,5 +1,6 @@
 -- Links as lists of neighbors, and the rounds that lower numbers by want of support.
-use Rattle.std.proofs.Common.{◌≡◌, ◌≢◌, ℕ, zero, suc, ◌+◌, ◌<◌, ◌≤◌, arith, refl, sym, ap, ◌∙◌, subst, ◌⊎◌, inl, inr, List, [], ◌∷◌, length, get_or, map, cond, true, false, Bool, ◌&&◌, not}
+use Rattle.std.proofs.Common.{◌≡◌, ◌≢◌, ℕ, zero, suc, ◌+◌, ◌<◌, ◌≤◌, arith, refl, sym, ap, ◌∙◌, subst, ◌⊎◌, inl, inr, List, []}
+use Rattle.std.proofs.Common.{◌∷◌, length, get_or, map, cond, true, false, Bool, ◌&&◌, not}
 use Rattle.std.specs.Prelude.{All, AllPairs, ◌==◌, nat_le, count_by, filter, replicate, IsPermutation, IsTrue}
 use Rattle.std.specs.List.{Contains, range_with_len, dedup}
 use Rattle.std.specs.Cmp.{IsTotalOrder, IsEquivalence}
@@ -36,13 +37,15 @@ ends_link links v w c =
     subst (Contains links) same kept.0
 
 link_ends : (links : List (ℕ × ℕ)) (v w : ℕ) → Contains links (v, w) → Contains (ends links v) w
-link_ends links v w c = contains_map (λ (link : ℕ × ℕ). link.1) (filter (λ link. link.0 == v) links) (v, w) (contains_filter (λ (link : ℕ × ℕ). link.0 == v) links (v, w) ((Decides-eqb v v).1 refl) c)
+link_ends links v w c = contains_map (λ (link : ℕ × ℕ). link.1) (filter (λ link. link.0 == v) links) (v, w)
+    (contains_filter (λ (link : ℕ × ℕ). link.0 == v) links (v, w) ((Decides-eqb v v).1 refl) c)
 
 ends_apart : (links : List (ℕ × ℕ)) (v : ℕ) → AllPairs (λ a b. a ≢ b) links → AllPairs (λ a b. a ≢ b) (ends links v)
 ends_apart [] v h = λ i j d lt l. absurd (omega arith)
 ends_apart (e ∷ links) v h =
     let rest = ends_apart links v (apart_tail e links h) in
-    elim (e.0 == v) as (λ b. (e.0 == v) ≡ b → AllPairs (λ a b. a ≢ b) (map (λ (link : ℕ × ℕ). link.1) (cond b (e ∷ filter (λ link. link.0 == v) links) (filter (λ link. link.0 == v) links)))) [
+    elim (e.0 == v) as (λ b. (e.0 == v) ≡ b → AllPairs (λ a b. a ≢ b)
+    (map (λ (link : ℕ × ℕ). link.1) (cond b (e ∷ filter (λ link. link.0 == v) links) (filter (λ link. link.0 == v) links)))) [
       | true ↦ λ t. AllPairs-cons (λ a b. a ≢ b) e.1 (ends links v) (λ k d l same.
           let first = eqb-true e.0 v t in
           let w = get_or (ends links v) k d in
@@ -52,18 +55,24 @@ ends_apart (e ∷ links) v h =
       | false ↦ λ t. rest
     ] refl
 
-count_ends : (numbers : List ℕ) (v : ℕ) (links : List (ℕ × ℕ)) → count_by (supports numbers v) links ≡ support (ends links) numbers v
+count_ends : (numbers : List ℕ) (v : ℕ) (links : List (ℕ × ℕ))
+    → count_by (supports numbers v) links ≡ support (ends links) numbers v
 count_ends numbers v [] = refl
 count_ends numbers v (e ∷ links) =
     let rest = count_ends numbers v links in
     let test : ℕ → Bool = λ w. nat_le (at numbers v) (at numbers w) in
-    elim (e.0 == v) as (λ b. (e.0 == v) ≡ b → count_by (supports numbers v) (e ∷ links) ≡ count_by test (map (λ (link : ℕ × ℕ). link.1) (cond b (e ∷ filter (λ link. link.0 == v) links) (filter (λ link. link.0 == v) links)))) [
+    elim (e.0 == v) as (λ b. (e.0 == v) ≡ b → count_by (supports numbers v) (e ∷ links)
+    ≡ count_by test (map (λ (link : ℕ × ℕ). link.1)
+    (cond b (e ∷ filter (λ link. link.0 == v) links) (filter (λ link. link.0 == v) links)))) [
       | true ↦ λ t.
           let first = eqb-true e.0 v t in
-          let same : supports numbers v e ≡ test e.1 = ap (λ b. b && nat_le (at numbers e.0) (at numbers e.1)) t ∙ ap (λ x. nat_le (at numbers x) (at numbers e.1)) first in
+          let same : supports numbers v e ≡ test e.1 =
+          ap (λ b. b && nat_le (at numbers e.0) (at numbers e.1)) t ∙ ap (λ x. nat_le (at numbers x) (at numbers e.1)) first in
           elim (cases_Bool (test e.1)) [
-            | inl on ↦ let a = count_yes (supports numbers v) e links (same ∙ on) in let b = count_yes test e.1 (ends links v) on in omega arith
-            | inr off ↦ let a = count_no (supports numbers v) e links (same ∙ off) in let b = count_no test e.1 (ends links v) off in omega arith
+            | inl on ↦ let a = count_yes (supports numbers v) e links (same ∙ on) in let b =
+                count_yes test e.1 (ends links v) on in omega arith
+            | inr off ↦ let a = count_no (supports numbers v) e links (same ∙ off) in let b =
+                count_no test e.1 (ends links v) off in omega arith
           ]
       | false ↦ λ t. count_no (supports numbers v) e links (ap (λ b. b && nat_le (at numbers e.0) (at numbers e.1)) t) ∙ rest
     ] refl
@@ -74,7 +83,8 @@ zero_at (suc n) zero = refl
 zero_at (suc n) (suc v) = zero_at n v
 
 -- where all numbers are 0 each neighbor has enough
-all_zero : (n : ℕ) (zeros : List ℕ) → zeros ≡ replicate n 0 → (v : ℕ) (xs : List ℕ) → count_by (λ w. nat_le (at zeros v) (at zeros w)) xs ≡ length xs
+all_zero : (n : ℕ) (zeros : List ℕ) → zeros ≡ replicate n 0 → (v : ℕ) (xs : List ℕ)
+    → count_by (λ w. nat_le (at zeros v) (at zeros w)) xs ≡ length xs
 all_zero n zeros blank v [] = refl
 all_zero n zeros blank v (x ∷ xs) =
     let here : at zeros v ≡ 0 = ap (λ zs. at zs v) blank ∙ zero_at n v in
@@ -82,7 +92,8 @@ all_zero n zeros blank v (x ∷ xs) =
     let pass : nat_le (at zeros v) (at zeros x) ≡ true = grind (arith, nat_tests) in
     count_yes (λ w. nat_le (at zeros v) (at zeros w)) x xs pass ∙ ap (λ k. 1 + k) (all_zero n zeros blank v xs) ∙ omega arith
 
-module _ (f : Filter) (g : Graph) (n : ℕ) (links : List (ℕ × ℕ)) (are : AreLinks f g links) (within : (v w : ℕ) → Joins f g v w → w < n) where
+module _ (f : Filter) (g : Graph) (n : ℕ) (links : List (ℕ × ℕ)) (are : AreLinks f g links) (within : (v w : ℕ) → Joins f g v w
+    → w < n) where
   are_neighbors : AreNeighbors f g (ends links)
   are_neighbors = record {
     apart = λ v. ends_apart links v are.apart;
@@ -90,22 +101,26 @@ module _ (f : Filter) (g : Graph) (n : ℕ) (links : List (ℕ × ℕ)) (are : A
   }
 
   -- the numbers of neighbors, as counts where all numbers are 0
-  pub first_upper : (zeros numbers : List ℕ) → zeros ≡ replicate n 0 → ((v : ℕ) → at numbers v ≡ count_by (supports zeros v) links) → AreUpper f g n numbers
+  pub first_upper : (zeros numbers : List ℕ) → zeros ≡ replicate n 0
+      → ((v : ℕ) → at numbers v ≡ count_by (supports zeros v) links) → AreUpper f g n numbers
   first_upper zeros numbers blank counted = upper_first f g n (ends links) are_neighbors within numbers (λ v lt.
       counted v ∙ count_ends zeros v links ∙ all_zero n zeros blank v (ends links v))
 
   -- a round keeps that no core number is greater
   pub more_upper : (old enough new : List ℕ) → AreUpper f g n old → ((v : ℕ) → at enough v ≡ count_by (supports old v) links)
       → ((v : ℕ) → (at new v ≡ at old v) ⊎ ((suc (at new v) ≡ at old v) × (at enough v < at old v))) → AreUpper f g n new
-  more_upper old enough new upper counted each = upper_more f g n (ends links) are_neighbors within old new upper (λ v lt. elim (each v) [
-    | inl same ↦ inl same
-    | inr less ↦ inr (less.0, (let e = counted v ∙ count_ends old v links in let h = less.1 in omega arith))
-  ])
+  more_upper old enough new upper counted each =
+      upper_more f g n (ends links) are_neighbors within old new upper (λ v lt. elim (each v) [
+        | inl same ↦ inl same
+        | inr less ↦ inr (less.0, (let e = counted v ∙ count_ends old v links in let h = less.1 in omega arith))
+      ])
 
   -- and where each has enough support they are the core numbers
-  pub cores_done : (numbers enough : List ℕ) → length numbers ≡ n → AreUpper f g n numbers → ((v : ℕ) → at enough v ≡ count_by (supports numbers v) links) → ((v : ℕ) → at numbers v ≤ at enough v)
+  pub cores_done : (numbers enough : List ℕ) → length numbers ≡ n → AreUpper f g n numbers
+      → ((v : ℕ) → at enough v ≡ count_by (supports numbers v) links) → ((v : ℕ) → at numbers v ≤ at enough v)
       → IsTable n (IsCoreNumber f g) numbers
-  cores_done numbers enough long upper counted supported = settled_cores f g n (ends links) are_neighbors within numbers long upper (λ v lt.
+  cores_done numbers enough long upper counted supported =
+      settled_cores f g n (ends links) are_neighbors within numbers long upper (λ v lt.
       let e = counted v ∙ count_ends numbers v links in let h = supported v in omega arith)
 
   -- a core number is at most the number of vertices
@@ -122,7 +137,9 @@ module _ (f : Filter) (g : Graph) (n : ℕ) (links : List (ℕ × ℕ)) (are : A
       omega arith
 
 pub joined_within : (f : Filter) (c : Content) → IsContent c → (v w : ℕ) → Joins f (graph_of c) v w → w < length c.names
-joined_within f c is v w j = (All-contains (λ (e : ℕ × ℕ). (e.0 < length c.names) × (e.1 < length c.names)) (two_way (arcs_of f c.edges)) (v, w) (two_way_within f c is) (joins_arc f c is v w j)).1
+joined_within f c is v w j =
+    (All-contains (λ (e : ℕ × ℕ). (e.0 < length c.names) × (e.1 < length c.names)) (two_way (arcs_of f c.edges)) (v, w)
+    (two_way_within f c is) (joins_arc f c is v w j)).1
 
 -- pairs in order
 abbrev pair_cmp : ℕ × ℕ → ℕ × ℕ → Ordering
@@ -159,13 +176,16 @@ sorted_apart : (xs : List (ℕ × ℕ)) → IsStrictlySortedBy pair_cmp xs → A
 unfolding IsStrictlySortedBy
 sorted_apart [] s = λ i j d lt l. absurd (omega arith)
 sorted_apart (x ∷ xs) s = AllPairs-cons (λ a b. a ≢ b) x xs
-    (All-weaker (λ y. pair_cmp x y ≡ Less) (λ y. x ≢ y) (λ y less same. let tied = tied_itself pairs_total x in let both = sym less ∙ ap (pair_cmp x) (sym same) ∙ tied in cc) xs (All-from_recursion (λ y. pair_cmp x y ≡ Less) xs s.0))
+    (All-weaker (λ y. pair_cmp x y ≡ Less) (λ y. x ≢ y)
+    (λ y less same. let tied = tied_itself pairs_total x in let both = sym less ∙ ap (pair_cmp x) (sym same) ∙ tied in cc) xs
+    (All-from_recursion (λ y. pair_cmp x y ≡ Less) xs s.0))
     (sorted_apart xs s.1)
 
 abbrev pub is_proper : ℕ × ℕ → Bool
 is_proper arc = not (arc.0 == arc.1)
 
-module _ (f : Filter) (c : Content) (is : IsContent c) (both kept sorted links : List (ℕ × ℕ)) (arcs : both ≡ two_way (arcs_of f c.edges)) (proper : kept ≡ filter is_proper both)
+module _ (f : Filter) (c : Content) (is : IsContent c) (both kept sorted links : List (ℕ × ℕ))
+    (arcs : both ≡ two_way (arcs_of f c.edges)) (proper : kept ≡ filter is_proper both)
     (moved : IsPermutation kept sorted) (order : IsSorted pair_cmp sorted) (once : links ≡ dedup pair_eq sorted) where
   from_links : (v w : ℕ) → Contains links (v, w) → Arc (two_way (arcs_of f c.edges)) v w × (is_proper (v, w) ≡ true)
   from_links v w l =
@@ -182,13 +202,15 @@ module _ (f : Filter) (c : Content) (is : IsContent c) (both kept sorted links :
 
   pub links_made : AreLinks f (graph_of c) links
   links_made = record {
-    apart = subst (AllPairs (λ a b. a ≢ b)) (sym once) (sorted_apart (dedup pair_eq sorted) (IsStrictlySortedBy-dedup pairs_total pair_ties sorted order));
+    apart = subst (AllPairs (λ a b. a ≢ b)) (sym once)
+        (sorted_apart (dedup pair_eq sorted) (IsStrictlySortedBy-dedup pairs_total pair_ties sorted order));
     exact = λ v w. (
       (λ l.
           let r = from_links v w l in
           (λ e. let t = (Decides-eqb v w).1 (sym e) in let u = sym r.1 ∙ ap not t in cc, arc_joins f c is v w r.0)),
       (λ j.
-          let apart : is_proper (v, w) ≡ true = elim (cases_Bool (v == w)) [ inl t ↦ absurd (j.0 (sym ((Decides-eqb v w).0 t))) | inr t ↦ ap not t ] in
+          let apart : is_proper (v, w) ≡ true =
+          elim (cases_Bool (v == w)) [ inl t ↦ absurd (j.0 (sym ((Decides-eqb v w).0 t))) | inr t ↦ ap not t ] in
           to_links v w (joins_arc f c is v w j.1) apart),
     );
   }
@@ -197,4 +219,5 @@ module _ (f : Filter) (c : Content) (is : IsContent c) (both kept sorted links :
   links_within k d h =
       let link = get_or links k d in
       let r = from_links link.0 link.1 (Contains-get_or links k d h) in
-      All-contains (λ (e : ℕ × ℕ). (e.0 < length c.names) × (e.1 < length c.names)) (two_way (arcs_of f c.edges)) link (two_way_within f c is) r.0
+      All-contains (λ (e : ℕ × ℕ). (e.0 < length c.names) × (e.1 < length c.names)) (two_way (arcs_of f c.edges)) link
+      (two_way_within f c is) r.0

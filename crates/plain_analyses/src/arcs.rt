@@ -32,8 +32,9 @@ pub(crate) fn two_way(alloc: Global, arcs: &[(u32, u32)]) -> Result<Vec<(u32, u3
     arcs.iter().copied().chain(turned).collect(alloc)
 }
 
-/// Whether the filter lets an edge through.
-fn shows(filter: Filter, edge: &Edge) -> bool
+/// Whether the filter lets an edge through: any kind or the one it names, and a recent time in the window, both ends
+/// included. It takes no memory.
+pub fn shows(filter: Filter, edge: &Edge) -> bool
     ensures { result ≡ in_view filter (key_of edge.now, stamp_of edge.now) }
 {
     let takes_kind = match filter.kind {

@@ -64,7 +64,8 @@ fn supports(
 ) -> Result<Vec<usize>, AllocError>
     requires { AreWithin (length numbers.now) links.now }
     ensures size { IfOk result (λ supports. length supports.items ≡ length numbers.now) }
-    ensures counted { IfOk result (λ supports. (v : ℕ) → at supports.items v ≡ count_by (definition.supports numbers.now v) links.now) }
+    ensures counted { IfOk result (λ supports. (v : ℕ)
+        → at supports.items v ≡ count_by (definition.supports numbers.now v) links.now) }
 {
     let mut supports = vec![in alloc; 0; numbers.len()]?;
     for link in links {
@@ -80,7 +81,8 @@ fn supports(
 fn lower_once(numbers: &mut [usize], supports: &[usize]) -> bool
     requires { length supports.now ≡ length numbers.old }
     ensures size { length numbers.new ≡ length numbers.old }
-    ensures each { (v : ℕ) → (at numbers.new v ≡ at numbers.old v) ⊎ ((suc (at numbers.new v) ≡ at numbers.old v) × (at supports.now v < at numbers.old v)) }
+    ensures each { (v : ℕ) → (at numbers.new v ≡ at numbers.old v)
+        ⊎ ((suc (at numbers.new v) ≡ at numbers.old v) × (at supports.now v < at numbers.old v)) }
     ensures falls { result ≡ true → sum numbers.new < sum numbers.old }
     ensures stays { result ≡ false → (numbers.new ≡ numbers.old) × ((v : ℕ) → at numbers.old v ≤ at supports.now v) }
 {

@@ -7,7 +7,10 @@
 mod arcs;
 mod cores;
 mod settling;
+#[cfg(test)]
+mod tests;
 mod walks;
 
+pub use arcs::shows;
 pub use cores::plain_cores;
 pub use walks::{plain_labels, plain_levels};

@@ -5,15 +5,21 @@ use Rattle.std.proofs.lemmas.List.{take_more, take_all}
 use Rattle.std.proofs.lemmas.Slice.Zip.{length-zip, get_or-zip}
 
 module _ {A B : Type 0} (xs : List A) (ys : List B) where
-  pub rows_more : (rows : List (A × B)) (k n : ℕ) (x : A) (y : B) → rows ≡ take k (zip xs ys) → n ≡ k + 1 → (k < length xs) × (k < length ys) × ((d : A) → x ≡ get_or xs k d) × ((d : B) → y ≡ get_or ys k d) → rows ++ (x, y) ∷ [] ≡ take n (zip xs ys)
+  pub rows_more : (rows : List (A × B)) (k n : ℕ) (x : A) (y : B) → rows ≡ take k (zip xs ys) → n ≡ k + 1
+      → (k < length xs) × (k < length ys) × ((d : A) → x ≡ get_or xs k d) × ((d : B) → y ≡ get_or ys k d)
+      → rows ++ (x, y) ∷ [] ≡ take n (zip xs ys)
   rows_more rows k n x y is next turn =
       let within : k < length (zip xs ys) = omega (arith, length-zip xs ys, turn.0, turn.1) in
-      let row : get_or (zip xs ys) k (x, y) ≡ (x, y) = get_or-zip xs ys k (x, y) turn.0 turn.1 ∙ (λ i. (sym (turn.2 x) i, sym (turn.3 y) i)) in
-      ap (λ rs. rs ++ (x, y) ∷ []) is ∙ ap (λ row. take k (zip xs ys) ++ row ∷ []) (sym row) ∙ sym (take_more (zip xs ys) k (x, y) within) ∙ ap (λ m. take m (zip xs ys)) (sym next)
+      let row : get_or (zip xs ys) k (x, y) ≡ (x, y) =
+      get_or-zip xs ys k (x, y) turn.0 turn.1 ∙ (λ i. (sym (turn.2 x) i, sym (turn.3 y) i)) in
+      ap (λ rs. rs ++ (x, y) ∷ []) is ∙ ap (λ row. take k (zip xs ys) ++ row ∷ []) (sym row)
+      ∙ sym (take_more (zip xs ys) k (x, y) within) ∙ ap (λ m. take m (zip xs ys)) (sym next)
 
   pub rows_all : (rows : List (A × B)) (k : ℕ) → rows ≡ take k (zip xs ys) → k ≡ min (length xs) (length ys) → rows ≡ zip xs ys
   rows_all rows k is end = is ∙ take_all k (zip xs ys) (omega (arith, length-zip xs ys))
 
   -- the row that comes next
-  pub next_row : (k n : ℕ) (x : A) (y : B) → n ≡ k + 1 → (k < length xs) × (k < length ys) × ((d : A) → x ≡ get_or xs k d) × ((d : B) → y ≡ get_or ys k d) → take n (zip xs ys) ≡ take k (zip xs ys) ++ (x, y) ∷ []
+  pub next_row : (k n : ℕ) (x : A) (y : B) → n ≡ k + 1
+      → (k < length xs) × (k < length ys) × ((d : A) → x ≡ get_or xs k d) × ((d : B) → y ≡ get_or ys k d)
+      → take n (zip xs ys) ≡ take k (zip xs ys) ++ (x, y) ∷ []
   next_row k n x y next turn = sym (rows_more (take k (zip xs ys)) k n x y (λ i. take k (zip xs ys)) next turn)

@@ -1,12 +1,12 @@
 //! The answer to a request, by passes over the plain lists.
 
-ghost use Rattle.std.specs.Prelude.{◌≡◌, ◌⊎◌, ◌≤◌, ◌<◌, length, zip, All, IfOk, OnOk, IfErr, MatchResult, None, Some, true, false};
+ghost use Rattle.std.specs.Prelude.{◌≡◌, ◌⊎◌, ◌≤◌, ◌<◌, length, zip, All, IfOk, OnOk, IfErr, MatchResult, None, Some, true};
+ghost use Rattle.std.specs.Prelude.{false};
 ghost use Rattle.graph_model.specs.Answer.{IsAnswer, is_listed, filter_refusal, resolved, degree_table, shown};
 ghost use Rattle.graph_model.specs.Degrees.{CountsEdge, IsWithinLimits, with_edge};
-ghost use Rattle.graph_model.specs.Graph.{graph_of, map_of, entry_of, IsContent};
+ghost use Rattle.graph_model.specs.Graph.{graph_of, map_of, IsContent};
 ghost use Rattle.graph_model.specs.Limits.{IsWeight, kind_limit};
 ghost use Rattle.graph_model.specs.Step.{number_of};
-ghost use Rattle.graph_model.specs.View.{in_view};
 ghost use Rattle.graph_model.specs.Changes.{stamp_in};
 ghost use Rattle.plain_graph.specs.Drafts.{shown_key};
 ghost use Rattle.plain_graph.specs.Replies.{takes_memory};
@@ -20,6 +20,7 @@ use graph_model::{
     AskError, Content, Degree, Edge, EdgeMarks, Filter, KindId, List, Name, NamedFilter, Reply,
     Request, VertexId,
 };
+use plain_analyses::shows;
 use std::alloc::{AllocError, Global};
 
 /// The answer to a request over a content: the first refusal that holds (`BadWindow`, `NoKind`, `NoVertex`), or
@@ -129,17 +130,6 @@ fn kind_of(content: &Content, name: &Name) -> Result<KindId, AskError>
         Some(place) => Ok(KindId(place as u8)),
         None => Err(AskError::NoKind),
     }
-}
-
-/// Whether the filter lets an edge through.
-fn shows(filter: Filter, edge: &Edge) -> bool
-    ensures { result ≡ in_view filter (entry_of edge.now) }
-{
-    let takes_kind = match filter.kind {
-        Some(kind) => kind == edge.kind,
-        None => true,
-    };
-    takes_kind && filter.lo <= edge.recent && edge.recent <= filter.hi
 }
 
 /// The degrees of each vertex, by number.

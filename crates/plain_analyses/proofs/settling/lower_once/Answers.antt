@@ -11,10 +11,14 @@ loop-arc-preserved c =
     let none : ℕ × ℕ = (0, 0) in
     elim c.if-number-numbers.branch [
       | then-number-numbers w ↦ rw (w.numbers-is, w.lowered-is)
-          (arc_round_lowered arcs c.args.step old c.loop-arc.numbers c.loop-arc.lowered i none c.requires.within c.loop-arc.invariant c.loop-arc-test.true w.if-number-numbers.true)
+          (arc_round_lowered arcs c.args.step old c.loop-arc.numbers c.loop-arc.lowered i none c.requires.within
+          c.loop-arc.invariant c.loop-arc-test.true w.if-number-numbers.true)
       | else-number-numbers w ↦ rw (w.numbers-is, w.lowered-is)
-          (arc_round_kept arcs c.args.step old c.loop-arc.numbers c.loop-arc.lowered i none c.loop-arc.invariant c.loop-arc-test.true w.if-number-numbers.false)
+          (arc_round_kept arcs c.args.step old c.loop-arc.numbers c.loop-arc.lowered i none c.loop-arc.invariant
+          c.loop-arc-test.true w.if-number-numbers.false)
     ]
 
 pub returns-clause-closed : goal.returns-clause-closed
-returns-clause-closed c = arc_round_closed c.args.arcs.now c.args.step c.args.numbers.now c.loop-arc.numbers c.loop-arc.lowered c.loop-arc.arc-index c.loop-arc.invariant (omega arith)
+returns-clause-closed c =
+    arc_round_closed c.args.arcs.now c.args.step c.args.numbers.now c.loop-arc.numbers c.loop-arc.lowered c.loop-arc.arc-index
+    c.loop-arc.invariant (omega arith)

@@ -12,4 +12,5 @@ returns-in_err-apply-clause-refused c =
     let p = err_from_is_err_and c.from_residual.result c.from_residual.ensures.1 in
     rw (p.1, p.2)
     (subst (Exceeds c.in_err-apply.field-0.0) c.loop-op.invariant.rest
-    (Exceeds-drop c.in_err-apply.field-0.0 c.args.ops.now c.loop-op.op-index c.op-item.result (graph_of (shown_by c.loop-op.draft)) c.loop-op-test.true c.op-item.is c.in_err-apply.ensures.refused))
+    (Exceeds-drop c.in_err-apply.field-0.0 c.args.ops.now c.loop-op.op-index c.op-item.result
+    (graph_of (shown_by c.loop-op.draft)) c.loop-op-test.true c.op-item.is c.in_err-apply.ensures.refused))

@@ -7,7 +7,8 @@ use Rattle.plain_graph.proofs.apply.apply_ops.Given as goal
 
 abbrev pub invariant-loop-op : goal.invariant-loop-op
 invariant-loop-op l = record {
-  told : l.outcomes.items ++ outcomes (drop l.op-index l.ops) (graph_of (shown_by l.draft)) ≡ outcomes l.ops (graph_of (shown_by l.fn.draft));
+  told : l.outcomes.items ++ outcomes (drop l.op-index l.ops) (graph_of (shown_by l.draft))
+      ≡ outcomes l.ops (graph_of (shown_by l.fn.draft));
   rest : after_all (drop l.op-index l.ops) (graph_of (shown_by l.draft)) ≡ after_all l.ops (graph_of (shown_by l.fn.draft));
   content : IsContent (shown_by l.draft);
 }

@@ -15,9 +15,11 @@ returns c =
     elim c.match-names_left.branch [
       | in-Ok w ↦
           let few : length (names_left ops g.names) ≤ name_limit =
-          subst (λ xs. length xs ≤ name_limit) (w.in-Ok.ensures.left ∙ ap (names_left ops) c.as_slice.ensures) w.in-Ok.ensures.few in
+          subst (λ xs. length xs ≤ name_limit) (w.in-Ok.ensures.left ∙ ap (names_left ops) c.as_slice.ensures)
+          w.in-Ok.ensures.few in
           subst (λ e. Refuses e ops g) (sym w.result-is) (c.requires.kinds, names_fit ops g few)
       | in-Err w ↦
           subst (λ e. Refuses e ops g) (sym w.result-is)
-          (Refuses-names w.in-Err.error ops g (subst (λ xs. IsNamesRefusal w.in-Err.error (names_left ops xs)) c.as_slice.ensures w.in-Err.ensures.refused))
+          (Refuses-names w.in-Err.error ops g (subst
+          (λ xs. IsNamesRefusal w.in-Err.error (names_left ops xs)) c.as_slice.ensures w.in-Err.ensures.refused))
     ]
