@@ -57,7 +57,7 @@ module _ (workers w : ℕ) (ops : List NamedOp) (g : Graph) (layout : ℕ → Li
       ∙ placed_results (λ r. shard_of workers r.source == w) (resolved ops g.names g.kinds) (outcomes_all (resolved ops g.names g.kinds) (opened layout)) 0
 
 -- a row that no operation names stays
-kept_all : (row : List Shape) → row_end (map untouched row) ≡ row
+pub kept_all : (row : List Shape) → row_end (map untouched row) ≡ row
 kept_all [] = refl
 kept_all (b ∷ row) = ap (λ xs. b ∷ xs) (kept_all row)
 

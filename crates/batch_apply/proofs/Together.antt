@@ -21,10 +21,13 @@ use Rattle.shard_work.specs.declared.shard.Shard.{Shard}
 use Rattle.shard_work.specs.declared.shard.ShardDone.{ShardDone}
 use Rattle.shard_work.specs.declared.shard.Step.{Step}
 use Rattle.shard_work.specs.declared.shard.Place.{Place}
-use Rattle.batch_apply.specs.Plans.{acts, results, is_of}
-use Rattle.batch_apply.specs.Sums.{IsShardFor, ArePlanned}
+use Rattle.batch_plan.specs.Shards.{acts, is_of, IsShardOf}
+use Rattle.batch_apply.specs.Plans.{results}
+use Rattle.batch_apply.specs.Sums.{ArePlanned}
 use Rattle.batch_apply.proofs.Totals.{sum_all, worker_rows, worker_unnamed, count_more, same_outcomes}
-use Rattle.batch_apply.proofs.Merge.{same_ops, shard_places}
+use Rattle.batch_plan.proofs.Sources.{sources_within}
+use Rattle.block_layout.proofs.ShardLaws.{shard_rows}
+use Rattle.batch_apply.proofs.Merge.{same_ops, shard_places, unnamed_rows, kept_all}
 use Rattle.shard_work.specs.Closing.{row_values}
 use Rattle.edge_block.specs.Slots.{BlockView}
 use Rattle.graph_model.specs.declared.batches.Outcome.{Outcome}
@@ -57,7 +60,7 @@ some_times (x ∷ xs) (suc i) d lt =
     let rest = some_times xs i d (omega arith) in
     omega arith
 
-once : (m : ℕ) (xs : List ℕ) → AllPairs (λ a b. a ≢ b) xs → times m xs ≤ 1
+pub once : (m : ℕ) (xs : List ℕ) → AllPairs (λ a b. a ≢ b) xs → times m xs ≤ 1
 once m [] pairs = omega arith
 once m (x ∷ xs) pairs =
     let c = count_more (λ x. x == m) x xs in
@@ -71,13 +74,13 @@ once m (x ∷ xs) pairs =
     ] refl c
 
 module _ (workers : ℕ) (ops : List NamedOp) (g : Graph) where
-  abbrev sources_all : List Shard → List ℕ
+  abbrev pub sources_all : List Shard → List ℕ
   sources_all shards = flat_map sources_in shards
 
-  abbrev Zipped : ℕ → ℕ → List Shard → Type 0
-  Zipped a k shards = AllZip (IsShardFor workers ops g) (range_with_len a k) shards
+  abbrev pub Zipped : ℕ → ℕ → List Shard → Type 0
+  Zipped a k shards = AllZip (IsShardOf workers (resolved ops g.names g.kinds)) (range_with_len a k) shards
 
-  other_worker : (w m : ℕ) (shard : Shard) → IsShardFor workers ops g w shard → (m % workers ≡ w → ⊥) → times m (sources_in shard) ≡ 0
+  other_worker : (w m : ℕ) (shard : Shard) → IsShardOf workers (resolved ops g.names g.kinds) w shard → (m % workers ≡ w → ⊥) → times m (sources_in shard) ≡ 0
   other_worker w m shard is ne = no_times m (sources_in shard) (λ k d lt e. ne (ap (λ x. x % workers) (sym e) ∙ is.own k d lt))
 
   none_before : (a k m : ℕ) (shards : List Shard) → Zipped a k shards → m % workers < a → times m (sources_all shards) ≡ 0
@@ -90,7 +93,7 @@ module _ (workers : ℕ) (ops : List NamedOp) (g : Graph) where
       let both = times_append m (sources_in s) (sources_all shards) in
       omega arith
 
-  all_once : (a k m : ℕ) (shards : List Shard) → Zipped a k shards → times m (sources_all shards) ≤ 1
+  pub all_once : (a k m : ℕ) (shards : List Shard) → Zipped a k shards → times m (sources_all shards) ≤ 1
   all_once a zero m [] z = omega arith
   all_once a zero m (s ∷ shards) z = absurd z
   all_once a (suc k) m [] z = absurd z
@@ -109,20 +112,20 @@ module _ (workers : ℕ) (ops : List NamedOp) (g : Graph) where
   abbrev n : ℕ
   n = length (after_all ops g).names
 
-  all_within : (a k : ℕ) (shards : List Shard) → Zipped a k shards → All (λ s. s < n) (sources_all shards)
+  pub all_within : (a k : ℕ) (shards : List Shard) → Zipped a k shards → All (λ s. s < n) (sources_all shards)
   all_within a zero [] z = All-nil (λ s. s < n)
   all_within a zero (s ∷ shards) z = absurd z
   all_within a (suc k) [] z = absurd z
-  all_within a (suc k) (s ∷ shards) z = All-append (λ s. s < n) (sources_in s) (sources_all shards) z.0.within (all_within (a + 1) k shards z.1)
+  all_within a (suc k) (s ∷ shards) z = All-append (λ s. s < n) (sources_in s) (sources_all shards) (sources_within workers a ops g s z.0) (all_within (a + 1) k shards z.1)
 
   -- the shard of a worker
   pick : (a k w : ℕ) (shards : List Shard) → Zipped a k shards → a ≤ w → w < a + k
-      → (shard : Shard) × (IsShardFor workers ops g w shard × ((m : ℕ) → times m (sources_in shard) ≤ times m (sources_all shards)))
+      → (shard : Shard) × (IsShardOf workers (resolved ops g.names g.kinds) w shard × ((m : ℕ) → times m (sources_in shard) ≤ times m (sources_all shards)))
   pick a zero w shards z le lt = absurd (omega arith)
   pick a (suc k) w [] z le lt = absurd z
   pick a (suc k) w (s ∷ shards) z le lt =
-      elim (a == w) as (λ b. a == w ≡ b → (shard : Shard) × (IsShardFor workers ops g w shard × ((m : ℕ) → times m (sources_in shard) ≤ times m (sources_all (s ∷ shards))))) [
-        | true ↦ λ t. (s, (subst (λ v. IsShardFor workers ops g v s) (eqb-true a w t) z.0, λ m. let both = times_append m (sources_in s) (sources_all shards) in omega arith))
+      elim (a == w) as (λ b. a == w ≡ b → (shard : Shard) × (IsShardOf workers (resolved ops g.names g.kinds) w shard × ((m : ℕ) → times m (sources_in shard) ≤ times m (sources_all (s ∷ shards))))) [
+        | true ↦ λ t. (s, (subst (λ v. IsShardOf workers (resolved ops g.names g.kinds) v s) (eqb-true a w t) z.0, λ m. let both = times_append m (sources_in s) (sources_all shards) in omega arith))
         | false ↦ λ t.
             let ne : a ≡ w → ⊥ = eqb-false a w t in
             let rest = pick (a + 1) k w shards z.1 (omega arith) (omega arith) in
@@ -130,12 +133,12 @@ module _ (workers : ℕ) (ops : List NamedOp) (g : Graph) where
       ] refl
 
   -- a source that a shard doesn't list is named by none of its operations
-  unlisted : (w m : ℕ) (shard : Shard) → IsShardFor workers ops g w shard → times m (sources_in shard) ≡ 0 → All (λ r. key_is_of m r.key ≡ false) (shard_ops workers w (resolved ops g.names g.kinds))
+  unlisted : (w m : ℕ) (shard : Shard) → IsShardOf workers (resolved ops g.names g.kinds) w shard → times m (sources_in shard) ≡ 0 → All (λ r. key_is_of m r.key ≡ false) (shard_ops workers w (resolved ops g.names g.kinds))
   unlisted w m shard is none =
       let P : (Option Key × EdgeChange) → Type 0 = λ a. key_is_of m a.0 ≡ false in
       let steps : All P (acts (steps_in shard)) = All-map P (λ (r : Resolved). (r.key, r.change)) (steps_in shard)
       (All-map (λ (r : Resolved). key_is_of m r.key ≡ false) (λ (s : Step). resolved_at (sources_in shard) s.change s.place) shard.steps.items
-      (λ k d lt. one (get_or shard.steps.items k d).place (is.steps k d lt).0)) in
+      (λ k d lt. one (get_or shard.steps.items k d).place (is.in_range k d lt).0)) in
       from_acts P (shard_ops workers w (resolved ops g.names g.kinds)) (subst (λ as'. All P as') is.acts_are steps)
     where
       one : (p : Option Place) → IsPlace (length (sources_in shard)) p → key_is_of m (key_at (sources_in shard) p) ≡ false
@@ -160,6 +163,17 @@ module _ (workers : ℕ) (ops : List NamedOp) (g : Graph) where
         let s = pick 0 workers (m % workers) shards planned (omega arith) (omega arith) in
         let few = s.1.1 m in
         worker_unnamed workers (m % workers) ops g layout m (same_number (m % workers)) (unlisted (m % workers) m s.0 s.1.0 (omega arith))
+
+    -- a source that no shard lists has the row that it had
+    pub quiet_layout : (m : ℕ) → times m (sources_all shards) ≡ 0 → layout_after ops g layout m ≡ layout m
+    quiet_layout m none =
+        let lt = mod-lt m positive in
+        let s = pick 0 workers (m % workers) shards planned (omega arith) (omega arith) in
+        let few = s.1.1 m in
+        let unnamed = unlisted (m % workers) m s.0 s.1.0 (omega arith) in
+        ap row_end (sym (shard_rows workers (m % workers) ops g.names g.kinds (opened layout) m (same_number (m % workers)))
+        ∙ unnamed_rows (shard_ops workers (m % workers) (resolved ops g.names g.kinds)) (opened layout) m unnamed)
+        ∙ kept_all (layout m)
 
     pub taken_sum : sum_by (λ m. taken_in (left m)) (sources_all shards) ≡ taken_by ops g layout n
     taken_sum = sum_all (λ m. taken_in (left m)) n (sources_all shards) (λ m. all_once 0 workers m shards planned) (all_within 0 workers shards planned) (λ m lt none. (quiet m none).0)
@@ -201,7 +215,7 @@ batch_totals workers ops g before shards dones positive planned done = (
   together workers ops g before dropped_in (λ d. length d.left.dropped.items) (λ s x is. is.dropped_are) 0 workers shards dones planned done ∙ dropped_sum workers ops g positive shards planned (layout_by before),
 )
 
-module _ (workers w : ℕ) (ops : List NamedOp) (g : Graph) (before : ℕ → List BlockView) (shard : Shard) (done : ShardDone) (planned : IsShardFor workers ops g w shard) (is : IsShardDone before shard done) where
+module _ (workers w : ℕ) (ops : List NamedOp) (g : Graph) (before : ℕ → List BlockView) (shard : Shard) (done : ShardDone) (planned : IsShardOf workers (resolved ops g.names g.kinds) w shard) (is : IsShardDone before shard done) where
   abbrev all_outcomes : List Outcome
   all_outcomes = outcomes_all (resolved ops g.names g.kinds) (opened (layout_by before))
 

@@ -11,8 +11,7 @@ use Rattle.graph_model.specs.declared.changes.EdgeChange.{EdgeChange}
 use Rattle.block_layout.specs.Rows.{Shape, OpenBlock, untouched, taken_in, dropped_in, row_end, has_none}
 use Rattle.block_layout.specs.Batches.{Resolved, resolved, shard_ops, sum_below, rows_all, rows_step, row_step, outcome_in, outcomes_all, opened, key_is_of, layout_after}
 use Rattle.block_layout.proofs.ShardLaws.{shard_rows}
-use Rattle.batch_apply.specs.Plans.{acts}
-use Rattle.batch_apply.specs.Sums.{IsShardFor}
+use Rattle.batch_plan.specs.Shards.{acts, IsShardOf}
 use Rattle.shard_work.specs.Done.{steps_in}
 use Rattle.shard_work.specs.declared.shard.Shard.{Shard}
 use Rattle.batch_apply.proofs.Merge.{unnamed_rows}
@@ -128,7 +127,7 @@ sum_all f (suc n) xs once below rest =
     ] refl
 
 -- a worker's shard leaves the rows of its sources as the batch does
-pub worker_rows : (workers w : ℕ) (ops : List NamedOp) (g : Graph) (shard : Shard) → IsShardFor workers ops g w shard → (rows : ℕ → List OpenBlock) (source : ℕ) → (source % workers == w) ≡ true
+pub worker_rows : (workers w : ℕ) (ops : List NamedOp) (g : Graph) (shard : Shard) → IsShardOf workers (resolved ops g.names g.kinds) w shard → (rows : ℕ → List OpenBlock) (source : ℕ) → (source % workers == w) ≡ true
     → rows_all (steps_in shard) rows source ≡ rows_all (resolved ops g.names g.kinds) rows source
 worker_rows workers w ops g shard is rows source own =
     ap (λ (after : ℕ → List OpenBlock). after source) (same_rows (steps_in shard) (shard_ops workers w (resolved ops g.names g.kinds)) is.acts_are rows)

@@ -4,7 +4,8 @@ use Rattle.std.specs.List.{enumerate_from, range_with_len, list_any}
 use Rattle.std.proofs.lemmas.List.{append_assoc}
 use Rattle.std.proofs.lemmas.Bool.{eqb-false}
 use Rattle.block_layout.specs.Batches.{Resolved, shard_of, picked}
-use Rattle.batch_apply.specs.Plans.{written, results, is_of, written_all}
+use Rattle.batch_plan.specs.Shards.{is_of}
+use Rattle.batch_apply.specs.Plans.{written, results, written_all}
 
 -- the results of the operations that pass, and else what stood there
 abbrev mixed : {A : Type 0} → (Resolved → Bool) → List Resolved → List A → List A → List A

@@ -17,3 +17,13 @@ pub record IsShard (shard : Shard) : Type 0 where
 -- what the work on each job's shard must leave of these rows, in the order of the jobs
 abbrev pub AreDone : (ℕ → List BlockView) → List Job → List ShardDone → Type 0
 AreDone rows jobs done = AllZip (λ j d. IsShardDone rows j.shard d) jobs done
+
+-- how many operations a shard has
+abbrev pub steps_of : Shard → ℕ
+steps_of shard = length shard.steps.items
+
+-- the job of a shard, once the shard has fresh blocks
+pub record IsDealt (shard : Shard) (job : Job) : Type 0 where
+  pub sources_are : job.shard.sources.items ≡ shard.sources.items
+  pub steps_are : job.shard.steps.items ≡ shard.steps.items
+  pub fresh : length job.shard.steps.items ≤ length job.shard.fresh.items

@@ -1,10 +1,10 @@
 -- A plan: a batch's operations with the numbers of their names, by shard.
-use Rattle.std.specs.Prelude.{◌≡◌, ℕ, ◌==◌, List, [], ◌∷◌, map, filter, set, Option, Bool}
-use Rattle.std.specs.List.{range_with_len, enumerate_from}
-use Rattle.graph_model.specs.Graph.{Graph, Key}
+use Rattle.std.specs.Prelude.{ℕ, ◌==◌, List, [], ◌∷◌, map, filter, set, Bool}
+use Rattle.std.specs.List.{enumerate_from}
+use Rattle.graph_model.specs.Graph.{Graph}
 use Rattle.graph_model.specs.declared.batches.NamedOp.{NamedOp}
-use Rattle.graph_model.specs.declared.changes.EdgeChange.{EdgeChange}
 use Rattle.block_layout.specs.Batches.{Resolved, resolved, shard_of, picked}
+use Rattle.batch_plan.specs.Shards.{is_of}
 
 -- the batch's operations, each with its place
 abbrev pub placed_ops : List NamedOp → Graph → List (ℕ × Resolved)
@@ -26,14 +26,7 @@ written (p ∷ ps) xs = written ps (set xs p.0 p.1)
 abbrev pub results : {A : Type 0} → (Resolved → Bool) → List Resolved → List A → ℕ → List (ℕ × A)
 results p rs ys k = picked (λ (x : ℕ × Resolved). p x.1) (enumerate_from k rs) (enumerate_from k ys)
 
-abbrev pub is_of : ℕ → ℕ → Resolved → Bool
-is_of workers w r = shard_of workers r.source == w
-
 -- the results of these shards, written one shard after another
 abbrev pub written_all : {A : Type 0} → ℕ → List ℕ → List Resolved → List A → List A → List A
 written_all workers [] rs ys xs = xs
 written_all workers (w ∷ ws) rs ys xs = written_all workers ws rs ys (written (results (is_of workers w) rs ys 0) xs)
-
--- the key and the change of each, which are all that rows and outcomes depend on
-abbrev pub acts : List Resolved → List (Option Key × EdgeChange)
-acts rs = map (λ r. (r.key, r.change)) rs

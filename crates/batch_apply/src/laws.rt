@@ -10,10 +10,11 @@ ghost use Rattle.graph_model.specs.declared.batches.NamedOp.{NamedOp};
 ghost use Rattle.graph_model.specs.declared.batches.Outcome.{Outcome};
 ghost use Rattle.block_layout.specs.Rows.{OpenBlock, shape_of};
 ghost use Rattle.block_layout.specs.Batches.{Resolved, resolved, rows_all, sum_below, taken_by, dropped_by, outcomes_all, opened, layout_after};
-ghost use Rattle.batch_apply.specs.Sums.{IsShardFor, ArePlanned};
+ghost use Rattle.batch_plan.specs.Shards.{is_of, IsShardOf};
+ghost use Rattle.batch_apply.specs.Sums.{ArePlanned};
 ghost use Rattle.shard_work.specs.Done.{IsShardDone, layout_by, steps_in};
 ghost use Rattle.shard_work.specs.declared.shard.Shard.{Shard};
-ghost use Rattle.batch_apply.specs.Plans.{written_all, results, is_of};
+ghost use Rattle.batch_apply.specs.Plans.{written_all, results};
 ghost use Rattle.shard_work.specs.Closing.{row_values};
 
 /// The results of all shards, written at their places, are the batch's.
@@ -33,7 +34,7 @@ pub fn law_sum_all()
 /// A worker's shard leaves the rows of its sources as the batch does.
 #[tactic(auto, using(crate::proofs::Totals::worker_rows))]
 pub fn law_worker_rows()
-    ensures { (workers w : ℕ) (ops : List NamedOp) (g : Graph) (shard : Shard) → IsShardFor workers ops g w shard → (rows : ℕ → List OpenBlock) (source : ℕ) → (source % workers == w) ≡ true
+    ensures { (workers w : ℕ) (ops : List NamedOp) (g : Graph) (shard : Shard) → IsShardOf workers (resolved ops g.names g.kinds) w shard → (rows : ℕ → List OpenBlock) (source : ℕ) → (source % workers == w) ≡ true
         → rows_all (steps_in shard) rows source ≡ rows_all (resolved ops g.names g.kinds) rows source }
 {}
 
@@ -48,9 +49,9 @@ pub fn law_batch_totals()
 /// A worker's outcomes are the batch's at its operations' places, and its rows have the layout that the batch leaves.
 pub fn law_shard_results()
     ensures outcomes { (workers w : ℕ) (ops : List NamedOp) (g : Graph) (before : ℕ → List BlockView) (shard : Shard) (done : ShardDone)
-        → IsShardFor workers ops g w shard → IsShardDone before shard done
+        → IsShardOf workers (resolved ops g.names g.kinds) w shard → IsShardDone before shard done
         → done.outcomes.items ≡ results (is_of workers w) (resolved ops g.names g.kinds) (outcomes_all (resolved ops g.names g.kinds) (opened (layout_by before))) 0 }
     ensures layout { (workers w : ℕ) (ops : List NamedOp) (g : Graph) (before : ℕ → List BlockView) (shard : Shard) (done : ShardDone)
-        → IsShardFor workers ops g w shard → IsShardDone before shard done
+        → IsShardOf workers (resolved ops g.names g.kinds) w shard → IsShardDone before shard done
         → All (λ r. map shape_of r.1 ≡ layout_after ops g (layout_by before) r.0) (row_values done.rows.items) }
 {}

@@ -1,9 +1,11 @@
 //! The work of a batch, by workers.
 #![tactic(auto)]
 
+mod applied;
 mod laws;
 mod workers;
 
+pub use applied::{Applied, apply};
 pub use laws::{
     law_all_written, law_batch_totals, law_shard_results, law_sum_all, law_worker_rows,
 };

@@ -4,6 +4,7 @@ ghost use Rattle.batch_apply.specs.Jobs.{IsShard};
 use crate::{Job, PassAll, do_all};
 use edge_block::Block;
 use graph_model::{EdgeChange, KindId, Outcome, VertexId};
+use graph_version::Version;
 use shard_work::{Place, Shard, ShardDone, Step};
 use std::alloc::{AllocError, Global};
 use std::io::Print;
@@ -71,7 +72,7 @@ fn work<R: Threads + Sync>(
         rt,
         alloc,
         &PassAll,
-        &[],
+        &Version::empty(alloc),
         workers as usize,
         jobs(alloc, workers)?,
     )

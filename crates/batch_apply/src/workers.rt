@@ -1,17 +1,17 @@
 //! Shards that workers do at once.
 
-ghost use Rattle.std.specs.Prelude.{◌≡◌, ◌+◌, ◌<◌, ◌≤◌, map, IfOk, vec_len, length, All, List, ℕ};
+ghost use Rattle.std.specs.Prelude.{◌≡◌, ◌+◌, ◌<◌, ◌≤◌, map, IfOk, IfSome, vec_len, length, All, List, ℕ};
 ghost use Rattle.std.specs.Thread.{IsSync};
-ghost use Rattle.shard_work.specs.Done.{AreBlockRows, row_in};
+ghost use Rattle.row_pages.specs.Rows.{row_of};
 ghost use Rattle.batch_apply.specs.Jobs.{IsShard, AreDone};
 
-use edge_block::Block;
+use graph_version::Version;
 use shard_work::{Shard, ShardDone, work_on};
 use std::alloc::{AllocError, Global};
-use std::sync::Arc;
 use std::thread::{Threads, join};
 
-/// It is told of each worker before the worker's shard.
+/// It is told of each worker before the worker's shard: of a worker without operations in the thread that starts the
+/// others, before it starts them, and of any other in the thread that does the worker's shard.
 pub trait Gate {
     fn arrive(&self, worker: usize, of: usize);
 }
@@ -30,56 +30,95 @@ pub struct Job {
     pub shard: Shard,
 }
 
-/// What the work on each shard leaves, in the order of the jobs. All workers run at once; one job starts no thread.
+impl Job {
+    fn is_busy(&self) -> bool {
+        !self.shard.steps.is_empty()
+    }
+}
+
+/// What the work on each shard leaves, in the order of the jobs.
+///
+/// All workers with operations run at once; where at most one has any, no thread is started.
 pub fn do_all<R: Threads + Sync, G: Gate + Sync>(
     rt: &R,
     alloc: Global,
     gate: &G,
-    version: &[Vec<Arc<Block>>],
+    version: &Version,
+    of: usize,
+    jobs: Vec<Job>,
+) -> Result<Vec<ShardDone>, AllocError>
+    requires { All (λ j. IsShard j.shard) jobs.items }
+    ensures { IfOk result (λ v. AreDone (row_of version.now.rows) jobs.items v.items) }
+{
+    for job in jobs.as_slice() {
+        if !job.is_busy() {
+            gate.arrive(job.worker, of);
+        }
+    }
+    do_busy(rt, alloc, gate, version, of, jobs)
+}
+
+/// The place of the last worker with operations, where another has some too.
+fn last_of_several(jobs: &[Job]) -> Option<usize>
+    ensures { IfSome result (λ place. place < length jobs.now) }
+{
+    let last = jobs.iter().rposition(|job| job.is_busy())?;
+    if jobs[..last].iter().any(|job| job.is_busy()) {
+        Some(last)
+    } else {
+        None
+    }
+}
+
+/// As `do_all`, once the gate has been told of the workers without operations. The last worker with operations gets a
+/// thread of its own while this thread goes on with those before it.
+fn do_busy<R: Threads + Sync, G: Gate + Sync>(
+    rt: &R,
+    alloc: Global,
+    gate: &G,
+    version: &Version,
     of: usize,
     mut low: Vec<Job>,
 ) -> Result<Vec<ShardDone>, AllocError>
-    requires rows { AreBlockRows (row_in version.now) }
-    requires shards { All (λ j. IsShard j.shard) low.items }
-    ensures { IfOk result (λ v. AreDone (row_in version.now) low.items v.items) }
+    requires { All (λ j. IsShard j.shard) low.items }
+    ensures { IfOk result (λ v. AreDone (row_of version.now.rows) low.items v.items) }
 {
-    if low.len() < 2 {
-        return at_most_one(alloc, gate, version, of, low);
-    }
-    let middle = low.len() / 2;
-    let high = low.split_off(middle)?;
-    let front = move || -> Result<Vec<ShardDone>, AllocError>
-        requires { IsSync R.row × IsSync G.row × AreBlockRows (row_in version.now) × All (λ j. IsShard j.shard) low.items }
-        ensures { IfOk result (λ v. AreDone (row_in version.entry.now) low.items v.items) }
-    { do_all(rt, alloc, gate, version, of, low) };
+    let Some(place) = last_of_several(&low) else {
+        return do_each(alloc, gate, version, of, low);
+    };
+    let high = low.split_off(place)?;
     let back = move || -> Result<Vec<ShardDone>, AllocError>
-        requires { IsSync R.row × IsSync G.row × AreBlockRows (row_in version.now) × All (λ j. IsShard j.shard) high.items }
-        ensures { IfOk result (λ v. AreDone (row_in version.entry.now) high.items v.items) }
-    { do_all(rt, alloc, gate, version, of, high) };
-    let (a, b) = join(rt, front, back);
+        requires { IsSync G.row × All (λ j. IsShard j.shard) high.items }
+        ensures { IfOk result (λ v. AreDone (row_of version.entry.now.rows) high.items v.items) }
+    { do_each(alloc, gate, version, of, high) };
+    let front = move || -> Result<Vec<ShardDone>, AllocError>
+        requires { IsSync R.row × IsSync G.row × All (λ j. IsShard j.shard) low.items }
+        ensures { IfOk result (λ v. AreDone (row_of version.entry.now.rows) low.items v.items) }
+    { do_busy(rt, alloc, gate, version, of, low) };
+    let (b, a) = join(rt, back, front);
     let mut all = a?;
     let mut rest = b?;
     all.append(&mut rest)?;
     Ok(all)
 }
 
-fn at_most_one<G: Gate>(
+/// What the work on each shard leaves, one after another.
+fn do_each<G: Gate>(
     alloc: Global,
     gate: &G,
-    version: &[Vec<Arc<Block>>],
+    version: &Version,
     of: usize,
-    mut jobs: Vec<Job>,
+    jobs: Vec<Job>,
 ) -> Result<Vec<ShardDone>, AllocError>
-    requires rows { AreBlockRows (row_in version.now) }
-    requires shards { All (λ j. IsShard j.shard) jobs.items }
-    requires few { vec_len jobs < 2 }
-    ensures { IfOk result (λ v. AreDone (row_in version.now) jobs.items v.items) }
+    requires { All (λ j. IsShard j.shard) jobs.items }
+    ensures { IfOk result (λ v. AreDone (row_of version.now.rows) jobs.items v.items) }
 {
-    let mut done = Vec::new(alloc);
-    let Some(job) = jobs.pop() else {
-        return Ok(done);
-    };
-    gate.arrive(job.worker, of);
-    done.push(work_on(alloc, version, job.shard)?)?;
+    let mut done = Vec::with_capacity(alloc, jobs.len())?;
+    for job in jobs {
+        if job.is_busy() {
+            gate.arrive(job.worker, of);
+        }
+        done.push(work_on(alloc, version, job.shard)?)?;
+    }
     Ok(done)
 }

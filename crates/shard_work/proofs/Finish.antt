@@ -15,9 +15,10 @@ use Rattle.edge_block.specs.declared.blocks.Block.{Block}
 use Rattle.edge_block.specs.Slots.{BlockView}
 use Rattle.block_layout.specs.Rows.{OpenBlock, shape_of, shapes, untouched, has_none, is_kept, row_end, taken_in, dropped_in}
 use Rattle.shard_work.specs.RowBlocks.{block_of, blocks_of, kept_of, open_of, opens, had_here, had_in, own_here, own_in, numbers_of, HaveSame, IsOf}
-use Rattle.shard_work.specs.Closing.{after_here, written_here, dropped_here, unused_here, after_of, written_of, dropped_of, unused_of, closed_rows, row_values, written_all, dropped_all, unused_all}
+use Rattle.shard_work.specs.Closing.{after_here, stays_here, written_here, dropped_here, unused_here, after_of, stays_of, written_of, dropped_of, unused_of, closed_rows, row_values, stays_all, written_all, dropped_all, unused_all}
 use Rattle.shard_work.specs.Shards.{AreOpen, AreOwn, resolved_in, sources_of, had_all, own_all}
-use Rattle.shard_work.specs.Done.{AreBlockRows, IsBlockOf, IsShardDone, Exchanges, sum_of, layout_by, rows_by, sources_in}
+use Rattle.graph_version.specs.Versions.{IsBlockOf}
+use Rattle.shard_work.specs.Done.{AreBlockRows, IsShardDone, sum_of, layout_by, rows_by, sources_in}
 use Rattle.shard_work.specs.declared.shard.Shard.{Shard}
 use Rattle.shard_work.specs.declared.shard.ShardDone.{ShardDone}
 use Rattle.shard_work.specs.declared.row_blocks.RowBlock.{RowBlock}
@@ -49,20 +50,40 @@ none_of : {X A : Type 0} (xs : List X) → (let f : X → List A = λ _. [] in f
 none_of [] = refl
 none_of (x ∷ xs) = none_of xs
 
--- one block: what goes and what comes
-one_exchange : (t n : Bool) (b : BlockView) (o : List BlockView) (p : BlockView → Bool)
-    → count_by p (cond (t && n) [] (b ∷ [])) + count_by p (cond t o []) ≡ count_by p (cond t o (b ∷ [])) + count_by p (cond (t && not n) (b ∷ []) [])
-one_exchange true true b o p = omega arith
-one_exchange true false b o p = omega arith
-one_exchange false n b o p = refl
+-- what adds up in each element adds up in the whole list
+adds_up : {X A : Type 0} (p : A → Bool) (a b c : X → List A) → ((x : X) → count_by p (a x) + count_by p (b x) ≡ count_by p (c x)) → (xs : List X)
+    → count_by p (flat_map a xs) + count_by p (flat_map b xs) ≡ count_by p (flat_map c xs)
+adds_up p a b c each [] = refl
+adds_up p a b c each (x ∷ xs) =
+    let one = each x in
+    let rest = adds_up p a b c each xs in
+    let i = count_by-append p (a x) (flat_map a xs) in
+    let j = count_by-append p (b x) (flat_map b xs) in
+    let k = count_by-append p (c x) (flat_map c xs) in
+    omega arith
 
-row_exchange : (p : BlockView → Bool) (row : List RowBlock) → count_by p (after_of row) + count_by p (dropped_of row) ≡ count_by p (had_in row) + count_by p (written_of row)
-row_exchange p row =
-    balance p after_here dropped_here had_here written_here (λ h. one_exchange h.touched (has_none (shape_of (block_of h.block))) (block_of h.block) (map block_of (option_to_list h.before)) p) row
+-- one block: it stays or is dropped, and what stays or is written is there after
+one_before : (t : Bool) (b : BlockView) (o : List BlockView) (p : BlockView → Bool) → count_by p (cond t [] (b ∷ [])) + count_by p (cond t o []) ≡ count_by p (cond t o (b ∷ []))
+one_before true b o p = omega arith
+one_before false b o p = omega arith
 
-pub all_exchange : (work : List OpenRow) → Exchanges (had_all work) (written_all work) (flat_map (λ r. after_of r.blocks.items) work) (dropped_all work)
-all_exchange work p =
-    balance p (λ (r : OpenRow). after_of r.blocks.items) (λ (r : OpenRow). dropped_of r.blocks.items) (λ (r : OpenRow). had_in r.blocks.items) (λ (r : OpenRow). written_of r.blocks.items) (λ r. row_exchange p r.blocks.items) work
+one_after : (t n : Bool) (b : BlockView) (p : BlockView → Bool)
+    → count_by p (cond t [] (b ∷ [])) + count_by p (cond (t && not n) (b ∷ []) []) ≡ count_by p (cond (t && n) [] (b ∷ []))
+one_after true true b p = omega arith
+one_after true false b p = omega arith
+one_after false n b p = omega arith
+
+row_before : (p : BlockView → Bool) (row : List RowBlock) → count_by p (stays_of row) + count_by p (dropped_of row) ≡ count_by p (had_in row)
+row_before p row = adds_up p stays_here dropped_here had_here (λ h. one_before h.touched (block_of h.block) (map block_of (option_to_list h.before)) p) row
+
+row_after : (p : BlockView → Bool) (row : List RowBlock) → count_by p (stays_of row) + count_by p (written_of row) ≡ count_by p (after_of row)
+row_after p row = adds_up p stays_here written_here after_here (λ h. one_after h.touched (has_none (shape_of (block_of h.block))) (block_of h.block) p) row
+
+all_before : (work : List OpenRow) (p : BlockView → Bool) → count_by p (stays_all work) + count_by p (dropped_all work) ≡ count_by p (had_all work)
+all_before work p = adds_up p (λ (r : OpenRow). stays_of r.blocks.items) (λ (r : OpenRow). dropped_of r.blocks.items) (λ (r : OpenRow). had_in r.blocks.items) (λ r. row_before p r.blocks.items) work
+
+all_after : (work : List OpenRow) (p : BlockView → Bool) → count_by p (stays_all work) + count_by p (written_all work) ≡ count_by p (flat_map (λ r. after_of r.blocks.items) work)
+all_after work p = adds_up p (λ (r : OpenRow). stays_of r.blocks.items) (λ (r : OpenRow). written_of r.blocks.items) (λ (r : OpenRow). after_of r.blocks.items) (λ r. row_after p r.blocks.items) work
 
 -- one block: each number is kept or handed back
 one_number : (t n : Bool) (b : BlockView) (q : ℕ → Bool)
@@ -239,16 +260,13 @@ module _ (rows : ℕ → List BlockView) (shard : Shard) (done : ShardDone) (w0 
         sources_are = ap (map (λ r. r.0)) closed ∙ same_sources w1 ∙ ss;
         layout = subst (λ rs. All (λ r. map shape_of r.1 ≡ row_end (rows_by rows shard r.0)) rs) (sym closed) (all_layout (rows_by rows shard) w1 by);
         blocks = subst (λ rs. All (λ r. All (IsBlockOf r.0) r.1) rs) (sym closed) (all_blocks w1 own (subst (λ bs. All HasEdges bs) (sym (h1 ∙ h0)) (rows_edges rows good (sources_in shard))));
-        exchanged = (
-          written_all w1,
-          sym taken,
-          λ p.
-              let one = all_exchange w1 p in
-              let a : count_by p (flat_map (λ r. r.1) (row_values done.rows.items)) ≡ count_by p (flat_map (λ r. after_of r.blocks.items) w1) = ap (count_by p) (ap (flat_map (λ r. r.1)) closed ∙ pieces_closed w1) in
-              let d : count_by p (blocks_of done.left.dropped.items) ≡ count_by p (dropped_all w1) = ap (count_by p) dropped in
-              let h : count_by p (had_all w1) ≡ count_by p (flat_map rows (sources_in shard)) = ap (count_by p) (h1 ∙ h0) in
-              omega arith,
-        );
+        exchanged = record {
+          kept = stays_all w1;
+          fresh = written_all w1;
+          taken_are = sym taken;
+          before_are = λ p. ap (λ bs. count_by p (stays_all w1) + count_by p bs) dropped ∙ all_before w1 p ∙ ap (count_by p) (h1 ∙ h0);
+          after_are = λ p. all_after w1 p ∙ sym (ap (count_by p) (ap (flat_map (λ r. r.1)) closed ∙ pieces_closed w1));
+        };
         taken_are = ap length taken ∙ length-map (written_all w1) (λ b. b.number) ∙ sum_open written_here taken_in (rows_by rows shard) length-written w1 by ∙ ap (sum_of (λ source. taken_in (rows_by rows shard source))) ss;
         dropped_are = sym (length-map done.left.dropped.items block_of) ∙ ap length dropped ∙ sum_open dropped_here dropped_in (rows_by rows shard) length-dropped w1 by ∙ ap (sum_of (λ source. dropped_in (rows_by rows shard source))) ss;
         handed = λ q.

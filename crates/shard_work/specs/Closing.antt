@@ -16,6 +16,10 @@ use Rattle.shard_work.specs.RowBlocks.{block_of, blocks_of}
 abbrev pub after_here : RowBlock → List BlockView
 after_here h = if h.touched && has_none (shape_of (block_of h.block)) then [] else block_of h.block ∷ []
 
+-- a block of the version before that stays in the row
+abbrev pub stays_here : RowBlock → List BlockView
+stays_here h = if h.touched then [] else block_of h.block ∷ []
+
 -- a fresh block that the row keeps
 abbrev pub written_here : RowBlock → List BlockView
 written_here h = if h.touched && not (has_none (shape_of (block_of h.block))) then block_of h.block ∷ [] else []
@@ -31,6 +35,9 @@ unused_here h = if h.touched && has_none (shape_of (block_of h.block)) then (blo
 abbrev pub after_of : List RowBlock → List BlockView
 after_of row = flat_map after_here row
 
+abbrev pub stays_of : List RowBlock → List BlockView
+stays_of row = flat_map stays_here row
+
 abbrev pub written_of : List RowBlock → List BlockView
 written_of row = flat_map written_here row
 
@@ -45,6 +52,9 @@ closed_rows work = map (λ r. (r.source.0, after_of r.blocks.items)) work
 
 abbrev pub row_values : List (VertexId × Vec (Arc Block Global) Global) → List (ℕ × List BlockView)
 row_values rows = map (λ r. (r.0.0, blocks_of r.1.items)) rows
+
+abbrev pub stays_all : List OpenRow → List BlockView
+stays_all work = flat_map (λ r. stays_of r.blocks.items) work
 
 abbrev pub written_all : List OpenRow → List BlockView
 written_all work = flat_map (λ r. written_of r.blocks.items) work

@@ -1,12 +1,8 @@
 -- What a shard must leave of a version's rows.
-use Rattle.std.specs.Prelude.{◌≡◌, ℕ, ◌+◌, List, [], map, flat_map, zip, length, get_or, count_by, All, Bool, false}
-use Rattle.std.specs.Arc.{arc_value}
-use Rattle.std.specs.declared.sync.Arc.{Arc}
-use Rattle.std.specs.declared.alloc.Global.{Global}
-use Rattle.std.specs.declared.vec.Vec.{Vec}
-use Rattle.edge_block.specs.declared.blocks.Block.{Block}
+use Rattle.std.specs.Prelude.{◌≡◌, ℕ, ◌+◌, List, [], map, flat_map, zip, length, count_by, All, Bool}
 use Rattle.edge_block.specs.Slots.{BlockView}
-use Rattle.block_layout.specs.Rows.{OpenBlock, Shape, shape_of, has_none, row_end, taken_in, dropped_in}
+use Rattle.graph_version.specs.Versions.{IsBlockOf}
+use Rattle.block_layout.specs.Rows.{OpenBlock, Shape, shape_of, row_end, taken_in, dropped_in}
 use Rattle.block_layout.specs.Batches.{Resolved, rows_all, outcomes_all, opened}
 use Rattle.shard_work.specs.RowBlocks.{blocks_of, numbers_of}
 use Rattle.shard_work.specs.Closing.{row_values}
@@ -14,18 +10,9 @@ use Rattle.shard_work.specs.Shards.{resolved_in}
 use Rattle.shard_work.specs.declared.shard.Shard.{Shard}
 use Rattle.shard_work.specs.declared.shard.ShardDone.{ShardDone}
 
--- a source's row: empty for a source past the last
-abbrev pub row_in : List (Vec (Arc Block Global) Global) → ℕ → List BlockView
-row_in version source = get_or (map (λ v. blocks_of v.items) version) source []
-
 -- the layout of rows
 abbrev pub layout_by : (ℕ → List BlockView) → ℕ → List Shape
 layout_by rows source = map shape_of (rows source)
-
--- a block of a source's row: of that source, with an edge
-pub record IsBlockOf (source : ℕ) (b : BlockView) : Type 0 where
-  pub source_is : b.source ≡ source
-  pub has_edges : has_none (shape_of b) ≡ false
 
 abbrev pub AreBlockRows : (ℕ → List BlockView) → Type 0
 AreBlockRows rows = (source : ℕ) → All (IsBlockOf source) (rows source)
@@ -34,9 +21,14 @@ AreBlockRows rows = (source : ℕ) → All (IsBlockOf source) (rows source)
 abbrev pub sum_of : (ℕ → ℕ) → List ℕ → ℕ
 sum_of f xs = Rattle.std.specs.List.sum_by f xs
 
--- the blocks of after and dropped are those of before and written, each as often
-abbrev pub Exchanges : List BlockView → List BlockView → List BlockView → List BlockView → Type 0
-Exchanges before written after dropped = (p : BlockView → Bool) → count_by p after + count_by p dropped ≡ count_by p before + count_by p written
+-- The blocks before and after are kept ones, beside the dropped ones before and the fresh ones after; the fresh ones have
+-- the taken numbers. Lists without their order: each test passes as many blocks of both sides.
+pub record Exchanges (before after : List BlockView) (taken : List ℕ) (dropped : List BlockView) : Type 0 where
+  pub kept : List BlockView
+  pub fresh : List BlockView
+  pub taken_are : map (λ b. b.number) fresh ≡ taken
+  pub before_are : (p : BlockView → Bool) → count_by p kept + count_by p dropped ≡ count_by p before
+  pub after_are : (p : BlockView → Bool) → count_by p kept + count_by p fresh ≡ count_by p after
 
 abbrev pub sources_in : Shard → List ℕ
 sources_in shard = map (λ s. s.0) shard.sources.items
@@ -58,8 +50,8 @@ pub record IsShardDone (rows : ℕ → List BlockView) (shard : Shard) (done : S
   pub layout : All (λ r. map shape_of r.1 ≡ row_end (rows_by rows shard r.0)) (row_values done.rows.items)
   pub blocks : All (λ r. All (IsBlockOf r.0) r.1) (row_values done.rows.items)
   -- kept blocks are the version's, and the others are freshly written ones, with the taken numbers
-  pub exchanged : (written : List BlockView) × (map (λ b. b.number) written ≡ done.left.taken.items)
-      × Exchanges (flat_map rows (sources_in shard)) written (flat_map (λ r. r.1) (row_values done.rows.items)) (blocks_of done.left.dropped.items)
+  pub exchanged : Exchanges (flat_map rows (sources_in shard)) (flat_map (λ r. r.1) (row_values done.rows.items))
+      done.left.taken.items (blocks_of done.left.dropped.items)
   pub taken_are : length done.left.taken.items ≡ sum_of (λ source. taken_in (rows_by rows shard source)) (sources_in shard)
   pub dropped_are : length done.left.dropped.items ≡ sum_of (λ source. dropped_in (rows_by rows shard source)) (sources_in shard)
   -- each number handed in is taken or handed back

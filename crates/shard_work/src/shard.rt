@@ -6,7 +6,8 @@ ghost use Rattle.block_layout.specs.Batches.{Resolved, rows_step, rows_all, outc
 ghost use Rattle.edge_block.specs.Slots.{BlockView};
 ghost use Rattle.shard_work.specs.RowBlocks.{block_of, blocks_of, kept_of, opens, had_in, own_in, numbers_of, HaveSame, IsOf};
 ghost use Rattle.shard_work.specs.Closing.{after_here, written_here, dropped_here, unused_here, after_of, written_of, dropped_of, unused_of, row_values, closed_rows, written_all, dropped_all, unused_all};
-ghost use Rattle.shard_work.specs.Done.{row_in, AreBlockRows, IsShardDone, layout_by};
+ghost use Rattle.shard_work.specs.Done.{AreBlockRows, IsShardDone, layout_by};
+ghost use Rattle.row_pages.specs.Rows.{row_of};
 ghost use Rattle.shard_work.specs.Shards.{AreOpen, AreOwn, IsPlace, AreSteps, key_at, resolved_at, resolved_in, sources_of, had_all, own_all};
 ghost use Rattle.graph_model.specs.Changes.{IsChange};
 
@@ -14,6 +15,7 @@ use crate::row_blocks::RowBlock;
 use crate::rows::apply_step;
 use edge_block::Block;
 use graph_model::{EdgeChange, KindId, Outcome, VertexId};
+use graph_version::Version;
 use std::alloc::{AllocError, Global};
 use std::sync::Arc;
 
@@ -192,34 +194,31 @@ pub fn close_row(
 /// The rows of sources as the version has them.
 pub fn open_rows(
     alloc: Global,
-    version: &[Vec<Arc<Block>>],
+    version: &Version,
     sources: &[VertexId],
 ) -> Result<Vec<OpenRow>, AllocError>
-    requires { AreBlockRows (row_in version.now) }
+    requires { AreBlockRows (row_of version.now.rows) }
     ensures sources { IfOk result (λ w. sources_of w.items ≡ map (λ s. s.0) sources.now) }
-    ensures blocks { IfOk result (λ w. AreOpen (opened (layout_by (row_in version.now))) w.items) }
-    ensures had { IfOk result (λ w. had_all w.items ≡ flat_map (λ s. row_in version.now s.0) sources.now) }
+    ensures blocks { IfOk result (λ w. AreOpen (opened (layout_by (row_of version.now.rows))) w.items) }
+    ensures had { IfOk result (λ w. had_all w.items ≡ flat_map (λ s. row_of version.now.rows s.0) sources.now) }
     ensures none_own { IfOk result (λ w. own_all w.items ≡ []) }
     ensures own { IfOk result (λ w. AreOwn w.items) }
 {
     let mut work = Vec::with_capacity(alloc, sources.len())?;
     for source in sources {
-        let row = open_row(alloc, *source, row_of(version, *source))?;
+        let row = open_row(alloc, *source, blocks_at(version, *source))?;
         work.push(row)?;
     }
     Ok(work)
 }
 
 /// The blocks of a source's row.
-fn row_of(version: &[Vec<Arc<Block>>], source: VertexId) -> &[Arc<Block>]
-    requires { AreBlockRows (row_in version.now) }
-    ensures row { blocks_of result.now ≡ row_in version.now source.0 }
+fn blocks_at(version: &Version, source: VertexId) -> &[Arc<Block>]
+    requires { AreBlockRows (row_of version.now.rows) }
+    ensures row { blocks_of result.now ≡ row_of version.now.rows source.0 }
     ensures own { All (λ b. (block_of b).source ≡ source.0) result.now }
 {
-    match version.get(source.0 as usize) {
-        Some(row) => row.as_slice(),
-        None => &[],
-    }
+    version.row_blocks(source)
 }
 
 /// The rows of the next version, each with its source.
@@ -261,22 +260,19 @@ pub struct ShardDone {
 }
 
 /// Does a shard's operations on a version's rows.
-pub fn work_on(
-    alloc: Global,
-    version: &[Vec<Arc<Block>>],
-    shard: Shard,
-) -> Result<ShardDone, AllocError>
-    requires rows { AreBlockRows (row_in version.now) }
+pub fn work_on(alloc: Global, version: &Version, shard: Shard) -> Result<ShardDone, AllocError>
     requires fresh { length shard.steps.items ≤ vec_len shard.fresh }
     requires steps { AreSteps (length shard.sources.items) shard.steps.items }
     requires distinct { AllPairs (λ a b. a ≢ b) (map (λ s. s.0) shard.sources.items) }
-    ensures { IfOk result (IsShardDone (row_in version.now) shard) }
+    ensures { IfOk result (IsShardDone (row_of version.now.rows) shard) }
 {
     let Shard {
         sources,
         steps,
         mut fresh,
     } = shard;
+    // A version's contract says with its number that its rows are rows of blocks.
+    let _number = version.number();
     let mut work = open_rows(alloc, version, sources.as_slice())?;
     let outcomes = do_steps(alloc, &mut work, &mut fresh, steps.as_slice())?;
     let mut left = Leavings {

@@ -5,6 +5,7 @@ ghost use Rattle.graph_model.specs.Changes.{IsChange};
 use crate::{Place, Shard, ShardDone, Step, work_on};
 use edge_block::Block;
 use graph_model::{EdgeChange, KindId, Outcome, VertexId};
+use graph_version::Version;
 use std::alloc::{AllocError, Global};
 use std::io::Print;
 use std::sync::Arc;
@@ -66,7 +67,7 @@ fn shard_of(alloc: Global, table: &[(u8, u32, i8)]) -> Result<Shard, AllocError>
 
 /// What the work on a table leaves of an empty graph.
 fn work(alloc: Global, table: &[(u8, u32, i8)]) -> Result<ShardDone, AllocError> {
-    work_on(alloc, &[], shard_of(alloc, table)?)
+    work_on(alloc, &Version::empty(alloc), shard_of(alloc, table)?)
 }
 
 /// A table that inserts the targets below a number.

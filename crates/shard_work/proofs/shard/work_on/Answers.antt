@@ -5,7 +5,8 @@ use Rattle.block_layout.specs.Batches.{opened, rows_all, outcomes_all}
 use Rattle.shard_work.specs.RowBlocks.{blocks_of, numbers_of}
 use Rattle.shard_work.specs.Shards.{AreOpen, resolved_in, sources_of}
 use Rattle.shard_work.specs.Closing.{written_all, dropped_all}
-use Rattle.shard_work.specs.Done.{row_in, layout_by}
+use Rattle.row_pages.specs.Rows.{row_of}
+use Rattle.shard_work.specs.Done.{layout_by}
 use Rattle.shard_work.specs.declared.shard.OpenRow.{OpenRow}
 use Rattle.shard_work.specs.declared.shard.Step.{Step}
 use Rattle.graph_model.specs.declared.ids.VertexId.{VertexId}
@@ -14,12 +15,12 @@ use Rattle.shard_work.proofs.shard.work_on.Goals as goal
 
 pub returns : goal.returns
 returns c =
-    let v : ℕ → List BlockView = row_in c.args.version.now in
+    let v : ℕ → List BlockView = row_of c.args.version.now.rows in
     let w0 : List OpenRow = c.in_ok-work.work.items in
     let w1 : List OpenRow = c.do_steps.new.work.items in
     let start : ℕ → List OpenBlock = opened (layout_by v) in
     finish v c.args.shard (record { outcomes = c.in_ok-outcomes.outcomes; rows = c.in_ok-rows.rows; left = c.close_rows.new.left }) w0 w1 (numbers_of c.do_steps.new.fresh.items)
-    c.requires.rows
+    c.number-number.ensures.version.rows.blocks
     (c.in_ok-work.ensures.sources ∙ ap (map (λ (s : VertexId). s.0)) c.as_slice.ensures.value)
     c.in_ok-work.ensures.blocks
     (c.in_ok-work.ensures.had ∙ ap (flat_map (λ (s : VertexId). v s.0)) c.as_slice.ensures.value ∙ pieces_named v c.args.shard.sources.items)

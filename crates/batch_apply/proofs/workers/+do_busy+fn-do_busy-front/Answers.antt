@@ -1,16 +1,17 @@
 use Rattle.std.proofs.Common.{◌≡◌, ◌++◌, List, sym, ap, ◌∙◌}
 use Rattle.std.proofs.lemmas.Result.{IfOk-at_ok}
-use Rattle.shard_work.specs.Done.{IsShardDone, row_in}
+use Rattle.row_pages.specs.Rows.{row_of}
+use Rattle.shard_work.specs.Done.{IsShardDone}
 use Rattle.batch_apply.specs.Jobs.{AreDone}
 use Rattle.batch_apply.specs.declared.workers.Job.{Job}
 use Rattle.shard_work.specs.declared.shard.ShardDone.{ShardDone}
 use Rattle.batch_apply.proofs.Halves.{zip_halves}
-use Rattle.batch_apply.proofs.workers.+do_all+fn-do_all-back+fn-do_all-front.Goals as goal
+use Rattle.batch_apply.proofs.workers.+do_busy+fn-do_busy-front.Goals as goal
 
 pub returns : goal.returns
 returns g t c =
     let cut = c.in_ok-high.ensures in
-    let rows = row_in c.args.version.now in
+    let rows = row_of c.args.version.now.rows in
     zip_halves (λ (j : Job) (d : ShardDone). IsShardDone rows j.shard d) _ _ _ _ _ _ _ cut.items cut.tail c.in_ok-append.ensures.items
-    (IfOk-at_ok (λ v. AreDone rows c.split_off.new.self.items v.items) c.in_ok-all.was c.join-a.ensures.first)
-    (IfOk-at_ok (λ v. AreDone rows c.in_ok-high.high.items v.items) c.in_ok-rest.was c.join-a.ensures.second)
+    (IfOk-at_ok (λ v. AreDone rows c.split_off.new.self.items v.items) c.in_ok-all.was c.join-b.ensures.second)
+    (IfOk-at_ok (λ v. AreDone rows c.in_ok-high.high.items v.items) c.in_ok-rest.was c.join-b.ensures.first)

@@ -1,0 +1,71 @@
+-- What loops have done, with one more.
+use Rattle.std.proofs.Common.{◌≡◌, ℕ, zero, suc, ◌+◌, ◌≤◌, ◌==◌, Bool, cond, List, [], ◌∷◌, ◌++◌, length, map, flat_map, count_by, set, take, drop, refl, sym, ap, ◌∙◌, subst}
+use Rattle.std.specs.declared.sync.Arc.{Arc}
+use Rattle.std.specs.declared.alloc.Global.{Global}
+use Rattle.std.specs.declared.vec.Vec.{Vec}
+use Rattle.std.proofs.lemmas.List.{map-append, set_past}
+use Rattle.std.proofs.lemmas.Grind.{flat_map-append}
+use Rattle.graph_model.specs.declared.ids.VertexId.{VertexId}
+use Rattle.graph_model.specs.declared.batches.Outcome.{Outcome}
+use Rattle.edge_block.specs.Slots.{BlockView}
+use Rattle.edge_block.specs.declared.blocks.Block.{Block}
+use Rattle.row_pages.specs.Rows.{row_of}
+use Rattle.shard_work.specs.RowBlocks.{block_of, blocks_of, numbers_of}
+use Rattle.shard_work.specs.Closing.{row_values}
+use Rattle.shard_work.specs.declared.shard.ShardDone.{ShardDone}
+use Rattle.graph_version.specs.Drafts.{DraftView, ReplacesRow}
+use Rattle.batch_apply.specs.Plans.{written}
+use Rattle.batch_apply.specs.Applied.{ReplacesRows, written_from, row_among}
+use Rattle.batch_apply.proofs.Kept.{count_append}
+use Rattle.batch_apply.proofs.Placed.{among_more}
+
+pub written_more : {A : Type 0} (ps : List (ℕ × A)) (p : ℕ × A) (xs : List A) → written (ps ++ p ∷ []) xs ≡ set (written ps xs) p.0 p.1
+written_more [] p xs = refl
+written_more (x ∷ ps) p xs = written_more ps p (set xs x.0 x.1)
+
+pub written_past : {A : Type 0} (ps : List (ℕ × A)) (p : ℕ × A) (xs : List A) → length (written ps xs) ≤ p.0 → written (ps ++ p ∷ []) xs ≡ written ps xs
+written_past ps p xs past = written_more ps p xs ∙ set_past (written ps xs) p.0 p.1 past
+
+pub from_more : (ds : List ShardDone) (d : ShardDone) (xs : List Outcome) → written_from (ds ++ d ∷ []) xs ≡ written d.outcomes.items (written_from ds xs)
+from_more [] d xs = refl
+from_more (x ∷ ds) d xs = from_more ds d (written x.outcomes.items xs)
+
+none_after : {A : Type 0} (xs : List A) → xs ++ [] ≡ xs
+none_after [] = refl
+none_after (x ∷ xs) = ap (λ l. x ∷ l) (none_after xs)
+
+pub flat_more : {X A : Type 0} (f : X → List A) (xs : List X) (x : X) → flat_map f (xs ++ x ∷ []) ≡ flat_map f xs ++ f x
+flat_more f xs x = flat_map-append f xs (x ∷ []) ∙ ap (λ l. flat_map f xs ++ l) (none_after (f x))
+
+cut : {A : Type 0} (m : ℕ) (xs : List A) → take m xs ++ drop m xs ≡ xs
+cut zero xs = refl
+cut (suc m) [] = refl
+cut (suc m) (x ∷ xs) = ap (λ ys. x ∷ ys) (cut m xs)
+
+-- the numbers of a list that is cut in two
+pub cut_numbers : (m : ℕ) (all low high : List (Arc Block Global)) → low ≡ take m all → high ≡ drop m all
+    → (q : ℕ → Bool) → count_by q (numbers_of low) + count_by q (numbers_of high) ≡ count_by q (numbers_of all)
+cut_numbers m all low high a b q =
+    (λ i. count_by q (numbers_of (a i)) + count_by q (numbers_of (b i)))
+    ∙ sym (count_append q (numbers_of (take m all)) (numbers_of (drop m all)))
+    ∙ sym (ap (count_by q) (map-append (λ (b : Arc Block Global). (block_of b).number) (take m all) (drop m all)))
+    ∙ ap (λ bs. count_by q (numbers_of bs)) (cut m all)
+
+pub replaced_none : (draft : DraftView) → ReplacesRows [] draft draft
+replaced_none draft = record { rows_are = λ s. refl; rest = refl }
+
+values_more : (rows : List (VertexId × Vec (Arc Block Global) Global)) (source : VertexId) (blocks : Vec (Arc Block Global) Global)
+    → row_values (rows ++ (source, blocks) ∷ []) ≡ row_values rows ++ (source.0, blocks_of blocks.items) ∷ []
+values_more rows source blocks = map-append (λ (r : VertexId × Vec (Arc Block Global) Global). (r.0.0, blocks_of r.1.items)) rows ((source, blocks) ∷ [])
+
+pub replaced_more : (rows : List (VertexId × Vec (Arc Block Global) Global)) (source : VertexId) (blocks : Vec (Arc Block Global) Global) (first draft next : DraftView)
+    → ReplacesRows (row_values rows) first draft → ReplacesRow source.0 (blocks_of blocks.items) draft next
+    → ReplacesRows (row_values (rows ++ (source, blocks) ∷ [])) first next
+replaced_more rows source blocks first draft next before one = record {
+  rows_are = λ s.
+      one.rows s
+      ∙ ap (λ row. cond (s == source.0) (blocks_of blocks.items) row) (before.rows_are s)
+      ∙ sym (among_more (row_values rows) (source.0, blocks_of blocks.items) s (row_of first.version.rows s))
+      ∙ ap (λ rs. row_among rs s (row_of first.version.rows s)) (sym (values_more rows source blocks));
+  rest = one.rest ∙ ap (λ (d : DraftView). let r : DraftView = record d { version = record d.version { rows = next.version.rows } } in r) before.rest;
+}

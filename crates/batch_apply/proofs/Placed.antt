@@ -1,0 +1,61 @@
+-- Rows that took the places of others.
+use Rattle.std.proofs.Common.{◌≡◌, ℕ, ◌+◌, ◌≤◌, ◌==◌, Bool, true, false, cond, List, [], ◌∷◌, ◌++◌, map, flat_map, count_by, refl, sym, ap, ap₂, ◌∙◌, arith, subst, All}
+use Rattle.std.proofs.lemmas.Bool.{eqb-true, eqb-false}
+use Rattle.std.proofs.lemmas.List.Elements.{All-head, All-tail}
+use Rattle.edge_block.specs.Slots.{BlockView}
+use Rattle.batch_plan.proofs.Growth.{same_number, other_number}
+use Rattle.batch_apply.specs.Applied.{row_among}
+use Rattle.batch_apply.proofs.Totals.{count_more}
+
+abbrev pub times : ℕ → List ℕ → ℕ
+times m xs = count_by (λ x. x == m) xs
+
+abbrev pub sources_of : List (ℕ × List BlockView) → List ℕ
+sources_of rows = map (λ r. r.0) rows
+
+-- one more row
+pub among_more : (rows : List (ℕ × List BlockView)) (r : ℕ × List BlockView) (source : ℕ) (row : List BlockView)
+    → row_among (rows ++ r ∷ []) source row ≡ cond (source == r.0) r.1 (row_among rows source row)
+among_more [] r source row = refl
+among_more (x ∷ rows) r source row = among_more rows r source (cond (source == x.0) x.1 row)
+
+-- a source without a row in the list comes with none of the list's rows
+no_times : (source : ℕ) (r : ℕ × List BlockView) (rows : List (ℕ × List BlockView)) → (source == r.0) ≡ false → times source (sources_of rows) ≡ 0 → times source (sources_of (r ∷ rows)) ≡ 0
+no_times source r rows other none =
+    let c = count_more (λ x. x == source) r.0 (sources_of rows) in
+    let no : (let k : ℕ = cond (r.0 == source) 1 0 in k) ≡ 0 = ap (λ b. cond b 1 0) (other_number r.0 source (λ e. eqb-false source r.0 other (sym e))) in
+    omega arith
+
+-- what is true of each row in the list, and of the source's row before where the list has none, is true of the source's row
+pub among_is : (Is : ℕ → List BlockView → Type 0) (source : ℕ) (rows : List (ℕ × List BlockView)) (row : List BlockView)
+    → All (λ r. Is r.0 r.1) rows → (times source (sources_of rows) ≡ 0 → Is source row) → Is source (row_among rows source row)
+among_is Is source [] row all base = base refl
+among_is Is source (r ∷ rows) row all base =
+    among_is Is source rows (cond (source == r.0) r.1 row) (All-tail (λ (r : ℕ × List BlockView). Is r.0 r.1) r rows all)
+    (λ none. elim (source == r.0) as (λ b. source == r.0 ≡ b → Is source (cond b r.1 row)) [
+      | true ↦ λ t. subst (λ s. Is s r.1) (sym (eqb-true source r.0 t)) (All-head (λ (r : ℕ × List BlockView). Is r.0 r.1) r rows all)
+      | false ↦ λ t. base (no_times source r rows t none)
+    ] refl)
+
+pub among_none : (rows : List (ℕ × List BlockView)) (source : ℕ) (row : List BlockView) → times source (sources_of rows) ≡ 0 → row_among rows source row ≡ row
+among_none [] source row none = refl
+among_none (r ∷ rows) source row none =
+    let c = count_more (λ x. x == source) r.0 (sources_of rows) in
+    elim (source == r.0) as (λ b. source == r.0 ≡ b → row_among rows source (cond b r.1 row) ≡ row) [
+      | true ↦ λ t.
+          let same : (let k : ℕ = cond (r.0 == source) 1 0 in k) ≡ 1 = ap (λ n. cond (r.0 == n) 1 0) (eqb-true source r.0 t) ∙ ap (λ b. cond b 1 0) (same_number r.0) in
+          absurd (omega (arith, c, none, same))
+      | false ↦ λ t. among_none rows source row (omega (arith, c, none))
+    ] refl
+
+-- the rows of different sources are those of the list
+pub among_all : (rows : List (ℕ × List BlockView)) (before : ℕ → List BlockView) → ((m : ℕ) → times m (sources_of rows) ≤ 1)
+    → flat_map (λ s. row_among rows s (before s)) (sources_of rows) ≡ flat_map (λ r. r.1) rows
+among_all [] before once = refl
+among_all (r ∷ rows) before once =
+    let c = count_more (λ x. x == r.0) r.0 (sources_of rows) in
+    let here : (let k : ℕ = cond (r.0 == r.0) 1 0 in k) ≡ 1 = ap (λ b. cond b 1 0) (same_number r.0) in
+    let none : times r.0 (sources_of rows) ≡ 0 = omega (arith, c, here, once r.0) in
+    ap₂ (λ a b. a ++ b)
+    (ap (λ b. row_among rows r.0 (cond b r.1 (before r.0))) (same_number r.0) ∙ among_none rows r.0 r.1 none)
+    (among_all rows (λ s. cond (s == r.0) r.1 (before s)) (λ m. let more = count_more (λ x. x == m) r.0 (sources_of rows) in omega (arith, more, once m)))

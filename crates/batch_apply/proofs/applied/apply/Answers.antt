@@ -1,0 +1,67 @@
+use Rattle.std.proofs.Common.{◌≡◌, ◌≤◌, ℕ, List, length, replicate, arith, sym, ap, ◌∙◌, subst}
+use Rattle.std.specs.List.{sum_by}
+use Rattle.graph_model.specs.declared.batches.NamedOp.{NamedOp}
+use Rattle.graph_model.specs.declared.batches.Outcome.TheVariants.{Absent}
+use Rattle.block_layout.specs.Batches.{Resolved, resolved}
+use Rattle.batch_pages.specs.Batches.{batch_value}
+use Rattle.shard_work.specs.RowBlocks.{numbers_of}
+use Rattle.shard_work.specs.declared.shard.Shard.{Shard}
+use Rattle.graph_version.specs.Versions.{VersionView, content}
+use Rattle.graph_version.specs.Drafts.{DraftView}
+use Rattle.batch_apply.specs.Applied.{ReplacesRows, written_from}
+use Rattle.batch_apply.proofs.Dealt.{few_steps, length-resolved, dealt_ready}
+use Rattle.batch_apply.proofs.Applying.{rows_left, version_made, applied_made, draft_is, draft_among, draft_whole}
+use Rattle.batch_apply.proofs.applied.apply.Goals as goal
+
+pub deal-requires : goal.deal-requires
+deal-requires g c =
+    let v : VersionView = c.args.version.now in
+    let ops : List NamedOp = batch_value c.args.batch in
+    let rs : List Resolved = resolved ops (content v).names (content v).kinds in
+    let n : ℕ = c.requires.plan.0 in
+    let few = few_steps n rs 0 n c.args.plan.shards.items c.requires.plan.2.shards in
+    let long = length-resolved ops (content v).names (content v).kinds in
+    omega (arith, few, long, c.requires.blocks)
+
+pub do_all-requires-after_bounds : goal.do_all-requires-after_bounds
+do_all-requires-after_bounds g c κs within =
+    let v : VersionView = c.args.version.now in
+    let n : ℕ = c.requires.plan.0 in
+    dealt_ready n (resolved (batch_value c.args.batch) (content v).names (content v).kinds) 0 n c.args.plan.shards.items c.in_ok-jobs.jobs.items c.requires.plan.2.shards c.in_ok-jobs.ensures.jobs
+
+pub finish-requires : goal.finish-requires
+finish-requires g c =
+    let v : VersionView = c.args.version.now in
+    let ops : List NamedOp = batch_value c.args.batch in
+    let values = rows_left c.in_ok-dones.dones.items in
+    let d0 : DraftView = c.in_ok-over.field-0 in
+    let d1 : DraftView = c.set_names-draft.result in
+    let d2 : DraftView = c.in_ok-replace_rows.field-0 in
+    let e2 : ReplacesRows values d1 d2 = subst (λ rs. ReplacesRows rs d1 d2) c.in_ok-all.ensures.rows c.in_ok-replace_rows.ensures in
+    let among = draft_among v ops c.args.plan.names c.args.plan.kinds values d0 d1 d2 c.in_ok-draft.draft c.in_ok-over.ensures c.set_names-draft.ensures e2 c.in_ok-draft.ensures in
+    draft_whole v ops c.args.plan.names c.args.plan.kinds values d0 d1 d2 c.in_ok-draft.draft c.in_ok-over.ensures c.set_names-draft.ensures e2 c.in_ok-draft.ensures
+    c.requires.plan.2.names c.requires.plan.2.kinds
+    (version_made v ops c.requires.plan.0 c.args.plan.shards.items c.in_ok-jobs.jobs.items c.in_ok-dones.dones.items (numbers_of c.args.blocks.items) (numbers_of c.deal.new.blocks.items)
+    c.requires.plan.1 c.number-number.ensures.version c.requires.plan.2.shards c.in_ok-jobs.ensures.jobs c.in_ok-dones.ensures c.in_ok-jobs.ensures.numbers
+    c.requires.distinct c.requires.unlisted c.requires.limits c.requires.few d2.version.rows among)
+
+pub returns : goal.returns
+returns g c =
+    let v : VersionView = c.args.version.now in
+    let ops : List NamedOp = batch_value c.args.batch in
+    let values = rows_left c.in_ok-dones.dones.items in
+    let d0 : DraftView = c.in_ok-over.field-0 in
+    let d1 : DraftView = c.set_names-draft.result in
+    let d2 : DraftView = c.in_ok-replace_rows.field-0 in
+    let e2 : ReplacesRows values d1 d2 = subst (λ rs. ReplacesRows rs d1 d2) c.in_ok-all.ensures.rows c.in_ok-replace_rows.ensures in
+    let among = draft_among v ops c.args.plan.names c.args.plan.kinds values d0 d1 d2 c.in_ok-draft.draft c.in_ok-over.ensures c.set_names-draft.ensures e2 c.in_ok-draft.ensures in
+    let made = draft_is v ops c.args.plan.names c.args.plan.kinds values d0 d1 d2 c.in_ok-draft.draft c.in_ok-over.ensures c.set_names-draft.ensures e2 c.in_ok-draft.ensures in
+    applied_made v ops c.requires.plan.0 c.args.plan.shards.items c.in_ok-jobs.jobs.items c.in_ok-dones.dones.items (numbers_of c.args.blocks.items) (numbers_of c.deal.new.blocks.items)
+    c.requires.plan.1 c.number-number.ensures.version c.requires.plan.2.shards c.in_ok-jobs.ensures.jobs c.in_ok-dones.ensures c.in_ok-jobs.ensures.numbers
+    c.requires.distinct c.requires.unlisted c.requires.limits c.requires.few d2.version.rows among
+    _
+    (c.in_ok-finish.ensures ∙ ap (λ (d : DraftView). d.version) made)
+    (c.in_ok-all.ensures.outcomes ∙ ap (λ n. written_from c.in_ok-dones.dones.items (replicate n Absent)) (c.len-operations.ensures.count ∙ ap length c.deref.ensures))
+    c.in_ok-all.ensures.taken
+    c.in_ok-all.ensures.dropped
+    c.in_ok-all.ensures.unused

@@ -1,0 +1,27 @@
+use Rattle.std.proofs.Common.{◌++◌, ℕ, List, replicate, sym, ap, ◌∙◌}
+use Rattle.std.proofs.lemmas.List.{append_assoc}
+use Rattle.graph_model.specs.declared.batches.Outcome.TheVariants.{Absent}
+use Rattle.edge_block.specs.Slots.{BlockView}
+use Rattle.shard_work.specs.RowBlocks.{blocks_of, numbers_of}
+use Rattle.shard_work.specs.Closing.{row_values}
+use Rattle.shard_work.specs.declared.shard.ShardDone.{ShardDone}
+use Rattle.batch_apply.specs.Plans.{written}
+use Rattle.batch_apply.proofs.Loops.{flat_more, from_more}
+use Rattle.batch_apply.proofs.applied.gather.Goals as goal
+
+pub loop-done-preserved : goal.loop-done-preserved
+loop-done-preserved c =
+    let before : List ShardDone = c.loop-done.yielded in
+    let d : ShardDone = c.in-Some.done in
+    let was = c.loop-done.invariant in
+    let now = c.in_ok-add.ensures in
+    record {
+      outcomes = now.outcomes ∙ ap (written d.outcomes.items) was.outcomes ∙ sym (from_more before d (replicate c.args.operations Absent));
+      rows = now.rows ∙ ap (λ l. l ++ row_values d.rows.items) was.rows ∙ sym (flat_more (λ (d : ShardDone). row_values d.rows.items) before d);
+      taken = now.taken ∙ ap (λ l. l ++ d.left.taken.items) was.taken ∙ sym (flat_more (λ (d : ShardDone). d.left.taken.items) before d);
+      dropped = now.dropped ∙ ap (λ l. l ++ blocks_of d.left.dropped.items) was.dropped ∙ sym (flat_more (λ (d : ShardDone). blocks_of d.left.dropped.items) before d);
+      unused =
+          now.unused ∙ ap (λ l. l ++ numbers_of d.left.unused.items) was.unused
+          ∙ append_assoc (numbers_of c.args.unused.items) _ (numbers_of d.left.unused.items)
+          ∙ ap (λ l. numbers_of c.args.unused.items ++ l) (sym (flat_more (λ (d : ShardDone). numbers_of d.left.unused.items) before d));
+    }

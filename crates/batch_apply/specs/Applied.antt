@@ -1,0 +1,47 @@
+-- What applying a batch to a version leaves.
+use Rattle.std.specs.Prelude.{◌≡◌, ℕ, ◌+◌, ◌==◌, List, [], ◌∷◌, ◌++◌, length, map, count_by, Bool, if◌then◌else◌}
+use Rattle.graph_model.specs.Step.{after_all, outcomes}
+use Rattle.graph_model.specs.declared.batches.NamedOp.{NamedOp}
+use Rattle.edge_block.specs.Slots.{BlockView}
+use Rattle.block_layout.specs.Batches.{layout_after, taken_by, dropped_by}
+use Rattle.row_pages.specs.Rows.{row_of, blocks_of}
+use Rattle.shard_work.specs.RowBlocks as shared
+use Rattle.shard_work.specs.Done.{Exchanges}
+use Rattle.graph_version.specs.Versions.{VersionView, IsVersion, content, layout_of}
+use Rattle.graph_version.specs.Drafts.{DraftView}
+use Rattle.graph_model.specs.declared.batches.Outcome.{Outcome}
+use Rattle.shard_work.specs.declared.shard.ShardDone.{ShardDone}
+use Rattle.batch_apply.specs.Plans.{written}
+use Rattle.batch_apply.specs.declared.applied.Applied.{Applied}
+
+-- the next version of a version, after this batch, made with fresh blocks of these numbers
+pub record IsApplied (v : VersionView) (ops : List NamedOp) (numbers : List ℕ) (a : Applied) : Type 0 where
+  -- a version of the same opening with the batch more
+  pub version : IsVersion a.version
+  pub opening : a.version.opening ≡ v.opening
+  pub batches : a.version.batches ≡ v.batches ++ ops ∷ []
+  -- the operation rule
+  pub outcomes_are : a.outcomes.items ≡ outcomes ops (content v)
+  -- all blocks that aren't dropped are kept as they are, and the others are fresh ones of the numbers taken
+  pub exchanged : Exchanges (blocks_of v.rows) (blocks_of a.version.rows) a.taken.items (shared.blocks_of a.dropped.items)
+  -- each number handed in is taken or handed back
+  pub handed : (q : ℕ → Bool) → count_by q a.taken.items + count_by q (shared.numbers_of a.unused.items) ≡ count_by q numbers
+  -- the layout rule, and as many blocks taken and dropped as it says
+  pub layout : (source : ℕ) → layout_of a.version.rows source ≡ layout_after ops (content v) (layout_of v.rows) source
+  pub taken_are : length a.taken.items ≡ taken_by ops (content v) (layout_of v.rows) (length (after_all ops (content v)).names)
+  pub dropped_are : length a.dropped.items ≡ dropped_by ops (content v) (layout_of v.rows) (length (after_all ops (content v)).names)
+
+-- a source's row where these rows took the places of those before, one after another
+abbrev pub row_among : List (ℕ × List BlockView) → ℕ → List BlockView → List BlockView
+row_among [] source row = row
+row_among (r ∷ rows) source row = row_among rows source (if source == r.0 then r.1 else row)
+
+-- the draft after, where these rows took their places and all else stayed
+pub record ReplacesRows (rows : List (ℕ × List BlockView)) (before after : DraftView) : Type 0 where
+  pub rows_are : (source : ℕ) → row_of after.version.rows source ≡ row_among rows source (row_of before.version.rows source)
+  pub rest : after ≡ record before { version = record before.version { rows = after.version.rows } }
+
+-- the outcomes of shards, one shard after another, written at their places
+abbrev pub written_from : List ShardDone → List Outcome → List Outcome
+written_from [] outcomes = outcomes
+written_from (d ∷ dones) outcomes = written_from dones (written d.outcomes.items outcomes)

@@ -1,0 +1,203 @@
+//! A batch applied to a version.
+
+ghost use Rattle.std.specs.Prelude.{◌≡◌, ◌≢◌, ◌+◌, ◌++◌, ◌<◌, ◌≤◌, ℕ, false, Bool, List, length, map, flat_map, replicate, count_by, IfOk, OnOk, All, AllPairs};
+ghost use Rattle.std.specs.List.{sum_by, AllZip};
+ghost use Rattle.graph_model.specs.declared.batches.Outcome.TheVariants.{Absent};
+ghost use Rattle.batch_pages.specs.Batches.{batch_value};
+ghost use Rattle.row_pages.specs.Rows as rows;
+ghost use Rattle.shard_work.specs.RowBlocks.{blocks_of, numbers_of};
+ghost use Rattle.shard_work.specs.Closing.{row_values};
+ghost use Rattle.graph_version.specs.Versions.{content, is_in};
+ghost use Rattle.batch_plan.specs.Planned.{IsPlan, MeetsNeitherLimit};
+ghost use Rattle.batch_apply.specs.Plans.{written};
+ghost use Rattle.batch_apply.specs.Jobs.{steps_of, IsDealt};
+ghost use Rattle.batch_apply.specs.Applied.{IsApplied, ReplacesRows, written_from};
+
+use crate::workers::{Gate, Job, do_all};
+use batch_plan::Plan;
+use edge_block::Block;
+use graph_model::{Batch, Outcome, VertexId};
+use graph_version::{Version, VersionDraft};
+use shard_work::{Leavings, Shard, ShardDone};
+use std::alloc::{AllocError, Global};
+use std::sync::Arc;
+use std::thread::Threads;
+
+/// What a batch leaves of a version.
+#[derive(Drop)]
+pub struct Applied {
+    /// The next version.
+    pub version: Version,
+    /// The outcome of each operation, in the batch's order.
+    pub outcomes: Vec<Outcome>,
+    /// The numbers of the fresh blocks that the next version has.
+    pub taken: Vec<u32>,
+    /// The blocks of the version before that the next one doesn't have.
+    pub dropped: Vec<Arc<Block>>,
+    /// The fresh blocks that the next version doesn't have.
+    pub unused: Vec<Arc<Block>>,
+}
+
+/// The next version of a version, after a batch of which this is the plan, with a fresh block for each operation at
+/// hand. All workers with operations work at once; `gate` is told of each worker once.
+///
+/// The version before stays as it is, after an error too.
+pub fn apply<R: Threads + Sync, G: Gate + Sync>(
+    rt: &R,
+    alloc: Global,
+    gate: &G,
+    version: &Version,
+    plan: Plan,
+    batch: Arc<Batch>,
+    blocks: Vec<Arc<Block>>,
+) -> Result<Applied, AllocError>
+    requires plan { (workers : ℕ) × (0 < workers) × IsPlan workers (batch_value batch) (content version.now) plan }
+    requires limits { MeetsNeitherLimit (batch_value batch) (content version.now) }
+    requires few { length version.now.batches < 65536 }
+    requires blocks { length blocks.items ≡ length (batch_value batch) }
+    requires distinct { AllPairs ◌≢◌ (numbers_of blocks.items) }
+    requires unlisted { All (λ n. is_in n (rows.numbers_of (rows.blocks_of version.now.rows)) ≡ false) (numbers_of blocks.items) }
+    ensures { IfOk result (IsApplied version.now (batch_value batch) (numbers_of blocks.items)) }
+{
+    // A version's contract says with its number that its rows show its content.
+    let _number = version.number();
+    let Plan {
+        names,
+        kinds,
+        shards,
+    } = plan;
+    let workers = shards.len();
+    let operations = batch.len();
+    let mut unused = blocks;
+    let jobs = deal(alloc, shards, &mut unused)?;
+    let dones = do_all(rt, alloc, gate, version, workers, jobs)?;
+    let all = gather(alloc, operations, dones, unused)?;
+    let draft = VersionDraft::over(version)?.set_names(names, kinds);
+    let draft = replace_rows(draft, all.rows)?.push_batch(batch)?;
+    Ok(Applied {
+        version: draft.finish()?,
+        outcomes: all.outcomes,
+        taken: all.left.taken,
+        dropped: all.left.dropped,
+        unused: all.left.unused,
+    })
+}
+
+/// A job for each shard, in order, with as many of the blocks as the shard has operations.
+fn deal(
+    alloc: Global,
+    shards: Vec<Shard>,
+    blocks: &mut Vec<Arc<Block>>,
+) -> Result<Vec<Job>, AllocError>
+    requires { sum_by steps_of shards.items ≤ length blocks.old.items }
+    ensures jobs { IfOk result (λ v. AllZip IsDealt shards.items v.items) }
+    ensures numbers { IfOk result (λ v. (q : ℕ → Bool) → count_by q (flat_map (λ j. numbers_of j.shard.fresh.items) v.items) + count_by q (numbers_of blocks.new.items) ≡ count_by q (numbers_of blocks.old.items)) }
+{
+    let mut jobs = Vec::with_capacity(alloc, shards.len())?;
+    for shard in shards {
+        let fresh = take_last(blocks, shard.steps.len())?;
+        jobs.push(Job {
+            worker: jobs.len(),
+            shard: Shard { fresh, ..shard },
+        })?;
+    }
+    Ok(jobs)
+}
+
+/// Takes so many of the last blocks.
+fn take_last(blocks: &mut Vec<Arc<Block>>, count: usize) -> Result<Vec<Arc<Block>>, AllocError>
+    requires { count ≤ length blocks.old.items }
+    ensures taken { IfOk result (λ v. length v.items ≡ count) }
+    ensures left { OnOk result (length blocks.new.items + count ≡ length blocks.old.items) }
+    ensures numbers { IfOk result (λ v. (q : ℕ → Bool) → count_by q (numbers_of blocks.new.items) + count_by q (numbers_of v.items) ≡ count_by q (numbers_of blocks.old.items)) }
+{
+    let rest = blocks.len() - count;
+    let taken = blocks.split_off(rest)?;
+    Ok(taken)
+}
+
+/// What all shards leave together.
+#[derive(Drop)]
+struct Gathered {
+    /// The outcome of each operation, in the batch's order.
+    outcomes: Vec<Outcome>,
+    /// The rows of the next version, each with its source.
+    rows: Vec<(VertexId, Vec<Arc<Block>>)>,
+    left: Leavings,
+}
+
+/// What shards leave together, of a batch of so many operations.
+fn gather(
+    alloc: Global,
+    operations: usize,
+    dones: Vec<ShardDone>,
+    unused: Vec<Arc<Block>>,
+) -> Result<Gathered, AllocError>
+    ensures outcomes { IfOk result (λ a. a.outcomes.items ≡ written_from dones.items (replicate operations Absent)) }
+    ensures rows { IfOk result (λ a. row_values a.rows.items ≡ flat_map (λ d. row_values d.rows.items) dones.items) }
+    ensures taken { IfOk result (λ a. a.left.taken.items ≡ flat_map (λ d. d.left.taken.items) dones.items) }
+    ensures dropped { IfOk result (λ a. blocks_of a.left.dropped.items ≡ flat_map (λ d. blocks_of d.left.dropped.items) dones.items) }
+    ensures unused { IfOk result (λ a. numbers_of a.left.unused.items ≡ numbers_of unused.items ++ flat_map (λ d. numbers_of d.left.unused.items) dones.items) }
+{
+    let mut all = Gathered {
+        outcomes: vec![in alloc; Outcome::Absent; operations]?,
+        rows: Vec::new(alloc),
+        left: Leavings {
+            taken: Vec::new(alloc),
+            dropped: Vec::new(alloc),
+            unused,
+        },
+    };
+    for done in dones {
+        add(&mut all, done)?;
+    }
+    Ok(all)
+}
+
+/// Adds what a shard leaves.
+fn add(all: &mut Gathered, done: ShardDone) -> Result<(), AllocError>
+    ensures outcomes { OnOk result (all.new.outcomes.items ≡ written done.outcomes.items all.old.outcomes.items) }
+    ensures rows { OnOk result (row_values all.new.rows.items ≡ row_values all.old.rows.items ++ row_values done.rows.items) }
+    ensures taken { OnOk result (all.new.left.taken.items ≡ all.old.left.taken.items ++ done.left.taken.items) }
+    ensures dropped { OnOk result (blocks_of all.new.left.dropped.items ≡ blocks_of all.old.left.dropped.items ++ blocks_of done.left.dropped.items) }
+    ensures unused { OnOk result (numbers_of all.new.left.unused.items ≡ numbers_of all.old.left.unused.items ++ numbers_of done.left.unused.items) }
+{
+    let ShardDone {
+        outcomes,
+        mut rows,
+        mut left,
+    } = done;
+    write_outcomes(&mut all.outcomes, outcomes);
+    all.rows.append(&mut rows)?;
+    all.left.taken.append(&mut left.taken)?;
+    all.left.dropped.append(&mut left.dropped)?;
+    all.left.unused.append(&mut left.unused)?;
+    Ok(())
+}
+
+/// Writes outcomes at their places; one whose place is past the end is let go.
+#[tactic(auto, using(crate::proofs::Loops::written_more, crate::proofs::Loops::written_past))]
+fn write_outcomes(outcomes: &mut Vec<Outcome>, found: Vec<(u32, Outcome)>)
+    ensures { outcomes.new.items ≡ written found.items outcomes.old.items }
+{
+    for (place, outcome) in found {
+        let place = place as usize;
+        if place < outcomes.len() {
+            outcomes[place] = outcome;
+        }
+    }
+}
+
+/// The draft with these rows, each in the place of its source's row.
+fn replace_rows(
+    draft: VersionDraft,
+    rows: Vec<(VertexId, Vec<Arc<Block>>)>,
+) -> Result<VersionDraft, AllocError>
+    ensures { IfOk result (ReplacesRows (row_values rows.items) draft) }
+{
+    let mut draft = draft;
+    for row in rows {
+        draft = draft.replace_row(row.0, row.1)?;
+    }
+    Ok(draft)
+}
