@@ -1,5 +1,6 @@
 -- What a session asks in a run is what its holdings say.
-use Rattle.std.proofs.Common.{◌≡◌, ℕ, zero, suc, ◌≤◌, Bool, true, false, inl, inr, List, [], ◌∷◌, ◌++◌, length, get_or, set, map, replicate, refl, sym, ap, subst, ◌∙◌, arith}
+use Rattle.std.proofs.Common.{◌≡◌, ℕ, zero, suc, ◌≤◌, Bool, true, false, inl, inr, List, [], ◌∷◌, ◌++◌, length, get_or, set, map}
+use Rattle.std.proofs.Common.{replicate, refl, sym, ap, subst, ◌∙◌, arith}
 use Rattle.std.specs.Prelude.{slice_get, if◌then◌else◌, ◌==◌, is_some}
 use Rattle.std.specs.List.{AllZip}
 use Rattle.std.specs.Option.{option_map, option_to_list, unwrap_or, option_and_then}
@@ -17,14 +18,19 @@ use Rattle.epoch_core.specs.declared.states.Inquiry.{Inquiry}
 use Rattle.epoch_core.specs.declared.states.SessionState.{SessionState}
 use Rattle.epoch_core.specs.declared.states.SessionState.TheVariants.{Idle, Pinned, Holding as Holds, Asking}
 use Rattle.epoch_core.specs.declared.events.Event.{Event}
-use Rattle.epoch_core.specs.declared.events.Event.TheVariants.{Take, Fill, Post, Floor, Recycle, Pin, Enter, Settle, Ask, Read, Reply, Release}
+use Rattle.epoch_core.specs.declared.events.Event.TheVariants.{Take, Fill, Post, Floor, Recycle, Pin, Enter, Settle, Ask, Read}
+use Rattle.epoch_core.specs.declared.events.Event.TheVariants.{Reply, Release}
 use Rattle.epoch_core.specs.Blocks.{changed_at, filled, put, recycled, taken}
 use Rattle.epoch_core.specs.declared.states.Opening.{Opening}
-use Rattle.epoch_core.specs.Worlds.{Answer, IsStart, State, World, blocks_at, edges_of, graph_at, graph_with, held_in, last_graph, last_number, replies_of, session_of, start, version_at}
+use Rattle.epoch_core.specs.Worlds.{Answer, IsStart, State, World, blocks_at, edges_of, graph_at, graph_with, held_in, last_graph}
+use Rattle.epoch_core.specs.Worlds.{last_number, replies_of, session_of, start, version_at}
 use Rattle.epoch_core.specs.Posting.{can_post, posted, version_by}
-use Rattle.epoch_core.specs.Machine.{Answers, Question, is_all_read, move, question_in, question_of, read_on, settled_at, to_ask, to_enter, to_pin, to_read, to_release, to_reply, to_settle, with_heap, with_sessions, with_status}
+use Rattle.epoch_core.specs.Machine.{Answers, Question, is_all_read, move, question_in, question_of, read_on, settled_at, to_ask}
+use Rattle.epoch_core.specs.Machine.{to_enter, to_pin, to_read, to_release, to_reply, to_settle, with_heap, with_sessions}
+use Rattle.epoch_core.specs.Machine.{with_status}
 use Rattle.epoch_core.specs.Runs.{Runs, is_done, next_world}
-use Rattle.epoch_core.specs.Holdings.{Agree, Entered, Holding, Observation, Released, Replied, answered_first, holdings, holdings_of, observations, observed_at, questions, questions_in, request_in}
+use Rattle.epoch_core.specs.Holdings.{Agree, Entered, Holding, Observation, Released, Replied, answered_first, holdings}
+use Rattle.epoch_core.specs.Holdings.{holdings_of, observations, observed_at, questions, questions_in, request_in}
 use Rattle.epoch_core.specs.Sound.{IsNamed, IsSessionSound, IsSound}
 use Rattle.epoch_core.proofs.Lists.{option_map_some}
 use Rattle.epoch_core.proofs.Changes.{graph_before}

@@ -1,5 +1,6 @@
 -- Edges and stamps compared, and when edges are each once the edges of a graph.
-use Rattle.std.proofs.Common.{◌≡◌, ◌≢◌, suc, ◌-◌, Bool, true, false, cond, not, ◌&&◌, ◌||◌, List, [], ◌∷◌, length, get_or, Decides, refl, sym, ap, subst, ◌∙◌, arith}
+use Rattle.std.proofs.Common.{◌≡◌, ◌≢◌, suc, ◌-◌, Bool, true, false, cond, not, ◌&&◌, ◌||◌, List, [], ◌∷◌, length, get_or}
+use Rattle.std.proofs.Common.{Decides, refl, sym, ap, subst, ◌∙◌, arith}
 use Rattle.std.specs.Prelude.{All, is_some}
 use Rattle.std.specs.List.{list_any, list_all}
 use Rattle.std.specs.declared.option.Option.{Option}
@@ -8,7 +9,8 @@ use Rattle.std.specs.FinMap.{FinMap, get, same_map, insert, remove, len, get-ins
 use Rattle.std.proofs.lemmas.Bool.Decides.{Decides-and, Decides-by_and, Decides-eqb, Decides-int_eq, Decides-like, Decides-not}
 use Rattle.graph_model.specs.Graph.{Graph, Key, Stamp, key_cmp, key_of, stamp_of, map_of}
 use Rattle.graph_model.specs.declared.ids.Edge.{Edge}
-use Rattle.graph_model.proofs.Keys.{keys_total, exact_keys, has_key, has_key-true, has_key-false, HasKeysOnce, once_none, once_head, once_tail, once_cons, get_listed, len_once}
+use Rattle.graph_model.proofs.Keys.{keys_total, exact_keys, has_key, has_key-true, has_key-false, HasKeysOnce, once_none}
+use Rattle.graph_model.proofs.Keys.{once_head, once_tail, once_cons, get_listed, len_once}
 use Rattle.graph_model.proofs.EdgeLookup.{Decides-has_key}
 use Rattle.epoch_core.proofs.Lists.{neither}
 use Rattle.epoch_core.specs.Worlds.{Shows}

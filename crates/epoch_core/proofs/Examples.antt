@@ -1,5 +1,6 @@
 -- Small runs, computed.
-use Rattle.std.proofs.Common.{◌≡◌, ℕ, true, false, cond, Bool, List, [], ◌∷◌, ◌++◌, length, refl, sym, ap, subst, ◌∙◌, arith, pos, negsuc}
+use Rattle.std.proofs.Common.{◌≡◌, ℕ, true, false, cond, Bool, List, [], ◌∷◌, ◌++◌, length, refl, sym, ap, subst, ◌∙◌, arith, pos}
+use Rattle.std.proofs.Common.{negsuc}
 use Rattle.std.specs.Prelude.{ℤ, if◌then◌else◌, is_some}
 use Rattle.std.specs.Option.{unwrap_or}
 use Rattle.std.specs.Ordering.{eq_by_cmp}
@@ -12,12 +13,14 @@ use Rattle.graph_model.specs.declared.batches.NamedOp.{NamedOp}
 use Rattle.graph_model.specs.declared.changes.EdgeChange.TheVariants.{Insert, Incr}
 use Rattle.graph_model.proofs.Keys.{keys_total, exact_keys, once_none, once_cons, HasKeysOnce}
 use Rattle.epoch_core.specs.declared.events.Event.{Event}
-use Rattle.epoch_core.specs.declared.events.Event.TheVariants.{Take, Fill, Post, Floor, Pin, Enter, Settle, Ask, Read, Reply, Release}
+use Rattle.epoch_core.specs.declared.events.Event.TheVariants.{Take, Fill, Post, Floor, Pin, Enter, Settle, Ask, Read, Reply}
+use Rattle.epoch_core.specs.declared.events.Event.TheVariants.{Release}
 use Rattle.epoch_core.specs.Worlds.{World, empty_opening, left, start_world}
 use Rattle.epoch_core.specs.Posting.{can_post, posted, are_edges_of}
 use Rattle.epoch_core.specs.Runs.{run}
 use Rattle.epoch_core.specs.Holdings.{Agree, Holding, holdings_of, observations}
-use Rattle.epoch_core.specs.Examples.{AreExamples, name_a, name_b, kind_k, put_edge, add_to_edge, edge_of, ask_edge, short_batches, long_batches, of_short, of_long}
+use Rattle.epoch_core.specs.Examples.{AreExamples, name_a, name_b, kind_k, put_edge, add_to_edge, edge_of, ask_edge}
+use Rattle.epoch_core.specs.Examples.{short_batches, long_batches, of_short, of_long}
 use Rattle.epoch_core.proofs.Edges.{Decides-edges}
 
 -- The graph of one edge, and what batches make of it

@@ -1,5 +1,6 @@
 -- Each event keeps what is sound: blocks and versions.
-use Rattle.std.proofs.Common.{◌≡◌, ◌≢◌, ℕ, ◌≤◌, Bool, true, false, inl, inr, List, [], set, take, refl, sym, ap, subst, ◌∙◌, arith}
+use Rattle.std.proofs.Common.{◌≡◌, ◌≢◌, ℕ, ◌≤◌, Bool, true, false, inl, inr, List, [], set, take, refl, sym, ap, subst, ◌∙◌}
+use Rattle.std.proofs.Common.{arith}
 use Rattle.std.specs.Prelude.{slice_get, nat_le, if◌then◌else◌}
 use Rattle.std.specs.declared.option.Option.{Option}
 use Rattle.std.specs.declared.option.Option.TheVariants.{None, Some}
@@ -12,7 +13,8 @@ use Rattle.epoch_core.specs.declared.states.Hold.{Hold}
 use Rattle.epoch_core.specs.declared.states.SessionState.{SessionState}
 use Rattle.epoch_core.specs.declared.states.SessionState.TheVariants.{Idle, Pinned, Holding, Asking}
 use Rattle.epoch_core.specs.Blocks.{filled, is_at, is_fresh, is_listed, is_used, recycled, taken}
-use Rattle.epoch_core.specs.Worlds.{Shows, World, blocks_at, edges_at, edges_of, graph_at, last_blocks, last_graph, last_number, session_of, version_at}
+use Rattle.epoch_core.specs.Worlds.{Shows, World, blocks_at, edges_at, edges_of, graph_at, last_blocks, last_graph, last_number}
+use Rattle.epoch_core.specs.Worlds.{session_of, version_at}
 use Rattle.epoch_core.specs.Machine.{with_heap, with_status}
 use Rattle.epoch_core.specs.Sound.{IsDated, IsDatedAt, IsHeld, IsKept, IsKeptAt, IsNamed, IsSessionSound, IsSound}
 use Rattle.epoch_core.proofs.Lists.{and_then_some, set_same, set_else, same_pieces, listed_take}

@@ -1,5 +1,6 @@
 -- Each event keeps what is sound: the floor rises, and sessions move.
-use Rattle.std.proofs.Common.{◌≡◌, ◌≢◌, ℕ, zero, suc, ◌+◌, ◌<◌, ◌≤◌, Bool, true, false, inl, inr, List, [], ◌∷◌, ◌++◌, length, get_or, set, take, refl, sym, ap, subst, ◌∙◌, arith, add-one, min}
+use Rattle.std.proofs.Common.{◌≡◌, ◌≢◌, ℕ, zero, suc, ◌+◌, ◌<◌, ◌≤◌, Bool, true, false, inl, inr, List, [], ◌∷◌, ◌++◌, length}
+use Rattle.std.proofs.Common.{get_or, set, take, refl, sym, ap, subst, ◌∙◌, arith, add-one, min}
 use Rattle.std.specs.Prelude.{slice_get, if◌then◌else◌}
 use Rattle.std.specs.declared.option.Option.{Option}
 use Rattle.std.specs.declared.option.Option.TheVariants.{None, Some}
@@ -16,7 +17,8 @@ use Rattle.epoch_core.specs.declared.states.SessionState.{SessionState}
 use Rattle.epoch_core.specs.declared.states.SessionState.TheVariants.{Idle, Pinned, Holding, Asking}
 use Rattle.epoch_core.specs.Blocks.{changed_at, is_at, is_listed, is_used}
 use Rattle.epoch_core.specs.Worlds.{World, blocks_at, edges_at, edges_of, last_blocks, last_number, pin_in, session_of}
-use Rattle.epoch_core.specs.Machine.{is_all_read, least_pin, lesser, move, read_on, settled_at, to_ask, to_enter, to_pin, to_read, to_release, to_reply, to_settle, with_sessions}
+use Rattle.epoch_core.specs.Machine.{is_all_read, least_pin, lesser, move, read_on, settled_at, to_ask, to_enter, to_pin, to_read}
+use Rattle.epoch_core.specs.Machine.{to_release, to_reply, to_settle, with_sessions}
 use Rattle.epoch_core.specs.Sound.{IsDatedAt, IsHeld, IsKeptAt, IsNamed, IsSessionSound, IsSound}
 use Rattle.epoch_core.proofs.Lists.{option_map_some, ChangedAt, changed_at-some, within, get_at, take_one_more}
 use Rattle.epoch_core.proofs.Keeping.{Carries, carry}

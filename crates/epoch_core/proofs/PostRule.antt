@@ -1,9 +1,11 @@
 -- The test of a Post decides its rule.
-use Rattle.std.proofs.Common.{◌≡◌, ◌≢◌, ◌⊎◌, ◌↔◌, ℕ, zero, suc, ◌<◌, ◌≤◌, Bool, true, false, not, ◌&&◌, inl, inr, List, [], ◌∷◌, length, get_or, Decides, refl, sym, ap, ◌∙◌, arith, eqb, leb}
+use Rattle.std.proofs.Common.{◌≡◌, ◌≢◌, ◌⊎◌, ◌↔◌, ℕ, zero, suc, ◌<◌, ◌≤◌, Bool, true, false, not, ◌&&◌, inl, inr, List, [], ◌∷◌}
+use Rattle.std.proofs.Common.{length, get_or, Decides, refl, sym, ap, ◌∙◌, arith, eqb, leb}
 use Rattle.std.specs.Prelude.{slice_get, if◌then◌else◌, is_some, All, AllPairs, IsTrue}
 use Rattle.std.specs.declared.option.Option.{Option}
 use Rattle.std.specs.declared.option.Option.TheVariants.{None, Some}
-use Rattle.std.proofs.lemmas.Bool.Decides.{Decides-and, Decides-or, Decides-not, Decides-like, Decides-by_and, Decides-eqb, Decides-ltb, leb_tells}
+use Rattle.std.proofs.lemmas.Bool.Decides.{Decides-and, Decides-or, Decides-not, Decides-like, Decides-by_and, Decides-eqb}
+use Rattle.std.proofs.lemmas.Bool.Decides.{Decides-ltb, leb_tells}
 use Rattle.std.proofs.lemmas.List.Kept.{AllPairs-cons}
 use Rattle.graph_model.specs.Limits.{batch_limit, name_limit, kind_limit}
 use Rattle.graph_model.specs.declared.batches.NamedOp.{NamedOp}

@@ -1,5 +1,6 @@
 -- Each event keeps what is sound: a batch is posted.
-use Rattle.std.proofs.Common.{◌≡◌, ◌≢◌, ◌||◌, add-one, ℕ, suc, ◌+◌, ◌<◌, ◌≤◌, Bool, true, false, inl, inr, List, [], ◌∷◌, ◌++◌, length, refl, sym, ap, subst, ◌∙◌, arith}
+use Rattle.std.proofs.Common.{◌≡◌, ◌≢◌, ◌||◌, add-one, ℕ, suc, ◌+◌, ◌<◌, ◌≤◌, Bool, true, false, inl, inr, List, [], ◌∷◌, ◌++◌}
+use Rattle.std.proofs.Common.{length, refl, sym, ap, subst, ◌∙◌, arith}
 use Rattle.std.specs.Prelude.{slice_get, AllPairs}
 use Rattle.std.specs.Option.{option_map}
 use Rattle.std.specs.declared.option.Option.{Option}
@@ -11,7 +12,8 @@ use Rattle.epoch_core.specs.declared.states.Status.{Status}
 use Rattle.epoch_core.specs.declared.states.Status.TheVariants.{Free, Fresh, Used, Retired}
 use Rattle.epoch_core.specs.declared.states.Version.{Version}
 use Rattle.epoch_core.specs.Blocks.{after_post, is_at, is_fresh, is_listed, is_used, status_after}
-use Rattle.epoch_core.specs.Worlds.{Shows, World, edges_of, graph_at, last_blocks, last_graph, last_number, session_of, version_at}
+use Rattle.epoch_core.specs.Worlds.{Shows, World, edges_of, graph_at, last_blocks, last_graph, last_number, session_of}
+use Rattle.epoch_core.specs.Worlds.{version_at}
 use Rattle.epoch_core.specs.Posting.{MayPost, all_listable, can_post, graph_after, is_listable, posted, version_by}
 use Rattle.epoch_core.specs.Sound.{IsDatedAt, IsKeptAt, IsNamed, IsSound}
 use Rattle.epoch_core.proofs.Lists.{get_enumerated, length_enumerated, and_left, and_right, all_listed}

@@ -1,5 +1,6 @@
 -- Each event keeps what is sound, and so does each run.
-use Rattle.std.proofs.Common.{◌≡◌, ◌≢◌, ◌||◌, ◌<◌, inl, inr, eqb, length, ℕ, zero, suc, ◌≤◌, Bool, true, false, List, [], ◌∷◌, get_or, replicate, refl, sym, ap, subst, ◌∙◌, arith}
+use Rattle.std.proofs.Common.{◌≡◌, ◌≢◌, ◌||◌, ◌<◌, inl, inr, eqb, length, ℕ, zero, suc, ◌≤◌, Bool, true, false, List, [], ◌∷◌}
+use Rattle.std.proofs.Common.{get_or, replicate, refl, sym, ap, subst, ◌∙◌, arith}
 use Rattle.std.specs.Prelude.{slice_get, if◌then◌else◌, All, AllPairs}
 use Rattle.std.specs.Option.{option_map, unwrap_or}
 use Rattle.std.specs.declared.option.Option.{Option}
@@ -11,9 +12,11 @@ use Rattle.epoch_core.specs.declared.states.Status.{Status}
 use Rattle.epoch_core.specs.declared.states.Status.TheVariants.{Free, Used}
 use Rattle.epoch_core.specs.declared.states.SessionState.TheVariants.{Idle}
 use Rattle.epoch_core.specs.declared.events.Event.{Event}
-use Rattle.epoch_core.specs.declared.events.Event.TheVariants.{Take, Fill, Post, Floor, Recycle, Pin, Enter, Settle, Ask, Read, Reply, Release}
+use Rattle.epoch_core.specs.declared.events.Event.TheVariants.{Take, Fill, Post, Floor, Recycle, Pin, Enter, Settle, Ask, Read}
+use Rattle.epoch_core.specs.declared.events.Event.TheVariants.{Reply, Release}
 use Rattle.epoch_core.specs.Blocks.{changed_at, is_at, is_listed, is_used, recycled, taken}
-use Rattle.epoch_core.specs.Worlds.{opening_graph, IsStart, World, blocks_at, edges_of, graph_at, last_blocks, last_graph, last_number, session_of, start, Shows, State}
+use Rattle.epoch_core.specs.Worlds.{opening_graph, IsStart, World, blocks_at, edges_of, graph_at, last_blocks, last_graph}
+use Rattle.epoch_core.specs.Worlds.{last_number, session_of, start, Shows, State}
 use Rattle.epoch_core.specs.Posting.{can_post, posted}
 use Rattle.epoch_core.specs.Machine.{least_pin, step, with_heap, with_status}
 use Rattle.epoch_core.specs.Runs.{next_world, run}
@@ -22,7 +25,8 @@ use Rattle.epoch_core.proofs.Lists.{true_or_false, below_or_past, option_map_som
 use Rattle.graph_model.proofs.Keys.{once_none}
 use Rattle.epoch_core.proofs.Keeping.{FreesNone, frees_taken, frees_recycled, sound_status, Fills, fills, sound_fill}
 use Rattle.epoch_core.proofs.Posted.{sound_posted}
-use Rattle.epoch_core.proofs.Moves.{sound_floor, with_floor, sound_move, keeps_pin, keeps_enter, keeps_settle, keeps_ask, keeps_read, keeps_reply, keeps_release}
+use Rattle.epoch_core.proofs.Moves.{sound_floor, with_floor, sound_move, keeps_pin, keeps_enter, keeps_settle, keeps_ask}
+use Rattle.epoch_core.proofs.Moves.{keeps_read, keeps_reply, keeps_release}
 
 sound_changed : (w after : World) (b : ℕ) (change : Status → Option Status) → IsSound w
     → ((s t : Status) → change s ≡ Some t → FreesNone w.floor s t)

@@ -1,5 +1,6 @@
 -- The machine: what each event asks, and what it does.
-use Rattle.std.specs.Prelude.{◌≡◌, ℕ, Bool, true, false, nat_le, List, [], ◌∷◌, ◌++◌, length, ◌+◌, min, if◌then◌else◌, slice_get, slice_set, slice_index_or, MatchOption}
+use Rattle.std.specs.Prelude.{◌≡◌, ℕ, Bool, true, false, nat_le, List, [], ◌∷◌, ◌++◌, length, ◌+◌, min, if◌then◌else◌, slice_get}
+use Rattle.std.specs.Prelude.{slice_set, slice_index_or, MatchOption}
 use Rattle.std.specs.Option.{option_and_then, option_map}
 use Rattle.std.specs.declared.option.Option.{Option}
 use Rattle.std.specs.declared.option.Option.TheVariants.{None, Some}
@@ -14,7 +15,8 @@ use Rattle.epoch_core.specs.declared.states.Inquiry.{Inquiry}
 use Rattle.epoch_core.specs.declared.states.SessionState.{SessionState}
 use Rattle.epoch_core.specs.declared.states.SessionState.TheVariants.{Idle, Pinned, Holding, Asking}
 use Rattle.epoch_core.specs.declared.events.Event.{Event}
-use Rattle.epoch_core.specs.declared.events.Event.TheVariants.{Take, Fill, Post, Floor, Recycle, Pin, Enter, Settle, Ask, Read, Reply, Release}
+use Rattle.epoch_core.specs.declared.events.Event.TheVariants.{Take, Fill, Post, Floor, Recycle, Pin, Enter, Settle, Ask, Read}
+use Rattle.epoch_core.specs.declared.events.Event.TheVariants.{Reply, Release}
 use Rattle.epoch_core.specs.Blocks.{changed_at, taken, recycled, filled}
 use Rattle.epoch_core.specs.declared.states.Opening.{Opening}
 use Rattle.epoch_core.specs.Worlds.{Answer, World, version_at, blocks_at, last_number, edges_at, graph_with, pin_in, content_with}

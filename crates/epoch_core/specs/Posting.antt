@@ -1,5 +1,6 @@
 -- Post: what its rule asks, the test that decides it, and what it makes.
-use Rattle.std.specs.Prelude.{◌≡◌, ◌≢◌, ◌⊎◌, ℕ, ◌<◌, Bool, true, false, not, ◌&&◌, ◌||◌, ◌==◌, nat_lt, List, [], ◌∷◌, ◌++◌, length, ◌+◌, slice_get, All, AllPairs, IsTrue, IsFalse}
+use Rattle.std.specs.Prelude.{◌≡◌, ◌≢◌, ◌⊎◌, ℕ, ◌<◌, Bool, true, false, not, ◌&&◌, ◌||◌, ◌==◌, nat_lt, List, [], ◌∷◌, ◌++◌}
+use Rattle.std.specs.Prelude.{length, ◌+◌, slice_get, All, AllPairs, IsTrue, IsFalse}
 use Rattle.std.specs.List.{list_any, list_all}
 use Rattle.std.specs.Ordering.{int_eq}
 use Rattle.std.specs.FinMap.{get, len}
@@ -17,7 +18,8 @@ use Rattle.epoch_core.specs.declared.states.Status.TheVariants.{Fresh}
 use Rattle.epoch_core.specs.declared.states.Version.{Version}
 use Rattle.epoch_core.specs.Blocks.{is_at, is_fresh, is_listed, all_differ, status_after}
 use Rattle.epoch_core.specs.declared.states.Opening.{Opening}
-use Rattle.epoch_core.specs.Worlds.{World, graph_at, version_at, blocks_at, last_number, last_blocks, last_graph, edges_of, content_with, Shows, IsContentGraph}
+use Rattle.epoch_core.specs.Worlds.{World, graph_at, version_at, blocks_at, last_number, last_blocks, last_graph, edges_of}
+use Rattle.epoch_core.specs.Worlds.{content_with, Shows, IsContentGraph}
 
 -- what the batch leaves of the last version
 abbrev pub graph_after : Opening → List Version → List NamedOp → Graph

@@ -7,7 +7,8 @@ use Rattle.epoch_core.specs.declared.states.Hold.{Hold}
 use Rattle.epoch_core.specs.declared.states.SessionState.{SessionState}
 use Rattle.epoch_core.specs.declared.states.SessionState.TheVariants.{Idle, Pinned, Holding, Asking}
 use Rattle.epoch_core.specs.Blocks.{is_at, is_used, is_listed}
-use Rattle.epoch_core.specs.Worlds.{World, State, Shows, HasContents, graph_at, version_at, blocks_at, last_number, last_blocks, last_graph, edges_of, session_of}
+use Rattle.epoch_core.specs.Worlds.{World, State, Shows, HasContents, graph_at, version_at, blocks_at, last_number, last_blocks}
+use Rattle.epoch_core.specs.Worlds.{last_graph, edges_of, session_of}
 
 -- a block was born at latest with this version, and retired after its birth and at latest with this version
 abbrev pub IsDated : ℕ → Status → Type 0

@@ -1,7 +1,8 @@
 -- What the machine of interleavings knows at a moment: blocks of edges, versions, the floor, and where each
 -- session stands. It is STINGER's store of edge blocks (Ediger, McColl, Riedy, Bader; IEEE HPEC 2012) under
 -- sessions that hold a version while batches go on, as Aspen's readers do (Dhulipala, Blelloch, Shun; PLDI 2019).
-use Rattle.std.specs.Prelude.{◌≡◌, ◌≢◌, ℕ, zero, suc, ◌<◌, ◌≤◌, List, [], map, length, replicate, take, slice_get, slice_index_or, if◌then◌else◌, All, AllPairs}
+use Rattle.std.specs.Prelude.{◌≡◌, ◌≢◌, ℕ, zero, suc, ◌<◌, ◌≤◌, List, [], map, length, replicate, take, slice_get, slice_index_or}
+use Rattle.std.specs.Prelude.{if◌then◌else◌, All, AllPairs}
 use Rattle.std.specs.List.{flat_map}
 use Rattle.std.specs.Option.{unwrap_or}
 use Rattle.std.specs.declared.option.Option.{Option}

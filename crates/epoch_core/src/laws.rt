@@ -1,6 +1,7 @@
 //! The laws of the machine, as contracts of functions that do nothing.
 
-ghost use Rattle.epoch_core.specs.Laws.{RepliesAreAnswers, AgreeingRunsReplyAlike, AlwaysFillsNoHeldBlock, PinsAlwaysInOrder, BlocksAlwaysPartitioned, PostsByItsRule};
+ghost use Rattle.epoch_core.specs.Laws.{RepliesAreAnswers, AgreeingRunsReplyAlike, AlwaysFillsNoHeldBlock, PinsAlwaysInOrder};
+ghost use Rattle.epoch_core.specs.Laws.{BlocksAlwaysPartitioned, PostsByItsRule};
 ghost use Rattle.epoch_core.specs.Examples.{AreExamples};
 
 /// Snapshot isolation, for machines of every size, every opening graph and all lists of events from a start.

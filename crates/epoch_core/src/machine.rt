@@ -1,6 +1,7 @@
 //! The machine itself.
 
-ghost use Rattle.std.specs.Prelude.{◌≡◌, ℕ, ◌<◌, ◌≤◌, ◌+◌, ◌-◌, ◌^◌, [], IfOk, OnOk, OnErr, IsTrue, length, min, replicate, take, slice_index_or};
+ghost use Rattle.std.specs.Prelude.{◌≡◌, ℕ, ◌<◌, ◌≤◌, ◌+◌, ◌-◌, ◌^◌, [], IfOk, OnOk, OnErr, IsTrue, length, min, replicate, take};
+ghost use Rattle.std.specs.Prelude.{slice_index_or};
 ghost use Rattle.epoch_core.specs.Worlds as worlds;
 ghost use Rattle.epoch_core.specs.Worlds.{HasContents, IsStart};
 ghost use Rattle.epoch_core.specs.Machine.{takes_memory};

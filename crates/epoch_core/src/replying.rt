@@ -1,6 +1,7 @@
 //! Replies.
 
-ghost use Rattle.std.specs.Prelude.{◌≡◌, ◌<◌, ◌++◌, ◌∷◌, [], IfOk, OnOk, OnErr, MatchOption, MatchResult, Err, ◌≢◌, length, slice_get, slice_set, slice_index_or};
+ghost use Rattle.std.specs.Prelude.{◌≡◌, ◌<◌, ◌++◌, ◌∷◌, [], IfOk, OnOk, OnErr, MatchOption, MatchResult, Err, ◌≢◌, length};
+ghost use Rattle.std.specs.Prelude.{slice_get, slice_set, slice_index_or};
 ghost use Rattle.std.specs.Option.{option_and_then};
 ghost use Rattle.epoch_core.specs.Blocks.{changed_at};
 ghost use Rattle.epoch_core.specs.Machine as machine;
