@@ -1,5 +1,6 @@
 -- A batch that was applied with granted blocks is accepted, and the desk after it is a desk.
-use Rattle.std.proofs.Common.{◌≡◌, ℕ, zero, suc, ◌+◌, ◌<◌, ◌≤◌, ◌==◌, Bool, true, false, List, [], ◌∷◌, ◌++◌, length, get_or, count_by, refl, sym, ap, ◌∙◌, arith}
+use Rattle.std.proofs.Common.{◌≡◌, ℕ, zero, suc, ◌+◌, ◌<◌, ◌≤◌, ◌==◌, Bool, true, false, List, [], ◌∷◌, ◌++◌, length, get_or}
+use Rattle.std.proofs.Common.{count_by, refl, sym, ap, ◌∙◌, arith}
 use Rattle.std.specs.Prelude.{slice_get, if◌then◌else◌, Contains}
 use Rattle.std.specs.List.{list_all}
 use Rattle.std.specs.Option.{option_map, option_and_then}
@@ -11,14 +12,16 @@ use Rattle.graph_model.specs.declared.batches.NamedOp.{NamedOp}
 use Rattle.edge_block.specs.Slots.{BlockView}
 use Rattle.row_pages.specs.Rows.{blocks_of, numbers_of}
 use Rattle.graph_version.specs.Versions.{VersionView, is_in}
-use Rattle.block_pool.specs.Pools.{Status, Free, Used, Retired, is_free, is_used, passes, retired, is_free_at, is_used_at, is_born_at, marked, changed, AreFree}
+use Rattle.block_pool.specs.Pools.{Status, Free, Used, Retired, is_free, is_used, passes, retired, is_free_at, is_used_at}
+use Rattle.block_pool.specs.Pools.{is_born_at, marked, changed, AreFree}
 use Rattle.epoch_core.specs.Blocks.{all_differ}
 use Rattle.epoch_core.proofs.Lists.{all_listed}
 use Rattle.store_journal.specs.Journal.{Entry, Applied, Ledger, empty_ledger, is_legal, after_entry, entered, exchanged, replay}
 use Rattle.store_journal.specs.Desks.{DeskView, IsDesk, IsAppliedTo, IsAccepted, desk_after, last_numbers, ledger_of}
 use Rattle.store_journal.proofs.NumberLists.{all_from, all_by, differ_from, number_in}
 use Rattle.store_journal.proofs.ChangedLists.{marked_at, length-marked, changed_at, length-changed, same_list}
-use Rattle.store_journal.proofs.Counting.{times, is_some_times, in_times, times_numbers, once_at_most, apart_if, same_block, counted, listed}
+use Rattle.store_journal.proofs.Counting.{times, is_some_times, in_times, times_numbers, once_at_most, apart_if, same_block}
+use Rattle.store_journal.proofs.Counting.{counted, listed}
 use Rattle.store_journal.proofs.OneNumber.{number_after, OneNumber, one_number, not_both}
 use Rattle.store_journal.proofs.BlockMoves.{AreMovable}
 
@@ -63,7 +66,8 @@ before_times a m =
 after_times : (a : Application) (m : ℕ) → times m (numbers_of (blocks_of a.version.rows)) ≡ kept_times a m + times m a.taken
 after_times a m =
     times_numbers m (blocks_of a.version.rows) ∙ sym (a.applied.exchanged.after_are (λ b. b.number == m))
-    ∙ ap (λ n. n + count_by (λ (b : BlockView). b.number == m) a.applied.exchanged.fresh) (sym (times_numbers m a.applied.exchanged.kept))
+    ∙ ap (λ n. n + count_by (λ (b : BlockView). b.number == m) a.applied.exchanged.fresh)
+    (sym (times_numbers m a.applied.exchanged.kept))
     ∙ ap (λ n. kept_times a m + n) (sym (times_numbers m a.applied.exchanged.fresh))
     ∙ ap (λ ns. kept_times a m + times m ns) a.applied.exchanged.taken_are
 
@@ -72,7 +76,8 @@ handed_times a m = sym (a.applied.handed (λ n. n == m))
 
 before_once : (a : Application) (m : ℕ) → kept_times a m + dropped_times a m ≤ 1
 before_once a m =
-    let once : times m (last_numbers a.old) ≤ 1 = once_at_most m (last_numbers a.old) (differ_from (last_numbers a.old) a.before.version.rows.numbers) in
+    let once : times m (last_numbers a.old) ≤ 1 = once_at_most m (last_numbers a.old)
+    (differ_from (last_numbers a.old) a.before.version.rows.numbers) in
     let same = before_times a m in omega arith
 
 handed_once : (a : Application) (m : ℕ) → times m a.taken + times m a.unused ≤ 1
@@ -81,7 +86,8 @@ handed_once a m =
     let same = handed_times a m in omega arith
 
 -- numbers that were granted are free
-pub granted_free : (pool : List Status) (numbers : List ℕ) (m : ℕ) → AreFree pool numbers → is_in m numbers ≡ true → is_free_at pool m ≡ true
+pub granted_free : (pool : List Status) (numbers : List ℕ) (m : ℕ) → AreFree pool numbers → is_in m numbers ≡ true
+    → is_free_at pool m ≡ true
 granted_free pool numbers m free is = all_listed (is_free_at pool) numbers m (all_from (is_free_at pool) numbers free.free) is
 
 in_numbers : (a : Application) (m : ℕ) → is_in m a.numbers ≡ is_some_times (times m a.taken + times m a.unused)
@@ -90,10 +96,13 @@ in_numbers a m = in_times m a.numbers ∙ ap is_some_times (handed_times a m)
 in_before : (a : Application) (m : ℕ) → is_born_at a.old.pool m ≡ is_some_times (kept_times a m + dropped_times a m)
 in_before a m = a.before.listed m ∙ in_times m (last_numbers a.old) ∙ ap is_some_times (before_times a m)
 
-one : (a : Application) (m : ℕ) → OneNumber (number_in_desk a) (slice_get a.old.pool m) (kept_times a m) (dropped_times a m) (times m a.taken) (times m a.unused)
+one : (a : Application) (m : ℕ) → OneNumber (number_in_desk a) (slice_get a.old.pool m) (kept_times a m) (dropped_times a m)
+    (times m a.taken) (times m a.unused)
 one a m =
-    one_number (number_in_desk a) (slice_get a.old.pool m) (kept_times a m) (dropped_times a m) (times m a.taken) (times m a.unused)
-    (before_once a m) (handed_once a m) (in_before a m) (λ is. granted_free a.old.pool a.numbers m a.applied.free (in_numbers a m ∙ is))
+    one_number (number_in_desk a) (slice_get a.old.pool m) (kept_times a m) (dropped_times a m) (times m a.taken)
+    (times m a.unused)
+    (before_once a m) (handed_once a m) (in_before a m) (λ is. granted_free a.old.pool a.numbers m a.applied.free
+    (in_numbers a m ∙ is))
 
 some_either : (a b : ℕ) → is_some_times b ≡ true → is_some_times (a + b) ≡ true
 some_either zero b e = let same : 0 + b ≡ b = omega arith in ap is_some_times same ∙ e
@@ -113,11 +122,14 @@ exchanged_at number taken dropped pool m apart =
     changed_at (retired number) dropped (marked taken Used pool) m apart
     ∙ ap (λ o. if is_in m dropped then option_map (retired number) o else o) (marked_at taken Used pool m)
 
-next_at : (a : Application) (m : ℕ) → slice_get (next_desk a).pool m ≡ number_after (number_in_desk a) (slice_get a.old.pool m) (is_some_times (times m a.taken)) (is_some_times (dropped_times a m))
+next_at : (a : Application) (m : ℕ) → slice_get (next_desk a).pool m
+    ≡ number_after (number_in_desk a) (slice_get a.old.pool m) (is_some_times (times m a.taken))
+    (is_some_times (dropped_times a m))
 next_at a m =
     exchanged_at (number_in_desk a) a.taken (dropped_numbers a) a.old.pool m (dropped_differ a)
     ∙ ap (λ t. number_after (number_in_desk a) (slice_get a.old.pool m) t (is_in m (dropped_numbers a))) (in_times m a.taken)
-    ∙ ap (number_after (number_in_desk a) (slice_get a.old.pool m) (is_some_times (times m a.taken))) (in_times m (dropped_numbers a))
+    ∙ ap (number_after (number_in_desk a) (slice_get a.old.pool m) (is_some_times (times m a.taken)))
+    (in_times m (dropped_numbers a))
 
 -- the pool after the grant, and then after the dropped blocks are retired
 abbrev pub granted_pool : Application → List Status
@@ -127,17 +139,20 @@ abbrev pub retired_pool : Application → List Status
 retired_pool a = changed (retired (number_in_desk a)) (dropped_numbers a) (granted_pool a)
 
 retired_at : (a : Application) (m : ℕ)
-    → slice_get (retired_pool a) m ≡ number_after (number_in_desk a) (slice_get a.old.pool m) (is_some_times (times m a.taken + times m a.unused)) (is_some_times (dropped_times a m))
+    → slice_get (retired_pool a) m ≡ number_after (number_in_desk a) (slice_get a.old.pool m)
+    (is_some_times (times m a.taken + times m a.unused)) (is_some_times (dropped_times a m))
 retired_at a m =
     exchanged_at (number_in_desk a) a.numbers (dropped_numbers a) a.old.pool m (dropped_differ a)
     ∙ ap (λ t. number_after (number_in_desk a) (slice_get a.old.pool m) t (is_in m (dropped_numbers a))) (in_numbers a m)
-    ∙ ap (number_after (number_in_desk a) (slice_get a.old.pool m) (is_some_times (times m a.taken + times m a.unused))) (in_times m (dropped_numbers a))
+    ∙ ap (number_after (number_in_desk a) (slice_get a.old.pool m) (is_some_times (times m a.taken + times m a.unused)))
+    (in_times m (dropped_numbers a))
 
 -- once the unused are given back, the pool is what the journal's entry says
 pub moves_left : (a : Application) → marked a.unused Free (retired_pool a) ≡ (next_desk a).pool
 moves_left a = same_list _ _ (λ m.
     marked_at a.unused Free (retired_pool a) m
-    ∙ ap (λ t. if t then option_map (λ _. Free) (slice_get (retired_pool a) m) else slice_get (retired_pool a) m) (in_times m a.unused)
+    ∙ ap (λ t. if t then option_map (λ _. Free) (slice_get (retired_pool a) m) else slice_get (retired_pool a) m)
+    (in_times m a.unused)
     ∙ ap (λ o. if is_some_times (times m a.unused) then option_map (λ _. Free) o else o) (retired_at a m)
     ∙ (one a m).moved ∙ sym (next_at a m))
 
@@ -147,20 +162,23 @@ used_marked : (p : Option Status) → passes is_free p ≡ true → passes is_us
 used_marked None e = cc
 used_marked (Some p) e = refl
 
-granted_used : (pool : List Status) (numbers : List ℕ) (m : ℕ) → is_free_at pool m ≡ true → is_in m numbers ≡ true → is_used_at (marked numbers Used pool) m ≡ true
+granted_used : (pool : List Status) (numbers : List ℕ) (m : ℕ) → is_free_at pool m ≡ true → is_in m numbers ≡ true
+    → is_used_at (marked numbers Used pool) m ≡ true
 granted_used pool numbers m free is =
     ap (passes is_used) (marked_at numbers Used pool m)
     ∙ ap (λ t. passes is_used (if t then option_map (λ _. Used) (slice_get pool m) else slice_get pool m)) is
     ∙ used_marked (slice_get pool m) free
 
 -- what was granted is not the last version's
-pub not_granted : (d : DeskView) (numbers : List ℕ) (m : ℕ) → IsDesk d → AreFree d.pool numbers → is_in m (last_numbers d) ≡ true → is_in m numbers ≡ false
+pub not_granted : (d : DeskView) (numbers : List ℕ) (m : ℕ) → IsDesk d → AreFree d.pool numbers
+    → is_in m (last_numbers d) ≡ true → is_in m numbers ≡ false
 not_granted d numbers m desk free listed = elim (is_in m numbers) as (λ t. is_in m numbers ≡ t → t ≡ false) [
   | true ↦ λ is. absurd (not_both (slice_get d.pool m) (granted_free d.pool numbers m free is) (desk.listed m ∙ listed))
   | false ↦ λ is. refl
 ] refl
 
-pub granted_unlisted : (d : DeskView) (numbers : List ℕ) (m : ℕ) → IsDesk d → AreFree d.pool numbers → is_in m numbers ≡ true → is_in m (last_numbers d) ≡ false
+pub granted_unlisted : (d : DeskView) (numbers : List ℕ) (m : ℕ) → IsDesk d → AreFree d.pool numbers → is_in m numbers ≡ true
+    → is_in m (last_numbers d) ≡ false
 granted_unlisted d numbers m desk free is = elim (is_in m (last_numbers d)) as (λ t. is_in m (last_numbers d) ≡ t → t ≡ false) [
   | true ↦ λ listed. absurd (not_both (slice_get d.pool m) (granted_free d.pool numbers m free is) (desk.listed m ∙ listed))
   | false ↦ λ listed. refl
@@ -177,41 +195,49 @@ pub dropped_movable : (a : Application) → AreMovable (dropped_numbers a) (gran
 dropped_movable a = record {
   used = all_by (is_used_at (granted_pool a)) (dropped_numbers a) (λ m is.
       let born : is_born_at a.old.pool m ≡ true = dropped_born a m is in
-      let none : is_in m a.numbers ≡ false = not_granted a.old a.numbers m a.before a.applied.free (sym (a.before.listed m) ∙ born) in
+      let none : is_in m a.numbers ≡ false = not_granted a.old a.numbers m a.before a.applied.free (sym (a.before.listed m)
+      ∙ born) in
       ap (passes is_used) (marked_at a.numbers Used a.old.pool m)
-      ∙ ap (λ t. passes is_used (if t then option_map (λ _. Used) (slice_get a.old.pool m) else slice_get a.old.pool m)) none ∙ born);
+      ∙ ap (λ t. passes is_used (if t then option_map (λ _. Used) (slice_get a.old.pool m) else slice_get a.old.pool m)) none
+      ∙ born);
   apart = dropped_differ a;
 }
 
 pub unused_movable : (a : Application) → AreMovable a.unused (retired_pool a)
 unused_movable a = record {
   used = all_by (is_used_at (retired_pool a)) a.unused (λ m is.
-      let there : is_some_times (times m a.taken + times m a.unused) ≡ true = some_either (times m a.taken) (times m a.unused) (sym (in_times m a.unused) ∙ is) in
+      let there : is_some_times (times m a.taken + times m a.unused) ≡ true =
+      some_either (times m a.taken) (times m a.unused) (sym (in_times m a.unused) ∙ is) in
       let granted : is_in m a.numbers ≡ true = in_numbers a m ∙ there in
       let free : is_free_at a.old.pool m ≡ true = granted_free a.old.pool a.numbers m a.applied.free granted in
       let stays : is_in m (dropped_numbers a) ≡ false = not_dropped a m free in
       ap (passes is_used) (changed_at (retired (number_in_desk a)) (dropped_numbers a) (granted_pool a) m (dropped_differ a))
-      ∙ ap (λ t. passes is_used (if t then option_map (retired (number_in_desk a)) (slice_get (granted_pool a) m) else slice_get (granted_pool a) m)) stays
+      ∙ ap (λ t. passes is_used (if t then option_map (retired (number_in_desk a)) (slice_get (granted_pool a) m) else slice_get
+      (granted_pool a) m)) stays
       ∙ granted_used a.old.pool a.numbers m free granted);
   apart = apart_if a.unused (λ m. let once = handed_once a m in omega arith);
 }
 
 -- what was granted can be given back, and then the pool is as before
-pub granted_movable : (pool : List Status) (numbers : List ℕ) → AreFree pool numbers → AreMovable numbers (marked numbers Used pool)
+pub granted_movable : (pool : List Status) (numbers : List ℕ) → AreFree pool numbers
+    → AreMovable numbers (marked numbers Used pool)
 granted_movable pool numbers free = record {
-  used = all_by (is_used_at (marked numbers Used pool)) numbers (λ m is. granted_used pool numbers m (granted_free pool numbers m free is) is);
+  used = all_by (is_used_at (marked numbers Used pool)) numbers
+      (λ m is. granted_used pool numbers m (granted_free pool numbers m free is) is);
   apart = differ_from numbers free.distinct;
 }
 
 there_and_back : (t : Bool) (p : Option Status) → (t ≡ true → passes is_free p ≡ true)
-    → (if t then option_map (λ _. Free) (if t then option_map (λ _. Used) p else p) else (if t then option_map (λ _. Used) p else p)) ≡ p
+    → (if t then option_map (λ _. Free) (if t then option_map (λ _. Used) p else p) else
+    (if t then option_map (λ _. Used) p else p)) ≡ p
 there_and_back true None f = refl
 there_and_back true (Some Free) f = refl
 there_and_back true (Some Used) f = let no = f refl in cc
 there_and_back true (Some (Retired v)) f = let no = f refl in cc
 there_and_back false p f = refl
 
-pub given_back : (pool : List Status) (numbers : List ℕ) → AreFree pool numbers → marked numbers Free (marked numbers Used pool) ≡ pool
+pub given_back : (pool : List Status) (numbers : List ℕ) → AreFree pool numbers
+    → marked numbers Free (marked numbers Used pool) ≡ pool
 given_back pool numbers free = same_list _ _ (λ m.
     marked_at numbers Free (marked numbers Used pool) m
     ∙ ap (λ o. if is_in m numbers then option_map (λ _. Free) o else o) (marked_at numbers Used pool m)
@@ -224,37 +250,44 @@ last_one None = refl
 last_one (Some l) = refl
 
 -- a journal with one entry more
-pub replay_more : (es : List Entry) (e : Entry) (l : Ledger) → replay (es ++ e ∷ []) l ≡ option_and_then (λ m. entered m e) (replay es l)
+pub replay_more : (es : List Entry) (e : Entry) (l : Ledger) → replay (es ++ e ∷ []) l
+    ≡ option_and_then (λ m. entered m e) (replay es l)
 replay_more [] e l = last_one (entered l e)
-replay_more (f ∷ es) e l = elim (entered l f) as (λ o. option_and_then (replay (es ++ e ∷ [])) o ≡ option_and_then (λ m. entered m e) (option_and_then (replay es) o)) [
-  | None ↦ refl
-  | Some m ↦ replay_more es e m
-]
+replay_more (f ∷ es) e l = elim (entered l f) as (λ o. option_and_then (replay (es ++ e ∷ [])) o
+    ≡ option_and_then (λ m. entered m e) (option_and_then (replay es) o)) [
+      | None ↦ refl
+      | Some m ↦ replay_more es e m
+    ]
 
 is_legal_in : (a : Application) → is_legal (ledger_of a.old) (entry_in a) ≡ true
 is_legal_in a =
     let free : list_all (is_free_at a.old.pool) a.taken ≡ true = all_by (is_free_at a.old.pool) a.taken (λ m is.
-    let some : is_some_times (times m a.unused + times m a.taken) ≡ true = some_either (times m a.unused) (times m a.taken) (sym (in_times m a.taken) ∙ is) in
+    let some : is_some_times (times m a.unused + times m a.taken) ≡ true =
+    some_either (times m a.unused) (times m a.taken) (sym (in_times m a.taken) ∙ is) in
     let turn : times m a.taken + times m a.unused ≡ times m a.unused + times m a.taken = omega arith in
     granted_free a.old.pool a.numbers m a.applied.free (in_numbers a m ∙ ap is_some_times turn ∙ some)) in
     let apart : all_differ a.taken ≡ true = apart_if a.taken (λ m. let once = handed_once a m in omega arith) in
-    let born : list_all (is_born_at a.old.pool) (dropped_numbers a) ≡ true = all_by (is_born_at a.old.pool) (dropped_numbers a) (dropped_born a) in
+    let born : list_all (is_born_at a.old.pool) (dropped_numbers a) ≡ true =
+    all_by (is_born_at a.old.pool) (dropped_numbers a) (dropped_born a) in
     let different = dropped_differ a in
     rw (free, apart, born, different) refl
 
 -- a block of the next version that isn't a taken one is a block of the last
-kept_before : (a : Application) (b : BlockView) → Contains (blocks_of a.version.rows) b → is_in b.number a.taken ≡ false → Contains (blocks_of a.old.last.rows) b
+kept_before : (a : Application) (b : BlockView) → Contains (blocks_of a.version.rows) b → is_in b.number a.taken ≡ false
+    → Contains (blocks_of a.old.last.rows) b
 kept_before a b there apart =
     let p : BlockView → Bool = λ x. same_block x b in
     let all = counted b (blocks_of a.version.rows) there.0 there.1 there.2 in
     let after = a.applied.exchanged.after_are p in
     let before = a.applied.exchanged.before_are p in
-    elim (count_by p a.applied.exchanged.fresh) as (λ n. count_by p a.applied.exchanged.fresh ≡ n → Contains (blocks_of a.old.last.rows) b) [
+    elim (count_by p a.applied.exchanged.fresh) as (λ n. count_by p a.applied.exchanged.fresh ≡ n
+    → Contains (blocks_of a.old.last.rows) b) [
       | zero ↦ λ none. listed b (blocks_of a.old.last.rows) (omega arith)
       | suc n ↦ λ some.
           (let fresh : Contains a.applied.exchanged.fresh b = listed b a.applied.exchanged.fresh (omega arith) in
           let taken : is_in b.number a.taken ≡ true =
-          ap (is_in b.number) (sym a.applied.exchanged.taken_are) ∙ number_in a.applied.exchanged.fresh b fresh.0 fresh.1 fresh.2 in
+          ap (is_in b.number) (sym a.applied.exchanged.taken_are)
+          ∙ number_in a.applied.exchanged.fresh b fresh.0 fresh.1 fresh.2 in
           absurd (true≢false (sym taken ∙ apart)))
     ] refl
 
@@ -269,10 +302,15 @@ made_accepted a = record {
   journal = refl;
   legal = is_legal_in a;
   ledger = λ i. record { batches = a.applied.batches i; pool = (next_desk a).pool };
-  kept = λ k d h apart. kept_before a (get_or (blocks_of a.version.rows) k d) (k, h, default_same (blocks_of a.version.rows) k d h) apart;
+  kept = λ k d h apart. kept_before a (get_or (blocks_of a.version.rows) k d)
+      (k, h, default_same (blocks_of a.version.rows) k d h) apart;
   layout =
       let many : length (dropped_numbers a) ≡ length a.dropped = length-map a.dropped (λ b. b.number) in
-      record { rows = a.applied.layout.rows; taken_are = a.applied.layout.taken_are; dropped_are = many ∙ a.applied.layout.dropped_are };
+      record {
+        rows = a.applied.layout.rows;
+        taken_are = a.applied.layout.taken_are;
+        dropped_are = many ∙ a.applied.layout.dropped_are;
+      };
 }
 
 pub made_desk : (a : Application) → IsDesk (next_desk a)
@@ -280,11 +318,13 @@ made_desk a = record {
   version = a.applied.version_is;
   replays =
       let same : length (next_desk a).pool ≡ length a.old.pool =
-      length-changed (retired (number_in_desk a)) (dropped_numbers a) (marked a.taken Used a.old.pool) ∙ length-marked a.taken Used a.old.pool in
+      length-changed (retired (number_in_desk a)) (dropped_numbers a) (marked a.taken Used a.old.pool)
+      ∙ length-marked a.taken Used a.old.pool in
       ap (λ n. replay (a.old.journal ++ entry_in a ∷ []) (empty_ledger n)) same
       ∙ replay_more a.old.journal (entry_in a) (empty_ledger (length a.old.pool))
       ∙ ap (option_and_then (λ m. entered m (entry_in a))) a.before.replays
       ∙ ap (λ t. if t then Some (after_entry (ledger_of a.old) (entry_in a)) else None) (is_legal_in a)
       ∙ ap Some (λ i. record { batches = sym a.applied.batches i; pool = (next_desk a).pool });
-  listed = λ m. ap (passes is_used) (next_at a m) ∙ (one a m).used ∙ sym (in_times m (numbers_of (blocks_of a.version.rows)) ∙ ap is_some_times (after_times a m));
+  listed = λ m. ap (passes is_used) (next_at a m) ∙ (one a m).used
+      ∙ sym (in_times m (numbers_of (blocks_of a.version.rows)) ∙ ap is_some_times (after_times a m));
 }

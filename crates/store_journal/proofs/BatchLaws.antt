@@ -11,7 +11,7 @@ use Rattle.epoch_core.proofs.Lists.{all_listed}
 use Rattle.store_journal.specs.Journal.{Entry, Applied, Ledger, is_legal, after_entry, entered}
 use Rattle.store_journal.specs.Desks.{DeskView, IsDesk, IsAppliedTo, IsAccepted, desk_after}
 use Rattle.store_journal.specs.Steps.{Takes, posting}
-use Rattle.store_journal.proofs.Accepting.{made_accepted, made_desk, moves_left}
+use Rattle.store_journal.proofs.Accepting.{Application, made_accepted, made_desk, moves_left}
 use Rattle.store_journal.proofs.Posting.{legal_batch, accepted_takes}
 
 -- an entry that isn't legal isn't entered
@@ -23,26 +23,57 @@ not_if true h = sym (h refl)
 not_if false h = refl
 
 -- a batch that takes what isn't free, or drops what isn't the last version's, isn't entered
-pub taken_is_free : (l : Ledger) (batch : List NamedOp) (taken dropped : List ℕ) (n : ℕ) → is_in n taken ≡ true → is_free_at l.pool n ≡ false → entered l (Applied batch taken dropped) ≡ None
+pub taken_is_free : (l : Ledger) (batch : List NamedOp) (taken dropped : List ℕ) (n : ℕ) → is_in n taken ≡ true
+    → is_free_at l.pool n ≡ false → entered l (Applied batch taken dropped) ≡ None
 taken_is_free l batch taken dropped n is none =
     not_entered l (Applied batch taken dropped)
-    (not_if (is_legal l (Applied batch taken dropped)) (λ legal. sym none ∙ all_listed (is_free_at l.pool) taken n (legal_batch l batch taken dropped legal).free is))
+    (not_if (is_legal l (Applied batch taken dropped)) (λ legal. sym none
+    ∙ all_listed (is_free_at l.pool) taken n (legal_batch l batch taken dropped legal).free is))
 
-pub dropped_is_born : (l : Ledger) (batch : List NamedOp) (taken dropped : List ℕ) (n : ℕ) → is_in n dropped ≡ true → is_born_at l.pool n ≡ false → entered l (Applied batch taken dropped) ≡ None
+pub dropped_is_born : (l : Ledger) (batch : List NamedOp) (taken dropped : List ℕ) (n : ℕ) → is_in n dropped ≡ true
+    → is_born_at l.pool n ≡ false → entered l (Applied batch taken dropped) ≡ None
 dropped_is_born l batch taken dropped n is none =
     not_entered l (Applied batch taken dropped)
-    (not_if (is_legal l (Applied batch taken dropped)) (λ legal. sym none ∙ all_listed (is_born_at l.pool) dropped n (legal_batch l batch taken dropped legal).born is))
+    (not_if (is_legal l (Applied batch taken dropped)) (λ legal. sym none
+    ∙ all_listed (is_born_at l.pool) dropped n (legal_batch l batch taken dropped legal).born is))
 
-module _ (old : DeskView) (ops : List NamedOp) (numbers : List ℕ) (version : VersionView) (taken : List ℕ) (dropped : List BlockView) (unused : List ℕ) (desk : IsDesk old) (is : IsAppliedTo old ops numbers version taken dropped unused) where
+module _ (old : DeskView) (ops : List NamedOp) (numbers : List ℕ) (version : VersionView) (taken : List ℕ)
+    (dropped : List BlockView) (unused : List ℕ) (desk : IsDesk old)
+    (is : IsAppliedTo old ops numbers version taken dropped unused) where
+  abbrev application : Application
+  application = record {
+    old = old;
+    ops = ops;
+    numbers = numbers;
+    version = version;
+    taken = taken;
+    dropped = dropped;
+    unused = unused;
+    before = desk;
+    applied = is;
+  }
+
   pub applied_accepted : IsAccepted old ops taken (numbers_of dropped) (desk_after old ops version taken dropped)
-  applied_accepted = made_accepted (record { old = old; ops = ops; numbers = numbers; version = version; taken = taken; dropped = dropped; unused = unused; before = desk; applied = is })
+  applied_accepted = made_accepted application
 
   pub applied_desk : IsDesk (desk_after old ops version taken dropped)
-  applied_desk = made_desk (record { old = old; ops = ops; numbers = numbers; version = version; taken = taken; dropped = dropped; unused = unused; before = desk; applied = is })
+  applied_desk = made_desk application
 
-  pub applied_moves : marked unused Free (changed (retired (length old.last.batches + 1)) (numbers_of dropped) (marked numbers Used old.pool)) ≡ (desk_after old ops version taken dropped).pool
-  applied_moves = moves_left (record { old = old; ops = ops; numbers = numbers; version = version; taken = taken; dropped = dropped; unused = unused; before = desk; applied = is })
+  pub applied_moves :
+      marked unused Free (changed (retired (length old.last.batches + 1)) (numbers_of dropped) (marked numbers Used old.pool))
+      ≡ (desk_after old ops version taken dropped).pool
+  applied_moves = moves_left application
 
-pub accepted_steps : (old new : DeskView) (ops : List NamedOp) (taken dropped : List ℕ) → IsDesk old → IsDesk new → IsAccepted old ops taken dropped new → Takes old (posting new.last ops taken) new
+pub accepted_steps : (old new : DeskView) (ops : List NamedOp) (taken dropped : List ℕ) → IsDesk old → IsDesk new
+    → IsAccepted old ops taken dropped new → Takes old (posting new.last ops taken) new
 accepted_steps old new ops taken dropped before after accepted =
-    accepted_takes (record { old = old; ops = ops; taken = taken; dropped = dropped; new = new; before = before; after = after; accepted = accepted })
+    accepted_takes (record {
+      old = old;
+      ops = ops;
+      taken = taken;
+      dropped = dropped;
+      new = new;
+      before = before;
+      after = after;
+      accepted = accepted;
+    })

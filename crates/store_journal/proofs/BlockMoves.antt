@@ -25,7 +25,8 @@ still_used n (m ∷ ns) s pool used apart =
     rw here (still_used n ns s pool (and_right _ _ used) parts.1)
 
 -- the first may be moved, and then the rest, whatever the first becomes
-pub moving : (n : ℕ) (ns : List ℕ) (s : Status) (pool : List Status) → AreMovable (n ∷ ns) pool → (is_used_at pool n ≡ true) × AreMovable ns (set pool n s)
+pub moving : (n : ℕ) (ns : List ℕ) (s : Status) (pool : List Status) → AreMovable (n ∷ ns) pool
+    → (is_used_at pool n ≡ true) × AreMovable ns (set pool n s)
 moving n ns s pool m = (
   and_left _ _ m.used,
   record { used = still_used n ns s pool (and_right _ _ m.used) (differ_head n ns m.apart); apart = differ_tail n ns m.apart },

@@ -1,5 +1,6 @@
 -- The board's calls are the machine's steps.
-use Rattle.std.proofs.Common.{◌≡◌, ℕ, zero, suc, ◌<◌, ◌≤◌, ◌⊎◌, inl, inr, List, [], ◌∷◌, length, get_or, set, max, min, true, refl, sym, ap, subst, ◌∙◌, arith}
+use Rattle.std.proofs.Common.{◌≡◌, ℕ, zero, suc, ◌<◌, ◌≤◌, ◌⊎◌, inl, inr, List, [], ◌∷◌, length, get_or, set, max, min, true}
+use Rattle.std.proofs.Common.{refl, sym, ap, subst, ◌∙◌, arith}
 use Rattle.std.specs.Prelude.{Option, Some, None, option_map, IfSome, IsSomeAnd}
 use Rattle.std.proofs.lemmas.Bool.{cases_eq}
 use Rattle.std.proofs.lemmas.List.{get_or-set_same, get_or-set_other}
@@ -16,15 +17,32 @@ use Rattle.store_journal.specs.Shown.{Shows}
 use Rattle.store_journal.specs.Boards.{seat_pin, ShowsBoard, PinsAsMachine, SettlesAsMachine, UnpinsAsMachine, RaisesAsMachine}
 
 -- a desk shows no session and no floor
-pub shows_sessions : (d : DeskView) (w : World) (sessions : List SessionState) → Shows d w → Shows d (record w { sessions = sessions })
-shows_sessions d w sessions shown = record { opening = shown.opening; batches = shown.batches; blocks = shown.blocks; edges = shown.edges; status = shown.status; sizes = shown.sizes }
+pub shows_sessions : (d : DeskView) (w : World) (sessions : List SessionState) → Shows d w
+    → Shows d (record w { sessions = sessions })
+shows_sessions d w sessions shown = record {
+  opening = shown.opening;
+  batches = shown.batches;
+  blocks = shown.blocks;
+  edges = shown.edges;
+  status = shown.status;
+  sizes = shown.sizes;
+}
 
 pub shows_floor : (d : DeskView) (w : World) (floor : ℕ) → Shows d w → Shows d (record w { floor = floor })
-shows_floor d w floor shown = record { opening = shown.opening; batches = shown.batches; blocks = shown.blocks; edges = shown.edges; status = shown.status; sizes = shown.sizes }
+shows_floor d w floor shown = record {
+  opening = shown.opening;
+  batches = shown.batches;
+  blocks = shown.blocks;
+  edges = shown.edges;
+  status = shown.status;
+  sizes = shown.sizes;
+}
 
 -- a session's move, and its pin's
-moves : (b : BoardState) (w : World) (s : ℕ) (change : SessionState → Option SessionState) (after : World) (pin : Option SeatPin) → IsBoard b → s < SEATS → ShowsBoard b w
-    → Moved w s change after → ((session next : SessionState) → session_of w s ≡ session → change session ≡ Some next → seat_pin next ≡ pin)
+moves : (b : BoardState) (w : World) (s : ℕ) (change : SessionState
+    → Option SessionState) (after : World) (pin : Option SeatPin) → IsBoard b → s < SEATS → ShowsBoard b w
+    → Moved w s change after → ((session next : SessionState) → session_of w s ≡ session → change session ≡ Some next
+    → seat_pin next ≡ pin)
     → ShowsBoard (with_pin b s pin) after × ((d : DeskView) → Shows d w → Shows d after)
 moves b w s change after pin board low shows m says = (
   record {
@@ -32,7 +50,8 @@ moves b w s change after pin board low shows m says = (
     pins = λ t. ap (λ v. seat_pin (session_of v t)) m.result ∙ elim (cases_eq t s) [
       | inl e ↦
           let lt : s < length b.pins = let seats = board.seats in omega arith in
-          ap (λ r. seat_pin (get_or (set w.sessions s m.next) r Idle)) e ∙ ap seat_pin (session_after w s m.session m.next m.found) ∙ says m.session m.next m.at m.changed
+          ap (λ r. seat_pin (get_or (set w.sessions s m.next) r Idle)) e
+          ∙ ap seat_pin (session_after w s m.session m.next m.found) ∙ says m.session m.next m.at m.changed
           ∙ sym (get_or-set_same b.pins s pin None lt) ∙ ap (λ r. get_or (set b.pins s pin) r None) (sym e)
       | inr ne ↦ ap seat_pin (session_else w s t m.next ne) ∙ shows.pins t ∙ sym (get_or-set_other b.pins s t pin None ne)
     ];
@@ -59,7 +78,8 @@ release_next (Asking hold inquiry) next is = cc
 
 pub unpins_as_machine : UnpinsAsMachine
 unpins_as_machine b w s board low shows after is =
-    moves b w s to_release after None board low shows (moved w s to_release after is) (λ session next at changed. release_next session next changed)
+    moves b w s to_release after None board low shows (moved w s to_release after is)
+    (λ session next at changed. release_next session next changed)
 
 -- what a settle that is done leaves
 settle_next : (session next : SessionState) (n : ℕ) → held_in session ≡ Some n → to_settle session ≡ Some next
@@ -111,35 +131,43 @@ pin_number b w shows s = sym (seat_number (session_of w s)) ∙ ap number_of (sh
 min_either : (m n : ℕ) → (min m n ≡ m) ⊎ (min m n ≡ n)
 min_either zero n = inl (omega arith)
 min_either (suc m) zero = inr (omega arith)
-min_either (suc m) (suc n) = elim (min_either m n) as (λ _. (min (suc m) (suc n) ≡ suc m) ⊎ (min (suc m) (suc n) ≡ suc n)) [ inl e ↦ inl (omega arith) | inr e ↦ inr (omega arith) ]
+min_either (suc m) (suc n) = elim (min_either m n) as (λ _. (min (suc m) (suc n) ≡ suc m) ⊎ (min (suc m) (suc n) ≡ suc n))
+    [ inl e ↦ inl (omega arith) | inr e ↦ inr (omega arith) ]
 
 lesser_either : (n : ℕ) (o : Option ℕ) → (lesser n o ≡ n) ⊎ (o ≡ Some (lesser n o))
 lesser_either n None = inl refl
-lesser_either n (Some m) = elim (min_either n m) as (λ _. (min n m ≡ n) ⊎ (Some m ≡ Some (min n m))) [ inl e ↦ inl e | inr e ↦ inr (ap Some (sym e)) ]
+lesser_either n (Some m) = elim (min_either n m) as (λ _. (min n m ≡ n) ⊎ (Some m ≡ Some (min n m)))
+    [ inl e ↦ inl e | inr e ↦ inr (ap Some (sym e)) ]
 
 below_pin : (o : Option SeatPin) (pin floor : ℕ) → number_of o ≡ Some pin → IfSome o (λ p. floor ≤ p.number) → floor ≤ pin
 below_pin None pin floor is low = cc
 below_pin (Some p) pin floor is low = let same : p.number ≡ pin = cc in omega arith
 
-some_pin : (o : Option SeatPin) (floor n : ℕ) → IsSomeAnd o (λ p. p.number ≡ floor) → ((p : SeatPin) → o ≡ Some p → n ≤ p.number) → n ≤ floor
+some_pin : (o : Option SeatPin) (floor n : ℕ) → IsSomeAnd o (λ p. p.number ≡ floor)
+    → ((p : SeatPin) → o ≡ Some p → n ≤ p.number) → n ≤ floor
 some_pin None floor n is low = absurd is
 some_pin (Some p) floor n is low = let le : n ≤ p.number = low p refl in omega arith
 
-least_reached : (n : ℕ) (ps : List SessionState) → (least_pin n ps ≡ n) ⊎ ((s : ℕ) × (pin_in (get_or ps s Idle) ≡ Some (least_pin n ps)))
+least_reached : (n : ℕ) (ps : List SessionState) → (least_pin n ps ≡ n) ⊎ ((s : ℕ)
+    × (pin_in (get_or ps s Idle) ≡ Some (least_pin n ps)))
 least_reached n [] = inl refl
 least_reached n (p ∷ ps) =
-    elim (least_reached (lesser n (pin_in p)) ps) as (λ _. (least_pin n (p ∷ ps) ≡ n) ⊎ ((s : ℕ) × (pin_in (get_or (p ∷ ps) s Idle) ≡ Some (least_pin n (p ∷ ps))))) [
-      | inl e ↦ elim (lesser_either n (pin_in p)) as (λ _. (least_pin n (p ∷ ps) ≡ n) ⊎ ((s : ℕ) × (pin_in (get_or (p ∷ ps) s Idle) ≡ Some (least_pin n (p ∷ ps))))) [
-        | inl same ↦ inl (e ∙ same)
-        | inr at ↦ inr (0, at ∙ ap Some (sym e))
-      ]
+    elim (least_reached (lesser n (pin_in p)) ps) as (λ _. (least_pin n (p ∷ ps) ≡ n) ⊎ ((s : ℕ)
+    × (pin_in (get_or (p ∷ ps) s Idle) ≡ Some (least_pin n (p ∷ ps))))) [
+      | inl e ↦ elim (lesser_either n (pin_in p)) as (λ _. (least_pin n (p ∷ ps) ≡ n) ⊎ ((s : ℕ)
+          × (pin_in (get_or (p ∷ ps) s Idle) ≡ Some (least_pin n (p ∷ ps))))) [
+            | inl same ↦ inl (e ∙ same)
+            | inr at ↦ inr (0, at ∙ ap Some (sym e))
+          ]
       | inr r ↦ inr (suc r.0, r.1)
     ]
 
-at_most : (b : BoardState) (w : World) → ShowsBoard b w → (s pin : ℕ) → pin_in (session_of w s) ≡ Some pin → (floor : ℕ) → IsBelowPins floor b.pins → floor ≤ pin
+at_most : (b : BoardState) (w : World) → ShowsBoard b w → (s pin : ℕ) → pin_in (session_of w s) ≡ Some pin → (floor : ℕ)
+    → IsBelowPins floor b.pins → floor ≤ pin
 at_most b w shows s pin is floor below = below_pin (pin_at b.pins s) pin floor (sym (pin_number b w shows s) ∙ is) (below s)
 
-at_least : (b : BoardState) (w : World) → ShowsBoard b w → (s : ℕ) (p : SeatPin) → pin_at b.pins s ≡ Some p → (n : ℕ) → least_pin n w.sessions ≤ p.number
+at_least : (b : BoardState) (w : World) → ShowsBoard b w → (s : ℕ) (p : SeatPin) → pin_at b.pins s ≡ Some p → (n : ℕ)
+    → least_pin n w.sessions ≤ p.number
 at_least b w shows s p is n = least_each n w.sessions s p.number (pin_number b w shows s ∙ ap number_of is)
 
 least_is : (b : BoardState) (w : World) (n floor : ℕ) → ShowsBoard b w → IsLeast n b.pins floor → least_pin n w.sessions ≡ floor
@@ -157,6 +185,9 @@ least_is b w n floor shows least =
 pub raises_as_machine : RaisesAsMachine
 raises_as_machine b w floor shows least after is =
     let e : record w { floor = least_pin (last_number w) w.sessions } ≡ after = cc in (
-      subst (ShowsBoard (record b { floor = floor })) e (record { floor = least_is b w (last_number w) floor shows least; pins = shows.pins }),
+      subst (ShowsBoard (record b { floor = floor })) e (record {
+        floor = least_is b w (last_number w) floor shows least;
+        pins = shows.pins;
+      }),
       λ d shown. subst (Shows d) e (shows_floor d w (least_pin (last_number w) w.sessions) shown),
     )

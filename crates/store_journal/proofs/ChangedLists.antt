@@ -1,5 +1,6 @@
 -- Lists with some elements changed: what stands at a place afterwards.
-use Rattle.std.proofs.Common.{◌≡◌, ℕ, zero, suc, ◌==◌, Bool, true, false, ◌||◌, List, [], ◌∷◌, length, get_or, set, refl, sym, ap, subst, ◌∙◌, arith}
+use Rattle.std.proofs.Common.{◌≡◌, ℕ, zero, suc, ◌==◌, Bool, true, false, ◌||◌, List, [], ◌∷◌, length, get_or, set, refl, sym, ap}
+use Rattle.std.proofs.Common.{subst, ◌∙◌, arith}
 use Rattle.std.specs.Prelude.{slice_get, if◌then◌else◌}
 use Rattle.std.specs.Option.{option_map}
 use Rattle.std.specs.declared.option.Option.{Option}
@@ -25,14 +26,18 @@ abbrev changed_if : {A : Type 0} → (A → A) → Bool → Option A → Option 
 changed_if f b o = if b then option_map f o else o
 
 -- one place is set to what a function makes of what stood there
-set_at : {A : Type 0} (f : A → A) (xs : List A) (m n : ℕ) (d : A) → slice_get (set xs m (f (get_or xs m d))) n ≡ changed_if f (m == n) (slice_get xs n)
+set_at : {A : Type 0} (f : A → A) (xs : List A) (m n : ℕ) (d : A)
+    → slice_get (set xs m (f (get_or xs m d))) n ≡ changed_if f (m == n) (slice_get xs n)
 set_at f [] m n d = none_if (m == n) None refl
 set_at f (y ∷ ys) zero zero d = refl
-set_at f (y ∷ ys) zero (suc n) d = let apart : (0 == suc n) ≡ false = apart_test 0 (suc n) (λ e. absurd (omega arith)) in rw apart refl
-set_at f (y ∷ ys) (suc m) zero d = let apart : (suc m == 0) ≡ false = apart_test (suc m) 0 (λ e. absurd (omega arith)) in rw apart refl
+set_at f (y ∷ ys) zero (suc n) d = let apart : (0 == suc n) ≡ false =
+    apart_test 0 (suc n) (λ e. absurd (omega arith)) in rw apart refl
+set_at f (y ∷ ys) (suc m) zero d = let apart : (suc m == 0) ≡ false =
+    apart_test (suc m) 0 (λ e. absurd (omega arith)) in rw apart refl
 set_at f (y ∷ ys) (suc m) (suc n) d = set_at f ys m n d ∙ ap (λ t. changed_if f t (slice_get ys n)) (sym (suc_test m n))
 
-twice : {A : Type 0} (a b : Bool) (x : A) (o : Option A) → changed_if (λ _. x) b (changed_if (λ _. x) a o) ≡ changed_if (λ _. x) (a || b) o
+twice : {A : Type 0} (a b : Bool) (x : A) (o : Option A) → changed_if (λ _. x) b (changed_if (λ _. x) a o)
+    ≡ changed_if (λ _. x) (a || b) o
 twice true true x None = refl
 twice true true x (Some y) = refl
 twice true false x o = refl
@@ -40,7 +45,8 @@ twice false true x o = refl
 twice false false x o = refl
 
 -- what stands at a place, once some are marked
-pub marked_at : {A : Type 0} (ns : List ℕ) (x : A) (xs : List A) (n : ℕ) → slice_get (marked ns x xs) n ≡ (if is_in n ns then option_map (λ _. x) (slice_get xs n) else slice_get xs n)
+pub marked_at : {A : Type 0} (ns : List ℕ) (x : A) (xs : List A) (n : ℕ)
+    → slice_get (marked ns x xs) n ≡ (if is_in n ns then option_map (λ _. x) (slice_get xs n) else slice_get xs n)
 marked_at [] x xs n = refl
 marked_at (m ∷ ns) x xs n =
     marked_at ns x (set xs m x) n
@@ -51,7 +57,8 @@ pub length-marked : {A : Type 0} (ns : List ℕ) (x : A) (xs : List A) → lengt
 length-marked [] x xs = refl
 length-marked (m ∷ ns) x xs = length-marked ns x (set xs m x) ∙ length-set xs m x
 
-once : {A : Type 0} (f : A → A) (a b : Bool) (o : Option A) → (a ≡ true → b ≡ false) → changed_if f b (changed_if f a o) ≡ changed_if f (a || b) o
+once : {A : Type 0} (f : A → A) (a b : Bool) (o : Option A) → (a ≡ true → b ≡ false)
+    → changed_if f b (changed_if f a o) ≡ changed_if f (a || b) o
 once f true true o apart = absurd (true≢false (apart refl))
 once f true false o apart = refl
 once f false true o apart = refl
@@ -64,11 +71,13 @@ changed_at f [] pool n apart = refl
 changed_at f (m ∷ ns) pool n apart =
     changed_at f ns (set pool m (f (get_or pool m Used))) n (differ_tail m ns apart)
     ∙ ap (changed_if f (is_in n ns)) (set_at f pool m n Used)
-    ∙ once f (m == n) (is_in n ns) (slice_get pool n) (λ e. subst (λ x. is_in x ns ≡ false) (eqb-true m n e) (differ_head m ns apart))
+    ∙ once f (m == n) (is_in n ns) (slice_get pool n) (λ e. subst (λ x. is_in x ns
+    ≡ false) (eqb-true m n e) (differ_head m ns apart))
 
 pub length-changed : (f : Status → Status) (ns : List ℕ) (pool : List Status) → length (changed f ns pool) ≡ length pool
 length-changed f [] pool = refl
-length-changed f (m ∷ ns) pool = length-changed f ns (set pool m (f (get_or pool m Used))) ∙ length-set pool m (f (get_or pool m Used))
+length-changed f (m ∷ ns) pool = length-changed f ns (set pool m (f (get_or pool m Used)))
+    ∙ length-set pool m (f (get_or pool m Used))
 
 -- lists with the same at each place are the same
 pub same_list : {A : Type 0} (xs ys : List A) → ((n : ℕ) → slice_get xs n ≡ slice_get ys n) → xs ≡ ys

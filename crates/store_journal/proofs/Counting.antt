@@ -1,5 +1,6 @@
 -- How often a number or a block stands in a list.
-use Rattle.std.proofs.Common.{◌≡◌, ℕ, zero, suc, ◌+◌, ◌<◌, ◌≤◌, ◌==◌, Bool, true, false, cond, ◌&&◌, ◌||◌, List, [], ◌∷◌, length, get_or, count_by, Decides, refl, sym, ap, subst, ◌∙◌, arith}
+use Rattle.std.proofs.Common.{◌≡◌, ℕ, zero, suc, ◌+◌, ◌<◌, ◌≤◌, ◌==◌, Bool, true, false, cond, ◌&&◌, ◌||◌, List, [], ◌∷◌, length}
+use Rattle.std.proofs.Common.{get_or, count_by, Decides, refl, sym, ap, subst, ◌∙◌, arith}
 use Rattle.std.specs.Prelude.{Contains}
 use Rattle.std.specs.Cmp.Lexicographic.{pointwise}
 use Rattle.std.specs.declared.option.Option.{Option}
@@ -65,7 +66,8 @@ apart_if (n ∷ ns) once =
     let twice : times n (n ∷ ns) ≤ 1 = once n in
     let count : times n (n ∷ ns) ≡ 1 + times n ns = count_more (λ x. x == n) n ns ∙ ap (λ t. cond t 1 0 + times n ns) here in
     let none : is_in n ns ≡ false = in_times n ns ∙ zero_times (times n ns) (omega arith) in
-    rw none (apart_if ns (λ m. let whole : times m (n ∷ ns) ≤ 1 = once m in let more = count_more (λ x. x == m) n ns in omega arith))
+    rw none (apart_if ns (λ m. let whole : times m (n ∷ ns) ≤ 1 = once m in let more =
+    count_more (λ x. x == m) n ns in omega arith))
 
 -- Blocks by their whole value
 
@@ -73,7 +75,8 @@ Decides-same_stamp : (a b : Stamp) → Decides (same_stamp a b) (a ≡ b)
 Decides-same_stamp a b =
     Decides-like _ (λ p i. record { weight = p.0.0 i; first = p.0.1 i; recent = p.1 i })
     (λ q. ((ap (λ s. s.weight) q, ap (λ s. s.first) q), ap (λ s. s.recent) q))
-    (Decides-and _ _ (Decides-and _ _ (Decides-int_eq a.weight b.weight) (Decides-eqb a.first b.first)) (Decides-eqb a.recent b.recent))
+    (Decides-and _ _ (Decides-and _ _ (Decides-int_eq a.weight b.weight) (Decides-eqb a.first b.first))
+    (Decides-eqb a.recent b.recent))
 
 abbrev same_slot : Option Slot → Option Slot → Bool
 same_slot None None = true
@@ -98,11 +101,13 @@ pub Decides-same_block : (a b : BlockView) → Decides (same_block a b) (a ≡ b
 Decides-same_block a b =
     Decides-like _ (λ p i. record { number = p.0.0.0 i; source = p.0.0.1 i; kind = p.0.1 i; slots = p.1 i })
     (λ q. (((ap (λ x. x.number) q, ap (λ x. x.source) q), ap (λ x. x.kind) q), ap (λ x. x.slots) q))
-    (Decides-and _ _ (Decides-and _ _ (Decides-and _ _ (Decides-eqb a.number b.number) (Decides-eqb a.source b.source)) (Decides-eqb a.kind b.kind))
+    (Decides-and _ _ (Decides-and _ _ (Decides-and _ _ (Decides-eqb a.number b.number) (Decides-eqb a.source b.source))
+    (Decides-eqb a.kind b.kind))
     (slice_eq-Decides Decides-same_slot a.slots b.slots (pointwise same_slot a.slots b.slots) refl))
 
 -- a block that is listed is counted
-pub counted : (b : BlockView) (bs : List BlockView) (k : ℕ) → k < length bs → get_or bs k b ≡ b → 1 ≤ count_by (λ x. same_block x b) bs
+pub counted : (b : BlockView) (bs : List BlockView) (k : ℕ) → k < length bs → get_or bs k b ≡ b
+    → 1 ≤ count_by (λ x. same_block x b) bs
 counted b [] k h at = absurd (omega arith)
 counted b (c ∷ cs) zero h at =
     let is : same_block c b ≡ true = (Decides-same_block c b).1 at in
@@ -118,7 +123,8 @@ counted b (c ∷ cs) (suc k) h at =
 pub listed : (b : BlockView) (bs : List BlockView) → 1 ≤ count_by (λ x. same_block x b) bs → Contains bs b
 listed b [] h = absurd (omega arith)
 listed b (c ∷ cs) h =
-    elim (same_block c b) as (λ t. same_block c b ≡ t → count_by (λ x. same_block x b) (c ∷ cs) ≡ cond t 1 0 + count_by (λ x. same_block x b) cs → Contains (c ∷ cs) b) [
+    elim (same_block c b) as (λ t. same_block c b ≡ t → count_by (λ x. same_block x b) (c ∷ cs)
+    ≡ cond t 1 0 + count_by (λ x. same_block x b) cs → Contains (c ∷ cs) b) [
       | true ↦ λ is e. (0, omega arith, (Decides-same_block c b).0 is)
       | false ↦ λ is e. (let rest = listed b cs (omega arith) in (suc rest.0, omega (arith, rest.1), rest.2))
     ] refl (count_more (λ x. same_block x b) c cs)

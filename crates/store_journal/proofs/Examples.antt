@@ -6,8 +6,10 @@ use Rattle.std.proofs.lemmas.List.Elements.{All-cons}
 use Rattle.graph_version.specs.Edges.{edges_in_block}
 use Rattle.epoch_core.specs.declared.states.SessionState.TheVariants.{Idle}
 use Rattle.epoch_core.specs.Worlds.{session_of, edges_at}
-use Rattle.seat_board.specs.Board.{pin_at}
+use Rattle.seat_board.specs.Board.{pin_at, no_pins, with_pin, unsettled}
 use Rattle.seat_board.specs.declared.board.Pin.{Pin as SeatPin}
+use Rattle.epoch_core.specs.declared.events.Event.TheVariants.{Pin}
+use Rattle.store_journal.specs.Reached.{world_by}
 use Rattle.store_journal.specs.Shown.{SameStatus}
 use Rattle.store_journal.specs.Boards.{seat_pin}
 use Rattle.store_journal.specs.Examples.{AreExamples, block_one, desk_of_edge, world_of_edge, board_of_two, world_of_two}
@@ -20,7 +22,8 @@ status_shown birth (suc (suc zero)) = tt
 status_shown birth (suc (suc (suc n))) = tt
 
 edges_shown : (birth : ℕ) → All (λ b. edges_at (world_of_edge birth).heap b.number ≡ edges_in_block b) (block_one ∷ [])
-edges_shown birth = All-cons (λ b. edges_at (world_of_edge birth).heap b.number ≡ edges_in_block b) block_one [] refl (λ k d h. absurd (omega arith))
+edges_shown birth = All-cons (λ b. edges_at (world_of_edge birth).heap b.number
+    ≡ edges_in_block b) block_one [] refl (λ k d h. absurd (omega arith))
 
 one_idle : (s : ℕ) → get_or (Idle ∷ []) s Idle ≡ Idle
 one_idle zero = refl
@@ -30,6 +33,14 @@ pins_shown : (s : ℕ) → seat_pin (session_of world_of_two s) ≡ pin_at board
 pins_shown zero = refl
 pins_shown (suc zero) = refl
 pins_shown (suc (suc s)) = ap seat_pin (one_idle s) ∙ sym (no_pin 14 s)
+
+none_idle : (s : ℕ) → get_or [] s Idle ≡ Idle
+none_idle s = refl
+
+pin_shown : (s : ℕ) → seat_pin (session_of (world_by 1 3 (Pin 0 ∷ [])) s)
+    ≡ pin_at (with_pin no_pins 0 (Some (unsettled 0))).pins s
+pin_shown zero = refl
+pin_shown (suc s) = ap seat_pin (none_idle s) ∙ sym (no_pin 15 s)
 
 abbrev is_settled_in : Option SeatPin → Bool
 is_settled_in None = false
@@ -46,7 +57,14 @@ are_examples = record {
   collected_early = refl;
   collected_late = refl;
   collected_nothing = refl;
-  desk = λ birth. record { opening = refl; batches = refl; blocks = refl; edges = edges_shown birth; status = status_shown birth; sizes = refl };
+  desk = λ birth. record {
+    opening = refl;
+    batches = refl;
+    blocks = refl;
+    edges = edges_shown birth;
+    status = status_shown birth;
+    sizes = refl;
+  };
   fresh = λ w shows. shows.status 1;
   posted = refl;
   filled = refl;
@@ -55,6 +73,11 @@ are_examples = record {
   none_recycled = refl;
   freed = refl;
   past_the_floor = refl;
+  accepted = refl;
+  entry = refl;
+  no_entry = refl;
+  pinned = record { floor = refl; pins = pin_shown };
+  entered = refl;
   board = record { floor = refl; pins = pins_shown };
   settled = λ w shows. true≢false (sym (ap is_settled_in (shows.pins 1)));
 }

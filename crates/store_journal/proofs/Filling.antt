@@ -1,5 +1,6 @@
 -- Take and Fill of several blocks.
-use Rattle.std.proofs.Common.{◌≡◌, ◌≢◌, ℕ, ◌<◌, ◌==◌, true, false, List, [], ◌∷◌, ◌++◌, length, set, refl, sym, ap, ◌∙◌, arith, get_or-set_same, get_or-set_other}
+use Rattle.std.proofs.Common.{◌≡◌, ◌≢◌, ℕ, ◌<◌, ◌==◌, true, false, List, [], ◌∷◌, ◌++◌, length, set, refl, sym, ap, ◌∙◌, arith}
+use Rattle.std.proofs.Common.{get_or-set_same, get_or-set_other}
 use Rattle.std.specs.Prelude.{slice_get, if◌then◌else◌, All}
 use Rattle.std.specs.List.{flat_map}
 use Rattle.std.specs.Option.{option_map, option_and_then}
@@ -39,25 +40,30 @@ step_then e es w next is = ap (option_and_then (all_done es)) is
 take_done : (w : World) (n : ℕ) → slice_get w.status n ≡ Some Free → step w (Take n) ≡ Some (with_status w (set w.status n Fresh))
 take_done w n is = ap (λ o. option_map (with_status w) (put w.status n (option_and_then taken o))) is
 
-fill_done : (w : World) (n : ℕ) (edges : List Edge) → slice_get w.status n ≡ Some Fresh → step w (Fill n edges) ≡ Some (with_heap w (set w.heap n edges))
-fill_done w n edges is = ap (λ o. option_map (with_heap w) (option_and_then (λ s. if is_fresh s then Some (set w.heap n edges) else None) o)) is
+fill_done : (w : World) (n : ℕ) (edges : List Edge) → slice_get w.status n ≡ Some Fresh
+    → step w (Fill n edges) ≡ Some (with_heap w (set w.heap n edges))
+fill_done w n edges is = ap (λ o. option_map (with_heap w) (option_and_then
+    (λ s. if is_fresh s then Some (set w.heap n edges) else None) o)) is
 
 -- the blocks of these numbers are all in this state
 abbrev pub AllAre : Status → List Status → List BlockView → Type 0
 AllAre s status bs = All (λ b. slice_get status b.number ≡ Some s) bs
 
-still : (status : List Status) (s x : Status) (b : BlockView) (bs : List BlockView) → is_in b.number (numbers_of bs) ≡ false → AllAre s status bs
+still : (status : List Status) (s x : Status) (b : BlockView) (bs : List BlockView) → is_in b.number (numbers_of bs) ≡ false
+    → AllAre s status bs
     → AllAre s (set status b.number x) bs
 still status s x b [] apart all = λ k d h. absurd (omega arith)
 still status s x b (c ∷ cs) apart all =
-    let parts : ((c.number == b.number) ≡ false) × (is_in b.number (numbers_of cs) ≡ false) = or_false (c.number == b.number) (is_in b.number (numbers_of cs)) apart in
+    let parts : ((c.number == b.number) ≡ false) × (is_in b.number (numbers_of cs) ≡ false) =
+    or_false (c.number == b.number) (is_in b.number (numbers_of cs)) apart in
     All-cons (λ y. slice_get (set status b.number x) y.number ≡ Some s) c cs
     (set_else status b.number c.number x (λ e. absurd (true≢false (sym (eq-eqb c.number b.number e) ∙ parts.0)))
     ∙ All-head (λ y. slice_get status y.number ≡ Some s) c cs all)
     (still status s x b cs parts.1 (All-tail (λ y. slice_get status y.number ≡ Some s) c cs all))
 
 -- all Takes and Fills are done
-pub fills_done : (bs : List BlockView) (rest : List Event) (w : World) → AllAre Free w.status bs → all_differ (numbers_of bs) ≡ true
+pub fills_done : (bs : List BlockView) (rest : List Event) (w : World) → AllAre Free w.status bs
+    → all_differ (numbers_of bs) ≡ true
     → all_done (flat_map filling bs ++ rest) w ≡ all_done rest (filled_world w bs)
 fills_done [] rest w free apart = refl
 fills_done (b ∷ bs) rest w free apart =
@@ -68,23 +74,28 @@ fills_done (b ∷ bs) rest w free apart =
     ∙ step_then (Fill b.number (edges_in_block b)) (flat_map filling bs ++ rest) w1 w2
     (fill_done w1 b.number (edges_in_block b) (set_same w.status b.number Free Fresh here))
     ∙ fills_done bs rest w2
-    (still w.status Free Fresh b bs (differ_head b.number (numbers_of bs) apart) (All-tail (λ y. slice_get w.status y.number ≡ Some Free) b bs free))
+    (still w.status Free Fresh b bs (differ_head b.number (numbers_of bs) apart) (All-tail (λ y. slice_get w.status y.number
+    ≡ Some Free) b bs free))
     (differ_tail b.number (numbers_of bs) apart)
 
 pub length-heap_with : (bs : List BlockView) (heap : List (List Edge)) → length (heap_with bs heap) ≡ length heap
 length-heap_with [] heap = refl
-length-heap_with (b ∷ bs) heap = length-heap_with bs (set heap b.number (edges_in_block b)) ∙ length-set heap b.number (edges_in_block b)
+length-heap_with (b ∷ bs) heap = length-heap_with bs (set heap b.number (edges_in_block b))
+    ∙ length-set heap b.number (edges_in_block b)
 
 -- other blocks keep their edges
-pub heap_else : (bs : List BlockView) (heap : List (List Edge)) (n : ℕ) → is_in n (numbers_of bs) ≡ false → edges_at (heap_with bs heap) n ≡ edges_at heap n
+pub heap_else : (bs : List BlockView) (heap : List (List Edge)) (n : ℕ) → is_in n (numbers_of bs) ≡ false
+    → edges_at (heap_with bs heap) n ≡ edges_at heap n
 heap_else [] heap n apart = refl
 heap_else (b ∷ bs) heap n apart =
-    let parts : ((b.number == n) ≡ false) × (is_in n (numbers_of bs) ≡ false) = or_false (b.number == n) (is_in n (numbers_of bs)) apart in
+    let parts : ((b.number == n) ≡ false) × (is_in n (numbers_of bs) ≡ false) =
+    or_false (b.number == n) (is_in n (numbers_of bs)) apart in
     let ne : n ≢ b.number = λ e. absurd (true≢false (sym (eq-eqb b.number n (sym e)) ∙ parts.0)) in
     heap_else bs (set heap b.number (edges_in_block b)) n parts.1 ∙ rw get_or-set_other refl
 
 -- these blocks have theirs
-pub heap_here : (bs : List BlockView) (heap : List (List Edge)) → All (λ b. b.number < length heap) bs → all_differ (numbers_of bs) ≡ true
+pub heap_here : (bs : List BlockView) (heap : List (List Edge)) → All (λ b. b.number < length heap) bs
+    → all_differ (numbers_of bs) ≡ true
     → All (λ b. edges_at (heap_with bs heap) b.number ≡ edges_in_block b) bs
 heap_here [] heap within apart = λ k d h. absurd (omega arith)
 heap_here (b ∷ bs) heap within apart =
@@ -93,7 +104,8 @@ heap_here (b ∷ bs) heap within apart =
     let len : length heap1 ≡ length heap = length-set heap b.number (edges_in_block b) in
     All-cons (λ y. edges_at (heap_with (b ∷ bs) heap) y.number ≡ edges_in_block y) b bs
     (heap_else bs heap1 b.number (differ_head b.number (numbers_of bs) apart) ∙ rw get_or-set_same refl)
-    (heap_here bs heap1 (λ k d h. omega (arith, All-tail (λ y. y.number < length heap) b bs within k d h)) (differ_tail b.number (numbers_of bs) apart))
+    (heap_here bs heap1 (λ k d h. omega (arith, All-tail (λ y. y.number < length heap) b bs within k d h))
+    (differ_tail b.number (numbers_of bs) apart))
 
 -- a heap with the edges of blocks at their numbers has the edges of them all
 pub edges_from : (heap : List (List Edge)) (bs : List BlockView) → All (λ b. edges_at heap b.number ≡ edges_in_block b) bs
@@ -101,5 +113,6 @@ pub edges_from : (heap : List (List Edge)) (bs : List BlockView) → All (λ b. 
 edges_from heap [] all = refl
 edges_from heap (b ∷ bs) all =
     let here : edges_at heap b.number ≡ edges_in_block b = All-head (λ y. edges_at heap y.number ≡ edges_in_block y) b bs all in
-    let rest : edges_of heap (numbers_of bs) ≡ edges_in_blocks bs = edges_from heap bs (All-tail (λ y. edges_at heap y.number ≡ edges_in_block y) b bs all) in
+    let rest : edges_of heap (numbers_of bs) ≡ edges_in_blocks bs =
+    edges_from heap bs (All-tail (λ y. edges_at heap y.number ≡ edges_in_block y) b bs all) in
     ap (λ es. es ++ edges_of heap (numbers_of bs)) here ∙ ap (λ es. edges_in_block b ++ es) rest

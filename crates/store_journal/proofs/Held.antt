@@ -1,12 +1,13 @@
 -- What a session holds is a snapshot.
-use Rattle.std.proofs.Common.{◌≡◌, ℕ, ◌<◌, ◌≤◌, Bool, true, false, List, length, take, map, refl, sym, ap, subst, ◌∙◌, arith}
+use Rattle.std.proofs.Common.{◌≡◌, ℕ, ◌<◌, ◌≤◌, false, take, refl, sym, ap, subst, ◌∙◌, arith}
 use Rattle.std.specs.Prelude.{slice_get, nat_le}
 use Rattle.std.specs.declared.option.Option.{Option}
 use Rattle.std.specs.declared.option.Option.TheVariants.{None, Some}
 use Rattle.std.proofs.lemmas.Bool.Decides.{nat_tests}
-use Rattle.std.proofs.lemmas.List.{take-map, length-map}
+use Rattle.std.proofs.lemmas.List.{take-map}
 use Rattle.graph_model.specs.Step.{left_by}
-use Rattle.block_pool.specs.Pools.{Status as PoolStatus, Free as PoolFree, Used as PoolUsed, Retired as PoolRetired, is_free, is_past, passes}
+use Rattle.block_pool.specs.Pools.{Status as PoolStatus, Free as PoolFree, Used as PoolUsed, Retired as PoolRetired, is_free}
+use Rattle.block_pool.specs.Pools.{is_past, passes}
 use Rattle.epoch_core.specs.declared.states.Hold.{Hold}
 use Rattle.epoch_core.specs.declared.states.SessionState.{SessionState}
 use Rattle.epoch_core.specs.declared.states.SessionState.TheVariants.{Idle, Pinned, Holding, Asking}
@@ -14,11 +15,12 @@ use Rattle.epoch_core.specs.declared.states.Status.{Status}
 use Rattle.epoch_core.specs.declared.states.Status.TheVariants.{Free, Fresh, Used, Retired}
 use Rattle.epoch_core.specs.Blocks.{is_listed}
 use Rattle.epoch_core.specs.Sound.{IsSound, IsSessionSound, IsHeld, IsKeptAt}
-use Rattle.epoch_core.specs.Worlds.{World, Shows as ShowsGraph, start, opening_graph, blocks_at, edges_of, graph_at, last_number, session_of, held_in}
+use Rattle.epoch_core.specs.Worlds.{World, Shows as ShowsGraph, start, opening_graph, blocks_at, edges_of, graph_at, session_of}
+use Rattle.epoch_core.specs.Worlds.{held_in}
 use Rattle.epoch_core.proofs.Steps.{always_sound, start_is_start}
 use Rattle.store_journal.specs.Desks.{DeskView}
 use Rattle.store_journal.specs.Shown.{SameStatus, Shows}
-use Rattle.store_journal.specs.Reached.{world_by, IsReached}
+use Rattle.store_journal.specs.Reached.{world_by}
 use Rattle.store_journal.specs.Held.{IsSnapshot, HeldIsSnapshot}
 use Rattle.store_journal.proofs.Reached.{same_count}
 
@@ -48,7 +50,8 @@ not_free n (Some (PoolRetired v)) s same kept = refl
 above_test : (v floor : ℕ) → floor < v → nat_le v floor ≡ false
 above_test v floor h = grind (arith, nat_tests)
 
-not_past : (n floor : ℕ) (p : Option PoolStatus) (s : Option Status) → SameStatus p s → IsKeptAt n s → floor ≤ n → passes (is_past floor) p ≡ false
+not_past : (n floor : ℕ) (p : Option PoolStatus) (s : Option Status) → SameStatus p s → IsKeptAt n s → floor ≤ n
+    → passes (is_past floor) p ≡ false
 not_past n floor None s same kept low = refl
 not_past n floor (Some PoolFree) s same kept low = refl
 not_past n floor (Some PoolUsed) s same kept low = refl
@@ -60,7 +63,8 @@ not_past n floor (Some (PoolRetired v)) (Some (Retired birth since)) same kept l
     let after = kept.1 in above_test v floor (omega arith)
 
 -- the graph of the machine's version is what the desk's first batches leave
-graph_first : (d : DeskView) (w : World) (n : ℕ) → Shows d w → graph_at w.opening w.versions n ≡ left_by (take n d.last.batches) d.last.opening
+graph_first : (d : DeskView) (w : World) (n : ℕ) → Shows d w → graph_at w.opening w.versions n
+    ≡ left_by (take n d.last.batches) d.last.opening
 graph_first d w n shows =
     ap (λ bs. left_by bs (opening_graph w.opening)) (sym (take-map (λ v. v.batch) n w.versions) ∙ ap (take n) shows.batches)
     ∙ ap (left_by (take n d.last.batches)) shows.opening
@@ -73,7 +77,8 @@ snapshot d w raised n shows same holder =
     record {
       within = let last = holder.held.held_last in let count = same_count d w shows in omega arith;
       shown = subst (ShowsGraph (edges_of w.heap (blocks_at w.opening w.versions n))) (graph_first d w n shows)
-          (subst (λ m. ShowsGraph (edges_of w.heap (blocks_at w.opening w.versions m)) (graph_at w.opening w.versions m)) version holder.held.shown);
+          (subst (λ m. ShowsGraph (edges_of w.heap (blocks_at w.opening w.versions m)) (graph_at w.opening w.versions m))
+          version holder.held.shown);
       in_use = λ c is.
           not_free holder.hold.version (slice_get d.pool c) (slice_get w.status c) (shows.status c)
           (holder.held.kept c (ap (λ m. is_listed c (blocks_at w.opening w.versions m)) version ∙ is));

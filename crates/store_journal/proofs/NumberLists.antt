@@ -1,5 +1,6 @@
 -- Numbers in lists, and blocks that are picked by their numbers.
-use Rattle.std.proofs.Common.{◌≡◌, ◌≢◌, ℕ, zero, suc, ◌<◌, ◌==◌, Bool, true, false, not, ◌&&◌, ◌||◌, List, [], ◌∷◌, length, get_or, refl, sym, ap, ◌∙◌, arith}
+use Rattle.std.proofs.Common.{◌≡◌, ◌≢◌, ℕ, zero, suc, ◌<◌, ◌==◌, Bool, true, false, not, ◌&&◌, ◌||◌, List, [], ◌∷◌, length}
+use Rattle.std.proofs.Common.{get_or, refl, sym, ap, ◌∙◌, arith}
 use Rattle.std.specs.Prelude.{if◌then◌else◌, All, AllPairs, filter}
 use Rattle.std.specs.List.{list_all}
 use Rattle.std.proofs.lemmas.List.Elements.{All-head, All-tail, All-cons}
@@ -70,14 +71,18 @@ differ_tail n ns is = go (is_in n ns) is where
 -- Blocks
 
 -- the number of a block that is listed is listed
-pub number_in : (bs : List BlockView) (b : BlockView) (k : ℕ) → k < length bs → get_or bs k b ≡ b → is_in b.number (numbers_of bs) ≡ true
+pub number_in : (bs : List BlockView) (b : BlockView) (k : ℕ) → k < length bs → get_or bs k b ≡ b
+    → is_in b.number (numbers_of bs) ≡ true
 number_in [] b k h at = absurd (omega arith)
-number_in (c ∷ cs) b zero h at = let same : (c.number == b.number) ≡ true = eq-eqb c.number b.number (ap (λ x. x.number) at) in rw same refl
-number_in (c ∷ cs) b (suc k) h at = or_right (c.number == b.number) (is_in b.number (numbers_of cs)) (number_in cs b k (omega arith) at)
+number_in (c ∷ cs) b zero h at = let same : (c.number == b.number) ≡ true =
+    eq-eqb c.number b.number (ap (λ x. x.number) at) in rw same refl
+number_in (c ∷ cs) b (suc k) h at = or_right (c.number == b.number) (is_in b.number (numbers_of cs))
+    (number_in cs b k (omega arith) at)
 
 pub numbers_all : (p : ℕ → Bool) (bs : List BlockView) → All (λ b. p b.number ≡ true) bs → list_all p (numbers_of bs) ≡ true
 numbers_all p [] all = refl
-numbers_all p (b ∷ bs) all = rw (All-head (λ x. p x.number ≡ true) b bs all) (numbers_all p bs (All-tail (λ x. p x.number ≡ true) b bs all))
+numbers_all p (b ∷ bs) all = rw (All-head (λ x. p x.number ≡ true) b bs all)
+    (numbers_all p bs (All-tail (λ x. p x.number ≡ true) b bs all))
 
 -- Blocks that are picked by number
 
@@ -85,11 +90,13 @@ abbrev pub picked : (ℕ → Bool) → List BlockView → List BlockView
 picked p bs = filter (λ b. p b.number) bs
 
 in_cond : (t : Bool) (b : BlockView) (bs : List BlockView) (n : ℕ)
-    → is_in n (numbers_of (if t then b ∷ bs else bs)) ≡ (if t then (b.number == n) || is_in n (numbers_of bs) else is_in n (numbers_of bs))
+    → is_in n (numbers_of (if t then b ∷ bs else bs)) ≡ (if t then (b.number == n) || is_in n (numbers_of bs) else is_in n
+    (numbers_of bs))
 in_cond true b bs n = refl
 in_cond false b bs n = refl
 
-picks : (p : ℕ → Bool) (m n : ℕ) (rest t u : Bool) → p m ≡ t → (m == n) ≡ u → (rest ≡ true → p n ≡ true) → (if t then u || rest else rest) ≡ true → p n ≡ true
+picks : (p : ℕ → Bool) (m n : ℕ) (rest t u : Bool) → p m ≡ t → (m == n) ≡ u → (rest ≡ true → p n ≡ true)
+    → (if t then u || rest else rest) ≡ true → p n ≡ true
 picks p m n rest true true e f more is = ap p (sym (eqb-true m n f)) ∙ e
 picks p m n rest true false e f more is = more is
 picks p m n rest false u e f more is = more is
@@ -97,16 +104,19 @@ picks p m n rest false u e f more is = more is
 pub in_picked : (p : ℕ → Bool) (bs : List BlockView) (n : ℕ) → is_in n (numbers_of (picked p bs)) ≡ true → p n ≡ true
 in_picked p [] n is = cc
 in_picked p (b ∷ bs) n is =
-    picks p b.number n _ (p b.number) (b.number == n) refl refl (in_picked p bs n) (sym (in_cond (p b.number) b (picked p bs) n) ∙ is)
+    picks p b.number n _ (p b.number) (b.number == n) refl refl (in_picked p bs n) (sym (in_cond (p b.number) b (picked p bs) n)
+    ∙ is)
 
-picked_by : (p : ℕ → Bool) (m n : ℕ) (rest more t u : Bool) → p m ≡ t → (m == n) ≡ u → p n ≡ true → (more ≡ true → rest ≡ true) → (u || more) ≡ true
+picked_by : (p : ℕ → Bool) (m n : ℕ) (rest more t u : Bool) → p m ≡ t → (m == n) ≡ u → p n ≡ true → (more ≡ true → rest ≡ true)
+    → (u || more) ≡ true
     → (if t then u || rest else rest) ≡ true
 picked_by p m n rest more true true e f pass h is = refl
 picked_by p m n rest more true false e f pass h is = h is
 picked_by p m n rest more false true e f pass h is = absurd (true≢false (sym (ap p (eqb-true m n f) ∙ pass) ∙ e))
 picked_by p m n rest more false false e f pass h is = h is
 
-pub picked_in : (p : ℕ → Bool) (bs : List BlockView) (n : ℕ) → p n ≡ true → is_in n (numbers_of bs) ≡ true → is_in n (numbers_of (picked p bs)) ≡ true
+pub picked_in : (p : ℕ → Bool) (bs : List BlockView) (n : ℕ) → p n ≡ true → is_in n (numbers_of bs) ≡ true
+    → is_in n (numbers_of (picked p bs)) ≡ true
 picked_in p [] n pass is = is
 picked_in p (b ∷ bs) n pass is =
     in_cond (p b.number) b (picked p bs) n
@@ -118,22 +128,28 @@ none_of true false rest more h is = h is
 none_of false true rest more h is = cc
 none_of false false rest more h is = h is
 
-not_picked : (p : ℕ → Bool) (bs : List BlockView) (n : ℕ) → is_in n (numbers_of bs) ≡ false → is_in n (numbers_of (picked p bs)) ≡ false
+not_picked : (p : ℕ → Bool) (bs : List BlockView) (n : ℕ) → is_in n (numbers_of bs) ≡ false
+    → is_in n (numbers_of (picked p bs)) ≡ false
 not_picked p [] n is = refl
-not_picked p (b ∷ bs) n is = in_cond (p b.number) b (picked p bs) n ∙ none_of (p b.number) (b.number == n) _ _ (not_picked p bs n) is
+not_picked p (b ∷ bs) n is = in_cond (p b.number) b (picked p bs) n
+    ∙ none_of (p b.number) (b.number == n) _ _ (not_picked p bs n) is
 
 -- those picked are different where all are
-pub picked_apart : (p : ℕ → Bool) (bs : List BlockView) → all_differ (numbers_of bs) ≡ true → all_differ (numbers_of (picked p bs)) ≡ true
+pub picked_apart : (p : ℕ → Bool) (bs : List BlockView) → all_differ (numbers_of bs) ≡ true
+    → all_differ (numbers_of (picked p bs)) ≡ true
 picked_apart p [] is = refl
-picked_apart p (b ∷ bs) is = elim (p b.number) as (λ t. all_differ (numbers_of (if t then b ∷ picked p bs else picked p bs)) ≡ true) [
-  | true ↦ rw (not_picked p bs b.number (differ_head b.number (numbers_of bs) is)) (picked_apart p bs (differ_tail b.number (numbers_of bs) is))
-  | false ↦ picked_apart p bs (differ_tail b.number (numbers_of bs) is)
-]
+picked_apart p (b ∷ bs) is = elim (p b.number) as (λ t. all_differ (numbers_of (if t then b ∷ picked p bs else picked p bs))
+    ≡ true) [
+      | true ↦ rw (not_picked p bs b.number (differ_head b.number (numbers_of bs) is))
+          (picked_apart p bs (differ_tail b.number (numbers_of bs) is))
+      | false ↦ picked_apart p bs (differ_tail b.number (numbers_of bs) is)
+    ]
 
 -- each block picked passes
 pub picked_all : (p : ℕ → Bool) (bs : List BlockView) → All (λ b. p b.number ≡ true) (picked p bs)
 picked_all p [] = λ k d h. absurd (omega arith)
-picked_all p (b ∷ bs) = elim (p b.number) as (λ t. p b.number ≡ t → All (λ x. p x.number ≡ true) (if t then b ∷ picked p bs else picked p bs)) [
-  | true ↦ λ e. All-cons (λ x. p x.number ≡ true) b (picked p bs) e (picked_all p bs)
-  | false ↦ λ e. picked_all p bs
-] refl
+picked_all p (b ∷ bs) = elim (p b.number) as (λ t. p b.number ≡ t
+    → All (λ x. p x.number ≡ true) (if t then b ∷ picked p bs else picked p bs)) [
+      | true ↦ λ e. All-cons (λ x. p x.number ≡ true) b (picked p bs) e (picked_all p bs)
+      | false ↦ λ e. picked_all p bs
+    ] refl

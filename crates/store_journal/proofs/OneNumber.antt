@@ -10,7 +10,8 @@ use Rattle.store_journal.proofs.Counting.{is_some_times}
 
 -- taken, and then dropped by version n
 abbrev pub number_after : ℕ → Option Status → Bool → Bool → Option Status
-number_after n p t d = if d then option_map (retired n) (if t then option_map (λ _. Used) p else p) else (if t then option_map (λ _. Used) p else p)
+number_after n p t d = if d then option_map (retired n) (if t then option_map (λ _. Used) p else p) else
+    (if t then option_map (λ _. Used) p else p)
 
 -- granted, then some of the last version's retired, then the unused given back
 abbrev pub number_moved : ℕ → Option Status → Bool → Bool → Bool → Option Status
@@ -45,12 +46,15 @@ pub one_number : (n : ℕ) (p : Option Status) (kept dropped taken unused : ℕ)
     → passes is_used p ≡ is_some_times (kept + dropped) → (is_some_times (taken + unused) ≡ true → passes is_free p ≡ true)
     → OneNumber n p kept dropped taken unused
 one_number n p zero zero zero zero h g used free = record { moved = refl; used = used }
-one_number n p zero zero (suc zero) zero h g used free = let is : p ≡ Some Free = free_is p (free refl) in rw is (record { moved = refl; used = refl })
-one_number n p zero zero zero (suc zero) h g used free = let is : p ≡ Some Free = free_is p (free refl) in rw is (record { moved = refl; used = refl })
+one_number n p zero zero (suc zero) zero h g used free = let is : p ≡ Some Free =
+    free_is p (free refl) in rw is (record { moved = refl; used = refl })
+one_number n p zero zero zero (suc zero) h g used free = let is : p ≡ Some Free =
+    free_is p (free refl) in rw is (record { moved = refl; used = refl })
 one_number n p (suc zero) zero zero zero h g used free = record { moved = refl; used = used }
 one_number n p (suc zero) zero (suc zero) zero h g used free = absurd (not_both p (free refl) used)
 one_number n p (suc zero) zero zero (suc zero) h g used free = absurd (not_both p (free refl) used)
-one_number n p zero (suc zero) zero zero h g used free = let is : p ≡ Some Used = used_is p used in rw is (record { moved = refl; used = refl })
+one_number n p zero (suc zero) zero zero h g used free = let is : p ≡ Some Used =
+    used_is p used in rw is (record { moved = refl; used = refl })
 one_number n p zero (suc zero) (suc zero) zero h g used free = absurd (not_both p (free refl) used)
 one_number n p zero (suc zero) zero (suc zero) h g used free = absurd (not_both p (free refl) used)
 one_number n p kept dropped (suc (suc t)) unused h g used free = absurd (omega arith)

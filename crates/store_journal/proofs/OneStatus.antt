@@ -4,7 +4,8 @@ use Rattle.std.specs.Prelude.{if◌then◌else◌}
 use Rattle.std.specs.Option.{option_map}
 use Rattle.std.specs.declared.option.Option.{Option}
 use Rattle.std.specs.declared.option.Option.TheVariants.{None, Some}
-use Rattle.block_pool.specs.Pools.{Status as PoolStatus, Free as PoolFree, Used as PoolUsed, Retired as PoolRetired, is_free, is_used, passes}
+use Rattle.block_pool.specs.Pools.{Status as PoolStatus, Free as PoolFree, Used as PoolUsed, Retired as PoolRetired, is_free}
+use Rattle.block_pool.specs.Pools.{is_used, passes}
 use Rattle.epoch_core.specs.declared.states.Status.{Status}
 use Rattle.epoch_core.specs.declared.states.Status.TheVariants.{Free, Fresh, Used, Retired}
 use Rattle.epoch_core.specs.Blocks.{after_post}
@@ -15,7 +16,8 @@ use Rattle.store_journal.proofs.OneNumber.{number_after}
 abbrev pub status_by : ℕ → Bool → Option Status → Bool → Option Status
 status_by n listed s t = option_map (after_post n listed) (if t then option_map (λ _. Fresh) s else s)
 
-pub same_after : (n : ℕ) (p : Option PoolStatus) (s : Option Status) (t d : Bool) → SameStatus p s → (t ≡ true → passes is_free p ≡ true) → (d ≡ true → passes is_used p ≡ true)
+pub same_after : (n : ℕ) (p : Option PoolStatus) (s : Option Status) (t d : Bool) → SameStatus p s
+    → (t ≡ true → passes is_free p ≡ true) → (d ≡ true → passes is_used p ≡ true)
     → SameStatus (number_after n p t d) (status_by n (passes is_used (number_after n p t d)) s t)
 same_after n None None true true same t d = tt
 same_after n None None true false same t d = tt
@@ -55,7 +57,8 @@ free_there (Some PoolUsed) (Some s) same is = cc
 free_there (Some (PoolRetired v)) (Some s) same is = cc
 
 -- a taken number is used afterwards
-pub used_mark : (n : ℕ) (p : Option PoolStatus) (t d : Bool) → (t ≡ true → passes is_free p ≡ true) → (d ≡ true → passes is_used p ≡ true) → t ≡ true
+pub used_mark : (n : ℕ) (p : Option PoolStatus) (t d : Bool) → (t ≡ true → passes is_free p ≡ true)
+    → (d ≡ true → passes is_used p ≡ true) → t ≡ true
     → passes is_used (number_after n p t d) ≡ true
 used_mark n None t d f g e = let no = f e in cc
 used_mark n (Some PoolFree) true true f g e = let no = g refl in cc

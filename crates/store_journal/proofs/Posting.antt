@@ -1,5 +1,6 @@
 -- An accepted batch is Take and Fill of each taken block and then one Post, all done.
-use Rattle.std.proofs.Common.{◌≡◌, ℕ, zero, suc, ◌+◌, ◌<◌, ◌≤◌, Bool, true, false, ◌&&◌, ◌||◌, List, [], ◌∷◌, ◌++◌, length, get_or, refl, sym, ap, subst, ◌∙◌, arith, length-append}
+use Rattle.std.proofs.Common.{◌≡◌, ℕ, zero, suc, ◌+◌, ◌<◌, ◌≤◌, Bool, true, false, ◌&&◌, ◌||◌, List, [], ◌∷◌, ◌++◌, length}
+use Rattle.std.proofs.Common.{get_or, refl, sym, ap, subst, ◌∙◌, arith, length-append}
 use Rattle.std.specs.Prelude.{slice_get, if◌then◌else◌, All, Contains, nat_lt, nat_le}
 use Rattle.std.specs.List.{list_all}
 use Rattle.std.specs.Option.{option_map}
@@ -32,12 +33,14 @@ use Rattle.store_journal.specs.Journal.{Applied, Ledger, is_legal}
 use Rattle.store_journal.specs.Desks.{DeskView, IsDesk, IsAccepted, last_numbers, ledger_of}
 use Rattle.store_journal.specs.Shown.{SameStatus, Shows}
 use Rattle.store_journal.specs.Steps.{fresh_in, posting, Takes}
-use Rattle.store_journal.proofs.NumberLists.{same_bool, differ_from, number_in, numbers_all, picked, in_picked, picked_in, picked_apart, picked_all}
+use Rattle.store_journal.proofs.NumberLists.{same_bool, differ_from, number_in, numbers_all, picked, in_picked, picked_in}
+use Rattle.store_journal.proofs.NumberLists.{picked_apart, picked_all}
 use Rattle.store_journal.proofs.ChangedLists.{marked_at, length-marked}
 use Rattle.store_journal.proofs.OneNumber.{number_after}
 use Rattle.store_journal.proofs.Accepting.{exchanged_at}
 use Rattle.store_journal.proofs.OneStatus.{status_by, same_after, free_there, used_mark}
-use Rattle.store_journal.proofs.Filling.{filled_world, fills_done, step_then, AllAre, length-heap_with, heap_else, heap_here, edges_from}
+use Rattle.store_journal.proofs.Filling.{filled_world, fills_done, step_then, AllAre, length-heap_with, heap_else, heap_here}
+use Rattle.store_journal.proofs.Filling.{edges_from}
 
 -- what a legal batch asks of the pool
 pub record IsLegalBatch (pool : List PoolStatus) (taken dropped : List ℕ) : Type 0 where
@@ -46,7 +49,8 @@ pub record IsLegalBatch (pool : List PoolStatus) (taken dropped : List ℕ) : Ty
   pub born : list_all (is_born_at pool) dropped ≡ true
   pub dropped_apart : all_differ dropped ≡ true
 
-pub legal_batch : (l : Ledger) (ops : List NamedOp) (taken dropped : List ℕ) → is_legal l (Applied ops taken dropped) ≡ true → IsLegalBatch l.pool taken dropped
+pub legal_batch : (l : Ledger) (ops : List NamedOp) (taken dropped : List ℕ) → is_legal l (Applied ops taken dropped) ≡ true
+    → IsLegalBatch l.pool taken dropped
 legal_batch l ops taken dropped is = record {
   free = and_left _ _ (and_left _ _ (and_left _ _ is));
   apart = and_right _ _ (and_left _ _ (and_left _ _ is));
@@ -98,8 +102,10 @@ new_blocks a = blocks_of a.new.last.rows
 legal_in : (a : Acceptance) → IsLegalBatch a.old.pool a.taken a.dropped
 legal_in a = legal_batch (ledger_of a.old) a.ops a.taken a.dropped a.accepted.legal
 
-new_pool : (a : Acceptance) (n : ℕ) → slice_get a.new.pool n ≡ number_after (number_in_desk a) (slice_get a.old.pool n) (is_in n a.taken) (is_in n a.dropped)
-new_pool a n = ap (λ l. slice_get l.pool n) a.accepted.ledger ∙ exchanged_at (number_in_desk a) a.taken a.dropped a.old.pool n (legal_in a).dropped_apart
+new_pool : (a : Acceptance) (n : ℕ) → slice_get a.new.pool n ≡ number_after (number_in_desk a) (slice_get a.old.pool n)
+    (is_in n a.taken) (is_in n a.dropped)
+new_pool a n = ap (λ l. slice_get l.pool n) a.accepted.ledger
+    ∙ exchanged_at (number_in_desk a) a.taken a.dropped a.old.pool n (legal_in a).dropped_apart
 
 taken_free : (a : Acceptance) (n : ℕ) → is_in n a.taken ≡ true → is_free_at a.old.pool n ≡ true
 taken_free a n is = all_listed (is_free_at a.old.pool) a.taken n (legal_in a).free is
@@ -111,7 +117,8 @@ dropped_born a n is = all_listed (is_born_at a.old.pool) a.dropped n (legal_in a
 taken_listed : (a : Acceptance) (n : ℕ) → is_in n a.taken ≡ true → is_in n (last_numbers a.new) ≡ true
 taken_listed a n is =
     sym (a.after.listed n) ∙ ap (passes is_used) (new_pool a n)
-    ∙ used_mark (number_in_desk a) (slice_get a.old.pool n) (is_in n a.taken) (is_in n a.dropped) (taken_free a n) (dropped_born a n) is
+    ∙ used_mark (number_in_desk a) (slice_get a.old.pool n) (is_in n a.taken) (is_in n a.dropped) (taken_free a n)
+    (dropped_born a n) is
 
 -- the fresh blocks' numbers are those taken
 fresh_taken : (a : Acceptance) (n : ℕ) → is_in n (numbers_of (fresh_blocks a)) ≡ is_in n a.taken
@@ -120,7 +127,8 @@ fresh_taken a n =
     (λ is. picked_in (λ m. is_in m a.taken) (new_blocks a) n is (taken_listed a n is))
 
 fresh_apart : (a : Acceptance) → all_differ (numbers_of (fresh_blocks a)) ≡ true
-fresh_apart a = picked_apart (λ m. is_in m a.taken) (new_blocks a) (differ_from (numbers_of (new_blocks a)) a.after.version.rows.numbers)
+fresh_apart a = picked_apart (λ m. is_in m a.taken) (new_blocks a)
+    (differ_from (numbers_of (new_blocks a)) a.after.version.rows.numbers)
 
 -- The machine beside it
 
@@ -130,13 +138,16 @@ ready a w = filled_world w (fresh_blocks a)
 fresh_free : (a : Acceptance) (w : World) → Shows a.old w → AllAre Free w.status (fresh_blocks a)
 fresh_free a w shows k d h =
     let n : ℕ = (get_or (fresh_blocks a) k d).number in
-    free_there (slice_get a.old.pool n) (slice_get w.status n) (shows.status n) (taken_free a n (picked_all (λ m. is_in m a.taken) (new_blocks a) k d h))
+    free_there (slice_get a.old.pool n) (slice_get w.status n) (shows.status n)
+    (taken_free a n (picked_all (λ m. is_in m a.taken) (new_blocks a) k d h))
 
 fresh_within : (a : Acceptance) (w : World) → Shows a.old w → All (λ b. b.number < length w.heap) (fresh_blocks a)
 fresh_within a w shows k d h =
-    let lt = within w.status (get_or (fresh_blocks a) k d).number Free (fresh_free a w shows k d h) in let same = shows.sizes in omega arith
+    let lt = within w.status (get_or (fresh_blocks a) k d).number Free (fresh_free a w shows k d h) in let same =
+    shows.sizes in omega arith
 
-ready_status : (a : Acceptance) (w : World) (n : ℕ) → slice_get (ready a w).status n ≡ (if is_in n a.taken then option_map (λ _. Fresh) (slice_get w.status n) else slice_get w.status n)
+ready_status : (a : Acceptance) (w : World) (n : ℕ) → slice_get (ready a w).status n
+    ≡ (if is_in n a.taken then option_map (λ _. Fresh) (slice_get w.status n) else slice_get w.status n)
 ready_status a w n =
     marked_at (numbers_of (fresh_blocks a)) Fresh w.status n
     ∙ ap (λ t. if t then option_map (λ _. Fresh) (slice_get w.status n) else slice_get w.status n) (fresh_taken a n)
@@ -146,17 +157,22 @@ pub record IsPlaced (a : Acceptance) (w : World) (b : BlockView) : Type 0 where
   pub edges : edges_at (ready a w).heap b.number ≡ edges_in_block b
   pub listable : is_listable (ready a w).status (last_blocks w) b.number ≡ true
 
-taken_placed : (a : Acceptance) (w : World) → Shows a.old w → (b : BlockView) → Contains (fresh_blocks a) b → is_in b.number a.taken ≡ true → IsPlaced a w b
+taken_placed : (a : Acceptance) (w : World) → Shows a.old w → (b : BlockView) → Contains (fresh_blocks a) b
+    → is_in b.number a.taken ≡ true → IsPlaced a w b
 taken_placed a w shows b (k, h, at) is = record {
-  edges = subst (λ x. edges_at (ready a w).heap x.number ≡ edges_in_block x) at (heap_here (fresh_blocks a) w.heap (fresh_within a w shows) (fresh_apart a) k b h);
+  edges = subst (λ x. edges_at (ready a w).heap x.number ≡ edges_in_block x) at
+      (heap_here (fresh_blocks a) w.heap (fresh_within a w shows) (fresh_apart a) k b h);
   listable =
       let free : slice_get w.status b.number ≡ Some Free =
-      free_there (slice_get a.old.pool b.number) (slice_get w.status b.number) (shows.status b.number) (taken_free a b.number is) in
+      free_there (slice_get a.old.pool b.number) (slice_get w.status b.number) (shows.status b.number)
+      (taken_free a b.number is) in
       let fresh : slice_get (ready a w).status b.number ≡ Some Fresh = ready_status a w b.number ∙ rw (is, free) refl in
-      left_or (is_at is_fresh (slice_get (ready a w).status b.number)) (is_listed b.number (last_blocks w)) (ap (is_at is_fresh) fresh);
+      left_or (is_at is_fresh (slice_get (ready a w).status b.number)) (is_listed b.number (last_blocks w))
+      (ap (is_at is_fresh) fresh);
 }
 
-contains_picked : (p : ℕ → Bool) (bs : List BlockView) (b : BlockView) (k : ℕ) → k < length bs → get_or bs k b ≡ b → p b.number ≡ true → Contains (picked p bs) b
+contains_picked : (p : ℕ → Bool) (bs : List BlockView) (b : BlockView) (k : ℕ) → k < length bs → get_or bs k b ≡ b
+    → p b.number ≡ true → Contains (picked p bs) b
 contains_picked p [] b k h at is = absurd (omega arith)
 contains_picked p (c ∷ cs) b zero h at is =
     let same : p c.number ≡ true = ap (λ x. p x.number) at ∙ is in
@@ -168,7 +184,8 @@ contains_picked p (c ∷ cs) b (suc k) h at is =
       | false ↦ rest
     ]
 
-kept_placed : (a : Acceptance) (w : World) → Shows a.old w → (b : BlockView) → Contains (blocks_of a.old.last.rows) b → is_in b.number a.taken ≡ false → IsPlaced a w b
+kept_placed : (a : Acceptance) (w : World) → Shows a.old w → (b : BlockView) → Contains (blocks_of a.old.last.rows) b
+    → is_in b.number a.taken ≡ false → IsPlaced a w b
 kept_placed a w shows b (k, h, at) is = record {
   edges =
       heap_else (fresh_blocks a) w.heap b.number (fresh_taken a b.number ∙ is)
@@ -205,39 +222,50 @@ graph_left a w shows =
     ∙ sym (left_more a.old.last.batches a.ops a.new.last.opening)
     ∙ ap (λ bs. left_by bs a.new.last.opening) (sym (new_batches a))
 
-posts : (a : Acceptance) (w : World) → Shows a.old w → can_post w.opening (ready a w).heap (ready a w).status w.versions a.ops (last_numbers a.new) ≡ true
+posts : (a : Acceptance) (w : World) → Shows a.old w → can_post w.opening (ready a w).heap (ready a w).status w.versions a.ops
+    (last_numbers a.new) ≡ true
 posts a w shows =
     let all = placed a w shows in
     let same = same_count a w shows in
-    let longer : length a.new.last.batches ≡ length a.old.last.batches + 1 = ap length (new_batches a) ∙ length-append a.old.last.batches (a.ops ∷ []) in
+    let longer : length a.new.last.batches ≡ length a.old.last.batches + 1 = ap length (new_batches a)
+    ∙ length-append a.old.last.batches (a.ops ∷ []) in
     let few = a.after.version.small.count in
     let graph = graph_left a w shows in
-    let each : AreEachOnce (edges_in_blocks (new_blocks a)) (content a.new.last) = rows_each_once (content a.new.last) a.new.last.rows a.after.version.rows in
-    let there : edges_of (ready a w).heap (last_numbers a.new) ≡ edges_in_blocks (new_blocks a) = edges_from (ready a w).heap (new_blocks a) (λ k d h. (all k d h).edges) in
-    let shown : ShowsGraph (edges_in_blocks (new_blocks a)) (content a.new.last) = record { once = each.once; same = each.same } in
+    let each : AreEachOnce (edges_in_blocks (new_blocks a)) (content a.new.last) =
+    rows_each_once (content a.new.last) a.new.last.rows a.after.version.rows in
+    let there : edges_of (ready a w).heap (last_numbers a.new) ≡ edges_in_blocks (new_blocks a) =
+    edges_from (ready a w).heap (new_blocks a) (λ k d h. (all k d h).edges) in
+    let shown : ShowsGraph (edges_in_blocks (new_blocks a)) (content a.new.last) =
+    record { once = each.once; same = each.same } in
     five _ _ _ _ _ (lt_test (length w.versions) batch_limit (omega arith))
     (numbers_all (is_listable (ready a w).status (last_blocks w)) (new_blocks a) (λ k d h. (all k d h).listable))
     (differ_from (last_numbers a.new) a.after.version.rows.numbers)
     (ap is_within_limits graph ∙ two _ _ (le_test _ _ a.after.version.small.names) (le_test _ _ a.after.version.small.kinds))
-    (ap (λ x. are_edges_of x (edges_of (ready a w).heap (last_numbers a.new))) graph ∙ ap (are_edges_of (content a.new.last)) there
+    (ap (λ x. are_edges_of x (edges_of (ready a w).heap (last_numbers a.new))) graph
+    ∙ ap (are_edges_of (content a.new.last)) there
     ∙ (Decides-edges (content a.new.last) (edges_in_blocks (new_blocks a))).1 shown)
 
 abbrev posted_world : Acceptance → World → World
 posted_world a w = posted (ready a w) a.ops (last_numbers a.new)
 
-status_posted : (a : Acceptance) (w : World) → Shows a.old w → (n : ℕ) → SameStatus (slice_get a.new.pool n) (slice_get (posted_world a w).status n)
+status_posted : (a : Acceptance) (w : World) → Shows a.old w → (n : ℕ)
+    → SameStatus (slice_get a.new.pool n) (slice_get (posted_world a w).status n)
 status_posted a w shows n =
-    let listed : is_in n (last_numbers a.new) ≡ passes is_used (number_after (number_in_desk a) (slice_get a.old.pool n) (is_in n a.taken) (is_in n a.dropped)) =
+    let listed : is_in n (last_numbers a.new) ≡ passes is_used
+    (number_after (number_in_desk a) (slice_get a.old.pool n) (is_in n a.taken) (is_in n a.dropped)) =
     sym (a.after.listed n) ∙ ap (passes is_used) (new_pool a n) in
     let machine : slice_get (posted_world a w).status n
-    ≡ status_by (number_in_desk a) (passes is_used (number_after (number_in_desk a) (slice_get a.old.pool n) (is_in n a.taken) (is_in n a.dropped))) (slice_get w.status n) (is_in n a.taken) =
+    ≡ status_by (number_in_desk a) (passes is_used (number_after (number_in_desk a) (slice_get a.old.pool n) (is_in n a.taken)
+    (is_in n a.dropped))) (slice_get w.status n) (is_in n a.taken) =
     status_at (length w.versions + 1) (last_numbers a.new) (ready a w).status n
     ∙ ap (option_map (after_post (length w.versions + 1) (is_in n (last_numbers a.new)))) (ready_status a w n)
     ∙ ap (λ m. status_by (m + 1) (is_in n (last_numbers a.new)) (slice_get w.status n) (is_in n a.taken)) (same_count a w shows)
     ∙ ap (λ t. status_by (number_in_desk a) t (slice_get w.status n) (is_in n a.taken)) listed in
     subst (λ o. SameStatus o (slice_get (posted_world a w).status n)) (sym (new_pool a n))
-    (subst (SameStatus (number_after (number_in_desk a) (slice_get a.old.pool n) (is_in n a.taken) (is_in n a.dropped))) (sym machine)
-    (same_after (number_in_desk a) (slice_get a.old.pool n) (slice_get w.status n) (is_in n a.taken) (is_in n a.dropped) (shows.status n) (taken_free a n) (dropped_born a n)))
+    (subst (SameStatus (number_after (number_in_desk a) (slice_get a.old.pool n) (is_in n a.taken) (is_in n a.dropped)))
+    (sym machine)
+    (same_after (number_in_desk a) (slice_get a.old.pool n) (slice_get w.status n) (is_in n a.taken) (is_in n a.dropped)
+    (shows.status n) (taken_free a n) (dropped_born a n)))
 
 shows_posted : (a : Acceptance) (w : World) → Shows a.old w → Shows a.new (posted_world a w)
 shows_posted a w shows =
@@ -250,8 +278,10 @@ shows_posted a w shows =
       edges = λ k d h. (all k d h).edges;
       status = status_posted a w shows;
       sizes =
-          length-heap_with (fresh_blocks a) w.heap ∙ shows.sizes ∙ sym (length-marked (numbers_of (fresh_blocks a)) Fresh w.status)
-          ∙ sym (length_enumerated (λ p. after_post (length w.versions + 1) (is_listed p.0 (last_numbers a.new)) p.1) 0 (ready a w).status);
+          length-heap_with (fresh_blocks a) w.heap ∙ shows.sizes
+          ∙ sym (length-marked (numbers_of (fresh_blocks a)) Fresh w.status)
+          ∙ sym (length_enumerated (λ p. after_post (length w.versions + 1) (is_listed p.0 (last_numbers a.new)) p.1) 0
+          (ready a w).status);
     }
 
 -- an accepted batch is Take and Fill of each taken block, and then one Post of it over kept and taken blocks, all done
@@ -260,7 +290,8 @@ accepted_takes a w shows = record {
   after = posted_world a w;
   done =
       fills_done (fresh_blocks a) (Post a.ops (last_numbers a.new) ∷ []) w (fresh_free a w shows) (fresh_apart a)
-      ∙ step_then (Post a.ops (last_numbers a.new)) [] (ready a w) (posted_world a w) (ap (λ t. if t then Some (posted_world a w) else None) (posts a w shows));
+      ∙ step_then (Post a.ops (last_numbers a.new)) [] (ready a w) (posted_world a w)
+      (ap (λ t. if t then Some (posted_world a w) else None) (posts a w shows));
   shown = shows_posted a w shows;
   floor = refl;
   sessions = refl;

@@ -1,5 +1,6 @@
 -- The desk and the board beside a run of the machine.
-use Rattle.std.proofs.Common.{◌≡◌, ℕ, zero, suc, ◌<◌, true, false, List, [], ◌∷◌, ◌++◌, length, get_or, set, refl, sym, ap, subst, ◌∙◌, arith}
+use Rattle.std.proofs.Common.{◌≡◌, ℕ, zero, suc, ◌<◌, true, false, List, [], ◌∷◌, ◌++◌, length, get_or, set, refl, sym, ap, subst}
+use Rattle.std.proofs.Common.{◌∙◌, arith}
 use Rattle.std.specs.Prelude.{slice_get, is_some}
 use Rattle.std.specs.Option.{unwrap_or, option_map, option_and_then}
 use Rattle.std.specs.declared.option.Option.{Option}
@@ -39,12 +40,17 @@ run_next : (es : List Event) (e : Event) (w after : World) → step (run es w) e
 run_next es e w after is = sym (run_more es (e ∷ []) w ∙ ap (λ o. unwrap_or o (run es w)) is)
 
 -- what the desk's steps leave is reached, and the board shows it as before
-taken_reached : (sessions blocks : ℕ) (old new : DeskView) (b : BoardState) (raised : ℕ) (events more : List Event) → IsReached sessions blocks events old b raised
+taken_reached : (sessions blocks : ℕ) (old new : DeskView) (b : BoardState) (raised : ℕ) (events more : List Event)
+    → IsReached sessions blocks events old b raised
     → IsTaken (world_by sessions blocks events) more new → IsReached sessions blocks (events ++ more) new b raised
 taken_reached sessions blocks old new b raised events more r t =
     let there : t.after ≡ world_by sessions blocks (events ++ more) =
-    sym (run_more events more (start_world sessions blocks) ∙ done_is_run more (world_by sessions blocks events) t.after t.done) in
-    let board : ShowsBoard b t.after = record { floor = t.floor ∙ r.board.floor; pins = λ s. ap (λ ps. seat_pin (get_or ps s Idle)) t.sessions ∙ r.board.pins s } in
+    sym (run_more events more (start_world sessions blocks) ∙ done_is_run more (world_by sessions blocks events) t.after t.done)
+    in
+    let board : ShowsBoard b t.after = record {
+      floor = t.floor ∙ r.board.floor;
+      pins = λ s. ap (λ ps. seat_pin (get_or ps s Idle)) t.sessions ∙ r.board.pins s;
+    } in
     record {
       desk = subst (Shows new) there t.shown;
       board = subst (ShowsBoard b) there board;
@@ -52,11 +58,14 @@ taken_reached sessions blocks old new b raised events more r t =
     }
 
 -- a step of the board's that is done
-board_reached : (sessions blocks : ℕ) (d : DeskView) (b new : BoardState) (before raised : ℕ) (events : List Event) (event : Event) (after : World)
-    → IsReached sessions blocks events d b before → step (world_by sessions blocks events) event ≡ Some after → ShowsIfDone (world_by sessions blocks events) event new
+board_reached : (sessions blocks : ℕ) (d : DeskView) (b new : BoardState) (before raised : ℕ) (events : List Event)
+    (event : Event) (after : World)
+    → IsReached sessions blocks events d b before → step (world_by sessions blocks events) event ≡ Some after
+    → ShowsIfDone (world_by sessions blocks events) event new
     → new.floor ≡ raised → IsReached sessions blocks (events ++ event ∷ []) d new raised
 board_reached sessions blocks d b new before raised events event after r is shows same =
-    let there : after ≡ world_by sessions blocks (events ++ event ∷ []) = run_next events event (start_world sessions blocks) after is in
+    let there : after ≡ world_by sessions blocks (events ++ event ∷ []) =
+    run_next events event (start_world sessions blocks) after is in
     let both = shows after is in
     record {
       desk = subst (Shows d) there (both.1 d r.desk);
@@ -64,19 +73,27 @@ board_reached sessions blocks d b new before raised events event after r is show
       raised_is = ap (λ w. w.floor) (sym there) ∙ both.0.floor ∙ same;
     }
 
-floor_raised : (sessions blocks : ℕ) (d : DeskView) (b : BoardState) (raised : ℕ) (events : List Event) → IsReached sessions blocks events d b raised → b.floor ≡ raised
+floor_raised : (sessions blocks : ℕ) (d : DeskView) (b : BoardState) (raised : ℕ) (events : List Event)
+    → IsReached sessions blocks events d b raised → b.floor ≡ raised
 floor_raised sessions blocks d b raised events r = sym r.board.floor ∙ r.raised_is
 
 -- a reader's step, done or skipped
 reader_reached : (sessions blocks : ℕ) (event : Event) → IsUnseen event → IsReaders sessions blocks event
 reader_reached sessions blocks event hidden d b raised events r =
-    elim (step (world_by sessions blocks events) event) as (λ o. step (world_by sessions blocks events) event ≡ o → IsReached sessions blocks (events ++ event ∷ []) d b raised) [
+    elim (step (world_by sessions blocks events) event) as (λ o. step (world_by sessions blocks events) event ≡ o
+    → IsReached sessions blocks (events ++ event ∷ []) d b raised) [
       | None ↦ λ is.
           (let there : world_by sessions blocks events ≡ world_by sessions blocks (events ++ event ∷ []) =
-          sym (run_more events (event ∷ []) (start_world sessions blocks) ∙ ap (λ o. unwrap_or o (world_by sessions blocks events)) is) in
-          record { desk = subst (Shows d) there r.desk; board = subst (ShowsBoard b) there r.board; raised_is = ap (λ w. w.floor) (sym there) ∙ r.raised_is })
+          sym (run_more events (event ∷ []) (start_world sessions blocks)
+          ∙ ap (λ o. unwrap_or o (world_by sessions blocks events)) is) in
+          record {
+            desk = subst (Shows d) there r.desk;
+            board = subst (ShowsBoard b) there r.board;
+            raised_is = ap (λ w. w.floor) (sym there) ∙ r.raised_is;
+          })
       | Some after ↦ λ is.
-          (let there : after ≡ world_by sessions blocks (events ++ event ∷ []) = run_next events event (start_world sessions blocks) after is in
+          (let there : after ≡ world_by sessions blocks (events ++ event ∷ []) =
+          run_next events event (start_world sessions blocks) after is in
           let both = hidden d b (world_by sessions blocks events) after is r.desk r.board in
           record {
             desk = subst (Shows d) there both.0;
@@ -87,11 +104,13 @@ reader_reached sessions blocks event hidden d b raised events r =
 
 -- Steps that are done
 
-move_done : (w : World) (s : ℕ) (change : SessionState → Option SessionState) (session next : SessionState) → slice_get w.sessions s ≡ Some session → change session ≡ Some next
+move_done : (w : World) (s : ℕ) (change : SessionState → Option SessionState) (session next : SessionState)
+    → slice_get w.sessions s ≡ Some session → change session ≡ Some next
     → (after : World) × (move w s change ≡ Some after)
 move_done w s change session next found is = (
   with_sessions w (set w.sessions s next),
-  ap (λ o. option_map (with_sessions w) (put w.sessions s (option_and_then change o))) found ∙ ap (λ o. option_map (with_sessions w) (put w.sessions s o)) is,
+  ap (λ o. option_map (with_sessions w) (put w.sessions s (option_and_then change o))) found
+      ∙ ap (λ o. option_map (with_sessions w) (put w.sessions s o)) is,
 )
 
 some_step : (o : Option World) → is_some o ≡ true → (after : World) × (o ≡ Some after)
@@ -104,19 +123,29 @@ idle_if (Pinned pin) is = cc
 idle_if (Holding hold) is = cc
 idle_if (Asking hold inquiry) is = cc
 
-pin_done : (sessions blocks : ℕ) (d : DeskView) (b : BoardState) (raised s : ℕ) (events : List Event) → IsReached sessions blocks events d b raised
+pin_done : (sessions blocks : ℕ) (d : DeskView) (b : BoardState) (raised s : ℕ) (events : List Event)
+    → IsReached sessions blocks events d b raised
     → s < sessions → pin_at b.pins s ≡ None → (after : World) × (step (world_by sessions blocks events) (Pin s) ≡ Some after)
 pin_done sessions blocks d b raised s events r low none =
     let w : World = world_by sessions blocks events in
-    let few : length w.sessions ≡ sessions = (size_run events (start_world sessions blocks)).sessions ∙ length-replicate sessions Idle in
+    let few : length w.sessions ≡ sessions = (size_run events (start_world sessions blocks)).sessions
+    ∙ length-replicate sessions Idle in
     let idle : session_of w s ≡ Idle = idle_if (session_of w s) (r.board.pins s ∙ none) in
     move_done w s (to_pin w.floor) Idle (Pinned w.floor) (at_from_within w.sessions s Idle (omega arith) ∙ ap Some idle) refl
 
-held_settles : (session : SessionState) (n : ℕ) → held_in session ≡ Some n → (next : SessionState) × (to_settle session ≡ Some next)
+held_settles : (session : SessionState) (n : ℕ) → held_in session ≡ Some n
+    → (next : SessionState) × (to_settle session ≡ Some next)
 held_settles Idle n held = cc
 held_settles (Pinned pin) n held = cc
 held_settles (Holding hold) n held = (Holding (record { pin = hold.version; settled = true; version = hold.version }), refl)
-held_settles (Asking hold inquiry) n held = (Asking (record { pin = hold.version; settled = true; version = hold.version }) inquiry, refl)
+held_settles (Asking hold inquiry) n held = (
+  Asking (record {
+    pin = hold.version;
+    settled = true;
+    version = hold.version;
+  }) inquiry,
+  refl,
+)
 
 found_at : (xs : List SessionState) (s n : ℕ) → held_in (get_or xs s Idle) ≡ Some n → slice_get xs s ≡ Some (get_or xs s Idle)
 found_at [] s n held = cc
@@ -138,7 +167,8 @@ held_entered last (Asking hold inquiry) next is = cc
 pub same_count : (d : DeskView) (w : World) → Shows d w → last_number w ≡ length d.last.batches
 same_count d w shows = sym (length-map w.versions (λ v. v.batch)) ∙ ap length shows.batches
 
-entered_holds : (sessions blocks : ℕ) (d : DeskView) (b : BoardState) (raised s : ℕ) (events : List Event) → IsReached sessions blocks events d b raised
+entered_holds : (sessions blocks : ℕ) (d : DeskView) (b : BoardState) (raised s : ℕ) (events : List Event)
+    → IsReached sessions blocks events d b raised
     → is_done (world_by sessions blocks events) (Enter s) ≡ true
     → held_in (session_of (world_by sessions blocks (events ++ Enter s ∷ [])) s) ≡ Some (length d.last.batches)
 entered_holds sessions blocks d b raised s events r done =
@@ -151,28 +181,40 @@ entered_holds sessions blocks d b raised s events r done =
 
 pub stays_reached : (sessions blocks : ℕ) → StaysReached sessions blocks
 stays_reached sessions blocks = record {
-  opening = record { desk = opens_as_machine.shown sessions blocks; board = opens_as_machine.board sessions blocks; raised_is = refl };
-  applied = λ old new b raised events more r takes. taken_reached sessions blocks old new b raised events more r (takes (world_by sessions blocks events) r.desk);
+  opening = record {
+    desk = opens_as_machine.shown sessions blocks;
+    board = opens_as_machine.board sessions blocks;
+    raised_is = refl;
+  };
+  applied = λ old new b raised events more r takes. taken_reached sessions blocks old new b raised events more r
+      (takes (world_by sessions blocks events) r.desk);
   collected = λ old new b raised events more r takes.
       taken_reached sessions blocks old new b raised events more r (takes (world_by sessions blocks events) r.desk r.raised_is).0;
   raised = λ d b before floor events r least.
       let w : World = world_by sessions blocks events in
-      board_reached sessions blocks d b (record b { floor = floor }) before floor events Floor (record w { floor = least_pin (last_number w) w.sessions }) r refl
+      board_reached sessions blocks d b (record b { floor = floor }) before floor events Floor (record w {
+        floor = least_pin (last_number w) w.sessions;
+      }) r refl
       (raises_as_machine b w floor r.board (subst (λ n. IsLeast n b.pins floor) (sym (same_count d w r.desk)) least)) refl;
   pinned = λ d b raised s events r board low few none.
       let done = pin_done sessions blocks d b raised s events r few none in
       board_reached sessions blocks d b (with_pin b s (Some (unsettled b.floor))) raised raised events (Pin s) done.0 r done.1
-      (pins_as_machine b (world_by sessions blocks events) s board low r.board) (floor_raised sessions blocks d b raised events r);
+      (pins_as_machine b (world_by sessions blocks events) s board low r.board)
+      (floor_raised sessions blocks d b raised events r);
   settled = λ d b raised s n events r board low held.
       let w : World = world_by sessions blocks events in
       let done = settle_done w s n held in
-      let order : PinsInOrder w = pins_in_order w (always_sound (start sessions blocks) events (start_is_start sessions blocks)) in
-      board_reached sessions blocks d b (with_pin b s (option_map (settled n) (pin_at b.pins s))) raised raised events (Settle s) done.0 r done.1
-      (settles_as_machine b w s n board low r.board held (λ pin is. order.pin_held s pin n is held)) (floor_raised sessions blocks d b raised events r);
+      let order : PinsInOrder w = pins_in_order w (always_sound (start sessions blocks) events (start_is_start sessions blocks))
+      in
+      board_reached sessions blocks d b (with_pin b s (option_map (settled n) (pin_at b.pins s))) raised raised events
+      (Settle s) done.0 r done.1
+      (settles_as_machine b w s n board low r.board held (λ pin is. order.pin_held s pin n is held))
+      (floor_raised sessions blocks d b raised events r);
   unpinned = λ d b raised s events r board low done.
       let there = some_step (step (world_by sessions blocks events) (Release s)) done in
       board_reached sessions blocks d b (with_pin b s None) raised raised events (Release s) there.0 r there.1
-      (unpins_as_machine b (world_by sessions blocks events) s board low r.board) (floor_raised sessions blocks d b raised events r);
+      (unpins_as_machine b (world_by sessions blocks events) s board low r.board)
+      (floor_raised sessions blocks d b raised events r);
   enter = λ s. reader_reached sessions blocks (Enter s) (readers_are_unseen.enter s);
   ask = λ s request. reader_reached sessions blocks (Ask s request) (readers_are_unseen.ask s request);
   read = λ s. reader_reached sessions blocks (Read s) (readers_are_unseen.read s);

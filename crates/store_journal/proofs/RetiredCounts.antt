@@ -3,16 +3,20 @@ use Rattle.std.proofs.Common.{◌≡◌, ℕ, zero, suc, ◌+◌, ◌≤◌, con
 use Rattle.std.proofs.lemmas.List.{length-map}
 use Rattle.block_pool.specs.Pools.{Status, Free, Used, is_retired, retired, marked, changed}
 use Rattle.block_pool.proofs.Tallies.{count_more}
-use Rattle.store_journal.proofs.Accepting.{Application, next_desk, granted_pool, dropped_numbers, number_in_desk, retired_pool, moves_left}
+use Rattle.store_journal.proofs.Accepting.{Application, next_desk, granted_pool, dropped_numbers, number_in_desk, retired_pool}
+use Rattle.store_journal.proofs.Accepting.{moves_left}
 
-set_count : (xs : List Status) (i : ℕ) (s : Status) → count_by is_retired (set xs i s) ≤ count_by is_retired xs + cond (is_retired s) 1 0
+set_count : (xs : List Status) (i : ℕ) (s : Status) → count_by is_retired (set xs i s) ≤ count_by is_retired xs + cond
+    (is_retired s) 1 0
 set_count [] i s = omega arith
 set_count (x ∷ xs) zero s = let a = count_more is_retired x xs in let b = count_more is_retired s xs in omega arith
 set_count (x ∷ xs) (suc i) s =
-    let a = count_more is_retired x xs in let b = count_more is_retired x (set xs i s) in let rest = set_count xs i s in omega arith
+    let a = count_more is_retired x xs in let b = count_more is_retired x (set xs i s) in let rest =
+    set_count xs i s in omega arith
 
 -- each block that is retired is one more at most
-pub retired_more : (ns : List ℕ) (n : ℕ) (xs : List Status) → count_by is_retired (changed (retired n) ns xs) ≤ count_by is_retired xs + length ns
+pub retired_more : (ns : List ℕ) (n : ℕ) (xs : List Status) → count_by is_retired (changed (retired n) ns xs) ≤ count_by
+    is_retired xs + length ns
 retired_more [] n xs = omega arith
 retired_more (m ∷ ns) n xs =
     let s : Status = retired n (get_or xs m Used) in
@@ -24,9 +28,11 @@ freed_no_more [] xs = omega arith
 freed_no_more (m ∷ ns) xs = let rest = freed_no_more ns (set xs m Free) in let one = set_count xs m Free in omega arith
 
 -- after a batch at most as many more are retired as it dropped
-pub retired_room : (a : Application) → count_by is_retired (next_desk a).pool ≤ count_by is_retired (granted_pool a) + length a.dropped
+pub retired_room : (a : Application) → count_by is_retired (next_desk a).pool ≤ count_by is_retired (granted_pool a) + length
+    a.dropped
 retired_room a =
-    let same : count_by is_retired (next_desk a).pool ≡ count_by is_retired (marked a.unused Free (retired_pool a)) = ap (count_by is_retired) (sym (moves_left a)) in
+    let same : count_by is_retired (next_desk a).pool ≡ count_by is_retired (marked a.unused Free (retired_pool a)) =
+    ap (count_by is_retired) (sym (moves_left a)) in
     let unused = freed_no_more a.unused (retired_pool a) in
     let dropped = retired_more (dropped_numbers a) (number_in_desk a) (granted_pool a) in
     let many : length (dropped_numbers a) ≡ length a.dropped = length-map a.dropped (λ b. b.number) in

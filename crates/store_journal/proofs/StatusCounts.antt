@@ -1,12 +1,14 @@
 -- How many blocks are free, and how many retired, after a batch and after a collection.
-use Rattle.std.proofs.Common.{◌≡◌, ◌≢◌, ℕ, zero, suc, ◌+◌, ◌==◌, Bool, true, false, cond, ◌||◌, List, [], ◌∷◌, length, get_or, map, set, count_by, refl, sym, ap, ◌∙◌, arith}
+use Rattle.std.proofs.Common.{◌≡◌, ◌≢◌, ℕ, zero, suc, ◌+◌, ◌==◌, Bool, true, false, cond, ◌||◌, List, [], ◌∷◌, length, get_or}
+use Rattle.std.proofs.Common.{map, set, count_by, refl, sym, ap, ◌∙◌, arith}
 use Rattle.std.specs.Prelude.{slice_get, if◌then◌else◌}
 use Rattle.std.specs.Option.{option_map}
 use Rattle.std.specs.declared.option.Option.TheVariants.{Some}
 use Rattle.std.proofs.lemmas.Bool.{eq-eqb, true≢false, or_right}
 use Rattle.graph_model.specs.declared.batches.NamedOp.{NamedOp}
 use Rattle.graph_version.specs.Versions.{is_in}
-use Rattle.block_pool.specs.Pools.{Status, Free, Used, Retired, is_free, is_retired, is_past, recycled, retired, is_free_at, is_used_at, marked, changed}
+use Rattle.block_pool.specs.Pools.{Status, Free, Used, Retired, is_free, is_retired, is_past, recycled, retired, is_free_at}
+use Rattle.block_pool.specs.Pools.{is_used_at, marked, changed}
 use Rattle.block_pool.proofs.Tallies.{count_more}
 use Rattle.epoch_core.specs.Blocks.{all_differ}
 use Rattle.epoch_core.proofs.Lists.{set_else, get_at, all_listed}
@@ -36,13 +38,15 @@ AllHave s pool ns = (m : ℕ) → is_in m ns ≡ true → slice_get pool m ≡ S
 have_head : (s : Status) (pool : List Status) (n : ℕ) (ns : List ℕ) → AllHave s pool (n ∷ ns) → slice_get pool n ≡ Some s
 have_head s pool n ns have = let here : (n == n) ≡ true = eq-eqb n n refl in have n (ap (λ t. t || is_in n ns) here)
 
-have_tail : (s t : Status) (pool : List Status) (n : ℕ) (ns : List ℕ) → all_differ (n ∷ ns) ≡ true → AllHave s pool (n ∷ ns) → AllHave s (set pool n t) ns
+have_tail : (s t : Status) (pool : List Status) (n : ℕ) (ns : List ℕ) → all_differ (n ∷ ns) ≡ true → AllHave s pool (n ∷ ns)
+    → AllHave s (set pool n t) ns
 have_tail s t pool n ns apart have m is =
     let ne : m ≢ n = λ e. absurd (true≢false (sym is ∙ ap (λ x. is_in x ns) e ∙ differ_head n ns apart)) in
     set_else pool n m t ne ∙ have m (or_right (n == m) (is_in m ns) is)
 
 -- numbers of one status are all set to another
-fewer : (p : Status → Bool) (s t : Status) (ns : List ℕ) (pool : List Status) → p s ≡ true → p t ≡ false → all_differ ns ≡ true → AllHave s pool ns
+fewer : (p : Status → Bool) (s t : Status) (ns : List ℕ) (pool : List Status) → p s ≡ true → p t ≡ false → all_differ ns ≡ true
+    → AllHave s pool ns
     → count_by p (marked ns t pool) + length ns ≡ count_by p pool
 fewer p s t [] pool was is apart have = omega arith
 fewer p s t (n ∷ ns) pool was is apart have =
@@ -52,7 +56,8 @@ fewer p s t (n ∷ ns) pool was is apart have =
     let rest = fewer p s t ns (set pool n t) was is (differ_tail n ns apart) (have_tail s t pool n ns apart have) in
     omega arith
 
-more : (p : Status → Bool) (s t : Status) (ns : List ℕ) (pool : List Status) → p s ≡ false → p t ≡ true → all_differ ns ≡ true → AllHave s pool ns
+more : (p : Status → Bool) (s t : Status) (ns : List ℕ) (pool : List Status) → p s ≡ false → p t ≡ true → all_differ ns ≡ true
+    → AllHave s pool ns
     → count_by p (marked ns t pool) ≡ count_by p pool + length ns
 more p s t [] pool was is apart have = omega arith
 more p s t (n ∷ ns) pool was is apart have =
@@ -62,7 +67,8 @@ more p s t (n ∷ ns) pool was is apart have =
     let rest = more p s t ns (set pool n t) was is (differ_tail n ns apart) (have_tail s t pool n ns apart have) in
     omega arith
 
-as_many : (p : Status → Bool) (s t : Status) (ns : List ℕ) (pool : List Status) → p s ≡ p t → all_differ ns ≡ true → AllHave s pool ns
+as_many : (p : Status → Bool) (s t : Status) (ns : List ℕ) (pool : List Status) → p s ≡ p t → all_differ ns ≡ true
+    → AllHave s pool ns
     → count_by p (marked ns t pool) ≡ count_by p pool
 as_many p s t [] pool same apart have = refl
 as_many p s t (n ∷ ns) pool same apart have =
@@ -72,7 +78,8 @@ as_many p s t (n ∷ ns) pool same apart have =
     omega arith
 
 -- where all have one status, a change is a mark
-changed_marked : (f : Status → Status) (s : Status) (ns : List ℕ) (pool : List Status) → all_differ ns ≡ true → AllHave s pool ns → changed f ns pool ≡ marked ns (f s) pool
+changed_marked : (f : Status → Status) (s : Status) (ns : List ℕ) (pool : List Status) → all_differ ns ≡ true
+    → AllHave s pool ns → changed f ns pool ≡ marked ns (f s) pool
 changed_marked f s [] pool apart have = refl
 changed_marked f s (n ∷ ns) pool apart have =
     let there : get_or pool n Used ≡ s = get_at pool n s Used (have_head s pool n ns have) in
@@ -84,23 +91,29 @@ changed_marked f s (n ∷ ns) pool apart have =
 taken_have : (pool : List Status) (taken dropped : List ℕ) → IsLegalBatch pool taken dropped → AllHave Free pool taken
 taken_have pool taken dropped legal m is = free_is (slice_get pool m) (all_listed (is_free_at pool) taken m legal.free is)
 
-born_at : (pool : List Status) (taken dropped : List ℕ) → IsLegalBatch pool taken dropped → (m : ℕ) → is_in m dropped ≡ true → is_used_at pool m ≡ true
+born_at : (pool : List Status) (taken dropped : List ℕ) → IsLegalBatch pool taken dropped → (m : ℕ) → is_in m dropped ≡ true
+    → is_used_at pool m ≡ true
 born_at pool taken dropped legal m is = all_listed (is_used_at pool) dropped m legal.born is
 
 -- no block is both taken and dropped
-not_taken : (pool : List Status) (taken dropped : List ℕ) → IsLegalBatch pool taken dropped → (m : ℕ) → is_in m dropped ≡ true → is_in m taken ≡ false
+not_taken : (pool : List Status) (taken dropped : List ℕ) → IsLegalBatch pool taken dropped → (m : ℕ) → is_in m dropped ≡ true
+    → is_in m taken ≡ false
 not_taken pool taken dropped legal m is = elim (is_in m taken) as (λ t. is_in m taken ≡ t → t ≡ false) [
-  | true ↦ λ both. absurd (not_both (slice_get pool m) (all_listed (is_free_at pool) taken m legal.free both) (born_at pool taken dropped legal m is))
+  | true ↦ λ both. absurd (not_both (slice_get pool m) (all_listed (is_free_at pool) taken m legal.free both)
+      (born_at pool taken dropped legal m is))
   | false ↦ λ _. refl
 ] refl
 
-dropped_have : (pool : List Status) (taken dropped : List ℕ) → IsLegalBatch pool taken dropped → AllHave Used (marked taken Used pool) dropped
+dropped_have : (pool : List Status) (taken dropped : List ℕ) → IsLegalBatch pool taken dropped
+    → AllHave Used (marked taken Used pool) dropped
 dropped_have pool taken dropped legal m is =
     marked_at taken Used pool m
-    ∙ ap (λ t. if t then option_map (λ _. Used) (slice_get pool m) else slice_get pool m) (not_taken pool taken dropped legal m is)
+    ∙ ap (λ t. if t then option_map (λ _. Used) (slice_get pool m) else slice_get pool m)
+    (not_taken pool taken dropped legal m is)
     ∙ used_is (slice_get pool m) (born_at pool taken dropped legal m is)
 
-pub accepted_counts : (old new : DeskView) (ops : List NamedOp) (taken dropped : List ℕ) → IsAccepted old ops taken dropped new → AcceptedCounts old taken dropped new
+pub accepted_counts : (old new : DeskView) (ops : List NamedOp) (taken dropped : List ℕ) → IsAccepted old ops taken dropped new
+    → AcceptedCounts old taken dropped new
 accepted_counts old new ops taken dropped accepted =
     let legal : IsLegalBatch old.pool taken dropped = legal_batch (ledger_of old) ops taken dropped accepted.legal in
     let number : ℕ = length old.last.batches + 1 in
@@ -109,8 +122,10 @@ accepted_counts old new ops taken dropped accepted =
     let born = dropped_have old.pool taken dropped legal in
     let same : new.pool ≡ marked dropped (Retired number) granted =
     ap (λ l. l.pool) accepted.ledger ∙ changed_marked (retired number) Used dropped granted legal.dropped_apart born in
-    let free_new : count_by is_free new.pool ≡ count_by is_free (marked dropped (Retired number) granted) = ap (count_by is_free) same in
-    let retired_new : count_by is_retired new.pool ≡ count_by is_retired (marked dropped (Retired number) granted) = ap (count_by is_retired) same in
+    let free_new : count_by is_free new.pool ≡ count_by is_free (marked dropped (Retired number) granted) =
+    ap (count_by is_free) same in
+    let retired_new : count_by is_retired new.pool ≡ count_by is_retired (marked dropped (Retired number) granted) =
+    ap (count_by is_retired) same in
     let free_first = fewer is_free Free Used taken old.pool refl refl legal.apart free in
     let free_then = as_many is_free Used (Retired number) dropped granted refl legal.dropped_apart born in
     let retired_first = as_many is_retired Free Used taken old.pool refl legal.apart free in
@@ -119,13 +134,16 @@ accepted_counts old new ops taken dropped accepted =
 
 -- A collection
 
-free_one : (floor : ℕ) (s : Status) → cond {A = ℕ} (is_free (recycled floor s)) 1 0 ≡ cond (is_free s) 1 0 + cond (is_past floor s) 1 0
+free_one : (floor : ℕ) (s : Status) → cond {A = ℕ} (is_free (recycled floor s)) 1 0
+    ≡ cond (is_free s) 1 0 + cond (is_past floor s) 1 0
 free_one floor Free = refl
 free_one floor Used = refl
 free_one floor (Retired v) =
-    elim (is_past floor (Retired v)) as (λ t. cond {A = ℕ} (is_free (if t then Free else Retired v)) 1 0 ≡ cond (is_free (Retired v)) 1 0 + cond t 1 0) [ true ↦ refl | false ↦ refl ]
+    elim (is_past floor (Retired v)) as (λ t. cond {A = ℕ} (is_free (if t then Free else Retired v)) 1 0
+    ≡ cond (is_free (Retired v)) 1 0 + cond t 1 0) [ true ↦ refl | false ↦ refl ]
 
-free_more : (floor : ℕ) (pool : List Status) → count_by is_free (map (recycled floor) pool) ≡ count_by is_free pool + count_by (is_past floor) pool
+free_more : (floor : ℕ) (pool : List Status) → count_by is_free (map (recycled floor) pool)
+    ≡ count_by is_free pool + count_by (is_past floor) pool
 free_more floor [] = omega arith
 free_more floor (s ∷ pool) =
     let a = count_more is_free (recycled floor s) (map (recycled floor) pool) in
@@ -137,8 +155,10 @@ free_more floor (s ∷ pool) =
 
 pub collected_counts : (old new : DeskView) (floor : ℕ) → IsCollected old floor new → CollectedCounts old floor new
 collected_counts old new floor collected =
-    let free : count_by is_free new.pool ≡ count_by is_free (map (recycled floor) old.pool) = ap (count_by is_free) collected.pool in
-    let left : count_by is_retired new.pool ≡ count_by is_retired (map (recycled floor) old.pool) = ap (count_by is_retired) collected.pool in
+    let free : count_by is_free new.pool ≡ count_by is_free (map (recycled floor) old.pool) =
+    ap (count_by is_free) collected.pool in
+    let left : count_by is_retired new.pool ≡ count_by is_retired (map (recycled floor) old.pool) =
+    ap (count_by is_retired) collected.pool in
     let more = free_more floor old.pool in
     let both = past_and_left floor old.pool in
     record { free = omega arith; retired = omega arith }

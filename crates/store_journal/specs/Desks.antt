@@ -1,5 +1,6 @@
 -- A desk: the last version, the journal, and what each block number is. A batch and a collection change it.
-use Rattle.std.specs.Prelude.{◌≡◌, ℕ, ◌+◌, ◌==◌, List, [], ◌∷◌, ◌++◌, length, map, count_by, if◌then◌else◌, All, Contains, Bool, true, false}
+use Rattle.std.specs.Prelude.{◌≡◌, ℕ, ◌+◌, ◌==◌, List, [], ◌∷◌, ◌++◌, length, map, count_by, if◌then◌else◌, All, Contains, Bool}
+use Rattle.std.specs.Prelude.{true, false}
 use Rattle.std.specs.declared.option.Option.TheVariants.{Some}
 use Rattle.graph_model.specs.declared.batches.NamedOp.{NamedOp}
 use Rattle.graph_model.specs.Step.{after_all}
@@ -37,10 +38,12 @@ pub record IsDesk (d : DeskView) : Type 0 where
 pub record FollowsLayout (before : VersionView) (ops : List NamedOp) (after : VersionView) (taken dropped : ℕ) : Type 0 where
   pub rows : (source : ℕ) → layout_of after.rows source ≡ layout_after ops (content before) (layout_of before.rows) source
   pub taken_are : taken ≡ taken_by ops (content before) (layout_of before.rows) (length (after_all ops (content before)).names)
-  pub dropped_are : dropped ≡ dropped_by ops (content before) (layout_of before.rows) (length (after_all ops (content before)).names)
+  pub dropped_are : dropped ≡ dropped_by ops (content before) (layout_of before.rows)
+      (length (after_all ops (content before)).names)
 
 -- a batch was applied to the desk's last version with granted blocks of these numbers
-pub record IsAppliedTo (d : DeskView) (ops : List NamedOp) (numbers : List ℕ) (version : VersionView) (taken : List ℕ) (dropped : List BlockView) (unused : List ℕ) : Type 0 where
+pub record IsAppliedTo (d : DeskView) (ops : List NamedOp) (numbers : List ℕ) (version : VersionView) (taken : List ℕ)
+    (dropped : List BlockView) (unused : List ℕ) : Type 0 where
   pub free : AreFree d.pool numbers
   pub version_is : IsVersion version
   pub opening : version.opening ≡ d.last.opening

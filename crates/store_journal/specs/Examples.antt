@@ -6,15 +6,17 @@ use Rattle.edge_block.specs.Slots.{BlockView, edge_slot}
 use Rattle.block_pool.specs.Pools.{Status as PoolStatus, Free as PoolFree, Used as PoolUsed, Retired as PoolRetired}
 use Rattle.epoch_core.specs.declared.states.Status.TheVariants.{Free, Fresh, Used, Retired}
 use Rattle.epoch_core.specs.declared.states.SessionState.TheVariants.{Idle, Pinned, Holding}
-use Rattle.epoch_core.specs.declared.events.Event.TheVariants.{Take, Fill, Post, Recycle}
+use Rattle.epoch_core.specs.declared.events.Event.TheVariants.{Take, Fill, Post, Recycle, Pin, Enter}
 use Rattle.epoch_core.specs.Examples.{name_a, name_b, kind_k, put_edge, edge_of}
-use Rattle.epoch_core.specs.Worlds.{World, empty_opening, start_world}
-use Rattle.seat_board.specs.Board.{BoardState}
+use Rattle.epoch_core.specs.Worlds.{World, empty_opening, start_world, session_of, held_in}
+use Rattle.seat_board.specs.Board.{BoardState, no_pins, with_pin, unsettled}
 use Rattle.store_journal.specs.Journal.{Entry, Applied, Collected, empty_ledger, replay}
-use Rattle.store_journal.specs.Desks.{DeskView}
+use Rattle.store_journal.specs.Desks.{DeskView, desk_after, collections}
 use Rattle.store_journal.specs.Shown.{Shows}
 use Rattle.store_journal.specs.Boards.{ShowsBoard}
 use Rattle.store_journal.specs.Steps.{all_done, posting, recycling}
+use Rattle.store_journal.specs.Opening.{opened_desk}
+use Rattle.store_journal.specs.Reached.{world_by}
 
 -- Journals, over four blocks
 
@@ -74,9 +76,15 @@ world_of_two = record (start_world 0 0) {
 pub record AreExamples : Type 0 where
   -- two batches leave block 0 retired with number 2; a collection at floor 2 frees it
   pub batches : replay two_batches (empty_ledger 4)
-      ≡ Some (record { batches = put_edge (pos 1) 1 ∷ put_edge (pos 2) 2 ∷ []; pool = PoolRetired 2 ∷ PoolUsed ∷ PoolUsed ∷ PoolFree ∷ [] })
+      ≡ Some (record {
+        batches = put_edge (pos 1) 1 ∷ put_edge (pos 2) 2 ∷ [];
+        pool = PoolRetired 2 ∷ PoolUsed ∷ PoolUsed ∷ PoolFree ∷ [];
+      })
   pub collection : replay (two_batches ++ Collected 2 1 ∷ []) (empty_ledger 4)
-      ≡ Some (record { batches = put_edge (pos 1) 1 ∷ put_edge (pos 2) 2 ∷ []; pool = PoolFree ∷ PoolUsed ∷ PoolUsed ∷ PoolFree ∷ [] })
+      ≡ Some (record {
+        batches = put_edge (pos 1) 1 ∷ put_edge (pos 2) 2 ∷ [];
+        pool = PoolFree ∷ PoolUsed ∷ PoolUsed ∷ PoolFree ∷ [];
+      })
   -- no journal: a block taken that is used, or past the last; one taken twice; one dropped that isn't the last version's
   pub taken_used : replay (two_batches ++ Applied [] (1 ∷ []) [] ∷ []) (empty_ledger 4) ≡ None
   pub taken_past : replay (two_batches ++ Applied [] (4 ∷ []) [] ∷ []) (empty_ledger 4) ≡ None
@@ -90,7 +98,8 @@ pub record AreExamples : Type 0 where
   pub desk : (birth : ℕ) → Shows desk_of_edge (world_of_edge birth)
   pub fresh : (w : World) → Shows desk_of_edge (record w { status = Free ∷ Fresh ∷ Free ∷ [] }) → ⊥
   -- the events of the batch, of which Take and Fill are done from the start
-  pub posted : posting desk_of_edge.last (put_edge (pos 1) 1) (1 ∷ []) ≡ Take 1 ∷ Fill 1 (edge_of (pos 1) 1) ∷ Post (put_edge (pos 1) 1) (1 ∷ []) ∷ []
+  pub posted : posting desk_of_edge.last (put_edge (pos 1) 1) (1 ∷ [])
+      ≡ Take 1 ∷ Fill 1 (edge_of (pos 1) 1) ∷ Post (put_edge (pos 1) 1) (1 ∷ []) ∷ []
   pub filled : all_done (Take 1 ∷ Fill 1 (edge_of (pos 1) 1) ∷ []) (start_world 1 3)
       ≡ Some (record (start_world 1 3) { heap = [] ∷ edge_of (pos 1) 1 ∷ [] ∷ []; status = Free ∷ Fresh ∷ Free ∷ [] })
   -- a block that was kept is neither taken nor filled again
@@ -101,6 +110,13 @@ pub record AreExamples : Type 0 where
   pub freed : all_done (recycling 2 retired_pool) retired_world
       ≡ Some (record retired_world { status = Free ∷ Used 1 ∷ Retired 1 3 ∷ Free ∷ [] })
   pub past_the_floor : all_done (recycling 3 retired_pool) retired_world ≡ None
+  -- the batch, applied to the opening, leaves that desk; a collection that recycles nothing has no entry
+  pub accepted : desk_after (opened_desk 3) (put_edge (pos 1) 1) desk_of_edge.last (1 ∷ []) [] ≡ desk_of_edge
+  pub entry : collections 2 1 ≡ Collected 2 1 ∷ []
+  pub no_entry : collections 2 0 ≡ []
+  -- Pin is what pinning a seat of the opening leaves; Enter then takes hold of version 0
+  pub pinned : ShowsBoard (with_pin no_pins 0 (Some (unsettled 0))) (world_by 1 3 (Pin 0 ∷ []))
+  pub entered : held_in (session_of (world_by 1 3 (Pin 0 ∷ Enter 0 ∷ [])) 0) ≡ Some 0
   -- the board shows the sessions' pins, settled and unsettled
   pub board : ShowsBoard board_of_two world_of_two
   pub settled : (w : World) → ShowsBoard board_of_two (record w { sessions = Pinned 1 ∷ Pinned 2 ∷ [] }) → ⊥

@@ -15,7 +15,8 @@ pub record IsSnapshot (d : DeskView) (raised : ℕ) (w : World) (n : ℕ) : Type
   pub within : n ≤ length d.last.batches
   pub shown : ShowsGraph (edges_of w.heap (blocks_at w.opening w.versions n)) (left_by (take n d.last.batches) d.last.opening)
   pub in_use : (c : ℕ) → IsTrue (is_listed c (blocks_at w.opening w.versions n)) → passes is_free (slice_get d.pool c) ≡ false
-  pub kept : (c : ℕ) → IsTrue (is_listed c (blocks_at w.opening w.versions n)) → passes (is_past raised) (slice_get d.pool c) ≡ false
+  pub kept : (c : ℕ) → IsTrue (is_listed c (blocks_at w.opening w.versions n))
+      → passes (is_past raised) (slice_get d.pool c) ≡ false
 
 -- whatever the run: the version that a session holds is such a one
 abbrev pub HeldIsSnapshot : Type 0

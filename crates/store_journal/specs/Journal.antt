@@ -1,5 +1,6 @@
 -- The journal of a store: accepted batches and collections, and what replaying it leaves.
-use Rattle.std.specs.Prelude.{ℕ, ◌+◌, ◌==◌, nat_le, nat_lt, List, [], ◌∷◌, ◌++◌, map, length, count_by, replicate, Bool, ◌&&◌, if◌then◌else◌}
+use Rattle.std.specs.Prelude.{ℕ, ◌+◌, ◌==◌, nat_le, nat_lt, List, [], ◌∷◌, ◌++◌, map, length, count_by, replicate, Bool, ◌&&◌}
+use Rattle.std.specs.Prelude.{if◌then◌else◌}
 use Rattle.std.specs.List.{list_all}
 use Rattle.std.specs.Option.{option_and_then}
 use Rattle.std.specs.declared.option.Option.{Option}
@@ -28,7 +29,8 @@ empty_ledger blocks = record { batches = []; pool = replicate blocks Free }
 abbrev pub is_legal : Ledger → Entry → Bool
 is_legal l (Applied batch taken dropped) =
     list_all (is_free_at l.pool) taken && all_differ taken && list_all (is_born_at l.pool) dropped && all_differ dropped
-is_legal l (Collected floor count) = nat_le floor (length l.batches) && nat_lt 0 count && (count == count_by (is_past floor) l.pool)
+is_legal l (Collected floor count) = nat_le floor (length l.batches) && nat_lt 0 count &&
+    (count == count_by (is_past floor) l.pool)
 
 -- the pool after a batch whose version has this number
 abbrev pub exchanged : ℕ → List ℕ → List ℕ → List Status → List Status

@@ -34,10 +34,12 @@ pub record StaysReached (sessions blocks : ℕ) : Type 0 where
   pub opening : IsReached sessions blocks [] (opened_desk blocks) no_pins 0
   -- the desk's calls
   pub applied :
-      (old new : DeskView) (b : BoardState) (raised : ℕ) (events more : List Event) → IsReached sessions blocks events old b raised
+      (old new : DeskView) (b : BoardState) (raised : ℕ) (events more : List Event)
+      → IsReached sessions blocks events old b raised
       → Takes old more new → IsReached sessions blocks (events ++ more) new b raised
   pub collected :
-      (old new : DeskView) (b : BoardState) (raised : ℕ) (events more : List Event) → IsReached sessions blocks events old b raised
+      (old new : DeskView) (b : BoardState) (raised : ℕ) (events more : List Event)
+      → IsReached sessions blocks events old b raised
       → TakesAt raised old more new → IsReached sessions blocks (events ++ more) new b raised
   -- the board's calls
   pub raised :

@@ -8,7 +8,8 @@ ghost use Rattle.row_pages.specs.Rows.{numbers_of};
 ghost use Rattle.graph_version.specs.Versions.{VersionView, is_in};
 ghost use Rattle.block_pool.specs.Pools.{Free, Used, retired, is_free_at, is_born_at, marked, changed};
 ghost use Rattle.store_journal.specs.Journal.{Entry, Applied, Ledger, entered, replay};
-ghost use Rattle.store_journal.specs.Desks.{DeskView, IsDesk, IsAppliedTo, IsAccepted, IsCollected, AcceptedCounts, CollectedCounts, desk_after};
+ghost use Rattle.store_journal.specs.Desks.{DeskView, IsDesk, IsAppliedTo, IsAccepted, IsCollected, AcceptedCounts};
+ghost use Rattle.store_journal.specs.Desks.{CollectedCounts, desk_after};
 ghost use Rattle.store_journal.specs.Steps.{Takes, TakesAt, posting, recycling};
 ghost use Rattle.store_journal.specs.Boards.{PinsAsMachine, SettlesAsMachine, UnpinsAsMachine, RaisesAsMachine};
 ghost use Rattle.store_journal.specs.Histories.{DoneIsRun, ReadersAreUnseen};
@@ -23,7 +24,8 @@ ghost use Rattle.store_journal.specs.Examples.{AreExamples};
 /// - `taken_is_free`, `dropped_is_listed`: no batch is entered that takes a block that isn't free, or drops one that
 ///   isn't the last version's.
 pub fn law_journal()
-    ensures appended { (es : List Entry) (e : Entry) (l : Ledger) → replay (es ++ e ∷ []) l ≡ option_and_then (λ m. entered m e) (replay es l) }
+    ensures appended { (es : List Entry) (e : Entry) (l : Ledger) → replay (es ++ e ∷ []) l
+        ≡ option_and_then (λ m. entered m e) (replay es l) }
     ensures taken_is_free { (l : Ledger) (batch : List NamedOp) (taken dropped : List ℕ) (n : ℕ)
         → is_in n taken ≡ true → is_free_at l.pool n ≡ false → entered l (Applied batch taken dropped) ≡ None }
     ensures dropped_is_listed { (l : Ledger) (batch : List NamedOp) (taken dropped : List ℕ) (n : ℕ)
@@ -64,8 +66,10 @@ pub fn law_accepted()
 ///   floor is done, which leaves a world that the new desk shows, and no further block goes.
 /// - `counts`: free grows, and retired falls, by as many blocks as are past the floor.
 pub fn law_collected()
-    ensures desk { (old new : DeskView) (floor : ℕ) → IsDesk old → floor ≤ length old.last.batches → IsCollected old floor new → IsDesk new }
-    ensures steps { (old new : DeskView) (floor : ℕ) → IsCollected old floor new → TakesAt floor old (recycling floor old.pool) new }
+    ensures desk { (old new : DeskView) (floor : ℕ) → IsDesk old → floor ≤ length old.last.batches
+        → IsCollected old floor new → IsDesk new }
+    ensures steps { (old new : DeskView) (floor : ℕ)
+        → IsCollected old floor new → TakesAt floor old (recycling floor old.pool) new }
     ensures counts { (old new : DeskView) (floor : ℕ) → IsCollected old floor new → CollectedCounts old floor new }
 {}
 
