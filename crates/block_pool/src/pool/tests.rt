@@ -101,6 +101,36 @@ fn grants_first_what_was_given_back_last(rt: HostRuntime) -> Result<(), Fail> {
     Ok(())
 }
 
+/// A block of this number with one edge.
+#[tactic(auto, using(edge_block::proofs::Room::room_free))]
+fn filled(rt: &impl Abort, number: u32) -> Block
+    ensures { result.number ≡ number }
+{
+    let mut block = Block::blank(number);
+    assert!(rt; !block.is_full());
+    block.put(5, 1, 1, 1);
+    block
+}
+
+/// Grants a block, and gives a filled one back in its place.
+fn exchange_one(rt: &impl Abort, alloc: Global, pool: &mut Pool) -> Result<(), Fail> {
+    let Grant { numbers, blocks: _ } = pool.grant(1)?;
+    for &number in &numbers {
+        give_back(rt, pool, Some(Arc::new(alloc, filled(rt, number))?));
+    }
+    Ok(())
+}
+
+#[test]
+fn grants_the_very_block_that_was_given_back(rt: HostRuntime) -> Result<(), Fail> {
+    let alloc = rt.alloc();
+    let mut pool = Pool::new(alloc, 16)?;
+    exchange_one(&rt, alloc, &mut pool)?;
+    let Grant { numbers: _, blocks } = pool.grant(1)?;
+    assert_eq!(rt; blocks.first().map(|block| block.len()), Some(1));
+    Ok(())
+}
+
 #[test]
 fn refused_new(rt: HostRuntime) -> Result<(), Fail> {
     let first = Pool::new(rt.alloc(), 16);
