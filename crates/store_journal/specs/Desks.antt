@@ -9,7 +9,7 @@ use Rattle.block_layout.specs.Batches.{layout_after, taken_by, dropped_by}
 use Rattle.row_pages.specs.Rows.{blocks_of, numbers_of}
 use Rattle.graph_version.specs.Versions.{VersionView, IsVersion, content, layout_of, is_in}
 use Rattle.block_pool.specs.Pools.{Status, AreFree, is_free, is_retired, is_born_at, is_past, recycled}
-use Rattle.store_journal.specs.Exchanges.{Exchanges}
+use Rattle.shard_work.specs.Done.{Exchanges}
 use Rattle.store_journal.specs.Journal.{Entry, Applied, Collected, Ledger, empty_ledger, replay, is_legal, after_entry, exchanged}
 
 pub record DeskView : Type 0 where

@@ -1,4 +1,3 @@
-pub mod Exchanges
 pub mod Journal
 pub mod Desks
 pub mod Shown
