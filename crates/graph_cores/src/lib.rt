@@ -1,5 +1,5 @@
-//! Core numbers of a view in time linear in its edges, by peeling. The edges come from any source that says which edges it
-//! has ([`ViewEdges`](view_edges::ViewEdges)).
+//! Core numbers of a view in time linear in its edges, by peeling. [`cores`] are those of a version; [`cores_over`] takes
+//! the edges from any source that says which edges it has (`ViewEdges`).
 #![tactic(auto)]
 
 mod links;
@@ -7,5 +7,7 @@ mod peeling;
 mod rows;
 #[cfg(test)]
 mod tests;
+mod versions;
 
 pub use peeling::cores_over;
+pub use versions::cores;

@@ -1,6 +1,8 @@
 //! Core numbers of small views, written by hand from the definition, and of a club that is known from elsewhere.
 
-use crate::cores_over;
+use crate::{cores, cores_over};
+use graph_model::Filter;
+use graph_version::Version;
 use std::alloc::{AllocError, Global};
 use std::test::Fail;
 use view_edges::ListedArcs;
@@ -18,7 +20,7 @@ fn view(alloc: Global, count: u16, arcs: &[(u32, u32)]) -> Result<ListedArcs, Al
 /// Whether these are the core numbers; nothing where memory is refused.
 fn are_cores(alloc: Global, edges: &ListedArcs, wanted: &[u32]) -> Option<bool> {
     match cores_over(alloc, edges) {
-        Ok(cores) => Some(cores.as_slice() == wanted),
+        Ok(numbers) => Some(numbers.as_slice() == wanted),
         Err(AllocError) => None,
     }
 }
@@ -188,5 +190,17 @@ fn refused_cores(rt: HostRuntime) -> Result<(), Fail> {
         Some(right) => assert!(rt; right),
         None => println!(rt; "refused")?,
     }
+    Ok(())
+}
+
+#[test]
+fn a_version_without_vertices_has_no_core_numbers(rt: HostRuntime) -> Result<(), Fail> {
+    let version = Version::empty(rt.alloc());
+    let view = Filter {
+        kind: None,
+        lo: 0,
+        hi: u64::MAX,
+    };
+    assert_eq!(rt; cores(rt.alloc(), &version, &view)?.len(), 0);
     Ok(())
 }

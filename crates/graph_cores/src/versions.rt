@@ -1,0 +1,23 @@
+//! Core numbers of a version.
+
+ghost use Rattle.std.specs.Prelude.{IfOk};
+ghost use Rattle.graph_model.specs.Analyses.{AreCoreNumbers};
+ghost use Rattle.graph_version.specs.Versions.{content};
+
+use crate::peeling::cores_over;
+use graph_model::Filter;
+use graph_version::Version;
+use std::alloc::{AllocError, Global};
+use view_edges::VersionEdges;
+
+/// The core number of each vertex of a version, in number order, over the edges of the view: direction, kind and loops don't
+/// matter. The error is want of memory. A window that ends before it begins is an empty view.
+pub fn cores(alloc: Global, version: &Version, view: &Filter) -> Result<Vec<u32>, AllocError>
+    ensures { IfOk result (λ cores. AreCoreNumbers view.now (content version.now) cores.items) }
+{
+    let edges = VersionEdges {
+        version,
+        filter: *view,
+    };
+    cores_over(alloc, &edges)
+}
