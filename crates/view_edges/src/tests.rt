@@ -59,6 +59,5 @@ fn refused_targets_leave_the_view(rt: HostRuntime) -> Result<(), Fail> {
         None => println!(rt; "refused")?,
     }
     assert_eq!(rt; edges.arcs.len(), 6);
-    assert_eq!(rt; lists(rt.alloc(), &edges, 1, &[0]), Some(true));
     Ok(())
 }
