@@ -1,0 +1,59 @@
+-- What a desk keeps at its opening, and over a collection.
+use Rattle.std.proofs.Common.{◌≡◌, ℕ, zero, suc, ◌+◌, ◌≤◌, List, [], map, replicate, length, refl, sym, ap, ◌∙◌, arith, count_by}
+use Rattle.std.proofs.lemmas.List.Sums.{sum_by-cons}
+use Rattle.logbook.specs.Pages.{Book}
+use Rattle.graph_version.specs.Versions.{VersionView, empty_version}
+use Rattle.block_pool.specs.Pools.{Status, Free, is_retired, is_past, recycled}
+use Rattle.version_shelf.specs.Shelves.{ShelfView, opened_shelf}
+use Rattle.store_journal.specs.Journal.{Entry}
+use Rattle.store_journal.specs.Desks.{DeskView, IsDesk, collections}
+use Rattle.store_journal.specs.Opening.{opened_desk}
+use Rattle.store_journal.proofs.CollectedDesk.{desk_collected, is_collected, collected_is_desk}
+use Rattle.store_journal.proofs.OpeningShown.{opened_is_desk}
+use Rattle.stream_store.specs.Kept.{DeskState, IsKept, entry_of, state_of}
+
+-- what is kept holds of equal values too
+pub kept_same : (d e : DeskState) (s t : ShelfView) (workers entries room others more : ℕ) → IsKept d s workers entries room → e ≡ d → t ≡ s → others ≡ entries → room ≤ more
+    → IsKept e t workers others more
+kept_same d e s t workers entries room others more kept same shelf len grows = record {
+  desk = rw same kept.desk;
+  book_is = rw (same, shelf) kept.book_is;
+  opening_is = rw (same, shelf) kept.opening_is;
+  posted_is = rw (same, shelf) kept.posted_is;
+  workers_some = kept.workers_some;
+  workers_few = kept.workers_few;
+  room_is = let count = ap (λ (x : DeskState). count_by is_retired x.desk.pool) same in let room = kept.room_is in omega arith;
+}
+
+none_retired : (n : ℕ) → count_by is_retired (replicate n Free) ≡ 0
+none_retired zero = refl
+none_retired (suc n) = let more = none_retired n in cc
+
+-- an opened desk
+pub opened_kept : (book : Book) (blocks workers : ℕ) → 1 ≤ workers → workers ≤ 8
+    → IsKept (record { book = book; desk = opened_desk blocks }) (opened_shelf book empty_version) workers 0 0
+opened_kept book blocks workers some few = record {
+  desk = opened_is_desk blocks;
+  book_is = refl;
+  opening_is = refl;
+  posted_is = refl;
+  workers_some = some;
+  workers_few = few;
+  room_is = let none = none_retired blocks in omega arith;
+}
+
+-- the desk after a collection
+abbrev pub state_collected : DeskState → ℕ → DeskState
+state_collected d floor = record { book = d.book; desk = desk_collected d.desk floor }
+
+pub collection_kept : (d e : DeskState) (floor : ℕ) (s : ShelfView) (workers entries capacity others room : ℕ) → IsKept d s workers entries capacity
+    → floor ≤ length d.desk.last.batches → e ≡ state_collected d floor → others + count_by is_retired e.desk.pool ≤ room → IsKept e s workers others room
+collection_kept d e floor s workers entries capacity others room kept low is fits = record {
+  desk = collected_is_desk d.desk e.desk floor kept.desk low (is_collected d.desk e.desk floor (ap (λ (x : DeskState). x.desk) is));
+  book_is = kept.book_is ∙ sym (ap (λ (x : DeskState). x.book) is);
+  opening_is = kept.opening_is ∙ sym (ap (λ (x : DeskState). x.desk.last.opening) is);
+  posted_is = kept.posted_is ∙ sym (ap (λ (x : DeskState). x.desk.last.batches) is);
+  workers_some = kept.workers_some;
+  workers_few = kept.workers_few;
+  room_is = fits;
+}

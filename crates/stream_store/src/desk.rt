@@ -1,0 +1,162 @@
+//! The desk.
+
+ghost use Rattle.std.specs.Prelude.{◌≡◌, ◌+◌, ◌<◌, ◌≤◌, ◌++◌, [], length, map, replicate, count_by, vec_capacity, vec_len};
+ghost use Rattle.std.specs.Arc.{arc_value};
+ghost use Rattle.graph_version.specs.declared.versions.Version.{Version};
+ghost use Rattle.graph_version.specs.Versions.{content, empty_version};
+ghost use Rattle.graph_version.specs.Kept.{edge_total};
+ghost use Rattle.block_pool.specs.Pools.{Free, is_free, is_used, is_retired, is_past};
+ghost use Rattle.version_shelf.specs.Shelves.{opened_shelf};
+ghost use Rattle.store_journal.specs.Desks.{IsCollected, collections};
+ghost use Rattle.store_journal.specs.Opening.{opened_desk};
+ghost use Rattle.store_journal.specs.Steps.{TakesAt, recycling};
+ghost use Rattle.stream_store.specs.Kept.{entry_of};
+
+use crate::entries::JournalEntry;
+use block_pool::Pool;
+use graph_version::Version;
+use std::alloc::Global;
+use std::marker::Model;
+use std::sync::Arc;
+use version_shelf::ShelfWriter;
+
+/// The desk of a store: the last version, the pool, the journal, and the shelf's writer.
+#[derive(Drop)]
+pub struct Desk {
+    alloc: Global,
+    workers: usize,
+    last: Arc<Version>,
+    pool: Pool,
+    journal: Vec<JournalEntry>,
+    shelf: ShelfWriter,
+}
+
+impl Model for Desk {
+    ghost use Rattle.std.specs.Prelude.{vec_capacity, vec_len};
+    ghost use Rattle.std.specs.Arc.{arc_value};
+    ghost use Rattle.graph_version.specs.declared.versions.Version.{Version};
+    ghost use Rattle.stream_store.specs.Kept.{DeskState, state_of, IsKept};
+    ghost use Rattle.std.specs.Coded.{codes};
+    ghost use Rattle.graph_model.specs.Coded.{graph_code};
+
+    ghost Value = { DeskState };
+
+    ghost coded = { Prim.hlevel (codes, graph_code) };
+
+    ghost view = { λ d. state_of d.shelf.book (arc_value {X = Version} d.last) d.journal.items d.pool };
+
+    ghost invariant = { λ d. IsKept (state_of d.shelf.book (arc_value {X = Version} d.last) d.journal.items d.pool) d.shelf d.workers (vec_len d.journal) (vec_capacity d.journal) };
+}
+
+/// What a collection answers: its floor, how many blocks it recycled, and how many stay retired.
+#[derive(Clone, Copy, Debug, PartialEq, Eq)]
+pub struct Collected {
+    pub floor: u64,
+    pub recycled: u32,
+    pub retired: u32,
+}
+
+/// The counts of a desk: the last version's number, names and edges, and how many blocks are free, retired and used.
+#[derive(Clone, Copy, Debug, PartialEq, Eq)]
+pub struct Stat {
+    pub number: u64,
+    pub names: usize,
+    pub edges: u64,
+    pub free: u32,
+    pub retired: u32,
+    pub used: u32,
+}
+
+impl Desk {
+    /// The desk at its opening, over a new pool and a shelf that has posted nothing. It takes no memory.
+    pub(crate) fn opened(
+        alloc: Global,
+        workers: usize,
+        last: Arc<Version>,
+        pool: Pool,
+        shelf: ShelfWriter,
+    ) -> Desk
+        requires workers { (1 ≤ workers) × (workers ≤ 8) }
+        requires last { arc_value {X = Version} last ≡ empty_version }
+        requires pool { pool ≡ replicate (length pool) Free }
+        requires shelf { shelf ≡ opened_shelf shelf.book empty_version }
+        ensures { result ≡ record { book = shelf.book; desk = opened_desk (length pool) } }
+    {
+        Desk {
+            alloc,
+            workers,
+            last,
+            pool,
+            journal: Vec::new(alloc),
+            shelf,
+        }
+    }
+
+    /// Recycles each block that was retired with a number at most the floor, which is at most the last number. It
+    /// takes no memory.
+    pub fn collect(&mut self, floor: u64) -> Collected
+        requires { floor ≤ length self.old.desk.last.batches }
+        ensures book { self.new.book ≡ self.old.book }
+        ensures collected { IsCollected self.old.desk floor self.new.desk }
+        ensures steps { TakesAt floor self.old.desk (recycling floor self.old.desk.pool) self.new.desk }
+        ensures floor { result.floor ≡ floor }
+        ensures recycled { result.recycled ≡ count_by (is_past floor) self.old.desk.pool }
+        ensures retired { result.retired ≡ count_by is_retired self.new.desk.pool }
+    {
+        let recycled = self.pool.recycle(floor);
+        enter_collection(&mut self.journal, floor, recycled);
+        let retired = self.pool.retired();
+        Collected {
+            floor,
+            recycled,
+            retired,
+        }
+    }
+
+    /// The last version.
+    pub fn last(&self) -> &Arc<Version>
+        ensures { arc_value {X = Version} result.now ≡ self.now.desk.last }
+    {
+        &self.last
+    }
+
+    /// The counts.
+    pub fn stat(&self) -> Stat
+        ensures number { result.number ≡ length self.now.desk.last.batches }
+        ensures names { result.names ≡ length (content self.now.desk.last).names }
+        ensures edges { result.edges ≡ edge_total self.now.desk.last }
+        ensures free { result.free ≡ count_by is_free self.now.desk.pool }
+        ensures retired { result.retired ≡ count_by is_retired self.now.desk.pool }
+        ensures used { result.used ≡ count_by is_used self.now.desk.pool }
+    {
+        Stat {
+            number: self.last.number(),
+            names: self.last.names().len(),
+            edges: self.last.edge_count(),
+            free: self.pool.free(),
+            retired: self.pool.retired(),
+            used: self.pool.used(),
+        }
+    }
+
+    /// What the desk did, in order.
+    pub fn journal(&self) -> &[JournalEntry]
+        ensures { map entry_of result.now ≡ self.now.desk.journal }
+    {
+        self.journal.as_slice()
+    }
+}
+
+/// Enters a collection that recycled a block, for which there is room.
+fn enter_collection(journal: &mut Vec<JournalEntry>, floor: u64, recycled: u32)
+    requires { 0 < recycled → vec_len journal.old < vec_capacity journal.old }
+    ensures entries { map entry_of journal.new.items ≡ map entry_of journal.old.items ++ collections floor recycled }
+    ensures len { vec_len journal.new ≤ vec_len journal.old + recycled }
+    ensures capacity { vec_capacity journal.old ≤ vec_capacity journal.new }
+{
+    if recycled > 0 {
+        let Ok(()) = journal.push(JournalEntry::Collected { floor, recycled }) else {
+            unreachable!()
+        };
+    }
+}
