@@ -1,5 +1,6 @@
 -- The rows that operations leave have the edges that the operation rule leaves, and the outcomes are the rule's.
-use Rattle.std.proofs.Common.{◌≡◌, ℕ, ◌<◌, ◌==◌, List, [], ◌∷◌, length, map, filter, Bool, true, false, cond, not, ◌&&◌, ◌||◌, ◌+◌, arith, refl, sym, ap, ◌∙◌, subst, Option, Some, None, is_some, All, bytes_eq, suc}
+use Rattle.std.proofs.Common.{◌≡◌, ℕ, ◌<◌, ◌==◌, List, [], ◌∷◌, length, map, filter, Bool, true, false, cond, not, ◌&&◌, ◌||◌}
+use Rattle.std.proofs.Common.{◌+◌, arith, refl, sym, ap, ◌∙◌, subst, Option, Some, None, is_some, All, bytes_eq, suc}
 use Rattle.std.specs.List.{list_any, list_all, position_or_len}
 use Rattle.std.specs.Option.{option_or}
 use Rattle.std.specs.Ordering.{nat_cmp, ordering_then, eq_by_cmp, is_eq}
@@ -8,7 +9,8 @@ use Rattle.std.specs.FinMap.{FinMap, get, get-insert, get-remove}
 use Rattle.std.proofs.lemmas.Bool.{true≢false, false≢true, and_parts}
 use Rattle.std.proofs.lemmas.List.Elements.{All-head, All-tail, All-cons, All-nil}
 use Rattle.graph_model.specs.Graph.{Graph, Key, Stamp, key_cmp}
-use Rattle.graph_model.specs.Step.{set_at, stamp_after, outcome_at, changed, after, outcome, after_all, outcomes, number_of, with_name}
+use Rattle.graph_model.specs.Step.{set_at, stamp_after, outcome_at, changed, after, outcome, after_all, outcomes, number_of}
+use Rattle.graph_model.specs.Step.{with_name}
 use Rattle.graph_model.specs.declared.batches.NamedOp.{NamedOp}
 use Rattle.graph_model.specs.declared.batches.NamedOp.TheVariants.{Insert, Incr, Remove}
 use Rattle.graph_model.specs.declared.batches.Outcome.TheVariants.{Absent}
@@ -17,13 +19,16 @@ use Rattle.block_layout.specs.Operations.{source_name, target_name, kind_name, c
 use Rattle.graph_model.proofs.Keys.{keys_total, exact_keys}
 use Rattle.graph_model.proofs.NameLists.{appears-with_name, stays-with_name, number_of-lt, length-names_made, length-kinds_made}
 use Rattle.edge_block.specs.Slots.{Slot, NoKeyTwice, stamp_at, is_free, AreDistinct}
-use Rattle.block_layout.specs.Rows.{Shape, OpenBlock, block_at, row_at, open_at, edge_at, IsRow, change_row, has_none, is_kept, row_end, shapes, untouched}
-use Rattle.block_layout.specs.Batches.{Resolved, resolve, resolved, is_known, key_is_of, row_step, rows_step, rows_all, outcome_in, outcomes_all, IsLayoutOf, opened, layout_after, IsWithin}
+use Rattle.block_layout.specs.Rows.{Shape, OpenBlock, block_at, row_at, open_at, edge_at, IsRow, change_row, has_none, is_kept}
+use Rattle.block_layout.specs.Rows.{row_end, shapes, untouched}
+use Rattle.block_layout.specs.Batches.{Resolved, resolve, resolved, is_known, key_is_of, row_step, rows_step, rows_all}
+use Rattle.block_layout.specs.Batches.{outcome_in, outcomes_all, IsLayoutOf, opened, layout_after, IsWithin}
 use Rattle.block_layout.proofs.SlotLaws.{same_number}
 use Rattle.block_layout.proofs.RowLaws.{IsOpenRow, change_sets}
-use Rattle.block_layout.proofs.Keyed.{none_is}
+use Rattle.edge_block.proofs.Changes.{none_is}
 
-pub set_at_get : (m : FinMap key_cmp Stamp) (k : Key) (o : Option Stamp) (q : Key) → get (set_at m k o) q ≡ cond (eq_by_cmp key_cmp q k) o (get m q)
+pub set_at_get : (m : FinMap key_cmp Stamp) (k : Key) (o : Option Stamp) (q : Key)
+    → get (set_at m k o) q ≡ cond (eq_by_cmp key_cmp q k) o (get m q)
 set_at_get m k None q = get-remove keys_total m k q
 set_at_get m k (Some v) q = get-insert keys_total m k v q
 
@@ -68,19 +73,26 @@ never true x y = refl
 never false x y = refl
 
 -- a change at a key, on rows that have the map's edges
-shows_key : (change : EdgeChange) (k : Key) (rows : ℕ → List OpenBlock) (edges : FinMap key_cmp Stamp) → AreOpenRows rows → Shows rows edges
-    → (q : Key) → edge_at (cond (q.source == k.source) (change_row change (k.kind, k.target) (rows q.source)) (rows q.source)) (q.kind, q.target) ≡ get (set_at edges k (stamp_after change (get edges k))) q
+shows_key : (change : EdgeChange) (k : Key) (rows : ℕ → List OpenBlock) (edges : FinMap key_cmp Stamp) → AreOpenRows rows
+    → Shows rows edges
+    → (q : Key) → edge_at (cond (q.source == k.source) (change_row change (k.kind, k.target) (rows q.source)) (rows q.source))
+    (q.kind, q.target) ≡ get (set_at edges k (stamp_after change (get edges k))) q
 shows_key change k rows edges u s q =
-    elim (q.source == k.source) as (λ b. q.source == k.source ≡ b → edge_at (cond b (change_row change (k.kind, k.target) (rows q.source)) (rows q.source)) (q.kind, q.target) ≡ cond (tests q k b) (stamp_after change (get edges k)) (get edges q)) [
+    elim (q.source == k.source) as (λ b. q.source == k.source ≡ b
+    → edge_at (cond b (change_row change (k.kind, k.target) (rows q.source)) (rows q.source)) (q.kind, q.target)
+    ≡ cond (tests q k b) (stamp_after change (get edges k)) (get edges q)) [
       | true ↦ λ t.
-          let there : edge_at (rows q.source) (k.kind, k.target) ≡ get edges k = ap (λ n. edge_at (rows n) (k.kind, k.target)) (same_number q.source k.source t) ∙ s k in
+          let there : edge_at (rows q.source) (k.kind, k.target) ≡ get edges k =
+          ap (λ n. edge_at (rows n) (k.kind, k.target)) (same_number q.source k.source t) ∙ s k in
           (change_sets (k.kind, k.target) (rows q.source) (u q.source) change).0 (q.kind, q.target)
           ∙ (λ i. cond (tests q k true) (stamp_after change (there i)) (s q i))
       | false ↦ λ t. s q ∙ never (q.kind == k.kind) (stamp_after change (get edges k)) (get edges q)
     ] refl
-    ∙ sym (set_at_get edges k (stamp_after change (get edges k)) q ∙ ap (λ b. cond b (stamp_after change (get edges k)) (get edges q)) (tied q k))
+    ∙ sym (set_at_get edges k (stamp_after change (get edges k)) q
+    ∙ ap (λ b. cond b (stamp_after change (get edges k)) (get edges q)) (tied q k))
 
-rows_key : (change : EdgeChange) (k : Key) (rows : ℕ → List OpenBlock) → AreOpenRows rows → (source : ℕ) → IsOpenRow (cond (source == k.source) (change_row change (k.kind, k.target) (rows source)) (rows source))
+rows_key : (change : EdgeChange) (k : Key) (rows : ℕ → List OpenBlock) → AreOpenRows rows → (source : ℕ)
+    → IsOpenRow (cond (source == k.source) (change_row change (k.kind, k.target) (rows source)) (rows source))
 rows_key change k rows u source =
     elim (source == k.source) as (λ b. IsOpenRow (cond b (change_row change (k.kind, k.target) (rows source)) (rows source))) [
       | true ↦ (change_sets (k.kind, k.target) (rows source) (u source) change).1
@@ -112,16 +124,21 @@ module _ (op : NamedOp) (g : Graph) where
 unknown_none : (op : NamedOp) (g : Graph) → IsWithin g → knows op g ≡ false
     → (get g.edges (op_key op g) ≡ None) × (stamp_after (change_of op) None ≡ None) × (outcome_at (change_of op) None ≡ Absent)
 unknown_none (Insert kind source target weight time) g w h =
-    absurd (all_known _ _ _ (appears-with_name g.kinds kind) (stays-with_name (with_name g.names source) target source (appears-with_name g.names source)) (appears-with_name (with_name g.names source) target) h)
+    absurd (all_known _ _ _ (appears-with_name g.kinds kind)
+    (stays-with_name (with_name g.names source) target source (appears-with_name g.names source))
+    (appears-with_name (with_name g.names source) target) h)
 unknown_none (Incr kind source target amount time) g w h =
-    absurd (all_known _ _ _ (appears-with_name g.kinds kind) (stays-with_name (with_name g.names source) target source (appears-with_name g.names source)) (appears-with_name (with_name g.names source) target) h)
+    absurd (all_known _ _ _ (appears-with_name g.kinds kind)
+    (stays-with_name (with_name g.names source) target source (appears-with_name g.names source))
+    (appears-with_name (with_name g.names source) target) h)
 unknown_none (Remove kind source target) g w h =
     let key : Key = op_key (Remove kind source target) g in (
       none_is (get g.edges key) (
           elim (is_some (get g.edges key)) as (λ b. is_some (get g.edges key) ≡ b → b ≡ false) [
             | true ↦ λ t.
                 let in' = w key t in
-                let known : (names : List (List ℕ)) (name : List ℕ) → number_of names name < length names → is_known names name ≡ true = λ names name lt.
+                let known : (names : List (List ℕ)) (name : List ℕ) → number_of names name < length names
+                → is_known names name ≡ true = λ names name lt.
                 elim (is_known names name) as (λ b. is_known names name ≡ b → b ≡ true) [
                   | true ↦ λ _. refl
                   | false ↦ λ e. let past = unknown (bytes_eq name) names e in absurd (omega arith)
@@ -147,11 +164,16 @@ key_when op g b = cond b (Some (op_key op g)) None
 -- one operation
 pub step_shows : (op : NamedOp) (g : Graph) (rows : ℕ → List OpenBlock) → IsWithin g → AreOpenRows rows → Shows rows g.edges
     → let r = resolve (names_after op g.names) (kinds_after op g.kinds) op in
-    Shows (rows_step r rows) (after_parts op g).edges × AreOpenRows (rows_step r rows) × (outcome_in r.change r.key rows ≡ outcome op g)
+    Shows (rows_step r rows) (after_parts op g).edges × AreOpenRows (rows_step r rows)
+    × (outcome_in r.change r.key rows ≡ outcome op g)
 step_shows op g rows w u s =
     elim (knows op g) as (λ b. knows op g ≡ b →
-    ((q : Key) → edge_at (cond (key_is_of q.source (key_when op g b)) (row_step (change_of op) (key_when op g b) (rows q.source)) (rows q.source)) (q.kind, q.target) ≡ get (after_parts op g).edges q)
-    × ((source : ℕ) → IsOpenRow (cond (key_is_of source (key_when op g b)) (row_step (change_of op) (key_when op g b) (rows source)) (rows source)))
+    ((q : Key)
+    → edge_at (cond (key_is_of q.source (key_when op g b)) (row_step (change_of op) (key_when op g b) (rows q.source))
+    (rows q.source)) (q.kind, q.target) ≡ get (after_parts op g).edges q)
+    × ((source : ℕ)
+    → IsOpenRow (cond (key_is_of source (key_when op g b)) (row_step (change_of op) (key_when op g b) (rows source))
+    (rows source)))
     × (outcome_in (change_of op) (key_when op g b) rows ≡ outcome op g)) [
       | true ↦ λ t. (
         λ q. shows_key (change_of op) (op_key op g) rows g.edges u s q,
@@ -168,7 +190,8 @@ step_shows op g rows w u s =
     ] refl
 
 lies : (op : NamedOp) (g : Graph) (before : Option Stamp) → is_some (stamp_after (change_of op) before) ≡ true
-    → let k = op_key op g in (k.kind < length (kinds_after op g.kinds)) × (k.source < length (names_after op g.names)) × (k.target < length (names_after op g.names))
+    → let k = op_key op g in (k.kind < length (kinds_after op g.kinds)) × (k.source < length (names_after op g.names))
+    × (k.target < length (names_after op g.names))
 lies (Insert kind source target weight time) g before is = (
   number_of-lt _ kind (appears-with_name g.kinds kind),
   number_of-lt _ source (stays-with_name (with_name g.names source) target source (appears-with_name g.names source)),
@@ -183,10 +206,13 @@ lies (Remove kind source target) g before is = absurd (false≢true is)
 
 pub step_within : (op : NamedOp) (g : Graph) → IsWithin g → IsWithin (after_parts op g)
 step_within op g w q is =
-    elim (eq_by_cmp key_cmp q (op_key op g)) as (λ b. eq_by_cmp key_cmp q (op_key op g) ≡ b → is_some (cond b (stamp_after (change_of op) (get g.edges (op_key op g))) (get g.edges q)) ≡ true
-    → (q.kind < length (kinds_after op g.kinds)) × (q.source < length (names_after op g.names)) × (q.target < length (names_after op g.names))) [
+    elim (eq_by_cmp key_cmp q (op_key op g)) as (λ b. eq_by_cmp key_cmp q (op_key op g) ≡ b
+    → is_some (cond b (stamp_after (change_of op) (get g.edges (op_key op g))) (get g.edges q)) ≡ true
+    → (q.kind < length (kinds_after op g.kinds)) × (q.source < length (names_after op g.names))
+    × (q.target < length (names_after op g.names))) [
       | true ↦ λ t i.
-          subst (λ (k : Key). (k.kind < length (kinds_after op g.kinds)) × (k.source < length (names_after op g.names)) × (k.target < length (names_after op g.names)))
+          subst (λ (k : Key). (k.kind < length (kinds_after op g.kinds)) × (k.source < length (names_after op g.names))
+          × (k.target < length (names_after op g.names)))
           (sym (exact_keys q (op_key op g) ((Equal-is (key_cmp q (op_key op g))).0 t))) (lies op g (get g.edges (op_key op g)) i)
       | false ↦ λ t i.
           let old = w q i in
@@ -199,7 +225,8 @@ step_within op g w q is =
 -- a batch's operations, one after another
 pub all_shows : (ops : List NamedOp) (g : Graph) (rows : ℕ → List OpenBlock) → IsWithin g → AreOpenRows rows → Shows rows g.edges
     → let rs = resolved ops g.names g.kinds in
-    Shows (rows_all rs rows) (after_all ops g).edges × AreOpenRows (rows_all rs rows) × (outcomes_all rs rows ≡ outcomes ops g) × IsWithin (after_all ops g)
+    Shows (rows_all rs rows) (after_all ops g).edges × AreOpenRows (rows_all rs rows) × (outcomes_all rs rows ≡ outcomes ops g)
+    × IsWithin (after_all ops g)
 all_shows [] g rows w u s = (s, u, refl, w)
 all_shows (op ∷ ops) g rows w u s =
     let r : Resolved = resolve (names_after op g.names) (kinds_after op g.kinds) op in
@@ -220,7 +247,8 @@ all_free (Some e ∷ slots) h q = absurd (false≢true h)
 
 not_kept : (h : OpenBlock) → is_kept h ≡ false → (q : ℕ × ℕ) → open_at h q ≡ None
 not_kept h out q =
-    let free : list_all is_free h.shape.slots ≡ true = (and_parts h.touched (has_none h.shape) (flip (h.touched && has_none h.shape) out)).1 in
+    let free : list_all is_free h.shape.slots ≡ true =
+    (and_parts h.touched (has_none h.shape) (flip (h.touched && has_none h.shape) out)).1 in
     ap (λ x. cond (q.0 == h.shape.kind) x None) (all_free h.shape.slots free q.1) ∙ blank (q.0 == h.shape.kind) where
       flip : (b : Bool) → not b ≡ false → b ≡ true
       flip true h = refl
@@ -234,7 +262,8 @@ not_kept h out q =
 pub end_at : (row : List OpenBlock) (q : ℕ × ℕ) → row_at (row_end row) q ≡ edge_at row q
 end_at [] q = refl
 end_at (h ∷ row) q =
-    elim (is_kept h) as (λ b. is_kept h ≡ b → row_at (shapes (cond b (h ∷ filter is_kept row) (filter is_kept row))) q ≡ option_or (open_at h q) (edge_at row q)) [
+    elim (is_kept h) as (λ b. is_kept h ≡ b → row_at (shapes (cond b (h ∷ filter is_kept row) (filter is_kept row))) q
+    ≡ option_or (open_at h q) (edge_at row q)) [
       | true ↦ λ t. ap (option_or (open_at h q)) (end_at row q)
       | false ↦ λ t. end_at row q ∙ ap (λ x. option_or x (edge_at row q)) (sym (not_kept h t q))
     ] refl
@@ -274,11 +303,14 @@ end_within (h ∷ row) a =
 
 -- a batch leaves a layout of the graph that it leaves, and the rows' outcomes are the operation rule's
 pub batch_layout : (ops : List NamedOp) (g : Graph) (layout : ℕ → List Shape) → IsWithin g → IsLayoutOf layout g.edges
-    → IsLayoutOf (layout_after ops g layout) (after_all ops g).edges × (outcomes_all (resolved ops g.names g.kinds) (opened layout) ≡ outcomes ops g) × IsWithin (after_all ops g)
+    → IsLayoutOf (layout_after ops g layout) (after_all ops g).edges
+    × (outcomes_all (resolved ops g.names g.kinds) (opened layout) ≡ outcomes ops g) × IsWithin (after_all ops g)
 batch_layout ops g layout w l =
-    let done = all_shows ops g (opened layout) w (λ source. opened_row (layout source) (l.distinct source)) (λ k. opened_at (layout k.source) (k.kind, k.target) ∙ l.shows k) in (
+    let done = all_shows ops g (opened layout) w (λ source. opened_row (layout source) (l.distinct source))
+    (λ k. opened_at (layout k.source) (k.kind, k.target) ∙ l.shows k) in (
       record {
-        distinct = λ source. record { within = end_within _ (done.1 source).within; between = end_unique _ (done.1 source).between };
+        distinct =
+            λ source. record { within = end_within _ (done.1 source).within; between = end_unique _ (done.1 source).between };
         shows = λ k. end_at _ (k.kind, k.target) ∙ done.0 k;
       },
       done.2,

@@ -1,4 +1,3 @@
-pub mod Keyed
 pub mod SlotLaws
 pub mod RowLaws
 pub mod GraphLaws

@@ -1,5 +1,6 @@
 -- What one operation changes in a source's row.
-use Rattle.std.proofs.Common.{◌≡◌, ℕ, zero, suc, ◌==◌, List, [], ◌∷◌, ◌++◌, Bool, true, false, cond, ◌&&◌, refl, sym, ap, ◌∙◌, subst, Option, Some, None, is_some, All, replicate, ◌+ℤ◌}
+use Rattle.std.proofs.Common.{◌≡◌, ℕ, zero, suc, ◌==◌, List, [], ◌∷◌, ◌++◌, Bool, true, false, cond, ◌&&◌, refl, sym, ap, ◌∙◌}
+use Rattle.std.proofs.Common.{subst, Option, Some, None, is_some, All, replicate, ◌+ℤ◌}
 use Rattle.std.specs.List.{list_any}
 use Rattle.std.proofs.lemmas.Bool.{true≢false, false≢true, and_parts}
 use Rattle.std.proofs.lemmas.List.Elements.{All-head, All-tail, All-cons, All-push}
@@ -9,10 +10,13 @@ use Rattle.graph_model.specs.Step.{stamp_after, outcome_at}
 use Rattle.graph_model.specs.declared.changes.EdgeChange.{EdgeChange}
 use Rattle.graph_model.specs.declared.changes.EdgeChange.TheVariants.{Insert, Incr, Remove}
 use Rattle.graph_model.specs.declared.batches.Outcome.TheVariants.{Updated, Overflow}
-use Rattle.edge_block.specs.Slots.{Slot, at_first, slot_at, stamp_at, holds, is_free, AreDistinct, NoKeyTwice, put_slot, take_slot}
-use Rattle.block_layout.specs.Rows.{OpenBlock, open_at, edge_at, has_edge, has_room, touch, new_block, put_edge, take_edge, set_edge, touches, change_row}
+use Rattle.edge_block.specs.Slots.{Slot, at_first, slot_at, stamp_at, holds, is_free, AreDistinct, NoKeyTwice, put_slot}
+use Rattle.edge_block.specs.Slots.{take_slot}
+use Rattle.block_layout.specs.Rows.{OpenBlock, open_at, edge_at, has_edge, has_room, touch, new_block, put_edge, take_edge}
+use Rattle.block_layout.specs.Rows.{set_edge, touches, change_row}
 use Rattle.std.specs.Option.{option_or}
-use Rattle.block_layout.proofs.Keyed.{or_none, set_first, set_unique, set_last, unique_last, Fits, Puts, fits_key, fits_room, any_key, none_is, at_first_none}
+use Rattle.edge_block.proofs.Changes.{or_none, set_first, set_unique, set_last, unique_last, Fits, Puts, fits_key, fits_room}
+use Rattle.edge_block.proofs.Changes.{any_key, none_is, at_first_none}
 use Rattle.block_layout.proofs.SlotLaws.{same_number, put_at, put_distinct, take_at, take_distinct}
 
 abbrev pub same_place : ℕ × ℕ → ℕ × ℕ → Bool
@@ -29,22 +33,28 @@ both true false x y = refl
 both false b x y = refl
 
 -- a block of the kind whose slots take this at the target
-touch_puts : (place : ℕ × ℕ) (o : Option Stamp) (f : List (Option Slot) → List (Option Slot)) (h : OpenBlock) → place.0 ≡ h.shape.kind
-    → ((target : ℕ) → stamp_at (f h.shape.slots) target ≡ cond (target == place.1) o (stamp_at h.shape.slots target)) → Puts open_at same_place place_is place o (touch f h) h
+touch_puts : (place : ℕ × ℕ) (o : Option Stamp) (f : List (Option Slot) → List (Option Slot)) (h : OpenBlock)
+    → place.0 ≡ h.shape.kind
+    → ((target : ℕ) → stamp_at (f h.shape.slots) target ≡ cond (target == place.1) o (stamp_at h.shape.slots target))
+    → Puts open_at same_place place_is place o (touch f h) h
 touch_puts place o f h kind is q =
     ap (λ x. cond (q.0 == h.shape.kind) x None) (is q.1)
     ∙ both (q.0 == h.shape.kind) (q.1 == place.1) o (stamp_at h.shape.slots q.1)
     ∙ ap (λ n. cond ((q.0 == n) && (q.1 == place.1)) o (open_at h q)) (sym kind)
 
 -- a block with an edge of a kind is of the kind, and has the target
-edge_kind : (place : ℕ × ℕ) (h : OpenBlock) → has_edge place h ≡ true → (place.0 ≡ h.shape.kind) × (list_any (holds place.1) h.shape.slots ≡ true)
+edge_kind : (place : ℕ × ℕ) (h : OpenBlock) → has_edge place h ≡ true
+    → (place.0 ≡ h.shape.kind) × (list_any (holds place.1) h.shape.slots ≡ true)
 edge_kind place h is =
-    elim (place.0 == h.shape.kind) as (λ b. place.0 == h.shape.kind ≡ b → is_some (cond b (stamp_at h.shape.slots place.1) None) ≡ true → (place.0 ≡ h.shape.kind) × (list_any (holds place.1) h.shape.slots ≡ true)) [
+    elim (place.0 == h.shape.kind) as (λ b. place.0 == h.shape.kind ≡ b
+    → is_some (cond b (stamp_at h.shape.slots place.1) None) ≡ true
+    → (place.0 ≡ h.shape.kind) × (list_any (holds place.1) h.shape.slots ≡ true)) [
       | true ↦ λ t i. (same_number place.0 h.shape.kind t, any_key slot_at ◌==◌ same_number place.1 None h.shape.slots ∙ i)
       | false ↦ λ t i. absurd (false≢true i)
     ] refl is
 
-at_first_all : {A : Type 0} (P : A → Type 0) (p : A → Bool) (f : A → A) (xs : List A) → All P xs → ((x : A) → p x ≡ true → P x → P (f x)) → All P (at_first p f xs)
+at_first_all : {A : Type 0} (P : A → Type 0) (p : A → Bool) (f : A → A) (xs : List A) → All P xs
+    → ((x : A) → p x ≡ true → P x → P (f x)) → All P (at_first p f xs)
 at_first_all P p f [] h g = h
 at_first_all P p f (x ∷ xs) h g =
     elim (p x) as (λ b. p x ≡ b → All P (cond b (f x ∷ xs) (x ∷ at_first p f xs))) [
@@ -83,12 +93,14 @@ one_at true b x = refl
 one_at false b x = refl
 
 -- a change that touches no block leaves what was there
-pub unmoved : (change : EdgeChange) (before : Option Stamp) → touches (outcome_at change before) ≡ false → stamp_after change before ≡ before
+pub unmoved : (change : EdgeChange) (before : Option Stamp) → touches (outcome_at change before) ≡ false
+    → stamp_after change before ≡ before
 unmoved (Insert weight time) None h = absurd (true≢false h)
 unmoved (Insert weight time) (Some e) h = absurd (true≢false h)
 unmoved (Incr amount time) None h = absurd (true≢false h)
 unmoved (Incr amount time) (Some e) h =
-    elim (is_weight (e.weight +ℤ amount)) as (λ b. touches (cond b Updated Overflow) ≡ false → cond b (Some (record e { weight = e.weight +ℤ amount; recent = time })) (Some e) ≡ Some e) [
+    elim (is_weight (e.weight +ℤ amount)) as (λ b. touches (cond b Updated Overflow) ≡ false
+    → cond b (Some (record e { weight = e.weight +ℤ amount; recent = time })) (Some e) ≡ Some e) [
       | true ↦ λ t. absurd (true≢false t)
       | false ↦ λ t. refl
     ] h
@@ -100,30 +112,40 @@ module _ (place : ℕ × ℕ) (row : List OpenBlock) (u : IsOpenRow row) where
     abbrev e : Slot
     e = record { target = place.1; stamp = stamp }
 
-    put_over : list_any (has_edge place) row ≡ true → Sets place (Some stamp) row (at_first (has_edge place) (touch (put_slot e)) row)
+    put_over : list_any (has_edge place) row ≡ true
+        → Sets place (Some stamp) row (at_first (has_edge place) (touch (put_slot e)) row)
     put_over h =
         let fits : Fits open_at same_place place_is place (Some stamp) (has_edge place) (touch (put_slot e)) row =
         fits_key open_at same_place place_is place (Some stamp) (touch (put_slot e)) row h u.between
-        (all_with Within (λ x. has_edge place x ≡ true → Puts open_at same_place place_is place (Some stamp) (touch (put_slot e) x) x) row u.within
-        (λ x d i. touch_puts place (Some stamp) (put_slot e) x (edge_kind place x i).0 (put_at e x.shape.slots d (λ no'. absurd (true≢false (sym (edge_kind place x i).1 ∙ no')))))) in (
+        (all_with Within (λ x. has_edge place x ≡ true
+        → Puts open_at same_place place_is place (Some stamp) (touch (put_slot e) x) x) row u.within
+        (λ x d i. touch_puts place (Some stamp) (put_slot e) x (edge_kind place x i).0
+        (put_at e x.shape.slots d (λ no'. absurd (true≢false (sym (edge_kind place x i).1 ∙ no')))))) in (
           set_first open_at same_place place_is place (Some stamp) (has_edge place) (touch (put_slot e)) row fits,
           record {
-            within = at_first_all Within (has_edge place) (touch (put_slot e)) row u.within (λ x i d. put_distinct e x.shape.slots d (λ no'. absurd (true≢false (sym (edge_kind place x i).1 ∙ no'))));
-            between = set_unique open_at same_place place_is place (Some stamp) (has_edge place) (touch (put_slot e)) row fits u.between;
+            within = at_first_all Within (has_edge place) (touch (put_slot e)) row u.within
+                (λ x i d. put_distinct e x.shape.slots d (λ no'. absurd (true≢false (sym (edge_kind place x i).1 ∙ no'))));
+            between = set_unique open_at same_place place_is place (Some stamp) (has_edge place)
+                (touch (put_slot e)) row fits u.between;
           },
         )
 
-    put_into : edge_at row place ≡ None → list_any (λ h. has_room place.0 h.shape) row ≡ true → Sets place (Some stamp) row (at_first (λ h. has_room place.0 h.shape) (touch (put_slot e)) row)
+    put_into : edge_at row place ≡ None → list_any (λ h. has_room place.0 h.shape) row ≡ true
+        → Sets place (Some stamp) row (at_first (λ h. has_room place.0 h.shape) (touch (put_slot e)) row)
     put_into none h =
         let room : OpenBlock → Bool = λ x. has_room place.0 x.shape in
-        let parts : (x : OpenBlock) → room x ≡ true → (place.0 == x.shape.kind ≡ true) × (list_any is_free x.shape.slots ≡ true) = λ x i. and_parts (place.0 == x.shape.kind) (list_any is_free x.shape.slots) i in
+        let parts : (x : OpenBlock) → room x ≡ true → (place.0 == x.shape.kind ≡ true) × (list_any is_free x.shape.slots ≡ true) =
+        λ x i. and_parts (place.0 == x.shape.kind) (list_any is_free x.shape.slots) i in
         let fits : Fits open_at same_place place_is place (Some stamp) room (touch (put_slot e)) row =
         fits_room open_at same_place place_is place (Some stamp) room (touch (put_slot e)) row h none
-        (all_with Within (λ x. room x ≡ true → open_at x place ≡ None → Puts open_at same_place place_is place (Some stamp) (touch (put_slot e) x) x) row u.within
-        (λ x d i n. touch_puts place (Some stamp) (put_slot e) x (same_number place.0 x.shape.kind (parts x i).0) (put_at e x.shape.slots d (λ _. (parts x i).1)))) in (
+        (all_with Within (λ x. room x ≡ true → open_at x place ≡ None
+        → Puts open_at same_place place_is place (Some stamp) (touch (put_slot e) x) x) row u.within
+        (λ x d i n. touch_puts place (Some stamp) (put_slot e) x (same_number place.0 x.shape.kind (parts x i).0)
+        (put_at e x.shape.slots d (λ _. (parts x i).1)))) in (
           set_first open_at same_place place_is place (Some stamp) room (touch (put_slot e)) row fits,
           record {
-            within = at_first_all Within room (touch (put_slot e)) row u.within (λ x i d. put_distinct e x.shape.slots d (λ _. (parts x i).1));
+            within = at_first_all Within room (touch (put_slot e)) row u.within
+                (λ x i d. put_distinct e x.shape.slots d (λ _. (parts x i).1));
             between = set_unique open_at same_place place_is place (Some stamp) room (touch (put_slot e)) row fits u.between;
           },
         )
@@ -147,8 +169,10 @@ module _ (place : ℕ × ℕ) (row : List OpenBlock) (u : IsOpenRow row) where
     put_sets =
         let room : OpenBlock → Bool = λ x. has_room place.0 x.shape in
         let way : Bool → Bool → List OpenBlock = λ b c.
-        cond b (at_first (has_edge place) (touch (put_slot e)) row) (cond c (at_first room (touch (put_slot e)) row) (row ++ new_block place.0 e ∷ [])) in
-        elim (list_any (has_edge place) row) as (λ b. list_any (has_edge place) row ≡ b → Sets place (Some stamp) row (way b (list_any room row))) [
+        cond b (at_first (has_edge place) (touch (put_slot e)) row)
+        (cond c (at_first room (touch (put_slot e)) row) (row ++ new_block place.0 e ∷ [])) in
+        elim (list_any (has_edge place) row) as (λ b. list_any (has_edge place) row ≡ b
+        → Sets place (Some stamp) row (way b (list_any room row))) [
           | true ↦ λ t. put_over t
           | false ↦ λ t.
               let none : edge_at row place ≡ None = none_is (edge_at row place) (sym (any_at place None row) ∙ t) in
@@ -178,16 +202,20 @@ module _ (place : ℕ × ℕ) (row : List OpenBlock) (u : IsOpenRow row) where
 
   pub take_sets : Sets place None row (take_edge place row)
   take_sets =
-      elim (list_any (has_edge place) row) as (λ b. list_any (has_edge place) row ≡ b → Sets place None row (take_edge place row)) [
+      elim (list_any (has_edge place) row) as (λ b. list_any (has_edge place) row ≡ b
+      → Sets place None row (take_edge place row)) [
         | true ↦ λ t.
             let fits : Fits open_at same_place place_is place None (has_edge place) (touch (take_slot place.1)) row =
             fits_key open_at same_place place_is place None (touch (take_slot place.1)) row t u.between
-            (all_with Within (λ x. has_edge place x ≡ true → Puts open_at same_place place_is place None (touch (take_slot place.1) x) x) row u.within
+            (all_with Within (λ x. has_edge place x ≡ true
+            → Puts open_at same_place place_is place None (touch (take_slot place.1) x) x) row u.within
             (λ x d i. touch_puts place None (take_slot place.1) x (edge_kind place x i).0 (take_at place.1 x.shape.slots d))) in (
               set_first open_at same_place place_is place None (has_edge place) (touch (take_slot place.1)) row fits,
               record {
-                within = at_first_all Within (has_edge place) (touch (take_slot place.1)) row u.within (λ x i d. take_distinct place.1 x.shape.slots d);
-                between = set_unique open_at same_place place_is place None (has_edge place) (touch (take_slot place.1)) row fits u.between;
+                within = at_first_all Within (has_edge place) (touch (take_slot place.1)) row u.within
+                    (λ x i d. take_distinct place.1 x.shape.slots d);
+                between = set_unique open_at same_place place_is place None (has_edge place)
+                    (touch (take_slot place.1)) row fits u.between;
               },
             )
         | false ↦ λ t.
@@ -203,7 +231,8 @@ module _ (place : ℕ × ℕ) (row : List OpenBlock) (u : IsOpenRow row) where
   pub change_sets : (change : EdgeChange) → Sets place (stamp_after change (edge_at row place)) row (change_row change place row)
   change_sets change =
       let before : Option Stamp = edge_at row place in
-      elim (touches (outcome_at change before)) as (λ b. touches (outcome_at change before) ≡ b → Sets place (stamp_after change before) row (cond b (set_edge place (stamp_after change before) row) row)) [
+      elim (touches (outcome_at change before)) as (λ b. touches (outcome_at change before) ≡ b
+      → Sets place (stamp_after change before) row (cond b (set_edge place (stamp_after change before) row) row)) [
         | true ↦ λ t. set_sets (stamp_after change before)
         | false ↦ λ t. same_sets (stamp_after change before) (sym (unmoved change before t))
       ] refl

@@ -1,5 +1,6 @@
 -- The rows of all sources, and what a batch does to them.
-use Rattle.std.specs.Prelude.{◌≡◌, ℕ, zero, suc, ◌+◌, ◌%◌, ◌<◌, ◌==◌, List, [], ◌∷◌, map, length, filter, Bool, true, false, ◌&&◌, if◌then◌else◌, bytes_eq}
+use Rattle.std.specs.Prelude.{◌≡◌, ℕ, zero, suc, ◌+◌, ◌%◌, ◌<◌, ◌==◌, List, [], ◌∷◌, map, length, filter, Bool, true, false, ◌&&◌}
+use Rattle.std.specs.Prelude.{if◌then◌else◌, bytes_eq}
 use Rattle.std.specs.List.{list_any}
 use Rattle.std.specs.Option.{is_some}
 use Rattle.std.specs.FinMap.{FinMap, get}
@@ -12,7 +13,8 @@ use Rattle.graph_model.specs.declared.batches.Outcome.{Outcome}
 use Rattle.graph_model.specs.declared.batches.Outcome.TheVariants.{Absent}
 use Rattle.graph_model.specs.declared.changes.EdgeChange.{EdgeChange}
 use Rattle.block_layout.specs.Operations.{source_name, target_name, kind_name, change_of, names_after, kinds_after, key_by}
-use Rattle.block_layout.specs.Rows.{Shape, OpenBlock, row_at, edge_at, untouched, change_row, row_end, taken_in, dropped_in, IsRow}
+use Rattle.block_layout.specs.Rows.{Shape, OpenBlock, row_at, edge_at, untouched, change_row, row_end, taken_in, dropped_in}
+use Rattle.block_layout.specs.Rows.{IsRow}
 
 -- an operation with the numbers of its names, none where a name is unknown at its place, and what it does to the
 -- edge at its key

@@ -9,7 +9,8 @@ use Rattle.block_layout.specs.Rows.{OpenBlock, Shape, row_end, taken_in, dropped
 use Rattle.block_layout.specs.Batches.{Resolved, rows_all, opened}
 
 abbrev pub change_at : EdgeChange → ℕ → Resolved
-change_at change target = record { source = Some 0; key = Some (record { kind = 0; source = 0; target = target }); change = change }
+change_at change target =
+    record { source = Some 0; key = Some (record { kind = 0; source = 0; target = target }); change = change }
 
 abbrev pub insert_at : ℕ → Resolved
 insert_at target = change_at (Insert (pos 1) 1) target
@@ -44,7 +45,8 @@ pub record AreExamples : Type 0 where
   pub overflows : Leaves many (32 ∷ 1 ∷ []) 2 0
   -- an edge goes into the first block with room, at the lowest free slot: the second block is not touched
   pub first_with_room : Leaves (row_by (remove_at 0 ∷ insert_at 33 ∷ []) (row_end many)) (32 ∷ 1 ∷ []) 1 1
-  pub lowest_free : targets_of (row_end (row_by (insert_at 3 ∷ remove_at 1 ∷ insert_at 4 ∷ []) (row_end (row_by (map insert_at (range_with_len 0 3)) []))))
+  pub lowest_free : targets_of
+      (row_end (row_by (insert_at 3 ∷ remove_at 1 ∷ insert_at 4 ∷ []) (row_end (row_by (map insert_at (range_with_len 0 3)) []))))
       ≡ (0 ∷ 4 ∷ 2 ∷ 3 ∷ []) ∷ []
   -- a touched block without edges is left out, and takes no fresh block
   pub emptied : Leaves (row_by (remove_at 0 ∷ []) (row_end (row_by (insert_at 0 ∷ []) []))) [] 0 1

@@ -1,5 +1,6 @@
 -- The row of a source: its blocks, and how one operation changes them.
-use Rattle.std.specs.Prelude.{ℕ, ◌==◌, List, [], ◌∷◌, ◌++◌, map, filter, count_by, replicate, All, Bool, true, false, not, ◌&&◌, if◌then◌else◌}
+use Rattle.std.specs.Prelude.{ℕ, ◌==◌, List, [], ◌∷◌, ◌++◌, map, filter, count_by, replicate, All, Bool, true, false, not, ◌&&◌}
+use Rattle.std.specs.Prelude.{if◌then◌else◌}
 use Rattle.std.specs.List.{list_any, list_all}
 use Rattle.std.specs.Option.{is_some}
 use Rattle.std.specs.declared.option.Option.{Option}
@@ -9,7 +10,8 @@ use Rattle.graph_model.specs.declared.changes.EdgeChange.{EdgeChange}
 use Rattle.graph_model.specs.Step.{stamp_after, outcome_at}
 use Rattle.graph_model.specs.declared.batches.Outcome.{Outcome}
 use Rattle.graph_model.specs.declared.batches.Outcome.TheVariants.{Inserted, Updated, Removed, Absent, Overflow}
-use Rattle.edge_block.specs.Slots.{BlockView, Slot, is_free, stamp_at, AreDistinct, at_first, put_slot, take_slot, edges_in, first_some, NoKeyTwice}
+use Rattle.edge_block.specs.Slots.{BlockView, Slot, is_free, stamp_at, AreDistinct, at_first, put_slot, take_slot, edges_in}
+use Rattle.edge_block.specs.Slots.{first_some, NoKeyTwice}
 
 -- a block without its number and source: its kind and its 32 slots
 pub record Shape : Type 0 where

@@ -6,7 +6,8 @@ ghost use Rattle.graph_model.specs.Step.{after_all, outcomes};
 ghost use Rattle.graph_model.specs.declared.batches.NamedOp.{NamedOp};
 ghost use Rattle.block_layout.specs.Examples.{AreExamples};
 ghost use Rattle.block_layout.specs.Rows.{Shape, OpenBlock};
-ghost use Rattle.block_layout.specs.Batches.{Resolved, IsWithin, IsLayoutOf, key_is_of, layout_after, outcomes_all, resolved, opened, rows_all};
+ghost use Rattle.block_layout.specs.Batches.{Resolved, IsWithin, IsLayoutOf, key_is_of, layout_after, outcomes_all, resolved};
+ghost use Rattle.block_layout.specs.Batches.{opened, rows_all};
 ghost use Rattle.block_layout.specs.Batches.{shard_ops, shard_of, picked};
 
 /// A batch leaves a layout of the graph that it leaves, and the outcomes in its rows are the operation rule's, for

@@ -1,5 +1,6 @@
 -- The bodies that a pool keeps.
-use Rattle.std.proofs.Common.{◌≡◌, ℕ, ◌+◌, ◌<◌, ◌==◌, ◌++◌, Some, List, [], ◌∷◌, get_or, set, true, false, refl, sym, ap, ◌∙◌, subst, Option, None, IfSome, arith}
+use Rattle.std.proofs.Common.{◌≡◌, ℕ, ◌+◌, ◌<◌, ◌==◌, ◌++◌, Some, List, [], ◌∷◌, get_or, set, true, false, refl, sym, ap, ◌∙◌}
+use Rattle.std.proofs.Common.{subst, Option, None, IfSome, arith}
 use Rattle.std.proofs.Math.ListN.{length-set}
 use Rattle.std.proofs.lemmas.Bool.{eqb-true, eqb-false}
 use Rattle.std.proofs.lemmas.List.{get_or-set_same, get_or-set_other, get_or_append_left, length-append}
@@ -18,29 +19,35 @@ bodies_set count bodies k body lt own are = record {
       elim (n == k) as (λ b. n == k ≡ b → IfSome (get_or (set bodies k body) n None) (λ b. (arc_value {X = Block} b).number ≡ n)) [
         | true ↦ λ t.
             let e : n ≡ k = eqb-true n k t in
-            let here : get_or (set bodies k body) n None ≡ body = ap (λ i. get_or (set bodies k body) i None) e ∙ get_or-set_same bodies k body None (omega (arith, are.same_length)) in
+            let here : get_or (set bodies k body) n None ≡ body =
+            ap (λ i. get_or (set bodies k body) i None) e ∙ get_or-set_same bodies k body None (omega (arith, are.same_length)) in
             subst (λ o. IfSome o (λ b. (arc_value {X = Block} b).number ≡ n)) (sym here)
             (subst (λ (m : ℕ). IfSome body (λ b. (arc_value {X = Block} b).number ≡ m)) (sym e) own)
         | false ↦ λ t.
-            subst (λ o. IfSome o (λ b. (arc_value {X = Block} b).number ≡ n)) (sym (get_or-set_other bodies k n body None (eqb-false n k t))) (are.numbers n within)
+            subst (λ o. IfSome o (λ b. (arc_value {X = Block} b).number ≡ n))
+            (sym (get_or-set_other bodies k n body None (eqb-false n k t))) (are.numbers n within)
       ] refl;
 }
 
 -- one number more, and a body of it
-pub bodies_more : (count : ℕ) (bodies : List (Option (Arc Block Global))) (body : Arc Block Global) → (arc_value {X = Block} body).number ≡ count
+pub bodies_more : (count : ℕ) (bodies : List (Option (Arc Block Global))) (body : Arc Block Global)
+    → (arc_value {X = Block} body).number ≡ count
     → AreBodies count bodies → AreBodies (count + 1) (bodies ++ Some body ∷ [])
 bodies_more count bodies body own are = record {
   same_length = omega (arith, length-append bodies (Some body ∷ []), are.same_length);
   numbers = λ n within.
-      elim (n == count) as (λ b. n == count ≡ b → IfSome (get_or (bodies ++ Some body ∷ []) n None) (λ b. (arc_value {X = Block} b).number ≡ n)) [
+      elim (n == count) as (λ b. n == count ≡ b
+      → IfSome (get_or (bodies ++ Some body ∷ []) n None) (λ b. (arc_value {X = Block} b).number ≡ n)) [
         | true ↦ λ t.
             let e : n ≡ count = eqb-true n count t in
             let last : get_or (bodies ++ Some body ∷ []) n None ≡ Some body =
-            ap (λ i. get_or (bodies ++ Some body ∷ []) i None) (e ∙ sym are.same_length) ∙ get_or-append_seam bodies (Some body) [] None in
+            ap (λ i. get_or (bodies ++ Some body ∷ []) i None) (e ∙ sym are.same_length)
+            ∙ get_or-append_seam bodies (Some body) [] None in
             subst (λ o. IfSome o (λ b. (arc_value {X = Block} b).number ≡ n)) (sym last) (own ∙ sym e)
         | false ↦ λ t.
             let ne : n ≡ count → ⊥ = eqb-false n count t in
             let lt : n < count = omega arith in
-            subst (λ o. IfSome o (λ b. (arc_value {X = Block} b).number ≡ n)) (sym (get_or_append_left bodies (Some body ∷ []) None n (omega (arith, are.same_length)))) (are.numbers n lt)
+            subst (λ o. IfSome o (λ b. (arc_value {X = Block} b).number ≡ n))
+            (sym (get_or_append_left bodies (Some body ∷ []) None n (omega (arith, are.same_length)))) (are.numbers n lt)
       ] refl;
 }

@@ -1,5 +1,6 @@
 -- The numbers that a grant takes.
-use Rattle.std.proofs.Common.{◌≡◌, ℕ, zero, suc, ◌+◌, ◌-◌, ◌<◌, ◌≤◌, ◌==◌, List, [], ◌∷◌, ◌++◌, length, get_or, set, count_by, take, Bool, true, false, cond, ◌&&◌, refl, sym, ap, ◌∙◌, arith, length-take}
+use Rattle.std.proofs.Common.{◌≡◌, ℕ, zero, suc, ◌+◌, ◌-◌, ◌<◌, ◌≤◌, ◌==◌, List, [], ◌∷◌, ◌++◌, length, get_or, set, count_by}
+use Rattle.std.proofs.Common.{take, Bool, true, false, cond, ◌&&◌, refl, sym, ap, ◌∙◌, arith, length-take}
 use Rattle.std.proofs.lemmas.Bool.{true≢false, false≢true, eqb-true, eqb-false, and_parts, true_from_ne_false}
 use Rattle.std.proofs.lemmas.List.{get_or-take}
 use Rattle.std.proofs.Math.ListN.{length-set}
@@ -7,9 +8,11 @@ use Rattle.block_pool.specs.Pools.{Status, is_free, marked, AreFree}
 use Rattle.block_pool.specs.Kept.{status_of, tally, Lists, popped}
 use Rattle.block_pool.proofs.Tallies.{count_more, count_at, listed_at, same_number, passes_at}
 
-pub popped_more : (room : List ℕ) (len k : ℕ) → 0 < k → popped room len k ≡ get_or room (len - 1) 0 ∷ popped room (len - 1) (k - 1)
+pub popped_more : (room : List ℕ) (len k : ℕ) → 0 < k
+    → popped room len k ≡ get_or room (len - 1) 0 ∷ popped room (len - 1) (k - 1)
 popped_more room len zero lt = absurd (omega arith)
-popped_more room len (suc k) lt = let z : k ≡ suc k - 1 = omega arith in ap (λ j. get_or room (len - 1) 0 ∷ popped room (len - 1) j) z
+popped_more room len (suc k) lt = let z : k ≡ suc k - 1 =
+    omega arith in ap (λ j. get_or room (len - 1) 0 ∷ popped room (len - 1) j) z
 
 pub popped_none : (room : List ℕ) (len k : ℕ) → k ≤ 0 → popped room len k ≡ []
 popped_none room len zero le = refl
@@ -22,21 +25,27 @@ length-popped room len (suc k) = ap suc (length-popped room (len - 1) k)
 pub popped_at : (room : List ℕ) (len k i d : ℕ) → i < k → k ≤ len → get_or (popped room len k) i d ≡ get_or room (len - 1 - i) 0
 popped_at room len zero i d lt le = absurd (omega arith)
 popped_at room len (suc k) zero d lt le = ap (λ j. get_or room j 0) (omega arith)
-popped_at room len (suc k) (suc i) d lt le = popped_at room (len - 1) k i d (omega arith) (omega arith) ∙ ap (λ j. get_or room j 0) (omega arith)
+popped_at room len (suc k) (suc i) d lt le =
+    popped_at room (len - 1) k i d (omega arith) (omega arith) ∙ ap (λ j. get_or room j 0) (omega arith)
 
-pub popped_last : (room : List ℕ) (len k : ℕ) → k < len → popped room len (k + 1) ≡ popped room len k ++ get_or room (len - 1 - k) 0 ∷ []
-popped_last room len zero lt = let z : 0 + 1 ≡ suc 0 = omega arith in let y : len - 1 ≡ len - 1 - 0 = omega arith in ap (popped room len) z ∙ ap (λ j. get_or room j 0 ∷ []) y
+pub popped_last : (room : List ℕ) (len k : ℕ) → k < len
+    → popped room len (k + 1) ≡ popped room len k ++ get_or room (len - 1 - k) 0 ∷ []
+popped_last room len zero lt = let z : 0 + 1 ≡ suc 0 = omega arith in let y : len - 1 ≡ len - 1 - 0 =
+    omega arith in ap (popped room len) z ∙ ap (λ j. get_or room j 0 ∷ []) y
 popped_last room len (suc k) lt =
     let z : suc k + 1 ≡ suc (k + 1) = omega arith in
     let y : len - 1 - 1 - k ≡ len - 1 - suc k = omega arith in
-    ap (popped room len) z ∙ ap (λ ns. get_or room (len - 1) 0 ∷ ns) (popped_last room (len - 1) k (omega arith) ∙ ap (λ j. popped room (len - 1) k ++ get_or room j 0 ∷ []) y)
+    ap (popped room len) z ∙ ap (λ ns. get_or room (len - 1) 0 ∷ ns)
+    (popped_last room (len - 1) k (omega arith) ∙ ap (λ j. popped room (len - 1) k ++ get_or room j 0 ∷ []) y)
 
-twice : (xs : List ℕ) (a b d : ℕ) → a < b → b < length xs → get_or xs a d ≡ get_or xs b d → 2 ≤ count_by (λ x. x == get_or xs b d) xs
+twice : (xs : List ℕ) (a b d : ℕ) → a < b → b < length xs → get_or xs a d ≡ get_or xs b d
+    → 2 ≤ count_by (λ x. x == get_or xs b d) xs
 twice [] a b d lt within e = absurd (omega arith)
 twice (x ∷ xs) zero zero d lt within e = absurd (omega arith)
 twice (x ∷ xs) zero (suc b) d lt within e =
     let m = count_more (λ y. y == get_or xs b d) x xs in
-    let one : (let k : ℕ = cond (x == get_or xs b d) 1 0 in k) ≡ 1 = ap (λ y. cond (y == get_or xs b d) 1 0) e ∙ ap (λ b. cond b 1 0) (same_number (get_or xs b d)) in
+    let one : (let k : ℕ = cond (x == get_or xs b d) 1 0 in k) ≡ 1 =
+    ap (λ y. cond (y == get_or xs b d) 1 0) e ∙ ap (λ b. cond b 1 0) (same_number (get_or xs b d)) in
     let more = count_at (λ y. y == get_or xs b d) xs b d (omega arith) (same_number (get_or xs b d)) in
     omega arith
 twice (x ∷ xs) (suc a) zero d lt within e = absurd (omega arith)
@@ -49,7 +58,8 @@ tally_later : (p : Status → Bool) (m i : ℕ) (pool : List Status) → m < i �
 tally_later p m i [] lt = refl
 tally_later p m i (s ∷ pool) lt =
     let rest = tally_later p m (i + 1) pool (omega arith) in
-    let no : (p s && (i == m)) ≡ false = Rattle.std.proofs.lemmas.Bool.false_from_ne_true (p s && (i == m)) (λ t. let e = eqb-true i m (and_parts (p s) (i == m) t).1 in omega arith) in
+    let no : (p s && (i == m)) ≡ false = Rattle.std.proofs.lemmas.Bool.false_from_ne_true (p s && (i == m))
+    (λ t. let e = eqb-true i m (and_parts (p s) (i == m) t).1 in omega arith) in
     let z : (let k : ℕ = cond (p s && (i == m)) 1 0 in k) ≡ 0 = ap (λ b. cond b 1 0) no in
     omega arith
 
@@ -57,12 +67,14 @@ tally_once : (p : Status → Bool) (m i : ℕ) (pool : List Status) → tally p 
 tally_once p m i [] = omega arith
 tally_once p m i (s ∷ pool) =
     elim (p s && (i == m)) as (λ b. p s && (i == m) ≡ b → cond b 1 0 + tally p (λ n. n == m) (i + 1) pool ≤ 1) [
-      | true ↦ λ t. let e = eqb-true i m (and_parts (p s) (i == m) t).1 in let rest = tally_later p m (i + 1) pool (omega arith) in omega arith
+      | true ↦ λ t. let e = eqb-true i m (and_parts (p s) (i == m) t).1 in let rest =
+          tally_later p m (i + 1) pool (omega arith) in omega arith
       | false ↦ λ t. let rest = tally_once p m (i + 1) pool in omega arith
     ] refl
 
 -- two places of a list of numbers that have a status are of two numbers
-apart : (p : Status → Bool) (pool : List Status) (len : ℕ) (room : List ℕ) → Lists p pool (take len room) → len ≤ length room → (a b : ℕ) → a < b → b < len → get_or room a 0 ≡ get_or room b 0 → ⊥
+apart : (p : Status → Bool) (pool : List Status) (len : ℕ) (room : List ℕ) → Lists p pool (take len room) → len ≤ length room
+    → (a b : ℕ) → a < b → b < len → get_or room a 0 ≡ get_or room b 0 → ⊥
 apart p pool len room are le a b lt within e =
     let xs : List ℕ = take len room in
     let long = length-take len room in
@@ -74,14 +86,16 @@ apart p pool len room are le a b lt within e =
     omega arith
 
 -- the numbers that a grant takes are free, and different
-pub popped_free : (pool : List Status) (len : ℕ) (room : List ℕ) (k : ℕ) → Lists is_free pool (take len room) → len ≤ length room → k ≤ len → AreFree pool (popped room len k)
+pub popped_free : (pool : List Status) (len : ℕ) (room : List ℕ) (k : ℕ) → Lists is_free pool (take len room) → len ≤ length room
+    → k ≤ len → AreFree pool (popped room len k)
 popped_free pool len room k are le enough =
     let long = length-popped room len k in
     record {
       free = λ i d lt.
           let at : get_or (popped room len k) i d ≡ get_or room (len - 1 - i) 0 = popped_at room len k i d (omega arith) enough in
           let is = listed_at is_free pool len room are le (len - 1 - i) (omega arith) in
-          passes_at is_free pool (get_or (popped room len k) i d) (omega (arith, is.0)) (ap (λ j. is_free (status_of pool j)) at ∙ is.1);
+          passes_at is_free pool (get_or (popped room len k) i d) (omega (arith, is.0))
+          (ap (λ j. is_free (status_of pool j)) at ∙ is.1);
       distinct = λ i j d lt within e.
           apart is_free pool len room are le (len - 1 - j) (len - 1 - i) (omega arith) (omega arith)
           (sym (popped_at room len k j d (omega arith) enough) ∙ sym e ∙ popped_at room len k i d (omega arith) enough);

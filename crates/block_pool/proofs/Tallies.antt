@@ -1,5 +1,7 @@
 -- Lists of the numbers that have a status.
-use Rattle.std.proofs.Common.{◌≡◌, ℕ, zero, suc, ◌+◌, ◌-◌, ◌<◌, ◌≤◌, ◌==◌, List, [], ◌∷◌, ◌++◌, length, get_or, set, map, replicate, count_by, take, Bool, true, false, cond, not, ◌&&◌, refl, sym, ap, ap₂, ◌∙◌, arith, subst}
+use Rattle.std.proofs.Common.{◌≡◌, ℕ, zero, suc, ◌+◌, ◌-◌, ◌<◌, ◌≤◌, ◌==◌, List, [], ◌∷◌, ◌++◌, length, get_or, set, map}
+use Rattle.std.proofs.Common.{replicate, count_by, take, Bool, true, false, cond, not, ◌&&◌, refl, sym, ap, ap₂, ◌∙◌, arith}
+use Rattle.std.proofs.Common.{subst}
 use Rattle.std.proofs.lemmas.Bool.{true≢false, false≢true, eqb-true, eqb-false, and_parts, true_from_ne_false}
 use Rattle.std.proofs.lemmas.Bool.Decides.{nat_tests}
 use Rattle.std.specs.Prelude.{slice_get}
@@ -13,7 +15,8 @@ pub count_more : {A : Type 0} (p : A → Bool) (x : A) (xs : List A) → count_b
 count_more p x xs = sum_by-cons (λ x. cond (p x) 1 0) x xs
 
 pub count_last : {A : Type 0} (p : A → Bool) (xs : List A) (x : A) → count_by p (xs ++ x ∷ []) ≡ count_by p xs + cond (p x) 1 0
-count_last p xs x = sum_by-append (λ x. cond (p x) 1 0) xs (x ∷ []) ∙ ap (λ n. count_by p xs + n) (sum_by-cons (λ x. cond (p x) 1 0) x [] ∙ Rattle.std.proofs.Common.add-zero (cond (p x) 1 0))
+count_last p xs x = sum_by-append (λ x. cond (p x) 1 0) xs (x ∷ [])
+    ∙ ap (λ n. count_by p xs + n) (sum_by-cons (λ x. cond (p x) 1 0) x [] ∙ Rattle.std.proofs.Common.add-zero (cond (p x) 1 0))
 
 pub count_true : {A : Type 0} (xs : List A) → count_by (λ _. true) xs ≡ length xs
 count_true [] = refl
@@ -41,20 +44,27 @@ tally_set p q i (x ∷ pool) (suc k) s d lt =
     let here = rw at at rest in
     omega arith
 
-pub tally_at : (p : Status → Bool) (k i : ℕ) (pool : List Status) (d : Status) → 1 ≤ tally p (λ n. n == k) i pool → (i ≤ k) × (k < i + length pool) × (p (get_or pool (k - i) d) ≡ true)
+pub tally_at : (p : Status → Bool) (k i : ℕ) (pool : List Status) (d : Status) → 1 ≤ tally p (λ n. n == k) i pool
+    → (i ≤ k) × (k < i + length pool) × (p (get_or pool (k - i) d) ≡ true)
 tally_at p k i [] d h = absurd (omega arith)
 tally_at p k i (s ∷ pool) d h =
-    elim (p s && (i == k)) as (λ b. p s && (i == k) ≡ b → 1 ≤ cond b 1 0 + tally p (λ n. n == k) (i + 1) pool → (i ≤ k) × (k < i + suc (length pool)) × (p (get_or (s ∷ pool) (k - i) d) ≡ true)) [
+    elim (p s && (i == k)) as (λ b. p s && (i == k) ≡ b → 1 ≤ cond b 1 0 + tally p (λ n. n == k) (i + 1) pool
+    → (i ≤ k) × (k < i + suc (length pool)) × (p (get_or (s ∷ pool) (k - i) d) ≡ true)) [
       | true ↦ λ t _.
           let parts = and_parts (p s) (i == k) t in
           let same : i ≡ k = eqb-true i k parts.1 in
           (omega arith, omega arith, subst (λ n. p (get_or (s ∷ pool) n d) ≡ true) (let z : 0 ≡ k - i = omega arith in z) parts.0)
       | false ↦ λ t g.
-          let rest = tally_at p k (i + 1) pool d (omega arith) in
-          (omega arith, omega arith, subst (λ n. p (get_or (s ∷ pool) n d) ≡ true) (let z : suc (k - (i + 1)) ≡ k - i = omega arith in z) rest.2)
+          let rest = tally_at p k (i + 1) pool d (omega arith) in (
+            omega arith,
+            omega arith,
+            subst (λ n. p (get_or (s ∷ pool) n d) ≡ true)
+                (let z : suc (k - (i + 1)) ≡ k - i = omega arith in z) rest.2,
+          )
     ] refl h
 
-pub count_lt : (p : Status → Bool) (pool : List Status) (k : ℕ) (d : Status) → k < length pool → p (get_or pool k d) ≡ false → count_by p pool < length pool
+pub count_lt : (p : Status → Bool) (pool : List Status) (k : ℕ) (d : Status) → k < length pool → p (get_or pool k d) ≡ false
+    → count_by p pool < length pool
 count_lt p [] k d lt e = absurd (omega arith)
 count_lt p (s ∷ pool) zero d lt e =
     let m = count_more p s pool in
@@ -72,27 +82,32 @@ module _ (p : Status → Bool) (pool : List Status) (ns : List ℕ) (are : Lists
   listed_count = sym (count_true ns) ∙ are (λ _. true) ∙ tally_true p 0 pool
 
   module _ (k : ℕ) (s : Status) (lt : k < length pool) where
-    set_tally : (q : ℕ → Bool) → tally p q 0 (set pool k s) + cond (p (status_of pool k) && q k) 1 0 ≡ tally p q 0 pool + cond (p s && q k) 1 0
+    set_tally : (q : ℕ → Bool) → tally p q 0 (set pool k s) + cond (p (status_of pool k) && q k) 1 0 ≡ tally p q 0 pool
+        + cond (p s && q k) 1 0
     set_tally q = let z : 0 + k ≡ k = omega arith in rw z at (tally_set p q 0 pool k s Used lt)
 
     pub lists_more : p (status_of pool k) ≡ false → p s ≡ true → Lists p (set pool k s) (ns ++ k ∷ [])
     lists_more a b q =
         let old = are q in
         let c = count_last q ns k in
-        let t : tally p q 0 (set pool k s) + cond (false && q k) 1 0 ≡ tally p q 0 pool + cond (true && q k) 1 0 = rw b at (rw a at (set_tally q)) in
+        let t : tally p q 0 (set pool k s) + cond (false && q k) 1 0 ≡ tally p q 0 pool + cond (true && q k) 1 0 =
+        rw b at (rw a at (set_tally q)) in
         omega arith
 
     pub lists_same : p (status_of pool k) ≡ p s → Lists p (set pool k s) ns
     lists_same e q =
         let old = are q in
-        let t : tally p q 0 (set pool k s) + cond (p s && q k) 1 0 ≡ tally p q 0 pool + cond (p s && q k) 1 0 = rw e at (set_tally q) in
+        let t : tally p q 0 (set pool k s) + cond (p s && q k) 1 0 ≡ tally p q 0 pool + cond (p s && q k) 1 0 =
+        rw e at (set_tally q) in
         omega arith
 
-    pub lists_less : (ms : List ℕ) → ((q : ℕ → Bool) → count_by q ns ≡ count_by q ms + cond (q k) 1 0) → p (status_of pool k) ≡ true → p s ≡ false → Lists p (set pool k s) ms
+    pub lists_less : (ms : List ℕ) → ((q : ℕ → Bool) → count_by q ns ≡ count_by q ms + cond (q k) 1 0)
+        → p (status_of pool k) ≡ true → p s ≡ false → Lists p (set pool k s) ms
     lists_less ms cut a b q =
         let old = are q in
         let c = cut q in
-        let t : tally p q 0 (set pool k s) + cond (true && q k) 1 0 ≡ tally p q 0 pool + cond (false && q k) 1 0 = rw b at (rw a at (set_tally q)) in
+        let t : tally p q 0 (set pool k s) + cond (true && q k) 1 0 ≡ tally p q 0 pool + cond (false && q k) 1 0 =
+        rw b at (rw a at (set_tally q)) in
         omega arith
 
     pub lists_room : p (status_of pool k) ≡ false → length ns < length pool
@@ -104,16 +119,19 @@ take_set_below (suc m) [] at y lt = refl
 take_set_below (suc m) (n ∷ ns) zero y lt = refl
 take_set_below (suc m) (n ∷ ns) (suc at) y lt = ap (λ l. n ∷ l) (take_set_below m ns at y (omega arith))
 
-pub count_at : {A : Type 0} (p : A → Bool) (xs : List A) (i : ℕ) (d : A) → i < length xs → p (get_or xs i d) ≡ true → 1 ≤ count_by p xs
+pub count_at : {A : Type 0} (p : A → Bool) (xs : List A) (i : ℕ) (d : A) → i < length xs → p (get_or xs i d) ≡ true
+    → 1 ≤ count_by p xs
 count_at p [] i d lt e = absurd (omega arith)
-count_at p (x ∷ xs) zero d lt e = let m = count_more p x xs in let one : (let k : ℕ = cond (p x) 1 0 in k) ≡ 1 = ap (λ b. cond b 1 0) e in omega arith
+count_at p (x ∷ xs) zero d lt e = let m = count_more p x xs in let one : (let k : ℕ = cond (p x) 1 0 in k) ≡ 1 =
+    ap (λ b. cond b 1 0) e in omega arith
 count_at p (x ∷ xs) (suc i) d lt e = let m = count_more p x xs in let rest = count_at p xs i d (omega arith) e in omega arith
 
 pub same_number : (a : ℕ) → (a == a) ≡ true
 same_number a = true_from_ne_false (a == a) (λ e. eqb-false a a e refl)
 
 -- a listed number is one of the pool's, and its status passes
-pub listed_at : (p : Status → Bool) (pool : List Status) (n : ℕ) (room : List ℕ) → Lists p pool (take n room) → n ≤ length room → (i : ℕ) → i < n
+pub listed_at : (p : Status → Bool) (pool : List Status) (n : ℕ) (room : List ℕ) → Lists p pool (take n room) → n ≤ length room
+    → (i : ℕ) → i < n
     → (get_or room i 0 < length pool) × (p (status_of pool (get_or room i 0)) ≡ true)
 listed_at p pool n room are le i lt =
     let r : ℕ = get_or room i 0 in
@@ -125,7 +143,8 @@ listed_at p pool n room are le i lt =
     (omega (arith, at.1), subst (λ k. p (get_or pool k Used) ≡ true) (let z : r - 0 ≡ r = omega arith in z) at.2)
 
 -- and each number whose status passes is listed
-pub at_listed : (p : Status → Bool) (pool : List Status) (n : ℕ) (room : List ℕ) → Lists p pool (take n room) → n ≤ length room → (k : ℕ) → k < length pool → p (status_of pool k) ≡ true
+pub at_listed : (p : Status → Bool) (pool : List Status) (n : ℕ) (room : List ℕ) → Lists p pool (take n room) → n ≤ length room
+    → (k : ℕ) → k < length pool → p (status_of pool k) ≡ true
     → (i : ℕ) × ((i < n) × (get_or room i 0 ≡ k))
 at_listed p pool n room are le k lt e =
     let same = are (λ j. j == k) in
@@ -135,7 +154,8 @@ at_listed p pool n room are le k lt e =
     let short : found.0 < n = omega (arith, found.1.0, Rattle.std.proofs.Common.length-take n room) in
     (found.0, (short, sym (Rattle.std.proofs.lemmas.List.get_or-take n room found.0 0 short) ∙ found.1.1))
   where
-    tally_has : (p : Status → Bool) (k i : ℕ) (pool : List Status) (d : Status) → k < length pool → p (get_or pool k d) ≡ true → 1 ≤ tally p (λ n. n == i + k) i pool
+    tally_has : (p : Status → Bool) (k i : ℕ) (pool : List Status) (d : Status) → k < length pool → p (get_or pool k d) ≡ true
+        → 1 ≤ tally p (λ n. n == i + k) i pool
     tally_has p k i [] d lt e = absurd (omega arith)
     tally_has p zero i (s ∷ pool) d lt e =
         let z : i + 0 ≡ i = omega arith in
@@ -150,18 +170,22 @@ at_listed p pool n room are le k lt e =
     found_at k [] h = absurd (omega arith)
     found_at k (x ∷ xs) h =
         let m = count_more (λ j. j == k) x xs in
-        elim (x == k) as (λ b. x == k ≡ b → count_by (λ j. j == k) (x ∷ xs) ≡ cond b 1 0 + count_by (λ j. j == k) xs → (i : ℕ) × ((i < suc (length xs)) × (get_or (x ∷ xs) i 0 ≡ k))) [
+        elim (x == k) as (λ b. x == k ≡ b → count_by (λ j. j == k) (x ∷ xs) ≡ cond b 1 0 + count_by (λ j. j == k) xs
+        → (i : ℕ) × ((i < suc (length xs)) × (get_or (x ∷ xs) i 0 ≡ k))) [
           | true ↦ λ t _. (0, (omega arith, eqb-true x k t))
           | false ↦ λ t c. let rest = found_at k xs (omega arith) in (suc rest.0, (omega (arith, rest.1.0), rest.1.1))
         ] refl m
 
 -- the list's last number is taken out, or another one, whose place the last takes
-pub count_swap : (q : ℕ → Bool) (ns : List ℕ) (at m : ℕ) → at ≤ m → m < length ns → count_by q (take (m + 1) ns) ≡ count_by q (take m (set ns at (get_or ns m 0))) + cond (q (get_or ns at 0)) 1 0
+pub count_swap : (q : ℕ → Bool) (ns : List ℕ) (at m : ℕ) → at ≤ m → m < length ns
+    → count_by q (take (m + 1) ns) ≡ count_by q (take m (set ns at (get_or ns m 0))) + cond (q (get_or ns at 0)) 1 0
 count_swap q ns at m le lt =
-    elim (at == m) as (λ b. at == m ≡ b → count_by q (take (m + 1) ns) ≡ count_by q (take m (set ns at (get_or ns m 0))) + cond (q (get_or ns at 0)) 1 0) [
+    elim (at == m) as (λ b. at == m ≡ b → count_by q (take (m + 1) ns) ≡ count_by q (take m (set ns at (get_or ns m 0)))
+    + cond (q (get_or ns at 0)) 1 0) [
       | true ↦ λ t.
           let same : at ≡ m = eqb-true at m t in
-          let keep : set ns at (get_or ns m 0) ≡ ns = ap (λ k. set ns k (get_or ns m 0)) same ∙ Rattle.std.proofs.lemmas.List.set-get_or ns m 0 in
+          let keep : set ns at (get_or ns m 0) ≡ ns =
+          ap (λ k. set ns k (get_or ns m 0)) same ∙ Rattle.std.proofs.lemmas.List.set-get_or ns m 0 in
           ap (count_by q) (take_more ns m 0 lt) ∙ count_last q (take m ns) (get_or ns m 0)
           ∙ ap₂ (λ a b. count_by q (take m a) + cond (q b) 1 0) (sym keep) (ap (λ k. get_or ns k 0) (sym same))
       | false ↦ λ t.
@@ -170,14 +194,18 @@ count_swap q ns at m le lt =
           let short : at < length (take m ns) = omega (arith, Rattle.std.proofs.Common.length-take m ns) in
           let one = count_set q (take m ns) at (get_or ns m 0) short in
           let here : get_or (take m ns) at 0 ≡ get_or ns at 0 = Rattle.std.proofs.lemmas.List.get_or-take m ns at 0 below in
-          let cut : take m (set ns at (get_or ns m 0)) ≡ set (take m ns) at (get_or ns m 0) = take_set_below m ns at (get_or ns m 0) below in
+          let cut : take m (set ns at (get_or ns m 0)) ≡ set (take m ns) at (get_or ns m 0) =
+          take_set_below m ns at (get_or ns m 0) below in
           let last = ap (count_by q) (take_more ns m 0 lt) ∙ count_last q (take m ns) (get_or ns m 0) in
-          let a : count_by q (take m (set ns at (get_or ns m 0))) ≡ count_by q (set (take m ns) at (get_or ns m 0)) = ap (count_by q) cut in
-          let b : (let x : ℕ = cond (q (get_or (take m ns) at 0)) 1 0 in x) ≡ cond (q (get_or ns at 0)) 1 0 = ap (λ n. cond (q n) 1 0) here in
+          let a : count_by q (take m (set ns at (get_or ns m 0))) ≡ count_by q (set (take m ns) at (get_or ns m 0)) =
+          ap (count_by q) cut in
+          let b : (let x : ℕ = cond (q (get_or (take m ns) at 0)) 1 0 in x) ≡ cond (q (get_or ns at 0)) 1 0 =
+          ap (λ n. cond (q n) 1 0) here in
           omega arith
     ] refl
   where
-    count_set : (q : ℕ → Bool) (xs : List ℕ) (i y : ℕ) → i < length xs → count_by q (set xs i y) + cond (q (get_or xs i 0)) 1 0 ≡ count_by q xs + cond (q y) 1 0
+    count_set : (q : ℕ → Bool) (xs : List ℕ) (i y : ℕ) → i < length xs
+        → count_by q (set xs i y) + cond (q (get_or xs i 0)) 1 0 ≡ count_by q xs + cond (q y) 1 0
     count_set q xs i y lt = Rattle.std.proofs.lemmas.List.Sums.sum_by-set (λ n. cond (q n) 1 0) xs i y 0 lt
 
 pub retired_not_free : (s : Status) → is_retired s ≡ true → is_free s ≡ false
@@ -195,29 +223,35 @@ module _ (floor : ℕ) where
   due_free : (s : Status) → is_past floor s ≡ true → recycled floor Free ≡ recycled floor s
   due_free s e = ap (λ b. cond b Free s) (sym e)
 
-  pub recycled_set : (pool : List Status) (k : ℕ) → is_past floor (status_of pool k) ≡ true → map (recycled floor) (set pool k Free) ≡ map (recycled floor) pool
-  recycled_set pool k e = Rattle.std.proofs.Math.Seq.map-set_same (recycled floor) pool k Free Used (due_free (status_of pool k) e)
+  pub recycled_set : (pool : List Status) (k : ℕ) → is_past floor (status_of pool k) ≡ true
+      → map (recycled floor) (set pool k Free) ≡ map (recycled floor) pool
+  recycled_set pool k e = Rattle.std.proofs.Math.Seq.map-set_same (recycled floor) pool k Free Used
+      (due_free (status_of pool k) e)
 
-  pub past_set : (pool : List Status) (k : ℕ) → k < length pool → is_past floor (status_of pool k) ≡ true → count_by (is_past floor) (set pool k Free) + 1 ≡ count_by (is_past floor) pool
+  pub past_set : (pool : List Status) (k : ℕ) → k < length pool → is_past floor (status_of pool k) ≡ true
+      → count_by (is_past floor) (set pool k Free) + 1 ≡ count_by (is_past floor) pool
   past_set pool k lt e =
       let s = Rattle.std.proofs.lemmas.List.Sums.sum_by-set (λ s. cond (is_past floor s) 1 0) pool k Free Used lt in
       let one : (let x : ℕ = cond (is_past floor (status_of pool k)) 1 0 in x) ≡ 1 = ap (λ b. cond b 1 0) e in
       omega arith
 
-  pub not_past_set : (pool : List Status) (r m : ℕ) → is_past floor (status_of pool m) ≡ false → is_past floor (status_of (set pool r Free) m) ≡ false
+  pub not_past_set : (pool : List Status) (r m : ℕ) → is_past floor (status_of pool m) ≡ false
+      → is_past floor (status_of (set pool r Free) m) ≡ false
   not_past_set pool r m e =
       elim (m == r) as (λ b. m == r ≡ b → is_past floor (status_of (set pool r Free) m) ≡ false) [
         | true ↦ λ t. free_at pool r m (eqb-true m r t) e
         | false ↦ λ t. ap (is_past floor) (get_or-set_other pool r m Free Used (eqb-false m r t)) ∙ e
       ] refl
     where
-      free_at : (pool : List Status) (r m : ℕ) → m ≡ r → is_past floor (status_of pool m) ≡ false → is_past floor (status_of (set pool r Free) m) ≡ false
+      free_at : (pool : List Status) (r m : ℕ) → m ≡ r → is_past floor (status_of pool m) ≡ false
+          → is_past floor (status_of (set pool r Free) m) ≡ false
       free_at [] r m same e = e
       free_at (s ∷ pool) zero m same e = ap (λ k. is_past floor (get_or (Free ∷ pool) k Used)) same
       free_at (s ∷ pool) (suc r) zero same e = absurd (omega arith)
       free_at (s ∷ pool) (suc r) (suc m) same e = free_at pool r m (omega arith) e
 
-  pub none_past : (pool : List Status) → ((k : ℕ) → k < length pool → is_past floor (status_of pool k) ≡ false) → (map (recycled floor) pool ≡ pool) × (count_by (is_past floor) pool ≡ 0)
+  pub none_past : (pool : List Status) → ((k : ℕ) → k < length pool → is_past floor (status_of pool k) ≡ false)
+      → (map (recycled floor) pool ≡ pool) × (count_by (is_past floor) pool ≡ 0)
   none_past [] none = (refl, refl)
   none_past (s ∷ pool) none =
       let here : is_past floor s ≡ false = none 0 (omega arith) in
@@ -229,10 +263,13 @@ module _ (floor : ℕ) where
 
   -- where no listed number is due, none is
   pub all_checked : (pool : List Status) (n : ℕ) (room : List ℕ) → Lists is_retired pool (take n room) → n ≤ length room
-      → ((i : ℕ) → i < n → is_past floor (status_of pool (get_or room i 0)) ≡ false) → (k : ℕ) → k < length pool → is_past floor (status_of pool k) ≡ false
+      → ((i : ℕ) → i < n → is_past floor (status_of pool (get_or room i 0)) ≡ false) → (k : ℕ) → k < length pool
+      → is_past floor (status_of pool k) ≡ false
   all_checked pool n room are le checked k lt =
-      elim (is_retired (status_of pool k)) as (λ b. is_retired (status_of pool k) ≡ b → is_past floor (status_of pool k) ≡ false) [
-        | true ↦ λ t. let i = at_listed is_retired pool n room are le k lt t in subst (λ j. is_past floor (status_of pool j) ≡ false) i.1.1 (checked i.0 i.1.0)
+      elim (is_retired (status_of pool k)) as (λ b. is_retired (status_of pool k) ≡ b
+      → is_past floor (status_of pool k) ≡ false) [
+        | true ↦ λ t. let i = at_listed is_retired pool n room are le k lt t in
+            subst (λ j. is_past floor (status_of pool j) ≡ false) i.1.1 (checked i.0 i.1.0)
         | false ↦ λ t. past_retired floor (status_of pool k) t
       ] refl
 
@@ -242,12 +279,14 @@ free_not_retired Used e = absurd (false≢true e)
 free_not_retired (Retired v) e = absurd (false≢true e)
 
 -- a number whose status passes is one of the pool's
-pub within_pool : (p : Status → Bool) (pool : List Status) (n : ℕ) → passes p (slice_get pool n) ≡ true → (n < length pool) × (p (status_of pool n) ≡ true)
+pub within_pool : (p : Status → Bool) (pool : List Status) (n : ℕ) → passes p (slice_get pool n) ≡ true
+    → (n < length pool) × (p (status_of pool n) ≡ true)
 within_pool p [] n e = absurd (false≢true e)
 within_pool p (s ∷ pool) zero e = (omega arith, e)
 within_pool p (s ∷ pool) (suc n) e = let rest = within_pool p pool n e in (omega (arith, rest.0), rest.1)
 
-pub passes_at : (p : Status → Bool) (pool : List Status) (n : ℕ) → n < length pool → p (status_of pool n) ≡ true → passes p (slice_get pool n) ≡ true
+pub passes_at : (p : Status → Bool) (pool : List Status) (n : ℕ) → n < length pool → p (status_of pool n) ≡ true
+    → passes p (slice_get pool n) ≡ true
 passes_at p [] n lt e = absurd (omega arith)
 passes_at p (s ∷ pool) zero lt e = e
 passes_at p (s ∷ pool) (suc n) lt e = passes_at p pool n (omega arith) e
@@ -257,7 +296,8 @@ used_is Free e = absurd (false≢true e)
 used_is Used e = refl
 used_is (Retired v) e = absurd (false≢true e)
 
-pub used_at : (pool : List Status) (n : ℕ) → passes is_used (slice_get pool n) ≡ true → (n < length pool) × (status_of pool n ≡ Used)
+pub used_at : (pool : List Status) (n : ℕ) → passes is_used (slice_get pool n) ≡ true
+    → (n < length pool) × (status_of pool n ≡ Used)
 used_at pool n e = let at = within_pool is_used pool n e in (at.0, used_is (status_of pool n) at.1)
 
 -- a version past the floor
@@ -268,7 +308,8 @@ pub due : (version floor : ℕ) → version ≤ floor → is_past floor (Retired
 due version floor le = grind (arith, nat_tests)
 
 -- where nothing is due, a status that isn't due changes nothing of that
-pub none_set : (floor : ℕ) (pool : List Status) (k : ℕ) (s : Status) → k < length pool → is_past floor s ≡ false → count_by (is_past floor) pool ≡ 0 → count_by (is_past floor) (set pool k s) ≡ 0
+pub none_set : (floor : ℕ) (pool : List Status) (k : ℕ) (s : Status) → k < length pool → is_past floor s ≡ false
+    → count_by (is_past floor) pool ≡ 0 → count_by (is_past floor) (set pool k s) ≡ 0
 none_set floor pool k s lt e none =
     let c = Rattle.std.proofs.lemmas.List.Sums.sum_by-set (λ s. cond (is_past floor s) 1 0) pool k s Used lt in
     let z : (let x : ℕ = cond (is_past floor s) 1 0 in x) ≡ 0 = ap (λ b. cond b 1 0) e in
@@ -301,7 +342,8 @@ all_parts (s ∷ pool) =
     one_part Used = refl
     one_part (Retired v) = refl
 
-pub tally_last : (p : Status → Bool) (q : ℕ → Bool) (i : ℕ) (pool : List Status) (s : Status) → tally p q i (pool ++ s ∷ []) ≡ tally p q i pool + cond (p s && q (i + length pool)) 1 0
+pub tally_last : (p : Status → Bool) (q : ℕ → Bool) (i : ℕ) (pool : List Status) (s : Status)
+    → tally p q i (pool ++ s ∷ []) ≡ tally p q i pool + cond (p s && q (i + length pool)) 1 0
 tally_last p q i [] s = let z : i + 0 ≡ i = omega arith in rw z (Rattle.std.proofs.Common.add_comm (cond (p s && q i) 1 0) 0)
 tally_last p q i (t ∷ pool) s =
     let rest = tally_last p q (i + 1) pool s in
@@ -310,9 +352,11 @@ tally_last p q i (t ∷ pool) s =
     omega arith
 
 -- one free number more, at the end
-pub free_more : (k : ℕ) (ns : List ℕ) → Lists is_free (replicate k Free) ns → Lists is_free (replicate (k + 1) Free) (ns ++ k ∷ [])
+pub free_more : (k : ℕ) (ns : List ℕ) → Lists is_free (replicate k Free) ns
+    → Lists is_free (replicate (k + 1) Free) (ns ++ k ∷ [])
 free_more k ns are q =
-    let more : replicate (k + 1) Free ≡ replicate k Free ++ Free ∷ [] = sym (Rattle.std.proofs.lemmas.List.replicate-append-replicate k 1 Free) in
+    let more : replicate (k + 1) Free ≡ replicate k Free ++ Free ∷ [] =
+    sym (Rattle.std.proofs.lemmas.List.replicate-append-replicate k 1 Free) in
     let t = tally_last is_free q 0 (replicate k Free) Free in
     let long : 0 + length (replicate k Free) ≡ k = omega (arith, Rattle.std.proofs.lemmas.List.length-replicate k Free) in
     let last = rw long at t in

@@ -1,5 +1,6 @@
 -- What a pool keeps of its numbers: the free and the retired ones as lists, each in the first places of a room of fixed size.
-use Rattle.std.specs.Prelude.{◌≡◌, ◌<◌, ◌≤◌, ℕ, zero, suc, ◌+◌, ◌-◌, ◌&&◌, Bool, if◌then◌else◌, List, [], ◌∷◌, length, map, take, count_by, slice_index, slice_index_or}
+use Rattle.std.specs.Prelude.{◌≡◌, ◌<◌, ◌≤◌, ℕ, zero, suc, ◌+◌, ◌-◌, ◌&&◌, Bool, if◌then◌else◌, List, [], ◌∷◌, length, map, take}
+use Rattle.std.specs.Prelude.{count_by, slice_index, slice_index_or}
 use Rattle.block_pool.specs.declared.numbers.Place.{Place}
 use Rattle.block_pool.specs.declared.numbers.Place.TheVariants as places
 use Rattle.block_pool.specs.declared.numbers.Numbers.{Numbers}

@@ -1,5 +1,6 @@
 -- A pool: what each of its block numbers is by now. Free, used and retired part the numbers, since each number has one status.
-use Rattle.std.specs.Prelude.{◌≡◌, ◌≢◌, ℕ, nat_le, List, [], ◌∷◌, slice_get, slice_index_or, slice_set, All, AllPairs, Bool, true, false, if◌then◌else◌, Option, Some, None}
+use Rattle.std.specs.Prelude.{◌≡◌, ◌≢◌, ℕ, nat_le, List, [], ◌∷◌, slice_get, slice_index_or, slice_set, All, AllPairs, Bool, true}
+use Rattle.std.specs.Prelude.{false, if◌then◌else◌, Option, Some, None}
 
 pub data Status : Type 0 where
   Free : Status

@@ -1,7 +1,9 @@
 //! Which numbers are free, used or retired.
 
-ghost use Rattle.std.specs.Prelude.{◌≡◌, ◌<◌, ◌≤◌, ℕ, length, map, replicate, count_by, slice_index, slice_set, ◌+◌, ◌-◌, IfOk, true};
-ghost use Rattle.block_pool.specs.Pools.{Free, Used, Retired, is_free, is_used, is_retired, is_past, recycled, is_used_at, is_born_at, marked};
+ghost use Rattle.std.specs.Prelude.{◌≡◌, ◌<◌, ◌≤◌, ℕ, length, map, replicate, count_by, slice_index, slice_set, ◌+◌, ◌-◌, IfOk};
+ghost use Rattle.std.specs.Prelude.{true};
+ghost use Rattle.block_pool.specs.Pools.{Free, Used, Retired, is_free, is_used, is_retired, is_past, recycled, is_used_at};
+ghost use Rattle.block_pool.specs.Pools.{is_born_at, marked};
 ghost use Rattle.block_pool.specs.Kept.{status_of, popped, Lists};
 
 use std::alloc::{AllocError, Global};
@@ -78,7 +80,8 @@ impl Numbers {
         requires kept { IsKept self.old }
         requires enough { count ≤ self.old.free_len }
         ensures kept { IsKept self.new }
-        ensures statuses { statuses self.new ≡ marked (popped self.old.free.items self.old.free_len count) Used (statuses self.old) }
+        ensures statuses { statuses self.new ≡ marked (popped self.old.free.items self.old.free_len count) Used
+            (statuses self.old) }
     {
         let mut left = count;
         'grant: while left > 0 {
@@ -92,7 +95,8 @@ impl Numbers {
         requires kept { IsKept self.old }
         requires some { 0 < self.old.free_len }
         ensures kept { IsKept self.new }
-        ensures statuses { statuses self.new ≡ slice_set (statuses self.old) (slice_index self.old.free.items (self.old.free_len - 1)) Used }
+        ensures statuses { statuses self.new ≡ slice_set (statuses self.old)
+            (slice_index self.old.free.items (self.old.free_len - 1)) Used }
         ensures shorter { self.new.free_len ≡ self.old.free_len - 1 }
         ensures room { self.new.free.items ≡ self.old.free.items }
     {

@@ -1,9 +1,11 @@
 //! A pool: blocks that are free, used or retired.
 
-ghost use Rattle.std.specs.Prelude.{◌≡◌, ◌⊎◌, ◌<◌, ◌≤◌, ◌+◌, [], ◌∷◌, length, map, replicate, count_by, IfOk, OnOk, OnErr, IfErr, IfSome, None, true, vec_len, slice_index_or, slice_set};
+ghost use Rattle.std.specs.Prelude.{◌≡◌, ◌⊎◌, ◌<◌, ◌≤◌, ◌+◌, [], ◌∷◌, length, map, replicate, count_by, IfOk, OnOk, OnErr, IfErr};
+ghost use Rattle.std.specs.Prelude.{IfSome, None, true, vec_len, slice_index_or, slice_set};
 ghost use Rattle.std.specs.Arc.{arc_value};
 ghost use Rattle.edge_block.specs.declared.blocks.Block.{Block};
-ghost use Rattle.block_pool.specs.Pools.{Free, Used, is_free, is_used, is_retired, is_past, recycled, retired, is_used_at, is_born_at, marked, changed, AreFree};
+ghost use Rattle.block_pool.specs.Pools.{Free, Used, is_free, is_used, is_retired, is_past, recycled, retired, is_used_at};
+ghost use Rattle.block_pool.specs.Pools.{is_born_at, marked, changed, AreFree};
 ghost use Rattle.block_pool.specs.Kept.{statuses, popped, IsKept};
 ghost use Rattle.block_pool.specs.Bodies.{AreBodies};
 
@@ -103,7 +105,8 @@ impl Pool {
         ensures used { IfOk result (λ g. self.new ≡ marked g.numbers.items Used self.old) }
         ensures refused { IfErr result (λ e. (e ≡ GrantError.OutOfMemory)
             ⊎ ((count_by is_free self.old < count) × (e ≡ GrantError.PoolEmpty count (count_by is_free self.old)))) }
-        ensures exact { count_by is_free self.old < count → result ≡ Err (GrantError.PoolEmpty count (count_by is_free self.old)) }
+        ensures exact { count_by is_free self.old < count
+            → result ≡ Err (GrantError.PoolEmpty count (count_by is_free self.old)) }
         ensures enough { OnOk result (count ≤ count_by is_free self.old) }
         ensures unchanged { OnErr result (self.new ≡ self.old) }
     {

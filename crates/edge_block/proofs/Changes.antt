@@ -1,5 +1,6 @@
 -- A list whose elements have something at keys, and one change to the first element that passes a test.
-use Rattle.std.proofs.Common.{◌≡◌, List, [], ◌∷◌, ◌++◌, Bool, true, false, cond, ◌||◌, refl, sym, ap, ◌∙◌, subst, Option, Some, None, is_some, ◌⊎◌, inl, inr, All}
+use Rattle.std.proofs.Common.{◌≡◌, List, [], ◌∷◌, ◌++◌, Bool, true, false, cond, ◌||◌, refl, sym, ap, ◌∙◌, subst, Option, Some}
+use Rattle.std.proofs.Common.{None, is_some, ◌⊎◌, inl, inr, All}
 use Rattle.std.specs.List.{list_any}
 use Rattle.std.specs.Option.{option_or}
 use Rattle.std.proofs.lemmas.Bool.{true≢false, false≢true}
@@ -17,7 +18,17 @@ none_is (Some x) h = absurd (true≢false h)
 pub some_not_none : {B : Type 0} (o : Option B) → is_some o ≡ true → o ≡ None → ⊥
 some_not_none o h e = false≢true (sym (ap is_some e) ∙ h)
 
-first_append : {A B : Type 0} (g : A → Option B) (xs : List A) (y : A) → first_some g (xs ++ y ∷ []) ≡ option_or (first_some g xs) (g y)
+-- nothing changes where no element passes
+pub at_first_none : {A : Type 0} (p : A → Bool) (f : A → A) (xs : List A) → list_any p xs ≡ false → at_first p f xs ≡ xs
+at_first_none p f [] h = refl
+at_first_none p f (x ∷ xs) h =
+    elim (p x) as (λ b. (b || list_any p xs) ≡ false → cond b (f x ∷ xs) (x ∷ at_first p f xs) ≡ x ∷ xs) [
+      | true ↦ λ n. absurd (true≢false n)
+      | false ↦ λ n. ap (λ ys. x ∷ ys) (at_first_none p f xs n)
+    ] h
+
+first_append : {A B : Type 0} (g : A → Option B) (xs : List A) (y : A)
+    → first_some g (xs ++ y ∷ []) ≡ option_or (first_some g xs) (g y)
 first_append g [] y = or_none (g y)
 first_append g (x ∷ xs) y = ap (option_or (g x)) (first_append g xs y) ∙ assoc (g x) (first_some g xs) (g y) where
   assoc : {B : Type 0} (a b c : Option B) → option_or a (option_or b c) ≡ option_or (option_or a b) c
@@ -25,7 +36,8 @@ first_append g (x ∷ xs) y = ap (option_or (g x)) (first_append g xs y) ∙ ass
   assoc (Some x) b c = refl
 
 -- elements, keys told apart by a test, one key, and what is to stand there
-module _ {A K B : Type 0} (at : A → K → Option B) (same : K → K → Bool) (sound : (a b : K) → same a b ≡ true → a ≡ b) (k : K) (o : Option B) where
+module _ {A K B : Type 0} (at : A → K → Option B) (same : K → K → Bool) (sound : (a b : K) → same a b ≡ true → a ≡ b) (k : K)
+    (o : Option B) where
   -- what a list has at a key
   abbrev pub chain : List A → K → Option B
   chain xs q = first_some (λ y. at y q) xs
@@ -94,9 +106,16 @@ module _ {A K B : Type 0} (at : A → K → Option B) (same : K → K → Bool) 
       → All (λ x. is_some (at x k) ≡ true → Puts (f x) x) xs → Fits (λ x. is_some (at x k)) f xs
   fits_key f [] h u l = absurd (false≢true h)
   fits_key f (x ∷ xs) h u l =
-      elim (is_some (at x k)) as (λ b. is_some (at x k) ≡ b → (b || list_any (λ x. is_some (at x k)) xs) ≡ true → Fits (λ x. is_some (at x k)) f (x ∷ xs)) [
+      elim (is_some (at x k)) as (λ b. is_some (at x k) ≡ b → (b || list_any (λ x. is_some (at x k)) xs) ≡ true
+      → Fits (λ x. is_some (at x k)) f (x ∷ xs)) [
         | true ↦ λ t n. inl (t, All-head (λ x. is_some (at x k) ≡ true → Puts (f x) x) x xs l t, u.0 k t)
-        | false ↦ λ t n. inr (t, none_is (at x k) t, fits_key f xs n u.1 (All-tail (λ x. is_some (at x k) ≡ true → Puts (f x) x) x xs l))
+        | false ↦
+            λ t n. inr (
+              t,
+              none_is (at x k) t,
+              fits_key f xs n u.1
+                  (All-tail (λ x. is_some (at x k) ≡ true → Puts (f x) x) x xs l),
+            )
       ] refl h
 
   first_of_two : (x y : Option B) → option_or x y ≡ None → (x ≡ None) × (y ≡ None)
@@ -111,7 +130,8 @@ module _ {A K B : Type 0} (at : A → K → Option B) (same : K → K → Bool) 
       let parts : (at x k ≡ None) × (chain xs k ≡ None) = first_of_two (at x k) (chain xs k) none in
       elim (p x) as (λ b. p x ≡ b → (b || list_any p xs) ≡ true → Fits p f (x ∷ xs)) [
         | true ↦ λ t n. inl (t, All-head (λ x. p x ≡ true → at x k ≡ None → Puts (f x) x) x xs l t parts.0, parts.1)
-        | false ↦ λ t n. inr (t, parts.0, fits_room p f xs n parts.1 (All-tail (λ x. p x ≡ true → at x k ≡ None → Puts (f x) x) x xs l))
+        | false ↦
+            λ t n. inr (t, parts.0, fits_room p f xs n parts.1 (All-tail (λ x. p x ≡ true → at x k ≡ None → Puts (f x) x) x xs l))
       ] refl h
 
   -- whether an element has the key
@@ -123,13 +143,15 @@ module _ {A K B : Type 0} (at : A → K → Option B) (same : K → K → Bool) 
     either (Some x) y = refl
 
   -- an element at the end, where no element has the key
-  pub set_last : (xs : List A) (y : A) → chain xs k ≡ None → ((q : K) → at y q ≡ cond (same q k) o None) → (q : K) → chain (xs ++ y ∷ []) q ≡ cond (same q k) o (chain xs q)
+  pub set_last : (xs : List A) (y : A) → chain xs k ≡ None → ((q : K) → at y q ≡ cond (same q k) o None) → (q : K)
+      → chain (xs ++ y ∷ []) q ≡ cond (same q k) o (chain xs q)
   set_last xs y none is q =
       first_append (λ x. at x q) xs y ∙ ap (option_or (chain xs q)) (is q)
       ∙ or_skip (same q k) (chain xs q) None (chain_key q xs none)
       ∙ ap (cond (same q k) o) (or_none (chain xs q))
 
-  pub unique_last : (xs : List A) (y : A) → chain xs k ≡ None → ((q : K) → at y q ≡ cond (same q k) o None) → NoKeyTwice at xs → NoKeyTwice at (xs ++ y ∷ [])
+  pub unique_last : (xs : List A) (y : A) → chain xs k ≡ None → ((q : K) → at y q ≡ cond (same q k) o None) → NoKeyTwice at xs
+      → NoKeyTwice at (xs ++ y ∷ [])
   unique_last [] y none is u = (λ q i. refl, tt)
   unique_last (x ∷ xs) y none is u =
       let parts : (at x k ≡ None) × (chain xs k ≡ None) = first_of_two (at x k) (chain xs k) none in (

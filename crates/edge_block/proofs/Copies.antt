@@ -16,11 +16,14 @@ pub below_used : (live n k : ℕ) → ((place : ℕ) → n ≤ place → InMask 
 below_used live n k past lives = elim (cases_lt k n) [ inl below ↦ below | inr above ↦ absurd (past k above lives) ]
 
 -- an item of the copied part
-pub copied_at : {X : Type 0} (xs new rest : List X) (n k : ℕ) (d : X) → new ≡ take n xs → n ≤ length xs → k < n → get_or (new ++ rest) k d ≡ get_or xs k d
+pub copied_at : {X : Type 0} (xs new rest : List X) (n k : ℕ) (d : X) → new ≡ take n xs → n ≤ length xs → k < n
+    → get_or (new ++ rest) k d ≡ get_or xs k d
 copied_at xs new rest n k d is few below =
-    get_or_append_left new rest d k (omega (arith, ap length is, length-take n xs)) ∙ ap (λ ys. get_or ys k d) is ∙ get_or-take n xs k d below
+    get_or_append_left new rest d k (omega (arith, ap length is, length-take n xs)) ∙ ap (λ ys. get_or ys k d) is
+    ∙ get_or-take n xs k d below
 
-pub length-copied : {X : Type 0} (xs ys new : List X) (n : ℕ) → new ≡ take n xs → length xs ≡ 32 → length ys ≡ 32 → n ≤ 32 → length (new ++ drop n ys) ≡ 32
+pub length-copied : {X : Type 0} (xs ys new : List X) (n : ℕ) → new ≡ take n xs → length xs ≡ 32 → length ys ≡ 32 → n ≤ 32
+    → length (new ++ drop n ys) ≡ 32
 length-copied xs ys new n is long long' few =
     omega (arith, length-append new (drop n ys), ap length is, length-take n xs, length-drop n ys)
 
@@ -31,7 +34,8 @@ pub slots_copied : (live : ℕ) (ts : List ℕ) (ws ws' : List ℤ) (fs fs' rs r
     ((k : ℕ) → k < 32 → InMask live k → get_or rs' k 0 ≡ get_or rs k 0) →
     slots_of live ts ws' fs' rs' ≡ slots_of live ts ws fs rs
 slots_copied live ts ws ws' fs fs' rs rs' same_ws same_fs same_rs =
-    ext_get_or None (slots_of live ts ws' fs' rs') (slots_of live ts ws fs rs) (length-slots_of live ts ws' fs' rs' ∙ sym (length-slots_of live ts ws fs rs))
+    ext_get_or None (slots_of live ts ws' fs' rs') (slots_of live ts ws fs rs)
+    (length-slots_of live ts ws' fs' rs' ∙ sym (length-slots_of live ts ws fs rs))
     (λ k within.
     let few : k < 32 = omega (arith, length-slots_of live ts ws' fs' rs') in
     elim (lives_or_not live k) [
@@ -49,7 +53,8 @@ pub columns_copied : (live : ℕ) (ts : List ℕ) (ws ws' : List ℤ) (fs fs' rs
     ((k : ℕ) → k < 32 → InMask live k → get_or rs' k 0 ≡ get_or rs k 0) →
     AreColumns live ts ws fs rs → AreColumns live ts ws' fs' rs'
 columns_copied live ts ws ws' fs fs' rs rs' same_ws same_fs same_rs h =
-    let same : slots_of live ts ws' fs' rs' ≡ slots_of live ts ws fs rs = slots_copied live ts ws ws' fs fs' rs rs' same_ws same_fs same_rs in
+    let same : slots_of live ts ws' fs' rs' ≡ slots_of live ts ws fs rs =
+    slots_copied live ts ws ws' fs fs' rs rs' same_ws same_fs same_rs in
     record { distinct = rw same h.distinct; stamped = rw same h.stamped; cleared = h.cleared }
 
 -- the same bounds
@@ -57,10 +62,14 @@ pub times_copied : (live : ℕ) (rs rs' : List ℕ) (times : ℕ × ℕ) → len
     ((k : ℕ) → k < 32 → InMask live k → get_or rs' k 0 ≡ get_or rs k 0) → AreTimes live rs times → AreTimes live rs' times
 times_copied live rs rs' times long long' same h some =
     let agree : selected live rs' ≡ selected live rs =
-    selected_agree live 0 rs' rs 0 (omega arith) (λ k m within e set. let at : k ≡ m = omega arith in same k (omega arith) (rw at set)) in
+    selected_agree live 0 rs' rs 0 (omega arith)
+    (λ k m within e set. let at : k ≡ m = omega arith in same k (omega arith) (rw at set)) in
     rw agree (h some)
 
 -- a block's number with another block's source, kind and slots
-pub copied_block : (number : ℕ) (slots : List (Option Slot)) (seen old other : BlockView) → number ≡ old.number → slots ≡ seen.slots → seen ≡ other →
-    (let b : BlockView = record { number = number; source = seen.source; kind = seen.kind; slots = slots } in b) ≡ record { number = old.number; source = other.source; kind = other.kind; slots = other.slots }
-copied_block number slots seen old other e f g = λ i. record { number = e i; source = (g i).source; kind = (g i).kind; slots = (f ∙ ap (λ b. b.slots) g) i }
+pub copied_block : (number : ℕ) (slots : List (Option Slot)) (seen old other : BlockView) → number ≡ old.number
+    → slots ≡ seen.slots → seen ≡ other →
+    (let b : BlockView = record { number = number; source = seen.source; kind = seen.kind; slots = slots } in b)
+    ≡ record { number = old.number; source = other.source; kind = other.kind; slots = other.slots }
+copied_block number slots seen old other e f g =
+    λ i. record { number = e i; source = (g i).source; kind = (g i).kind; slots = (f ∙ ap (λ b. b.slots) g) i }

@@ -1,5 +1,6 @@
 -- What a search for a target finds: after a put, after a take, and among a block's entries.
-use Rattle.std.proofs.Common.{◌≡◌, ℕ, zero, suc, ◌<◌, ◌==◌, ◌↔◌, List, [], ◌∷◌, length, get_or, map, Bool, true, false, cond, refl, sym, ap, ◌∙◌, subst, arith, ◌⊎◌, inl, inr}
+use Rattle.std.proofs.Common.{◌≡◌, ℕ, zero, suc, ◌<◌, ◌==◌, ◌↔◌, List, [], ◌∷◌, length, get_or, map, Bool, true, false, cond}
+use Rattle.std.proofs.Common.{refl, sym, ap, ◌∙◌, subst, arith, ◌⊎◌, inl, inr}
 use Rattle.std.specs.Prelude.{◌||◌, Contains}
 use Rattle.std.specs.List.{list_any}
 use Rattle.std.specs.Option.{is_some, option_or}
@@ -9,7 +10,8 @@ use Rattle.std.proofs.lemmas.Bool.{false≢true, eqb-true, eq-eqb, ne_eqb, cases
 use Rattle.std.proofs.lemmas.List.{length-map, get_or-map}
 use Rattle.std.proofs.lemmas.List.Elements.{Contains-get_or}
 use Rattle.graph_model.specs.Graph.{Key, Stamp}
-use Rattle.edge_block.specs.Slots.{Slot, BlockView, at_first, slot_at, stamp_at, holds, is_free, has_room_for, AreDistinct, put_slot, take_slot, edges_in, entry_in, entries_of}
+use Rattle.edge_block.specs.Slots.{Slot, BlockView, at_first, slot_at, stamp_at, holds, is_free, has_room_for, AreDistinct}
+use Rattle.edge_block.specs.Slots.{put_slot, take_slot, edges_in, entry_in, entries_of}
 use Rattle.edge_block.specs.Laws.{StandsIn}
 use Rattle.edge_block.proofs.Firsts.{at_first-none}
 use Rattle.edge_block.proofs.Changes.{set_first, Fits, Puts, fits_key, fits_room, any_key, none_is}
@@ -22,8 +24,10 @@ twice false x y z = refl
 over : (e : Slot) (s : Option Slot) → holds e.target s ≡ true → Puts slot_at ◌==◌ eqb-true e.target (Some e.stamp) (Some e) s
 over e None h q = absurd (false≢true h)
 over e (Some d) h q =
-    elim (e.target == d.target) as (λ b. e.target == d.target ≡ b → is_some (cond b (Some d.stamp) None) ≡ true → slot_at (Some e) q ≡ cond (q == e.target) (Some e.stamp) (slot_at (Some d) q)) [
-      | true ↦ λ t i. sym (twice (q == e.target) (Some e.stamp) (Some d.stamp) None) ∙ ap (λ n. cond (q == e.target) (Some e.stamp) (cond (q == n) (Some d.stamp) None)) (eqb-true e.target d.target t)
+    elim (e.target == d.target) as (λ b. e.target == d.target ≡ b → is_some (cond b (Some d.stamp) None) ≡ true
+    → slot_at (Some e) q ≡ cond (q == e.target) (Some e.stamp) (slot_at (Some d) q)) [
+      | true ↦ λ t i. sym (twice (q == e.target) (Some e.stamp) (Some d.stamp) None)
+          ∙ ap (λ n. cond (q == e.target) (Some e.stamp) (cond (q == n) (Some d.stamp) None)) (eqb-true e.target d.target t)
       | false ↦ λ t i. absurd (false≢true i)
     ] refl h
 
@@ -40,8 +44,10 @@ none_there false x = refl
 out_of : (target : ℕ) (s : Option Slot) → holds target s ≡ true → Puts slot_at ◌==◌ eqb-true target None None s
 out_of target None h q = absurd (false≢true h)
 out_of target (Some d) h q =
-    elim (target == d.target) as (λ b. target == d.target ≡ b → is_some (cond b (Some d.stamp) None) ≡ true → None ≡ cond (q == target) None (slot_at (Some d) q)) [
-      | true ↦ λ t i. none_there (q == target) (Some d.stamp) ∙ ap (λ n. cond (q == target) None (cond (q == n) (Some d.stamp) None)) (eqb-true target d.target t)
+    elim (target == d.target) as (λ b. target == d.target ≡ b → is_some (cond b (Some d.stamp) None) ≡ true
+    → None ≡ cond (q == target) None (slot_at (Some d) q)) [
+      | true ↦ λ t i. none_there (q == target) (Some d.stamp)
+          ∙ ap (λ n. cond (q == target) None (cond (q == n) (Some d.stamp) None)) (eqb-true target d.target t)
       | false ↦ λ t i. absurd (false≢true i)
     ] refl h
 
@@ -49,28 +55,39 @@ out_of target (Some d) h q =
 pub list_any-holds : (target : ℕ) (slots : List (Option Slot)) → list_any (holds target) slots ≡ is_some (stamp_at slots target)
 list_any-holds target slots = any_key slot_at ◌==◌ eqb-true target None slots
 
-pub stamp_at-absent : (target : ℕ) (slots : List (Option Slot)) → list_any (holds target) slots ≡ false → stamp_at slots target ≡ None
+pub stamp_at-absent : (target : ℕ) (slots : List (Option Slot)) → list_any (holds target) slots ≡ false
+    → stamp_at slots target ≡ None
 stamp_at-absent target slots h = none_is (stamp_at slots target) (sym (list_any-holds target slots) ∙ h)
 
-pub absent_by_stamp : (target : ℕ) (slots : List (Option Slot)) → stamp_at slots target ≡ None → list_any (holds target) slots ≡ false
+pub absent_by_stamp : (target : ℕ) (slots : List (Option Slot)) → stamp_at slots target ≡ None
+    → list_any (holds target) slots ≡ false
 absent_by_stamp target slots none = list_any-holds target slots ∙ ap is_some none
 
-pub held_both : (slots : List (Option Slot)) (target : ℕ) → (stamp_at slots target ≡ None) ↔ (list_any (holds target) slots ≡ false)
+pub held_both : (slots : List (Option Slot)) (target : ℕ)
+    → (stamp_at slots target ≡ None) ↔ (list_any (holds target) slots ≡ false)
 held_both slots target = (absent_by_stamp target slots, stamp_at-absent target slots)
 
 module _ (e : Slot) (slots : List (Option Slot)) (distinct : AreDistinct slots) where
-  fits_held : list_any (holds e.target) slots ≡ true → Fits slot_at ◌==◌ eqb-true e.target (Some e.stamp) (holds e.target) (λ _. Some e) slots
+  fits_held : list_any (holds e.target) slots ≡ true
+      → Fits slot_at ◌==◌ eqb-true e.target (Some e.stamp) (holds e.target) (λ _. Some e) slots
   fits_held h = fits_key slot_at ◌==◌ eqb-true e.target (Some e.stamp) (λ _. Some e) slots h distinct (λ k d within. over e _)
 
-  fits_free : list_any (holds e.target) slots ≡ false → list_any is_free slots ≡ true → Fits slot_at ◌==◌ eqb-true e.target (Some e.stamp) is_free (λ _. Some e) slots
-  fits_free h room = fits_room slot_at ◌==◌ eqb-true e.target (Some e.stamp) is_free (λ _. Some e) slots room (stamp_at-absent e.target slots h) (λ k d within i none. into e _ i)
+  fits_free : list_any (holds e.target) slots ≡ false → list_any is_free slots ≡ true
+      → Fits slot_at ◌==◌ eqb-true e.target (Some e.stamp) is_free (λ _. Some e) slots
+  fits_free h room = fits_room slot_at ◌==◌ eqb-true e.target (Some e.stamp) is_free (λ _. Some e) slots room
+      (stamp_at-absent e.target slots h) (λ k d within i none. into e _ i)
 
   -- after a put the target has the edge, and every other target has what it had
-  pub stamp_at-put_slot : has_room_for e.target slots ≡ true → (q : ℕ) → stamp_at (put_slot e slots) q ≡ cond (q == e.target) (Some e.stamp) (stamp_at slots q)
+  pub stamp_at-put_slot : has_room_for e.target slots ≡ true → (q : ℕ)
+      → stamp_at (put_slot e slots) q ≡ cond (q == e.target) (Some e.stamp) (stamp_at slots q)
   stamp_at-put_slot room q =
-      elim (list_any (holds e.target) slots) as (λ b. list_any (holds e.target) slots ≡ b → (b || list_any is_free slots) ≡ true → stamp_at (cond b (at_first (holds e.target) (λ _. Some e) slots) (at_first is_free (λ _. Some e) slots)) q ≡ cond (q == e.target) (Some e.stamp) (stamp_at slots q)) [
-        | true ↦ λ t free. set_first slot_at ◌==◌ eqb-true e.target (Some e.stamp) (holds e.target) (λ _. Some e) slots (fits_held t) q
-        | false ↦ λ t free. set_first slot_at ◌==◌ eqb-true e.target (Some e.stamp) is_free (λ _. Some e) slots (fits_free t free) q
+      elim (list_any (holds e.target) slots) as (λ b. list_any (holds e.target) slots ≡ b → (b || list_any is_free slots) ≡ true
+      → stamp_at (cond b (at_first (holds e.target) (λ _. Some e) slots) (at_first is_free (λ _. Some e) slots)) q
+      ≡ cond (q == e.target) (Some e.stamp) (stamp_at slots q)) [
+        | true ↦ λ t free. set_first slot_at ◌==◌ eqb-true e.target (Some e.stamp) (holds e.target) (λ _. Some e) slots
+            (fits_held t) q
+        | false ↦ λ t free. set_first slot_at ◌==◌ eqb-true e.target (Some e.stamp) is_free (λ _. Some e) slots
+            (fits_free t free) q
       ] refl room
 
 module _ (target : ℕ) (slots : List (Option Slot)) (distinct : AreDistinct slots) where
@@ -87,9 +104,11 @@ module _ (target : ℕ) (slots : List (Option Slot)) (distinct : AreDistinct slo
   -- after a take the target has nothing, and every other target has what it had
   pub stamp_at-take_slot : (q : ℕ) → stamp_at (take_slot target slots) q ≡ cond (q == target) None (stamp_at slots q)
   stamp_at-take_slot q =
-      elim (list_any (holds target) slots) as (λ b. list_any (holds target) slots ≡ b → stamp_at (take_slot target slots) q ≡ cond (q == target) None (stamp_at slots q)) [
+      elim (list_any (holds target) slots) as (λ b. list_any (holds target) slots ≡ b
+      → stamp_at (take_slot target slots) q ≡ cond (q == target) None (stamp_at slots q)) [
         | true ↦ λ t. set_first slot_at ◌==◌ eqb-true target None (holds target) (λ _. None) slots (fits_taken t) q
-        | false ↦ λ t. ap (λ xs. stamp_at xs q) (at_first-none (holds target) (λ _. None) slots t) ∙ gone q (stamp_at-absent target slots t)
+        | false ↦ λ t. ap (λ xs. stamp_at xs q) (at_first-none (holds target) (λ _. None) slots t)
+            ∙ gone q (stamp_at-absent target slots t)
       ] refl
 
 -- members of a list with one more element, and of a mapped list
@@ -104,16 +123,19 @@ contains_mapped : {X Y : Type 0} (f : X → Y) (xs : List X) (x : X) → Contain
 contains_mapped f xs x (k, within, is) = (k, omega (arith, length-map xs f), get_or-map f xs k x (f x) within ∙ ap f is)
 
 -- an edge of the slots is found at its target, and what is found is an edge of the slots
-edge_found : (slots : List (Option Slot)) → AreDistinct slots → (x : Slot) → Contains (edges_in slots) x → stamp_at slots x.target ≡ Some x.stamp
+edge_found : (slots : List (Option Slot)) → AreDistinct slots → (x : Slot) → Contains (edges_in slots) x
+    → stamp_at slots x.target ≡ Some x.stamp
 edge_found [] distinct x (k, within, is) = absurd (omega arith)
 edge_found (None ∷ slots) distinct x there = edge_found slots distinct.1 x there
 edge_found (Some e ∷ slots) distinct x there =
     elim (contains_cases e (edges_in slots) x there) [
-      | inl same ↦ subst (λ (y : Slot). option_or (slot_at (Some y) x.target) (stamp_at slots x.target) ≡ Some x.stamp) (sym same) (rw (eq-eqb x.target x.target refl) refl)
+      | inl same ↦ subst (λ (y : Slot). option_or (slot_at (Some y) x.target) (stamp_at slots x.target) ≡ Some x.stamp) (sym same)
+          (rw (eq-eqb x.target x.target refl) refl)
       | inr later ↦
           let found : stamp_at slots x.target ≡ Some x.stamp = edge_found slots distinct.1 x later in
           elim (cases_eq x.target e.target) [
-            | inl twice' ↦ (let none : stamp_at slots x.target ≡ None = distinct.0 x.target (rw (eq-eqb x.target e.target twice') refl) in cc)
+            | inl twice' ↦ (let none : stamp_at slots x.target
+                ≡ None = distinct.0 x.target (rw (eq-eqb x.target e.target twice') refl) in cc)
             | inr ne ↦ rw (ne_eqb x.target e.target ne) found
           ]
     ]
@@ -132,17 +154,24 @@ found_edge (Some e ∷ slots) target stamp found =
     ]
 
 -- a block's entries are what stands in it
-pub entry_stands : (b : BlockView) → AreDistinct b.slots → (key : Key) (stamp : Stamp) → Contains (entries_of b) (key, stamp) → StandsIn b key stamp
+pub entry_stands : (b : BlockView) → AreDistinct b.slots → (key : Key) (stamp : Stamp) → Contains (entries_of b) (key, stamp)
+    → StandsIn b key stamp
 entry_stands b distinct key stamp (k, within, is) =
     let none : Slot = record { target = 0; stamp = stamp } in
     let few : k < length (edges_in b.slots) = omega (arith, length-map (edges_in b.slots) (entry_in b)) in
     let edge : Slot = get_or (edges_in b.slots) k none in
     let same : entry_in b edge ≡ (key, stamp) = sym (get_or-map (entry_in b) (edges_in b.slots) k none (key, stamp) few) ∙ is in
     subst (λ (entry : Key × Stamp). StandsIn b entry.0 entry.1) same
-    (record { of_kind = refl; of_source = refl; stands = edge_found b.slots distinct edge (Contains-get_or (edges_in b.slots) k none few) })
+    (record {
+      of_kind = refl;
+      of_source = refl;
+      stands = edge_found b.slots distinct edge (Contains-get_or (edges_in b.slots) k none few);
+    })
 
 pub standing_entry : (b : BlockView) (key : Key) (stamp : Stamp) → StandsIn b key stamp → Contains (entries_of b) (key, stamp)
 standing_entry b key stamp h =
     let edge : Slot = record { target = key.target; stamp = stamp } in
-    let same : entry_in b edge ≡ (key, stamp) = λ i. (record { kind = sym h.of_kind i; source = sym h.of_source i; target = key.target }, stamp) in
-    subst (Contains (entries_of b)) same (contains_mapped (entry_in b) (edges_in b.slots) edge (found_edge b.slots key.target stamp h.stands))
+    let same : entry_in b edge ≡ (key, stamp) =
+    λ i. (record { kind = sym h.of_kind i; source = sym h.of_source i; target = key.target }, stamp) in
+    subst (Contains (entries_of b)) same (contains_mapped (entry_in b) (edges_in b.slots) edge
+    (found_edge b.slots key.target stamp h.stands))

@@ -1,5 +1,6 @@
 -- The first element of a list that passes a test, and lists in which no two elements have something at one key.
-use Rattle.std.proofs.Common.{◌≡◌, ◌⊎◌, ℕ, zero, suc, ◌<◌, Bool, true, false, List, [], ◌∷◌, length, get_or, set, refl, sym, ap, ◌∙◌, inl, inr, arith}
+use Rattle.std.proofs.Common.{◌≡◌, ◌⊎◌, ℕ, zero, suc, ◌<◌, Bool, true, false, List, [], ◌∷◌, length, get_or, set, refl, sym, ap}
+use Rattle.std.proofs.Common.{◌∙◌, inl, inr, arith}
 use Rattle.std.specs.Prelude.{if◌then◌else◌, All}
 use Rattle.std.specs.List.{list_any}
 use Rattle.std.specs.Option.{is_some, option_or}
@@ -9,13 +10,15 @@ use Rattle.std.proofs.lemmas.Bool.{or_left, or_right, or_parts, true≢false}
 use Rattle.std.proofs.lemmas.List.Elements.{All-cons, All-head, All-tail}
 use Rattle.edge_block.specs.Slots.{first_some, NoKeyTwice, at_first}
 
-pub list_any_at : {A : Type 0} (p : A → Bool) (xs : List A) (i : ℕ) (d : A) → i < length xs → p (get_or xs i d) ≡ true → list_any p xs ≡ true
+pub list_any_at : {A : Type 0} (p : A → Bool) (xs : List A) (i : ℕ) (d : A) → i < length xs → p (get_or xs i d) ≡ true
+    → list_any p xs ≡ true
 list_any_at p [] i d within e = absurd (omega arith)
 list_any_at p (x ∷ xs) zero d within e = or_left (p x) (list_any p xs) e
 list_any_at p (x ∷ xs) (suc i) d within e = or_right (p x) (list_any p xs) (list_any_at p xs i d (omega arith) e)
 
 -- the first that passes stands at i
-pub at_first-set : {A : Type 0} (p : A → Bool) (f : A → A) (xs : List A) (i : ℕ) (d : A) → i < length xs → p (get_or xs i d) ≡ true →
+pub at_first-set : {A : Type 0} (p : A → Bool) (f : A → A) (xs : List A) (i : ℕ) (d : A) → i < length xs
+    → p (get_or xs i d) ≡ true →
     ((k : ℕ) → k < i → p (get_or xs k d) ≡ false) → at_first p f xs ≡ set xs i (f (get_or xs i d))
 at_first-set p f [] i d within e before = absurd (omega arith)
 at_first-set p f (x ∷ xs) zero d within e before = rw e
@@ -37,14 +40,16 @@ length-at_first p f (x ∷ xs) = go (p x) (length-at_first p f xs) where
   go true rest = refl
   go false rest = ap suc rest
 
-pub All-at_first : {A : Type 0} (P : A → Type 0) (p : A → Bool) (f : A → A) (xs : List A) → ((x : A) → P (f x)) → All P xs → All P (at_first p f xs)
+pub All-at_first : {A : Type 0} (P : A → Type 0) (p : A → Bool) (f : A → A) (xs : List A) → ((x : A) → P (f x)) → All P xs
+    → All P (at_first p f xs)
 All-at_first P p f [] holds all = all
 All-at_first {A} P p f (x ∷ xs) holds all = go (p x) (All-at_first P p f xs holds (All-tail P x xs all)) where
   go : (b : Bool) → All P (at_first p f xs) → All P (if b then f x ∷ xs else x ∷ at_first p f xs)
   go true rest = All-cons P (f x) xs (holds x) (All-tail P x xs all)
   go false rest = All-cons P x (at_first p f xs) (All-head P x xs all) rest
 
-pub first_some_at : {A B : Type 0} (f : A → Option B) (xs : List A) (i : ℕ) (d : A) (y : B) → i < length xs → f (get_or xs i d) ≡ Some y →
+pub first_some_at : {A B : Type 0} (f : A → Option B) (xs : List A) (i : ℕ) (d : A) (y : B) → i < length xs
+    → f (get_or xs i d) ≡ Some y →
     ((k : ℕ) → k < i → f (get_or xs k d) ≡ None) → first_some f xs ≡ Some y
 first_some_at f [] i d y within e before = absurd (omega arith)
 first_some_at f (x ∷ xs) zero d y within e before = rw e
@@ -67,11 +72,14 @@ pub none_by_test : {B : Type 0} (a : Option B) → (is_some a ≡ true → ⊥) 
 none_by_test None h = refl
 none_by_test (Some x) h = absurd (h refl)
 
-pub first_some-by_any : {A B : Type 0} (f : A → Option B) (xs : List A) → list_any (λ x. is_some (f x)) xs ≡ false → first_some f xs ≡ None
+pub first_some-by_any : {A B : Type 0} (f : A → Option B) (xs : List A) → list_any (λ x. is_some (f x)) xs ≡ false
+    → first_some f xs ≡ None
 first_some-by_any f [] none = refl
 first_some-by_any f (x ∷ xs) none =
-    let parts : (is_some (f x) ≡ false) × (list_any (λ y. is_some (f y)) xs ≡ false) = or_parts (is_some (f x)) (list_any (λ y. is_some (f y)) xs) none in
-    none_or (f x) (first_some f xs) (none_by_test (f x) (λ some. true≢false (sym some ∙ parts.0))) (first_some-by_any f xs parts.1)
+    let parts : (is_some (f x) ≡ false) × (list_any (λ y. is_some (f y)) xs ≡ false) =
+    or_parts (is_some (f x)) (list_any (λ y. is_some (f y)) xs) none in
+    none_or (f x) (first_some f xs) (none_by_test (f x) (λ some. true≢false (sym some ∙ parts.0)))
+    (first_some-by_any f xs parts.1)
 
 -- a key that no element has stays so, where the changed element gets no key
 first_some_kept : {A K B : Type 0} (at : A → K → Option B) (p : A → Bool) (f : A → A) (key : K) (xs : List A) →
@@ -79,12 +87,15 @@ first_some_kept : {A K B : Type 0} (at : A → K → Option B) (p : A → Bool) 
     first_some (λ y. at y key) xs ≡ None → first_some (λ y. at y key) (at_first p f xs) ≡ None
 first_some_kept at p f key [] keeps none = refl
 first_some_kept {A} {K} {B} at p f key (x ∷ xs) keeps none =
-    let parts : (at x key ≡ None) × (first_some (λ y. at y key) xs ≡ None) = or_none (at x key) (first_some (λ y. at y key) xs) none in
+    let parts : (at x key ≡ None) × (first_some (λ y. at y key) xs ≡ None) =
+    or_none (at x key) (first_some (λ y. at y key) xs) none in
     go (p x) refl parts.0 parts.1 (first_some_kept at p f key xs keeps parts.1)
   where
-    go : (b : Bool) → p x ≡ b → at x key ≡ None → first_some (λ y. at y key) xs ≡ None → first_some (λ y. at y key) (at_first p f xs) ≡ None →
+    go : (b : Bool) → p x ≡ b → at x key ≡ None → first_some (λ y. at y key) xs ≡ None
+        → first_some (λ y. at y key) (at_first p f xs) ≡ None →
         first_some (λ y. at y key) (if b then f x ∷ xs else x ∷ at_first p f xs) ≡ None
-    go true e here rest changed = none_or (at (f x) key) (first_some (λ y. at y key) xs) (none_by_test (at (f x) key) (λ some. not_some (at x key) here (keeps x e some))) rest
+    go true e here rest changed = none_or (at (f x) key) (first_some (λ y. at y key) xs)
+        (none_by_test (at (f x) key) (λ some. not_some (at x key) here (keeps x e some))) rest
     go false e here rest changed = none_or (at x key) (first_some (λ y. at y key) (at_first p f xs)) here changed
 
 -- no key is there twice after a change of the first that passes, where the changed element has only keys that it
@@ -95,7 +106,8 @@ pub NoKeyTwice-at_first : {A K B : Type 0} (at : A → K → Option B) (p : A �
     NoKeyTwice at xs → NoKeyTwice at (at_first p f xs)
 NoKeyTwice-at_first at p f IsNew [] keeps fresh h = tt
 NoKeyTwice-at_first {A} {K} {B} at p f IsNew (x ∷ xs) keeps fresh h =
-    go (p x) refl (NoKeyTwice-at_first at p f IsNew xs keeps (λ key new. (or_none (at x key) (first_some (λ y. at y key) xs) (fresh key new)).1) h.1)
+    go (p x) refl (NoKeyTwice-at_first at p f IsNew xs keeps
+    (λ key new. (or_none (at x key) (first_some (λ y. at y key) xs) (fresh key new)).1) h.1)
   where
     go : (b : Bool) → p x ≡ b → NoKeyTwice at (at_first p f xs) → NoKeyTwice at (if b then f x ∷ xs else x ∷ at_first p f xs)
     go true e rest = (

@@ -1,5 +1,6 @@
 -- The slots that columns make, place by place.
-use Rattle.std.proofs.Common.{◌≡◌, ◌≢◌, ◌⊎◌, ℕ, ◌+◌, ◌-◌, ◌*◌, ◌%◌, ◌^◌, ◌<◌, ◌≤◌, ℤ, pos, true, false, not, List, length, get_or, set, sym, ap, ◌∙◌, inl, inr, arith}
+use Rattle.std.proofs.Common.{◌≡◌, ◌≢◌, ◌⊎◌, ℕ, ◌+◌, ◌-◌, ◌*◌, ◌%◌, ◌^◌, ◌<◌, ◌≤◌, ℤ, pos, true, false, not, List, length, get_or}
+use Rattle.std.proofs.Common.{set, sym, ap, ◌∙◌, inl, inr, arith}
 use Rattle.std.specs.Prelude.{◌==◌, slice_index}
 use Rattle.std.specs.Int.{bit_at, w32, bit_not, trailing_ones}
 use Rattle.std.specs.Int.RustNames.{bit_or, bit_and}
@@ -11,9 +12,11 @@ use Rattle.std.proofs.lemmas.List.{ext_get_or, length-set, get_or-set_same, get_
 use Rattle.std.proofs.lemmas.List.FromFn.{length-map-range_with_len, get_or-map-range_with_len}
 use Rattle.std.proofs.lemmas.List.Folds.{list_any_none}
 use Rattle.std.proofs.lemmas.List.Elements.{All-from_get_or}
-use Rattle.std.proofs.lemmas.Nat.Bits.{bit_at_set_same, bit_at_set_other, bit_at_clear_same, bit_at_clear_other, bit_at-zero, bit_at-trailing_ones, bit_at_ones}
+use Rattle.std.proofs.lemmas.Nat.Bits.{bit_at_set_same, bit_at_set_other, bit_at_clear_same, bit_at_clear_other, bit_at-zero}
+use Rattle.std.proofs.lemmas.Nat.Bits.{bit_at-trailing_ones, bit_at_ones}
 use Rattle.lane_scan.specs.Masks.{InMask, IsPlaceOf}
-use Rattle.edge_block.specs.Slots.{Slot, edge_slot, at_first, holds, is_free, slot_at, put_slot, take_slot, has_room_for, stamp_at, empty_slots}
+use Rattle.edge_block.specs.Slots.{Slot, edge_slot, at_first, holds, is_free, slot_at, put_slot, take_slot, has_room_for}
+use Rattle.edge_block.specs.Slots.{stamp_at, empty_slots}
 use Rattle.edge_block.specs.Columns.{slots_of, slot_from, column_slot}
 use Rattle.edge_block.proofs.Firsts.{list_any_at, at_first-set, first_some_at, none_by_test}
 use Rattle.edge_block.proofs.SlotLaws.{target_of_edge}
@@ -25,7 +28,8 @@ length-slots_of live ts ws fs rs = length-map-range_with_len (slot_from live ts 
 pub get_or-slots_of : (live : ℕ) (ts : List ℕ) (ws : List ℤ) (fs rs : List ℕ) (i : ℕ) (d : Option Slot) → i < 32 →
     get_or (slots_of live ts ws fs rs) i d ≡ slot_from live ts ws fs rs i
 unfolding slots_of
-get_or-slots_of live ts ws fs rs i d within = get_or-map-range_with_len (slot_from live ts ws fs rs) 0 32 i i d within (omega arith)
+get_or-slots_of live ts ws fs rs i d within =
+    get_or-map-range_with_len (slot_from live ts ws fs rs) 0 32 i i d within (omega arith)
 
 -- the slot at a live place, and at a dead one
 pub slot_live : (live : ℕ) (ts : List ℕ) (ws : List ℤ) (fs rs : List ℕ) (i : ℕ) (d : Option Slot) → i < 32 → InMask live i →
@@ -47,8 +51,10 @@ slots_of-none ts ws fs rs =
     slot_dead 0 ts ws fs rs i None few (λ set. omega (arith, bit_at-zero i)) ∙ sym (get_or-replicate 32 i None None few))
 
 -- columns that differ at one place alone
-pub slots_of-set : (live live' : ℕ) (ts ts' : List ℕ) (ws ws' : List ℤ) (fs fs' rs rs' : List ℕ) (i : ℕ) (s : Option Slot) → i < 32 →
-    slot_from live' ts' ws' fs' rs' i ≡ s → ((k : ℕ) → k < 32 → k ≢ i → slot_from live' ts' ws' fs' rs' k ≡ slot_from live ts ws fs rs k) →
+pub slots_of-set : (live live' : ℕ) (ts ts' : List ℕ) (ws ws' : List ℤ) (fs fs' rs rs' : List ℕ) (i : ℕ) (s : Option Slot)
+    → i < 32 →
+    slot_from live' ts' ws' fs' rs' i ≡ s → ((k : ℕ) → k < 32 → k ≢ i
+    → slot_from live' ts' ws' fs' rs' k ≡ slot_from live ts ws fs rs k) →
     slots_of live' ts' ws' fs' rs' ≡ set (slots_of live ts ws fs rs) i s
 slots_of-set live live' ts ts' ws ws' fs fs' rs rs' i s few here others =
     ext_get_or None (slots_of live' ts' ws' fs' rs') (set (slots_of live ts ws fs rs) i s)
@@ -59,21 +65,38 @@ slots_of-set live live' ts ts' ws ws' fs fs' rs rs' i s few here others =
     get_or-slots_of live' ts' ws' fs' rs' k None below
     ∙ elim (cases_eq k i) [
       | inl e ↦ rw e (here ∙ sym (get_or-set_same (slots_of live ts ws fs rs) i s None there))
-      | inr ne ↦ others k below ne ∙ sym (get_or-set_other (slots_of live ts ws fs rs) i k s None ne ∙ get_or-slots_of live ts ws fs rs k None below)
+      | inr ne ↦ others k below ne ∙ sym (get_or-set_other (slots_of live ts ws fs rs) i k s None ne
+          ∙ get_or-slots_of live ts ws fs rs k None below)
     ])
 
 -- an edge written at a place of the columns
 pub slots_of-put : (live : ℕ) (ts : List ℕ) (ws : List ℤ) (fs rs : List ℕ) (i t : ℕ) (w : ℤ) (f r : ℕ) → i < 32 →
     length ts ≡ 32 → length ws ≡ 32 → length fs ≡ 32 → length rs ≡ 32 →
-    slots_of (bit_or live (1 * 2 ^ i % 2 ^ 32)) (set ts i t) (set ws i w) (set fs i f) (set rs i r) ≡ set (slots_of live ts ws fs rs) i (Some (edge_slot t w f r))
+    slots_of (bit_or live (1 * 2 ^ i % 2 ^ 32)) (set ts i t) (set ws i w) (set fs i f) (set rs i r)
+    ≡ set (slots_of live ts ws fs rs) i (Some (edge_slot t w f r))
 slots_of-put live ts ws fs rs i t w f r few lt lw lf lr =
     let in_ts : i < length ts = omega arith in
     let in_ws : i < length ws = omega arith in
     let in_fs : i < length fs = omega arith in
     let in_rs : i < length rs = omega arith in
-    slots_of-set live (bit_or live (1 * 2 ^ i % 2 ^ 32)) ts (set ts i t) ws (set ws i w) fs (set fs i f) rs (set rs i r) i (Some (edge_slot t w f r)) few
-    (rw (eq-eqb (bit_at (bit_or live (1 * 2 ^ i % 2 ^ 32)) i) 1 (bit_at_set_same w32 live i few), get_or-set_same ts i t 0 in_ts, get_or-set_same ws i w (pos 0) in_ws, get_or-set_same fs i f 0 in_fs, get_or-set_same rs i r 0 in_rs))
-    (λ k below ne. rw (bit_at_set_other w32 live i few k ne, get_or-set_other ts i k t 0 ne, get_or-set_other ws i k w (pos 0) ne, get_or-set_other fs i k f 0 ne, get_or-set_other rs i k r 0 ne))
+    slots_of-set live (bit_or live (1 * 2 ^ i % 2 ^ 32)) ts (set ts i t) ws (set ws i w) fs (set fs i f) rs (set rs i r) i
+    (Some (edge_slot t w f r)) few
+    (rw (
+      eq-eqb (bit_at (bit_or live (1 * 2 ^ i % 2 ^ 32)) i) 1
+          (bit_at_set_same w32 live i few),
+      get_or-set_same ts i t 0 in_ts,
+      get_or-set_same ws i w (pos 0) in_ws,
+      get_or-set_same fs i f 0 in_fs,
+      get_or-set_same rs i r 0 in_rs,
+    ))
+    (λ k below ne. rw (
+      bit_at_set_other w32 live i few k ne,
+      get_or-set_other ts i k t 0 ne,
+      get_or-set_other ws i k w
+          (pos 0) ne,
+      get_or-set_other fs i k f 0 ne,
+      get_or-set_other rs i k r 0 ne,
+    ))
 
 -- a place taken out of the live ones
 pub slots_of-take : (live : ℕ) (ts : List ℕ) (ws : List ℤ) (fs rs : List ℕ) (i t : ℕ) → i < 32 →
@@ -84,7 +107,8 @@ slots_of-take live ts ws fs rs i t few =
     (λ k below ne. rw (bit_at_clear_other w32 live i few k below ne, get_or-set_other ts i k t 0 ne))
 
 -- whether a slot of the columns holds a target
-pub holds_at : (live : ℕ) (ts : List ℕ) (ws : List ℤ) (fs rs : List ℕ) (target i : ℕ) → length ts ≡ 32 → IsPlaceOf ts live target i →
+pub holds_at : (live : ℕ) (ts : List ℕ) (ws : List ℤ) (fs rs : List ℕ) (target i : ℕ) → length ts ≡ 32
+    → IsPlaceOf ts live target i →
     holds target (get_or (slots_of live ts ws fs rs) i None) ≡ true
 holds_at live ts ws fs rs target i lt at =
     let within : i < length ts = at.within in
@@ -92,30 +116,36 @@ holds_at live ts ws fs rs target i lt at =
     let same : target ≡ slice_index ts i = sym at.holds in
     rw (slot_live live ts ws fs rs i None few at.lives, eq-eqb target (slice_index ts i) same)
 
-pub not_holds_at : (live : ℕ) (ts : List ℕ) (ws : List ℤ) (fs rs : List ℕ) (target i : ℕ) → length ts ≡ 32 → i < 32 → (IsPlaceOf ts live target i → ⊥) →
+pub not_holds_at : (live : ℕ) (ts : List ℕ) (ws : List ℤ) (fs rs : List ℕ) (target i : ℕ) → length ts ≡ 32 → i < 32
+    → (IsPlaceOf ts live target i → ⊥) →
     holds target (get_or (slots_of live ts ws fs rs) i None) ≡ false
 not_holds_at live ts ws fs rs target i lt few not_at =
     elim (lives_or_not live i) [
       | inl lives ↦
-          let other : target ≡ slice_index ts i → ⊥ = λ same. not_at (record { within = omega arith; lives = lives; holds = sym same }) in
+          let other : target ≡ slice_index ts i → ⊥ =
+          λ same. not_at (record { within = omega arith; lives = lives; holds = sym same }) in
           rw (slot_live live ts ws fs rs i None few lives, ne_eqb target (slice_index ts i) other)
       | inr dead ↦ rw (slot_dead live ts ws fs rs i None few dead)
     ]
 
 -- an edge to the target is put over the first slot that has one
-pub put_over : (live : ℕ) (ts : List ℕ) (ws : List ℤ) (fs rs : List ℕ) (target i : ℕ) → length ts ≡ 32 → IsPlaceOf ts live target i →
+pub put_over : (live : ℕ) (ts : List ℕ) (ws : List ℤ) (fs rs : List ℕ) (target i : ℕ) → length ts ≡ 32
+    → IsPlaceOf ts live target i →
     ((other : ℕ) → IsPlaceOf ts live target other → i ≤ other) → (w : ℤ) (f r : ℕ) →
-    put_slot (edge_slot target w f r) (slots_of live ts ws fs rs) ≡ set (slots_of live ts ws fs rs) i (Some (edge_slot target w f r))
+    put_slot (edge_slot target w f r) (slots_of live ts ws fs rs)
+    ≡ set (slots_of live ts ws fs rs) i (Some (edge_slot target w f r))
 put_over live ts ws fs rs target i lt at least w f r =
     let within : i < length ts = at.within in
     let in_slots : i < length (slots_of live ts ws fs rs) = omega (arith, length-slots_of live ts ws fs rs) in
     let held : holds target (get_or (slots_of live ts ws fs rs) i None) ≡ true = holds_at live ts ws fs rs target i lt at in
     rw (list_any_at (holds target) (slots_of live ts ws fs rs) i None in_slots held)
     (at_first-set (holds target) (λ _. Some (edge_slot target w f r)) (slots_of live ts ws fs rs) i None in_slots held
-    (λ k below. not_holds_at live ts ws fs rs target k lt (omega arith) (λ there. absurd (let le : i ≤ k = least k there in omega arith))))
+    (λ k below. not_holds_at live ts ws fs rs target k lt (omega arith)
+    (λ there. absurd (let le : i ≤ k = least k there in omega arith))))
 
 -- no slot has an edge to the target
-pub none_holds : (live : ℕ) (ts : List ℕ) (ws : List ℤ) (fs rs : List ℕ) (target : ℕ) → length ts ≡ 32 → ((i : ℕ) → IsPlaceOf ts live target i → ⊥) →
+pub none_holds : (live : ℕ) (ts : List ℕ) (ws : List ℤ) (fs rs : List ℕ) (target : ℕ) → length ts ≡ 32
+    → ((i : ℕ) → IsPlaceOf ts live target i → ⊥) →
     list_any (holds target) (slots_of live ts ws fs rs) ≡ false
 none_holds live ts ws fs rs target lt none =
     list_any_none (holds target) (slots_of live ts ws fs rs)
@@ -123,7 +153,8 @@ none_holds live ts ws fs rs target lt none =
     (λ i within. not_holds_at live ts ws fs rs target i lt (omega (arith, length-slots_of live ts ws fs rs)) (none i)))
 
 -- all places are live
-pub none_free : (live : ℕ) (ts : List ℕ) (ws : List ℤ) (fs rs : List ℕ) → live + 1 ≡ 2 ^ 32 → list_any is_free (slots_of live ts ws fs rs) ≡ false
+pub none_free : (live : ℕ) (ts : List ℕ) (ws : List ℤ) (fs rs : List ℕ) → live + 1 ≡ 2 ^ 32
+    → list_any is_free (slots_of live ts ws fs rs) ≡ false
 none_free live ts ws fs rs full =
     list_any_none is_free (slots_of live ts ws fs rs)
     (All-from_get_or (λ s. is_free s ≡ false) (slots_of live ts ws fs rs) None
@@ -138,11 +169,14 @@ pub first_free : (live : ℕ) (ts : List ℕ) (ws : List ℤ) (fs rs : List ℕ)
     (list_any is_free (slots_of live ts ws fs rs) ≡ true)
     × (at_first is_free f (slots_of live ts ws fs rs) ≡ set (slots_of live ts ws fs rs) (trailing_ones w32 live) (f None))
 first_free live ts ws fs rs f room =
-    let lowest : (trailing_ones w32 live < 32) × (bit_at live (trailing_ones w32 live) ≡ 0) × ((k : ℕ) → k < trailing_ones w32 live → bit_at live k ≡ 1) = bit_at-trailing_ones w32 live room in
+    let lowest : (trailing_ones w32 live < 32) × (bit_at live (trailing_ones w32 live) ≡ 0)
+    × ((k : ℕ) → k < trailing_ones w32 live → bit_at live k ≡ 1) = bit_at-trailing_ones w32 live room in
     let few : trailing_ones w32 live < 32 = lowest.0 in
-    let in_slots : trailing_ones w32 live < length (slots_of live ts ws fs rs) = omega (arith, length-slots_of live ts ws fs rs) in
+    let in_slots : trailing_ones w32 live < length (slots_of live ts ws fs rs) =
+    omega (arith, length-slots_of live ts ws fs rs) in
     let clear : bit_at live (trailing_ones w32 live) ≡ 0 = lowest.1 in
-    let none : get_or (slots_of live ts ws fs rs) (trailing_ones w32 live) None ≡ None = slot_dead live ts ws fs rs (trailing_ones w32 live) None few (λ set. omega arith) in (
+    let none : get_or (slots_of live ts ws fs rs) (trailing_ones w32 live) None ≡ None =
+    slot_dead live ts ws fs rs (trailing_ones w32 live) None few (λ set. omega arith) in (
       list_any_at is_free (slots_of live ts ws fs rs) (trailing_ones w32 live) None in_slots (rw none),
       at_first-set is_free f (slots_of live ts ws fs rs) (trailing_ones w32 live) None in_slots (rw none)
           (λ k below. rw (slot_live live ts ws fs rs k None (omega arith) (lowest.2 k below)))
@@ -150,20 +184,26 @@ first_free live ts ws fs rs f room =
     )
 
 -- an edge whose target is absent is put into the lowest free slot
-pub put_into : (live : ℕ) (ts : List ℕ) (ws : List ℤ) (fs rs : List ℕ) (target : ℕ) → length ts ≡ 32 → live < 2 ^ 32 → ((i : ℕ) → IsPlaceOf ts live target i → ⊥) →
+pub put_into : (live : ℕ) (ts : List ℕ) (ws : List ℤ) (fs rs : List ℕ) (target : ℕ) → length ts ≡ 32 → live < 2 ^ 32
+    → ((i : ℕ) → IsPlaceOf ts live target i → ⊥) →
     has_room_for target (slots_of live ts ws fs rs) ≡ true →
-    (trailing_ones w32 live < 32) × ((w : ℤ) (f r : ℕ) → put_slot (edge_slot target w f r) (slots_of live ts ws fs rs) ≡ set (slots_of live ts ws fs rs) (trailing_ones w32 live) (Some (edge_slot target w f r)))
+    (trailing_ones w32 live < 32) × ((w : ℤ) (f r : ℕ)
+    → put_slot (edge_slot target w f r) (slots_of live ts ws fs rs)
+    ≡ set (slots_of live ts ws fs rs) (trailing_ones w32 live) (Some (edge_slot target w f r)))
 put_into live ts ws fs rs target lt fits none room =
     let absent : list_any (holds target) (slots_of live ts ws fs rs) ≡ false = none_holds live ts ws fs rs target lt none in
     let free : list_any is_free (slots_of live ts ws fs rs) ≡ true = rw absent at room in
     let dead : live + 1 < 2 ^ 32 = elim (cases_eq (live + 1) (2 ^ 32)) [
       | inl full ↦ absurd (true≢false (sym free ∙ none_free live ts ws fs rs full))
       | inr ne ↦ omega arith
-    ] in
-    ((bit_at-trailing_ones w32 live dead).0, (λ w f r. rw absent (first_free live ts ws fs rs (λ _. Some (edge_slot target w f r)) dead).1))
+    ] in (
+      (bit_at-trailing_ones w32 live dead).0,
+      (λ w f r. rw absent (first_free live ts ws fs rs (λ _. Some (edge_slot target w f r)) dead).1),
+    )
 
 -- a full block has no free slot
-pub is_free-full : (live : ℕ) (ts : List ℕ) (ws : List ℤ) (fs rs : List ℕ) → live < 2 ^ 32 → list_any is_free (slots_of live ts ws fs rs) ≡ not (live == 4294967295)
+pub is_free-full : (live : ℕ) (ts : List ℕ) (ws : List ℤ) (fs rs : List ℕ) → live < 2 ^ 32
+    → list_any is_free (slots_of live ts ws fs rs) ≡ not (live == 4294967295)
 is_free-full live ts ws fs rs fits =
     elim (cases_eq live 4294967295) [
       | inl e ↦ rw (eq-eqb live 4294967295 e) (none_free live ts ws fs rs (omega arith))
@@ -171,7 +211,8 @@ is_free-full live ts ws fs rs fits =
     ]
 
 -- a slot with an edge is that of a live place
-pub live_at : (live : ℕ) (ts : List ℕ) (ws : List ℤ) (fs rs : List ℕ) (i : ℕ) → is_free (get_or (slots_of live ts ws fs rs) i None) ≡ false → (i < 32) × InMask live i
+pub live_at : (live : ℕ) (ts : List ℕ) (ws : List ℤ) (fs rs : List ℕ) (i : ℕ)
+    → is_free (get_or (slots_of live ts ws fs rs) i None) ≡ false → (i < 32) × InMask live i
 live_at live ts ws fs rs i taken =
     elim (cases_lt i 32) [
       | inl few ↦ (
@@ -181,7 +222,11 @@ live_at live ts ws fs rs i taken =
           | inr dead ↦ absurd (true≢false (sym (ap is_free (slot_dead live ts ws fs rs i None few dead)) ∙ taken))
         ],
       )
-      | inr past ↦ absurd (true≢false (sym (ap is_free (get_or_past (slots_of live ts ws fs rs) i None (omega (arith, length-slots_of live ts ws fs rs)))) ∙ taken))
+      | inr past ↦
+          absurd
+          (true≢false
+          (sym (ap is_free (get_or_past (slots_of live ts ws fs rs) i None (omega (arith, length-slots_of live ts ws fs rs))))
+          ∙ taken))
     ]
 
 -- what the first slot that holds a target bears
@@ -196,27 +241,34 @@ stamp_found slots target i e within is held before =
     )
 
 -- a place taken out is that of the target
-pub take_at : (live : ℕ) (ts : List ℕ) (ws : List ℤ) (fs rs : List ℕ) (target i : ℕ) → length ts ≡ 32 → IsPlaceOf ts live target i →
+pub take_at : (live : ℕ) (ts : List ℕ) (ws : List ℤ) (fs rs : List ℕ) (target i : ℕ) → length ts ≡ 32 → IsPlaceOf ts live target i
+    →
     ((other : ℕ) → IsPlaceOf ts live target other → i ≤ other) →
-    (list_any (holds target) (slots_of live ts ws fs rs) ≡ true) × (take_slot target (slots_of live ts ws fs rs) ≡ set (slots_of live ts ws fs rs) i None)
+    (list_any (holds target) (slots_of live ts ws fs rs) ≡ true)
+    × (take_slot target (slots_of live ts ws fs rs) ≡ set (slots_of live ts ws fs rs) i None)
 take_at live ts ws fs rs target i lt at least =
     let within : i < length ts = at.within in
     let in_slots : i < length (slots_of live ts ws fs rs) = omega (arith, length-slots_of live ts ws fs rs) in
     let held : holds target (get_or (slots_of live ts ws fs rs) i None) ≡ true = holds_at live ts ws fs rs target i lt at in (
       list_any_at (holds target) (slots_of live ts ws fs rs) i None in_slots held,
       at_first-set (holds target) (λ _. None) (slots_of live ts ws fs rs) i None in_slots held
-          (λ k below. not_holds_at live ts ws fs rs target k lt (omega arith) (λ there. absurd (let le : i ≤ k = least k there in omega arith))),
+          (λ k below. not_holds_at live ts ws fs rs target k lt (omega arith)
+          (λ there. absurd (let le : i ≤ k = least k there in omega arith))),
     )
 
 -- what is found at the first place of the target
-pub found_at : (live : ℕ) (ts : List ℕ) (ws : List ℤ) (fs rs : List ℕ) (target i : ℕ) (e : Slot) → length ts ≡ 32 → IsPlaceOf ts live target i →
+pub found_at : (live : ℕ) (ts : List ℕ) (ws : List ℤ) (fs rs : List ℕ) (target i : ℕ) (e : Slot) → length ts ≡ 32
+    → IsPlaceOf ts live target i →
     ((other : ℕ) → IsPlaceOf ts live target other → i ≤ other) → get_or (slots_of live ts ws fs rs) i None ≡ Some e →
     (e.target ≡ target) × (stamp_at (slots_of live ts ws fs rs) target ≡ Some e.stamp)
 found_at live ts ws fs rs target i e lt at least is =
     let within : i < length ts = at.within in
-    stamp_found (slots_of live ts ws fs rs) target i e (omega (arith, length-slots_of live ts ws fs rs)) is (holds_at live ts ws fs rs target i lt at)
-    (λ k below. not_holds_at live ts ws fs rs target k lt (omega arith) (λ there. absurd (let le : i ≤ k = least k there in omega arith)))
+    stamp_found (slots_of live ts ws fs rs) target i e (omega (arith, length-slots_of live ts ws fs rs)) is
+    (holds_at live ts ws fs rs target i lt at)
+    (λ k below. not_holds_at live ts ws fs rs target k lt (omega arith)
+    (λ there. absurd (let le : i ≤ k = least k there in omega arith)))
 
 -- a live place's slot is not free
-pub not_free_at : (live : ℕ) (ts : List ℕ) (ws : List ℤ) (fs rs : List ℕ) (i : ℕ) → i < 32 → InMask live i → is_free (get_or (slots_of live ts ws fs rs) i None) ≡ false
+pub not_free_at : (live : ℕ) (ts : List ℕ) (ws : List ℤ) (fs rs : List ℕ) (i : ℕ) → i < 32 → InMask live i
+    → is_free (get_or (slots_of live ts ws fs rs) i None) ≡ false
 not_free_at live ts ws fs rs i few lives = rw (slot_live live ts ws fs rs i None few lives)

@@ -9,11 +9,13 @@ use Rattle.edge_block.specs.Slots.{Slot, holds, is_free, slot_at, stamp_at, has_
 use Rattle.edge_block.proofs.Firsts.{first_some-by_any}
 
 -- the target is there
-pub room_found : (target : ℕ) (slots : List (Option Slot)) (stamp : Stamp) → stamp_at slots target ≡ Some stamp → has_room_for target slots ≡ true
+pub room_found : (target : ℕ) (slots : List (Option Slot)) (stamp : Stamp) → stamp_at slots target ≡ Some stamp
+    → has_room_for target slots ≡ true
 room_found target slots stamp found =
     or_left (list_any (holds target) slots) (list_any is_free slots)
     (true_from_ne_false (list_any (holds target) slots)
-    (λ none. let absent : (let x : Option Stamp = Some stamp in x) ≡ None = sym found ∙ first_some-by_any (λ s. slot_at s target) slots none in cc))
+    (λ none. let absent : (let x : Option Stamp = Some stamp in x) ≡ None = sym found
+    ∙ first_some-by_any (λ s. slot_at s target) slots none in cc))
 
 -- a slot is free
 pub room_free : (target : ℕ) (slots : List (Option Slot)) → list_any is_free slots ≡ true → has_room_for target slots ≡ true

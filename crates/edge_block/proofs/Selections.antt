@@ -1,5 +1,6 @@
 -- The edges at the places of a mask, and how many edges there are.
-use Rattle.std.proofs.Common.{◌≡◌, ◌↔◌, ℕ, suc, ◌+◌, ◌^◌, ◌<◌, ◌≤◌, ℤ, Bool, true, false, not, List, [], ◌∷◌, length, get_or, map, refl, sym, ap, ◌∙◌, inl, inr, arith, cond}
+use Rattle.std.proofs.Common.{◌≡◌, ◌↔◌, ℕ, suc, ◌+◌, ◌^◌, ◌<◌, ◌≤◌, ℤ, Bool, true, false, not, List, [], ◌∷◌, length, get_or, map}
+use Rattle.std.proofs.Common.{refl, sym, ap, ◌∙◌, inl, inr, arith, cond}
 use Rattle.std.specs.Prelude.{◌==◌, if◌then◌else◌, filter, count_by}
 use Rattle.std.specs.Int.{bit_at}
 use Rattle.std.specs.Int.RustNames.{count_ones}
@@ -32,36 +33,47 @@ pub edges_few : (slots : List (Option Slot)) → length (edges_in slots) ≤ len
 edges_few slots = omega (arith, edges_counted slots, count_by-le-length is_taken slots)
 
 -- the word of live places has a bit for each slot that is taken
-pub live_as_mask : (live : ℕ) (ts : List ℕ) (ws : List ℤ) (fs rs : List ℕ) → live < 2 ^ 32 → live ≡ mask_l (map is_taken (slots_of live ts ws fs rs))
+pub live_as_mask : (live : ℕ) (ts : List ℕ) (ws : List ℤ) (fs rs : List ℕ) → live < 2 ^ 32
+    → live ≡ mask_l (map is_taken (slots_of live ts ws fs rs))
 live_as_mask live ts ws fs rs fits =
-    let long : length (map is_taken (slots_of live ts ws fs rs)) ≡ 32 = length-map (slots_of live ts ws fs rs) is_taken ∙ length-slots_of live ts ws fs rs in
-    let below : mask_l (map is_taken (slots_of live ts ws fs rs)) < 2 ^ 32 = rw long at (mask_l-lt (map is_taken (slots_of live ts ws fs rs))) in
+    let long : length (map is_taken (slots_of live ts ws fs rs)) ≡ 32 =
+    length-map (slots_of live ts ws fs rs) is_taken ∙ length-slots_of live ts ws fs rs in
+    let below : mask_l (map is_taken (slots_of live ts ws fs rs)) < 2 ^ 32 =
+    rw long at (mask_l-lt (map is_taken (slots_of live ts ws fs rs))) in
     same_from_bits_below 32 live (mask_l (map is_taken (slots_of live ts ws fs rs))) fits below
     (λ i few.
     let in_slots : i < length (slots_of live ts ws fs rs) = omega (arith, length-slots_of live ts ws fs rs) in
-    let bit : bit_at (mask_l (map is_taken (slots_of live ts ws fs rs))) i ≡ cond (is_taken (get_or (slots_of live ts ws fs rs) i None)) 1 0 =
-    bit_mask_l (map is_taken (slots_of live ts ws fs rs)) i ∙ ap (λ b. cond b 1 0) (get_or-map is_taken (slots_of live ts ws fs rs) i None false in_slots) in
+    let bit : bit_at (mask_l (map is_taken (slots_of live ts ws fs rs))) i
+    ≡ cond (is_taken (get_or (slots_of live ts ws fs rs) i None)) 1 0 =
+    bit_mask_l (map is_taken (slots_of live ts ws fs rs)) i
+    ∙ ap (λ b. cond b 1 0) (get_or-map is_taken (slots_of live ts ws fs rs) i None false in_slots) in
     elim (lives_or_not live i) [
       | inl lives ↦ lives ∙ sym (bit ∙ ap (λ s. cond (is_taken s) 1 0) (slot_live live ts ws fs rs i None few lives))
-      | inr dead ↦ (let zero_bit : bit_at live i ≡ 0 = omega (arith, bit_at-lt live i) in zero_bit) ∙ sym (bit ∙ ap (λ s. cond (is_taken s) 1 0) (slot_dead live ts ws fs rs i None few dead))
+      | inr dead ↦ (let zero_bit : bit_at live i ≡ 0 = omega (arith, bit_at-lt live i) in zero_bit)
+          ∙ sym (bit ∙ ap (λ s. cond (is_taken s) 1 0) (slot_dead live ts ws fs rs i None few dead))
     ])
 
 -- as many bits are set as there are edges
-pub edges_by_ones : (live : ℕ) (ts : List ℕ) (ws : List ℤ) (fs rs : List ℕ) → live < 2 ^ 32 → count_ones live ≡ length (edges_in (slots_of live ts ws fs rs))
+pub edges_by_ones : (live : ℕ) (ts : List ℕ) (ws : List ℤ) (fs rs : List ℕ) → live < 2 ^ 32
+    → count_ones live ≡ length (edges_in (slots_of live ts ws fs rs))
 edges_by_ones live ts ws fs rs fits =
-    ap count_ones (live_as_mask live ts ws fs rs fits) ∙ ones-mask_l is_taken (slots_of live ts ws fs rs) ∙ edges_counted (slots_of live ts ws fs rs)
+    ap count_ones (live_as_mask live ts ws fs rs fits) ∙ ones-mask_l is_taken (slots_of live ts ws fs rs)
+    ∙ edges_counted (slots_of live ts ws fs rs)
 
 -- what a slot has of its edge, where the place is in the mask
 shown_after : {X : Type 0} (h : Slot → X) (b : Bool) (s : Option Slot) (x : X) (slots : List (Option Slot)) (xs : List X) →
-    option_map h s ≡ (if b then Some x else None) → xs ≡ map h (edges_in slots) → (if b then x ∷ xs else xs) ≡ map h (edges_in (s ∷ slots))
+    option_map h s ≡ (if b then Some x else None) → xs ≡ map h (edges_in slots)
+    → (if b then x ∷ xs else xs) ≡ map h (edges_in (s ∷ slots))
 shown_after h true None x slots xs is rest = cc
 shown_after h true (Some e) x slots xs is rest = (let same : h e ≡ x = cc in rw (rest, same))
 shown_after h false None x slots xs is rest = rest
 shown_after h false (Some e) x slots xs is rest = cc
 
 -- the items of a column at the places in a mask are those of the edges, where the mask is that of the slots taken
-pub selected_from_edges : {X : Type 0} (h : Slot → X) (mask place : ℕ) (xs : List X) (slots : List (Option Slot)) (d : X) → length xs ≡ length slots →
-    ((k n : ℕ) → k < length xs → place + k ≡ n → option_map h (get_or slots k None) ≡ (if bit_at mask n == 1 then Some (get_or xs k d) else None)) →
+pub selected_from_edges : {X : Type 0} (h : Slot → X) (mask place : ℕ) (xs : List X) (slots : List (Option Slot)) (d : X)
+    → length xs ≡ length slots →
+    ((k n : ℕ) → k < length xs → place + k ≡ n
+    → option_map h (get_or slots k None) ≡ (if bit_at mask n == 1 then Some (get_or xs k d) else None)) →
     selected_from mask place xs ≡ map h (edges_in slots)
 selected_from_edges h mask place [] [] d long is = refl
 selected_from_edges h mask place [] (s ∷ slots) d long is = absurd (omega arith)
@@ -74,7 +86,8 @@ selected_from_edges h mask place (x ∷ xs) (s ∷ slots) d long is =
 pub selected_recents : (live : ℕ) (ts : List ℕ) (ws : List ℤ) (fs rs : List ℕ) → length rs ≡ 32 →
     selected live rs ≡ map (λ e. e.stamp.recent) (edges_in (slots_of live ts ws fs rs))
 selected_recents live ts ws fs rs long =
-    selected_from_edges (λ e. e.stamp.recent) live 0 rs (slots_of live ts ws fs rs) 0 (omega (arith, length-slots_of live ts ws fs rs))
+    selected_from_edges (λ e. e.stamp.recent) live 0 rs (slots_of live ts ws fs rs) 0
+    (omega (arith, length-slots_of live ts ws fs rs))
     (λ k n within e.
     let same : k ≡ n = omega arith in
     rw same (elim (lives_or_not live n) [
@@ -102,7 +115,8 @@ edges_filtered p mask place (s ∷ slots) agrees =
     (edges_filtered p mask (place + 1) slots (λ k n e within at is. agrees (suc k) n e (omega arith) (omega arith) is))
 
 -- no bit is set where there is no edge
-pub empty_by_word : (live : ℕ) (ts : List ℕ) (ws : List ℤ) (fs rs : List ℕ) → live < 2 ^ 32 → ((live == 0) ≡ true) ↔ (edges_in (slots_of live ts ws fs rs) ≡ [])
+pub empty_by_word : (live : ℕ) (ts : List ℕ) (ws : List ℤ) (fs rs : List ℕ) → live < 2 ^ 32
+    → ((live == 0) ≡ true) ↔ (edges_in (slots_of live ts ws fs rs) ≡ [])
 unfolding count_ones
 empty_by_word live ts ws fs rs fits = (
   (λ zero_word.

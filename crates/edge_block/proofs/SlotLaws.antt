@@ -22,13 +22,16 @@ AreDistinct-put_slot e slots h = go (list_any (holds e.target) slots) refl where
   go : (b : Bool) → list_any (holds e.target) slots ≡ b →
       AreDistinct (if b then at_first (holds e.target) (λ _. Some e) slots else at_first is_free (λ _. Some e) slots)
   go true there = NoKeyTwice-at_first slot_at (holds e.target) (λ _. Some e) (λ _. ⊥) slots
-      (λ s target held now. inl (let same : target ≡ e.target = target_of_edge e target now in rw same held)) (λ target new. absurd new) h
+      (λ s target held now. inl (let same : target ≡ e.target = target_of_edge e target now in rw same held))
+      (λ target new. absurd new) h
   go false absent = NoKeyTwice-at_first slot_at is_free (λ _. Some e) (λ target. target ≡ e.target) slots
-      (λ s target free now. inr (target_of_edge e target now)) (λ target new. rw new (first_some-by_any (λ s. slot_at s e.target) slots absent)) h
+      (λ s target free now. inr (target_of_edge e target now))
+      (λ target new. rw new (first_some-by_any (λ s. slot_at s e.target) slots absent)) h
 
 pub AreDistinct-take_slot : (target : ℕ) (slots : List (Option Slot)) → AreDistinct slots → AreDistinct (take_slot target slots)
 AreDistinct-take_slot target slots h =
-    NoKeyTwice-at_first slot_at (holds target) (λ _. None) (λ _. ⊥) slots (λ s other held now. absurd (true≢false (sym now))) (λ other new. absurd new) h
+    NoKeyTwice-at_first slot_at (holds target) (λ _. None) (λ _. ⊥) slots (λ s other held now. absurd (true≢false (sym now)))
+    (λ other new. absurd new) h
 
 pub All-put_slot : (e : Slot) (slots : List (Option Slot)) → IsSlot (Some e) → All IsSlot slots → All IsSlot (put_slot e slots)
 All-put_slot e slots here all = go (list_any (holds e.target) slots) where

@@ -1,12 +1,14 @@
 -- The edges of a view, one after another.
-use Rattle.std.proofs.Common.{◌≡◌, ◌≢◌, ℕ, zero, suc, ◌+◌, ◌*◌, ◌%◌, ◌^◌, ◌<◌, ◌≤◌, ℤ, Bool, true, false, List, [], ◌∷◌, length, get_or, map, refl, sym, ap, ◌∙◌, inl, inr, arith, cond}
+use Rattle.std.proofs.Common.{◌≡◌, ◌≢◌, ℕ, zero, suc, ◌+◌, ◌*◌, ◌%◌, ◌^◌, ◌<◌, ◌≤◌, ℤ, Bool, true, false, List, [], ◌∷◌, length}
+use Rattle.std.proofs.Common.{get_or, map, refl, sym, ap, ◌∙◌, inl, inr, arith, cond}
 use Rattle.std.specs.Prelude.{◌==◌, ◌&&◌, nat_le, if◌then◌else◌, filter, slice_index, ◌↔◌}
 use Rattle.std.specs.Int.{bit_at, w32, bit_not, trailing_zeros}
 use Rattle.std.specs.Int.RustNames.{bit_and}
 use Rattle.std.specs.declared.option.Option.{Option}
 use Rattle.std.specs.declared.option.Option.TheVariants.{None, Some}
 use Rattle.std.proofs.lemmas.Bool.{eq-eqb, ne_eqb, le-leb, lt-leb, cases_lt, true≢false}
-use Rattle.std.proofs.lemmas.Nat.Bits.{bit_at-zero, bit_at-lt, bit_at_and, bit_at-trailing_zeros, bit_at_clear_same, bit_at_clear_other}
+use Rattle.std.proofs.lemmas.Nat.Bits.{bit_at-zero, bit_at-lt, bit_at_and, bit_at-trailing_zeros, bit_at_clear_same}
+use Rattle.std.proofs.lemmas.Nat.Bits.{bit_at_clear_other}
 use Rattle.std.proofs.lemmas.List.{length-map}
 use Rattle.std.proofs.lemmas.List.Sums.{length-filter, count_by-le-length}
 use lib.Bits.{and_le_r}
@@ -28,32 +30,39 @@ selected_none place (x ∷ xs) =
     rw (ne_eqb (bit_at 0 place) 1 clear) (selected_none (place + 1) xs)
 
 -- masks that agree select the same
-selected_same : {X : Type 0} (mask mask' place : ℕ) (xs : List X) → ((k n : ℕ) → k < length xs → place + k ≡ n → bit_at mask n ≡ bit_at mask' n) →
+selected_same : {X : Type 0} (mask mask' place : ℕ) (xs : List X)
+    → ((k n : ℕ) → k < length xs → place + k ≡ n → bit_at mask n ≡ bit_at mask' n) →
     selected_from mask place xs ≡ selected_from mask' place xs
 selected_same mask mask' place [] same = refl
 selected_same mask mask' place (x ∷ xs) same =
     let here : bit_at mask place ≡ bit_at mask' place = same 0 place (omega arith) (omega arith) in
-    let rest : selected_from mask (place + 1) xs ≡ selected_from mask' (place + 1) xs = selected_same mask mask' (place + 1) xs (λ k n within e. same (suc k) n (omega arith) (omega arith)) in
+    let rest : selected_from mask (place + 1) xs ≡ selected_from mask' (place + 1) xs =
+    selected_same mask mask' (place + 1) xs (λ k n within e. same (suc k) n (omega arith) (omega arith)) in
     rw (here, rest)
 
 -- the first selected item, and what a mask without its place selects
-pub selected_next : {X : Type 0} (mask mask' place : ℕ) (xs : List X) (i n : ℕ) (d : X) → i < length xs → place + i ≡ n → InMask mask n →
-    ((m : ℕ) → m < n → InMask mask m → ⊥) → (InMask mask' n → ⊥) → ((k m : ℕ) → k < length xs → place + k ≡ m → m ≢ n → bit_at mask m ≡ bit_at mask' m) →
+pub selected_next : {X : Type 0} (mask mask' place : ℕ) (xs : List X) (i n : ℕ) (d : X) → i < length xs → place + i ≡ n
+    → InMask mask n →
+    ((m : ℕ) → m < n → InMask mask m → ⊥) → (InMask mask' n → ⊥)
+    → ((k m : ℕ) → k < length xs → place + k ≡ m → m ≢ n → bit_at mask m ≡ bit_at mask' m) →
     selected_from mask place xs ≡ get_or xs i d ∷ selected_from mask' place xs
 selected_next mask mask' place [] i n d within e set first clear others = absurd (omega arith)
 selected_next mask mask' place (x ∷ xs) zero n d within e set first clear others =
     let here : place ≡ n = omega arith in
     rw (here, eq-eqb (bit_at mask n) 1 set, ne_eqb (bit_at mask' n) 1 clear)
-    (ap (λ ys. x ∷ ys) (selected_same mask mask' (n + 1) xs (λ k m at f. others (suc k) m (omega arith) (omega arith) (omega arith))))
+    (ap (λ ys. x ∷ ys) (selected_same mask mask' (n + 1) xs
+    (λ k m at f. others (suc k) m (omega arith) (omega arith) (omega arith))))
 selected_next mask mask' place (x ∷ xs) (suc i) n d within e set first clear others =
     let before : bit_at mask place ≡ 1 → ⊥ = first place (omega arith) in
     let same : bit_at mask place ≡ bit_at mask' place = others 0 place (omega arith) (omega arith) (omega arith) in
     let before' : bit_at mask' place ≡ 1 → ⊥ = λ set'. before (same ∙ set') in
     rw (ne_eqb (bit_at mask place) 1 before, ne_eqb (bit_at mask' place) 1 before')
-    (selected_next mask mask' (place + 1) xs i n d (omega arith) (omega arith) set first clear (λ k m at f ne. others (suc k) m (omega arith) (omega arith) ne))
+    (selected_next mask mask' (place + 1) xs i n d (omega arith) (omega arith) set first clear
+    (λ k m at f ne. others (suc k) m (omega arith) (omega arith) ne))
 
 -- masks that agree at the slots with an edge
-edges_after : (b b' : Bool) (s : Option Slot) (xs ys : List (Option Slot)) → ((e : Slot) → s ≡ Some e → b ≡ b') → edges_in xs ≡ edges_in ys →
+edges_after : (b b' : Bool) (s : Option Slot) (xs ys : List (Option Slot)) → ((e : Slot) → s ≡ Some e → b ≡ b')
+    → edges_in xs ≡ edges_in ys →
     edges_in (if b then s ∷ xs else xs) ≡ edges_in (if b' then s ∷ ys else ys)
 edges_after true true None xs ys same rest = rest
 edges_after true false None xs ys same rest = rest
@@ -69,17 +78,24 @@ edges_agree : (mask mask' place : ℕ) (slots : List (Option Slot)) →
     edges_in (selected_from mask place slots) ≡ edges_in (selected_from mask' place slots)
 edges_agree mask mask' place [] same = refl
 edges_agree mask mask' place (s ∷ slots) same =
-    edges_after (bit_at mask place == 1) (bit_at mask' place == 1) s (selected_from mask (place + 1) slots) (selected_from mask' (place + 1) slots)
+    edges_after (bit_at mask place == 1) (bit_at mask' place == 1) s (selected_from mask (place + 1) slots)
+    (selected_from mask' (place + 1) slots)
     (λ e is. ap (λ bit. bit == 1) (same 0 place e (omega arith) (omega arith) is))
     (edges_agree mask mask' (place + 1) slots (λ k n e within at is. same (suc k) n e (omega arith) (omega arith) is))
 
 -- a slot with an edge is that of a live place
-edge_lives : (live : ℕ) (ts : List ℕ) (ws : List ℤ) (fs rs : List ℕ) (i : ℕ) (e : Slot) → i < 32 → get_or (slots_of live ts ws fs rs) i None ≡ Some e →
+edge_lives : (live : ℕ) (ts : List ℕ) (ws : List ℤ) (fs rs : List ℕ) (i : ℕ) (e : Slot) → i < 32
+    → get_or (slots_of live ts ws fs rs) i None ≡ Some e →
     InMask live i × (e ≡ column_slot ts ws fs rs i)
 edge_lives live ts ws fs rs i e few is =
     elim (lives_or_not live i) [
-      | inl lives ↦ (lives, (let same : (let x : Option Slot = Some e in x) ≡ Some (column_slot ts ws fs rs i) = sym is ∙ slot_live live ts ws fs rs i None few lives in cc))
-      | inr dead ↦ (let same : (let x : Option Slot = Some e in x) ≡ None = sym is ∙ slot_dead live ts ws fs rs i None few dead in cc)
+      | inl lives ↦ (
+        lives,
+        (let same : (let x : Option Slot = Some e in x) ≡ Some (column_slot ts ws fs rs i) = sym is
+            ∙ slot_live live ts ws fs rs i None few lives in cc),
+      )
+      | inr dead ↦ (let same : (let x : Option Slot = Some e in x) ≡ None = sym is ∙ slot_dead live ts ws fs rs i None few dead in
+          cc)
     ]
 
 -- of the places in a mask the live ones alone count
@@ -94,11 +110,14 @@ edges_due mask live ts ws fs rs =
     omega (arith, bit_at_and mask live n, bit_at-lt mask n))
 
 -- no place is due
-pub edges_none : (mask live : ℕ) (ts : List ℕ) (ws : List ℤ) (fs rs : List ℕ) → bit_and mask live ≡ 0 → edges_in (selected mask (slots_of live ts ws fs rs)) ≡ []
-edges_none mask live ts ws fs rs none = edges_due mask live ts ws fs rs ∙ rw none (ap edges_in (selected_none 0 (slots_of live ts ws fs rs)))
+pub edges_none : (mask live : ℕ) (ts : List ℕ) (ws : List ℤ) (fs rs : List ℕ) → bit_and mask live ≡ 0
+    → edges_in (selected mask (slots_of live ts ws fs rs)) ≡ []
+edges_none mask live ts ws fs rs none = edges_due mask live ts ws fs rs
+    ∙ rw none (ap edges_in (selected_none 0 (slots_of live ts ws fs rs)))
 
 -- the edge at the lowest place that is due, and those that are left
-pub edges_next : (mask live : ℕ) (ts : List ℕ) (ws : List ℤ) (fs rs : List ℕ) (i : ℕ) (e : Slot) → bit_and mask live < 2 ^ 32 → 0 < bit_and mask live →
+pub edges_next : (mask live : ℕ) (ts : List ℕ) (ws : List ℤ) (fs rs : List ℕ) (i : ℕ) (e : Slot) → bit_and mask live < 2 ^ 32
+    → 0 < bit_and mask live →
     i ≡ trailing_zeros w32 (bit_and mask live) → get_or (slots_of live ts ws fs rs) i None ≡ Some e →
     edges_in (selected mask (slots_of live ts ws fs rs))
     ≡ e ∷ edges_in (selected (bit_and (bit_and mask live) (bit_not w32 (1 * 2 ^ i % 2 ^ 32))) (slots_of live ts ws fs rs))
@@ -106,15 +125,19 @@ edges_next mask live ts ws fs rs i e fits some at is =
     let low : (i < 32) × (bit_at (bit_and mask live) i ≡ 1) × ((k : ℕ) → k < i → bit_at (bit_and mask live) k ≡ 0) =
     rw at (bit_at-trailing_zeros w32 (bit_and mask live) some fits) in
     edges_due mask live ts ws fs rs
-    ∙ ap edges_in (selected_next (bit_and mask live) (bit_and (bit_and mask live) (bit_not w32 (1 * 2 ^ i % 2 ^ 32))) 0 (slots_of live ts ws fs rs) i i None
+    ∙ ap edges_in (selected_next (bit_and mask live) (bit_and (bit_and mask live) (bit_not w32 (1 * 2 ^ i % 2 ^ 32))) 0
+    (slots_of live ts ws fs rs) i i None
     (omega (arith, length-slots_of live ts ws fs rs)) (omega arith) low.1
     (λ k below set. omega (arith, low.2 k below))
     (λ set. omega (arith, bit_at_clear_same w32 (bit_and mask live) i low.0))
-    (λ k m within here ne. sym (bit_at_clear_other w32 (bit_and mask live) i low.0 m (omega (arith, length-slots_of live ts ws fs rs)) ne)))
-    ∙ ap (λ s. edges_in (s ∷ selected (bit_and (bit_and mask live) (bit_not w32 (1 * 2 ^ i % 2 ^ 32))) (slots_of live ts ws fs rs))) is
+    (λ k m within here ne. sym (bit_at_clear_other w32 (bit_and mask live) i low.0 m
+    (omega (arith, length-slots_of live ts ws fs rs)) ne)))
+    ∙ ap
+    (λ s. edges_in (s ∷ selected (bit_and (bit_and mask live) (bit_not w32 (1 * 2 ^ i % 2 ^ 32))) (slots_of live ts ws fs rs))) is
 
 -- the view's edges as entries and as lent edges
-lent_one : (b : BlockView) (e : Slot) (passes : Bool) (es : List Slot) (entries : List (Key × Stamp)) → map (lent_in b) es ≡ map lent_of entries →
+lent_one : (b : BlockView) (e : Slot) (passes : Bool) (es : List Slot) (entries : List (Key × Stamp))
+    → map (lent_in b) es ≡ map lent_of entries →
     map (lent_in b) (cond passes (e ∷ es) es) ≡ map lent_of (cond passes (entry_in b e ∷ entries) entries)
 lent_one b e true es entries rest = ap (λ ls. lent_in b e ∷ ls) rest
 lent_one b e false es entries rest = rest
@@ -123,10 +146,12 @@ lent_view : (b : BlockView) (f : Filter) (es : List Slot) →
     map (lent_in b) (filter (λ e. in_view f (entry_in b e)) es) ≡ map lent_of (filter (in_view f) (map (entry_in b) es))
 lent_view b f [] = refl
 lent_view b f (e ∷ es) =
-    lent_one b e (in_view f (entry_in b e)) (filter (λ x. in_view f (entry_in b x)) es) (filter (in_view f) (map (entry_in b) es)) (lent_view b f es)
+    lent_one b e (in_view f (entry_in b e)) (filter (λ x. in_view f (entry_in b x)) es) (filter (in_view f) (map (entry_in b) es))
+    (lent_view b f es)
 
 -- a time is in the window exactly where its place is in the window's mask
-in_window : (mask live lo hi n time : ℕ) (rs : List ℕ) → (InMask mask n ↔ IsPlaceWithin rs live lo hi n) → n < length rs → InMask live n → time ≡ slice_index rs n →
+in_window : (mask live lo hi n time : ℕ) (rs : List ℕ) → (InMask mask n ↔ IsPlaceWithin rs live lo hi n) → n < length rs
+    → InMask live n → time ≡ slice_index rs n →
     (bit_at mask n == 1) ≡ (nat_le lo time && nat_le time hi)
 in_window mask live lo hi n time rs says within lives e =
     elim (cases_lt time lo) [
@@ -138,7 +163,8 @@ in_window mask live lo hi n time rs says within lives e =
             let out : InMask mask n → ⊥ = λ set. absurd (let h : slice_index rs n ≤ hi = (says.0 set).to_hi in omega arith) in
             rw (ne_eqb (bit_at mask n) 1 out, le-leb lo time from, lt-leb time hi high)
         | inr to ↦
-            let set : InMask mask n = says.1 (record { within = within; lives = lives; from_lo = omega arith; to_hi = omega arith }) in
+            let set : InMask mask n =
+            says.1 (record { within = within; lives = lives; from_lo = omega arith; to_hi = omega arith }) in
             rw (eq-eqb (bit_at mask n) 1 set, le-leb lo time from, le-leb time hi to)
       ]
     ]
@@ -146,10 +172,20 @@ in_window mask live lo hi n time rs says within lives e =
 -- a view lends no more edges than there are slots
 pub lent_few : (b : BlockView) (f : Filter) → length b.slots ≡ 32 → length (map lent_of (filter (in_view f) (entries_of b))) ≤ 32
 lent_few b f places =
-    omega (arith, places, edges_few b.slots, length-map (filter (in_view f) (entries_of b)) lent_of, length-filter (in_view f) (entries_of b), count_by-le-length (in_view f) (entries_of b), length-map (edges_in b.slots) (entry_in b))
+    omega (
+      arith,
+      places,
+      edges_few b.slots,
+      length-map (filter (in_view f) (entries_of b)) lent_of,
+      length-filter (in_view f)
+          (entries_of b),
+      count_by-le-length (in_view f) (entries_of b),
+      length-map (edges_in b.slots) (entry_in b),
+    )
 
 -- what is lent by the mask of a window, of a kind that the filter takes
-pub lent_within : (number source kind live : ℕ) (ts : List ℕ) (ws : List ℤ) (fs rs : List ℕ) (f : Filter) (mask : ℕ) → length rs ≡ 32 → takes_kind f.kind kind ≡ true →
+pub lent_within : (number source kind live : ℕ) (ts : List ℕ) (ws : List ℤ) (fs rs : List ℕ) (f : Filter) (mask : ℕ)
+    → length rs ≡ 32 → takes_kind f.kind kind ≡ true →
     ((place : ℕ) → (InMask mask place ↔ IsPlaceWithin rs live f.lo f.hi place)) →
     (let b : BlockView = record { number = number; source = source; kind = kind; slots = slots_of live ts ws fs rs } in
     map (lent_in b) (edges_in (selected mask b.slots)) ≡ map lent_of (filter (in_view f) (entries_of b)))
@@ -161,11 +197,13 @@ lent_within number source kind live ts ws fs rs f mask long takes says =
     let lives = edge_lives live ts ws fs rs k e few is in
     let same : k ≡ n = omega arith in
     let lives' = rw same at lives in
-    rw takes (in_window mask live f.lo f.hi n e.stamp.recent rs (says n) (omega arith) lives'.0 (ap (λ x. x.stamp.recent) lives'.1))))
+    rw takes (in_window mask live f.lo f.hi n e.stamp.recent rs (says n) (omega arith) lives'.0
+    (ap (λ x. x.stamp.recent) lives'.1))))
     ∙ lent_view b f (edges_in b.slots)
 
 -- nothing is lent of a kind that the filter does not take
-pub lent_none : (number source kind live : ℕ) (ts : List ℕ) (ws : List ℤ) (fs rs : List ℕ) (f : Filter) → takes_kind f.kind kind ≡ false →
+pub lent_none : (number source kind live : ℕ) (ts : List ℕ) (ws : List ℤ) (fs rs : List ℕ) (f : Filter)
+    → takes_kind f.kind kind ≡ false →
     (let b : BlockView = record { number = number; source = source; kind = kind; slots = slots_of live ts ws fs rs } in
     map (lent_in b) (edges_in (selected 0 b.slots)) ≡ map lent_of (filter (in_view f) (entries_of b)))
 lent_none number source kind live ts ws fs rs f takes =
@@ -180,7 +218,8 @@ due_lives mask live i due = omega (arith, bit_at_and mask live i, bit_at-lt live
 
 -- the first edge lent, and the rest
 pub lent_next : (b : BlockView) (kind : ℕ) (e : Slot) (xs ys : List Slot) → kind ≡ b.kind → xs ≡ e ∷ ys →
-    map (lent_in b) xs ≡ (let first : LentEdge = record { kind = kind; target = e.target; stamp = e.stamp } in first) ∷ map (lent_in b) ys
+    map (lent_in b) xs ≡ (let first : LentEdge = record { kind = kind; target = e.target; stamp = e.stamp } in first)
+    ∷ map (lent_in b) ys
 lent_next b kind e xs ys k h = rw (k, h) refl
 
 pub due_fits : (mask live : ℕ) → live < 2 ^ 32 → bit_and mask live < 2 ^ 32

@@ -1,5 +1,6 @@
 -- The slots that a word of live places and four columns make.
-use Rattle.std.specs.Prelude.{◌≡◌, ℕ, ◌*◌, ◌%◌, ◌^◌, ◌<◌, ◌==◌, ℤ, pos, List, map, slice_index, slice_index_or, if◌then◌else◌, All}
+use Rattle.std.specs.Prelude.{◌≡◌, ℕ, ◌*◌, ◌%◌, ◌^◌, ◌<◌, ◌==◌, ℤ, pos, List, map, slice_index, slice_index_or, if◌then◌else◌}
+use Rattle.std.specs.Prelude.{All}
 use Rattle.std.specs.Int.{bit_at, bit_not, w32}
 use Rattle.std.specs.Int.RustNames.{bit_and}
 use Rattle.std.specs.List.{range_with_len}
@@ -11,7 +12,8 @@ use Rattle.edge_block.specs.Slots.{Slot, edge_slot, AreDistinct, IsSlot}
 -- what the columns have at a place, be it live or not
 abbrev pub column_slot : List ℕ → List ℤ → List ℕ → List ℕ → ℕ → Slot
 column_slot targets weights firsts recents place =
-    edge_slot (slice_index targets place) (slice_index_or weights place (pos 0)) (slice_index firsts place) (slice_index recents place)
+    edge_slot (slice_index targets place) (slice_index_or weights place (pos 0)) (slice_index firsts place)
+    (slice_index recents place)
 
 -- the slot at a place: it has an edge where the place is live
 abbrev pub slot_from : ℕ → List ℕ → List ℤ → List ℕ → List ℕ → ℕ → Option Slot

@@ -20,7 +20,8 @@ TakeIsGone =
 
 -- a search finds nothing exactly where no slot holds the target
 abbrev pub AbsentIsNone : Type 0
-AbsentIsNone = (slots : List (Option Slot)) (target : ℕ) → (stamp_at slots target ≡ None) ↔ (list_any (holds target) slots ≡ false)
+AbsentIsNone = (slots : List (Option Slot)) (target : ℕ)
+    → (stamp_at slots target ≡ None) ↔ (list_any (holds target) slots ≡ false)
 
 -- a key and a stamp in a block: of its kind and source, and what stands at the target
 pub record StandsIn (b : BlockView) (key : Key) (stamp : Stamp) : Type 0 where
@@ -30,4 +31,5 @@ pub record StandsIn (b : BlockView) (key : Key) (stamp : Stamp) : Type 0 where
 
 -- a block's entries are what stands in it
 abbrev pub EntriesAreFound : Type 0
-EntriesAreFound = (b : BlockView) → AreDistinct b.slots → (key : Key) (stamp : Stamp) → Contains (entries_of b) (key, stamp) ↔ StandsIn b key stamp
+EntriesAreFound = (b : BlockView) → AreDistinct b.slots → (key : Key) (stamp : Stamp)
+    → Contains (entries_of b) (key, stamp) ↔ StandsIn b key stamp

@@ -1,11 +1,13 @@
 //! The block and its calls.
 
-ghost use Rattle.std.specs.Prelude.{◌≡◌, ℕ, ℤ, ◌<◌, ◌≤◌, ◌↔◌, IsTrue, [], length, map, filter, not, All, MatchOption, IfSome, slice_index_or, slice_set, false};
+ghost use Rattle.std.specs.Prelude.{◌≡◌, ℕ, ℤ, ◌<◌, ◌≤◌, ◌↔◌, IsTrue, [], length, map, filter, not, All, MatchOption, IfSome};
+ghost use Rattle.std.specs.Prelude.{slice_index_or, slice_set, false};
 ghost use Rattle.std.specs.List.{list_any};
 ghost use Rattle.graph_model.specs.Graph.{IsWeight, IsTime};
 ghost use Rattle.graph_model.specs.View.{in_view, takes_kind};
 ghost use Rattle.lane_scan.specs.Masks.{AreBoundsOf};
-ghost use Rattle.edge_block.specs.Slots.{IsBlock, IsStamp, edges_in, edge_slot, is_free, empty_block, entries_of, holds, has_room_for, put_slot, take_slot, stamp_at, targets_in, with_slots};
+ghost use Rattle.edge_block.specs.Slots.{IsBlock, IsStamp, edges_in, edge_slot, is_free, empty_block, entries_of, holds};
+ghost use Rattle.edge_block.specs.Slots.{has_room_for, put_slot, take_slot, stamp_at, targets_in, with_slots};
 
 use crate::columns::{SLOTS, bounds_without, places_within, used_places};
 use graph_model::{Filter, KindId, VertexId};
@@ -42,7 +44,12 @@ impl Model for Block {
 
     ghost Value = { BlockView };
 
-    ghost view = { λ a. record { number = a.number; source = a.source.0; kind = a.kind.0; slots = slots_of a.live a.targets a.weights a.firsts a.recents } };
+    ghost view = { λ a. record {
+      number = a.number;
+      source = a.source.0;
+      kind = a.kind.0;
+      slots = slots_of a.live a.targets a.weights a.firsts a.recents;
+    } };
 
     ghost invariant = { λ a. AreColumns a.live a.targets a.weights a.firsts a.recents × AreTimes a.live a.recents a.times };
 }

@@ -1,5 +1,6 @@
 -- Lists of distinct numbers, and how many of a list pass a test.
-use Rattle.std.proofs.Common.{◌≡◌, ◌≢◌, ℕ, zero, suc, ◌+◌, ◌<◌, ◌≤◌, arith, refl, sym, ap, ◌∙◌, ◌⊎◌, inl, inr, List, [], ◌∷◌, length, cond, true, false, Bool, not}
+use Rattle.std.proofs.Common.{◌≡◌, ◌≢◌, ℕ, zero, suc, ◌+◌, ◌<◌, ◌≤◌, arith, refl, sym, ap, ◌∙◌, ◌⊎◌, inl, inr, List, [], ◌∷◌}
+use Rattle.std.proofs.Common.{length, cond, true, false, Bool, not}
 use Rattle.std.specs.Prelude.{◌==◌, AllPairs, count_by, filter}
 use Rattle.std.specs.List.{Contains}
 use Rattle.std.proofs.lemmas.Bool.{cases_Bool}
@@ -30,7 +31,8 @@ module _ {X : Type 0} where
   count_yes p x xs h = sum_by-cons (λ y. cond (p y) 1 0) x xs ∙ ap (λ b. cond b 1 0 + count_by p xs) h
 
   pub count_no : (p : X → Bool) (x : X) (xs : List X) → p x ≡ false → count_by p (x ∷ xs) ≡ count_by p xs
-  count_no p x xs h = let e : count_by p (x ∷ xs) ≡ 0 + count_by p xs = sum_by-cons (λ y. cond (p y) 1 0) x xs ∙ ap (λ b. cond b 1 0 + count_by p xs) h in omega arith
+  count_no p x xs h = let e : count_by p (x ∷ xs) ≡ 0 + count_by p xs =
+      sum_by-cons (λ y. cond (p y) 1 0) x xs ∙ ap (λ b. cond b 1 0 + count_by p xs) h in omega arith
 
   pub contains_filter : (p : X → Bool) (xs : List X) (x : X) → p x ≡ true → Contains xs x → Contains (filter p xs) x
   contains_filter p [] x on c = absurd (Contains-nil x c)
@@ -73,25 +75,28 @@ kept_others x (y ∷ ys) = elim (y == x) as (λ b. length (cond (not b) (y ∷ o
 -- leaving out a number that is listed makes a list shorter
 fewer_others : (x : ℕ) (ys : List ℕ) → Contains ys x → length (others x ys) < length ys
 fewer_others x [] c = absurd (Contains-nil x c)
-fewer_others x (y ∷ ys) c = elim (y == x) as (λ b. (y == x) ≡ b → length (cond (not b) (y ∷ others x ys) (others x ys)) < suc (length ys)) [
-  | true ↦ λ e. let r = kept_others x ys in omega arith
-  | false ↦ λ e. elim (Contains-cons_cases y ys x c) [
-    | inl same ↦ let both = sym e ∙ (Decides-eqb y x).1 same in absurd (cc)
-    | inr more ↦ let r = fewer_others x ys more in omega arith
-  ]
-] refl
+fewer_others x (y ∷ ys) c = elim (y == x) as (λ b. (y == x) ≡ b
+    → length (cond (not b) (y ∷ others x ys) (others x ys)) < suc (length ys)) [
+      | true ↦ λ e. let r = kept_others x ys in omega arith
+      | false ↦ λ e. elim (Contains-cons_cases y ys x c) [
+        | inl same ↦ let both = sym e ∙ (Decides-eqb y x).1 same in absurd (cc)
+        | inr more ↦ let r = fewer_others x ys more in omega arith
+      ]
+    ] refl
 
 -- distinct numbers of a list are no more than it has
 pub sub_length : (xs ys : List ℕ) → AllPairs (λ a b. a ≢ b) xs → ((x : ℕ) → Contains xs x → Contains ys x) → length xs ≤ length ys
 sub_length [] ys h sub = omega arith
 sub_length (x ∷ xs) ys h sub =
     let one = sub_length xs (others x ys) (apart_tail x xs h)
-    (λ z c. contains_filter (λ y. not (y == x)) ys z (ap not (differ z x (λ e. apart_head x xs z h c (sym e)))) (sub z (Contains-cons x xs z c))) in
+    (λ z c. contains_filter (λ y. not (y == x)) ys z (ap not (differ z x (λ e. apart_head x xs z h c (sym e))))
+    (sub z (Contains-cons x xs z c))) in
     let some = fewer_others x ys (sub x (Contains-first x xs x refl)) in
     omega arith
 
 -- nor more than it has that pass a test which they pass
-pub passing_length : (p : ℕ → Bool) (xs ys : List ℕ) → AllPairs (λ a b. a ≢ b) xs → ((x : ℕ) → Contains xs x → Contains ys x × (p x ≡ true)) → length xs ≤ count_by p ys
+pub passing_length : (p : ℕ → Bool) (xs ys : List ℕ) → AllPairs (λ a b. a ≢ b) xs
+    → ((x : ℕ) → Contains xs x → Contains ys x × (p x ≡ true)) → length xs ≤ count_by p ys
 passing_length p xs ys h sub =
     let one = sub_length xs (filter p ys) h (λ x c. let s = sub x c in contains_filter p ys x s.1 s.0) in
     let long = length-filter p ys in

@@ -1,5 +1,6 @@
 -- Keys in order, and lists of edges that list each key once.
-use Rattle.std.proofs.Common.{◌≡◌, ◌≢◌, ℕ, zero, suc, ◌+◌, ◌<◌, ◌≤◌, Bool, true, false, cond, List, [], ◌∷◌, length, get_or, map, refl, sym, ap, subst, ◌∙◌, arith}
+use Rattle.std.proofs.Common.{◌≡◌, ◌≢◌, ℕ, zero, suc, ◌+◌, ◌<◌, ◌≤◌, Bool, true, false, cond, List, [], ◌∷◌, length, get_or, map}
+use Rattle.std.proofs.Common.{refl, sym, ap, subst, ◌∙◌, arith}
 use Rattle.std.specs.Prelude.{count_by, is_some, AllPairs, All, Contains, IsPermutation}
 use Rattle.std.specs.declared.cmp.Ordering.{Ordering}
 use Rattle.std.specs.declared.cmp.Ordering.TheVariants.{Less, Equal, Greater}
@@ -7,7 +8,8 @@ use Rattle.std.specs.declared.option.Option.{Option}
 use Rattle.std.specs.declared.option.Option.TheVariants.{None, Some}
 use Rattle.std.specs.Ordering.{nat_cmp, ordering_then, is_eq, eq_by_cmp}
 use Rattle.std.specs.Cmp.{IsTotalOrder}
-use Rattle.std.specs.FinMap.{IsAntisymmetric, nat_cmp-IsAntisymmetric, find, get, len, get-insert, get-from_entries, len-empty, len-insert, same_map}
+use Rattle.std.specs.FinMap.{IsAntisymmetric, nat_cmp-IsAntisymmetric, find, get, len, get-insert, get-from_entries, len-empty}
+use Rattle.std.specs.FinMap.{len-insert, same_map}
 use Rattle.std.proofs.lemmas.Cmp.{then_total, on_total, nat_cmp_total, tied_itself}
 use Rattle.std.proofs.lemmas.List.Sums.{sum_by-cons, get_or-le-sum_by}
 use Rattle.std.proofs.lemmas.List.Sorted.{Contains-permutation, sum_by-IsPermutation, IsPermutation-sym}
@@ -16,7 +18,8 @@ use Rattle.graph_model.specs.declared.ids.Edge.{Edge}
 
 pub keys_total : IsTotalOrder key_cmp
 keys_total =
-    then_total (on_total (λ (k : Key). k.kind) nat_cmp_total) (then_total (on_total (λ (k : Key). k.source) nat_cmp_total) (on_total (λ (k : Key). k.target) nat_cmp_total))
+    then_total (on_total (λ (k : Key). k.kind) nat_cmp_total)
+    (then_total (on_total (λ (k : Key). k.source) nat_cmp_total) (on_total (λ (k : Key). k.target) nat_cmp_total))
 
 both_equal : (a b : Ordering) → ordering_then a b ≡ Equal → (a ≡ Equal) × (b ≡ Equal)
 both_equal Less b e = cc
@@ -49,7 +52,8 @@ pub has_key_at : (key : Key) (e : Edge) → key ≡ key_of e → has_key key e �
 has_key_at key e same = ap (λ k. eq_by_cmp key_cmp key k) (sym same) ∙ ap is_eq (tied_itself keys_total key)
 
 pub has_key-false : (key : Key) (e : Edge) → key ≢ key_of e → has_key key e ≡ false
-has_key-false key e apart = elim (has_key key e) as (λ b. has_key key e ≡ b → has_key key e ≡ false) [ true ↦ λ t. absurd (apart (has_key-true key e t)) | false ↦ λ t. t ] refl
+has_key-false key e apart = elim (has_key key e) as (λ b. has_key key e ≡ b
+    → has_key key e ≡ false) [ true ↦ λ t. absurd (apart (has_key-true key e t)) | false ↦ λ t. t ] refl
 
 -- each key stands once
 abbrev pub HasKeysOnce : List Edge → Type 0
@@ -65,7 +69,8 @@ pub find_absent : (key : Key) (es : List Edge) → All (λ x. key ≢ key_of x) 
 find_absent key [] absent = refl
 find_absent key (e ∷ es) absent =
     let none = find_absent key es (λ k d h. absent (suc k) d (omega arith)) in
-    ap (λ b. cond b (Some (stamp_of e)) (find key_cmp key (map entry_of es))) (has_key-false key e (absent 0 e (omega arith))) ∙ none
+    ap (λ b. cond b (Some (stamp_of e)) (find key_cmp key (map entry_of es))) (has_key-false key e (absent 0 e (omega arith)))
+    ∙ none
 
 pub get_is : (key : Key) (edges : List Edge) → get (map_of edges) key ≡ find key_cmp key (map entry_of edges)
 get_is key edges = get-from_entries keys_total (map entry_of edges) key
@@ -74,7 +79,8 @@ no_key : (key : Key) (es : List Edge) → All (λ x. key ≢ key_of x) es → co
 no_key key [] absent = refl
 no_key key (e ∷ es) absent =
     let none = no_key key es (λ k d h. absent (suc k) d (omega arith)) in
-    sum_by-cons (λ x. cond (has_key key x) 1 0) e es ∙ ap (λ b. cond b 1 0 + count_by (has_key key) es) (has_key-false key e (absent 0 e (omega arith))) ∙ omega arith
+    sum_by-cons (λ x. cond (has_key key x) 1 0) e es
+    ∙ ap (λ b. cond b 1 0 + count_by (has_key key) es) (has_key-false key e (absent 0 e (omega arith))) ∙ omega arith
 
 -- a key stands at most once, as a count
 pub count_key : (key : Key) (es : List Edge) → HasKeysOnce es → count_by (has_key key) es ≤ 1
@@ -82,7 +88,8 @@ count_key key [] once = omega arith
 count_key key (e ∷ es) once =
     let rest = count_key key es (once_tail e es once) in
     let whole = sum_by-cons (λ x. cond (has_key key x) 1 0) e es in
-    elim (has_key key e) as (λ b. has_key key e ≡ b → count_by (has_key key) (e ∷ es) ≡ cond b 1 0 + count_by (has_key key) es → count_by (has_key key) (e ∷ es) ≤ 1) [
+    elim (has_key key e) as (λ b. has_key key e ≡ b → count_by (has_key key) (e ∷ es) ≡ cond b 1 0 + count_by (has_key key) es
+    → count_by (has_key key) (e ∷ es) ≤ 1) [
       | true ↦ λ t w.
           let same = has_key-true key e t in
           let none = no_key key es (λ k d h. subst (λ q. q ≢ key_of (get_or es k d)) (sym same) (once_head e es once k d h)) in
@@ -91,43 +98,54 @@ count_key key (e ∷ es) once =
     ] refl whole
 
 -- what a look-up finds is listed
-pub find_listed : (key : Key) (es : List Edge) (s : Stamp) → find key_cmp key (map entry_of es) ≡ Some s → (x : Edge) × (Contains es x × (key ≡ key_of x) × (stamp_of x ≡ s))
+pub find_listed : (key : Key) (es : List Edge) (s : Stamp) → find key_cmp key (map entry_of es) ≡ Some s
+    → (x : Edge) × (Contains es x × (key ≡ key_of x) × (stamp_of x ≡ s))
 find_listed key [] s is = cc
 find_listed key (e ∷ es) s is =
-    elim (has_key key e) as (λ b. has_key key e ≡ b → cond b (Some (stamp_of e)) (find key_cmp key (map entry_of es)) ≡ Some s → (x : Edge) × (Contains (e ∷ es) x × (key ≡ key_of x) × (stamp_of x ≡ s))) [
+    elim (has_key key e) as (λ b. has_key key e ≡ b → cond b (Some (stamp_of e)) (find key_cmp key (map entry_of es)) ≡ Some s
+    → (x : Edge) × (Contains (e ∷ es) x × (key ≡ key_of x) × (stamp_of x ≡ s))) [
       | true ↦ λ t w. (e, ((0, omega arith, refl), has_key-true key e t, cc))
-      | false ↦ λ t w. let rest = find_listed key es s w in (rest.0, ((suc rest.1.0.0, omega (arith, rest.1.0.1), rest.1.0.2), rest.1.1, rest.1.2))
+      | false ↦ λ t w. let rest = find_listed key es s w in
+          (rest.0, ((suc rest.1.0.0, omega (arith, rest.1.0.1), rest.1.0.2), rest.1.1, rest.1.2))
     ] refl is
 
 -- where a key stands at most once, a look-up finds what is listed
-pub find_present : (key : Key) (es : List Edge) (x : Edge) → count_by (has_key key) es ≤ 1 → Contains es x → key ≡ key_of x → find key_cmp key (map entry_of es) ≡ Some (stamp_of x)
+pub find_present : (key : Key) (es : List Edge) (x : Edge) → count_by (has_key key) es ≤ 1 → Contains es x → key ≡ key_of x
+    → find key_cmp key (map entry_of es) ≡ Some (stamp_of x)
 find_present key [] x few (k, h, at) same = absurd (omega arith)
 find_present key (e ∷ es) x few (zero, h, at) same =
-    ap (λ b. cond b (Some (stamp_of e)) (find key_cmp key (map entry_of es))) (has_key_at key e (same ∙ ap key_of (sym at))) ∙ ap (λ y. Some (stamp_of y)) at
+    ap (λ b. cond b (Some (stamp_of e)) (find key_cmp key (map entry_of es))) (has_key_at key e (same ∙ ap key_of (sym at)))
+    ∙ ap (λ y. Some (stamp_of y)) at
 find_present key (e ∷ es) x few (suc k, h, at) same =
     let whole = sum_by-cons (λ y. cond (has_key key y) 1 0) e es in
     let here : k < length es = omega arith in
     let listed = get_or-le-sum_by (λ y. cond (has_key key y) 1 0) es k x here in
-    let counted : cond {A = ℕ} (has_key key (get_or es k x)) 1 0 ≡ 1 = ap (λ (b : Bool). cond {A = ℕ} b 1 0) (has_key_at key (get_or es k x) (same ∙ ap key_of (sym at))) in
-    elim (has_key key e) as (λ b. count_by (has_key key) (e ∷ es) ≡ cond b 1 0 + count_by (has_key key) es → cond b (Some (stamp_of e)) (find key_cmp key (map entry_of es)) ≡ Some (stamp_of x)) [
+    let counted : cond {A = ℕ} (has_key key (get_or es k x)) 1 0 ≡ 1 =
+    ap (λ (b : Bool). cond {A = ℕ} b 1 0) (has_key_at key (get_or es k x) (same ∙ ap key_of (sym at))) in
+    elim (has_key key e) as (λ b. count_by (has_key key) (e ∷ es) ≡ cond b 1 0 + count_by (has_key key) es
+    → cond b (Some (stamp_of e)) (find key_cmp key (map entry_of es)) ≡ Some (stamp_of x)) [
       | true ↦ λ w. absurd (omega arith)
       | false ↦ λ w. find_present key es x (omega arith) (k, here, at) same
     ] whole
 
-found_again : (key : Key) (es fs : List Edge) → HasKeysOnce es → IsPermutation es fs → (o p : Option Stamp) → find key_cmp key (map entry_of es) ≡ o → find key_cmp key (map entry_of fs) ≡ p → p ≡ o
+found_again : (key : Key) (es fs : List Edge) → HasKeysOnce es → IsPermutation es fs → (o p : Option Stamp)
+    → find key_cmp key (map entry_of es) ≡ o → find key_cmp key (map entry_of fs) ≡ p → p ≡ o
 found_again key es fs once moved o (Some s) at_es at_fs =
     let (x, (listed, same, is)) = find_listed key fs s at_fs in
-    sym (sym at_es ∙ find_present key es x (count_key key es once) (Contains-permutation fs es x (IsPermutation-sym es fs moved) listed) same ∙ ap Some is)
+    sym (sym at_es ∙ find_present key es x (count_key key es once)
+    (Contains-permutation fs es x (IsPermutation-sym es fs moved) listed) same ∙ ap Some is)
 found_again key es fs once moved None None at_es at_fs = refl
 found_again key es fs once moved (Some s) None at_es at_fs =
     let (x, (listed, same, is)) = find_listed key es s at_es in
-    let few : count_by (has_key key) fs ≤ 1 = omega (arith, sum_by-IsPermutation (λ e. cond (has_key key e) 1 0) es fs moved, count_key key es once) in
+    let few : count_by (has_key key) fs ≤ 1 =
+    omega (arith, sum_by-IsPermutation (λ e. cond (has_key key e) 1 0) es fs moved, count_key key es once) in
     sym at_fs ∙ find_present key fs x few (Contains-permutation es fs x moved listed) same ∙ ap Some is
 
 -- a list in another order makes the same map
 pub same_map_of : (es fs : List Edge) → HasKeysOnce es → IsPermutation es fs → map_of fs ≡ map_of es
 same_map_of es fs once moved =
-    same_map keys_total exact_keys (map_of fs) (map_of es) (λ key. get_is key fs ∙ found_again key es fs once moved _ _ refl refl ∙ sym (get_is key es))
+    same_map keys_total exact_keys (map_of fs) (map_of es)
+    (λ key. get_is key fs ∙ found_again key es fs once moved _ _ refl refl ∙ sym (get_is key es))
 
 -- no edge, and one edge more
 pub once_none : HasKeysOnce []
@@ -140,7 +158,8 @@ once_cons e es apart once (suc i) zero d h g = absurd (omega arith)
 once_cons e es apart once (suc i) (suc j) d h g = once i j d (omega arith) (omega arith)
 
 -- what stands in the map at a key, once an edge is listed before
-get_cons : (e : Edge) (es : List Edge) (key : Key) → get (map_of (e ∷ es)) key ≡ cond (has_key key e) (Some (stamp_of e)) (get (map_of es) key)
+get_cons : (e : Edge) (es : List Edge) (key : Key)
+    → get (map_of (e ∷ es)) key ≡ cond (has_key key e) (Some (stamp_of e)) (get (map_of es) key)
 get_cons e es key = get-insert keys_total (map_of es) (key_of e) (stamp_of e) key
 
 -- each listed edge stands in the map, where each key is listed once
@@ -151,12 +170,15 @@ get_listed (e ∷ es) once zero d h =
 get_listed (e ∷ es) once (suc k) d h =
     let x = get_or es k d in
     let other = has_key-false (key_of x) e (λ same. once_head e es once k d (omega arith) (sym same)) in
-    get_cons e es (key_of x) ∙ ap (λ b. cond b (Some (stamp_of e)) (get (map_of es) (key_of x))) other ∙ get_listed es (once_tail e es once) k d (omega arith)
+    get_cons e es (key_of x) ∙ ap (λ b. cond b (Some (stamp_of e)) (get (map_of es) (key_of x))) other
+    ∙ get_listed es (once_tail e es once) k d (omega arith)
 
 -- a map has as many entries as edges were listed, each key once
 pub len_once : (es : List Edge) → HasKeysOnce es → len (map_of es) ≡ length es
 len_once [] once = len-empty key_cmp Stamp
 len_once (e ∷ es) once =
     let none : get (map_of es) (key_of e) ≡ None = get_is (key_of e) es ∙ find_absent (key_of e) es (once_head e es once) in
-    let more : len (map_of (e ∷ es)) ≡ len (map_of es) + 1 = len-insert keys_total (map_of es) (key_of e) (stamp_of e) ∙ ap (λ o. cond (is_some o) (len (map_of es)) (len (map_of es) + 1)) none in
+    let more : len (map_of (e ∷ es)) ≡ len (map_of es) + 1 =
+    len-insert keys_total (map_of es) (key_of e) (stamp_of e)
+    ∙ ap (λ o. cond (is_some o) (len (map_of es)) (len (map_of es) + 1)) none in
     omega (arith, more, len_once es (once_tail e es once))

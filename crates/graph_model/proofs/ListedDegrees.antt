@@ -19,5 +19,7 @@ listed_at f c v is =
     λ i. record { outgoing = outgoing i; incoming = incoming i; out_weight = weights i }
 
 -- the table of degrees, by the list of edges
-pub degree_table_is : (f : Filter) (c : Content) → IsContent c → degree_table f (graph_of c) ≡ map (listed_degree f c.edges) (range_with_len 0 (length c.names))
-degree_table_is f c is = ap (λ (degree : ℕ → Degree). map degree (range_with_len 0 (length c.names))) (λ i v. sym (listed_at f c v is) i)
+pub degree_table_is : (f : Filter) (c : Content) → IsContent c
+    → degree_table f (graph_of c) ≡ map (listed_degree f c.edges) (range_with_len 0 (length c.names))
+degree_table_is f c is = ap (λ (degree : ℕ → Degree). map degree (range_with_len 0 (length c.names)))
+    (λ i v. sym (listed_at f c v is) i)

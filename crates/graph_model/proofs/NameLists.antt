@@ -1,12 +1,14 @@
 -- Lists of names in order of first appearance, as operations make them.
-use Rattle.std.proofs.Common.{◌≡◌, ◌≢◌, ℕ, ◌+◌, ◌<◌, ◌≤◌, List, [], ◌∷◌, ◌++◌, true, false, cond, not, ◌||◌, length, get_or, AllPairs, bytes_eq, Option, Some, suc, refl, sym, ap, ◌∙◌, arith}
+use Rattle.std.proofs.Common.{◌≡◌, ◌≢◌, ℕ, ◌+◌, ◌<◌, ◌≤◌, List, [], ◌∷◌, ◌++◌, true, false, cond, not, ◌||◌, length, get_or}
+use Rattle.std.proofs.Common.{AllPairs, bytes_eq, Option, Some, suc, refl, sym, ap, ◌∙◌, arith}
 use Rattle.std.specs.List.{list_any}
 use Rattle.std.proofs.lemmas.Bool.{false≢true}
 use Rattle.std.proofs.lemmas.List.Folds.{list_any-append, list_any_at}
 use Rattle.std.proofs.lemmas.List.Quantifiers.{all_pairs_push}
 use Rattle.std.proofs.lemmas.List.{length-append}
 use Rattle.std.proofs.lemmas.Slice.Eq.{bytes_eq-Decides}
-use Rattle.graph_model.specs.Step.{with_name, number_of, makes_names, names_made, kinds_made, stamp_after, changed_key, after, after_all}
+use Rattle.graph_model.specs.Step.{with_name, number_of, makes_names, names_made, kinds_made, stamp_after, changed_key, after}
+use Rattle.graph_model.specs.Step.{after_all}
 use Rattle.graph_model.specs.Graph.{Graph, Key, Stamp}
 use Rattle.graph_model.specs.declared.batches.NamedOp.{NamedOp}
 use Rattle.graph_model.specs.declared.batches.NamedOp.TheVariants.{Insert, Incr, Remove}
@@ -20,14 +22,16 @@ length-with_name names name =
       | false ↦ omega (arith, length-append names (name ∷ []))
     ]
 
-pub length-names_made : (change : EdgeChange) (source target : List ℕ) (names : List (List ℕ)) → length names ≤ length (names_made change source target names)
+pub length-names_made : (change : EdgeChange) (source target : List ℕ) (names : List (List ℕ))
+    → length names ≤ length (names_made change source target names)
 length-names_made change source target names =
     elim (makes_names change) as (λ b. length names ≤ length (cond b (with_name (with_name names source) target) names)) [
       | true ↦ omega (arith, length-with_name names source, length-with_name (with_name names source) target)
       | false ↦ omega arith
     ]
 
-pub length-kinds_made : (change : EdgeChange) (kind : List ℕ) (kinds : List (List ℕ)) → length kinds ≤ length (kinds_made change kind kinds)
+pub length-kinds_made : (change : EdgeChange) (kind : List ℕ) (kinds : List (List ℕ))
+    → length kinds ≤ length (kinds_made change kind kinds)
 length-kinds_made change kind kinds =
     elim (makes_names change) as (λ b. length kinds ≤ length (cond b (with_name kinds kind) kinds)) [
       | true ↦ length-with_name kinds kind
@@ -57,10 +61,12 @@ pub same_bytes : (name : List ℕ) → bytes_eq name name ≡ true
 same_bytes name = (bytes_eq-Decides name name).1 refl
 
 -- a name that has appeared has a number below the count of names
-pub number_of-lt : (names : List (List ℕ)) (name : List ℕ) → list_any (bytes_eq name) names ≡ true → number_of names name < length names
+pub number_of-lt : (names : List (List ℕ)) (name : List ℕ) → list_any (bytes_eq name) names ≡ true
+    → number_of names name < length names
 number_of-lt [] name h = absurd (false≢true h)
 number_of-lt (x ∷ xs) name h =
-    elim (bytes_eq name x) as (λ b. (b || list_any (bytes_eq name) xs) ≡ true → cond (not b) (1 + number_of xs name) 0 < suc (length xs)) [
+    elim (bytes_eq name x) as (λ b. (b || list_any (bytes_eq name) xs) ≡ true
+    → cond (not b) (1 + number_of xs name) 0 < suc (length xs)) [
       | true ↦ λ _. omega arith
       | false ↦ λ rest. omega (arith, number_of-lt xs name rest)
     ] h
@@ -68,34 +74,41 @@ number_of-lt (x ∷ xs) name h =
 -- a name appears where it is added, and stays
 pub appears-with_name : (names : List (List ℕ)) (name : List ℕ) → list_any (bytes_eq name) (with_name names name) ≡ true
 appears-with_name names name =
-    elim (list_any (bytes_eq name) names) as (λ b. list_any (bytes_eq name) names ≡ b → list_any (bytes_eq name) (cond b names (names ++ name ∷ [])) ≡ true) [
+    elim (list_any (bytes_eq name) names) as (λ b. list_any (bytes_eq name) names ≡ b
+    → list_any (bytes_eq name) (cond b names (names ++ name ∷ [])) ≡ true) [
       | true ↦ λ is. is
-      | false ↦ λ is. list_any-append (bytes_eq name) names (name ∷ []) ∙ ap (λ b. b || (bytes_eq name name || false)) is ∙ ap (λ b. b || false) (same_bytes name)
+      | false ↦ λ is. list_any-append (bytes_eq name) names (name ∷ []) ∙ ap (λ b. b || (bytes_eq name name || false)) is
+          ∙ ap (λ b. b || false) (same_bytes name)
     ] refl
 
-pub stays-with_name : (names : List (List ℕ)) (name other : List ℕ) → list_any (bytes_eq other) names ≡ true → list_any (bytes_eq other) (with_name names name) ≡ true
+pub stays-with_name : (names : List (List ℕ)) (name other : List ℕ) → list_any (bytes_eq other) names ≡ true
+    → list_any (bytes_eq other) (with_name names name) ≡ true
 stays-with_name names name other h =
     elim (list_any (bytes_eq name) names) as (λ b. list_any (bytes_eq other) (cond b names (names ++ name ∷ [])) ≡ true) [
       | true ↦ h
       | false ↦ list_any-append (bytes_eq other) names (name ∷ []) ∙ ap (λ b. b || list_any (bytes_eq other) (name ∷ [])) h
     ]
 
-pub AllPairs-with_name : (names : List (List ℕ)) (name : List ℕ) → AllPairs (λ a b. a ≢ b) names → AllPairs (λ a b. a ≢ b) (with_name names name)
+pub AllPairs-with_name : (names : List (List ℕ)) (name : List ℕ) → AllPairs (λ a b. a ≢ b) names
+    → AllPairs (λ a b. a ≢ b) (with_name names name)
 AllPairs-with_name names name h =
-    elim (list_any (bytes_eq name) names) as (λ b. list_any (bytes_eq name) names ≡ b → AllPairs (λ x y. x ≢ y) (cond b names (names ++ name ∷ []))) [
+    elim (list_any (bytes_eq name) names) as (λ b. list_any (bytes_eq name) names ≡ b
+    → AllPairs (λ x y. x ≢ y) (cond b names (names ++ name ∷ []))) [
       | true ↦ λ _. h
       | false ↦ λ is. all_pairs_push (λ x y. x ≢ y) names name h (λ k d l same.
           false≢true (sym is ∙ list_any_at (bytes_eq name) names k d l ((bytes_eq-Decides name (get_or names k d)).1 (sym same))))
     ] refl
 
-pub AllPairs-names_made : (change : EdgeChange) (source target : List ℕ) (names : List (List ℕ)) → AllPairs (λ a b. a ≢ b) names → AllPairs (λ a b. a ≢ b) (names_made change source target names)
+pub AllPairs-names_made : (change : EdgeChange) (source target : List ℕ) (names : List (List ℕ)) → AllPairs (λ a b. a ≢ b) names
+    → AllPairs (λ a b. a ≢ b) (names_made change source target names)
 AllPairs-names_made change source target names h =
     elim (makes_names change) as (λ b. AllPairs (λ x y. x ≢ y) (cond b (with_name (with_name names source) target) names)) [
       | true ↦ AllPairs-with_name _ target (AllPairs-with_name names source h)
       | false ↦ h
     ]
 
-pub AllPairs-kinds_made : (change : EdgeChange) (kind : List ℕ) (kinds : List (List ℕ)) → AllPairs (λ a b. a ≢ b) kinds → AllPairs (λ a b. a ≢ b) (kinds_made change kind kinds)
+pub AllPairs-kinds_made : (change : EdgeChange) (kind : List ℕ) (kinds : List (List ℕ)) → AllPairs (λ a b. a ≢ b) kinds
+    → AllPairs (λ a b. a ≢ b) (kinds_made change kind kinds)
 AllPairs-kinds_made change kind kinds h =
     elim (makes_names change) as (λ b. AllPairs (λ x y. x ≢ y) (cond b (with_name kinds kind) kinds)) [
       | true ↦ AllPairs-with_name kinds kind h
@@ -110,7 +123,8 @@ pub record IsNamed (n m : ℕ) (key : Key) : Type 0 where
 
 named : (names kinds : List (List ℕ)) (kind source target : List ℕ) →
     let all = with_name (with_name names source) target in
-    IsNamed (length all) (length (with_name kinds kind)) (record { kind = number_of (with_name kinds kind) kind; source = number_of all source; target = number_of all target })
+    IsNamed (length all) (length (with_name kinds kind))
+    (record { kind = number_of (with_name kinds kind) kind; source = number_of all source; target = number_of all target })
 named names kinds kind source target = record {
   kind = number_of-lt _ kind (appears-with_name kinds kind);
   source = number_of-lt _ source (stays-with_name _ target source (appears-with_name names source));
@@ -118,8 +132,10 @@ named names kinds kind source target = record {
 }
 
 -- where a change leaves an edge, its names are there
-pub IsNamed-changed_key : (change : EdgeChange) (kind source target : List ℕ) (g : Graph) (before : Option Stamp) (s : Stamp) → Some s ≡ stamp_after change before
-    → IsNamed (length (names_made change source target g.names)) (length (kinds_made change kind g.kinds)) (changed_key change kind source target g)
+pub IsNamed-changed_key : (change : EdgeChange) (kind source target : List ℕ) (g : Graph) (before : Option Stamp) (s : Stamp)
+    → Some s ≡ stamp_after change before
+    → IsNamed (length (names_made change source target g.names)) (length (kinds_made change kind g.kinds))
+    (changed_key change kind source target g)
 IsNamed-changed_key (ToInsert weight time) kind source target g before s is = named g.names g.kinds kind source target
 IsNamed-changed_key (ToIncr amount time) kind source target g before s is = named g.names g.kinds kind source target
 IsNamed-changed_key ToRemove kind source target g before s is = cc

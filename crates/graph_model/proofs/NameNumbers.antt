@@ -1,5 +1,6 @@
 -- A name's place in a list, and whether it is listed.
-use Rattle.std.proofs.Common.{◌≡◌, ℕ, suc, ◌+◌, ◌<◌, ◌≤◌, Bool, true, false, cond, not, ◌||◌, ltb, List, [], ◌∷◌, ◌++◌, length, Option, Some, None, refl, sym, ap, subst, ◌∙◌, arith}
+use Rattle.std.proofs.Common.{◌≡◌, ℕ, suc, ◌+◌, ◌<◌, ◌≤◌, Bool, true, false, cond, not, ◌||◌, ltb, List, [], ◌∷◌, ◌++◌, length}
+use Rattle.std.proofs.Common.{Option, Some, None, refl, sym, ap, subst, ◌∙◌, arith}
 use Rattle.std.specs.Prelude.{bytes_eq, position, is_some, IfSome}
 use Rattle.std.specs.List.{list_any, position_or_len}
 use Rattle.std.proofs.lemmas.Bool.Decides.{nat_tests}
@@ -25,11 +26,13 @@ pub record IsPlace (names : List (List ℕ)) (name : List ℕ) (place : Option �
   pub listed : is_some place ≡ is_listed names name
   pub number : IfSome place (λ k. k ≡ number_of names name)
 
-pub place_is : (names : List (List ℕ)) (name : List ℕ) (place : Option ℕ) → place ≡ position (bytes_eq name) names → IsPlace names name place
+pub place_is : (names : List (List ℕ)) (name : List ℕ) (place : Option ℕ) → place ≡ position (bytes_eq name) names
+    → IsPlace names name place
 place_is names name place is =
     let p = bytes_eq name in
     subst (IsPlace names name) (sym is) (
-    elim (ltb (position_or_len p names) (length names)) as (λ b. list_any p names ≡ b → IsPlace names name (cond b (Some (position_or_len p names)) None)) [
+    elim (ltb (position_or_len p names) (length names)) as (λ b. list_any p names ≡ b
+    → IsPlace names name (cond b (Some (position_or_len p names)) None)) [
       | true ↦ λ t. record { listed = sym t; number = refl }
       | false ↦ λ t. record { listed = sym t; number = tt }
     ] (any_before_end p names))
@@ -37,14 +40,18 @@ place_is names name place is =
 pub place_none : (names : List (List ℕ)) (name : List ℕ) → None ≡ position (bytes_eq name) names → is_listed names name ≡ false
 place_none names name is = sym (place_is names name None is).listed
 
-pub place_some : (names : List (List ℕ)) (name : List ℕ) (place : ℕ) → Some place ≡ position (bytes_eq name) names → is_listed names name ≡ true
+pub place_some : (names : List (List ℕ)) (name : List ℕ) (place : ℕ) → Some place ≡ position (bytes_eq name) names
+    → is_listed names name ≡ true
 place_some names name place is = sym (place_is names name (Some place) is).listed
 
-pub place_number : (names : List (List ℕ)) (name : List ℕ) (place : ℕ) → Some place ≡ position (bytes_eq name) names → place ≡ number_of names name
+pub place_number : (names : List (List ℕ)) (name : List ℕ) (place : ℕ) → Some place ≡ position (bytes_eq name) names
+    → place ≡ number_of names name
 place_number names name place is = (place_is names name (Some place) is).number
 
-pub place_within : (names : List (List ℕ)) (name : List ℕ) (place : ℕ) → Some place ≡ position (bytes_eq name) names → place < length names
-place_within names name place is = subst (λ k. k < length names) (sym (place_number names name place is)) (number_of-lt names name (place_some names name place is))
+pub place_within : (names : List (List ℕ)) (name : List ℕ) (place : ℕ) → Some place ≡ position (bytes_eq name) names
+    → place < length names
+place_within names name place is = subst (λ k. k < length names) (sym (place_number names name place is))
+    (number_of-lt names name (place_some names name place is))
 
 -- the number of a name that is absent is the one after the last
 number_absent : (names : List (List ℕ)) (name : List ℕ) → is_listed names name ≡ false → number_of names name ≡ length names
@@ -55,7 +62,8 @@ number_absent (x ∷ xs) name h =
       | false ↦ λ t. omega (arith, number_absent xs name t)
     ] h
 
-pub number_none : (names : List (List ℕ)) (name : List ℕ) → None ≡ position (bytes_eq name) names → number_of names name ≡ length names
+pub number_none : (names : List (List ℕ)) (name : List ℕ) → None ≡ position (bytes_eq name) names
+    → number_of names name ≡ length names
 number_none names name is = number_absent names name (place_none names name is)
 
 pub number_at_most : (names : List (List ℕ)) (name : List ℕ) → number_of names name ≤ length names
@@ -67,27 +75,33 @@ number_at_most (x ∷ xs) name =
     ]
 
 -- a name that is listed keeps its number where another is added behind
-number_behind : (names : List (List ℕ)) (name other : List ℕ) → is_listed names name ≡ true → number_of (names ++ other ∷ []) name ≡ number_of names name
+number_behind : (names : List (List ℕ)) (name other : List ℕ) → is_listed names name ≡ true
+    → number_of (names ++ other ∷ []) name ≡ number_of names name
 number_behind [] name other h = absurd (false≢true h)
 number_behind (x ∷ xs) name other h =
-    elim (bytes_eq name x) as (λ b. (b || is_listed xs name) ≡ true → cond (not b) (1 + number_of (xs ++ other ∷ []) name) 0 ≡ cond (not b) (1 + number_of xs name) 0) [
+    elim (bytes_eq name x) as (λ b. (b || is_listed xs name) ≡ true
+    → cond (not b) (1 + number_of (xs ++ other ∷ []) name) 0 ≡ cond (not b) (1 + number_of xs name) 0) [
       | true ↦ λ _. refl
       | false ↦ λ t. ap (λ n. 1 + n) (number_behind xs name other t)
     ] h
 
-number_last : (names : List (List ℕ)) (name : List ℕ) → is_listed names name ≡ false → number_of (names ++ name ∷ []) name ≡ length names
+number_last : (names : List (List ℕ)) (name : List ℕ) → is_listed names name ≡ false
+    → number_of (names ++ name ∷ []) name ≡ length names
 number_last [] name h = ap (λ b. cond (not b) 1 0) (same_bytes name)
 number_last (x ∷ xs) name h =
-    elim (bytes_eq name x) as (λ b. (b || is_listed xs name) ≡ false → cond (not b) (1 + number_of (xs ++ name ∷ []) name) 0 ≡ suc (length xs)) [
+    elim (bytes_eq name x) as (λ b. (b || is_listed xs name) ≡ false
+    → cond (not b) (1 + number_of (xs ++ name ∷ []) name) 0 ≡ suc (length xs)) [
       | true ↦ λ t. absurd (false≢true (sym t))
       | false ↦ λ t. omega (arith, number_last xs name t)
     ] h
 
 -- the number that a name gets that is added behind
-pub number_new : (names : List (List ℕ)) (name : List ℕ) → None ≡ position (bytes_eq name) names → number_of (names ++ name ∷ []) name ≡ length names
+pub number_new : (names : List (List ℕ)) (name : List ℕ) → None ≡ position (bytes_eq name) names
+    → number_of (names ++ name ∷ []) name ≡ length names
 number_new names name is = number_last names name (place_none names name is)
 
-pub number_kept : (names : List (List ℕ)) (source target : List ℕ) → number_of (with_name (with_name names source) target) source ≡ number_of (with_name names source) source
+pub number_kept : (names : List (List ℕ)) (source target : List ℕ)
+    → number_of (with_name (with_name names source) target) source ≡ number_of (with_name names source) source
 number_kept names source target =
     let all = with_name names source in
     elim (is_listed all target) as (λ b. number_of (cond b all (all ++ target ∷ [])) source ≡ number_of all source) [

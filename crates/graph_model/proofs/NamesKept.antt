@@ -13,14 +13,16 @@ use Rattle.graph_model.specs.declared.batches.NamedOp.TheVariants.{Insert, Incr,
 use Rattle.graph_model.specs.declared.changes.EdgeChange.{EdgeChange}
 use Rattle.graph_model.specs.declared.changes.EdgeChange.TheVariants.{Insert as ToInsert, Incr as ToIncr, Remove as ToRemove}
 
-All-with_name : (P : List ℕ → Type 0) (names : List (List ℕ)) (name : List ℕ) → All P names → P name → All P (with_name names name)
+All-with_name : (P : List ℕ → Type 0) (names : List (List ℕ)) (name : List ℕ) → All P names → P name
+    → All P (with_name names name)
 All-with_name P names name all p =
     elim (list_any (bytes_eq name) names) as (λ b. All P (cond b names (names ++ name ∷ []))) [
       | true ↦ all
       | false ↦ All-push P names name all p
     ]
 
-HasNames-changed : (change : EdgeChange) (kind source target : List ℕ) (g : Graph) → IsTrue (are_names kind source target) → HasNames g → HasNames (changed change kind source target g)
+HasNames-changed : (change : EdgeChange) (kind source target : List ℕ) (g : Graph) → IsTrue (are_names kind source target)
+    → HasNames g → HasNames (changed change kind source target g)
 HasNames-changed change kind source target g are has =
     let (first, of_target) = and_parts (is_kind_name kind && is_name source) (is_name target) are in
     let (of_kind, of_source) = and_parts (is_kind_name kind) (is_name source) first in
@@ -38,8 +40,10 @@ HasNames-changed change kind source target g are has =
     }
 
 HasNames-after : (op : NamedOp) (g : Graph) → IsValid op → HasNames g → HasNames (after op g)
-HasNames-after (Insert kind source target weight time) g valid has = HasNames-changed (ToInsert weight time) kind source target g valid.names has
-HasNames-after (Incr kind source target amount time) g valid has = HasNames-changed (ToIncr amount time) kind source target g valid.names has
+HasNames-after (Insert kind source target weight time) g valid has =
+    HasNames-changed (ToInsert weight time) kind source target g valid.names has
+HasNames-after (Incr kind source target amount time) g valid has =
+    HasNames-changed (ToIncr amount time) kind source target g valid.names has
 HasNames-after (Remove kind source target) g valid has = HasNames-changed ToRemove kind source target g valid.names has
 
 HasNames-after_all : (ops : List NamedOp) (g : Graph) → All IsValid ops → HasNames g → HasNames (after_all ops g)
@@ -47,7 +51,8 @@ HasNames-after_all [] g valid has = has
 HasNames-after_all (op ∷ ops) g valid has =
     HasNames-after_all ops (after op g) (All-tail IsValid op ops valid) (HasNames-after op g (All-head IsValid op ops valid) has)
 
-pub HasNames-left_by : (batches : List (List NamedOp)) (g : Graph) → All IsBatch batches → HasNames g → HasNames (left_by batches g)
+pub HasNames-left_by : (batches : List (List NamedOp)) (g : Graph) → All IsBatch batches → HasNames g
+    → HasNames (left_by batches g)
 HasNames-left_by [] g valid has = has
 HasNames-left_by (batch ∷ batches) g valid has =
     HasNames-left_by batches (after_all batch g) (All-tail IsBatch batch batches valid)

@@ -8,9 +8,11 @@ use Rattle.graph_model.specs.Tables.{HasOneTable}
 use Rattle.graph_model.specs.declared.ids.Filter.{Filter}
 
 -- where each vertex has at most one value, there is at most one table
-same_table : {X : Type 0} (Is : ℕ → X → Type 0) → ((v : ℕ) (x y : X) → Is v x → Is v y → x ≡ y) → (n : ℕ) (a b : List X) → IsTable n Is a → IsTable n Is b → a ≡ b
+same_table : {X : Type 0} (Is : ℕ → X → Type 0) → ((v : ℕ) (x y : X) → Is v x → Is v y → x ≡ y) → (n : ℕ) (a b : List X)
+    → IsTable n Is a → IsTable n Is b → a ≡ b
 same_table Is one n a b p q = same_lists a b (p.one_each ∙ sym q.one_each) (λ k d h.
-    one k (get_or a k d) (get_or b k d) (p.each k (get_or a k d) (slice_get-get_or a k d h)) (q.each k (get_or b k d) (slice_get-get_or b k d (omega (arith, p.one_each, q.one_each)))))
+    one k (get_or a k d) (get_or b k d) (p.each k (get_or a k d) (slice_get-get_or a k d h))
+    (q.each k (get_or b k d) (slice_get-get_or b k d (omega (arith, p.one_each, q.one_each)))))
 
 one_level : (f : Filter) (g : Graph) (source v : ℕ) (x y : Option ℕ) → IsLevel f g source v x → IsLevel f g source v y → x ≡ y
 one_level f g source v None None p q = refl

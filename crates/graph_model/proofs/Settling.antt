@@ -1,11 +1,13 @@
 -- Numbers that are lowered along arcs until none is left to lower: what they are then, and that they come to it.
-use Rattle.std.proofs.Common.{◌≡◌, ◌≢◌, ℕ, zero, suc, ◌+◌, ◌*◌, ◌<◌, ◌≤◌, arith, refl, sym, ap, ◌∙◌, subst, ◌⊎◌, inl, inr, List, [], ◌∷◌, length, set, Some, None, cond, true, false}
+use Rattle.std.proofs.Common.{◌≡◌, ◌≢◌, ℕ, zero, suc, ◌+◌, ◌*◌, ◌<◌, ◌≤◌, arith, refl, sym, ap, ◌∙◌, subst, ◌⊎◌, inl, inr, List}
+use Rattle.std.proofs.Common.{[], ◌∷◌, length, set, Some, None, cond, true, false}
 use Rattle.std.specs.Prelude.{AllPairs, sum, replicate, nat_lt, map}
 use Rattle.std.specs.List.{Contains, range_with_len}
 use Rattle.std.proofs.lemmas.Bool.{cases_eq, cases_lt}
 use Rattle.std.proofs.lemmas.Bool.Decides.{nat_tests}
 use Rattle.std.proofs.lemmas.Option.{get_or_from_slice_get, slice_get_within}
-use Rattle.std.proofs.lemmas.List.{get_or-set_same, get_or-set_other, length-set, get_or-map, length-map, length-replicate, get_or-replicate, get_or_past, get_or_default}
+use Rattle.std.proofs.lemmas.List.{get_or-set_same, get_or-set_other, length-set, get_or-map, length-map, length-replicate}
+use Rattle.std.proofs.lemmas.List.{get_or-replicate, get_or_past, get_or_default}
 use Rattle.std.proofs.lemmas.List.Sums.{sum_by-set}
 use Rattle.std.proofs.lemmas.List.Elements.{All-cons, All-nil, All-contains}
 use Rattle.std.proofs.lemmas.List.FromFn.{length-range_with_len, get_or-range_with_len}
@@ -28,17 +30,20 @@ unit_more : (n step : ℕ) → suc n * step ≡ n * step + step
 unit_more n step = omega arith
 
 -- one number is lowered along one arc
-pub lowered_more : (arcs : List (ℕ × ℕ)) (step : ℕ) (first numbers : List ℕ) (a b : ℕ) → AreWithin (length first) arcs → IsLowered arcs step first numbers
+pub lowered_more : (arcs : List (ℕ × ℕ)) (step : ℕ) (first numbers : List ℕ) (a b : ℕ) → AreWithin (length first) arcs
+    → IsLowered arcs step first numbers
     → Arc arcs a b → at numbers a + step < at numbers b → IsLowered arcs step first (set numbers b (at numbers a + step))
 lowered_more arcs step first numbers a b within l arc less =
     let ends = All-contains (λ (e : ℕ × ℕ). (e.0 < length first) × (e.1 < length first)) arcs (a, b) within arc in
     let long = l.size in
-    let same : at (set numbers b (at numbers a + step)) b ≡ at numbers a + step = get_or-set_same numbers b (at numbers a + step) 0 (let e = ends.1 in omega arith) in
+    let same : at (set numbers b (at numbers a + step)) b ≡ at numbers a + step =
+    get_or-set_same numbers b (at numbers a + step) 0 (let e = ends.1 in omega arith) in
     record {
       size = length-set numbers b (at numbers a + step) ∙ l.size;
       below = λ v. elim (cases_eq v b) [
         | inl e ↦
-            let here : at (set numbers b (at numbers a + step)) v ≡ at numbers a + step = ap (at (set numbers b (at numbers a + step))) e ∙ same in
+            let here : at (set numbers b (at numbers a + step)) v ≡ at numbers a + step =
+            ap (at (set numbers b (at numbers a + step))) e ∙ same in
             let there : at first v ≡ at first b = ap (at first) e in
             let old = l.below b in
             omega arith
@@ -46,7 +51,8 @@ lowered_more arcs step first numbers a b within l arc less =
       ];
       walked = λ v h. elim (cases_eq v b) [
         | inl e ↦
-            let here : at (set numbers b (at numbers a + step)) v ≡ at numbers a + step = ap (at (set numbers b (at numbers a + step))) e ∙ same in
+            let here : at (set numbers b (at numbers a + step)) v ≡ at numbers a + step =
+            ap (at (set numbers b (at numbers a + step))) e ∙ same in
             let r = l.walked a ends.0 in
             let is = r.4 in
             let one = unit_more r.1 step in
@@ -60,11 +66,14 @@ lowered_more arcs step first numbers a b within l arc less =
     }
 
 -- and their sum falls
-pub sum_falls : (numbers : List ℕ) (b less : ℕ) → b < length numbers → less < at numbers b → sum (set numbers b less) < sum numbers
-sum_falls numbers b less h lt = let e : sum (set numbers b less) + at numbers b ≡ sum numbers + less = sum_by-set (λ x. x) numbers b less 0 h in omega arith
+pub sum_falls : (numbers : List ℕ) (b less : ℕ) → b < length numbers → less < at numbers b
+    → sum (set numbers b less) < sum numbers
+sum_falls numbers b less h lt = let e : sum (set numbers b less) + at numbers b ≡ sum numbers + less =
+    sum_by-set (λ x. x) numbers b less 0 h in omega arith
 
 -- no number is left to lower, or one is
-look : (arcs : List (ℕ × ℕ)) (step : ℕ) (numbers : List ℕ) → IsClosed arcs step numbers ⊎ ((a : ℕ) × (b : ℕ) × Arc arcs a b × (at numbers a + step < at numbers b))
+look : (arcs : List (ℕ × ℕ)) (step : ℕ) (numbers : List ℕ)
+    → IsClosed arcs step numbers ⊎ ((a : ℕ) × (b : ℕ) × Arc arcs a b × (at numbers a + step < at numbers b))
 look [] step numbers = inl (All-nil (λ arc. at numbers arc.1 ≤ at numbers arc.0 + step))
 look (e ∷ arcs) step numbers = elim (cases_lt (at numbers e.0 + step) (at numbers e.1)) [
   | inl lt ↦ inr (e.0, e.1, Contains-first e arcs (e.0, e.1) refl, lt)
@@ -74,7 +83,8 @@ look (e ∷ arcs) step numbers = elim (cases_lt (at numbers e.0 + step) (at numb
   ]
 ]
 
-settle_from : (arcs : List (ℕ × ℕ)) (step : ℕ) (first : List ℕ) → AreWithin (length first) arcs → (k : ℕ) (numbers : List ℕ) → sum numbers ≤ k → IsLowered arcs step first numbers
+settle_from : (arcs : List (ℕ × ℕ)) (step : ℕ) (first : List ℕ) → AreWithin (length first) arcs → (k : ℕ) (numbers : List ℕ)
+    → sum numbers ≤ k → IsLowered arcs step first numbers
     → (r : List ℕ) × IsLowered arcs step first r × IsClosed arcs step r
 settle_from arcs step first within zero numbers few l = elim (look arcs step numbers) [
   | inl closed ↦ (numbers, l, closed)
@@ -90,19 +100,24 @@ settle_from arcs step first within (suc k) numbers few l = elim (look arcs step 
       let ends = All-contains (λ (e : ℕ × ℕ). (e.0 < length first) × (e.1 < length first)) arcs (r.0, r.1) within r.2 in
       let long = l.size in
       let falls = sum_falls numbers r.1 (at numbers r.0 + step) (let e = ends.1 in omega arith) r.3 in
-      settle_from arcs step first within k (set numbers r.1 (at numbers r.0 + step)) (omega arith) (lowered_more arcs step first numbers r.0 r.1 within l r.2 r.3)
+      settle_from arcs step first within k (set numbers r.1 (at numbers r.0 + step)) (omega arith)
+      (lowered_more arcs step first numbers r.0 r.1 within l r.2 r.3)
 ]
 
 -- from any numbers at the vertices there is an end of it
-pub some_settled : (arcs : List (ℕ × ℕ)) (step : ℕ) (first : List ℕ) → AreWithin (length first) arcs → (r : List ℕ) × IsLowered arcs step first r × IsClosed arcs step r
-some_settled arcs step first within = settle_from arcs step first within (sum first) first (omega arith) (lowered_start arcs step first)
+pub some_settled : (arcs : List (ℕ × ℕ)) (step : ℕ) (first : List ℕ) → AreWithin (length first) arcs
+    → (r : List ℕ) × IsLowered arcs step first r × IsClosed arcs step r
+some_settled arcs step first within = settle_from arcs step first within (sum first) first (omega arith)
+    (lowered_start arcs step first)
 
 -- a walk takes a number up by a step for each arc at most
-along : (arcs : List (ℕ × ℕ)) (step : ℕ) (numbers : List ℕ) → IsClosed arcs step numbers → (a b n : ℕ) → Walk (Arc arcs) a b n → at numbers b ≤ at numbers a + n * step
+along : (arcs : List (ℕ × ℕ)) (step : ℕ) (numbers : List ℕ) → IsClosed arcs step numbers → (a b n : ℕ) → Walk (Arc arcs) a b n
+    → at numbers b ≤ at numbers a + n * step
 along arcs step numbers closed a b zero w = let e : at numbers a ≡ at numbers b = ap (at numbers) w in omega arith
 along arcs step numbers closed a b (suc n) w =
     let before = along arcs step numbers closed a w.0 n w.1 in
-    let here : at numbers b ≤ at numbers w.0 + step = All-contains (λ (e : ℕ × ℕ). at numbers e.1 ≤ at numbers e.0 + step) arcs (w.0, b) closed w.2 in
+    let here : at numbers b ≤ at numbers w.0 + step =
+    All-contains (λ (e : ℕ × ℕ). at numbers e.1 ≤ at numbers e.0 + step) arcs (w.0, b) closed w.2 in
     let one = unit_more n step in
     omega arith
 
@@ -110,8 +125,10 @@ pub level_start_long : (n source : ℕ) → length (level_start n source) ≡ n
 level_start_long n source = length-set (replicate n n) source 0 ∙ length-replicate n n
 
 -- The levels: from n at all vertices but 0 at the source, by steps of 1.
-module _ (f : Filter) (g : Graph) (source : ℕ) (arcs : List (ℕ × ℕ)) (n : ℕ) (numbers : List ℕ) (leads : (a b : ℕ) → LeadsTo f g a b → Arc arcs a b)
-    (led : (a b : ℕ) → Arc arcs a b → LeadsTo f g a b) (within : AreWithin n arcs) (vertex : source < n) (l : IsLowered arcs 1 (level_start n source) numbers) (closed : IsClosed arcs 1 numbers) where
+module _ (f : Filter) (g : Graph) (source : ℕ) (arcs : List (ℕ × ℕ)) (n : ℕ) (numbers : List ℕ) (leads : (a b : ℕ)
+    → LeadsTo f g a b → Arc arcs a b)
+    (led : (a b : ℕ) → Arc arcs a b → LeadsTo f g a b) (within : AreWithin n arcs) (vertex : source < n)
+    (l : IsLowered arcs 1 (level_start n source) numbers) (closed : IsClosed arcs 1 numbers) where
   first_source : at (level_start n source) source ≡ 0
   first_source = get_or-set_same (replicate n n) source 0 0 (let e = length-replicate n n in omega arith)
 
@@ -134,7 +151,8 @@ module _ (f : Filter) (g : Graph) (source : ℕ) (arcs : List (ℕ × ℕ)) (n :
       (source, omega arith, get_or_default numbers source j 0 (omega arith) ∙ omega arith)
   climb (suc k) v w j le =
       let ends = All-contains (λ (e : ℕ × ℕ). (e.0 < n) × (e.1 < n)) arcs (w.0, v) within w.2 in
-      let here : at numbers v ≤ at numbers w.0 + 1 = All-contains (λ (e : ℕ × ℕ). at numbers e.1 ≤ at numbers e.0 + 1) arcs (w.0, v) closed w.2 in
+      let here : at numbers v ≤ at numbers w.0 + 1 =
+      All-contains (λ (e : ℕ × ℕ). at numbers e.1 ≤ at numbers e.0 + 1) arcs (w.0, v) closed w.2 in
       let long = l.size ∙ (level_start_long n source) in
       elim (cases_lt j (at numbers v)) [
         | inl lt ↦ climb k w.0 w.1 j (omega arith)
@@ -168,16 +186,20 @@ module _ (f : Filter) (g : Graph) (source : ℕ) (arcs : List (ℕ × ℕ)) (n :
         | inl e ↦
             let z = first_source in
             let start : at (level_start n source) r.0 ≡ at (level_start n source) source = ap (at (level_start n source)) e in
-            let same : r.1 ≡ at numbers v = omega arith in
-            (walk_map (Arc arcs) (LeadsTo f g) led source v (at numbers v) (subst (λ k. Walk (Arc arcs) source v k) same (subst (λ u. Walk (Arc arcs) u v r.1) e r.3)), steps v)
+            let same : r.1 ≡ at numbers v = omega arith in (
+              walk_map (Arc arcs) (LeadsTo f g) led source v (at numbers v)
+                  (subst (λ k. Walk (Arc arcs) source v k) same (subst (λ u. Walk (Arc arcs) u v r.1) e r.3)),
+              steps v,
+            )
         | inr ne ↦ let far = first_other r.0 (omega arith) ne in absurd (omega arith)
       ]
 
   level_at : (v : ℕ) → v < n → IsLevel f g source v (level_of n (at numbers v))
-  level_at v lt = elim (nat_lt (at numbers v) n) as (λ b. nat_lt (at numbers v) n ≡ b → IsLevel f g source v (cond b (Some (at numbers v)) None)) [
-    | true ↦ λ e. near v lt (grind (arith, nat_tests))
-    | false ↦ λ e. far v (grind (arith, nat_tests))
-  ] refl
+  level_at v lt = elim (nat_lt (at numbers v) n) as (λ b. nat_lt (at numbers v) n ≡ b
+      → IsLevel f g source v (cond b (Some (at numbers v)) None)) [
+        | true ↦ λ e. near v lt (grind (arith, nat_tests))
+        | false ↦ λ e. far v (grind (arith, nat_tests))
+      ] refl
 
   pub settled_levels : IsTable n (IsLevel f g source) (map (level_of n) numbers)
   settled_levels =
@@ -187,12 +209,15 @@ module _ (f : Filter) (g : Graph) (source : ℕ) (arcs : List (ℕ × ℕ)) (n :
         each = λ v x is.
             let h = slice_get_within (map (level_of n) numbers) v x is in
             let m = length-map numbers (level_of n) in
-            subst (IsLevel f g source v) (sym (get_or-map (level_of n) numbers v 0 x (omega arith)) ∙ get_or_from_slice_get (map (level_of n) numbers) v x x is) (level_at v (omega arith));
+            subst (IsLevel f g source v) (sym (get_or-map (level_of n) numbers v 0 x (omega arith))
+            ∙ get_or_from_slice_get (map (level_of n) numbers) v x x is) (level_at v (omega arith));
       }
 
 -- The labels: from each vertex's own number, by steps of 0, both ways along each edge.
-module _ (f : Filter) (g : Graph) (arcs : List (ℕ × ℕ)) (n : ℕ) (numbers : List ℕ) (joins : (a b : ℕ) → Joins f g a b → Arc arcs a b)
-    (joined : (a b : ℕ) → Arc arcs a b → Joins f g a b) (l : IsLowered arcs 0 (range_with_len 0 n) numbers) (closed : IsClosed arcs 0 numbers) where
+module _ (f : Filter) (g : Graph) (arcs : List (ℕ × ℕ)) (n : ℕ) (numbers : List ℕ) (joins : (a b : ℕ) → Joins f g a b
+    → Arc arcs a b)
+    (joined : (a b : ℕ) → Arc arcs a b → Joins f g a b) (l : IsLowered arcs 0 (range_with_len 0 n) numbers)
+    (closed : IsClosed arcs 0 numbers) where
   own : (u : ℕ) → u < n → at (range_with_len 0 n) u ≡ u
   own u lt = let e = get_or-range_with_len 0 n u 0 lt in omega arith
 

@@ -9,7 +9,8 @@ pub walk_map : (P Q : ℕ → ℕ → Type 0) → ((a b : ℕ) → P a b → Q a
 walk_map P Q h a b zero w = w
 walk_map P Q h a b (suc n) w = (w.0, walk_map P Q h a w.0 n w.1, h w.0 b w.2)
 
-joined : (P : ℕ → ℕ → Type 0) (m n a b c : ℕ) → Walk P a b m → Walk P b c n → (k : ℕ) × Walk P a c k
+-- a walk, and one from where it ends
+pub joined : (P : ℕ → ℕ → Type 0) (m n a b c : ℕ) → Walk P a b m → Walk P b c n → (k : ℕ) × Walk P a c k
 joined P m zero a b c p q = (m, subst (λ x. Walk P a x m) q p)
 joined P m (suc n) a b c p q = let r = joined P m n a b q.0 p q.1 in (suc r.0, (q.0, r.1, q.2))
 

@@ -1,5 +1,6 @@
 -- The answer to a request.
-use Rattle.std.specs.Prelude.{◌≡◌, ℕ, ℤ, List, length, map, zip, slice_index_or, [], nat_lt, Bool, true, false, bytes_eq, Result, Ok, Err, not, ◌&&◌}
+use Rattle.std.specs.Prelude.{◌≡◌, ℕ, ℤ, List, length, map, zip, slice_index_or, [], nat_lt, Bool, true, false, bytes_eq, Result}
+use Rattle.std.specs.Prelude.{Ok, Err, not, ◌&&◌}
 use Rattle.std.specs.List.{list_any, range_with_len, filter_map}
 use Rattle.std.specs.Option.{option_map}
 use Rattle.std.specs.FinMap.{get}
@@ -13,7 +14,8 @@ use Rattle.graph_model.specs.declared.ids.Filter.{Filter}
 use Rattle.graph_model.specs.declared.ids.Degree.{Degree}
 use Rattle.graph_model.specs.declared.requests.NamedFilter.{NamedFilter}
 use Rattle.graph_model.specs.declared.requests.Request.{Request}
-use Rattle.graph_model.specs.declared.requests.Request.TheVariants.{Levels as AskLevels, Labels as AskLabels, Cores as AskCores, Degrees as AskDegrees, OneEdge as AskOneEdge}
+use Rattle.graph_model.specs.declared.requests.Request.TheVariants.{Levels as AskLevels, Labels as AskLabels, Cores as AskCores}
+use Rattle.graph_model.specs.declared.requests.Request.TheVariants.{Degrees as AskDegrees, OneEdge as AskOneEdge}
 use Rattle.graph_model.specs.declared.requests.Reply.{Reply}
 use Rattle.graph_model.specs.declared.requests.Reply.TheVariants.{Levels, Labels, Cores, Degrees, OneEdge}
 use Rattle.graph_model.specs.declared.requests.AskError.{AskError}
@@ -46,7 +48,8 @@ refusal (AskLevels source filter) g = filter_refusal g filter (is_listed g.names
 refusal (AskLabels filter) g = filter_refusal g filter true
 refusal (AskCores filter) g = filter_refusal g filter true
 refusal (AskDegrees filter) g = filter_refusal g filter true
-refusal (AskOneEdge kind source target) g = first_refusal true (is_listed g.kinds kind) (is_listed g.names source && is_listed g.names target)
+refusal (AskOneEdge kind source target) g =
+    first_refusal true (is_listed g.kinds kind) (is_listed g.names source && is_listed g.names target)
 
 -- weight, first time and recent time
 abbrev pub shown : Stamp → ℤ × ℕ × ℕ
@@ -73,13 +76,15 @@ names_of names vertices = map (λ v. slice_index_or names v []) vertices
 -- a reply to a request that is not refused
 abbrev pub IsReply : Request → Graph → Reply → Type 0
 IsReply (AskLevels source filter) g reply =
-    (levels : List (Option ℕ)) × AreLevels (resolved g filter) g (number_of g.names source) levels × (reply ≡ Levels (reached g.names levels))
+    (levels : List (Option ℕ)) × AreLevels (resolved g filter) g (number_of g.names source) levels
+    × (reply ≡ Levels (reached g.names levels))
 IsReply (AskLabels filter) g reply =
     (labels : List ℕ) × AreLabels (resolved g filter) g labels × (reply ≡ Labels (zip g.names (names_of g.names labels)))
 IsReply (AskCores filter) g reply =
     (numbers : List ℕ) × AreCoreNumbers (resolved g filter) g numbers × (reply ≡ Cores (zip g.names numbers))
 IsReply (AskDegrees filter) g reply = reply ≡ Degrees (zip g.names (degree_table (resolved g filter) g))
-IsReply (AskOneEdge kind source target) g reply = reply ≡ OneEdge (option_map shown (get g.edges (key_in g.names g.kinds kind source target)))
+IsReply (AskOneEdge kind source target) g reply =
+    reply ≡ OneEdge (option_map shown (get g.edges (key_in g.names g.kinds kind source target)))
 
 -- the answer: the first refusal that holds, or else a reply
 abbrev pub IsAnswer : Request → Graph → Result Reply AskError → Type 0

@@ -1,6 +1,7 @@
 -- The arcs of a view, and numbers at vertices that are lowered along arcs or by want of neighbors: the words of the
 -- slow forms of levels, labels and core numbers, by which each content is shown to have them.
-use Rattle.std.specs.Prelude.{◌≡◌, ◌≢◌, ℕ, ◌+◌, ◌*◌, ◌<◌, ◌≤◌, ◌↔◌, nat_le, nat_lt, cond, List, ◌++◌, length, map, filter, replicate, slice_index_or, slice_set, count_by, All, AllPairs}
+use Rattle.std.specs.Prelude.{◌≡◌, ◌≢◌, ℕ, ◌+◌, ◌*◌, ◌<◌, ◌≤◌, ◌↔◌, nat_le, nat_lt, cond, List, ◌++◌, length, map, filter}
+use Rattle.std.specs.Prelude.{replicate, slice_index_or, slice_set, count_by, All, AllPairs}
 use Rattle.std.specs.List.{Contains}
 use Rattle.std.specs.declared.option.Option.{Option}
 use Rattle.std.specs.declared.option.Option.TheVariants.{None, Some}

@@ -1,5 +1,6 @@
 -- Degrees over a plain list of edges, and a table of them.
-use Rattle.std.specs.Prelude.{◌≡◌, ℕ, ◌+◌, ◌<◌, ◌≤◌, ◌^◌, pos, nat_abs, ◌+ℤ◌, ◌==◌, cond, List, map, filter, count_by, fold, length, slice_index_or}
+use Rattle.std.specs.Prelude.{◌≡◌, ℕ, ◌+◌, ◌<◌, ◌≤◌, ◌^◌, pos, nat_abs, ◌+ℤ◌, ◌==◌, cond, List, map, filter, count_by, fold}
+use Rattle.std.specs.Prelude.{length, slice_index_or}
 use Rattle.graph_model.specs.Graph.{entry_of}
 use Rattle.graph_model.specs.View.{leaves, enters}
 use Rattle.graph_model.specs.declared.ids.Degree.{Degree}

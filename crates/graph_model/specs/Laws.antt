@@ -47,4 +47,5 @@ KeepsNames = (batches : List (List NamedOp)) (g : Graph) → All IsBatch batches
 
 -- an edge that stays keeps the time of its first insertion
 abbrev pub KeepsFirstTime : Type 0
-KeepsFirstTime = (change : EdgeChange) (before after : Stamp) → stamp_after change (Some before) ≡ Some after → after.first ≡ before.first
+KeepsFirstTime = (change : EdgeChange) (before after : Stamp) → stamp_after change (Some before) ≡ Some after
+    → after.first ≡ before.first

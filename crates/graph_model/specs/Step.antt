@@ -62,10 +62,12 @@ kinds_made change kind kinds = if makes_names change then with_name kinds kind e
 
 -- the key of the edge of this kind between these vertices, by these lists of names and kinds
 abbrev pub key_in : List (List ℕ) → List (List ℕ) → List ℕ → List ℕ → List ℕ → Key
-key_in names kinds kind source target = record { kind = number_of kinds kind; source = number_of names source; target = number_of names target }
+key_in names kinds kind source target =
+    record { kind = number_of kinds kind; source = number_of names source; target = number_of names target }
 
 abbrev pub changed_key : EdgeChange → List ℕ → List ℕ → List ℕ → Graph → Key
-changed_key change kind source target g = key_in (names_made change source target g.names) (kinds_made change kind g.kinds) kind source target
+changed_key change kind source target g =
+    key_in (names_made change source target g.names) (kinds_made change kind g.kinds) kind source target
 
 abbrev pub changed : EdgeChange → List ℕ → List ℕ → List ℕ → Graph → Graph
 changed change kind source target g =

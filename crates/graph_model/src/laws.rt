@@ -1,6 +1,7 @@
 //! Laws about the definitions, as contracts of functions that do nothing.
 
-ghost use Rattle.graph_model.specs.Laws.{HasOneAnswer, HasSomeAnswer, IsFreeOfEdgeOrder, KeepsFirstTime, KeepsNames, MeetsNoLimit};
+ghost use Rattle.graph_model.specs.Laws.{HasOneAnswer, HasSomeAnswer, IsFreeOfEdgeOrder, KeepsFirstTime, KeepsNames};
+ghost use Rattle.graph_model.specs.Laws.{MeetsNoLimit};
 
 /// A request has one answer over a graph: contents of equal graphs give equal answers, refusals included.
 pub fn law_one_answer()

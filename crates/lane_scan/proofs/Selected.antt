@@ -1,5 +1,6 @@
 -- The items at the places in a mask, one place more at a time.
-use Rattle.std.proofs.Common.{◌≡◌, ℕ, suc, ◌+◌, ◌<◌, ◌≤◌, Bool, true, false, List, [], ◌∷◌, ◌++◌, length, get_or, take, refl, ap, arith, min, max, zero, inl, inr}
+use Rattle.std.proofs.Common.{◌≡◌, ℕ, suc, ◌+◌, ◌<◌, ◌≤◌, Bool, true, false, List, [], ◌∷◌, ◌++◌, length, get_or, take, refl, ap}
+use Rattle.std.proofs.Common.{arith, min, max, zero, inl, inr}
 use Rattle.std.specs.Prelude.{if◌then◌else◌, All, Contains}
 use Rattle.std.specs.declared.option.Option.TheVariants.{None, Some}
 use Rattle.std.specs.Int.{bit_at}
@@ -29,7 +30,8 @@ selected_from_push mask place (y ∷ xs) x n e set =
     push_after _ y x _ _ (selected_from_push mask (place + 1) xs x n (omega arith) set)
 
 -- one more item at the end, at a place outside of the mask
-pub selected_from_pass : {X : Type 0} (mask place : ℕ) (xs : List X) (x : X) (n : ℕ) → place + length xs ≡ n → (InMask mask n → ⊥) →
+pub selected_from_pass : {X : Type 0} (mask place : ℕ) (xs : List X) (x : X) (n : ℕ) → place + length xs ≡ n → (InMask mask n → ⊥)
+    →
     selected_from mask place (xs ++ x ∷ []) ≡ selected_from mask place xs
 selected_from_pass mask place [] x n e clear =
     let here : place ≡ n = omega arith in
@@ -47,14 +49,16 @@ pub selected_more_out : {X : Type 0} (mask : ℕ) (xs : List X) (i : ℕ) → i 
     selected mask (take (i + 1) xs) ≡ selected mask (take i xs)
 selected_more_out mask [] i within clear = absurd (omega arith)
 selected_more_out mask (x ∷ xs) i within clear =
-    rw (take_more (x ∷ xs) i x within) (selected_from_pass mask 0 (take i (x ∷ xs)) (get_or (x ∷ xs) i x) i (omega (arith, length-take i (x ∷ xs))) clear)
+    rw (take_more (x ∷ xs) i x within) (selected_from_pass mask 0 (take i (x ∷ xs)) (get_or (x ∷ xs) i x) i
+    (omega (arith, length-take i (x ∷ xs))) clear)
 
 contains_after : {X : Type 0} (b : Bool) (y : X) (xs : List X) (x : X) → Contains xs x → Contains (if b then y ∷ xs else xs) x
 contains_after true y xs x (k, within, is) = (suc k, omega arith, is)
 contains_after false y xs x there = there
 
 -- the item at a place in the mask is selected
-pub selected_from_contains : {X : Type 0} (mask place : ℕ) (xs : List X) (i : ℕ) (d : X) (n : ℕ) → i < length xs → place + i ≡ n → InMask mask n →
+pub selected_from_contains : {X : Type 0} (mask place : ℕ) (xs : List X) (i : ℕ) (d : X) (n : ℕ) → i < length xs → place + i ≡ n
+    → InMask mask n →
     Contains (selected_from mask place xs) (get_or xs i d)
 selected_from_contains mask place [] i d n within e set = absurd (omega arith)
 selected_from_contains mask place (x ∷ xs) zero d n within e set =
@@ -64,7 +68,8 @@ selected_from_contains mask place (x ∷ xs) (suc i) d n within e set =
     contains_after _ x _ _ (selected_from_contains mask (place + 1) xs i d n (omega arith) (omega arith) set)
 
 -- a fact of all selected items, at a place in the mask
-pub All-selected_at : {X : Type 0} (P : X → Type 0) (mask : ℕ) (xs : List X) (i : ℕ) (d : X) → All P (selected mask xs) → i < length xs → InMask mask i →
+pub All-selected_at : {X : Type 0} (P : X → Type 0) (mask : ℕ) (xs : List X) (i : ℕ) (d : X) → All P (selected mask xs)
+    → i < length xs → InMask mask i →
     P (get_or xs i d)
 All-selected_at P mask xs i d all within set =
     All-contains P (selected mask xs) (get_or xs i d) all (selected_from_contains mask 0 xs i d i within (omega arith) set)
@@ -79,19 +84,23 @@ least_stays values time least h le = record {
 least_falls : (values : List ℕ) (time least : ℕ) → IsLeastOf values least → time ≤ least → IsLeastOf (values ++ time ∷ []) time
 least_falls values time least h le = record {
   reached = Contains-push values time;
-  bound = All-push (λ value. time ≤ value) values time (All-weaker (λ value. least ≤ value) (λ value. time ≤ value) (λ value above. omega arith) values h.bound) (omega arith);
+  bound = All-push (λ value. time ≤ value) values time
+      (All-weaker (λ value. least ≤ value) (λ value. time ≤ value) (λ value above. omega arith) values h.bound) (omega arith);
 }
 
-greatest_stays : (values : List ℕ) (time greatest : ℕ) → IsGreatestOf values greatest → time ≤ greatest → IsGreatestOf (values ++ time ∷ []) greatest
+greatest_stays : (values : List ℕ) (time greatest : ℕ) → IsGreatestOf values greatest → time ≤ greatest
+    → IsGreatestOf (values ++ time ∷ []) greatest
 greatest_stays values time greatest h le = record {
   reached = Contains-append_left values (time ∷ []) greatest h.reached;
   bound = All-push (λ value. value ≤ greatest) values time h.bound le;
 }
 
-greatest_rises : (values : List ℕ) (time greatest : ℕ) → IsGreatestOf values greatest → greatest ≤ time → IsGreatestOf (values ++ time ∷ []) time
+greatest_rises : (values : List ℕ) (time greatest : ℕ) → IsGreatestOf values greatest → greatest ≤ time
+    → IsGreatestOf (values ++ time ∷ []) time
 greatest_rises values time greatest h le = record {
   reached = Contains-push values time;
-  bound = All-push (λ value. value ≤ time) values time (All-weaker (λ value. value ≤ greatest) (λ value. value ≤ time) (λ value below. omega arith) values h.bound) (omega arith);
+  bound = All-push (λ value. value ≤ time) values time
+      (All-weaker (λ value. value ≤ greatest) (λ value. value ≤ time) (λ value below. omega arith) values h.bound) (omega arith);
 }
 
 least_push : (values : List ℕ) (time least : ℕ) → IsLeastOf values least → IsLeastOf (values ++ time ∷ []) (min least time)
@@ -101,7 +110,8 @@ least_push values time least h =
       | inr le ↦ (let e : min least time ≡ least = omega arith in rw e (least_stays values time least h le))
     ]
 
-greatest_push : (values : List ℕ) (time greatest : ℕ) → IsGreatestOf values greatest → IsGreatestOf (values ++ time ∷ []) (max greatest time)
+greatest_push : (values : List ℕ) (time greatest : ℕ) → IsGreatestOf values greatest
+    → IsGreatestOf (values ++ time ∷ []) (max greatest time)
 greatest_push values time greatest h =
     elim (cases_lt greatest time) [
       | inl lt ↦ (let e : max greatest time ≡ time = omega arith in rw e (greatest_rises values time greatest h (omega arith)))
@@ -109,13 +119,21 @@ greatest_push values time greatest h =
     ]
 
 -- the bounds with one more value
-pub bounds_push : (values : List ℕ) (time least greatest m n : ℕ) → m ≡ min least time → n ≡ max greatest time → AreBoundsOf values (Some (least, greatest)) →
+pub bounds_push : (values : List ℕ) (time least greatest m n : ℕ) → m ≡ min least time → n ≡ max greatest time
+    → AreBoundsOf values (Some (least, greatest)) →
     AreBoundsOf (values ++ time ∷ []) (Some (m, n))
-bounds_push values time least greatest m n e f h = rw (e, f) (least_push values time least h.0, greatest_push values time greatest h.1)
+bounds_push values time least greatest m n e f h =
+    rw (e, f) (least_push values time least h.0, greatest_push values time greatest h.1)
 
 -- the bounds of one value
 pub bounds_of_one : (values : List ℕ) (time : ℕ) → AreBoundsOf values None → AreBoundsOf (values ++ time ∷ []) (Some (time, time))
 bounds_of_one values time e = rw e (
-  record { reached = (0, omega arith, refl); bound = All-push (λ value. time ≤ value) [] time (λ k d within. absurd (omega arith)) (omega arith) },
-  record { reached = (0, omega arith, refl); bound = All-push (λ value. value ≤ time) [] time (λ k d within. absurd (omega arith)) (omega arith) },
+  record {
+    reached = (0, omega arith, refl);
+    bound = All-push (λ value. time ≤ value) [] time (λ k d within. absurd (omega arith)) (omega arith);
+  },
+  record {
+    reached = (0, omega arith, refl);
+    bound = All-push (λ value. value ≤ time) [] time (λ k d within. absurd (omega arith)) (omega arith);
+  },
 )

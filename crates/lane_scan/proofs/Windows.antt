@@ -12,7 +12,8 @@ pub record IsJudged (times : List ℕ) (live lo hi mask next : ℕ) : Type 0 whe
   pub above : (place : ℕ) → next ≤ place → InMask mask place → ⊥
 
 -- the next place is within the window, and is set
-pub judged_in : (times : List ℕ) (live lo hi mask next : ℕ) → IsJudged times live lo hi mask next → next < 32 → IsPlaceWithin times live lo hi next →
+pub judged_in : (times : List ℕ) (live lo hi mask next : ℕ) → IsJudged times live lo hi mask next → next < 32
+    → IsPlaceWithin times live lo hi next →
     IsJudged times live lo hi (bit_or mask (1 * 2 ^ next % 2 ^ 32)) (next + 1)
 judged_in times live lo hi mask next h few in' = record {
   below = λ place within. elim (cases_eq place next) [
@@ -24,7 +25,8 @@ judged_in times live lo hi mask next h few in' = record {
 }
 
 -- the next place is not
-pub judged_out : (times : List ℕ) (live lo hi mask next : ℕ) → IsJudged times live lo hi mask next → (IsPlaceWithin times live lo hi next → ⊥) →
+pub judged_out : (times : List ℕ) (live lo hi mask next : ℕ) → IsJudged times live lo hi mask next
+    → (IsPlaceWithin times live lo hi next → ⊥) →
     IsJudged times live lo hi mask (next + 1)
 judged_out times live lo hi mask next h out = record {
   below = λ place within. elim (cases_eq place next) [

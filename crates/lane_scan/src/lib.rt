@@ -5,7 +5,8 @@
 //! costs few steps. No scan takes memory.
 #![tactic(auto)]
 
-ghost use Rattle.std.specs.Prelude.{◌≡◌, ℕ, ◌+◌, ◌<◌, ◌≤◌, ◌^◌, ◌↔◌, ℤ, pos, ◌+ℤ◌, List, [], ◌∷◌, ◌++◌, length, fold, All, IsTrue};
+ghost use Rattle.std.specs.Prelude.{◌≡◌, ℕ, ◌+◌, ◌<◌, ◌≤◌, ◌^◌, ◌↔◌, ℤ, pos, ◌+ℤ◌, List, [], ◌∷◌, ◌++◌, length, fold, All};
+ghost use Rattle.std.specs.Prelude.{IsTrue};
 ghost use Rattle.lane_scan.specs.Masks.{InMask, IsFirstPlaceOf, IsPlaceWithin, IsUsedPart, IsWeight, AreBoundsOf, selected};
 
 #[cfg(test)]

@@ -1,5 +1,7 @@
 -- Lists in pieces of one length: their elements, and a piece changed.
-use Rattle.std.proofs.Common.{◌≡◌, ℕ, zero, suc, ◌+◌, ◌*◌, ◌<◌, ◌≤◌, ◌==◌, List, [], ◌∷◌, ◌++◌, length, get_or, set, map, flat_map, take, replicate, refl, sym, ap, ◌∙◌, arith, length-append, append_assoc, inl, inr, Result, Ok, Err, if◌then◌else◌}
+use Rattle.std.proofs.Common.{◌≡◌, ℕ, zero, suc, ◌+◌, ◌*◌, ◌<◌, ◌≤◌, ◌==◌, List, [], ◌∷◌, ◌++◌, length, get_or, set, map}
+use Rattle.std.proofs.Common.{flat_map, take, replicate, refl, sym, ap, ◌∙◌, arith, length-append, append_assoc, inl, inr, Result}
+use Rattle.std.proofs.Common.{Ok, Err, if◌then◌else◌}
 use Rattle.std.specs.Result.{OnOk}
 use Rattle.std.proofs.lemmas.Bool.Decides.{eqb_tells}
 use Rattle.std.proofs.lemmas.List.{set-append_left, set-append_right, get_or-set_same, get_or-set_other, append-nil}
@@ -19,11 +21,15 @@ eight f (a ∷ []) d0 d1 d2 d3 d4 d5 d6 d7 r0 r1 r2 r3 r4 r5 r6 r7 long e0 e1 e2
 eight f (a ∷ b ∷ []) d0 d1 d2 d3 d4 d5 d6 d7 r0 r1 r2 r3 r4 r5 r6 r7 long e0 e1 e2 e3 e4 e5 e6 e7 = absurd (omega arith)
 eight f (a ∷ b ∷ c ∷ []) d0 d1 d2 d3 d4 d5 d6 d7 r0 r1 r2 r3 r4 r5 r6 r7 long e0 e1 e2 e3 e4 e5 e6 e7 = absurd (omega arith)
 eight f (a ∷ b ∷ c ∷ d ∷ []) d0 d1 d2 d3 d4 d5 d6 d7 r0 r1 r2 r3 r4 r5 r6 r7 long e0 e1 e2 e3 e4 e5 e6 e7 = absurd (omega arith)
-eight f (a ∷ b ∷ c ∷ d ∷ e ∷ []) d0 d1 d2 d3 d4 d5 d6 d7 r0 r1 r2 r3 r4 r5 r6 r7 long e0 e1 e2 e3 e4 e5 e6 e7 = absurd (omega arith)
-eight f (a ∷ b ∷ c ∷ d ∷ e ∷ g ∷ []) d0 d1 d2 d3 d4 d5 d6 d7 r0 r1 r2 r3 r4 r5 r6 r7 long e0 e1 e2 e3 e4 e5 e6 e7 = absurd (omega arith)
-eight f (a ∷ b ∷ c ∷ d ∷ e ∷ g ∷ h ∷ []) d0 d1 d2 d3 d4 d5 d6 d7 r0 r1 r2 r3 r4 r5 r6 r7 long e0 e1 e2 e3 e4 e5 e6 e7 = absurd (omega arith)
+eight f (a ∷ b ∷ c ∷ d ∷ e ∷ []) d0 d1 d2 d3 d4 d5 d6 d7 r0 r1 r2 r3 r4 r5 r6 r7 long e0 e1 e2 e3 e4 e5 e6 e7 =
+    absurd (omega arith)
+eight f (a ∷ b ∷ c ∷ d ∷ e ∷ g ∷ []) d0 d1 d2 d3 d4 d5 d6 d7 r0 r1 r2 r3 r4 r5 r6 r7 long e0 e1 e2 e3 e4 e5 e6 e7 =
+    absurd (omega arith)
+eight f (a ∷ b ∷ c ∷ d ∷ e ∷ g ∷ h ∷ []) d0 d1 d2 d3 d4 d5 d6 d7 r0 r1 r2 r3 r4 r5 r6 r7 long e0 e1 e2 e3 e4 e5 e6 e7 =
+    absurd (omega arith)
 eight f (a ∷ b ∷ c ∷ d ∷ e ∷ g ∷ h ∷ i ∷ []) d0 d1 d2 d3 d4 d5 d6 d7 r0 r1 r2 r3 r4 r5 r6 r7 long e0 e1 e2 e3 e4 e5 e6 e7 = cc
-eight f (a ∷ b ∷ c ∷ d ∷ e ∷ g ∷ h ∷ i ∷ j ∷ xs) d0 d1 d2 d3 d4 d5 d6 d7 r0 r1 r2 r3 r4 r5 r6 r7 long e0 e1 e2 e3 e4 e5 e6 e7 = absurd (omega arith)
+eight f (a ∷ b ∷ c ∷ d ∷ e ∷ g ∷ h ∷ i ∷ j ∷ xs) d0 d1 d2 d3 d4 d5 d6 d7 r0 r1 r2 r3 r4 r5 r6 r7 long e0 e1 e2 e3 e4 e5 e6 e7 =
+    absurd (omega arith)
 
 default_only : {A : Type 0} (d : A) (m s : ℕ) → get_or (replicate m d) s d ≡ d
 default_only d zero s = refl
@@ -37,7 +43,8 @@ past_end (x ∷ xs) d m zero = refl
 past_end (x ∷ xs) d m (suc s) = past_end xs d m s
 
 -- an element written, by look-up
-pub set_look_up : {A : Type 0} (xs : List A) (i : ℕ) (v d : A) (s : ℕ) → i < length xs → get_or (set xs i v) s d ≡ (if s == i then v else get_or xs s d)
+pub set_look_up : {A : Type 0} (xs : List A) (i : ℕ) (v d : A) (s : ℕ) → i < length xs
+    → get_or (set xs i v) s d ≡ (if s == i then v else get_or xs s d)
 set_look_up xs i v d s lt =
     elim (eqb_tells s i) [
       | inl same ↦ rw (same.0, same.1) (get_or-set_same xs i v d lt)
@@ -79,11 +86,13 @@ module _ {X A : Type 0} (n : ℕ) (f : X → List A) where
   set_piece [] s i j y d v all is lt within e = absurd (omega arith)
   set_piece (x ∷ xs) s zero j y d v all is lt within e =
       let here : length (f x) ≡ n = All-head (λ x. length (f x) ≡ n) x xs all in
-      ap (λ p. p ++ flat_map f xs) e ∙ sym (set-append_left (f x) (flat_map f xs) j v (omega arith)) ∙ ap (λ k. set (f x ++ flat_map f xs) k v) (omega arith)
+      ap (λ p. p ++ flat_map f xs) e ∙ sym (set-append_left (f x) (flat_map f xs) j v (omega arith))
+      ∙ ap (λ k. set (f x ++ flat_map f xs) k v) (omega arith)
   set_piece (x ∷ xs) s (suc i) j y d v all is lt within e =
       let here : length (f x) ≡ n = All-head (λ x. length (f x) ≡ n) x xs all in
       let at : s ≡ n + (i * n + j) = omega arith in
-      ap (λ r. f x ++ r) (set_piece xs (i * n + j) i j y d v (All-tail (λ x. length (f x) ≡ n) x xs all) refl (omega arith) within e)
+      ap (λ r. f x ++ r) (set_piece xs (i * n + j) i j y d v (All-tail (λ x. length (f x) ≡ n) x xs all) refl
+      (omega arith) within e)
       ∙ ap (λ k. f x ++ set (flat_map f xs) k v) (omega arith)
       ∙ sym (set-append_right (f x) (flat_map f xs) n s v here (omega arith))
 
@@ -116,8 +125,10 @@ module _ {X A : Type 0} (n : ℕ) (f : X → List A) where
   flat_push (x ∷ xs) y = ap (λ l. f x ++ l) (flat_push xs y) ∙ sym (append_assoc (f x) (flat_map f xs) (f y))
 
   -- one more piece, of n times the default, is not seen by look-up
-  pub blank_pushed : (xs : List X) (y : X) (d : A) (m s : ℕ) → f y ≡ replicate m d → get_or (flat_map f (xs ++ y ∷ [])) s d ≡ get_or (flat_map f xs) s d
-  blank_pushed xs y d m s blank = ap (λ l. get_or l s d) (flat_push xs y ∙ ap (λ l. flat_map f xs ++ l) blank) ∙ past_end (flat_map f xs) d m s
+  pub blank_pushed : (xs : List X) (y : X) (d : A) (m s : ℕ) → f y ≡ replicate m d
+      → get_or (flat_map f (xs ++ y ∷ [])) s d ≡ get_or (flat_map f xs) s d
+  blank_pushed xs y d m s blank = ap (λ l. get_or l s d) (flat_push xs y ∙ ap (λ l. flat_map f xs ++ l) blank)
+      ∙ past_end (flat_map f xs) d m s
 
   pub push_piece : (xs : List X) (y : X) → ArePieces n f xs → length (f y) ≡ n → ArePieces n f (xs ++ y ∷ [])
   push_piece xs y are whole = All-push (λ x. length (f x) ≡ n) xs y are whole

@@ -10,12 +10,13 @@ use Rattle.std.proofs.lemmas.List.Sums.{sum_by-cons}
 use Rattle.std.proofs.lemmas.List.{length-append}
 use Rattle.std.proofs.lemmas.Option.{slice_get-get_or}
 use Rattle.std.proofs.lemmas.Slice.Eq.{bytes_eq-Decides}
-use Rattle.graph_model.specs.Analyses.{AreLabels, IsLabel, Joins, Walk}
+use Rattle.graph_model.specs.Analyses.{AreLabels, IsLabel, Joins}
 use Rattle.graph_model.specs.Answer.{names_of}
 use Rattle.graph_model.specs.Graph.{Graph}
 use Rattle.graph_model.specs.Step.{with_name}
 use Rattle.graph_model.specs.declared.ids.Filter.{Filter}
 use Rattle.graph_model.proofs.NameLists.{appears-with_name, stays-with_name}
+use Rattle.graph_model.proofs.Walks.{joined}
 use Rattle.stinger_server.specs.Lines.{count_different}
 
 -- every label is that of itself, and no vertex has a greater one; vertices have different names
@@ -136,10 +137,6 @@ rows_from label name v (n ∷ names) (l ∷ labels) long are label_is =
     (λ k j is below. label_is (suc k) j (omega arith) (omega arith)) in
     ap (λ xs. (n, name l) ∷ xs) rest ∙ ap (λ x. (x, name l) ∷ map (row label name) (range_with_len (v + 1) (length names))) first
     ∙ ap (λ u. (name v, name u) ∷ map (row label name) (range_with_len (v + 1) (length names))) second
-
-joined : (P : ℕ → ℕ → Type 0) (m n a b c : ℕ) → Walk P a b m → Walk P b c n → (k : ℕ) × Walk P a c k
-joined P m zero a b c p q = (m, rw (← q) p)
-joined P m (suc n) a b c p q = let r = joined P m n a b q.0 p q.1 in (suc r.0, (q.0, r.1, q.2))
 
 -- the label of a label is that label
 own_label : (f : Filter) (g : Graph) (v u w : ℕ) → IsLabel f g v u → IsLabel f g u w → w ≡ u

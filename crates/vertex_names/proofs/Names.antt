@@ -1,5 +1,7 @@
 -- Names in a book: their numbers, and what one more name leaves true.
-use Rattle.std.proofs.Common.{◌≡◌, ◌≢◌, ◌⊎◌, ℕ, ◌+◌, ◌<◌, Bool, true, false, cond, not, ◌||◌, suc, length-append, List, [], ◌∷◌, ◌++◌, length, get_or, IsTrue, Option, Some, None, inl, inr, refl, sym, ap, subst, ◌∙◌, arith, true≢false, if◌then◌else◌, All, AllPairs}
+use Rattle.std.proofs.Common.{◌≡◌, ◌≢◌, ◌⊎◌, ℕ, ◌+◌, ◌<◌, Bool, true, false, cond, not, ◌||◌, suc, length-append, List, [], ◌∷◌}
+use Rattle.std.proofs.Common.{◌++◌, length, get_or, IsTrue, Option, Some, None, inl, inr, refl, sym, ap, subst, ◌∙◌, arith}
+use Rattle.std.proofs.Common.{true≢false, if◌then◌else◌, All, AllPairs}
 use Rattle.std.specs.Option.{SomeIff, IfSome, IfNone, is_some}
 use Rattle.std.specs.List.{slice_get}
 use Rattle.std.specs.Str.{bytes_eq}
@@ -18,7 +20,8 @@ use Rattle.graph_model.specs.Valid.{is_name}
 use Rattle.vertex_names.specs.Index.{text_hash, found_at, Stands, IsIndexed}
 use Rattle.vertex_names.specs.Book.{Book, IsBook}
 
-number_of-next : (found rest : Bool) (place count : ℕ) → (found || rest) ≡ false → (rest ≡ false → place ≡ count) → cond (not found) (1 + place) 0 ≡ suc count
+number_of-next : (found rest : Bool) (place count : ℕ) → (found || rest) ≡ false → (rest ≡ false → place ≡ count)
+    → cond (not found) (1 + place) 0 ≡ suc count
 number_of-next true rest place count new last = absurd (true≢false new)
 number_of-next false rest place count new last = let same : place ≡ count = last new in omega arith
 
@@ -29,19 +32,25 @@ number_of-new (x ∷ names) name new =
     number_of-next (bytes_eq name x) (is_listed names name) (number_of names name) (length names) new (number_of-new names name)
 
 -- a name that the book as it is shown doesn't list
-pub not_listed : (book shown : Book) (name : List ℕ) → book ≡ shown → ¬ IsTrue (is_listed shown.names name) → is_listed book.names name ≡ false
-not_listed book shown name same new = false_from_ne_true _ (subst (λ (b : Book). ¬ IsTrue (is_listed b.names name)) (sym same) new)
+pub not_listed : (book shown : Book) (name : List ℕ) → book ≡ shown → ¬ IsTrue (is_listed shown.names name)
+    → is_listed book.names name ≡ false
+not_listed book shown name same new = false_from_ne_true _
+    (subst (λ (b : Book). ¬ IsTrue (is_listed b.names name)) (sym same) new)
 
 -- a name that is not listed differs from each that is
-differs : (names : List (List ℕ)) (name : List ℕ) → is_listed names name ≡ false → (k : ℕ) (d : List ℕ) → k < length names → get_or names k d ≢ name
+differs : (names : List (List ℕ)) (name : List ℕ) → is_listed names name ≡ false → (k : ℕ) (d : List ℕ) → k < length names
+    → get_or names k d ≢ name
 differs names name new k d in_range same =
-    true≢false (sym (list_any_at (bytes_eq name) names k d in_range ((bytes_eq-Decides name (get_or names k d)).1 (sym same))) ∙ new)
+    true≢false (sym (list_any_at (bytes_eq name) names k d in_range ((bytes_eq-Decides name (get_or names k d)).1 (sym same)))
+    ∙ new)
 
 with_new : (names : List (List ℕ)) (name : List ℕ) → is_listed names name ≡ false → names ++ name ∷ [] ≡ with_name names name
 with_new names name new = ap (λ listed. if listed then names else names ++ name ∷ []) (sym new)
 
 -- a new name within the limit leaves a book
-pub IsBook-pushed : (limit : ℕ) (names : List (List ℕ)) (name : List ℕ) → IsTrue (is_name name) → is_listed names name ≡ false → length names < limit → IsBook (record { limit = limit; names = names }) → IsBook (record { limit = limit; names = names ++ name ∷ [] })
+pub IsBook-pushed : (limit : ℕ) (names : List (List ℕ)) (name : List ℕ) → IsTrue (is_name name) → is_listed names name ≡ false
+    → length names < limit → IsBook (record { limit = limit; names = names })
+    → IsBook (record { limit = limit; names = names ++ name ∷ [] })
 IsBook-pushed limit names name named new room is_book = record {
   fits = is_book.fits;
   few = simp length-append (omega arith);
@@ -50,38 +59,46 @@ IsBook-pushed limit names name named new room is_book = record {
 }
 
 -- a listed name stands at its number
-at_next : (name x : List ℕ) (names : List (List ℕ)) (found : Bool) → found ≡ bytes_eq name x → (IsTrue (is_listed names name) → slice_get names (number_of names name) ≡ Some name)
+at_next : (name x : List ℕ) (names : List (List ℕ)) (found : Bool) → found ≡ bytes_eq name x
+    → (IsTrue (is_listed names name) → slice_get names (number_of names name) ≡ Some name)
     → IsTrue (found || is_listed names name) → slice_get (x ∷ names) (cond (not found) (1 + number_of names name) 0) ≡ Some name
 at_next name x names true is rest listed = ap Some (sym ((bytes_eq-Decides name x).0 (sym is)))
 at_next name x names false is rest listed =
     let further : 1 + number_of names name ≡ suc (number_of names name) = omega arith in
     ap (λ n. slice_get (x ∷ names) n) further ∙ rest listed
 
-pub at_number : (names : List (List ℕ)) (name : List ℕ) → IsTrue (is_listed names name) → slice_get names (number_of names name) ≡ Some name
+pub at_number : (names : List (List ℕ)) (name : List ℕ) → IsTrue (is_listed names name)
+    → slice_get names (number_of names name) ≡ Some name
 at_number [] name listed = absurd (true≢false (sym listed))
 at_number (x ∷ names) name listed = at_next name x names (bytes_eq name x) refl (at_number names name) listed
 
 -- a name stands once
-once : (names : List (List ℕ)) (i j : ℕ) (name : List ℕ) → AllPairs (λ a b. a ≢ b) names → slice_get names i ≡ Some name → slice_get names j ≡ Some name → ¬ (i < j)
+once : (names : List (List ℕ)) (i j : ℕ) (name : List ℕ) → AllPairs (λ a b. a ≢ b) names → slice_get names i ≡ Some name
+    → slice_get names j ≡ Some name → ¬ (i < j)
 once names i j name distinct at_i at_j lt =
-    distinct i j [] lt (slice_get_within names j name at_j) (get_or_from_slice_get names i name [] at_i ∙ sym (get_or_from_slice_get names j name [] at_j))
+    distinct i j [] lt (slice_get_within names j name at_j)
+    (get_or_from_slice_get names i name [] at_i ∙ sym (get_or_from_slice_get names j name [] at_j))
 
 -- what stands at a place is listed, and the place is its number
-pub listed_at : (names : List (List ℕ)) (j : ℕ) (name : List ℕ) → AllPairs (λ a b. a ≢ b) names → slice_get names j ≡ Some name → IsTrue (is_listed names name) × (j ≡ number_of names name)
+pub listed_at : (names : List (List ℕ)) (j : ℕ) (name : List ℕ) → AllPairs (λ a b. a ≢ b) names → slice_get names j ≡ Some name
+    → IsTrue (is_listed names name) × (j ≡ number_of names name)
 listed_at names j name distinct at =
     let lt = slice_get_within names j name at in
     let same : name ≡ get_or names j [] = sym (get_or_from_slice_get names j name [] at) in
-    let listed : IsTrue (is_listed names name) = list_any_at (bytes_eq name) names j [] lt ((bytes_eq-Decides name (get_or names j [])).1 same) in
+    let listed : IsTrue (is_listed names name) =
+    list_any_at (bytes_eq name) names j [] lt ((bytes_eq-Decides name (get_or names j [])).1 same) in
     let there = at_number names name listed in
     let below = once names j (number_of names name) name distinct at there in
     let above = once names (number_of names name) j name distinct there at in
     (listed, omega (arith, below, above))
 
 -- a listed name's number stands at its hash
-stands : (names : List (List ℕ)) (parts : List (List (ℕ × ℕ))) (others : List ℕ) (name : List ℕ) → IsIndexed names parts others → IsTrue (is_listed names name) → Stands parts others (text_hash name) (number_of names name)
+stands : (names : List (List ℕ)) (parts : List (List (ℕ × ℕ))) (others : List ℕ) (name : List ℕ) → IsIndexed names parts others
+    → IsTrue (is_listed names name) → Stands parts others (text_hash name) (number_of names name)
 stands names parts others name indexed listed =
     let there = at_number names name listed in
-    subst (λ (n : List ℕ). Stands parts others (text_hash n) (number_of names name)) (get_or_from_slice_get names (number_of names name) name [] there)
+    subst (λ (n : List ℕ). Stands parts others (text_hash n) (number_of names name))
+    (get_or_from_slice_get names (number_of names name) name [] there)
     (indexed (number_of names name) (slice_get_within names (number_of names name) name there))
 
 None≢Some : {X : Type 0} (x : X) → ¬ (None ≡ Some x)
@@ -91,7 +108,8 @@ Some-same : {X : Type 0} (x y : X) → Some x ≡ Some y → x ≡ y
 Some-same x y same = cc
 
 -- where nothing stands at a name's hash, it is not listed
-pub none_listed : (names : List (List ℕ)) (parts : List (List (ℕ × ℕ))) (others : List ℕ) (name : List ℕ) → IsIndexed names parts others → found_at parts (text_hash name) ≡ None → ¬ IsTrue (is_listed names name)
+pub none_listed : (names : List (List ℕ)) (parts : List (List (ℕ × ℕ))) (others : List ℕ) (name : List ℕ)
+    → IsIndexed names parts others → found_at parts (text_hash name) ≡ None → ¬ IsTrue (is_listed names name)
 none_listed names parts others name indexed none listed =
     elim (stands names parts others name indexed listed) [
       | inl at ↦ None≢Some (number_of names name) (sym none ∙ at)
@@ -99,7 +117,8 @@ none_listed names parts others name indexed none listed =
     ]
 
 -- where a name is neither at the number of its hash nor among the others, it is not listed
-pub not_among : (names : List (List ℕ)) (parts : List (List (ℕ × ℕ))) (others : List ℕ) (name : List ℕ) (first : ℕ) → IsIndexed names parts others → found_at parts (text_hash name) ≡ Some first → ¬ (slice_get names first ≡ Some name)
+pub not_among : (names : List (List ℕ)) (parts : List (List (ℕ × ℕ))) (others : List ℕ) (name : List ℕ) (first : ℕ)
+    → IsIndexed names parts others → found_at parts (text_hash name) ≡ Some first → ¬ (slice_get names first ≡ Some name)
     → All (λ number. slice_get names number ≢ Some name) others → ¬ IsTrue (is_listed names name)
 not_among names parts others name first indexed found other none listed =
     elim (stands names parts others name indexed listed) [
@@ -107,30 +126,42 @@ not_among names parts others name first indexed found other none listed =
           let same : first ≡ number_of names name = Some-same _ _ (sym found ∙ at) in
           other (ap (λ n. slice_get names n) same ∙ at_number names name listed)
       | inr among ↦
-          none among.1.0 (number_of names name) among.1.1.0 (ap (λ n. slice_get names n) (sym among.1.1.1) ∙ at_number names name listed)
+          none among.1.0 (number_of names name) among.1.1.0
+          (ap (λ n. slice_get names n) (sym among.1.1.1) ∙ at_number names name listed)
     ]
 
 -- what a search of the others finds is the number
-pub SomeIff-among : (names : List (List ℕ)) (parts : List (List (ℕ × ℕ))) (others : List ℕ) (name : List ℕ) (first : ℕ) (result : Option ℕ) → AllPairs (λ a b. a ≢ b) names → IsIndexed names parts others → found_at parts (text_hash name) ≡ Some first → ¬ (slice_get names first ≡ Some name)
-    → IfSome result (λ number. slice_get names number ≡ Some name) → IfNone result (All (λ number. slice_get names number ≢ Some name) others)
+pub SomeIff-among : (names : List (List ℕ)) (parts : List (List (ℕ × ℕ))) (others : List ℕ) (name : List ℕ) (first : ℕ)
+    (result : Option ℕ) → AllPairs (λ a b. a ≢ b) names → IsIndexed names parts others
+    → found_at parts (text_hash name) ≡ Some first → ¬ (slice_get names first ≡ Some name)
+    → IfSome result (λ number. slice_get names number ≡ Some name)
+    → IfNone result (All (λ number. slice_get names number ≢ Some name) others)
     → SomeIff result (IsTrue (is_listed names name)) (number_of names name)
-SomeIff-among names parts others name first None distinct indexed found other is_there absent = not_among names parts others name first indexed found other absent
-SomeIff-among names parts others name first (Some number) distinct indexed found other is_there absent = listed_at names number name distinct is_there
+SomeIff-among names parts others name first None distinct indexed found other is_there absent =
+    not_among names parts others name first indexed found other absent
+SomeIff-among names parts others name first (Some number) distinct indexed found other is_there absent =
+    listed_at names number name distinct is_there
 
 -- another index that keeps what stands
-pub IsIndexed-kept : (names : List (List ℕ)) (parts kept : List (List (ℕ × ℕ))) (others more : List ℕ) → IsIndexed names parts others → ((q i : ℕ) → Stands parts others q i → Stands kept more q i) → IsIndexed names kept more
+pub IsIndexed-kept : (names : List (List ℕ)) (parts kept : List (List (ℕ × ℕ))) (others more : List ℕ)
+    → IsIndexed names parts others → ((q i : ℕ) → Stands parts others q i → Stands kept more q i) → IsIndexed names kept more
 IsIndexed-kept names parts kept others more indexed keeps i lt = keeps (text_hash (get_or names i [])) i (indexed i lt)
 
 lt_or_last : (i n : ℕ) → i < n + 1 → (i < n) ⊎ (i ≡ n)
 lt_or_last i n lt = elim (eqb_tells i n) [ inl same ↦ inr same.1 | inr other ↦ inl (omega (arith, lt, other.1)) ]
 
 -- one more name, whose number stands
-pub IsIndexed-pushed : (names : List (List ℕ)) (parts : List (List (ℕ × ℕ))) (others : List ℕ) (name : List ℕ) → IsIndexed names parts others → Stands parts others (text_hash name) (length names) → IsIndexed (names ++ name ∷ []) parts others
+pub IsIndexed-pushed : (names : List (List ℕ)) (parts : List (List (ℕ × ℕ))) (others : List ℕ) (name : List ℕ)
+    → IsIndexed names parts others → Stands parts others (text_hash name) (length names)
+    → IsIndexed (names ++ name ∷ []) parts others
 IsIndexed-pushed names parts others name indexed new i lt =
     let long = length-append names (name ∷ []) in
     elim (lt_or_last i (length names) (omega arith)) [
-      | inl before ↦ subst (λ (n : List ℕ). Stands parts others (text_hash n) i) (sym (get_or_append_left names (name ∷ []) [] i before)) (indexed i before)
+      | inl before ↦ subst (λ (n : List ℕ). Stands parts others (text_hash n) i)
+          (sym (get_or_append_left names (name ∷ []) [] i before)) (indexed i before)
       | inr last ↦
-          let here : get_or (names ++ name ∷ []) i [] ≡ name = ap (λ n. get_or (names ++ name ∷ []) n []) last ∙ get_or-append_seam names name [] [] in
-          subst (λ (n : ℕ). Stands parts others (text_hash (get_or (names ++ name ∷ []) i [])) n) (sym last) (subst (λ (n : List ℕ). Stands parts others (text_hash n) (length names)) (sym here) new)
+          let here : get_or (names ++ name ∷ []) i [] ≡ name =
+          ap (λ n. get_or (names ++ name ∷ []) n []) last ∙ get_or-append_seam names name [] [] in
+          subst (λ (n : ℕ). Stands parts others (text_hash (get_or (names ++ name ∷ []) i [])) n) (sym last)
+          (subst (λ (n : List ℕ). Stands parts others (text_hash n) (length names)) (sym here) new)
     ]

@@ -1,5 +1,6 @@
 -- Parts of an index, and what a result says.
-use Rattle.std.proofs.Common.{◌≡◌, ℕ, ◌%◌, ◌<◌, false, List, map, set, get_or, length, subst, [], sym, ap, ◌∙◌, arith, Some, Ok, Err, inl, inr, Result, if◌then◌else◌, nat_eq}
+use Rattle.std.proofs.Common.{◌≡◌, ℕ, ◌%◌, ◌<◌, false, List, map, set, get_or, length, subst, [], sym, ap, ◌∙◌, arith, Some, Ok}
+use Rattle.std.proofs.Common.{Err, inl, inr, Result, if◌then◌else◌, nat_eq}
 use Rattle.std.specs.Map.{lookup}
 use Rattle.std.specs.Result.{OnOk, OnErr}
 use Rattle.std.proofs.lemmas.Bool.{ne_eqb}
@@ -32,8 +33,10 @@ module _ {X : Type 0} (f : X → List (ℕ × ℕ)) where
       let long : length (map f xs) ≡ length xs = length-map xs f in
       elim (eqb_tells (q % 64) place) [
         | inl same ↦
-            let here : get_or (set (map f xs) place (f y)) (q % 64) [] ≡ f y = ap (λ n. get_or (set (map f xs) place (f y)) n []) same.1 ∙ get_or-set_same (map f xs) place (f y) [] (omega arith) in
-            let there : get_or (map f xs) (q % 64) [] ≡ f (get_or xs place e) = ap (λ n. get_or (map f xs) n []) same.1 ∙ get_or-map f xs place e [] lt in
+            let here : get_or (set (map f xs) place (f y)) (q % 64) [] ≡ f y =
+            ap (λ n. get_or (set (map f xs) place (f y)) n []) same.1 ∙ get_or-set_same (map f xs) place (f y) [] (omega arith) in
+            let there : get_or (map f xs) (q % 64) [] ≡ f (get_or xs place e) =
+            ap (λ n. get_or (map f xs) n []) same.1 ∙ get_or-map f xs place e [] lt in
             ap (λ (ps : List (List (ℕ × ℕ))). found_at ps q) shown
             ∙ ap (λ (es : List (ℕ × ℕ)). lookup (nat_eq q) es) here
             ∙ put q

@@ -1,4 +1,5 @@
--- From the hash of a name to the number of the first name that had it; a name whose hash was taken has its number in a list beside.
+-- From the hash of a name to the number of the first name that had it; a name whose hash was taken has its number in
+-- a list beside.
 use Rattle.std.specs.Prelude.{◌≡◌, ◌≢◌, ◌⊎◌, ◌<◌, ℕ, ◌%◌, List, [], length, get_or, nat_eq, map, Some, None}
 use Rattle.std.specs.List.{IsAmong}
 use Rattle.std.specs.Map.{lookup}

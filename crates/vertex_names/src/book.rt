@@ -1,4 +1,5 @@
-ghost use Rattle.std.specs.Prelude.{◌≡◌, ◌≤◌, ◌↔◌, ℕ, Some, length, slice_get, option_copied, IsTrue, IsOk, IfOk, IfErr, OnOk, OnErr};
+ghost use Rattle.std.specs.Prelude.{◌≡◌, ◌≤◌, ◌↔◌, ℕ, Some, length, slice_get, option_copied, IsTrue, IsOk, IfOk, IfErr, OnOk};
+ghost use Rattle.std.specs.Prelude.{OnErr};
 ghost use Rattle.std.specs.Option.{SomeIff};
 ghost use Rattle.graph_model.specs.Step.{with_name, number_of};
 ghost use Rattle.graph_model.specs.Answer.{is_listed};
@@ -63,7 +64,8 @@ impl Model for NameBook {
 
     ghost view = { λ book. record { limit = book.limit; names = book.texts } };
 
-    ghost invariant = { λ book. IsBook (record { limit = book.limit; names = book.texts }) × IsIndexed book.texts book.index book.others.items };
+    ghost invariant = { λ book. IsBook (record { limit = book.limit; names = book.texts })
+        × IsIndexed book.texts book.index book.others.items };
 }
 
 impl NameBook {

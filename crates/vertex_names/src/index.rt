@@ -61,7 +61,8 @@ impl Part {
     }
 
     fn put(&mut self, hash: u64, number: u32) -> Result<(), AllocError>
-        ensures put { OnOk result ((q : ℕ) → lookup (nat_eq q) self.new ≡ (if nat_eq hash q then Some number else lookup (nat_eq q) self.old)) }
+        ensures put { OnOk result ((q : ℕ) → lookup (nat_eq q) self.new
+            ≡ (if nat_eq hash q then Some number else lookup (nat_eq q) self.old)) }
         ensures unchanged { OnErr result (self.new ≡ self.old) }
     {
         self.numbers.insert(hash, number)?;
@@ -141,7 +142,8 @@ fn put_in(
 ) -> Result<(), AllocError>
     requires place { place ≡ hash % 64 }
     requires whole { 64 ≤ length parts.old.items }
-    ensures put { OnOk result ((q : ℕ) → found_at (parts_of parts.new.items) q ≡ (if nat_eq hash q then Some number else found_at (parts_of parts.old.items) q)) }
+    ensures put { OnOk result ((q : ℕ) → found_at (parts_of parts.new.items) q
+        ≡ (if nat_eq hash q then Some number else found_at (parts_of parts.old.items) q)) }
     ensures unchanged { OnErr result (parts_of parts.new.items ≡ parts_of parts.old.items) }
 {
     Arc::make_mut(&mut parts[place])?.put(hash, number)

@@ -1,4 +1,5 @@
-ghost use Rattle.std.specs.Prelude.{◌≡◌, ◌+◌, ◌<◌, ◌≤◌, ◌^◌, ◌++◌, ◌∷◌, ℕ, [], List, length, slice_get, map, string_bytes, option_copied, IfOk, OnOk, OnErr, All, IfSome, IfNone, ◌≢◌, Some, ◌↔◌, IsTrue};
+ghost use Rattle.std.specs.Prelude.{◌≡◌, ◌+◌, ◌<◌, ◌≤◌, ◌^◌, ◌++◌, ◌∷◌, ℕ, [], List, length, slice_get, map, string_bytes};
+ghost use Rattle.std.specs.Prelude.{option_copied, IfOk, OnOk, OnErr, All, IfSome, IfNone, ◌≢◌, Some, ◌↔◌, IsTrue};
 ghost use Rattle.vertex_names.specs.Texts.{texts_of, AreChunks};
 
 use std::alloc::{AllocError, Global};

@@ -7,6 +7,14 @@ use Rattle.block_pool.proofs.numbers.numbers_up_to.Goals as goal
 
 pub loop-number-preserved : goal.loop-number-preserved
 loop-number-preserved c = record {
-  listed = subst (Lists is_free (replicate (c.loop-number.number + 1) Free)) (sym c.in_ok-push.ensures.items) (free_more c.loop-number.number c.loop-number.numbers.items c.loop-number.invariant.listed);
-  long = omega (arith, ap length c.in_ok-push.ensures.items, length-append c.loop-number.numbers.items (c.loop-number.number ∷ []), c.loop-number.invariant.long);
+  listed = subst (Lists is_free (replicate (c.loop-number.number + 1) Free)) (sym c.in_ok-push.ensures.items)
+      (free_more c.loop-number.number c.loop-number.numbers.items c.loop-number.invariant.listed);
+  long =
+      omega (
+        arith,
+        ap length c.in_ok-push.ensures.items,
+        length-append c.loop-number.numbers.items
+            (c.loop-number.number ∷ []),
+        c.loop-number.invariant.long,
+      );
 }

@@ -14,8 +14,11 @@ body_of-requires-clause-within c =
     let n = c.args.numbers.now in
     let k = c.requires.kept in
     let at : ℕ = n.free_len - 1 - c.loop-i.i in
-    let is = listed_at is_free (statuses n) n.free_len n.free.items k.free_are (omega (arith, k.free_in, k.free_room)) at (omega (arith, c.loop-i-test.true, c.requires.enough)) in
-    let same : c.index-number.result.now ≡ get_or n.free.items at 0 = get_or_read n.free.items at c.index-number.result.now (omega (arith, c.loop-i-test.true, c.requires.enough, k.free_in, k.free_room)) c.index-number.ensures 0 in
+    let is = listed_at is_free (statuses n) n.free_len n.free.items k.free_are
+    (omega (arith, k.free_in, k.free_room)) at (omega (arith, c.loop-i-test.true, c.requires.enough)) in
+    let same : c.index-number.result.now ≡ get_or n.free.items at 0 =
+    get_or_read n.free.items at c.index-number.result.now
+    (omega (arith, c.loop-i-test.true, c.requires.enough, k.free_in, k.free_room)) c.index-number.ensures 0 in
     omega (arith, is.0, same, length-map n.places.items status_from, c.loop-i.invariant.bodies.same_length)
 
 pub loop-i-preserved : goal.loop-i-preserved
@@ -23,11 +26,17 @@ loop-i-preserved c =
     let n = c.args.numbers.now in
     let k = c.requires.kept in
     let at : ℕ = n.free_len - 1 - c.loop-i.i in
-    let is = listed_at is_free (statuses n) n.free_len n.free.items k.free_are (omega (arith, k.free_in, k.free_room)) at (omega (arith, c.loop-i-test.true, c.requires.enough)) in
-    let same : c.index-number.result.now ≡ get_or n.free.items at 0 = get_or_read n.free.items at c.index-number.result.now (omega (arith, c.loop-i-test.true, c.requires.enough, k.free_in, k.free_room)) c.index-number.ensures 0 in
+    let is = listed_at is_free (statuses n) n.free_len n.free.items k.free_are
+    (omega (arith, k.free_in, k.free_room)) at (omega (arith, c.loop-i-test.true, c.requires.enough)) in
+    let same : c.index-number.result.now ≡ get_or n.free.items at 0 =
+    get_or_read n.free.items at c.index-number.result.now
+    (omega (arith, c.loop-i-test.true, c.requires.enough, k.free_in, k.free_room)) c.index-number.ensures 0 in
     record {
-      bodies = subst (AreBodies (length n.places.items)) (sym c.in_ok-body.ensures.bodies) (bodies_set (length n.places.items) c.loop-i.bodies.items c.index-number.result.now None (omega (arith, is.0, same, length-map n.places.items status_from)) tt c.loop-i.invariant.bodies);
+      bodies = subst (AreBodies (length n.places.items)) (sym c.in_ok-body.ensures.bodies)
+          (bodies_set (length n.places.items) c.loop-i.bodies.items c.index-number.result.now None
+          (omega (arith, is.0, same, length-map n.places.items status_from)) tt c.loop-i.invariant.bodies);
       granted = c.in_ok-push-2.ensures.items ∙ ap (λ ns. ns ++ c.index-number.result.now ∷ []) c.loop-i.invariant.granted
-          ∙ ap (λ j. popped n.free.items n.free_len c.loop-i.i ++ j ∷ []) same ∙ sym (popped_last n.free.items n.free_len c.loop-i.i (omega (arith, c.loop-i-test.true, c.requires.enough)));
+          ∙ ap (λ j. popped n.free.items n.free_len c.loop-i.i ++ j ∷ []) same
+          ∙ sym (popped_last n.free.items n.free_len c.loop-i.i (omega (arith, c.loop-i-test.true, c.requires.enough)));
       blocks = grind (arith, common_steps);
     }

@@ -10,5 +10,6 @@ returns-then-time-greatest c =
     let some : 0 < c.args.live = live_with_others c.args.live c.args.place c.if-others-eq0.false in
     elim c.if-time-greatest.either [
       | inl same ↦ rw same (c.requires.times some)
-      | inr inside ↦ bounds_inside c.args.live c.args.recents.now c.args.times c.args.place c.requires.within c.told-recents (c.requires.times some) inside.1 inside.2
+      | inr inside ↦ bounds_inside c.args.live c.args.recents.now c.args.times c.args.place c.requires.within c.told-recents
+          (c.requires.times some) inside.1 inside.2
     ]

@@ -8,5 +8,6 @@ use Rattle.lane_scan.proofs.tests.small_weights.Goals as goal
 pub loop-weight-preserved : goal.loop-weight-preserved
 loop-weight-preserved c = (
   length-set c.loop-weight.weight-items c.loop-weight.weight-index _ ∙ c.loop-weight.invariant.0,
-  AllWithin-more_set c.loop-weight.weight-items c.loop-weight.weight-index _ (omega arith) IsWeight c.loop-weight.invariant.1 (omega (arith, ints, c.small_weight.ensures)),
+  AllWithin-more_set c.loop-weight.weight-items c.loop-weight.weight-index _ (omega arith) IsWeight c.loop-weight.invariant.1
+      (omega (arith, ints, c.small_weight.ensures)),
 )

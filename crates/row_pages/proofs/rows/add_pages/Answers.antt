@@ -11,7 +11,8 @@ loop-alloc-preserved c =
     let len = c.len.ensures in
     let count = c.requires.count in
     rw c.in_ok-push.ensures.items (record {
-      same = λ s. blank_pushed 64 in_page c.loop-alloc.pages.items c.in_ok-page.page [] 64 s blank ∙ c.loop-alloc.invariant.same s;
+      same = λ s. blank_pushed 64 in_page c.loop-alloc.pages.items c.in_ok-page.page [] 64 s blank
+          ∙ c.loop-alloc.invariant.same s;
       pages = push_piece 64 in_page c.loop-alloc.pages.items c.in_ok-page.page c.loop-alloc.invariant.pages (ap length blank);
       few = omega (arith, longer, room, len, count);
     })

@@ -1,4 +1,5 @@
-use Rattle.std.proofs.Common.{◌≡◌, ◌∙◌, ◌+◌, ◌/◌, ◌%◌, ◌<◌, ◌≤◌, ◌==◌, [], inl, inr, ap, List, length, set, get_or, rules, arith, if◌then◌else◌}
+use Rattle.std.proofs.Common.{◌≡◌, ◌∙◌, ◌+◌, ◌/◌, ◌%◌, ◌<◌, ◌≤◌, ◌==◌, [], inl, inr, ap, List, length, set, get_or, rules, arith}
+use Rattle.std.proofs.Common.{if◌then◌else◌}
 use Rattle.std.specs.Result.{IsOk}
 use Rattle.std.specs.declared.sync.Arc.{Arc}
 use Rattle.std.specs.declared.alloc.Global.{Global}
@@ -24,7 +25,9 @@ returns-clause-rows c =
     let lt : source < length (in_pages pages) = omega (arith, all, enough) in
     OnOk-then c.put.result
     (λ put s.
-    let written = set_piece 64 in_page pages source (source / 64) (source % 64) (c.make_mut.follows.lender c.put.new.self) h row c.in_ok-add_pages.ensures.pages (omega arith) (omega (arith, enough)) (omega arith)
+    let written = set_piece 64 in_page pages source (source / 64) (source % 64)
+    (c.make_mut.follows.lender c.put.new.self) h row c.in_ok-add_pages.ensures.pages (omega arith) (omega (arith, enough))
+    (omega arith)
     (c.make_mut.follows.holds c.put.new.self ok ∙ put ∙ ap (λ (p : List (List BlockView)). set p (source % 64) row) from) in
     ap (λ (l : List (List BlockView)). row_of l s) written
     ∙ set_look_up (in_pages pages) source row [] s lt

@@ -15,20 +15,25 @@ entries p = arc_value {X = Part} p
 pub returns-in_err-parts-clause-unchanged : goal.returns-in_err-parts-clause-unchanged
 returns-in_err-parts-clause-unchanged c =
     let h : Arc Part Global = c.index_mut.result.now in
-    let kept : entries c.make_mut.follows.lender-at-none ≡ entries h = elim (at_err _ _ c.in_err-parts.was c.make_mut.follows.holds-at-none) [ inl e ↦ e | inr e ↦ e ] in
-    always-OnErr _ (map-set_same entries c.args.parts.now.items c.args.place c.make_mut.follows.lender-at-none h (kept ∙ ap entries c.index_mut.ensures.value))
+    let kept : entries c.make_mut.follows.lender-at-none ≡ entries h =
+    elim (at_err _ _ c.in_err-parts.was c.make_mut.follows.holds-at-none) [ inl e ↦ e | inr e ↦ e ] in
+    always-OnErr _ (map-set_same entries c.args.parts.now.items c.args.place c.make_mut.follows.lender-at-none h
+    (kept ∙ ap entries c.index_mut.ensures.value))
 
 pub returns-clause-put : goal.returns-clause-put
 returns-clause-put c =
     let h : Arc Part Global = c.index_mut.result.now in
     let same : c.in_ok-parts.field-0.now ≡ entries h = elim c.in_ok-parts.ensures.value [ inl e ↦ e | inr e ↦ e ] in
     let ok : IsOk c.make_mut.result = search rules in
-    let from : c.in_ok-parts.field-0.now ≡ entries (get_or c.args.parts.now.items c.args.place h) = same ∙ ap entries c.index_mut.ensures.value in
+    let from : c.in_ok-parts.field-0.now ≡ entries (get_or c.args.parts.now.items c.args.place h) =
+    same ∙ ap entries c.index_mut.ensures.value in
     let room : c.args.place < length c.args.parts.now.items = omega (arith, c.requires.place, c.requires.whole) in
     let into : entries (c.make_mut.follows.lender c.put.new.self) ≡ c.put.new.self = c.make_mut.follows.holds c.put.new.self ok in
     OnOk-then c.put.result
-    (λ put. put_part entries c.args.parts.now.items c.args.place c.args.hash c.args.number (c.make_mut.follows.lender c.put.new.self) h c.requires.place room
-    (λ q. ap (λ (es : List (ℕ × ℕ)). lookup (nat_eq q) es) into ∙ put q ∙ ap (λ (es : List (ℕ × ℕ)). if nat_eq c.args.hash q then Some c.args.number else lookup (nat_eq q) es) from))
+    (λ put. put_part entries c.args.parts.now.items c.args.place c.args.hash c.args.number
+    (c.make_mut.follows.lender c.put.new.self) h c.requires.place room
+    (λ q. ap (λ (es : List (ℕ × ℕ)). lookup (nat_eq q) es) into ∙ put q
+    ∙ ap (λ (es : List (ℕ × ℕ)). if nat_eq c.args.hash q then Some c.args.number else lookup (nat_eq q) es) from))
     c.put.ensures.put
 
 pub returns-clause-unchanged : goal.returns-clause-unchanged
@@ -38,5 +43,6 @@ returns-clause-unchanged c =
     let ok : IsOk c.make_mut.result = search rules in
     let into : entries (c.make_mut.follows.lender c.put.new.self) ≡ c.put.new.self = c.make_mut.follows.holds c.put.new.self ok in
     OnErr-then c.put.result
-    (λ kept. map-set_same entries c.args.parts.now.items c.args.place (c.make_mut.follows.lender c.put.new.self) h (into ∙ kept ∙ same ∙ ap entries c.index_mut.ensures.value))
+    (λ kept. map-set_same entries c.args.parts.now.items c.args.place (c.make_mut.follows.lender c.put.new.self) h
+    (into ∙ kept ∙ same ∙ ap entries c.index_mut.ensures.value))
     c.put.ensures.unchanged

@@ -10,9 +10,11 @@ pub returns-clause-kept : goal.returns-clause-kept
 returns-clause-kept c =
     let count : ℕ = c.args.count in
     let are = c.in_ok-vec.ensures.items_if_clones_equal (λ y e. e) in
-    let pool : map status_from c.in_ok-vec.field-0.items ≡ replicate count Free = ap (map status_from) are ∙ all_one status_from count places.Free in
+    let pool : map status_from c.in_ok-vec.field-0.items ≡ replicate count Free =
+    ap (map status_from) are ∙ all_one status_from count places.Free in
     let long : length c.in_ok-vec.field-0.items ≡ count = ap length are ∙ length-replicate count places.Free in
-    let room : length c.in_ok-vec-2.field-0.items ≡ count = ap length (c.in_ok-vec-2.ensures.items_if_clones_equal (λ y e. e)) ∙ length-replicate count 0 in
+    let room : length c.in_ok-vec-2.field-0.items ≡ count =
+    ap length (c.in_ok-vec-2.ensures.items_if_clones_equal (λ y e. e)) ∙ length-replicate count 0 in
     let free = c.in_ok-numbers_up_to.ensures.length in
     record {
       few = omega (arith, c.requires);
@@ -21,8 +23,10 @@ returns-clause-kept c =
       free_in = omega arith;
       retired_in = omega arith;
       free_are = subst (λ ps. Lists is_free ps (take count c.in_ok-numbers_up_to.field-0.items)) (sym pool)
-          (subst (Lists is_free (replicate count Free)) (sym (take_all count c.in_ok-numbers_up_to.field-0.items (omega arith))) c.in_ok-numbers_up_to.ensures.listed);
-      retired_are = subst (λ ps. Lists is_retired ps (take 0 c.in_ok-vec-2.field-0.items)) (sym pool) (λ q. sym (none_retired q 0 count));
+          (subst (Lists is_free (replicate count Free))
+          (sym (take_all count c.in_ok-numbers_up_to.field-0.items (omega arith))) c.in_ok-numbers_up_to.ensures.listed);
+      retired_are = subst (λ ps. Lists is_retired ps (take 0 c.in_ok-vec-2.field-0.items)) (sym pool)
+          (λ q. sym (none_retired q 0 count));
       nothing_below = λ floor less. ap (count_by (is_past floor)) pool ∙ none_due floor count;
     }
 

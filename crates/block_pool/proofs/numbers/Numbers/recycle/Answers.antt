@@ -4,12 +4,14 @@ use Rattle.std.proofs.lemmas.List.{length-map}
 use Rattle.std.proofs.lemmas.List.Sums.{count_by-le-length}
 use Rattle.block_pool.specs.Pools.{is_retired, is_past, recycled}
 use Rattle.block_pool.specs.Kept.{statuses, status_from, status_of}
-use Rattle.block_pool.proofs.Tallies.{listed_at, recycled_set, past_set, not_past_set, none_past, none_recycled, all_checked, due, later}
+use Rattle.block_pool.proofs.Tallies.{listed_at, recycled_set, past_set, not_past_set, none_past, none_recycled, all_checked, due}
+use Rattle.block_pool.proofs.Tallies.{later}
 use Rattle.block_pool.proofs.numbers.Numbers.recycle.Goals as goal
 
 pub returns-then-floor-self-clause-statuses : goal.returns-then-floor-self-clause-statuses
 returns-then-floor-self-clause-statuses c =
-    sym (none_recycled c.args.floor (statuses c.args.self.now) (c.requires.nothing_below c.args.floor (omega (arith, c.if-floor-self.true))))
+    sym (none_recycled c.args.floor (statuses c.args.self.now)
+    (c.requires.nothing_below c.args.floor (omega (arith, c.if-floor-self.true))))
 
 pub loop-at-init : goal.loop-at-init
 loop-at-init c = record {
@@ -33,9 +35,11 @@ overflow_add-count c =
     let l = length-map c.args.self.now.places.items status_from in
     let n = c.loop-at.self in
     let k = c.loop-at.invariant.kept in
-    let at = listed_at is_retired (statuses n) n.retired_len n.retired.items k.retired_are (omega (arith, k.retired_in, k.retired_room)) c.loop-at.at c.loop-at-test.true in
+    let at = listed_at is_retired (statuses n) n.retired_len n.retired.items k.retired_are
+    (omega (arith, k.retired_in, k.retired_room)) c.loop-at.at c.loop-at-test.true in
     let is : is_past c.args.floor (status_of (statuses n) (get_or n.retired.items c.loop-at.at 0)) ≡ true =
-    ap (is_past c.args.floor) c.version_at-version.ensures ∙ due c.version_at-version.result c.args.floor c.if-version-floor.true in
+    ap (is_past c.args.floor) c.version_at-version.ensures
+    ∙ due c.version_at-version.result c.args.floor c.if-version-floor.true in
     let p = past_set c.args.floor (statuses n) (get_or n.retired.items c.loop-at.at 0) at.0 is in
     let b = c.loop-at.invariant.counted in
     let f = c.requires.few in omega arith
@@ -50,9 +54,11 @@ loop-at-preserved-then-version-floor c =
     let n = c.loop-at.self in
     let k = c.loop-at.invariant.kept in
     let r : ℕ = get_or n.retired.items c.loop-at.at 0 in
-    let at = listed_at is_retired (statuses n) n.retired_len n.retired.items k.retired_are (omega (arith, k.retired_in, k.retired_room)) c.loop-at.at c.loop-at-test.true in
+    let at = listed_at is_retired (statuses n) n.retired_len n.retired.items k.retired_are
+    (omega (arith, k.retired_in, k.retired_room)) c.loop-at.at c.loop-at-test.true in
     let is : is_past c.args.floor (status_of (statuses n) r) ≡ true =
-    ap (is_past c.args.floor) c.version_at-version.ensures ∙ due c.version_at-version.result c.args.floor c.if-version-floor.true in
+    ap (is_past c.args.floor) c.version_at-version.ensures
+    ∙ due c.version_at-version.result c.args.floor c.if-version-floor.true in
     let p = past_set c.args.floor (statuses n) r at.0 is in
     let e = ap (count_by (is_past c.args.floor)) c.release.ensures.statuses in
     let b = c.loop-at.invariant.counted in
@@ -60,17 +66,21 @@ loop-at-preserved-then-version-floor c =
     let t = c.loop-at-test.true in
     record {
       kept = c.release.ensures.kept;
-      after = ap (map (recycled c.args.floor)) c.release.ensures.statuses ∙ recycled_set c.args.floor (statuses n) r is ∙ c.loop-at.invariant.after;
+      after = ap (map (recycled c.args.floor)) c.release.ensures.statuses ∙ recycled_set c.args.floor (statuses n) r is
+          ∙ c.loop-at.invariant.after;
       counted = omega arith;
       within = omega arith;
       checked = λ j lt.
-          ap (λ pool. is_past c.args.floor (status_of pool (get_or c.release.new.self.retired.items j 0))) c.release.ensures.statuses
+          ap (λ pool. is_past c.args.floor (status_of pool (get_or c.release.new.self.retired.items j 0)))
+          c.release.ensures.statuses
           ∙ not_past_set c.args.floor (statuses n) r (get_or c.release.new.self.retired.items j 0)
-          (ap (λ m. is_past c.args.floor (status_of (statuses n) m)) (c.release.ensures.before j lt) ∙ c.loop-at.invariant.checked j lt);
+          (ap (λ m. is_past c.args.floor (status_of (statuses n) m)) (c.release.ensures.before j lt)
+          ∙ c.loop-at.invariant.checked j lt);
       least_left = λ f less j lt.
           ap (λ pool. is_past f (status_of pool (get_or c.release.new.self.retired.items j 0))) c.release.ensures.statuses
           ∙ not_past_set f (statuses n) r (get_or c.release.new.self.retired.items j 0)
-          (ap (λ m. is_past f (status_of (statuses n) m)) (c.release.ensures.before j lt) ∙ c.loop-at.invariant.least_left f less j lt);
+          (ap (λ m. is_past f (status_of (statuses n) m)) (c.release.ensures.before j lt)
+          ∙ c.loop-at.invariant.least_left f less j lt);
     }
 
 pub loop-at-preserved : goal.loop-at-preserved
@@ -82,16 +92,22 @@ loop-at-preserved c =
       counted = c.loop-at.invariant.counted;
       within = omega (arith, c.loop-at-test.true);
       checked = λ j lt.
-          elim (j == c.loop-at.at) as (λ b. j == c.loop-at.at ≡ b → is_past c.args.floor (status_of (statuses n) (get_or n.retired.items j 0)) ≡ false) [
-            | true ↦ λ t. ap (λ i. is_past c.args.floor (status_of (statuses n) (get_or n.retired.items i 0))) (eqb-true j c.loop-at.at t)
-                ∙ ap (is_past c.args.floor) c.version_at-version.ensures ∙ later c.version_at-version.result c.args.floor (omega (arith, c.if-version-floor.false))
-            | false ↦ λ t. let ne : j ≡ c.loop-at.at → ⊥ = eqb-false j c.loop-at.at t in c.loop-at.invariant.checked j (omega arith)
+          elim (j == c.loop-at.at) as (λ b. j == c.loop-at.at ≡ b
+          → is_past c.args.floor (status_of (statuses n) (get_or n.retired.items j 0)) ≡ false) [
+            | true ↦ λ t. ap (λ i. is_past c.args.floor (status_of (statuses n) (get_or n.retired.items i 0)))
+                (eqb-true j c.loop-at.at t)
+                ∙ ap (is_past c.args.floor) c.version_at-version.ensures
+                ∙ later c.version_at-version.result c.args.floor (omega (arith, c.if-version-floor.false))
+            | false ↦ λ t. let ne : j ≡ c.loop-at.at → ⊥ =
+                eqb-false j c.loop-at.at t in c.loop-at.invariant.checked j (omega arith)
           ] refl;
       least_left = λ f less j lt.
-          elim (j == c.loop-at.at) as (λ b. j == c.loop-at.at ≡ b → is_past f (status_of (statuses n) (get_or n.retired.items j 0)) ≡ false) [
+          elim (j == c.loop-at.at) as (λ b. j == c.loop-at.at ≡ b
+          → is_past f (status_of (statuses n) (get_or n.retired.items j 0)) ≡ false) [
             | true ↦ λ t. ap (λ i. is_past f (status_of (statuses n) (get_or n.retired.items i 0))) (eqb-true j c.loop-at.at t)
                 ∙ ap (is_past f) c.version_at-version.ensures ∙ later c.version_at-version.result f (omega arith)
-            | false ↦ λ t. let ne : j ≡ c.loop-at.at → ⊥ = eqb-false j c.loop-at.at t in c.loop-at.invariant.least_left f (omega arith) j (omega arith)
+            | false ↦ λ t. let ne : j ≡ c.loop-at.at → ⊥ =
+                eqb-false j c.loop-at.at t in c.loop-at.invariant.least_left f (omega arith) j (omega arith)
           ] refl;
     }
 
@@ -108,7 +124,8 @@ returns-clause-kept c =
       free_are = k.free_are;
       retired_are = k.retired_are;
       nothing_below = λ f less.
-          (none_past f (statuses n) (all_checked f (statuses n) n.retired_len n.retired.items k.retired_are (omega (arith, k.retired_in, k.retired_room))
+          (none_past f (statuses n) (all_checked f (statuses n) n.retired_len n.retired.items k.retired_are
+          (omega (arith, k.retired_in, k.retired_room))
           (λ i lt. c.loop-at.invariant.least_left f less i (omega (arith, lt, c.loop-at-test.false))))).1;
     }
 
@@ -116,14 +133,20 @@ pub returns-clause-statuses : goal.returns-clause-statuses
 returns-clause-statuses c =
     let n = c.loop-at.self in
     let k = c.loop-at.invariant.kept in
-    let none = none_past c.args.floor (statuses n) (all_checked c.args.floor (statuses n) n.retired_len n.retired.items k.retired_are (omega (arith, k.retired_in, k.retired_room)) (λ i lt. c.loop-at.invariant.checked i (omega (arith, lt, c.loop-at-test.false)))) in
+    let none = none_past c.args.floor (statuses n)
+    (all_checked c.args.floor (statuses n) n.retired_len n.retired.items k.retired_are
+    (omega (arith, k.retired_in, k.retired_room))
+    (λ i lt. c.loop-at.invariant.checked i (omega (arith, lt, c.loop-at-test.false)))) in
     sym none.0 ∙ c.loop-at.invariant.after
 
 pub returns-clause-count : goal.returns-clause-count
 returns-clause-count c =
     let n = c.loop-at.self in
     let k = c.loop-at.invariant.kept in
-    let none = none_past c.args.floor (statuses n) (all_checked c.args.floor (statuses n) n.retired_len n.retired.items k.retired_are (omega (arith, k.retired_in, k.retired_room)) (λ i lt. c.loop-at.invariant.checked i (omega (arith, lt, c.loop-at-test.false)))) in
+    let none = none_past c.args.floor (statuses n)
+    (all_checked c.args.floor (statuses n) n.retired_len n.retired.items k.retired_are
+    (omega (arith, k.retired_in, k.retired_room))
+    (λ i lt. c.loop-at.invariant.checked i (omega (arith, lt, c.loop-at-test.false)))) in
     let z = none.1 in
     let b = c.loop-at.invariant.counted in
     omega arith

@@ -11,7 +11,8 @@ invariant-loop-at l = record {
   counted : l.count + count_by (is_past l.floor) (statuses l.self) ≡ count_by (is_past l.floor) (statuses l.initial.self);
   within : l.at ≤ l.self.retired_len;
   checked : (k : ℕ) → k < l.at → is_past l.floor (status_of (statuses l.self) (slice_index l.self.retired.items k)) ≡ false;
-  least_left : (f : ℕ) → f < l.least → (k : ℕ) → k < l.at → is_past f (status_of (statuses l.self) (slice_index l.self.retired.items k)) ≡ false;
+  least_left : (f : ℕ) → f < l.least → (k : ℕ) → k < l.at
+      → is_past f (status_of (statuses l.self) (slice_index l.self.retired.items k)) ≡ false;
 }
 
 abbrev pub decreases-loop-at : goal.decreases-loop-at

@@ -12,7 +12,8 @@ index_mut-requires-2 c =
     let n = c.args.self.now in
     let k = c.requires.kept in
     let at = used_at (statuses n) c.args.number c.requires.born in
-    let room = lists_room is_retired (statuses n) (take n.retired_len n.retired.items) k.retired_are c.args.number (Retired c.args.version) at.0 (ap is_retired at.1) in
+    let room = lists_room is_retired (statuses n) (take n.retired_len n.retired.items) k.retired_are c.args.number
+    (Retired c.args.version) at.0 (ap is_retired at.1) in
     let long = length-map n.places.items status_from in
     omega (arith, length-take n.retired_len n.retired.items, k.retired_in, k.retired_room, room, long)
 
@@ -21,9 +22,11 @@ returns-clause-kept c =
     let n = c.args.self.now in
     let k = c.requires.kept in
     let at = used_at (statuses n) c.args.number c.requires.born in
-    let room = lists_room is_retired (statuses n) (take n.retired_len n.retired.items) k.retired_are c.args.number (Retired c.args.version) at.0 (ap is_retired at.1) in
+    let room = lists_room is_retired (statuses n) (take n.retired_len n.retired.items) k.retired_are c.args.number
+    (Retired c.args.version) at.0 (ap is_retired at.1) in
     let long = length-map n.places.items status_from in
-    let lt : n.retired_len < length n.retired.items = omega (arith, length-take n.retired_len n.retired.items, k.retired_in, k.retired_room, room, long) in
+    let lt : n.retired_len < length n.retired.items =
+    omega (arith, length-take n.retired_len n.retired.items, k.retired_in, k.retired_room, room, long) in
     let long_places = length-set n.places.items c.args.number (places.Retired c.args.version) in
     let after = map-set status_from n.places.items c.args.number (places.Retired c.args.version) in
     let free = length-set n.retired.items n.retired_len c.args.number in
@@ -33,12 +36,19 @@ returns-clause-kept c =
       free_room = omega (arith, k.free_room);
       retired_in = omega (arith, k.retired_room);
       free_in = omega (arith, k.free_in);
-      nothing_below = λ floor lt. subst (λ pool. count_by (is_past floor) pool ≡ 0) (sym after) (none_set floor (statuses n) c.args.number (Retired c.args.version) at.0 (later c.args.version floor (omega (arith, lt))) (k.nothing_below floor (omega (arith, lt))));
-      retired_are = subst (λ pool. Lists is_retired pool (take (n.retired_len + 1) (set n.retired.items n.retired_len c.args.number))) (sym after)
-          (subst (Lists is_retired (set (statuses n) c.args.number (Retired c.args.version))) (sym (take_more_set n.retired.items n.retired_len c.args.number lt))
-          (lists_more is_retired (statuses n) (take n.retired_len n.retired.items) k.retired_are c.args.number (Retired c.args.version) at.0 (ap is_retired at.1) refl));
+      nothing_below = λ floor lt. subst (λ pool. count_by (is_past floor) pool ≡ 0) (sym after)
+          (none_set floor (statuses n) c.args.number (Retired c.args.version) at.0
+          (later c.args.version floor (omega (arith, lt))) (k.nothing_below floor (omega (arith, lt))));
+      retired_are =
+          subst (λ pool. Lists is_retired pool (take (n.retired_len + 1) (set n.retired.items n.retired_len c.args.number)))
+          (sym after)
+          (subst (Lists is_retired (set (statuses n) c.args.number (Retired c.args.version)))
+          (sym (take_more_set n.retired.items n.retired_len c.args.number lt))
+          (lists_more is_retired (statuses n) (take n.retired_len n.retired.items) k.retired_are c.args.number
+          (Retired c.args.version) at.0 (ap is_retired at.1) refl));
       free_are = subst (λ pool. Lists is_free pool (take n.free_len n.free.items)) (sym after)
-          (lists_same is_free (statuses n) (take n.free_len n.free.items) k.free_are c.args.number (Retired c.args.version) at.0 (ap is_free at.1));
+          (lists_same is_free (statuses n) (take n.free_len n.free.items) k.free_are c.args.number (Retired c.args.version) at.0
+          (ap is_free at.1));
     }
 
 pub returns-clause-statuses : goal.returns-clause-statuses

@@ -14,10 +14,13 @@ grant-preserved c =
       kept = c.use_one.ensures.kept;
       enough = omega (arith, c.grant.invariant.enough, c.use_one.ensures.shorter, c.grant-test.true);
       after =
-          ap (λ (room : List ℕ). marked (popped room c.use_one.new.self.free_len (c.grant.left - 1)) Used (statuses c.use_one.new.self)) c.use_one.ensures.room
-          ∙ ap (λ len. marked (popped n.free.items len (c.grant.left - 1)) Used (statuses c.use_one.new.self)) c.use_one.ensures.shorter
+          ap (λ (room : List ℕ). marked (popped room c.use_one.new.self.free_len (c.grant.left - 1)) Used
+          (statuses c.use_one.new.self)) c.use_one.ensures.room
+          ∙ ap (λ len. marked (popped n.free.items len (c.grant.left - 1)) Used (statuses c.use_one.new.self))
+          c.use_one.ensures.shorter
           ∙ ap (marked (popped n.free.items (n.free_len - 1) (c.grant.left - 1)) Used) c.use_one.ensures.statuses
-          ∙ sym (ap (λ ns. marked ns Used (statuses n)) (popped_more n.free.items n.free_len c.grant.left (omega (arith, c.grant-test.true))))
+          ∙ sym (ap (λ ns. marked ns Used (statuses n))
+          (popped_more n.free.items n.free_len c.grant.left (omega (arith, c.grant-test.true))))
           ∙ c.grant.invariant.after;
     }
 
@@ -26,4 +29,6 @@ returns-clause-kept c = c.grant.invariant.kept
 
 pub returns-clause-statuses : goal.returns-clause-statuses
 returns-clause-statuses c =
-    ap (λ ns. marked ns Used (statuses c.grant.self)) (sym (popped_none c.grant.self.free.items c.grant.self.free_len c.grant.left (omega (arith, c.grant-test.false)))) ∙ c.grant.invariant.after
+    ap (λ ns. marked ns Used (statuses c.grant.self))
+    (sym (popped_none c.grant.self.free.items c.grant.self.free_len c.grant.left (omega (arith, c.grant-test.false))))
+    ∙ c.grant.invariant.after

@@ -7,7 +7,8 @@ abbrev pub invariant-grant : goal.invariant-grant
 invariant-grant l = record {
   kept : IsKept l.self;
   enough : l.left ≤ l.self.free_len;
-  after : marked (popped l.self.free.items l.self.free_len l.left) Used (statuses l.self) ≡ marked (popped l.initial.self.free.items l.initial.self.free_len l.initial.left) Used (statuses l.initial.self);
+  after : marked (popped l.self.free.items l.self.free_len l.left) Used (statuses l.self)
+      ≡ marked (popped l.initial.self.free.items l.initial.self.free_len l.initial.left) Used (statuses l.initial.self);
 }
 
 abbrev pub decreases-grant : goal.decreases-grant

@@ -1,4 +1,5 @@
-use Rattle.std.proofs.Common.{◌≡◌, ◌∙◌, ◌+◌, ◌<◌, ℕ, length, get_or, set, count_by, cond, ◌-◌, sym, ap, subst, refl, take, arith, true}
+use Rattle.std.proofs.Common.{◌≡◌, ◌∙◌, ◌+◌, ◌<◌, ℕ, length, get_or, set, count_by, cond, ◌-◌, sym, ap, subst, refl, take, arith}
+use Rattle.std.proofs.Common.{true}
 use Rattle.std.proofs.Math.ListN.{length-set}
 use Rattle.std.proofs.lemmas.List.{get_or_read, take_more, map-set, length-map}
 use Rattle.block_pool.specs.Pools.{Used, is_free, is_retired, is_past}
@@ -12,9 +13,12 @@ index_mut-requires c =
     let n = c.args.self.now in
     let k = c.requires.kept in
     let m : ℕ = n.free_len - 1 in
-    let at = listed_at is_free (statuses n) n.free_len n.free.items k.free_are (omega (arith, k.free_in, k.free_room)) m (omega (arith, c.requires.some)) in
+    let at = listed_at is_free (statuses n) n.free_len n.free.items k.free_are (omega (arith, k.free_in, k.free_room)) m
+    (omega (arith, c.requires.some)) in
     let long = length-map n.places.items status_from in
-    let same : c.index-number.result.now ≡ get_or n.free.items m 0 = get_or_read n.free.items m c.index-number.result.now (omega (arith, c.requires.some, k.free_in, k.free_room)) c.index-number.ensures 0 in
+    let same : c.index-number.result.now ≡ get_or n.free.items m 0 =
+    get_or_read n.free.items m c.index-number.result.now
+    (omega (arith, c.requires.some, k.free_in, k.free_room)) c.index-number.ensures 0 in
     omega (arith, at.0, long, same)
 
 pub returns-clause-kept : goal.returns-clause-kept
@@ -26,7 +30,8 @@ returns-clause-kept c =
     let more : m + 1 ≡ n.free_len = omega (arith, c.requires.some) in
     let ml : m < length n.free.items = omega (arith, c.requires.some, k.free_in, k.free_room) in
     let same : num ≡ get_or n.free.items m 0 = get_or_read n.free.items m num ml c.index-number.ensures 0 in
-    let at = listed_at is_free (statuses n) n.free_len n.free.items k.free_are (omega (arith, k.free_in, k.free_room)) m (omega (arith, c.requires.some)) in
+    let at = listed_at is_free (statuses n) n.free_len n.free.items k.free_are (omega (arith, k.free_in, k.free_room)) m
+    (omega (arith, c.requires.some)) in
     let within : num < length (statuses n) = omega (arith, at.0, same) in
     let st : is_free (status_of (statuses n) num) ≡ true = ap (λ j. is_free (status_of (statuses n) j)) same ∙ at.1 in
     let long_places = length-set n.places.items num places.Used in
@@ -39,12 +44,15 @@ returns-clause-kept c =
       retired_in = omega (arith, k.retired_in);
       free_are = subst (λ pool. Lists is_free pool (take m n.free.items)) (sym after)
           (lists_less is_free (statuses n) (take n.free_len n.free.items) k.free_are num Used within (take m n.free.items)
-          (λ q. ap (λ j. count_by q (take j n.free.items)) (sym more) ∙ ap (count_by q) (take_more n.free.items m 0 ml) ∙ count_last q (take m n.free.items) (get_or n.free.items m 0)
+          (λ q. ap (λ j. count_by q (take j n.free.items)) (sym more) ∙ ap (count_by q) (take_more n.free.items m 0 ml)
+          ∙ count_last q (take m n.free.items) (get_or n.free.items m 0)
           ∙ ap (λ b. count_by q (take m n.free.items) + cond (q b) 1 0) (sym same))
           st refl);
-      nothing_below = λ floor lt. subst (λ pool. count_by (is_past floor) pool ≡ 0) (sym after) (none_set floor (statuses n) num Used within refl (k.nothing_below floor lt));
+      nothing_below = λ floor lt. subst (λ pool. count_by (is_past floor) pool ≡ 0) (sym after)
+          (none_set floor (statuses n) num Used within refl (k.nothing_below floor lt));
       retired_are = subst (λ pool. Lists is_retired pool (take n.retired_len n.retired.items)) (sym after)
-          (lists_same is_retired (statuses n) (take n.retired_len n.retired.items) k.retired_are num Used within (free_not_retired (status_of (statuses n) num) st));
+          (lists_same is_retired (statuses n) (take n.retired_len n.retired.items) k.retired_are num Used within
+          (free_not_retired (status_of (statuses n) num) st));
     }
 
 pub returns-clause-statuses : goal.returns-clause-statuses
@@ -52,5 +60,7 @@ returns-clause-statuses c =
     let n = c.args.self.now in
     let k = c.requires.kept in
     let m : ℕ = n.free_len - 1 in
-    let same : c.index-number.result.now ≡ get_or n.free.items m 0 = get_or_read n.free.items m c.index-number.result.now (omega (arith, c.requires.some, k.free_in, k.free_room)) c.index-number.ensures 0 in
+    let same : c.index-number.result.now ≡ get_or n.free.items m 0 =
+    get_or_read n.free.items m c.index-number.result.now
+    (omega (arith, c.requires.some, k.free_in, k.free_room)) c.index-number.ensures 0 in
     map-set status_from n.places.items c.index-number.result.now places.Used ∙ ap (λ j. set (statuses n) j Used) same

@@ -12,7 +12,16 @@ overflow_sub-result-2 c =
     let f = listed_count is_free (statuses n) (take n.free_len n.free.items) k.free_are in
     let r = listed_count is_retired (statuses n) (take n.retired_len n.retired.items) k.retired_are in
     let all = all_parts (statuses n) in
-    omega (arith, length-take n.free_len n.free.items, length-take n.retired_len n.retired.items, k.free_in, k.free_room, k.retired_in, k.retired_room, length-map n.places.items status_from)
+    omega (
+      arith,
+      length-take n.free_len n.free.items,
+      length-take n.retired_len n.retired.items,
+      k.free_in,
+      k.free_room,
+      k.retired_in,
+      k.retired_room,
+      length-map n.places.items status_from,
+    )
 
 pub returns : goal.returns
 returns c =
@@ -21,4 +30,13 @@ returns c =
     let f = listed_count is_free (statuses n) (take n.free_len n.free.items) k.free_are in
     let r = listed_count is_retired (statuses n) (take n.retired_len n.retired.items) k.retired_are in
     let all = all_parts (statuses n) in
-    omega (arith, length-take n.free_len n.free.items, length-take n.retired_len n.retired.items, k.free_in, k.free_room, k.retired_in, k.retired_room, length-map n.places.items status_from)
+    omega (
+      arith,
+      length-take n.free_len n.free.items,
+      length-take n.retired_len n.retired.items,
+      k.free_in,
+      k.free_room,
+      k.retired_in,
+      k.retired_room,
+      length-map n.places.items status_from,
+    )

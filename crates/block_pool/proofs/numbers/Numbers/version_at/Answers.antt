@@ -12,15 +12,21 @@ index-requires-2 c =
 
 pub unreachable-requires : goal.unreachable-requires
 unreachable-requires c =
-    let read = status_read c.args.self.now c.requires.kept c.args.at c.index.result.now c.index-2.result.now c.requires.within c.index.ensures c.index-2.ensures in
+    let read =
+    status_read c.args.self.now c.requires.kept c.args.at c.index.result.now c.index-2.result.now c.requires.within
+    c.index.ensures c.index-2.ensures in
     false≢true (ap (λ p. is_retired (status_from p)) (sym c.in-Free.is) ∙ read.1)
 
 pub unreachable-requires-in-Used : goal.unreachable-requires-in-Used
 unreachable-requires-in-Used c =
-    let read = status_read c.args.self.now c.requires.kept c.args.at c.index.result.now c.index-2.result.now c.requires.within c.index.ensures c.index-2.ensures in
+    let read =
+    status_read c.args.self.now c.requires.kept c.args.at c.index.result.now c.index-2.result.now c.requires.within
+    c.index.ensures c.index-2.ensures in
     false≢true (ap (λ p. is_retired (status_from p)) (sym c.in-Used.is) ∙ read.1)
 
 pub returns : goal.returns
 returns c =
-    let read = status_read c.args.self.now c.requires.kept c.args.at c.index.result.now c.index-2.result.now c.requires.within c.index.ensures c.index-2.ensures in
+    let read =
+    status_read c.args.self.now c.requires.kept c.args.at c.index.result.now c.index-2.result.now c.requires.within
+    c.index.ensures c.index-2.ensures in
     read.0 ∙ ap status_from c.in-Retired.is

@@ -13,7 +13,17 @@ gather-requires-clause-enough c =
     let kept = c.self.invariant.0 in
     let listed = listed_count is_free (statuses n) (take n.free_len n.free.items) kept.free_are in
     let v = ap (count_by is_free) c.self.view_is in
-    let enough : c.args.count ≤ n.free_len = omega (arith, length-take n.free_len n.free.items, kept.free_in, kept.free_room, listed, v, c.free-free.ensures, c.if-count-free.false) in
+    let enough : c.args.count ≤ n.free_len =
+    omega (
+      arith,
+      length-take n.free_len n.free.items,
+      kept.free_in,
+      kept.free_room,
+      listed,
+      v,
+      c.free-free.ensures,
+      c.if-count-free.false,
+    ) in
     enough
 
 pub use_last-requires-clause-enough : goal.use_last-requires-clause-enough
@@ -22,7 +32,17 @@ use_last-requires-clause-enough c =
     let kept = c.self.invariant.0 in
     let listed = listed_count is_free (statuses n) (take n.free_len n.free.items) kept.free_are in
     let v = ap (count_by is_free) c.self.view_is in
-    let enough : c.args.count ≤ n.free_len = omega (arith, length-take n.free_len n.free.items, kept.free_in, kept.free_room, listed, v, c.free-free.ensures, c.if-count-free.false) in
+    let enough : c.args.count ≤ n.free_len =
+    omega (
+      arith,
+      length-take n.free_len n.free.items,
+      kept.free_in,
+      kept.free_room,
+      listed,
+      v,
+      c.free-free.ensures,
+      c.if-count-free.false,
+    ) in
     enough
 
 pub invariant_of-self-2 : goal.invariant_of-self-2
@@ -30,7 +50,8 @@ invariant_of-self-2 c =
     let n = c.self.inside.numbers in
     let before = length-map n.places.items status_from in
     let after = length-map c.use_last.new.self.places.items status_from in
-    let e = ap length c.use_last.ensures.statuses ∙ length-marked (popped n.free.items n.free_len c.args.count) Used (statuses n) in
+    let e = ap length c.use_last.ensures.statuses
+    ∙ length-marked (popped n.free.items n.free_len c.args.count) Used (statuses n) in
     let same : length n.places.items ≡ length c.use_last.new.self.places.items = omega arith in
     (c.use_last.ensures.kept, subst (λ (m : ℕ). AreBodies m c.gather.new.bodies.items) same c.gather.ensures.bodies)
 
@@ -40,9 +61,20 @@ returns-clause-numbers c =
     let kept = c.self.invariant.0 in
     let listed = listed_count is_free (statuses n) (take n.free_len n.free.items) kept.free_are in
     let v = ap (count_by is_free) c.self.view_is in
-    let enough : c.args.count ≤ n.free_len = omega (arith, length-take n.free_len n.free.items, kept.free_in, kept.free_room, listed, v, c.free-free.ensures, c.if-count-free.false) in (
+    let enough : c.args.count ≤ n.free_len =
+    omega (
+      arith,
+      length-take n.free_len n.free.items,
+      kept.free_in,
+      kept.free_room,
+      listed,
+      v,
+      c.free-free.ensures,
+      c.if-count-free.false,
+    ) in (
       subst (AreFree c.args.self.now) (sym c.in-Ok.ensures.numbers)
           (subst (λ pool. AreFree pool (popped n.free.items n.free_len c.args.count)) c.self.view_is
-          (popped_free (statuses n) n.free_len n.free.items c.args.count kept.free_are (omega (arith, kept.free_in, kept.free_room)) enough)),
+          (popped_free (statuses n) n.free_len n.free.items c.args.count kept.free_are
+          (omega (arith, kept.free_in, kept.free_room)) enough)),
       ap length c.in-Ok.ensures.numbers ∙ length-popped n.free.items n.free_len c.args.count,
     )

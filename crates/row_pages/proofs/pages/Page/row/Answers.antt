@@ -10,4 +10,5 @@ returns c =
     let within = c.requires in
     rw (← c.self.view_is)
     (c.row.ensures.row ∙ ap (λ (p : List (List BlockView)). get_or p (c.args.place % 8) []) c.deref.ensures
-    ∙ sym (at_piece 8 in_part c.self.inside.parts c.args.place (c.args.place / 8) (c.args.place % 8) c.index-self-place.result [] c.self.invariant.0 (omega arith) (omega arith) (omega arith)))
+    ∙ sym (at_piece 8 in_part c.self.inside.parts c.args.place (c.args.place / 8)
+    (c.args.place % 8) c.index-self-place.result [] c.self.invariant.0 (omega arith) (omega arith) (omega arith)))

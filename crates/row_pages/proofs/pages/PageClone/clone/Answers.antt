@@ -7,7 +7,9 @@ pub returns : goal.returns
 returns c = record {
   cases =
       same_pieces 8 in_part
-      (c.in_ok-try_clone.field-0 ∷ c.in_ok-try_clone-2.field-0 ∷ c.in_ok-try_clone-3.field-0 ∷ c.in_ok-try_clone-4.field-0 ∷ c.in_ok-try_clone-5.field-0 ∷ c.in_ok-try_clone-6.field-0 ∷ c.in_ok-try_clone-7.field-0 ∷ c.in_ok-try_clone-8.field-0 ∷ [])
+      (c.in_ok-try_clone.field-0 ∷ c.in_ok-try_clone-2.field-0 ∷ c.in_ok-try_clone-3.field-0 ∷ c.in_ok-try_clone-4.field-0
+      ∷ c.in_ok-try_clone-5.field-0 ∷ c.in_ok-try_clone-6.field-0 ∷ c.in_ok-try_clone-7.field-0 ∷ c.in_ok-try_clone-8.field-0
+      ∷ [])
       c.self.inside.parts
       (eight in_part c.self.inside.parts _ _ _ _ _ _ _ _ _ _ _ _ _ _ _ _ c.self.told
       c.in_ok-try_clone.ensures c.in_ok-try_clone-2.ensures c.in_ok-try_clone-3.ensures c.in_ok-try_clone-4.ensures

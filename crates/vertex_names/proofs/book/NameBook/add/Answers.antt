@@ -17,14 +17,20 @@ invariant_of-self-2 c =
     let names : List (List ℕ) = c.self.inside.texts in
     let new : is_listed names c.args.name.now ≡ false = not_listed _ _ c.args.name.now c.self.view_is c.in_default.ensures in
     let room : length names < c.self.inside.limit = omega (arith, c.len-number.ensures) in
-    let pushed : c.push.new.self ≡ names ++ c.args.name.now ∷ [] = c.in_ok-push.ensures.pushed ∙ ap (λ (n : List ℕ). names ++ n ∷ []) c.in_ok-text.ensures.ok in
+    let pushed : c.push.new.self ≡ names ++ c.args.name.now ∷ [] =
+    c.in_ok-push.ensures.pushed ∙ ap (λ (n : List ℕ). names ++ n ∷ []) c.in_ok-text.ensures.ok in
     let stands : Stands c.enter.new.index c.enter.new.others.items (text_hash c.args.name.now) (length names) =
     subst (λ (h : ℕ). Stands c.enter.new.index c.enter.new.others.items h (length names)) c.hash_of-hash.ensures
-    (subst (λ (n : ℕ). Stands c.enter.new.index c.enter.new.others.items c.hash_of-hash.result n) c.len-number.ensures c.in_ok-enter.ensures.entered) in
-    rw pushed
-    (IsBook-pushed c.self.inside.limit names c.args.name.now c.requires new room c.self.invariant.0, IsIndexed-pushed _ _ _ _ (IsIndexed-kept _ _ _ _ _ c.self.invariant.1 c.enter.ensures.kept) stands)
+    (subst (λ (n : ℕ). Stands c.enter.new.index c.enter.new.others.items c.hash_of-hash.result n) c.len-number.ensures
+    c.in_ok-enter.ensures.entered) in
+    rw pushed (
+      IsBook-pushed c.self.inside.limit names c.args.name.now c.requires new room c.self.invariant.0,
+      IsIndexed-pushed _ _ _ _
+          (IsIndexed-kept _ _ _ _ _ c.self.invariant.1 c.enter.ensures.kept) stands,
+    )
 
 pub returns-clause-number : goal.returns-clause-number
 returns-clause-number c =
-    let new : is_listed c.self.inside.texts c.args.name.now ≡ false = not_listed _ _ c.args.name.now c.self.view_is c.in_default.ensures in
+    let new : is_listed c.self.inside.texts c.args.name.now ≡ false =
+    not_listed _ _ c.args.name.now c.self.view_is c.in_default.ensures in
     rw (← c.self.view_is) (c.len-number.ensures ∙ sym (number_of-new _ _ new))

@@ -6,7 +6,8 @@ use Rattle.vertex_names.proofs.book.NameBook.number_at.Goals as goal
 
 pub returns-in_err-first : goal.returns-in_err-first
 returns-in_err-first c =
-    let none : found_at c.self.inside.index (text_hash c.args.name.now) ≡ None = ap (λ h. found_at c.self.inside.index h) (sym c.requires) ∙ sym c.first.ensures ∙ c.in_err-first.was in
+    let none : found_at c.self.inside.index (text_hash c.args.name.now) ≡ None =
+    ap (λ h. found_at c.self.inside.index h) (sym c.requires) ∙ sym c.first.ensures ∙ c.in_err-first.was in
     rw (c.from_residual.ensures, ← c.self.view_is)
     (none_listed c.self.inside.texts c.self.inside.index c.self.inside.others.items c.args.name.now c.self.invariant.1 none)
 
@@ -17,8 +18,11 @@ returns-then-is_at c =
 
 pub returns : goal.returns
 returns c =
-    let found : found_at c.self.inside.index (text_hash c.args.name.now) ≡ Some c.in_ok-first.first = ap (λ h. found_at c.self.inside.index h) (sym c.requires) ∙ sym c.first.ensures ∙ c.in_ok-first.was in
-    let other : ¬ (slice_get c.self.inside.texts c.in_ok-first.first ≡ Some c.args.name.now) = λ at. true≢false (sym (c.is_at.ensures.1 at) ∙ c.if-is_at.false) in
+    let found : found_at c.self.inside.index (text_hash c.args.name.now) ≡ Some c.in_ok-first.first =
+    ap (λ h. found_at c.self.inside.index h) (sym c.requires) ∙ sym c.first.ensures ∙ c.in_ok-first.was in
+    let other : ¬ (slice_get c.self.inside.texts c.in_ok-first.first ≡ Some c.args.name.now) =
+    λ at. true≢false (sym (c.is_at.ensures.1 at) ∙ c.if-is_at.false) in
     rw (← c.self.view_is)
-    (SomeIff-among c.self.inside.texts c.self.inside.index c.self.inside.others.items c.args.name.now c.in_ok-first.first c.find_among.result c.self.invariant.0.distinct c.self.invariant.1 found other
+    (SomeIff-among c.self.inside.texts c.self.inside.index c.self.inside.others.items c.args.name.now c.in_ok-first.first
+    c.find_among.result c.self.invariant.0.distinct c.self.invariant.1 found other
     c.find_among.ensures.found (rw c.deref.ensures.value at c.find_among.ensures.absent))
