@@ -1,0 +1,64 @@
+// Batches that meet a limit, in the middle or at the end.
+
+ghost use Rattle.graph_model.specs.Graph.{IsContent};
+
+use super::ops::{LineError, insertion, removal};
+use super::sames::check_same;
+use super::steps::{empty, next};
+use batch_plan::{PlanError, plan};
+use graph_model::{Batch, Content};
+use graph_version::Version;
+use plain_graph::{PlainError, plain_apply};
+use std::alloc::Global;
+use std::process::Abort;
+
+// A removal of a kind that is unknown, and an edge of each of so many kinds.
+fn kinds(alloc: Global, count: u32) -> Result<Batch, LineError> {
+    let mut batch = Batch::new(alloc);
+    batch.push(removal(alloc, "none", "a", "b")?)?;
+    for number in 0..count {
+        batch.push(insertion(
+            alloc,
+            format!(in alloc; "k{number}")?.as_str(),
+            "a",
+            "b",
+            1,
+            1,
+        )?)?;
+    }
+    Ok(batch)
+}
+
+// The batch is refused for its kinds, by the plan as by the plain application, and nothing has changed.
+fn check_refused(
+    rt: &impl Abort,
+    alloc: Global,
+    version: &Version,
+    content: &mut Content,
+    batch: &Batch,
+)
+    requires { IsContent content.old }
+    ensures { IsContent content.new }
+{
+    assert_eq!(rt;
+        plan(alloc, version, batch, 2).err(),
+        Some(PlanError::KindsFull)
+    );
+    assert_eq!(rt;
+        plain_apply(alloc, content, batch).err(),
+        Some(PlainError::KindsFull)
+    );
+    check_same(rt, version, content);
+}
+
+#[test]
+fn refuses_a_kind_too_many(rt: HostRuntime) {
+    let alloc = rt.alloc();
+    let mut content = empty(alloc);
+    let many = kinds(alloc, 66).expect(&rt, "kinds");
+    check_refused(&rt, alloc, &Version::empty(alloc), &mut content, &many);
+    let batch = kinds(alloc, 64).expect(&rt, "kinds");
+    let first = next(&rt, alloc, 2, &Version::empty(alloc), &mut content, batch);
+    assert_eq!(rt; first.version.kinds().len(), 64);
+    check_refused(&rt, alloc, &first.version, &mut content, &many);
+}

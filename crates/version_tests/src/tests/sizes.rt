@@ -1,0 +1,166 @@
+// Versions at the ends of the pieces that they share: of 256 names, of 64 rows, of 256 batches, and of 32 edges.
+
+ghost use Rattle.graph_model.specs.Graph.{IsContent};
+
+use super::ops::{LineError, insertion, removal};
+use super::sames::row_text;
+use super::steps::{empty, next};
+use graph_model::{Batch, Content, NamedOp, VertexId};
+use graph_version::Version;
+use std::alloc::{AllocError, Global};
+use std::process::Abort;
+use std::thread::Threads;
+
+// The edge from the vertex of a number to the next one.
+fn link(alloc: Global, number: u32) -> Result<NamedOp, AllocError> {
+    let target = number.saturating_add(1);
+    insertion(
+        alloc,
+        "k",
+        format!(in alloc; "v{number}")?.as_str(),
+        format!(in alloc; "v{target}")?.as_str(),
+        1,
+        7,
+    )
+}
+
+// Links from these vertices.
+fn chain(alloc: Global, first: u32, end: u32) -> Result<Batch, LineError> {
+    let mut batch = Batch::new(alloc);
+    for number in first..end {
+        batch.push(link(alloc, number)?)?;
+    }
+    Ok(batch)
+}
+
+// A chain of so many links, and then one link more in a version that shares what it can.
+fn check_chain<R: Threads + Sync + Abort>(rt: &R, alloc: Global, workers: usize, links: u32) {
+    let mut content = empty(alloc);
+    let batch = chain(alloc, 0, links).expect(rt, "a chain");
+    let first = next(
+        rt,
+        alloc,
+        workers,
+        &Version::empty(alloc),
+        &mut content,
+        batch,
+    );
+    let batch = chain(alloc, links, links.saturating_add(1)).expect(rt, "a link");
+    let second = next(rt, alloc, workers, &first.version, &mut content, batch);
+    assert_eq!(rt;
+        second.version.names().len(),
+        (links as usize).saturating_add(2)
+    );
+    assert_eq!(rt;
+        first.version.names().len(),
+        (links as usize).saturating_add(1)
+    );
+}
+
+#[test]
+fn shares_names_and_rows_at_the_ends_of_pieces(rt: HostRuntime) {
+    for links in [62, 63, 64, 253, 254, 255, 256] {
+        check_chain(&rt, rt.alloc(), 2, links);
+    }
+}
+
+// One edge from vertex 0 to each of the others.
+fn star(alloc: Global, targets: u32) -> Result<Batch, LineError> {
+    let mut batch = Batch::new(alloc);
+    for number in 0..targets {
+        batch.push(insertion(
+            alloc,
+            "k",
+            "a",
+            format!(in alloc; "v{number}")?.as_str(),
+            1,
+            7,
+        )?)?;
+    }
+    Ok(batch)
+}
+
+// The first target's edge goes, and an edge to a new one comes.
+fn exchange(alloc: Global) -> Result<Batch, LineError> {
+    let mut batch = Batch::new(alloc);
+    batch.push(removal(alloc, "k", "a", "v0")?)?;
+    batch.push(insertion(alloc, "k", "a", "w", 1, 8)?)?;
+    Ok(batch)
+}
+
+#[test]
+fn touches_the_first_block_with_room_alone(rt: HostRuntime) {
+    let alloc = rt.alloc();
+    let mut content = empty(alloc);
+    let batch = star(alloc, 33).expect(&rt, "a star");
+    let first = next(&rt, alloc, 4, &Version::empty(alloc), &mut content, batch);
+    assert_eq!(rt;
+        (first.taken.len(), first.dropped.len(), first.unused.len()),
+        (2, 0, 31)
+    );
+    let batch = exchange(alloc).expect(&rt, "an exchange");
+    let second = next(&rt, alloc, 4, &first.version, &mut content, batch);
+    assert_eq!(rt;
+        (
+            second.taken.len(),
+            second.dropped.len(),
+            second.unused.len()
+        ),
+        (1, 1, 1)
+    );
+    let row = row_text(alloc, &second.version, VertexId(0)).expect(&rt, "a row");
+    assert!(rt; row.as_str().starts_with(" 0:34,2,3,") && row.as_str().ends_with(",32, 0:33,"));
+}
+
+// An edge is put, and the next time taken away.
+fn turn(alloc: Global, number: u64) -> Result<Batch, LineError> {
+    let mut batch = Batch::new(alloc);
+    batch.push(if number % 2 == 0 {
+        insertion(alloc, "k", "a", "b", 1, number)?
+    } else {
+        removal(alloc, "k", "a", "b")?
+    })?;
+    Ok(batch)
+}
+
+// How many batches the version lends.
+fn batches_lent(version: &Version) -> u64 {
+    let mut batches = 0_u64;
+    for _batch in version.batches() {
+        batches = batches.saturating_add(1);
+    }
+    batches
+}
+
+// The version after one turn more.
+fn turned<R: Threads + Sync + Abort>(
+    rt: &R,
+    alloc: Global,
+    version: &Version,
+    content: &mut Content,
+    number: u64,
+) -> Version
+    requires { IsContent content.old }
+    ensures { IsContent content.new }
+{
+    let batch = turn(alloc, number).expect(rt, "a turn");
+    let next = next(rt, alloc, 1, version, content, batch);
+    assert_eq!(rt; version.number(), number);
+    assert_eq!(rt; batches_lent(version), number);
+    assert_eq!(rt; version.edge_count(), number % 2);
+    assert!(rt;
+        next.version
+            .last_batch()
+            .is_some_and(|batch| batch.len() == 1)
+    );
+    next.version
+}
+
+#[test]
+fn shares_batches_at_the_ends_of_pieces(rt: HostRuntime) {
+    let mut version = Version::empty(rt.alloc());
+    let mut content = empty(rt.alloc());
+    for number in 0..259 {
+        version = turned(&rt, rt.alloc(), &version, &mut content, number);
+    }
+}

@@ -1,0 +1,133 @@
+// Lines of batches: each is planned and applied by workers, and applied plainly.
+
+ghost use Rattle.std.specs.Prelude.{◌<◌};
+ghost use Rattle.graph_model.specs.Graph.{IsContent};
+
+use super::fresh::fresh_blocks;
+use super::ops::batch_of;
+use super::sames::{check_same, row_text};
+use batch_apply::{Applied, PassAll, apply};
+use batch_plan::plan;
+use graph_model::{Batch, Content, List, Outcome, VertexId};
+use graph_version::Version;
+use plain_graph::plain_apply;
+use std::alloc::{AllocError, Global};
+use std::process::Abort;
+use std::sync::Arc;
+use std::thread::Threads;
+
+/// The content without names and edges.
+pub(super) fn empty(alloc: Global) -> Content
+    ensures { IsContent result }
+{
+    Content {
+        names: List::of(Vec::new(alloc)),
+        kinds: List::of(Vec::new(alloc)),
+        edges: List::of(Vec::new(alloc)),
+    }
+}
+
+// What a batch of operations leaves of a version, planned for so many workers.
+fn applied<R: Threads + Sync>(
+    rt: &R,
+    alloc: Global,
+    workers: usize,
+    version: &Version,
+    batch: Batch,
+) -> Option<Applied>
+    requires workers { 0 < workers }
+{
+    if version.number() >= 65_536 {
+        return None;
+    }
+    let blocks = fresh_blocks(alloc, version, batch.len())?;
+    let Ok(plan) = plan(alloc, version, &batch, workers) else {
+        return None;
+    };
+    let Ok(batch) = Arc::new(alloc, batch) else {
+        return None;
+    };
+    apply(rt, alloc, &PassAll, version, plan, batch, blocks).ok()
+}
+
+/// The version after a batch, which has what the plain application leaves of the content, and the same outcomes.
+pub(super) fn next<R: Threads + Sync + Abort>(
+    rt: &R,
+    alloc: Global,
+    workers: usize,
+    version: &Version,
+    content: &mut Content,
+    batch: Batch,
+) -> Applied
+    requires { IsContent content.old }
+    ensures { IsContent content.new }
+{
+    let told = plain_apply(alloc, content, &batch).expect(rt, "the plain application");
+    assert!(rt; workers > 0);
+    let next = applied(rt, alloc, workers, version, batch).expect(rt, "the next version");
+    assert_eq!(rt; next.outcomes.as_slice(), told.as_slice());
+    check_same(rt, &next.version, content);
+    next
+}
+
+// The first letters of outcomes.
+fn letter(outcome: Outcome) -> char {
+    match outcome {
+        Outcome::Inserted => 'i',
+        Outcome::Updated => 'u',
+        Outcome::Removed => 'r',
+        Outcome::Absent => 'a',
+        Outcome::Overflow => 'o',
+    }
+}
+
+fn letters(alloc: Global, outcomes: &[Outcome]) -> Result<String, AllocError> {
+    let mut text = String::new(alloc);
+    for outcome in outcomes {
+        text.push(letter(*outcome))?;
+    }
+    Ok(text)
+}
+
+// What a batch's outcomes are, how many blocks it took, dropped and left unused, and source 0's row.
+fn told(alloc: Global, next: &Applied) -> Result<String, AllocError> {
+    let mut text = letters(alloc, &next.outcomes)?;
+    let (taken, dropped, unused) = (next.taken.len(), next.dropped.len(), next.unused.len());
+    text.push_str(format!(in alloc; " {taken} {dropped} {unused}")?.as_str())?;
+    text.push_str(row_text(alloc, &next.version, VertexId(0))?.as_str())?;
+    Ok(text)
+}
+
+// A line: operations, and what is told of them.
+fn check_line<R: Threads + Sync + Abort>(
+    rt: &R,
+    alloc: Global,
+    workers: usize,
+    version: &Version,
+    content: &mut Content,
+    line: &str,
+) -> Version
+    requires { IsContent content.old }
+    ensures { IsContent content.new }
+{
+    let (ops, wanted) = line.split_once(" => ").expect(rt, "a batch");
+    let batch = batch_of(alloc, ops).expect(rt, "operations");
+    let next = next(rt, alloc, workers, version, content, batch);
+    let told = told(alloc, &next).expect(rt, "what it tells");
+    assert_eq!(rt; told.as_str(), wanted, "{line}");
+    next.version
+}
+
+/// Does the lines, one after another, from the version without batches.
+pub(super) fn check_lines<R: Threads + Sync + Abort>(
+    rt: &R,
+    alloc: Global,
+    workers: usize,
+    lines: &str,
+) {
+    let mut version = Version::empty(alloc);
+    let mut content = empty(alloc);
+    for line in lines.lines() {
+        version = check_line(rt, alloc, workers, &version, &mut content, line);
+    }
+}
