@@ -1,1 +1,3 @@
 pub mod Collections
+pub mod Moving
+pub mod Handing

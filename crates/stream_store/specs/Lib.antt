@@ -1,2 +1,5 @@
+pub mod Applying
 pub mod Configs
 pub mod Kept
+pub mod Moves
+pub mod Refusals

@@ -1,6 +1,6 @@
 //! The desk.
 
-ghost use Rattle.std.specs.Prelude.{◌≡◌, ◌+◌, ◌<◌, ◌≤◌, ◌++◌, [], length, map, replicate, count_by, vec_capacity, vec_len};
+ghost use Rattle.std.specs.Prelude.{◌≡◌, ◌+◌, ◌<◌, ◌≤◌, ◌++◌, [], length, map, replicate, count_by, vec_capacity, vec_len, IfOk, IfErr, OnOk, OnErr};
 ghost use Rattle.std.specs.Arc.{arc_value};
 ghost use Rattle.graph_version.specs.declared.versions.Version.{Version};
 ghost use Rattle.graph_version.specs.Versions.{content, empty_version};
@@ -9,15 +9,23 @@ ghost use Rattle.block_pool.specs.Pools.{Free, is_free, is_used, is_retired, is_
 ghost use Rattle.version_shelf.specs.Shelves.{opened_shelf};
 ghost use Rattle.store_journal.specs.Desks.{IsCollected, collections};
 ghost use Rattle.store_journal.specs.Opening.{opened_desk};
-ghost use Rattle.store_journal.specs.Steps.{TakesAt, recycling};
+ghost use Rattle.store_journal.specs.Steps.{Accepts, TakesAt, recycling};
+ghost use Rattle.stream_store.specs.Applying.{IsReceipt};
+ghost use Rattle.stream_store.specs.Refusals.{Refuses, IsWithin};
 ghost use Rattle.stream_store.specs.Kept.{entry_of};
 
+use crate::applying::{Prepared, grant_blocks, plan_next, prepare, publish};
 use crate::entries::JournalEntry;
-use block_pool::Pool;
+use crate::moves::{give_back_numbers, move_blocks};
+use crate::receipts::{ApplyError, Receipt};
+use batch_apply::Gate;
+use block_pool::{Grant, Pool};
+use graph_model::Batch;
 use graph_version::Version;
 use std::alloc::Global;
 use std::marker::Model;
-use std::sync::Arc;
+use std::sync::{Arc, Wait};
+use std::thread::Threads;
 use version_shelf::ShelfWriter;
 
 /// The desk of a store: the last version, the pool, the journal, and the shelf's writer.
@@ -90,6 +98,67 @@ impl Desk {
             journal: Vec::new(alloc),
             shelf,
         }
+    }
+
+    /// Applies a batch, and posts the version that it leaves; or refuses it, and leaves all as it was. Its workers work at
+    /// once and tell `gate` of themselves; no outcome depends on how many there are.
+    ///
+    /// Refused are, in this order: a batch after 65,536 others, one that would leave more than 65,536 vertex names, one
+    /// that would leave more than 64 kinds, and one with more operations than blocks are free. Want of memory refuses it
+    /// too, at any place.
+    pub fn apply<R: Threads + Wait + Sync, G: Gate + Sync>(
+        &mut self,
+        rt: &R,
+        gate: &G,
+        batch: Batch,
+    ) -> Result<Receipt, ApplyError>
+        ensures accepted { OnOk result (Accepts self.old.desk batch self.new.desk) }
+        ensures receipt { IfOk result (λ r. IsReceipt self.old batch self.new r.number r.outcomes r.told) }
+        ensures book { self.new.book ≡ self.old.book }
+        ensures within { OnOk result (IsWithin self.old.desk.last (count_by is_free self.old.desk.pool) batch) }
+        ensures refused { IfErr result (λ e. Refuses self.old.desk.last (count_by is_free self.old.desk.pool) batch e) }
+        ensures unchanged { OnErr result (self.new ≡ self.old) }
+    {
+        let plan = plan_next(self.alloc, &self.last, &batch, self.workers)?;
+        let number = self.last.number() + 1;
+        let Grant { numbers, blocks } = grant_blocks(&mut self.pool, batch.len())?;
+        let Ok(prepared) = prepare(rt, self.alloc, gate, &self.last, plan, batch, blocks) else {
+            give_back_numbers(&mut self.pool, numbers);
+            return Err(ApplyError::OutOfMemory);
+        };
+        let Prepared {
+            version,
+            outcomes,
+            batch,
+            taken,
+            dropped_numbers,
+            dropped,
+            unused,
+        } = prepared;
+        let entry = JournalEntry::Applied {
+            batch,
+            taken,
+            dropped: dropped_numbers,
+        };
+        let room = self.pool.retired() as usize + dropped.len();
+        let Ok(told) = publish(
+            rt,
+            &mut self.last,
+            &mut self.journal,
+            &mut self.shelf,
+            version,
+            entry,
+            room,
+        ) else {
+            give_back_numbers(&mut self.pool, numbers);
+            return Err(ApplyError::OutOfMemory);
+        };
+        move_blocks(&mut self.pool, dropped, unused, number);
+        Ok(Receipt {
+            number,
+            outcomes,
+            told,
+        })
     }
 
     /// Recycles each block that was retired with a number at most the floor, which is at most the last number. It

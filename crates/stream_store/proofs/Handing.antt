@@ -1,0 +1,224 @@
+-- A batch handed over: what the desk's call does with what was made of it.
+use Rattle.std.proofs.Common.{◌≡◌, ℕ, zero, suc, ◌+◌, ◌<◌, ◌≤◌, ◌==◌, Bool, true, false, List, [], ◌∷◌, ◌++◌, length, get_or, map, set}
+use Rattle.std.proofs.Common.{refl, sym, ap, subst, ◌∙◌, arith, count_by}
+use Rattle.std.specs.Prelude.{All}
+use Rattle.std.specs.Arc.{arc_value}
+use Rattle.std.specs.declared.sync.Arc.{Arc}
+use Rattle.std.specs.declared.alloc.Global.{Global}
+use Rattle.std.proofs.lemmas.List.{map-append, length-map}
+use Rattle.std.proofs.lemmas.Bool.{eq-eqb, or_right}
+use Rattle.logbook.specs.Pages.{Book}
+use Rattle.graph_model.specs.declared.batches.NamedOp.{NamedOp}
+use Rattle.edge_block.specs.declared.blocks.Block.{Block}
+use Rattle.row_pages.specs.Rows as rows
+use Rattle.shard_work.specs.RowBlocks.{block_of, blocks_of, numbers_of}
+use Rattle.graph_version.specs.declared.versions.Version.{Version}
+use Rattle.graph_version.specs.Versions.{VersionView, is_in}
+use Rattle.block_pool.specs.Pools.{Status, Free, Used, Retired, is_free, is_retired, retired, marked, changed, AreFree}
+use Rattle.version_shelf.specs.Shelves.{ShelfView, IsNext}
+use Rattle.store_journal.specs.Journal as journal
+use Rattle.store_journal.specs.Desks.{DeskView, IsDesk, FollowsLayout, last_numbers}
+use Rattle.store_journal.specs.Steps.{Accepts}
+use Rattle.store_journal.proofs.Accepting.{Application, next_desk, granted_pool, retired_pool, made_accepted, made_desk, moves_left}
+use Rattle.store_journal.proofs.Accepting.{dropped_movable, unused_movable, granted_movable, given_back, granted_unlisted}
+use Rattle.store_journal.proofs.BatchLaws.{accepted_steps}
+use Rattle.store_journal.proofs.RetiredCounts.{retired_room}
+use Rattle.batch_plan.specs.declared.plans.Plan.{Plan}
+use Rattle.stream_store.specs.declared.entries.JournalEntry.{JournalEntry}
+use Rattle.stream_store.specs.declared.entries.JournalEntry.TheVariants as entries
+use Rattle.stream_store.specs.declared.applying.Prepared.{Prepared}
+use Rattle.stream_store.specs.declared.receipts.ApplyError.{ApplyError}
+use Rattle.stream_store.specs.declared.receipts.ApplyError.TheVariants.{BatchLimit, NamesFull, KindsFull, PoolEmpty, OutOfMemory}
+use Rattle.stream_store.specs.Applying.{IsPrepared}
+use Rattle.stream_store.specs.Kept.{DeskState, IsKept, entry_of, state_of}
+use Rattle.stream_store.specs.Moves.{AreUsedOnce}
+use Rattle.stream_store.specs.Refusals.{Refuses, RefusesGrant, IsAdmitted}
+
+pub record Handing : Type 0 where
+  pub old : DeskView
+  pub ops : List NamedOp
+  pub numbers : List ℕ
+  pub handed : List ℕ
+  pub prepared : Prepared
+  pub pool : List Status
+  pub before : IsDesk old
+  pub free : AreFree old.pool numbers
+  pub same : handed ≡ numbers
+  pub is_prepared : IsPrepared old.last ops handed prepared
+  pub granted : pool ≡ marked numbers Used old.pool
+
+numbers_mapped : (bs : List (Arc Block Global)) → rows.numbers_of (blocks_of bs) ≡ numbers_of bs
+numbers_mapped [] = refl
+numbers_mapped (b ∷ bs) = ap (λ ns. (block_of b).number ∷ ns) (numbers_mapped bs)
+
+abbrev pub version_of : Handing → VersionView
+version_of h = arc_value {X = Version} h.prepared.version
+
+abbrev pub application : Handing → Application
+application h = record {
+  old = h.old;
+  ops = h.ops;
+  numbers = h.numbers;
+  version = version_of h;
+  taken = h.prepared.taken;
+  dropped = blocks_of h.prepared.dropped.items;
+  unused = numbers_of h.prepared.unused.items;
+  before = h.before;
+  applied = record {
+    free = h.free;
+    version_is = h.is_prepared.version_is;
+    opening = h.is_prepared.opening;
+    batches = h.is_prepared.batches;
+    exchanged = h.is_prepared.exchanged;
+    handed = λ q. h.is_prepared.handed q ∙ ap (count_by q) h.same;
+    layout = subst (FollowsLayout h.old.last h.ops (version_of h) (length h.prepared.taken))
+        (sym (length-map h.prepared.dropped.items block_of)) h.is_prepared.layout;
+  };
+}
+
+-- The grant is given back
+
+pub back_used : (pool new : List Status) (numbers : List ℕ) → AreFree pool numbers → new ≡ marked numbers Used pool
+    → AreUsedOnce numbers new
+back_used pool new numbers free is =
+    let m = granted_movable pool numbers free in subst (AreUsedOnce numbers) (sym is) (record { used = m.used; apart = m.apart })
+
+pub back_same : (pool new end : List Status) (numbers : List ℕ) → AreFree pool numbers → new ≡ marked numbers Used pool
+    → end ≡ marked numbers Free new → end ≡ pool
+back_same pool new end numbers free is after = after ∙ ap (marked numbers Free) is ∙ given_back pool numbers free
+
+-- The granted blocks are none of the last version's
+
+number_listed : (ns : List ℕ) (k : ℕ) (e : ℕ) → k < length ns → is_in (get_or ns k e) ns ≡ true
+number_listed [] k e h = absurd (omega arith)
+number_listed (n ∷ ns) zero e h = let same = eq-eqb n n refl in rw same refl
+number_listed (n ∷ ns) (suc k) e h = or_right (n == get_or ns k e) (is_in (get_or ns k e) ns) (number_listed ns k e (omega arith))
+
+pub unlisted : (d : DeskView) (numbers handed : List ℕ) (v : VersionView) → IsDesk d → AreFree d.pool numbers → handed ≡ numbers
+    → v ≡ d.last → All (λ n. is_in n (rows.numbers_of (rows.blocks_of v.rows)) ≡ false) handed
+unlisted d numbers handed v desk free same at k e h =
+    ap (λ (w : VersionView). is_in (get_or handed k e) (rows.numbers_of (rows.blocks_of w.rows))) at
+    ∙ granted_unlisted d numbers (get_or handed k e) desk free (ap (is_in (get_or handed k e)) (sym same) ∙ number_listed handed k e h)
+
+-- The blocks' moves
+
+changed_marked : (ns : List ℕ) (n : ℕ) (pool : List Status) → marked ns (Retired n) pool ≡ changed (retired n) ns pool
+changed_marked [] n pool = refl
+changed_marked (m ∷ ns) n pool = changed_marked ns n (set pool m (Retired n))
+
+dropped_is : (h : Handing) → numbers_of h.prepared.dropped.items ≡ rows.numbers_of (blocks_of h.prepared.dropped.items)
+dropped_is h = sym (numbers_mapped h.prepared.dropped.items)
+
+retired_is : (h : Handing) (number : ℕ) → number ≡ length h.old.last.batches + 1
+    → marked (numbers_of h.prepared.dropped.items) (Retired number) h.pool ≡ retired_pool (application h)
+retired_is h number is =
+    (λ i. marked (dropped_is h i) (Retired (is i)) (h.granted i))
+    ∙ changed_marked (rows.numbers_of (blocks_of h.prepared.dropped.items)) (length h.old.last.batches + 1) (granted_pool (application h))
+
+pub dropped_once : (h : Handing) → AreUsedOnce (numbers_of h.prepared.dropped.items) h.pool
+dropped_once h =
+    let m = dropped_movable (application h) in
+    let once : AreUsedOnce (rows.numbers_of (blocks_of h.prepared.dropped.items)) (granted_pool (application h)) =
+    record { used = m.used; apart = m.apart } in
+    subst (AreUsedOnce (numbers_of h.prepared.dropped.items)) (sym h.granted)
+    (subst (λ ns. AreUsedOnce ns (granted_pool (application h))) (sym (dropped_is h)) once)
+
+pub unused_once : (h : Handing) (number : ℕ) → number ≡ length h.old.last.batches + 1
+    → AreUsedOnce (numbers_of h.prepared.unused.items) (marked (numbers_of h.prepared.dropped.items) (Retired number) h.pool)
+unused_once h number is =
+    let m = unused_movable (application h) in
+    subst (AreUsedOnce (numbers_of h.prepared.unused.items)) (sym (retired_is h number is)) (record { used = m.used; apart = m.apart })
+
+pub end_pool : (h : Handing) (number : ℕ) (end : List Status) → number ≡ length h.old.last.batches + 1
+    → end ≡ marked (numbers_of h.prepared.unused.items) Free (marked (numbers_of h.prepared.dropped.items) (Retired number) h.pool)
+    → end ≡ (next_desk (application h)).pool
+end_pool h number end is moved =
+    moved ∙ ap (marked (numbers_of h.prepared.unused.items) Free) (retired_is h number is) ∙ moves_left (application h)
+
+-- The desk afterwards
+
+abbrev pub entry_in : Handing → JournalEntry
+entry_in h = entries.Applied h.prepared.batch h.prepared.taken h.prepared.dropped_numbers
+
+abbrev pub desk_of : VersionView → List JournalEntry → List Status → DeskView
+desk_of last entries pool = record { last = last; journal = map entry_of entries; pool = pool }
+
+pub end_desk : (h : Handing) (last : VersionView) (entries old_entries : List JournalEntry) (pool : List Status)
+    → map entry_of old_entries ≡ h.old.journal → last ≡ version_of h → entries ≡ old_entries ++ entry_in h ∷ []
+    → pool ≡ (next_desk (application h)).pool → desk_of last entries pool ≡ next_desk (application h)
+end_desk h last entries old_entries pool before same_last same_entries same_pool =
+    let dropped : List ℕ = rows.numbers_of (blocks_of h.prepared.dropped.items) in
+    let entry : entry_of (entry_in h) ≡ journal.Applied h.ops h.prepared.taken dropped =
+    λ i. journal.Applied (h.is_prepared.batch_is i) h.prepared.taken ((h.is_prepared.dropped_are ∙ dropped_is h) i) in
+    let more : map entry_of entries ≡ h.old.journal ++ journal.Applied h.ops h.prepared.taken dropped ∷ [] =
+    ap (map entry_of) same_entries ∙ map-append entry_of old_entries (entry_in h ∷ [])
+    ∙ ap (λ es. es ++ entry_of (entry_in h) ∷ []) before ∙ ap (λ e. h.old.journal ++ e ∷ []) entry in
+    λ i. record { last = same_last i; journal = more i; pool = same_pool i }
+
+pub end_accepts : (h : Handing) (new : DeskView) → new ≡ next_desk (application h) → Accepts h.old h.ops new
+end_accepts h new is =
+    let a : Application = application h in
+    let dropped : List ℕ = rows.numbers_of a.dropped in
+    subst (Accepts h.old h.ops) (sym is) (record {
+      taken = a.taken;
+      dropped = dropped;
+      accepted = made_accepted a;
+      steps = accepted_steps h.old (next_desk a) h.ops a.taken dropped h.before (made_desk a) (made_accepted a);
+    })
+
+pub end_room : (h : Handing) (end : List Status) → end ≡ (next_desk (application h)).pool
+    → count_by is_retired end ≤ count_by is_retired h.pool + length h.prepared.dropped.items
+end_room h end is =
+    let a = ap (count_by is_retired) is in
+    let b = ap (count_by is_retired) h.granted in
+    let many : length (blocks_of h.prepared.dropped.items) ≡ length h.prepared.dropped.items =
+    length-map h.prepared.dropped.items block_of in
+    let room = retired_room (application h) in
+    omega arith
+
+pub end_kept : (h : Handing) (new : DeskState) (shelf : ShelfView) (workers entries room : ℕ) → new.desk ≡ next_desk (application h)
+    → shelf.book ≡ new.book → shelf.opening ≡ h.old.last.opening → shelf.posted ≡ (version_of h).batches → 1 ≤ workers → workers ≤ 8
+    → entries + count_by is_retired new.desk.pool ≤ room → IsKept new shelf workers entries room
+end_kept h new shelf workers entries room is book opening posted some few fits = record {
+  desk = subst IsDesk (sym is) (made_desk (application h));
+  book_is = book;
+  opening_is = opening ∙ sym h.is_prepared.opening ∙ ap (λ (d : DeskView). d.last.opening) (sym is);
+  posted_is = posted ∙ ap (λ (d : DeskView). d.last.batches) (sym is);
+  workers_some = some;
+  workers_few = few;
+  room_is = fits;
+}
+
+pub next_is : (h : Handing) (shelf : ShelfView) → shelf.opening ≡ h.old.last.opening → shelf.posted ≡ h.old.last.batches
+    → IsNext shelf (version_of h)
+next_is h shelf opening posted =
+    (h.is_prepared.opening ∙ sym opening, (h.ops, h.is_prepared.batches ∙ ap (λ bs. bs ++ h.ops ∷ []) (sym posted)))
+
+-- Refusals
+
+pub grant_refused : (v : VersionView) (free : ℕ) (ops : List NamedOp) (plan : Plan) (e : ApplyError) → IsAdmitted v ops plan
+    → RefusesGrant (length ops) free e → Refuses v free ops e
+grant_refused v free ops plan BatchLimit admitted refuses = absurd refuses
+grant_refused v free ops plan NamesFull admitted refuses = absurd refuses
+grant_refused v free ops plan KindsFull admitted refuses = absurd refuses
+grant_refused v free ops plan (PoolEmpty needed left) admitted refuses =
+    (admitted.few, admitted.limits, refuses.0, refuses.1, refuses.2)
+grant_refused v free ops plan OutOfMemory admitted refuses = refuses
+
+-- a batch handed over, by what is known of the version that was lent
+abbrev pub handing : (old : DeskView) (ops : List NamedOp) (numbers handed : List ℕ) (prepared : Prepared) (pool : List Status) (v : VersionView)
+    → IsDesk old → AreFree old.pool numbers → handed ≡ numbers → v ≡ old.last → IsPrepared v ops handed prepared
+    → pool ≡ marked numbers Used old.pool → Handing
+handing old ops numbers handed prepared pool v before free same last is_prepared granted = record {
+  old = old;
+  ops = ops;
+  numbers = numbers;
+  handed = handed;
+  prepared = prepared;
+  pool = pool;
+  before = before;
+  free = free;
+  same = same;
+  is_prepared = subst (λ (w : VersionView). IsPrepared w ops handed prepared) last is_prepared;
+  granted = granted;
+}

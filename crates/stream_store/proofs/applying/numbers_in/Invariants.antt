@@ -1,0 +1,6 @@
+use Rattle.std.proofs.Common.{◌≡◌, take}
+use Rattle.shard_work.specs.RowBlocks.{numbers_of}
+use Rattle.stream_store.proofs.applying.numbers_in.Given as goal
+
+abbrev pub invariant-loop-block : goal.invariant-loop-block
+invariant-loop-block l = l.numbers.items ≡ numbers_of (take l.block-index l.blocks)

@@ -1,0 +1,121 @@
+use Rattle.std.proofs.Common.{◌≡◌, ◌+◌, ◌≤◌, length, map, count_by, refl, sym, ap, subst, ◌∙◌, arith, rules}
+use Rattle.std.specs.Arc.{arc_value}
+use Rattle.graph_version.specs.declared.versions.Version.{Version}
+use Rattle.graph_version.specs.Versions.{VersionView}
+use Rattle.block_pool.specs.Pools.{is_free, is_retired}
+use Rattle.batch_plan.proofs.Names.{err_then}
+use Rattle.store_journal.specs.Steps.{Accepts}
+use Rattle.stream_store.specs.Kept.{DeskState, state_of}
+use Rattle.stream_store.specs.Refusals.{Refuses}
+use Rattle.stream_store.proofs.Collections.{kept_same}
+use Rattle.stream_store.proofs.Handing.{Handing, handing, desk_of, back_used, back_same, dropped_once, unused_once, end_pool, end_desk}
+use Rattle.stream_store.proofs.Handing.{end_accepts, end_room, end_kept}
+use Rattle.stream_store.proofs.desk.Desk.apply.Goals as goal
+
+pub returns-in_err-plan-clause-refused : goal.returns-in_err-plan-clause-refused
+returns-in_err-plan-clause-refused g c =
+    let last : c.deref.result.now ≡ arc_value {X = Version} c.self.inside.last = search rules in
+    let free = count_by is_free c.args.self.now.desk.pool in
+    err_then c.from_residual.result (Refuses c.args.self.now.desk.last free c.args.batch) c.in_err-plan.field-0.0
+    c.from_residual.ensures.1
+    (subst (λ (v : VersionView). Refuses v free c.args.batch c.in_err-plan.field-0.0)
+    (last ∙ ap (λ (s : DeskState). s.desk.last) c.self.view_is) (c.in_err-plan.ensures.refused free))
+
+pub give_back_numbers-requires : goal.give_back_numbers-requires
+give_back_numbers-requires g c =
+    back_used c.self.inside.pool c.grant_blocks.new.pool c.in_ok-numbers.field-0.numbers.items c.in_ok-numbers.ensures.numbers.0 c.in_ok-numbers.ensures.used
+
+pub give_back_numbers-requires-in_default-publish : goal.give_back_numbers-requires-in_default-publish
+give_back_numbers-requires-in_default-publish g c =
+    back_used c.self.inside.pool c.grant_blocks.new.pool c.in_ok-numbers.field-0.numbers.items c.in_ok-numbers.ensures.numbers.0 c.in_ok-numbers.ensures.used
+
+pub invariant_of-self-in_default : goal.invariant_of-self-in_default
+invariant_of-self-in_default g c =
+    let same : c.give_back_numbers.new.pool ≡ c.self.inside.pool =
+    back_same c.self.inside.pool c.grant_blocks.new.pool _ c.in_ok-numbers.field-0.numbers.items c.in_ok-numbers.ensures.numbers.0
+    c.in_ok-numbers.ensures.used c.give_back_numbers.ensures in
+    kept_same (state_of c.self.inside.shelf.book (arc_value {X = Version} c.self.inside.last) c.self.inside.journal.items c.self.inside.pool) _ c.self.inside.shelf _ c.self.inside.workers _ _ _ _ c.self.invariant
+    (ap (state_of c.self.inside.shelf.book (arc_value {X = Version} c.self.inside.last) c.self.inside.journal.items) same) refl refl (omega arith)
+
+pub returns-in_default-clause-unchanged : goal.returns-in_default-clause-unchanged
+returns-in_default-clause-unchanged g c =
+    let same : c.give_back_numbers.new.pool ≡ c.self.inside.pool =
+    back_same c.self.inside.pool c.grant_blocks.new.pool _ c.in_ok-numbers.field-0.numbers.items c.in_ok-numbers.ensures.numbers.0
+    c.in_ok-numbers.ensures.used c.give_back_numbers.ensures in
+    ap (state_of c.self.inside.shelf.book (arc_value {X = Version} c.self.inside.last) c.self.inside.journal.items) same ∙ c.self.view_is
+
+pub invariant_of-self-in_default-publish : goal.invariant_of-self-in_default-publish
+invariant_of-self-in_default-publish g c =
+    let same : c.give_back_numbers-in_default-publish.new.pool ≡ c.self.inside.pool =
+    back_same c.self.inside.pool c.grant_blocks.new.pool _ c.in_ok-numbers.field-0.numbers.items c.in_ok-numbers.ensures.numbers.0
+    c.in_ok-numbers.ensures.used c.give_back_numbers-in_default-publish.ensures in
+    let u = c.in_default-publish.ensures.unchanged in
+    kept_same (state_of c.self.inside.shelf.book (arc_value {X = Version} c.self.inside.last) c.self.inside.journal.items c.self.inside.pool) _ c.self.inside.shelf _ c.self.inside.workers _ _ _ _ c.self.invariant
+    (λ i. state_of (u.3 i).book (arc_value {X = Version} (u.2 i)) (u.0 i) (same i)) u.3 u.1 c.in_default-publish.ensures.capacity
+
+pub returns-in_default-publish-clause-unchanged : goal.returns-in_default-publish-clause-unchanged
+returns-in_default-publish-clause-unchanged g c =
+    let same : c.give_back_numbers-in_default-publish.new.pool ≡ c.self.inside.pool =
+    back_same c.self.inside.pool c.grant_blocks.new.pool _ c.in_ok-numbers.field-0.numbers.items c.in_ok-numbers.ensures.numbers.0
+    c.in_ok-numbers.ensures.used c.give_back_numbers-in_default-publish.ensures in
+    let u = c.in_default-publish.ensures.unchanged in
+    (λ i. state_of (u.3 i).book (arc_value {X = Version} (u.2 i)) (u.0 i) (same i)) ∙ c.self.view_is
+
+pub move_blocks-requires-clause-dropped : goal.move_blocks-requires-clause-dropped
+move_blocks-requires-clause-dropped g c =
+    let last : c.deref-3.result.now ≡ arc_value {X = Version} c.self.inside.last = search rules in
+    let h : Handing =
+    handing (desk_of (arc_value {X = Version} c.self.inside.last) c.self.inside.journal.items c.self.inside.pool) c.args.batch
+    c.in_ok-numbers.field-0.numbers.items _ c.in-Ok.prepared c.grant_blocks.new.pool c.deref-3.result.now c.self.invariant.desk
+    c.in_ok-numbers.ensures.numbers.0 c.in_ok-numbers.ensures.blocks last c.in-Ok.ensures c.in_ok-numbers.ensures.used in
+    dropped_once h
+
+pub move_blocks-requires-clause-unused : goal.move_blocks-requires-clause-unused
+move_blocks-requires-clause-unused g c =
+    let last : c.deref-3.result.now ≡ arc_value {X = Version} c.self.inside.last = search rules in
+    let h : Handing =
+    handing (desk_of (arc_value {X = Version} c.self.inside.last) c.self.inside.journal.items c.self.inside.pool) c.args.batch
+    c.in_ok-numbers.field-0.numbers.items _ c.in-Ok.prepared c.grant_blocks.new.pool c.deref-3.result.now c.self.invariant.desk
+    c.in_ok-numbers.ensures.numbers.0 c.in_ok-numbers.ensures.blocks last c.in-Ok.ensures c.in_ok-numbers.ensures.used in
+    let lent : c.deref-2.result.now ≡ arc_value {X = Version} c.self.inside.last = search rules in
+    let number : c.number-number.result + 1 ≡ length (arc_value {X = Version} c.self.inside.last).batches + 1 =
+    ap (λ n. n + 1) (c.number-number.ensures.number ∙ ap (λ (v : VersionView). length v.batches) lent) in
+    unused_once h (c.number-number.result + 1) number
+
+pub invariant_of-self-2 : goal.invariant_of-self-2
+invariant_of-self-2 g c =
+    let last : c.deref-3.result.now ≡ arc_value {X = Version} c.self.inside.last = search rules in
+    let h : Handing =
+    handing (desk_of (arc_value {X = Version} c.self.inside.last) c.self.inside.journal.items c.self.inside.pool) c.args.batch
+    c.in_ok-numbers.field-0.numbers.items _ c.in-Ok.prepared c.grant_blocks.new.pool c.deref-3.result.now c.self.invariant.desk
+    c.in_ok-numbers.ensures.numbers.0 c.in_ok-numbers.ensures.blocks last c.in-Ok.ensures c.in_ok-numbers.ensures.used in
+    let lent : c.deref-2.result.now ≡ arc_value {X = Version} c.self.inside.last = search rules in
+    let number : c.number-number.result + 1 ≡ length (arc_value {X = Version} c.self.inside.last).batches + 1 =
+    ap (λ n. n + 1) (c.number-number.ensures.number ∙ ap (λ (v : VersionView). length v.batches) lent) in
+    let p = c.in-Ok-publish.ensures in
+    let pool = end_pool h (c.number-number.result + 1) c.move_blocks.new.pool number c.move_blocks.ensures in
+    let end = end_desk h (arc_value {X = Version} c.publish.new.last) c.publish.new.journal.items c.self.inside.journal.items
+    c.move_blocks.new.pool refl p.last p.entered pool in
+    let room = end_room h c.move_blocks.new.pool pool in
+    let ok = c.in-Ok.prepared.dropped.ok in
+    end_kept h _ c.publish.new.shelf c.self.inside.workers _ _ end refl (p.same.1 ∙ c.self.invariant.opening_is) p.posted
+    c.self.invariant.workers_some c.self.invariant.workers_few
+    (omega (arith, room, p.room, c.retired.ensures.count, c.len-2.ensures, ok.0))
+
+pub returns-clause-accepted : goal.returns-clause-accepted
+returns-clause-accepted g c =
+    let last : c.deref-3.result.now ≡ arc_value {X = Version} c.self.inside.last = search rules in
+    let h : Handing =
+    handing (desk_of (arc_value {X = Version} c.self.inside.last) c.self.inside.journal.items c.self.inside.pool) c.args.batch
+    c.in_ok-numbers.field-0.numbers.items _ c.in-Ok.prepared c.grant_blocks.new.pool c.deref-3.result.now c.self.invariant.desk
+    c.in_ok-numbers.ensures.numbers.0 c.in_ok-numbers.ensures.blocks last c.in-Ok.ensures c.in_ok-numbers.ensures.used in
+    let lent : c.deref-2.result.now ≡ arc_value {X = Version} c.self.inside.last = search rules in
+    let number : c.number-number.result + 1 ≡ length (arc_value {X = Version} c.self.inside.last).batches + 1 =
+    ap (λ n. n + 1) (c.number-number.ensures.number ∙ ap (λ (v : VersionView). length v.batches) lent) in
+    let p = c.in-Ok-publish.ensures in
+    let pool = end_pool h (c.number-number.result + 1) c.move_blocks.new.pool number c.move_blocks.ensures in
+    let end = end_desk h (arc_value {X = Version} c.publish.new.last) c.publish.new.journal.items c.self.inside.journal.items
+    c.move_blocks.new.pool refl p.last p.entered pool in
+    subst (λ (s : DeskState). Accepts s.desk c.args.batch
+    (desk_of (arc_value {X = Version} c.publish.new.last) c.publish.new.journal.items c.move_blocks.new.pool)) c.self.view_is
+    (end_accepts h _ end)

@@ -1,0 +1,9 @@
+use Rattle.block_pool.specs.Pools.{Free, marked}
+use Rattle.stream_store.proofs.Moving.{IsMoving}
+use Rattle.stream_store.proofs.moves.give_back_numbers.Given as goal
+
+abbrev pub invariant-loop-number : goal.invariant-loop-number
+invariant-loop-number l = IsMoving l.numbers.items Free l.pool (marked l.initial.numbers.items Free l.initial.pool)
+
+abbrev pub decreases-loop-number : goal.decreases-loop-number
+decreases-loop-number l = goal.left-loop-number l

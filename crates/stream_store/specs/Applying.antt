@@ -1,0 +1,36 @@
+-- What is made of a batch, and what its receipt says.
+use Rattle.std.specs.Prelude.{◌≡◌, ℕ, ◌+◌, List, [], ◌∷◌, ◌++◌, length, count_by, Bool}
+use Rattle.std.specs.Arc.{arc_value}
+use Rattle.graph_model.specs.Step.{outcomes}
+use Rattle.graph_model.specs.declared.batches.Batch.{Batch}
+use Rattle.graph_model.specs.declared.batches.NamedOp.{NamedOp}
+use Rattle.graph_model.specs.declared.batches.Outcome.{Outcome}
+use Rattle.row_pages.specs.Rows as rows
+use Rattle.shard_work.specs.RowBlocks.{blocks_of, numbers_of}
+use Rattle.shard_work.specs.Done.{Exchanges}
+use Rattle.graph_version.specs.declared.versions.Version.{Version}
+use Rattle.graph_version.specs.Versions.{VersionView, IsVersion, content}
+use Rattle.version_shelf.specs.Shelves.{ToldView}
+use Rattle.store_journal.specs.Desks.{FollowsLayout}
+use Rattle.stream_store.specs.Kept.{DeskState}
+use Rattle.stream_store.specs.declared.applying.Prepared.{Prepared}
+
+-- the next version was made of this version and batch, from blocks of these numbers
+pub record IsPrepared (v : VersionView) (ops : List NamedOp) (numbers : List ℕ) (p : Prepared) : Type 0 where
+  pub version_is : IsVersion (arc_value {X = Version} p.version)
+  pub opening : (arc_value {X = Version} p.version).opening ≡ v.opening
+  pub batches : (arc_value {X = Version} p.version).batches ≡ v.batches ++ ops ∷ []
+  pub outcomes_are : p.outcomes ≡ outcomes ops (content v)
+  pub exchanged : Exchanges (rows.blocks_of v.rows) (rows.blocks_of (arc_value {X = Version} p.version).rows) p.taken
+      (blocks_of p.dropped.items)
+  pub handed : (q : ℕ → Bool) → count_by q p.taken + count_by q (numbers_of p.unused.items) ≡ count_by q numbers
+  pub layout : FollowsLayout v ops (arc_value {X = Version} p.version) (length p.taken) (length p.dropped.items)
+  pub batch_is : arc_value {X = Batch} p.batch ≡ ops
+  pub dropped_are : p.dropped_numbers ≡ numbers_of p.dropped.items
+
+-- a receipt names the version that the batch left, its number, and the operation rule's outcomes
+pub record IsReceipt (old : DeskState) (ops : List NamedOp) (new : DeskState) (number : ℕ) (results : List Outcome)
+    (told : ToldView) : Type 0 where
+  pub told_is : told ≡ record { book = old.book; version = new.desk.last }
+  pub number_is : number ≡ length new.desk.last.batches
+  pub outcomes_are : results ≡ outcomes ops (content old.desk.last)

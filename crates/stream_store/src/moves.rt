@@ -1,0 +1,55 @@
+//! Moves of blocks between the pool's sets, in time by their count. None of these takes memory.
+
+ghost use Rattle.std.specs.Prelude.{◌≡◌};
+ghost use Rattle.block_pool.specs.Pools.{Free, Retired, marked};
+ghost use Rattle.shard_work.specs.RowBlocks.{numbers_of};
+ghost use Rattle.stream_store.specs.Moves.{AreUsedOnce};
+
+use block_pool::Pool;
+use edge_block::Block;
+use std::sync::Arc;
+
+/// Gives back what was granted, without the blocks: the one that was granted last is given back first.
+pub(crate) fn give_back_numbers(pool: &mut Pool, mut numbers: Vec<u32>)
+    requires { AreUsedOnce numbers.items pool.old }
+    ensures { pool.new ≡ marked numbers.items Free pool.old }
+{
+    while let Some(number) = numbers.pop() {
+        pool.give_back(number, None);
+    }
+}
+
+/// Gives back what was granted, with the blocks.
+pub(crate) fn give_back_blocks(pool: &mut Pool, mut blocks: Vec<Arc<Block>>)
+    requires { AreUsedOnce (numbers_of blocks.items) pool.old }
+    ensures { pool.new ≡ marked (numbers_of blocks.items) Free pool.old }
+{
+    while let Some(block) = blocks.pop() {
+        pool.give_back(block.number(), Some(block));
+    }
+}
+
+/// Retires blocks with the number of the version that leaves them out.
+pub(crate) fn retire_blocks(pool: &mut Pool, mut blocks: Vec<Arc<Block>>, version: u64)
+    requires { AreUsedOnce (numbers_of blocks.items) pool.old }
+    ensures { pool.new ≡ marked (numbers_of blocks.items) (Retired version) pool.old }
+{
+    while let Some(block) = blocks.pop() {
+        pool.retire(block, version);
+    }
+}
+
+/// Moves the blocks that a version dropped and those that it didn't need: they are retired with its number, or given back.
+pub(crate) fn move_blocks(
+    pool: &mut Pool,
+    dropped: Vec<Arc<Block>>,
+    unused: Vec<Arc<Block>>,
+    version: u64,
+)
+    requires dropped { AreUsedOnce (numbers_of dropped.items) pool.old }
+    requires unused { AreUsedOnce (numbers_of unused.items) (marked (numbers_of dropped.items) (Retired version) pool.old) }
+    ensures { pool.new ≡ marked (numbers_of unused.items) Free (marked (numbers_of dropped.items) (Retired version) pool.old) }
+{
+    retire_blocks(pool, dropped, version);
+    give_back_blocks(pool, unused);
+}
