@@ -33,28 +33,45 @@ fn chain(alloc: Global, first: u32, end: u32) -> Result<Batch, LineError> {
     Ok(batch)
 }
 
+// The version after a batch that takes, drops and leaves unused so many blocks.
+fn grown<R: Threads + Sync + Abort>(
+    rt: &R,
+    alloc: Global,
+    workers: usize,
+    version: &Version,
+    content: &mut Content,
+    batch: Batch,
+    blocks: (usize, usize, usize),
+) -> Version
+    requires { IsContent content.old }
+    ensures { IsContent content.new }
+{
+    let next = next(rt, alloc, workers, version, content, batch);
+    assert_eq!(rt;
+        (next.taken.len(), next.dropped.len(), next.unused.len()),
+        blocks
+    );
+    next.version
+}
+
 // A chain of so many links, and then one link more in a version that shares what it can.
 fn check_chain<R: Threads + Sync + Abort>(rt: &R, alloc: Global, workers: usize, links: u32) {
     let mut content = empty(alloc);
+    let length = links as usize;
     let batch = chain(alloc, 0, links).expect(rt, "a chain");
-    let first = next(
+    let first = grown(
         rt,
         alloc,
         workers,
         &Version::empty(alloc),
         &mut content,
         batch,
+        (length, 0, 0),
     );
     let batch = chain(alloc, links, links.saturating_add(1)).expect(rt, "a link");
-    let second = next(rt, alloc, workers, &first.version, &mut content, batch);
-    assert_eq!(rt;
-        second.version.names().len(),
-        (links as usize).saturating_add(2)
-    );
-    assert_eq!(rt;
-        first.version.names().len(),
-        (links as usize).saturating_add(1)
-    );
+    let second = grown(rt, alloc, workers, &first, &mut content, batch, (1, 0, 0));
+    assert_eq!(rt; second.names().len(), length.saturating_add(2));
+    assert_eq!(rt; first.names().len(), length.saturating_add(1));
 }
 
 #[test]
@@ -93,22 +110,18 @@ fn touches_the_first_block_with_room_alone(rt: HostRuntime) {
     let alloc = rt.alloc();
     let mut content = empty(alloc);
     let batch = star(alloc, 33).expect(&rt, "a star");
-    let first = next(&rt, alloc, 4, &Version::empty(alloc), &mut content, batch);
-    assert_eq!(rt;
-        (first.taken.len(), first.dropped.len(), first.unused.len()),
-        (2, 0, 31)
+    let first = grown(
+        &rt,
+        alloc,
+        4,
+        &Version::empty(alloc),
+        &mut content,
+        batch,
+        (2, 0, 31),
     );
     let batch = exchange(alloc).expect(&rt, "an exchange");
-    let second = next(&rt, alloc, 4, &first.version, &mut content, batch);
-    assert_eq!(rt;
-        (
-            second.taken.len(),
-            second.dropped.len(),
-            second.unused.len()
-        ),
-        (1, 1, 1)
-    );
-    let row = row_text(alloc, &second.version, VertexId(0)).expect(&rt, "a row");
+    let second = grown(&rt, alloc, 4, &first, &mut content, batch, (1, 1, 1));
+    let row = row_text(alloc, &second, VertexId(0)).expect(&rt, "a row");
     assert!(rt; row.as_str().starts_with(" 0:34,2,3,") && row.as_str().ends_with(",32, 0:33,"));
 }
 
