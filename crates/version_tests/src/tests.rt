@@ -1,5 +1,6 @@
 // Each test is a text: lines of batches, each with its outcomes and what it leaves.
 
+mod analyses;
 mod fresh;
 mod limits;
 mod ops;

@@ -27,8 +27,8 @@ pub(super) fn empty(alloc: Global) -> Content
     }
 }
 
-// What a batch of operations leaves of a version, planned for so many workers.
-fn applied<R: Threads + Sync>(
+/// What a batch of operations leaves of a version, planned for so many workers.
+pub(super) fn applied<R: Threads + Sync>(
     rt: &R,
     alloc: Global,
     workers: usize,
