@@ -1,3 +1,4 @@
 pub mod Collections
 pub mod Moving
 pub mod Handing
+pub mod Seated

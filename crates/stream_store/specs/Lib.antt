@@ -3,3 +3,4 @@ pub mod Configs
 pub mod Kept
 pub mod Moves
 pub mod Refusals
+pub mod Seats

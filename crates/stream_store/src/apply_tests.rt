@@ -8,7 +8,7 @@ use std::test::Fail;
 use std::thread::Threads;
 
 // Tells `tools/refuse-each-growth` that a growth was refused.
-fn tell_refused(rt: &impl Print) {
+pub(crate) fn tell_refused(rt: &impl Print) {
     let _ = println!(rt; "refused");
 }
 
@@ -41,7 +41,7 @@ fn push(batch: &mut Batch, op: NamedOp) -> Result<(), AllocError> {
     }
 }
 
-fn batch_of(alloc: Global, ops: &[(&str, &str, &str)]) -> Result<Batch, AllocError> {
+pub(crate) fn batch_of(alloc: Global, ops: &[(&str, &str, &str)]) -> Result<Batch, AllocError> {
     let mut batch = Batch::new(alloc);
     for op in ops {
         push(&mut batch, operation(alloc, *op)?)?;

@@ -8,14 +8,18 @@ mod entries;
 mod moves;
 mod opening;
 mod receipts;
+mod seats;
 
 pub use config::{BadConfig, Config};
 pub use desk::{Collected, Desk, Stat};
 pub use entries::JournalEntry;
 pub use opening::{OpenError, open_parts};
 pub use receipts::{ApplyError, Receipt};
+pub use seats::{Seat, Session};
 
 #[cfg(test)]
 mod apply_tests;
+#[cfg(test)]
+mod seat_tests;
 #[cfg(test)]
 mod tests;

@@ -1,17 +1,18 @@
 //! The opening of a store.
 
-ghost use Rattle.std.specs.Prelude.{◌≡◌, IfOk, All, vec_len};
+ghost use Rattle.std.specs.Prelude.{◌≡◌, ◌≤◌, length, map, IfOk, All, vec_len};
+ghost use Rattle.std.specs.List.{range_with_len};
 ghost use Rattle.seat_board.specs.Board.{no_pins};
-ghost use Rattle.graph_version.specs.Versions.{empty_version};
-ghost use Rattle.version_shelf.specs.Shelves.{ToldView};
 ghost use Rattle.store_journal.specs.Opening.{opened_desk};
+ghost use Rattle.stream_store.specs.Seats.{SeatView, IsNewSeat};
 
 use crate::config::Config;
 use crate::desk::Desk;
+use crate::seats::Seat;
 use block_pool::Pool;
 use graph_version::Version;
-use seat_board::Board;
-use std::alloc::Global;
+use seat_board::{Board, SeatNo};
+use std::alloc::{AllocError, Global};
 use std::sync::{Arc, Wait};
 use thiserror::Error;
 use version_shelf::{ShelfError, ShelfReader, shelf};
@@ -25,17 +26,17 @@ pub enum OpenError {
     OutOfMemory,
 }
 
-/// A desk, a board and a reader for each seat, all of one opening: version 0, an empty journal, all blocks free, no pins,
-/// and readers that have seen version 0. It waits for nobody.
+/// A desk, a board and the seats, numbered from 0, all of one opening: version 0, an empty journal, all blocks free, no
+/// pins, and seats that have seen version 0. It waits for nobody.
 pub fn open_parts<R: Wait>(
     rt: &R,
     alloc: Global,
     config: Config,
-) -> Result<(Desk, Board, Vec<ShelfReader>), OpenError>
+) -> Result<(Desk, Board, Vec<Seat>), OpenError>
     ensures desk { IfOk result (λ r. r.0 ≡ record { book = r.0.book; desk = opened_desk config.blocks }) }
     ensures board { IfOk result (λ r. r.1 ≡ no_pins) }
-    ensures count { IfOk result (λ r. vec_len r.2 ≡ config.seats) }
-    ensures readers { IfOk result (λ r. All (λ (x : ToldView). x ≡ record { book = r.0.book; version = empty_version }) r.2.items) }
+    ensures seats { IfOk result (λ r. (length r.2.items ≡ config.seats) × All (IsNewSeat r.0.book) r.2.items) }
+    ensures numbers { IfOk result (λ r. map (λ (s : SeatView). s.number) r.2.items ≡ range_with_len 0 (length r.2.items)) }
 {
     let workers = config.workers();
     let Ok(pool) = Pool::new(alloc, config.blocks()) else {
@@ -49,9 +50,29 @@ pub fn open_parts<R: Wait>(
     let Ok(last) = Arc::new(alloc, Version::empty(alloc)) else {
         return Err(OpenError::OutOfMemory);
     };
+    let Ok(seats) = seats_of(alloc, readers) else {
+        return Err(OpenError::OutOfMemory);
+    };
     Ok((
         Desk::opened(alloc, workers, last, pool, writer),
         Board::new(),
-        readers,
+        seats,
     ))
+}
+
+/// A seat for each reader, numbered from 0.
+fn seats_of(alloc: Global, mut readers: Vec<ShelfReader>) -> Result<Vec<Seat>, AllocError>
+    requires { length readers.items ≤ 16 }
+    ensures seen { IfOk result (λ v. map (λ (s : SeatView). s.seen) v.items ≡ readers.items) }
+    ensures numbers { IfOk result (λ v. map (λ (s : SeatView). s.number) v.items ≡ range_with_len 0 (length v.items)) }
+{
+    let mut seats = Vec::new(alloc);
+    while !readers.is_empty() {
+        let reader = readers.remove(0);
+        let Some(number) = SeatNo::new(seats.len() as u8) else {
+            unreachable!()
+        };
+        seats.push(Seat::of(number, reader))?;
+    }
+    Ok(seats)
 }

@@ -1,0 +1,74 @@
+-- Seats: a pin set twice, and the seats of an opening.
+use Rattle.std.proofs.Common.{◌≡◌, ℕ, zero, suc, ◌+◌, ◌<◌, ◌≤◌, List, [], ◌∷◌, ◌++◌, length, map, take, drop, refl, sym, ap, subst, ◌∙◌, arith}
+use Rattle.std.specs.Prelude.{All, Option, slice_set, slice_index_or}
+use Rattle.std.specs.List.{range_with_len}
+use Rattle.std.proofs.lemmas.List.{map-append, length-append}
+use Rattle.std.proofs.lemmas.List.Elements.{All-head, All-tail, All-cons}
+use Rattle.logbook.specs.Pages.{Book}
+use Rattle.graph_version.specs.Versions.{VersionView, empty_version}
+use Rattle.version_shelf.specs.Shelves.{ToldView}
+use Rattle.seat_board.specs.Board.{BoardState, with_pin}
+use Rattle.seat_board.specs.declared.board.Pin.{Pin}
+use Rattle.stream_store.specs.Seats.{SeatView, IsNewSeat}
+
+set_again : {X : Type 0} (xs : List X) (i : ℕ) (x y : X) → slice_set (slice_set xs i x) i y ≡ slice_set xs i y
+set_again [] i x y = refl
+set_again (z ∷ zs) zero x y = refl
+set_again (z ∷ zs) (suc i) x y = ap (λ ws. z ∷ ws) (set_again zs i x y)
+
+pub pin_twice : (b : BoardState) (s : ℕ) (x y : Option Pin) → with_pin (with_pin b s x) s y ≡ with_pin b s y
+pin_twice b s x y = λ i. record { floor = b.floor; pins = set_again b.pins s x y i }
+
+abbrev IsNew : Book → ToldView → Type 0
+IsNew book x = x ≡ record { book = book; version = empty_version }
+
+each : (book : Book) (seats : List SeatView) → All (IsNew book) (map (λ (s : SeatView). s.seen) seats) → All (IsNewSeat book) seats
+each book [] all = λ k d h. absurd (omega arith)
+each book (s ∷ seats) all =
+    All-cons (IsNewSeat book) s seats (All-head (IsNew book) s.seen (map (λ (t : SeatView). t.seen) seats) all)
+    (each book seats (All-tail (IsNew book) s.seen (map (λ (t : SeatView). t.seen) seats) all))
+
+-- seats of readers that have seen version 0
+pub new_seats : (book other : Book) (version : VersionView) (seats : List SeatView) (readers : List ToldView) → map (λ (s : SeatView). s.seen) seats ≡ readers
+    → All (λ (x : ToldView). x ≡ record { book = book; version = version }) readers → version ≡ empty_version → other ≡ book → All (IsNewSeat other) seats
+new_seats book other version seats readers same all empty is =
+    each other seats (subst (λ (b : Book). All (IsNew b) (map (λ (s : SeatView). s.seen) seats)) (sym is)
+    (subst (λ (rs : List ToldView). All (IsNew book) rs) (sym same)
+    (subst (λ (v : VersionView). All (λ (x : ToldView). x ≡ record { book = book; version = v }) readers) empty all)))
+
+range_more : (a n : ℕ) → range_with_len a (suc n) ≡ range_with_len a n ++ (a + n) ∷ []
+range_more a zero = let same : a ≡ a + 0 = omega arith in ap (λ (k : ℕ). k ∷ []) same
+range_more a (suc n) =
+    let same : a + 1 + n ≡ a + suc n = omega arith in
+    ap (λ (ks : List ℕ). a ∷ ks) (range_more (a + 1) n ∙ ap (λ (k : ℕ). range_with_len (a + 1) n ++ k ∷ []) same)
+
+-- one more seat, which has the next number
+pub numbers_more : (seats more : List SeatView) (s : SeatView) → more ≡ seats ++ s ∷ [] → s.number ≡ length seats
+    → map (λ (t : SeatView). t.number) seats ≡ range_with_len 0 (length seats) → map (λ (t : SeatView). t.number) more ≡ range_with_len 0 (length more)
+numbers_more seats more s items next same =
+    let longer : length (seats ++ s ∷ []) ≡ length seats + 1 = length-append seats (s ∷ []) in
+    let count : length more ≡ length (seats ++ s ∷ []) = ap length items in
+    let one : suc (length seats) ≡ length more = omega arith in
+    let place : s.number ≡ 0 + length seats = omega arith in
+    ap (map (λ (t : SeatView). t.number)) items ∙ map-append (λ (t : SeatView). t.number) seats (s ∷ [])
+    ∙ ap (λ (ks : List ℕ). ks ++ s.number ∷ []) same ∙ ap (λ (k : ℕ). range_with_len 0 (length seats) ++ k ∷ []) place
+    ∙ sym (range_more 0 (length seats)) ∙ ap (range_with_len 0) one
+
+-- the first reader taken off a list
+pub first_off : (xs ys : List ToldView) (x : ToldView) → 0 < length xs → x ≡ slice_index_or xs 0 x → ys ≡ take 0 xs ++ drop (0 + 1) xs → xs ≡ x ∷ ys
+first_off [] ys x some first rest = absurd (omega arith)
+first_off (z ∷ zs) ys x some first rest = ap (λ (w : ToldView). w ∷ zs) (sym first) ∙ ap (λ (ws : List ToldView). x ∷ ws) (sym rest)
+
+regroup : (xs ys : List ToldView) (x : ToldView) → (xs ++ x ∷ []) ++ ys ≡ xs ++ x ∷ ys
+regroup [] ys x = refl
+regroup (z ∷ zs) ys x = ap (λ (ws : List ToldView). z ∷ ws) (regroup zs ys x)
+
+-- the seat of the first reader is added to the seats
+pub seen_more : (seats more : List SeatView) (s : SeatView) (x : ToldView) (xs ys readers : List ToldView) → more ≡ seats ++ s ∷ [] → s.seen ≡ x → xs ≡ x ∷ ys
+    → map (λ (t : SeatView). t.seen) seats ++ xs ≡ readers → map (λ (t : SeatView). t.seen) more ++ ys ≡ readers
+seen_more seats more s x xs ys readers items is cut same =
+    ap (λ (ms : List SeatView). map (λ (t : SeatView). t.seen) ms ++ ys) items
+    ∙ ap (λ (ws : List ToldView). ws ++ ys) (map-append (λ (t : SeatView). t.seen) seats (s ∷ []))
+    ∙ regroup (map (λ (t : SeatView). t.seen) seats) ys s.seen
+    ∙ ap (λ (w : ToldView). map (λ (t : SeatView). t.seen) seats ++ w ∷ ys) is
+    ∙ ap (λ (ws : List ToldView). map (λ (t : SeatView). t.seen) seats ++ ws) (sym cut) ∙ same

@@ -1,0 +1,41 @@
+-- Seats and sessions.
+use Rattle.std.specs.Prelude.{◌≡◌, ℕ, Option, Some, None}
+use Rattle.logbook.specs.Pages.{Book}
+use Rattle.graph_model.specs.Graph.{Graph}
+use Rattle.graph_version.specs.Versions.{VersionView, content, empty_version}
+use Rattle.version_shelf.specs.Shelves.{ToldView}
+
+-- a seat: its number, and the newest version that its reader entered or learnt
+pub record SeatView : Type 0 where
+  pub number : ℕ
+  pub seen : ToldView
+
+-- a session: its seat's number and newest version, and the version that the desk lent, if it lent one
+pub record SessionView : Type 0 where
+  pub number : ℕ
+  pub seen : ToldView
+  pub lent : Option VersionView
+
+abbrev pub lent_or_seen : Option VersionView → ToldView → VersionView
+lent_or_seen None seen = seen.version
+lent_or_seen (Some version) seen = version
+
+-- the version that a session holds: the one lent, or else what its seat saw last
+abbrev pub held_version : SessionView → VersionView
+held_version s = lent_or_seen s.lent s.seen
+
+-- the graph that a session shows
+abbrev pub held_graph : SessionView → Graph
+held_graph s = content (held_version s)
+
+-- the session of a seat to which this version was lent
+abbrev pub lent_to : SeatView → VersionView → SessionView
+lent_to seat version = record { number = seat.number; seen = seat.seen; lent = Some version }
+
+-- the seat of a session
+abbrev pub seat_of : SessionView → SeatView
+seat_of s = record { number = s.number; seen = s.seen }
+
+-- a seat of the history of this book, which has seen version 0 alone
+abbrev pub IsNewSeat : Book → SeatView → Type 0
+IsNewSeat book s = s.seen ≡ record { book = book; version = empty_version }

@@ -1,0 +1,110 @@
+ghost use Rattle.std.specs.Prelude.{◌≡◌};
+
+use crate::apply_tests::{batch_of, tell_refused};
+use crate::{Config, Desk, Seat, open_parts};
+use batch_apply::PassAll;
+use graph_model::Batch;
+use seat_board::{Board, Pin, SeatNo};
+use std::alloc::{AllocError, Global};
+use std::sync::Wait;
+use std::thread::Threads;
+
+/// What is seen of a session: whether it was refused at first, and its seat's pin then; the number of its version; the
+/// pin while it holds it, and after it let it go.
+#[derive(Clone, Copy, Debug, PartialEq, Eq)]
+struct Sights {
+    refused: bool,
+    before: Option<Pin>,
+    number: u64,
+    held: Option<Pin>,
+    after: Option<Pin>,
+}
+
+/// Applies a batch, and the seat learns of it.
+fn learns_of<R: Threads + Wait + Sync>(
+    rt: &R,
+    desk: &mut Desk,
+    seat: &mut Seat,
+    batch: Result<Batch, AllocError>,
+) -> bool
+    requires { seat.old.seen ≡ record { book = desk.old.book; version = desk.old.desk.last } }
+{
+    let Ok(batch) = batch else {
+        return false;
+    };
+    match desk.apply(rt, &PassAll, batch) {
+        Ok(receipt) => seat.learn(&receipt).is_ok(),
+        Err(_) => false,
+    }
+}
+
+/// A session of the seat of that number, which lets its version go again. Where it is refused, it is tried once more.
+fn held_and_released(desk: &Desk, board: &mut Board, seat: Seat, number: SeatNo) -> Option<Sights> {
+    let before = board.pin_of(number);
+    let (refused, before, session) = match seat.acquire_lent(desk, board) {
+        Ok(session) => (false, before, session),
+        Err((seat, AllocError)) => {
+            let left = board.pin_of(number);
+            (true, left, seat.acquire_lent(desk, board).ok()?)
+        }
+    };
+    let entered = session.version().number();
+    let held = board.pin_of(number);
+    let _seat = session.release_lent(board);
+    Some(Sights {
+        refused,
+        before,
+        number: entered,
+        held,
+        after: board.pin_of(number),
+    })
+}
+
+/// A session of the second of two seats over a new store, after one batch that the seat learnt of.
+fn over_a_new_store<R: Threads + Wait + Sync>(rt: &R, alloc: Global) -> Option<Sights> {
+    let config = Config::new(1, 16, 2).ok()?;
+    let Ok((mut desk, mut board, mut seats)) = open_parts(rt, alloc, config) else {
+        return None;
+    };
+    let mut seat = seats.pop()?;
+    if !learns_of(
+        rt,
+        &mut desk,
+        &mut seat,
+        batch_of(alloc, &[("+", "a", "b")]),
+    ) {
+        return None;
+    }
+    held_and_released(&desk, &mut board, seat, SeatNo::new(1)?)
+}
+
+const LENT: Sights = Sights {
+    refused: false,
+    before: None,
+    number: 1,
+    held: Some(Pin {
+        number: 1,
+        is_settled: true,
+    }),
+    after: None,
+};
+
+#[test]
+fn lends_the_last_version(rt: HostRuntime) {
+    assert_eq!(rt; over_a_new_store(&rt, rt.alloc()), Some(LENT));
+}
+
+#[test]
+fn refused_sessions_set_no_pin(rt: HostRuntime) {
+    match over_a_new_store(&rt, rt.alloc()) {
+        Some(sights) => {
+            if sights.refused {
+                tell_refused(&rt);
+            }
+            let refused = sights.refused;
+            assert_eq!(rt; sights, Sights { refused, ..LENT });
+        }
+        // The store wasn't opened, or the batch wasn't applied or learnt.
+        None => tell_refused(&rt),
+    }
+}

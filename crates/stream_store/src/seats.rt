@@ -1,0 +1,125 @@
+//! Seats and sessions. A session holds one version while the store goes on: acquire and release of Aspen ("Low-Latency
+//! Graph Streaming using Compressed Purely-Functional Trees"; Dhulipala, Blelloch, Shun; PLDI 2019).
+
+ghost use Rattle.std.specs.Prelude.{◌≡◌, max, length, IfOk, IfErr, OnOk, OnErr, MatchResult, Some, None, true};
+ghost use Rattle.seat_board.specs.Board.{with_pin};
+ghost use Rattle.version_shelf.specs.Shelves.{Begins, IsOfOneShelf};
+ghost use Rattle.stream_store.specs.Seats.{held_version, lent_to, seat_of};
+
+use crate::desk::Desk;
+use crate::receipts::Receipt;
+use graph_version::Version;
+use seat_board::{Board, SeatNo};
+use std::alloc::AllocError;
+use std::marker::Model;
+use std::sync::Arc;
+use version_shelf::ShelfReader;
+
+/// One reader's place, without a session: its number on the board, and its reader of the shelf.
+#[derive(Drop)]
+pub struct Seat {
+    number: SeatNo,
+    reader: ShelfReader,
+}
+
+impl Model for Seat {
+    ghost use Rattle.stream_store.specs.Seats.{SeatView};
+    ghost use Rattle.std.specs.Coded.{codes};
+    ghost use Rattle.graph_model.specs.Coded.{graph_code};
+
+    ghost Value = { SeatView };
+
+    ghost coded = { Prim.hlevel (codes, graph_code) };
+
+    ghost view = { λ s. record { number = s.number; seen = s.reader } };
+}
+
+/// A seat that holds a version.
+#[derive(Drop)]
+pub struct Session {
+    number: SeatNo,
+    reader: ShelfReader,
+    /// The version, where the desk lent it; else it is the newest that the reader saw.
+    lent: Option<Arc<Version>>,
+}
+
+impl Model for Session {
+    ghost use Rattle.std.specs.Prelude.{option_map};
+    ghost use Rattle.std.specs.Arc.{arc_value};
+    ghost use Rattle.graph_version.specs.declared.versions.Version.{Version};
+    ghost use Rattle.stream_store.specs.Seats.{SessionView};
+    ghost use Rattle.std.specs.Coded.{codes};
+    ghost use Rattle.graph_model.specs.Coded.{graph_code};
+
+    ghost Value = { SessionView };
+
+    ghost coded = { Prim.hlevel (codes, graph_code) };
+
+    ghost view = { λ s. record { number = s.number; seen = s.reader; lent = option_map (λ v. arc_value {X = Version} v) s.lent } };
+}
+
+impl Seat {
+    pub(crate) fn of(number: SeatNo, reader: ShelfReader) -> Seat
+        ensures { result ≡ record { number = number; seen = reader } }
+    {
+        Seat { number, reader }
+    }
+
+    /// Takes over what a receipt tells, where it is newer. The receipt and the seat are of one opening.
+    pub fn learn(&mut self, receipt: &Receipt) -> Result<(), AllocError>
+        requires { IsOfOneShelf receipt.now.told self.old.seen }
+        ensures seen { MatchResult result (λ _. Begins self.old.seen self.new.seen × Begins receipt.now.told self.new.seen) (λ _. self.new ≡ self.old) }
+        ensures number { self.new.number ≡ self.old.number }
+    {
+        self.reader.learn(&receipt.told)
+    }
+
+    /// A session on the desk's last version, and the seat's pin at the greater of the floor and that version's number. Where
+    /// no shared copy of the version is to be had, the seat comes back and the board stays as it was.
+    pub fn acquire_lent(self, desk: &Desk, board: &mut Board) -> Result<Session, (Seat, AllocError)>
+        ensures session { IfOk result (λ s. s ≡ lent_to self desk.now.desk.last) }
+        ensures pinned { OnOk result (board.new ≡ with_pin board.old self.number (Some (record { number = max board.old.floor (length desk.now.desk.last.batches); is_settled = true }))) }
+        ensures refused { IfErr result (λ e. e.0 ≡ self) }
+        ensures unchanged { OnErr result (board.new ≡ board.old) }
+    {
+        let Seat { number, reader } = self;
+        match Arc::try_clone(desk.last()) {
+            Ok(version) => {
+                board.pin(number);
+                board.settle(number, version.number());
+                Ok(Session {
+                    number,
+                    reader,
+                    lent: Some(version),
+                })
+            }
+            Err(error) => Err((Seat { number, reader }, error)),
+        }
+    }
+}
+
+impl Session {
+    /// The version that the session holds.
+    pub fn version(&self) -> &Version
+        ensures { result.now ≡ held_version self.now }
+    {
+        match &self.lent {
+            Some(version) => version,
+            None => self.reader.newest(),
+        }
+    }
+
+    /// Lets a version go that the desk lent, and takes the seat's pin away.
+    pub fn release_lent(self, board: &mut Board) -> Seat
+        ensures seat { result ≡ seat_of self }
+        ensures unpinned { board.new ≡ with_pin board.old self.number None }
+    {
+        let Session {
+            number,
+            reader,
+            lent: _lent,
+        } = self;
+        board.unpin(number);
+        Seat { number, reader }
+    }
+}
