@@ -1,4 +1,5 @@
-//! The running store: a desk that keeps the last version, the pool of blocks, the journal and the shelf's writer.
+//! The running store: a desk that keeps the last version, the pool of blocks, the journal and the shelf's writer; and
+//! seats, whose sessions hold a version.
 #![tactic(auto)]
 
 mod applying;
