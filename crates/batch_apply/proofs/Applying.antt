@@ -1,5 +1,7 @@
 -- What all shards leave is what the batch leaves of the version.
-use Rattle.std.proofs.Common.{◌≡◌, ◌≢◌, ℕ, zero, suc, ◌+◌, ◌<◌, ◌≤◌, ◌==◌, Bool, true, false, cond, ◌||◌, List, [], ◌∷◌, ◌++◌, length, length-append, get_or, map, flat_map, count_by, replicate, refl, sym, ap, ap₂, ◌∙◌, arith, subst, All, AllPairs, ltb}
+use Rattle.std.proofs.Common.{◌≡◌, ◌≢◌, ℕ, zero, suc, ◌+◌, ◌<◌, ◌≤◌, ◌==◌, Bool, true, false, cond, ◌||◌, List, [], ◌∷◌, ◌++◌}
+use Rattle.std.proofs.Common.{length, length-append, get_or, map, flat_map, count_by, replicate, refl, sym, ap, ap₂, ◌∙◌, arith}
+use Rattle.std.proofs.Common.{subst, All, AllPairs, ltb}
 use Rattle.std.specs.List.{sum_by, range_with_len, AllZip, list_any}
 use Rattle.std.proofs.lemmas.Bool.{eqb-true, eqb-false, ltb-true, ltb-false, true≢false}
 use Rattle.std.proofs.lemmas.List.{length-map, map-append, length-replicate}
@@ -18,7 +20,8 @@ use Rattle.edge_block.specs.Slots.{BlockView}
 use Rattle.edge_block.specs.declared.blocks.Block.{Block}
 use Rattle.vertex_names.specs.Book.{Book}
 use Rattle.block_layout.specs.Rows.{Shape, shape_of, row_at, IsRow}
-use Rattle.block_layout.specs.Batches.{Resolved, resolved, outcomes_all, opened, layout_after, taken_by, dropped_by, IsLayoutOf, IsWithin}
+use Rattle.block_layout.specs.Batches.{Resolved, resolved, outcomes_all, opened, layout_after, taken_by, dropped_by, IsLayoutOf}
+use Rattle.block_layout.specs.Batches.{IsWithin}
 use Rattle.block_layout.proofs.GraphLaws.{batch_layout}
 use Rattle.row_pages.specs.Rows as rows
 use Rattle.row_pages.specs.Rows.{row_of}
@@ -39,7 +42,8 @@ use Rattle.batch_apply.specs.Applied.{IsApplied, ReplacesRows, row_among, writte
 use Rattle.batch_apply.specs.declared.applied.Applied.{Applied}
 use Rattle.batch_apply.proofs.Totals.{count_more}
 use Rattle.batch_apply.proofs.Written.{all_written}
-use Rattle.batch_apply.proofs.Together.{sources_all, Zipped, all_once, all_within, once, quiet_layout, batch_totals, shard_outcomes_at, shard_layout_at}
+use Rattle.batch_apply.proofs.Together.{sources_all, Zipped, all_once, all_within, once, quiet_layout, batch_totals}
+use Rattle.batch_apply.proofs.Together.{shard_outcomes_at, shard_layout_at}
 use Rattle.batch_apply.proofs.Placed.{times, sources_of, among_is}
 use Rattle.batch_apply.proofs.Kept.{count_append, count_map, pairs, some_times, exchanged_all}
 use Rattle.batch_apply.specs.Jobs.{IsDealt, AreDone}
@@ -52,22 +56,28 @@ not_in : (n : ℕ) (xs : List ℕ) → list_any (λ c. c == n) xs ≡ false → 
 not_in n [] none = refl
 not_in n (x ∷ xs) none =
     let c = count_more (λ y. y == n) x xs in
-    elim (x == n) as (λ b. (b || list_any (λ c. c == n) xs) ≡ false → times n (x ∷ xs) ≡ cond b 1 0 + times n xs → times n (x ∷ xs) ≡ 0) [
+    elim (x == n) as (λ b. (b || list_any (λ c. c == n) xs) ≡ false → times n (x ∷ xs) ≡ cond b 1 0 + times n xs
+    → times n (x ∷ xs) ≡ 0) [
       | true ↦ λ e. absurd (true≢false e)
       | false ↦ λ e is. let rest = not_in n xs e in omega (arith, is, rest)
     ] none c
 
-unlisted_here : (m : ℕ) (numbers before : List ℕ) → All (λ n. is_in n before ≡ false) numbers → 1 ≤ times m numbers → times m before ≡ 0
+unlisted_here : (m : ℕ) (numbers before : List ℕ) → All (λ n. is_in n before ≡ false) numbers → 1 ≤ times m numbers
+    → times m before ≡ 0
 unlisted_here m [] before all some = absurd (omega (arith, some))
 unlisted_here m (n ∷ numbers) before all some =
     let c = count_more (λ y. y == m) n numbers in
     elim (n == m) as (λ b. n == m ≡ b → times m (n ∷ numbers) ≡ cond b 1 0 + times m numbers → times m before ≡ 0) [
-      | true ↦ λ t e. subst (λ k. times k before ≡ 0) (eqb-true n m t) (not_in n before (All-head (λ n. is_in n before ≡ false) n numbers all))
-      | false ↦ λ t e. unlisted_here m numbers before (All-tail (λ n. is_in n before ≡ false) n numbers all) (omega (arith, some, e))
+      | true ↦ λ t e. subst (λ k. times k before ≡ 0) (eqb-true n m t)
+          (not_in n before (All-head (λ n. is_in n before ≡ false) n numbers all))
+      | false ↦ λ t e. unlisted_here m numbers before (All-tail (λ n. is_in n before ≡ false) n numbers all)
+          (omega (arith, some, e))
     ] refl c
 
-numbers_once : (before after : List BlockView) (taken : List ℕ) (dropped : List BlockView) (numbers : List ℕ) → Exchanges before after taken dropped
-    → ((m : ℕ) → times m (rows.numbers_of before) ≤ 1) → ((m : ℕ) → times m taken ≤ times m numbers) → ((m : ℕ) → times m numbers ≤ 1)
+numbers_once : (before after : List BlockView) (taken : List ℕ) (dropped : List BlockView) (numbers : List ℕ)
+    → Exchanges before after taken dropped
+    → ((m : ℕ) → times m (rows.numbers_of before) ≤ 1) → ((m : ℕ) → times m taken ≤ times m numbers)
+    → ((m : ℕ) → times m numbers ≤ 1)
     → All (λ n. is_in n (rows.numbers_of before) ≡ false) numbers → (m : ℕ) → times m (rows.numbers_of after) ≤ 1
 numbers_once before after taken dropped numbers e b t n all m =
     let p : BlockView → Bool = λ x. x.number == m in
@@ -82,14 +92,16 @@ numbers_once before after taken dropped numbers e b t n all m =
     let same : times m (map (λ (x : BlockView). x.number) e.fresh) ≡ times m taken = ap (times m) e.taken_are in
     elim (times m numbers) as (λ k. times m numbers ≡ k → times m (rows.numbers_of after) ≤ 1) [
       | zero ↦ λ z. omega (arith, z, b1, t1, c1, c2, m1, m2, m3, same)
-      | suc k ↦ λ z. let none = unlisted_here m numbers (rows.numbers_of before) all (omega (arith, z)) in omega (arith, none, n1, t1, c1, c2, m1, m2, m3, same)
+      | suc k ↦ λ z. let none = unlisted_here m numbers (rows.numbers_of before) all (omega (arith, z)) in omega
+          (arith, none, n1, t1, c1, c2, m1, m2, m3, same)
     ] refl
 
 -- What shards leave, one after another
 
 length_flat : {X A : Type 0} (f : X → List A) (xs : List X) → length (flat_map f xs) ≡ sum_by (λ x. length (f x)) xs
 length_flat f [] = refl
-length_flat f (x ∷ xs) = length-append (f x) (flat_map f xs) ∙ ap (λ n. length (f x) + n) (length_flat f xs) ∙ sym (sum_by-cons (λ x. length (f x)) x xs)
+length_flat f (x ∷ xs) = length-append (f x) (flat_map f xs) ∙ ap (λ n. length (f x) + n) (length_flat f xs)
+    ∙ sym (sum_by-cons (λ x. length (f x)) x xs)
 
 sum_each : {X : Type 0} (f h : X → ℕ) → ((x : X) → f x ≡ h x) → (xs : List X) → sum_by f xs ≡ sum_by h xs
 sum_each f h each [] = refl
@@ -113,7 +125,8 @@ fresh_all shards = flat_map (λ s. numbers_of s.fresh.items) shards
 nothing_exchanged : Exchanges [] [] [] []
 nothing_exchanged = record { kept = []; fresh = []; taken_are = refl; before_are = λ p. refl; after_are = λ p. refl }
 
-both_exchanged : (b c b' c' : List BlockView) (t t' : List ℕ) (d d' : List BlockView) → Exchanges b c t d → Exchanges b' c' t' d' → Exchanges (b ++ b') (c ++ c') (t ++ t') (d ++ d')
+both_exchanged : (b c b' c' : List BlockView) (t t' : List ℕ) (d d' : List BlockView) → Exchanges b c t d
+    → Exchanges b' c' t' d' → Exchanges (b ++ b') (c ++ c') (t ++ t') (d ++ d')
 both_exchanged b c b' c' t t' d d' e e' = record {
   kept = e.kept ++ e'.kept;
   fresh = e.fresh ++ e'.fresh;
@@ -121,36 +134,51 @@ both_exchanged b c b' c' t t' d d' e e' = record {
   before_are = λ p.
       omega (arith, e.before_are p, e'.before_are p, count_append p e.kept e'.kept, count_append p d d', count_append p b b');
   after_are = λ p.
-      omega (arith, e.after_are p, e'.after_are p, count_append p e.kept e'.kept, count_append p e.fresh e'.fresh, count_append p c c');
+      omega (
+        arith,
+        e.after_are p,
+        e'.after_are p,
+        count_append p e.kept e'.kept,
+        count_append p e.fresh e'.fresh,
+        count_append p c c',
+      );
 }
 
 module _ (before : ℕ → List BlockView) where
-  sources_left : (shards : List Shard) (dones : List ShardDone) → AllZip (IsShardDone before) shards dones → sources_of (rows_left dones) ≡ flat_map sources_in shards
+  sources_left : (shards : List Shard) (dones : List ShardDone) → AllZip (IsShardDone before) shards dones
+      → sources_of (rows_left dones) ≡ flat_map sources_in shards
   sources_left [] [] z = refl
   sources_left [] (d ∷ dones) z = absurd z
   sources_left (s ∷ shards) [] z = absurd z
   sources_left (s ∷ shards) (d ∷ dones) z =
-      map-append (λ (r : ℕ × List BlockView). r.0) (row_values d.rows.items) (rows_left dones) ∙ ap₂ (λ a b. a ++ b) z.0.sources_are (sources_left shards dones z.1)
+      map-append (λ (r : ℕ × List BlockView). r.0) (row_values d.rows.items) (rows_left dones)
+      ∙ ap₂ (λ a b. a ++ b) z.0.sources_are (sources_left shards dones z.1)
 
-  blocks_left : (shards : List Shard) (dones : List ShardDone) → AllZip (IsShardDone before) shards dones → All (λ r. All (IsBlockOf r.0) r.1) (rows_left dones)
+  blocks_left : (shards : List Shard) (dones : List ShardDone) → AllZip (IsShardDone before) shards dones
+      → All (λ r. All (IsBlockOf r.0) r.1) (rows_left dones)
   blocks_left [] [] z = All-nil (λ (r : ℕ × List BlockView). All (IsBlockOf r.0) r.1)
   blocks_left [] (d ∷ dones) z = absurd z
   blocks_left (s ∷ shards) [] z = absurd z
   blocks_left (s ∷ shards) (d ∷ dones) z =
-      All-append (λ (r : ℕ × List BlockView). All (IsBlockOf r.0) r.1) (row_values d.rows.items) (rows_left dones) z.0.blocks (blocks_left shards dones z.1)
+      All-append (λ (r : ℕ × List BlockView). All (IsBlockOf r.0) r.1) (row_values d.rows.items) (rows_left dones) z.0.blocks
+      (blocks_left shards dones z.1)
 
   exchanged_left : (shards : List Shard) (dones : List ShardDone) → AllZip (IsShardDone before) shards dones
-      → Exchanges (flat_map before (flat_map sources_in shards)) (flat_map (λ r. r.1) (rows_left dones)) (taken_left dones) (dropped_left dones)
+      → Exchanges (flat_map before (flat_map sources_in shards)) (flat_map (λ r. r.1) (rows_left dones)) (taken_left dones)
+      (dropped_left dones)
   exchanged_left [] [] z = nothing_exchanged
   exchanged_left [] (d ∷ dones) z = absurd z
   exchanged_left (s ∷ shards) [] z = absurd z
   exchanged_left (s ∷ shards) (d ∷ dones) z =
       subst (λ b. Exchanges b (flat_map (λ r. r.1) (rows_left (d ∷ dones))) (taken_left (d ∷ dones)) (dropped_left (d ∷ dones)))
       (sym (flat_map-append before (sources_in s) (flat_map sources_in shards)))
-      (subst (λ c. Exchanges (flat_map before (sources_in s) ++ flat_map before (flat_map sources_in shards)) c (taken_left (d ∷ dones)) (dropped_left (d ∷ dones)))
+      (subst (λ c. Exchanges (flat_map before (sources_in s) ++ flat_map before (flat_map sources_in shards)) c
+      (taken_left (d ∷ dones)) (dropped_left (d ∷ dones)))
       (sym (flat_map-append (λ (r : ℕ × List BlockView). r.1) (row_values d.rows.items) (rows_left dones)))
-      (both_exchanged (flat_map before (sources_in s)) (flat_map (λ r. r.1) (row_values d.rows.items)) (flat_map before (flat_map sources_in shards)) (flat_map (λ r. r.1) (rows_left dones))
-      d.left.taken.items (taken_left dones) (blocks_of d.left.dropped.items) (dropped_left dones) z.0.exchanged (exchanged_left shards dones z.1)))
+      (both_exchanged (flat_map before (sources_in s)) (flat_map (λ r. r.1) (row_values d.rows.items))
+      (flat_map before (flat_map sources_in shards)) (flat_map (λ r. r.1) (rows_left dones))
+      d.left.taken.items (taken_left dones) (blocks_of d.left.dropped.items) (dropped_left dones) z.0.exchanged
+      (exchanged_left shards dones z.1)))
 
   handed_left : (shards : List Shard) (dones : List ShardDone) → AllZip (IsShardDone before) shards dones
       → (q : ℕ → Bool) → count_by q (taken_left dones) + count_by q (unused_left dones) ≡ count_by q (fresh_all shards)
@@ -171,19 +199,24 @@ module _ (before : ℕ → List BlockView) where
     abbrev rs : List Resolved
     rs = resolved ops g.names g.kinds
 
-    layouts_left : (a k : ℕ) (shards : List Shard) (dones : List ShardDone) → AllZip (IsShardOf workers rs) (range_with_len a k) shards → AllZip (IsShardDone before) shards dones
+    layouts_left : (a k : ℕ) (shards : List Shard) (dones : List ShardDone)
+        → AllZip (IsShardOf workers rs) (range_with_len a k) shards → AllZip (IsShardDone before) shards dones
         → All (λ r. map shape_of r.1 ≡ layout_after ops g (λ s. map shape_of (before s)) r.0) (rows_left dones)
-    layouts_left a zero [] [] p z = All-nil (λ (r : ℕ × List BlockView). map shape_of r.1 ≡ layout_after ops g (λ s. map shape_of (before s)) r.0)
+    layouts_left a zero [] [] p z = All-nil (λ (r : ℕ × List BlockView). map shape_of r.1 ≡ layout_after ops g
+        (λ s. map shape_of (before s)) r.0)
     layouts_left a k [] (d ∷ dones) p z = absurd z
     layouts_left a zero (s ∷ shards) dones p z = absurd p
     layouts_left a (suc k) [] dones p z = absurd p
     layouts_left a k (s ∷ shards) [] p z = absurd z
     layouts_left a (suc k) (s ∷ shards) (d ∷ dones) p z =
-        All-append (λ (r : ℕ × List BlockView). map shape_of r.1 ≡ layout_after ops g (λ s. map shape_of (before s)) r.0) (row_values d.rows.items) (rows_left dones)
+        All-append (λ (r : ℕ × List BlockView). map shape_of r.1 ≡ layout_after ops g (λ s. map shape_of (before s)) r.0)
+        (row_values d.rows.items) (rows_left dones)
         (shard_layout_at workers a ops g before s d p.0 z.0) (layouts_left (a + 1) k shards dones p.1 z.1)
 
-    outcomes_left : (a k : ℕ) (shards : List Shard) (dones : List ShardDone) → AllZip (IsShardOf workers rs) (range_with_len a k) shards → AllZip (IsShardDone before) shards dones
-        → (xs : List Outcome) → written_from dones xs ≡ written_all workers (range_with_len a k) rs (outcomes_all rs (opened (λ s. map shape_of (before s)))) xs
+    outcomes_left : (a k : ℕ) (shards : List Shard) (dones : List ShardDone)
+        → AllZip (IsShardOf workers rs) (range_with_len a k) shards → AllZip (IsShardDone before) shards dones
+        → (xs : List Outcome) → written_from dones xs ≡ written_all workers (range_with_len a k) rs
+        (outcomes_all rs (opened (λ s. map shape_of (before s)))) xs
     outcomes_left a zero [] [] p z xs = refl
     outcomes_left a k [] (d ∷ dones) p z xs = absurd z
     outcomes_left a zero (s ∷ shards) dones p z xs = absurd p
@@ -221,27 +254,33 @@ module _ (v : VersionView) (ops : List NamedOp) (workers : ℕ) (positive : 0 < 
   content_next : (after : List (List BlockView)) → content (next after) ≡ after_all ops g
   content_next after = left_more v.batches ops v.opening
 
-  module _ (after : List (List BlockView)) (among : (s : ℕ) → row_of after s ≡ row_among (rows_left dones) s (row_of v.rows s)) where
+  module _ (after : List (List BlockView)) (among : (s : ℕ)
+      → row_of after s ≡ row_among (rows_left dones) s (row_of v.rows s)) where
     pub layout_next : (s : ℕ) → layout_of after s ≡ layout_after ops g (layout_of v.rows) s
     layout_next s =
         ap (map shape_of) (among s)
         ∙ among_is (λ s row. map shape_of row ≡ layout_after ops g (layout_of v.rows) s) s (rows_left dones) (row_of v.rows s)
         (layouts_left (row_of v.rows) workers ops g 0 workers shards dones planned done)
-        (λ none. sym (quiet_layout workers ops g positive shards planned (layout_of v.rows) s (ap (times s) (sym (sources_left (row_of v.rows) shards dones done)) ∙ none)))
+        (λ none. sym (quiet_layout workers ops g positive shards planned (layout_of v.rows) s
+        (ap (times s) (sym (sources_left (row_of v.rows) shards dones done)) ∙ none)))
 
     blocks_next : (s : ℕ) → All (IsBlockOf s) (row_of after s)
     blocks_next s =
         subst (λ row. All (IsBlockOf s) row) (sym (among s))
-        (among_is (λ s row. All (IsBlockOf s) row) s (rows_left dones) (row_of v.rows s) (blocks_left (row_of v.rows) shards dones done) (λ none. is.rows.blocks s))
+        (among_is (λ s row. All (IsBlockOf s) row) s (rows_left dones) (row_of v.rows s)
+        (blocks_left (row_of v.rows) shards dones done) (λ none. is.rows.blocks s))
 
     pub exchanged_next : Exchanges (rows.blocks_of v.rows) (rows.blocks_of after) (taken_left dones) (dropped_left dones)
     exchanged_next =
         exchanged_all xs (rows_left dones) v.rows after (length (after_all ops g).names)
         (λ m. all_once workers ops g 0 workers m shards planned) (all_within workers ops g 0 workers shards planned)
-        (sources_left (row_of v.rows) shards dones done) among (taken_left dones) (dropped_left dones) (exchanged_left (row_of v.rows) shards dones done)
+        (sources_left (row_of v.rows) shards dones done) among (taken_left dones) (dropped_left dones)
+        (exchanged_left (row_of v.rows) shards dones done)
 
-    module _ (numbers rest : List ℕ) (handed : (q : ℕ → Bool) → count_by q (fresh_all shards) + count_by q rest ≡ count_by q numbers)
-        (distinct : AllPairs (λ a b. a ≢ b) numbers) (unlisted : All (λ n. is_in n (rows.numbers_of (rows.blocks_of v.rows)) ≡ false) numbers)
+    module _ (numbers rest : List ℕ) (handed : (q : ℕ → Bool)
+        → count_by q (fresh_all shards) + count_by q rest ≡ count_by q numbers)
+        (distinct : AllPairs (λ a b. a ≢ b) numbers)
+        (unlisted : All (λ n. is_in n (rows.numbers_of (rows.blocks_of v.rows)) ≡ false) numbers)
         (limits : MeetsNeitherLimit ops g) (few : length v.batches < batch_limit) where
       few_taken : (m : ℕ) → times m (taken_left dones) ≤ times m numbers
       few_taken m = omega (arith, handed (λ x. x == m), handed_left (row_of v.rows) shards dones done (λ x. x == m))
@@ -249,8 +288,10 @@ module _ (v : VersionView) (ops : List NamedOp) (workers : ℕ) (positive : 0 < 
       numbers_next : AllPairs (λ a b. a ≢ b) (rows.numbers_of (rows.blocks_of after))
       numbers_next =
           pairs (rows.numbers_of (rows.blocks_of after))
-          (numbers_once (rows.blocks_of v.rows) (rows.blocks_of after) (taken_left dones) (dropped_left dones) numbers exchanged_next
-          (λ m. once m (rows.numbers_of (rows.blocks_of v.rows)) is.rows.numbers) few_taken (λ m. once m numbers distinct) unlisted)
+          (numbers_once (rows.blocks_of v.rows) (rows.blocks_of after) (taken_left dones) (dropped_left dones) numbers
+          exchanged_next
+          (λ m. once m (rows.numbers_of (rows.blocks_of v.rows)) is.rows.numbers) few_taken (λ m. once m numbers distinct)
+          unlisted)
 
       pub version_next : IsVersion (next after)
       version_next =
@@ -266,8 +307,10 @@ module _ (v : VersionView) (ops : List NamedOp) (workers : ℕ) (positive : 0 < 
             });
             within = subst IsWithin (sym (content_next after)) laid.2;
             small = record {
-              names = subst (λ h. length h.names ≤ name_limit) (sym (content_next after)) (no_more name_limit (length (after_all ops g).names) limits.0);
-              kinds = subst (λ h. length h.kinds ≤ kind_limit) (sym (content_next after)) (no_more kind_limit (length (after_all ops g).kinds) limits.1);
+              names = subst (λ h. length h.names ≤ name_limit) (sym (content_next after))
+                  (no_more name_limit (length (after_all ops g).names) limits.0);
+              kinds = subst (λ h. length h.kinds ≤ kind_limit) (sym (content_next after))
+                  (no_more kind_limit (length (after_all ops g).kinds) limits.1);
               count = (let long = length-append v.batches (ops ∷ []) in omega (arith, long, few));
             };
           }
@@ -278,13 +321,15 @@ module _ (v : VersionView) (ops : List NamedOp) (workers : ℕ) (positive : 0 < 
           let rs : List Resolved = resolved ops g.names g.kinds in
           let ys : List Outcome = outcomes_all rs (opened (layout_of v.rows)) in
           outcomes_left (row_of v.rows) workers ops g 0 workers shards dones planned done (replicate (length ops) Absent)
-          ∙ all_written workers positive rs ys (replicate (length ops) Absent) (length-outcomes_all rs (opened (layout_of v.rows)))
+          ∙ all_written workers positive rs ys (replicate (length ops) Absent)
+          (length-outcomes_all rs (opened (layout_of v.rows)))
           (length-replicate (length ops) Absent ∙ sym (length-resolved ops g.names g.kinds))
           ∙ laid.1
 
       -- what apply answers
       pub applied : (a : Applied) → a.version ≡ next after → a.outcomes.items ≡ written_from dones (replicate (length ops) Absent)
-          → a.taken.items ≡ taken_left dones → blocks_of a.dropped.items ≡ dropped_left dones → numbers_of a.unused.items ≡ rest ++ unused_left dones
+          → a.taken.items ≡ taken_left dones → blocks_of a.dropped.items ≡ dropped_left dones → numbers_of a.unused.items ≡ rest
+          ++ unused_left dones
           → IsApplied v ops numbers a
       applied a ver out taken dropped unused =
           let totals = batch_totals workers ops g (row_of v.rows) shards dones positive planned done in
@@ -294,9 +339,11 @@ module _ (v : VersionView) (ops : List NamedOp) (workers : ℕ) (positive : 0 < 
             batches = ap (λ (w : VersionView). w.batches) ver;
             outcomes_are = out ∙ outcomes_next;
             exchanged =
-                subst (λ (w : VersionView). Exchanges (rows.blocks_of v.rows) (rows.blocks_of w.rows) a.taken.items (blocks_of a.dropped.items)) (sym ver)
+                subst (λ (w : VersionView). Exchanges (rows.blocks_of v.rows) (rows.blocks_of w.rows) a.taken.items
+                (blocks_of a.dropped.items)) (sym ver)
                 (subst (λ ts. Exchanges (rows.blocks_of v.rows) (rows.blocks_of after) ts (blocks_of a.dropped.items)) (sym taken)
-                (subst (λ ds. Exchanges (rows.blocks_of v.rows) (rows.blocks_of after) (taken_left dones) ds) (sym dropped) exchanged_next));
+                (subst (λ ds. Exchanges (rows.blocks_of v.rows) (rows.blocks_of after) (taken_left dones) ds) (sym dropped)
+                exchanged_next));
             handed = λ q.
                 (let one = handed q in
                 let two = handed_left (row_of v.rows) shards dones done q in
@@ -306,17 +353,23 @@ module _ (v : VersionView) (ops : List NamedOp) (workers : ℕ) (positive : 0 < 
             layout = λ s. ap (λ (w : VersionView). layout_of w.rows s) ver ∙ layout_next s;
             taken_are = ap length taken ∙ length_flat (λ (d : ShardDone). d.left.taken.items) dones ∙ totals.0;
             dropped_are =
-                sym (length-map a.dropped.items block_of) ∙ ap length dropped ∙ length_flat (λ (d : ShardDone). blocks_of d.left.dropped.items) dones
-                ∙ sum_each (λ (d : ShardDone). length (blocks_of d.left.dropped.items)) (λ (d : ShardDone). length d.left.dropped.items) (λ d. length-map d.left.dropped.items block_of) dones
+                sym (length-map a.dropped.items block_of) ∙ ap length dropped
+                ∙ length_flat (λ (d : ShardDone). blocks_of d.left.dropped.items) dones
+                ∙ sum_each (λ (d : ShardDone). length (blocks_of d.left.dropped.items))
+                (λ (d : ShardDone). length d.left.dropped.items) (λ d. length-map d.left.dropped.items block_of) dones
                 ∙ totals.1;
           }
 
 -- The next version by the jobs of a plan's shards
-module _ (v : VersionView) (ops : List NamedOp) (workers : ℕ) (shards : List Shard) (jobs : List Job) (dones : List ShardDone) (numbers rest : List ℕ)
-    (positive : 0 < workers) (is : IsVersion v) (planned : ArePlanned workers ops (content v) shards) (dealt : AllZip IsDealt shards jobs)
+module _ (v : VersionView) (ops : List NamedOp) (workers : ℕ) (shards : List Shard) (jobs : List Job) (dones : List ShardDone)
+    (numbers rest : List ℕ)
+    (positive : 0 < workers) (is : IsVersion v) (planned : ArePlanned workers ops (content v) shards)
+    (dealt : AllZip IsDealt shards jobs)
     (done : AreDone (row_of v.rows) jobs dones)
-    (handed : (q : ℕ → Bool) → count_by q (flat_map (λ j. numbers_of j.shard.fresh.items) jobs) + count_by q rest ≡ count_by q numbers)
-    (distinct : AllPairs (λ a b. a ≢ b) numbers) (unlisted : All (λ n. is_in n (rows.numbers_of (rows.blocks_of v.rows)) ≡ false) numbers)
+    (handed : (q : ℕ → Bool) → count_by q (flat_map (λ j. numbers_of j.shard.fresh.items) jobs) + count_by q rest
+    ≡ count_by q numbers)
+    (distinct : AllPairs (λ a b. a ≢ b) numbers)
+    (unlisted : All (λ n. is_in n (rows.numbers_of (rows.blocks_of v.rows)) ≡ false) numbers)
     (limits : MeetsNeitherLimit ops (content v)) (few : length v.batches < batch_limit)
     (after : List (List BlockView)) (among : (s : ℕ) → row_of after s ≡ row_among (rows_left dones) s (row_of v.rows s)) where
   abbrev with_fresh : List Shard
@@ -330,29 +383,41 @@ module _ (v : VersionView) (ops : List NamedOp) (workers : ℕ) (shards : List S
 
   pub version_made : IsVersion (record { opening = v.opening; batches = v.batches ++ ops ∷ []; rows = after })
   version_made =
-      version_next v ops workers positive is with_fresh planned_jobs dones (done_in (row_of v.rows) jobs dones done) after among numbers rest handed_jobs distinct unlisted limits few
+      version_next v ops workers positive is with_fresh planned_jobs dones (done_in (row_of v.rows) jobs dones done) after among
+      numbers rest handed_jobs distinct unlisted limits few
 
   pub applied_made : (a : Applied) → a.version ≡ record { opening = v.opening; batches = v.batches ++ ops ∷ []; rows = after }
       → a.outcomes.items ≡ written_from dones (replicate (length ops) Absent)
-      → a.taken.items ≡ taken_left dones → blocks_of a.dropped.items ≡ dropped_left dones → numbers_of a.unused.items ≡ rest ++ unused_left dones
+      → a.taken.items ≡ taken_left dones → blocks_of a.dropped.items ≡ dropped_left dones → numbers_of a.unused.items ≡ rest
+      ++ unused_left dones
       → IsApplied v ops numbers a
   applied_made =
-      applied v ops workers positive is with_fresh planned_jobs dones (done_in (row_of v.rows) jobs dones done) after among numbers rest handed_jobs distinct unlisted limits few
+      applied v ops workers positive is with_fresh planned_jobs dones (done_in (row_of v.rows) jobs dones done) after among
+      numbers rest handed_jobs distinct unlisted limits few
 
 -- The drafts of the next version
 
-module _ (v : VersionView) (ops : List NamedOp) (names kinds : Book) (values : List (ℕ × List BlockView)) (d0 d1 d2 d3 : DraftView)
-    (e0 : d0 ≡ drafted_over v) (e1 : d1 ≡ record d0 { names = names; kinds = kinds }) (e2 : ReplacesRows values d1 d2) (e3 : d3 ≡ with_batch d2 ops) where
+module _ (v : VersionView) (ops : List NamedOp) (names kinds : Book) (values : List (ℕ × List BlockView))
+    (d0 d1 d2 d3 : DraftView)
+    (e0 : d0 ≡ drafted_over v) (e1 : d1 ≡ record d0 { names = names; kinds = kinds }) (e2 : ReplacesRows values d1 d2)
+    (e3 : d3 ≡ with_batch d2 ops) where
   abbrev given : DraftView → DraftView
   given d = record d { names = names; kinds = kinds }
 
   first : d1 ≡ given (drafted_over v)
   first = e1 ∙ ap given e0
 
-  pub draft_is : d3 ≡ record { names = names; kinds = kinds; version = record { opening = v.opening; batches = v.batches ++ ops ∷ []; rows = d2.version.rows } }
+  pub draft_is : d3 ≡ record {
+    names = names;
+    kinds = kinds;
+    version =
+        record { opening = v.opening; batches = v.batches ++ ops ∷ []; rows = d2.version.rows };
+  }
   draft_is =
       e3 ∙ ap (λ d. with_batch d ops)
-      (e2.rest ∙ ap (λ (d : DraftView). let r : DraftView = record d { version = record d.version { rows = d2.version.rows } } in r) first)
+      (e2.rest
+      ∙ ap (λ (d : DraftView). let r : DraftView = record d { version = record d.version { rows = d2.version.rows } } in r)
+      first)
 
   pub draft_among : (s : ℕ) → row_of d2.version.rows s ≡ row_among values s (row_of v.rows s)
   draft_among s = e2.rows_are s ∙ ap (λ (d : DraftView). row_among values s (row_of d.version.rows s)) first

@@ -1,5 +1,6 @@
 -- The blocks of a version and of the next one, by the sources whose rows were replaced.
-use Rattle.std.proofs.Common.{◌≡◌, ◌≢◌, ℕ, zero, suc, ◌+◌, ◌<◌, ◌≤◌, ◌==◌, Bool, true, false, cond, List, [], ◌∷◌, ◌++◌, length, get_or, map, flat_map, count_by, refl, sym, ap, ap₂, ◌∙◌, arith, subst, All, AllPairs}
+use Rattle.std.proofs.Common.{◌≡◌, ◌≢◌, ℕ, zero, suc, ◌+◌, ◌<◌, ◌≤◌, ◌==◌, Bool, true, false, cond, List, [], ◌∷◌, ◌++◌, length}
+use Rattle.std.proofs.Common.{get_or, map, flat_map, count_by, refl, sym, ap, ap₂, ◌∙◌, arith, subst, All, AllPairs}
 use Rattle.std.specs.List.{sum_by}
 use Rattle.std.proofs.lemmas.Bool.{eqb-true, eqb-false}
 use Rattle.std.proofs.lemmas.List.Sums.{sum_by-cons, sum_by-append}
@@ -35,7 +36,8 @@ abbrev lists_below : {A : Type 0} → ℕ → (ℕ → List A) → List A
 lists_below zero h = []
 lists_below (suc n) h = h n ++ lists_below n h
 
-count_below : {A : Type 0} (p : A → Bool) (n : ℕ) (h : ℕ → List A) → count_by p (lists_below n h) ≡ sum_below n (λ s. count_by p (h s))
+count_below : {A : Type 0} (p : A → Bool) (n : ℕ) (h : ℕ → List A)
+    → count_by p (lists_below n h) ≡ sum_below n (λ s. count_by p (h s))
 count_below p zero h = refl
 count_below p (suc n) h = count_append p (h n) (lists_below n h) ∙ ap (λ k. count_by p (h n) + k) (count_below p n h)
 
@@ -43,7 +45,8 @@ same_below : {A : Type 0} (n : ℕ) (h g : ℕ → List A) → ((s : ℕ) → h 
 same_below zero h g each = refl
 same_below (suc n) h g each = ap₂ (λ a b. a ++ b) (each n) (same_below n h g each)
 
-rows_below : (p : BlockView → Bool) (rows : List (List BlockView)) (n : ℕ) → length rows ≤ n → count_by p (blocks_of rows) ≡ sum_below n (λ s. count_by p (row_of rows s))
+rows_below : (p : BlockView → Bool) (rows : List (List BlockView)) (n : ℕ) → length rows ≤ n
+    → count_by p (blocks_of rows) ≡ sum_below n (λ s. count_by p (row_of rows s))
 rows_below p [] n le = sym (below_zero n)
 rows_below p (row ∷ rows) zero le = absurd (omega arith)
 rows_below p (row ∷ rows) (suc n) le =
@@ -66,30 +69,36 @@ some_times (x ∷ xs) (suc i) d lt =
 sum_same : (f h : ℕ → ℕ) (xs : List ℕ) → All (λ x. f x ≡ h x) xs → sum_by f xs ≡ sum_by h xs
 sum_same f h [] all = refl
 sum_same f h (x ∷ xs) all =
-    sum_by-cons f x xs ∙ ap₂ (λ a b. a + b) (All-head (λ x. f x ≡ h x) x xs all) (sum_same f h xs (All-tail (λ x. f x ≡ h x) x xs all)) ∙ sym (sum_by-cons h x xs)
+    sum_by-cons f x xs ∙ ap₂ (λ a b. a + b) (All-head (λ x. f x ≡ h x) x xs all)
+    (sum_same f h xs (All-tail (λ x. f x ≡ h x) x xs all)) ∙ sym (sum_by-cons h x xs)
 
-sum_lists : {A : Type 0} (p : A → Bool) (h : ℕ → List A) (xs : List ℕ) → sum_by (λ s. count_by p (h s)) xs ≡ count_by p (flat_map h xs)
+sum_lists : {A : Type 0} (p : A → Bool) (h : ℕ → List A) (xs : List ℕ)
+    → sum_by (λ s. count_by p (h s)) xs ≡ count_by p (flat_map h xs)
 sum_lists p h [] = refl
 sum_lists p h (x ∷ xs) =
-    sum_by-cons (λ s. count_by p (h s)) x xs ∙ ap (λ k. count_by p (h x) + k) (sum_lists p h xs) ∙ sym (count_append p (h x) (flat_map h xs))
+    sum_by-cons (λ s. count_by p (h s)) x xs ∙ ap (λ k. count_by p (h x) + k) (sum_lists p h xs)
+    ∙ sym (count_append p (h x) (flat_map h xs))
 
 -- the rows of the sources that aren't listed
 abbrev others : List ℕ → (ℕ → List BlockView) → ℕ → List BlockView
 others xs rows s = cond (times s xs == 0) (rows s) []
 
-split_count : (p : BlockView → Bool) (b : Bool) (row : List BlockView) → count_by p row ≡ count_by p (cond b row []) + (let k : ℕ = cond b 0 (count_by p row) in k)
+split_count : (p : BlockView → Bool) (b : Bool) (row : List BlockView)
+    → count_by p row ≡ count_by p (cond b row []) + (let k : ℕ = cond b 0 (count_by p row) in k)
 split_count p true row = omega arith
 split_count p false row = omega arith
 
 module _ (xs : List ℕ) (once : (m : ℕ) → times m xs ≤ 1) where
   -- all blocks are those of the sources that aren't listed and those of the listed ones
   split_rows : (p : BlockView → Bool) (rows : List (List BlockView)) (n : ℕ) → length rows ≤ n → All (λ x. x < n) xs
-      → count_by p (blocks_of rows) ≡ count_by p (lists_below n (others xs (row_of rows))) + count_by p (flat_map (row_of rows) xs)
+      → count_by p (blocks_of rows) ≡ count_by p (lists_below n (others xs (row_of rows))) + count_by p
+      (flat_map (row_of rows) xs)
   split_rows p rows n le within =
       let f : ℕ → ℕ = λ s. count_by p (row_of rows s) in
       let w : ℕ → ℕ = λ s. cond (times s xs == 0) 0 (f s) in
       let all = rows_below p rows n le in
-      let parts = below_plus n f (λ s. count_by p (others xs (row_of rows) s)) w (λ s. split_count p (times s xs == 0) (row_of rows s)) in
+      let parts = below_plus n f (λ s. count_by p (others xs (row_of rows) s)) w
+      (λ s. split_count p (times s xs == 0) (row_of rows s)) in
       let rest = count_below p n (others xs (row_of rows)) in
       let listed : sum_by w xs ≡ sum_below n w =
       sum_all w n xs once within (λ m lt none. ap (λ k. let r : ℕ = cond (k == 0) 0 (f m) in r) none) in
@@ -107,7 +116,8 @@ flat_same f g [] each = refl
 flat_same f g (x ∷ xs) each = ap₂ (λ a b. a ++ b) (each x) (flat_same f g xs each)
 
 -- what is exchanged in the replaced rows is exchanged in the whole
-module _ (xs : List ℕ) (rows : List (ℕ × List BlockView)) (before after : List (List BlockView)) (k : ℕ) (once : (m : ℕ) → times m xs ≤ 1) (within : All (λ x. x < k) xs)
+module _ (xs : List ℕ) (rows : List (ℕ × List BlockView)) (before after : List (List BlockView)) (k : ℕ)
+    (once : (m : ℕ) → times m xs ≤ 1) (within : All (λ x. x < k) xs)
     (sources : sources_of rows ≡ xs) (among : (s : ℕ) → row_of after s ≡ row_among rows s (row_of before s)) where
   abbrev bound : ℕ
   bound = length before + (length after + k)
@@ -128,7 +138,8 @@ module _ (xs : List ℕ) (rows : List (ℕ × List BlockView)) (before after : L
       ∙ ap (flat_map (λ s. row_among rows s (row_of before s))) (sym sources)
       ∙ among_all rows (row_of before) (λ m. subst (λ ss. times m ss ≤ 1) (sym sources) (once m))
 
-  pub exchanged_all : (taken : List ℕ) (dropped : List BlockView) → Exchanges (flat_map (row_of before) xs) (flat_map (λ r. r.1) rows) taken dropped
+  pub exchanged_all : (taken : List ℕ) (dropped : List BlockView)
+      → Exchanges (flat_map (row_of before) xs) (flat_map (λ r. r.1) rows) taken dropped
       → Exchanges (blocks_of before) (blocks_of after) taken dropped
   exchanged_all taken dropped e = record {
     kept = rest ++ e.kept;
@@ -166,4 +177,5 @@ pairs (x ∷ xs) once (suc i) (suc j) d lt within e =
 
 pub count_map : {A B : Type 0} (q : B → Bool) (f : A → B) (xs : List A) → count_by q (map f xs) ≡ count_by (λ x. q (f x)) xs
 count_map q f [] = refl
-count_map q f (x ∷ xs) = count_more q (f x) (map f xs) ∙ ap (λ k. cond (q (f x)) 1 0 + k) (count_map q f xs) ∙ sym (count_more (λ x. q (f x)) x xs)
+count_map q f (x ∷ xs) = count_more q (f x) (map f xs) ∙ ap (λ k. cond (q (f x)) 1 0 + k) (count_map q f xs)
+    ∙ sym (count_more (λ x. q (f x)) x xs)

@@ -1,5 +1,6 @@
 -- What loops have done, with one more.
-use Rattle.std.proofs.Common.{◌≡◌, ℕ, zero, suc, ◌+◌, ◌≤◌, ◌==◌, Bool, cond, List, [], ◌∷◌, ◌++◌, length, map, flat_map, count_by, set, take, drop, refl, sym, ap, ◌∙◌, subst}
+use Rattle.std.proofs.Common.{◌≡◌, ℕ, zero, suc, ◌+◌, ◌≤◌, ◌==◌, Bool, cond, List, [], ◌∷◌, ◌++◌, length, map, flat_map}
+use Rattle.std.proofs.Common.{count_by, set, take, drop, refl, sym, ap, ◌∙◌, subst}
 use Rattle.std.specs.declared.sync.Arc.{Arc}
 use Rattle.std.specs.declared.alloc.Global.{Global}
 use Rattle.std.specs.declared.vec.Vec.{Vec}
@@ -19,14 +20,17 @@ use Rattle.batch_apply.specs.Applied.{ReplacesRows, written_from, row_among}
 use Rattle.batch_apply.proofs.Kept.{count_append}
 use Rattle.batch_apply.proofs.Placed.{among_more}
 
-pub written_more : {A : Type 0} (ps : List (ℕ × A)) (p : ℕ × A) (xs : List A) → written (ps ++ p ∷ []) xs ≡ set (written ps xs) p.0 p.1
+pub written_more : {A : Type 0} (ps : List (ℕ × A)) (p : ℕ × A) (xs : List A)
+    → written (ps ++ p ∷ []) xs ≡ set (written ps xs) p.0 p.1
 written_more [] p xs = refl
 written_more (x ∷ ps) p xs = written_more ps p (set xs x.0 x.1)
 
-pub written_past : {A : Type 0} (ps : List (ℕ × A)) (p : ℕ × A) (xs : List A) → length (written ps xs) ≤ p.0 → written (ps ++ p ∷ []) xs ≡ written ps xs
+pub written_past : {A : Type 0} (ps : List (ℕ × A)) (p : ℕ × A) (xs : List A) → length (written ps xs) ≤ p.0
+    → written (ps ++ p ∷ []) xs ≡ written ps xs
 written_past ps p xs past = written_more ps p xs ∙ set_past (written ps xs) p.0 p.1 past
 
-pub from_more : (ds : List ShardDone) (d : ShardDone) (xs : List Outcome) → written_from (ds ++ d ∷ []) xs ≡ written d.outcomes.items (written_from ds xs)
+pub from_more : (ds : List ShardDone) (d : ShardDone) (xs : List Outcome)
+    → written_from (ds ++ d ∷ []) xs ≡ written d.outcomes.items (written_from ds xs)
 from_more [] d xs = refl
 from_more (x ∷ ds) d xs = from_more ds d (written x.outcomes.items xs)
 
@@ -54,11 +58,14 @@ cut_numbers m all low high a b q =
 pub replaced_none : (draft : DraftView) → ReplacesRows [] draft draft
 replaced_none draft = record { rows_are = λ s. refl; rest = refl }
 
-values_more : (rows : List (VertexId × Vec (Arc Block Global) Global)) (source : VertexId) (blocks : Vec (Arc Block Global) Global)
+values_more : (rows : List (VertexId × Vec (Arc Block Global) Global)) (source : VertexId)
+    (blocks : Vec (Arc Block Global) Global)
     → row_values (rows ++ (source, blocks) ∷ []) ≡ row_values rows ++ (source.0, blocks_of blocks.items) ∷ []
-values_more rows source blocks = map-append (λ (r : VertexId × Vec (Arc Block Global) Global). (r.0.0, blocks_of r.1.items)) rows ((source, blocks) ∷ [])
+values_more rows source blocks = map-append (λ (r : VertexId × Vec (Arc Block Global) Global). (r.0.0, blocks_of r.1.items))
+    rows ((source, blocks) ∷ [])
 
-pub replaced_more : (rows : List (VertexId × Vec (Arc Block Global) Global)) (source : VertexId) (blocks : Vec (Arc Block Global) Global) (first draft next : DraftView)
+pub replaced_more : (rows : List (VertexId × Vec (Arc Block Global) Global)) (source : VertexId)
+    (blocks : Vec (Arc Block Global) Global) (first draft next : DraftView)
     → ReplacesRows (row_values rows) first draft → ReplacesRow source.0 (blocks_of blocks.items) draft next
     → ReplacesRows (row_values (rows ++ (source, blocks) ∷ [])) first next
 replaced_more rows source blocks first draft next before one = record {
@@ -67,5 +74,7 @@ replaced_more rows source blocks first draft next before one = record {
       ∙ ap (λ row. cond (s == source.0) (blocks_of blocks.items) row) (before.rows_are s)
       ∙ sym (among_more (row_values rows) (source.0, blocks_of blocks.items) s (row_of first.version.rows s))
       ∙ ap (λ rs. row_among rs s (row_of first.version.rows s)) (sym (values_more rows source blocks));
-  rest = one.rest ∙ ap (λ (d : DraftView). let r : DraftView = record d { version = record d.version { rows = next.version.rows } } in r) before.rest;
+  rest = one.rest
+      ∙ ap (λ (d : DraftView). let r : DraftView = record d { version = record d.version { rows = next.version.rows } } in r)
+      before.rest;
 }

@@ -1,5 +1,6 @@
 -- What shards leave, put together, is what the batch leaves.
-use Rattle.std.proofs.Common.{◌≡◌, ℕ, ◌+◌, ◌%◌, ◌==◌, List, [], ◌∷◌, map, filter, zip, Bool, true, false, cond, refl, sym, ap, ◌∙◌, Option, Some, None, All, not, ◌&&◌}
+use Rattle.std.proofs.Common.{◌≡◌, ℕ, ◌+◌, ◌%◌, ◌==◌, List, [], ◌∷◌, map, filter, zip, Bool, true, false, cond, refl, sym, ap}
+use Rattle.std.proofs.Common.{◌∙◌, Option, Some, None, All, not, ◌&&◌}
 use Rattle.std.specs.List.{enumerate_from}
 use Rattle.std.proofs.lemmas.Bool.{true≢false, false≢true}
 use Rattle.std.proofs.lemmas.List.Elements.{All-head, All-tail}
@@ -7,22 +8,26 @@ use Rattle.graph_model.specs.Graph.{Graph}
 use Rattle.graph_model.specs.declared.batches.NamedOp.{NamedOp}
 use Rattle.graph_model.specs.declared.batches.Outcome.{Outcome}
 use Rattle.block_layout.specs.Rows.{Shape, OpenBlock, untouched, row_end, shapes, is_kept}
-use Rattle.block_layout.specs.Batches.{Resolved, resolved, shard_of, shard_ops, picked, rows_all, rows_step, outcomes_all, opened, layout_after, key_is_of, row_step}
+use Rattle.block_layout.specs.Batches.{Resolved, resolved, shard_of, shard_ops, picked, rows_all, rows_step, outcomes_all}
+use Rattle.block_layout.specs.Batches.{opened, layout_after, key_is_of, row_step}
 use Rattle.block_layout.proofs.ShardLaws.{shard_rows, shard_outcomes}
 use Rattle.batch_apply.specs.Plans.{placed_ops, shard_at, ops_of}
 
 -- a shard of placed operations is the shard of the operations
-shard_is : (p : Resolved → Bool) (rs : List Resolved) (k : ℕ) → map (λ x. x.1) (filter (λ x. p x.1) (enumerate_from k rs)) ≡ filter p rs
+shard_is : (p : Resolved → Bool) (rs : List Resolved) (k : ℕ) → map (λ x. x.1) (filter (λ x. p x.1) (enumerate_from k rs))
+    ≡ filter p rs
 shard_is p [] k = refl
 shard_is p (r ∷ rs) k =
-    elim (p r) as (λ b. map (λ x. x.1) (cond b ((k, r) ∷ filter (λ x. p x.1) (enumerate_from (k + 1) rs)) (filter (λ x. p x.1) (enumerate_from (k + 1) rs))) ≡ cond b (r ∷ filter p rs) (filter p rs)) [
+    elim (p r) as (λ b. map (λ x. x.1) (cond b ((k, r) ∷ filter (λ x. p x.1) (enumerate_from (k + 1) rs))
+    (filter (λ x. p x.1) (enumerate_from (k + 1) rs))) ≡ cond b (r ∷ filter p rs) (filter p rs)) [
       | true ↦ ap (λ xs. r ∷ xs) (shard_is p rs (k + 1))
       | false ↦ shard_is p rs (k + 1)
     ]
 
 -- the places of picked results
 placed_results : {A : Type 0} (p : Resolved → Bool) (rs : List Resolved) (ys : List A) (k : ℕ)
-    → zip (map (λ x. x.0) (filter (λ x. p x.1) (enumerate_from k rs))) (picked p rs ys) ≡ picked (λ (x : ℕ × Resolved). p x.1) (enumerate_from k rs) (enumerate_from k ys)
+    → zip (map (λ x. x.0) (filter (λ x. p x.1) (enumerate_from k rs))) (picked p rs ys) ≡ picked (λ (x : ℕ × Resolved). p x.1)
+    (enumerate_from k rs) (enumerate_from k ys)
 placed_results p [] ys k = refl
 placed_results p (r ∷ rs) [] k = none _
   where
@@ -30,8 +35,10 @@ placed_results p (r ∷ rs) [] k = none _
     none [] = refl
     none (x ∷ xs) = refl
 placed_results p (r ∷ rs) (y ∷ ys) k =
-    elim (p r) as (λ b. zip (map (λ x. x.0) (cond b ((k, r) ∷ filter (λ x. p x.1) (enumerate_from (k + 1) rs)) (filter (λ x. p x.1) (enumerate_from (k + 1) rs)))) (cond b (y ∷ picked p rs ys) (picked p rs ys))
-    ≡ cond b ((k, y) ∷ picked (λ (x : ℕ × Resolved). p x.1) (enumerate_from (k + 1) rs) (enumerate_from (k + 1) ys)) (picked (λ (x : ℕ × Resolved). p x.1) (enumerate_from (k + 1) rs) (enumerate_from (k + 1) ys))) [
+    elim (p r) as (λ b. zip (map (λ x. x.0) (cond b ((k, r) ∷ filter (λ x. p x.1) (enumerate_from (k + 1) rs))
+    (filter (λ x. p x.1) (enumerate_from (k + 1) rs)))) (cond b (y ∷ picked p rs ys) (picked p rs ys))
+    ≡ cond b ((k, y) ∷ picked (λ (x : ℕ × Resolved). p x.1) (enumerate_from (k + 1) rs) (enumerate_from (k + 1) ys))
+    (picked (λ (x : ℕ × Resolved). p x.1) (enumerate_from (k + 1) rs) (enumerate_from (k + 1) ys))) [
       | true ↦ ap (λ xs. (k, y) ∷ xs) (placed_results p rs ys (k + 1))
       | false ↦ placed_results p rs ys (k + 1)
     ]
@@ -44,28 +51,36 @@ module _ (workers w : ℕ) (ops : List NamedOp) (g : Graph) (layout : ℕ → Li
   same_ops = shard_is (λ r. shard_of workers r.source == w) (resolved ops g.names g.kinds) 0
 
   -- the row that a shard leaves of one of its sources is the batch's
-  pub shard_layout : (source : ℕ) → (source % workers == w) ≡ true → row_end (rows_all (ops_of shard) (opened layout) source) ≡ layout_after ops g layout source
+  pub shard_layout : (source : ℕ) → (source % workers == w) ≡ true → row_end (rows_all (ops_of shard) (opened layout) source)
+      ≡ layout_after ops g layout source
   shard_layout source is =
-      ap (λ rs. row_end (rows_all rs (opened layout) source)) same_ops ∙ ap row_end (shard_rows workers w ops g.names g.kinds (opened layout) source is)
+      ap (λ rs. row_end (rows_all rs (opened layout) source)) same_ops
+      ∙ ap row_end (shard_rows workers w ops g.names g.kinds (opened layout) source is)
 
   -- a shard's outcomes stand at their places of the batch's
   pub shard_places : zip (map (λ x. x.0) shard) (outcomes_all (ops_of shard) (opened layout))
-      ≡ picked (λ (x : ℕ × Resolved). shard_of workers x.1.source == w) (placed_ops ops g) (enumerate_from 0 (outcomes_all (resolved ops g.names g.kinds) (opened layout)))
+      ≡ picked (λ (x : ℕ × Resolved). shard_of workers x.1.source == w) (placed_ops ops g)
+      (enumerate_from 0 (outcomes_all (resolved ops g.names g.kinds) (opened layout)))
   shard_places =
       ap (λ rs. zip (map (λ x. x.0) shard) (outcomes_all rs (opened layout))) same_ops
       ∙ ap (zip (map (λ x. x.0) shard)) (shard_outcomes workers w ops g.names g.kinds (opened layout))
-      ∙ placed_results (λ r. shard_of workers r.source == w) (resolved ops g.names g.kinds) (outcomes_all (resolved ops g.names g.kinds) (opened layout)) 0
+      ∙ placed_results (λ r. shard_of workers r.source == w) (resolved ops g.names g.kinds)
+      (outcomes_all (resolved ops g.names g.kinds) (opened layout)) 0
 
 -- a row that no operation names stays
 pub kept_all : (row : List Shape) → row_end (map untouched row) ≡ row
 kept_all [] = refl
 kept_all (b ∷ row) = ap (λ xs. b ∷ xs) (kept_all row)
 
-pub unnamed_rows : (rs : List Resolved) (rows : ℕ → List OpenBlock) (source : ℕ) → All (λ r. key_is_of source r.key ≡ false) rs → rows_all rs rows source ≡ rows source
+pub unnamed_rows : (rs : List Resolved) (rows : ℕ → List OpenBlock) (source : ℕ) → All (λ r. key_is_of source r.key ≡ false) rs
+    → rows_all rs rows source ≡ rows source
 unnamed_rows [] rows source h = refl
 unnamed_rows (r ∷ rs) rows source h =
     unnamed_rows rs (rows_step r rows) source (All-tail (λ r. key_is_of source r.key ≡ false) r rs h)
-    ∙ ap (λ b. cond b (row_step r.change r.key (rows source)) (rows source)) (All-head (λ r. key_is_of source r.key ≡ false) r rs h)
+    ∙ ap (λ b. cond b (row_step r.change r.key (rows source)) (rows source))
+    (All-head (λ r. key_is_of source r.key ≡ false) r rs h)
 
-pub unnamed_layout : (ops : List NamedOp) (g : Graph) (layout : ℕ → List Shape) (source : ℕ) → All (λ r. key_is_of source r.key ≡ false) (resolved ops g.names g.kinds) → layout_after ops g layout source ≡ layout source
-unnamed_layout ops g layout source h = ap row_end (unnamed_rows (resolved ops g.names g.kinds) (opened layout) source h) ∙ kept_all (layout source)
+pub unnamed_layout : (ops : List NamedOp) (g : Graph) (layout : ℕ → List Shape) (source : ℕ)
+    → All (λ r. key_is_of source r.key ≡ false) (resolved ops g.names g.kinds) → layout_after ops g layout source ≡ layout source
+unnamed_layout ops g layout source h = ap row_end (unnamed_rows (resolved ops g.names g.kinds) (opened layout) source h)
+    ∙ kept_all (layout source)

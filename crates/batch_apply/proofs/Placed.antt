@@ -1,5 +1,6 @@
 -- Rows that took the places of others.
-use Rattle.std.proofs.Common.{◌≡◌, ℕ, ◌+◌, ◌≤◌, ◌==◌, Bool, true, false, cond, List, [], ◌∷◌, ◌++◌, map, flat_map, count_by, refl, sym, ap, ap₂, ◌∙◌, arith, subst, All}
+use Rattle.std.proofs.Common.{◌≡◌, ℕ, ◌+◌, ◌≤◌, ◌==◌, Bool, true, false, cond, List, [], ◌∷◌, ◌++◌, map, flat_map, count_by}
+use Rattle.std.proofs.Common.{refl, sym, ap, ap₂, ◌∙◌, arith, subst, All}
 use Rattle.std.proofs.lemmas.Bool.{eqb-true, eqb-false}
 use Rattle.std.proofs.lemmas.List.Elements.{All-head, All-tail}
 use Rattle.edge_block.specs.Slots.{BlockView}
@@ -20,10 +21,12 @@ among_more [] r source row = refl
 among_more (x ∷ rows) r source row = among_more rows r source (cond (source == x.0) x.1 row)
 
 -- a source without a row in the list comes with none of the list's rows
-no_times : (source : ℕ) (r : ℕ × List BlockView) (rows : List (ℕ × List BlockView)) → (source == r.0) ≡ false → times source (sources_of rows) ≡ 0 → times source (sources_of (r ∷ rows)) ≡ 0
+no_times : (source : ℕ) (r : ℕ × List BlockView) (rows : List (ℕ × List BlockView)) → (source == r.0) ≡ false
+    → times source (sources_of rows) ≡ 0 → times source (sources_of (r ∷ rows)) ≡ 0
 no_times source r rows other none =
     let c = count_more (λ x. x == source) r.0 (sources_of rows) in
-    let no : (let k : ℕ = cond (r.0 == source) 1 0 in k) ≡ 0 = ap (λ b. cond b 1 0) (other_number r.0 source (λ e. eqb-false source r.0 other (sym e))) in
+    let no : (let k : ℕ = cond (r.0 == source) 1 0 in k) ≡ 0 =
+    ap (λ b. cond b 1 0) (other_number r.0 source (λ e. eqb-false source r.0 other (sym e))) in
     omega arith
 
 -- what is true of each row in the list, and of the source's row before where the list has none, is true of the source's row
@@ -33,17 +36,20 @@ among_is Is source [] row all base = base refl
 among_is Is source (r ∷ rows) row all base =
     among_is Is source rows (cond (source == r.0) r.1 row) (All-tail (λ (r : ℕ × List BlockView). Is r.0 r.1) r rows all)
     (λ none. elim (source == r.0) as (λ b. source == r.0 ≡ b → Is source (cond b r.1 row)) [
-      | true ↦ λ t. subst (λ s. Is s r.1) (sym (eqb-true source r.0 t)) (All-head (λ (r : ℕ × List BlockView). Is r.0 r.1) r rows all)
+      | true ↦ λ t. subst (λ s. Is s r.1) (sym (eqb-true source r.0 t))
+          (All-head (λ (r : ℕ × List BlockView). Is r.0 r.1) r rows all)
       | false ↦ λ t. base (no_times source r rows t none)
     ] refl)
 
-pub among_none : (rows : List (ℕ × List BlockView)) (source : ℕ) (row : List BlockView) → times source (sources_of rows) ≡ 0 → row_among rows source row ≡ row
+pub among_none : (rows : List (ℕ × List BlockView)) (source : ℕ) (row : List BlockView) → times source (sources_of rows) ≡ 0
+    → row_among rows source row ≡ row
 among_none [] source row none = refl
 among_none (r ∷ rows) source row none =
     let c = count_more (λ x. x == source) r.0 (sources_of rows) in
     elim (source == r.0) as (λ b. source == r.0 ≡ b → row_among rows source (cond b r.1 row) ≡ row) [
       | true ↦ λ t.
-          let same : (let k : ℕ = cond (r.0 == source) 1 0 in k) ≡ 1 = ap (λ n. cond (r.0 == n) 1 0) (eqb-true source r.0 t) ∙ ap (λ b. cond b 1 0) (same_number r.0) in
+          let same : (let k : ℕ = cond (r.0 == source) 1 0 in k) ≡ 1 = ap (λ n. cond (r.0 == n) 1 0) (eqb-true source r.0 t)
+          ∙ ap (λ b. cond b 1 0) (same_number r.0) in
           absurd (omega (arith, c, none, same))
       | false ↦ λ t. among_none rows source row (omega (arith, c, none))
     ] refl
@@ -58,4 +64,5 @@ among_all (r ∷ rows) before once =
     let none : times r.0 (sources_of rows) ≡ 0 = omega (arith, c, here, once r.0) in
     ap₂ (λ a b. a ++ b)
     (ap (λ b. row_among rows r.0 (cond b r.1 (before r.0))) (same_number r.0) ∙ among_none rows r.0 r.1 none)
-    (among_all rows (λ s. cond (s == r.0) r.1 (before s)) (λ m. let more = count_more (λ x. x == m) r.0 (sources_of rows) in omega (arith, more, once m)))
+    (among_all rows (λ s. cond (s == r.0) r.1 (before s))
+    (λ m. let more = count_more (λ x. x == m) r.0 (sources_of rows) in omega (arith, more, once m)))

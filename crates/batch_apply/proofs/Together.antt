@@ -1,5 +1,7 @@
 -- The blocks that all workers take and drop are those of the batch.
-use Rattle.std.proofs.Common.{◌≡◌, ◌≢◌, ℕ, zero, suc, ◌+◌, ◌%◌, ◌<◌, ◌≤◌, ◌==◌, List, [], ◌∷◌, ◌++◌, length, map, flat_map, get_or, count_by, Bool, true, false, cond, refl, sym, ap, ap₂, ◌∙◌, arith, subst, Option, Some, None, All, AllPairs, mod-lt, zip}
+use Rattle.std.proofs.Common.{◌≡◌, ◌≢◌, ℕ, zero, suc, ◌+◌, ◌%◌, ◌<◌, ◌≤◌, ◌==◌, List, [], ◌∷◌, ◌++◌, length, map, flat_map}
+use Rattle.std.proofs.Common.{get_or, count_by, Bool, true, false, cond, refl, sym, ap, ap₂, ◌∙◌, arith, subst, Option, Some}
+use Rattle.std.proofs.Common.{None, All, AllPairs, mod-lt, zip}
 use Rattle.std.specs.List.{sum_by, range_with_len, AllZip}
 use Rattle.std.specs.declared.sync.Arc.{Arc}
 use Rattle.std.specs.declared.alloc.Global.{Global}
@@ -14,7 +16,8 @@ use Rattle.graph_model.specs.declared.batches.NamedOp.{NamedOp}
 use Rattle.edge_block.specs.declared.blocks.Block.{Block}
 use Rattle.graph_model.specs.declared.changes.EdgeChange.{EdgeChange}
 use Rattle.block_layout.specs.Rows.{Shape, OpenBlock, taken_in, dropped_in, shape_of, row_end}
-use Rattle.block_layout.specs.Batches.{Resolved, resolved, shard_ops, sum_below, rows_all, opened, key_is_of, taken_by, dropped_by, outcomes_all, layout_after}
+use Rattle.block_layout.specs.Batches.{Resolved, resolved, shard_ops, sum_below, rows_all, opened, key_is_of, taken_by}
+use Rattle.block_layout.specs.Batches.{dropped_by, outcomes_all, layout_after}
 use Rattle.shard_work.specs.Shards.{IsPlace, key_at, resolved_at, resolved_in}
 use Rattle.shard_work.specs.Done.{IsShardDone, sources_in, steps_in, rows_by, layout_by, sum_of}
 use Rattle.shard_work.specs.declared.shard.Shard.{Shard}
@@ -46,7 +49,8 @@ no_times m [] none = refl
 no_times m (x ∷ xs) none =
     let rest = no_times m xs (All-tail (λ x. x ≡ m → ⊥) x xs none) in
     let c = count_more (λ x. x == m) x xs in
-    let no : (let k : ℕ = cond (x == m) 1 0 in k) ≡ 0 = ap (λ b. cond b 1 0) (false_from_ne_true (x == m) (λ e. All-head (λ x. x ≡ m → ⊥) x xs none (eqb-true x m e))) in
+    let no : (let k : ℕ = cond (x == m) 1 0 in k) ≡ 0 =
+    ap (λ b. cond b 1 0) (false_from_ne_true (x == m) (λ e. All-head (λ x. x ≡ m → ⊥) x xs none (eqb-true x m e))) in
     omega arith
 
 some_times : (xs : List ℕ) (i d : ℕ) → i < length xs → 1 ≤ times (get_or xs i d) xs
@@ -80,7 +84,8 @@ module _ (workers : ℕ) (ops : List NamedOp) (g : Graph) where
   abbrev pub Zipped : ℕ → ℕ → List Shard → Type 0
   Zipped a k shards = AllZip (IsShardOf workers (resolved ops g.names g.kinds)) (range_with_len a k) shards
 
-  other_worker : (w m : ℕ) (shard : Shard) → IsShardOf workers (resolved ops g.names g.kinds) w shard → (m % workers ≡ w → ⊥) → times m (sources_in shard) ≡ 0
+  other_worker : (w m : ℕ) (shard : Shard) → IsShardOf workers (resolved ops g.names g.kinds) w shard → (m % workers ≡ w → ⊥)
+      → times m (sources_in shard) ≡ 0
   other_worker w m shard is ne = no_times m (sources_in shard) (λ k d lt e. ne (ap (λ x. x % workers) (sym e) ∙ is.own k d lt))
 
   none_before : (a k m : ℕ) (shards : List Shard) → Zipped a k shards → m % workers < a → times m (sources_all shards) ≡ 0
@@ -116,28 +121,46 @@ module _ (workers : ℕ) (ops : List NamedOp) (g : Graph) where
   all_within a zero [] z = All-nil (λ s. s < n)
   all_within a zero (s ∷ shards) z = absurd z
   all_within a (suc k) [] z = absurd z
-  all_within a (suc k) (s ∷ shards) z = All-append (λ s. s < n) (sources_in s) (sources_all shards) (sources_within workers a ops g s z.0) (all_within (a + 1) k shards z.1)
+  all_within a (suc k) (s ∷ shards) z = All-append (λ s. s < n) (sources_in s) (sources_all shards)
+      (sources_within workers a ops g s z.0) (all_within (a + 1) k shards z.1)
 
   -- the shard of a worker
   pick : (a k w : ℕ) (shards : List Shard) → Zipped a k shards → a ≤ w → w < a + k
-      → (shard : Shard) × (IsShardOf workers (resolved ops g.names g.kinds) w shard × ((m : ℕ) → times m (sources_in shard) ≤ times m (sources_all shards)))
+      → (shard : Shard) × (IsShardOf workers (resolved ops g.names g.kinds) w shard
+      × ((m : ℕ) → times m (sources_in shard) ≤ times m (sources_all shards)))
   pick a zero w shards z le lt = absurd (omega arith)
   pick a (suc k) w [] z le lt = absurd z
   pick a (suc k) w (s ∷ shards) z le lt =
-      elim (a == w) as (λ b. a == w ≡ b → (shard : Shard) × (IsShardOf workers (resolved ops g.names g.kinds) w shard × ((m : ℕ) → times m (sources_in shard) ≤ times m (sources_all (s ∷ shards))))) [
-        | true ↦ λ t. (s, (subst (λ v. IsShardOf workers (resolved ops g.names g.kinds) v s) (eqb-true a w t) z.0, λ m. let both = times_append m (sources_in s) (sources_all shards) in omega arith))
+      elim (a == w) as (λ b. a == w ≡ b → (shard : Shard)
+      × (IsShardOf workers (resolved ops g.names g.kinds) w shard
+      × ((m : ℕ) → times m (sources_in shard) ≤ times m (sources_all (s ∷ shards))))) [
+        | true ↦ λ t. (
+          s,
+          (
+            subst (λ v. IsShardOf workers (resolved ops g.names g.kinds) v s) (eqb-true a w t) z.0,
+            λ m. let both = times_append m (sources_in s) (sources_all shards) in omega arith,
+          ),
+        )
         | false ↦ λ t.
             let ne : a ≡ w → ⊥ = eqb-false a w t in
-            let rest = pick (a + 1) k w shards z.1 (omega arith) (omega arith) in
-            (rest.0, (rest.1.0, λ m. let r = rest.1.1 m in let both = times_append m (sources_in s) (sources_all shards) in omega arith))
+            let rest = pick (a + 1) k w shards z.1 (omega arith) (omega arith) in (
+              rest.0,
+              (
+                rest.1.0,
+                λ m. let r = rest.1.1 m in let both = times_append m (sources_in s) (sources_all shards) in
+                    omega arith,
+              ),
+            )
       ] refl
 
   -- a source that a shard doesn't list is named by none of its operations
-  unlisted : (w m : ℕ) (shard : Shard) → IsShardOf workers (resolved ops g.names g.kinds) w shard → times m (sources_in shard) ≡ 0 → All (λ r. key_is_of m r.key ≡ false) (shard_ops workers w (resolved ops g.names g.kinds))
+  unlisted : (w m : ℕ) (shard : Shard) → IsShardOf workers (resolved ops g.names g.kinds) w shard
+      → times m (sources_in shard) ≡ 0 → All (λ r. key_is_of m r.key ≡ false) (shard_ops workers w (resolved ops g.names g.kinds))
   unlisted w m shard is none =
       let P : (Option Key × EdgeChange) → Type 0 = λ a. key_is_of m a.0 ≡ false in
       let steps : All P (acts (steps_in shard)) = All-map P (λ (r : Resolved). (r.key, r.change)) (steps_in shard)
-      (All-map (λ (r : Resolved). key_is_of m r.key ≡ false) (λ (s : Step). resolved_at (sources_in shard) s.change s.place) shard.steps.items
+      (All-map (λ (r : Resolved). key_is_of m r.key ≡ false) (λ (s : Step). resolved_at (sources_in shard) s.change s.place)
+      shard.steps.items
       (λ k d lt. one (get_or shard.steps.items k d).place (is.in_range k d lt).0)) in
       from_acts P (shard_ops workers w (resolved ops g.names g.kinds)) (subst (λ as'. All P as') is.acts_are steps)
     where
@@ -146,14 +169,18 @@ module _ (workers : ℕ) (ops : List NamedOp) (g : Graph) where
       one (Some p) h = false_from_ne_true (m == get_or (sources_in shard) p.row 0) (λ e.
           let same : m ≡ get_or (sources_in shard) p.row 0 = eqb-true m (get_or (sources_in shard) p.row 0) e in
           let some = some_times (sources_in shard) p.row 0 h in
-          let zero_is : times (get_or (sources_in shard) p.row 0) (sources_in shard) ≡ 0 = subst (λ k. times k (sources_in shard) ≡ 0) same none in
+          let zero_is : times (get_or (sources_in shard) p.row 0) (sources_in shard) ≡ 0 =
+          subst (λ k. times k (sources_in shard) ≡ 0) same none in
           omega arith)
 
-      from_acts : (P : (Option Key × EdgeChange) → Type 0) (rs : List Resolved) → All P (acts rs) → All (λ r. P (r.key, r.change)) rs
+      from_acts : (P : (Option Key × EdgeChange) → Type 0) (rs : List Resolved) → All P (acts rs)
+          → All (λ r. P (r.key, r.change)) rs
       from_acts P [] all = All-nil (λ (r : Resolved). P (r.key, r.change))
-      from_acts P (r ∷ rs) all = All-cons (λ (r : Resolved). P (r.key, r.change)) r rs (All-head P (r.key, r.change) (acts rs) all) (from_acts P rs (All-tail P (r.key, r.change) (acts rs) all))
+      from_acts P (r ∷ rs) all = All-cons (λ (r : Resolved). P (r.key, r.change)) r rs
+          (All-head P (r.key, r.change) (acts rs) all) (from_acts P rs (All-tail P (r.key, r.change) (acts rs) all))
 
-  module _ (positive : 0 < workers) (shards : List Shard) (planned : ArePlanned workers ops g shards) (layout : ℕ → List Shape) where
+  module _ (positive : 0 < workers) (shards : List Shard) (planned : ArePlanned workers ops g shards)
+      (layout : ℕ → List Shape) where
     abbrev left : ℕ → List OpenBlock
     left = rows_all (resolved ops g.names g.kinds) (opened layout)
 
@@ -162,7 +189,8 @@ module _ (workers : ℕ) (ops : List NamedOp) (g : Graph) where
         let lt = mod-lt m positive in
         let s = pick 0 workers (m % workers) shards planned (omega arith) (omega arith) in
         let few = s.1.1 m in
-        worker_unnamed workers (m % workers) ops g layout m (same_number (m % workers)) (unlisted (m % workers) m s.0 s.1.0 (omega arith))
+        worker_unnamed workers (m % workers) ops g layout m (same_number (m % workers))
+        (unlisted (m % workers) m s.0 s.1.0 (omega arith))
 
     -- a source that no shard lists has the row that it had
     pub quiet_layout : (m : ℕ) → times m (sources_all shards) ≡ 0 → layout_after ops g layout m ≡ layout m
@@ -176,21 +204,26 @@ module _ (workers : ℕ) (ops : List NamedOp) (g : Graph) where
         ∙ kept_all (layout m)
 
     pub taken_sum : sum_by (λ m. taken_in (left m)) (sources_all shards) ≡ taken_by ops g layout n
-    taken_sum = sum_all (λ m. taken_in (left m)) n (sources_all shards) (λ m. all_once 0 workers m shards planned) (all_within 0 workers shards planned) (λ m lt none. (quiet m none).0)
+    taken_sum = sum_all (λ m. taken_in (left m)) n (sources_all shards) (λ m. all_once 0 workers m shards planned)
+        (all_within 0 workers shards planned) (λ m lt none. (quiet m none).0)
 
     pub dropped_sum : sum_by (λ m. dropped_in (left m)) (sources_all shards) ≡ dropped_by ops g layout n
-    dropped_sum = sum_all (λ m. dropped_in (left m)) n (sources_all shards) (λ m. all_once 0 workers m shards planned) (all_within 0 workers shards planned) (λ m lt none. (quiet m none).1)
+    dropped_sum = sum_all (λ m. dropped_in (left m)) n (sources_all shards) (λ m. all_once 0 workers m shards planned)
+        (all_within 0 workers shards planned) (λ m lt none. (quiet m none).1)
 
   sum_same : (f h : ℕ → ℕ) (xs : List ℕ) → All (λ x. f x ≡ h x) xs → sum_by f xs ≡ sum_by h xs
   sum_same f h [] all = refl
   sum_same f h (x ∷ xs) all =
-      sum_by-cons f x xs ∙ ap₂ (λ a b. a + b) (All-head (λ x. f x ≡ h x) x xs all) (sum_same f h xs (All-tail (λ x. f x ≡ h x) x xs all)) ∙ sym (sum_by-cons h x xs)
+      sum_by-cons f x xs ∙ ap₂ (λ a b. a + b) (All-head (λ x. f x ≡ h x) x xs all)
+      (sum_same f h xs (All-tail (λ x. f x ≡ h x) x xs all)) ∙ sym (sum_by-cons h x xs)
 
   -- what the shards' results take together
   together : (before : ℕ → List BlockView) (f : List OpenBlock → ℕ) (count : ShardDone → ℕ)
-      → ((shard : Shard) (done : ShardDone) → IsShardDone before shard done → count done ≡ sum_of (λ m. f (rows_by before shard m)) (sources_in shard))
+      → ((shard : Shard) (done : ShardDone) → IsShardDone before shard done
+      → count done ≡ sum_of (λ m. f (rows_by before shard m)) (sources_in shard))
       → (a k : ℕ) (shards : List Shard) (dones : List ShardDone) → Zipped a k shards → AllZip (IsShardDone before) shards dones
-      → sum_by count dones ≡ sum_by (λ m. f (rows_all (resolved ops g.names g.kinds) (opened (layout_by before)) m)) (sources_all shards)
+      → sum_by count dones ≡ sum_by (λ m. f (rows_all (resolved ops g.names g.kinds) (opened (layout_by before)) m))
+      (sources_all shards)
   together before f count each a zero [] [] z d = refl
   together before f count each a zero [] (x ∷ dones) z d = absurd d
   together before f count each a zero (s ∷ shards) dones z d = absurd z
@@ -201,21 +234,26 @@ module _ (workers : ℕ) (ops : List NamedOp) (g : Graph) where
       sum_by-cons count x dones
       ∙ ap₂ (λ a b. a + b)
       (each s x d.0 ∙ sum_same (λ m. f (rows_by before s m)) all (sources_in s)
-      (λ i e lt. ap f (worker_rows workers a ops g s z.0 (opened (layout_by before)) (get_or (sources_in s) i e) (ap (λ b. b == a) (z.0.own i e lt) ∙ same_number a))))
+      (λ i e lt. ap f (worker_rows workers a ops g s z.0 (opened (layout_by before)) (get_or (sources_in s) i e)
+      (ap (λ b. b == a) (z.0.own i e lt) ∙ same_number a))))
       (together before f count each (a + 1) k shards dones z.1 d.1)
       ∙ sym (sum_by-append all (sources_in s) (sources_all shards))
 
 -- all workers together take and drop as many blocks as the layout rule says of the batch, for every number of workers
-pub batch_totals : (workers : ℕ) (ops : List NamedOp) (g : Graph) (before : ℕ → List BlockView) (shards : List Shard) (dones : List ShardDone)
+pub batch_totals : (workers : ℕ) (ops : List NamedOp) (g : Graph) (before : ℕ → List BlockView) (shards : List Shard)
+    (dones : List ShardDone)
     → 0 < workers → ArePlanned workers ops g shards → AllZip (IsShardDone before) shards dones
     → (sum_by (λ d. length d.left.taken.items) dones ≡ taken_by ops g (layout_by before) (length (after_all ops g).names))
     × (sum_by (λ d. length d.left.dropped.items) dones ≡ dropped_by ops g (layout_by before) (length (after_all ops g).names))
 batch_totals workers ops g before shards dones positive planned done = (
-  together workers ops g before taken_in (λ d. length d.left.taken.items) (λ s x is. is.taken_are) 0 workers shards dones planned done ∙ taken_sum workers ops g positive shards planned (layout_by before),
-  together workers ops g before dropped_in (λ d. length d.left.dropped.items) (λ s x is. is.dropped_are) 0 workers shards dones planned done ∙ dropped_sum workers ops g positive shards planned (layout_by before),
+  together workers ops g before taken_in (λ d. length d.left.taken.items) (λ s x is. is.taken_are) 0 workers shards dones
+      planned done ∙ taken_sum workers ops g positive shards planned (layout_by before),
+  together workers ops g before dropped_in (λ d. length d.left.dropped.items) (λ s x is. is.dropped_are) 0 workers shards dones
+      planned done ∙ dropped_sum workers ops g positive shards planned (layout_by before),
 )
 
-module _ (workers w : ℕ) (ops : List NamedOp) (g : Graph) (before : ℕ → List BlockView) (shard : Shard) (done : ShardDone) (planned : IsShardOf workers (resolved ops g.names g.kinds) w shard) (is : IsShardDone before shard done) where
+module _ (workers w : ℕ) (ops : List NamedOp) (g : Graph) (before : ℕ → List BlockView) (shard : Shard) (done : ShardDone)
+    (planned : IsShardOf workers (resolved ops g.names g.kinds) w shard) (is : IsShardDone before shard done) where
   abbrev all_outcomes : List Outcome
   all_outcomes = outcomes_all (resolved ops g.names g.kinds) (opened (layout_by before))
 
@@ -224,7 +262,8 @@ module _ (workers w : ℕ) (ops : List NamedOp) (g : Graph) (before : ℕ → Li
   shard_outcomes_at =
       is.outcomes_are
       ∙ ap₂ zip planned.places
-      (same_outcomes (steps_in shard) (shard_ops workers w (resolved ops g.names g.kinds)) planned.acts_are (opened (layout_by before))
+      (same_outcomes (steps_in shard) (shard_ops workers w (resolved ops g.names g.kinds)) planned.acts_are
+      (opened (layout_by before))
       ∙ ap (λ rs. outcomes_all rs (opened (layout_by before))) (sym (same_ops workers w ops g (layout_by before))))
       ∙ shard_places workers w ops g (layout_by before)
 
@@ -232,8 +271,11 @@ module _ (workers w : ℕ) (ops : List NamedOp) (g : Graph) (before : ℕ → Li
   pub shard_layout_at : All (λ r. map shape_of r.1 ≡ layout_after ops g (layout_by before) r.0) (row_values done.rows.items)
   shard_layout_at k d lt =
       let r : ℕ × List BlockView = get_or (row_values done.rows.items) k d in
-      let long : length (map (λ (r : ℕ × List BlockView). r.0) (row_values done.rows.items)) ≡ length (row_values done.rows.items) = length-map (row_values done.rows.items) (λ (r : ℕ × List BlockView). r.0) in
-      let source : get_or (sources_in shard) k 0 ≡ r.0 = ap (λ ss. get_or ss k 0) (sym is.sources_are) ∙ get_or-map (λ (r : ℕ × List BlockView). r.0) (row_values done.rows.items) k d 0 lt in
+      let long : length (map (λ (r : ℕ × List BlockView). r.0) (row_values done.rows.items))
+      ≡ length (row_values done.rows.items) = length-map (row_values done.rows.items) (λ (r : ℕ × List BlockView). r.0) in
+      let source : get_or (sources_in shard) k 0 ≡ r.0 = ap (λ ss. get_or ss k 0) (sym is.sources_are)
+      ∙ get_or-map (λ (r : ℕ × List BlockView). r.0) (row_values done.rows.items) k d 0 lt in
       let within : k < length (sources_in shard) = omega (arith, ap length is.sources_are) in
       let own : r.0 % workers ≡ w = ap (λ s. s % workers) (sym source) ∙ planned.own k 0 within in
-      is.layout k d lt ∙ ap row_end (worker_rows workers w ops g shard planned (opened (layout_by before)) r.0 (ap (λ b. b == w) own ∙ same_number w))
+      is.layout k d lt ∙ ap row_end (worker_rows workers w ops g shard planned (opened (layout_by before)) r.0
+      (ap (λ b. b == w) own ∙ same_number w))

@@ -1,5 +1,7 @@
 -- Sums over the sources of shards are sums over all sources.
-use Rattle.std.proofs.Common.{◌≡◌, ◌≢◌, ℕ, zero, suc, ◌+◌, ◌*◌, ◌%◌, ◌<◌, ◌≤◌, ◌==◌, List, [], ◌∷◌, ◌++◌, length, map, filter, count_by, Bool, true, false, cond, not, ◌&&◌, refl, sym, ap, ap₂, ◌∙◌, arith, subst, Option, Some, None, All, AllPairs}
+use Rattle.std.proofs.Common.{◌≡◌, ◌≢◌, ℕ, zero, suc, ◌+◌, ◌*◌, ◌%◌, ◌<◌, ◌≤◌, ◌==◌, List, [], ◌∷◌, ◌++◌, length, map, filter}
+use Rattle.std.proofs.Common.{count_by, Bool, true, false, cond, not, ◌&&◌, refl, sym, ap, ap₂, ◌∙◌, arith, subst, Option, Some}
+use Rattle.std.proofs.Common.{None, All, AllPairs}
 use Rattle.std.specs.List.{sum_by}
 use Rattle.std.proofs.lemmas.Bool.{true≢false, false≢true, eqb-true, eqb-false, false_from_ne_true}
 use Rattle.std.proofs.lemmas.List.Sums.{sum_by-cons}
@@ -9,7 +11,8 @@ use Rattle.graph_model.specs.declared.batches.NamedOp.{NamedOp}
 use Rattle.graph_model.specs.declared.batches.Outcome.{Outcome}
 use Rattle.graph_model.specs.declared.changes.EdgeChange.{EdgeChange}
 use Rattle.block_layout.specs.Rows.{Shape, OpenBlock, untouched, taken_in, dropped_in, row_end, has_none}
-use Rattle.block_layout.specs.Batches.{Resolved, resolved, shard_ops, sum_below, rows_all, rows_step, row_step, outcome_in, outcomes_all, opened, key_is_of, layout_after}
+use Rattle.block_layout.specs.Batches.{Resolved, resolved, shard_ops, sum_below, rows_all, rows_step, row_step, outcome_in}
+use Rattle.block_layout.specs.Batches.{outcomes_all, opened, key_is_of, layout_after}
 use Rattle.block_layout.proofs.ShardLaws.{shard_rows}
 use Rattle.batch_plan.specs.Shards.{acts, IsShardOf}
 use Rattle.shard_work.specs.Done.{steps_in}
@@ -26,9 +29,11 @@ same_rows (r ∷ rs) (s ∷ ss) e rows =
     let key : r.key ≡ s.key = ap (λ (p : Option Key × EdgeChange). p.0) pair in
     let change : r.change ≡ s.change = ap (λ (p : Option Key × EdgeChange). p.1) pair in
     let rest : acts rs ≡ acts ss = cc in
-    ap (rows_all rs) (λ i source. cond (key_is_of source (key i)) (row_step (change i) (key i) (rows source)) (rows source)) ∙ same_rows rs ss rest (rows_step s rows)
+    ap (rows_all rs) (λ i source. cond (key_is_of source (key i)) (row_step (change i) (key i) (rows source)) (rows source))
+    ∙ same_rows rs ss rest (rows_step s rows)
 
-pub same_outcomes : (rs ss : List Resolved) → acts rs ≡ acts ss → (rows : ℕ → List OpenBlock) → outcomes_all rs rows ≡ outcomes_all ss rows
+pub same_outcomes : (rs ss : List Resolved) → acts rs ≡ acts ss → (rows : ℕ → List OpenBlock)
+    → outcomes_all rs rows ≡ outcomes_all ss rows
 same_outcomes [] [] e rows = refl
 same_outcomes [] (s ∷ ss) e rows = cc
 same_outcomes (r ∷ rs) [] e rows = cc
@@ -38,7 +43,8 @@ same_outcomes (r ∷ rs) (s ∷ ss) e rows =
     let change : r.change ≡ s.change = ap (λ (p : Option Key × EdgeChange). p.1) pair in
     let rest : acts rs ≡ acts ss = cc in
     ap₂ (λ o os. o ∷ os) (λ i. outcome_in (change i) (key i) rows)
-    (ap (outcomes_all rs) (λ i source. cond (key_is_of source (key i)) (row_step (change i) (key i) (rows source)) (rows source)) ∙ same_outcomes rs ss rest (rows_step s rows))
+    (ap (outcomes_all rs) (λ i source. cond (key_is_of source (key i)) (row_step (change i) (key i) (rows source))
+    (rows source)) ∙ same_outcomes rs ss rest (rows_step s rows))
 
 -- a row that is not touched takes and drops nothing
 pub count_more : {A : Type 0} (p : A → Bool) (x : A) (xs : List A) → count_by p (x ∷ xs) ≡ cond (p x) 1 0 + count_by p xs
@@ -74,17 +80,20 @@ count_others m n ne [] = refl
 count_others m n ne (x ∷ xs) =
     let rest = count_others m n ne xs in
     let c = count_more (λ x. x == m) x xs in
-    elim (x == n) as (λ b. x == n ≡ b → count_by (λ x. x == m) (cond (not b) (x ∷ others n xs) (others n xs)) ≡ count_by (λ x. x == m) (x ∷ xs)) [
+    elim (x == n) as (λ b. x == n ≡ b → count_by (λ x. x == m) (cond (not b) (x ∷ others n xs) (others n xs))
+    ≡ count_by (λ x. x == m) (x ∷ xs)) [
       | true ↦ λ t.
           let no : (x == m) ≡ false = false_from_ne_true (x == m) (λ e. ne (sym (eqb-true x m e) ∙ eqb-true x n t)) in
-          let none : count_by (λ x. x == m) (x ∷ xs) ≡ 0 + count_by (λ x. x == m) xs = c ∙ ap (λ b. cond b 1 0 + count_by (λ x. x == m) xs) no in omega arith
+          let none : count_by (λ x. x == m) (x ∷ xs) ≡ 0 + count_by (λ x. x == m) xs = c
+          ∙ ap (λ b. cond b 1 0 + count_by (λ x. x == m) xs) no in omega arith
       | false ↦ λ t. count_more (λ x. x == m) x (others n xs) ∙ ap (λ k. cond (x == m) 1 0 + k) rest ∙ sym c
     ] refl
 
 sum_zero : (f : ℕ → ℕ) (n : ℕ) (xs : List ℕ) → count_by (λ x. x == n) xs ≡ 0 → sum_by f xs ≡ sum_by f (others n xs)
 sum_zero f n [] e = refl
 sum_zero f n (x ∷ xs) e =
-    elim (x == n) as (λ b. cond b 1 0 + count_by (λ x. x == n) xs ≡ 0 → sum_by f (x ∷ xs) ≡ sum_by f (cond (not b) (x ∷ others n xs) (others n xs))) [
+    elim (x == n) as (λ b. cond b 1 0 + count_by (λ x. x == n) xs ≡ 0
+    → sum_by f (x ∷ xs) ≡ sum_by f (cond (not b) (x ∷ others n xs) (others n xs))) [
       | true ↦ λ z. absurd (omega arith)
       | false ↦ λ z. sum_by-cons f x xs ∙ ap (λ k. f x + k) (sum_zero f n xs (omega arith)) ∙ sym (sum_by-cons f x (others n xs))
     ] (sym (count_more (λ x. x == n) x xs) ∙ e)
@@ -92,9 +101,11 @@ sum_zero f n (x ∷ xs) e =
 sum_one : (f : ℕ → ℕ) (n : ℕ) (xs : List ℕ) → count_by (λ x. x == n) xs ≡ 1 → sum_by f xs ≡ f n + sum_by f (others n xs)
 sum_one f n [] e = absurd (omega arith)
 sum_one f n (x ∷ xs) e =
-    elim (x == n) as (λ b. x == n ≡ b → cond b 1 0 + count_by (λ x. x == n) xs ≡ 1 → sum_by f (x ∷ xs) ≡ f n + sum_by f (cond (not b) (x ∷ others n xs) (others n xs))) [
+    elim (x == n) as (λ b. x == n ≡ b → cond b 1 0 + count_by (λ x. x == n) xs ≡ 1
+    → sum_by f (x ∷ xs) ≡ f n + sum_by f (cond (not b) (x ∷ others n xs) (others n xs))) [
       | true ↦ λ t z. sum_by-cons f x xs ∙ ap₂ (λ a b. a + b) (ap f (eqb-true x n t)) (sum_zero f n xs (omega arith))
-      | false ↦ λ t z. let a = sum_by-cons f x xs in let b = sum_by-cons f x (others n xs) in let rest = sum_one f n xs (omega arith) in omega arith
+      | false ↦ λ t z. let a = sum_by-cons f x xs in let b = sum_by-cons f x (others n xs) in
+          let rest = sum_one f n xs (omega arith) in omega arith
     ] refl (sym (count_more (λ x. x == n) x xs) ∙ e)
 
 others_below : (n : ℕ) (xs : List ℕ) → All (λ x. x < suc n) xs → All (λ x. x < n) (others n xs)
@@ -127,17 +138,23 @@ sum_all f (suc n) xs once below rest =
     ] refl
 
 -- a worker's shard leaves the rows of its sources as the batch does
-pub worker_rows : (workers w : ℕ) (ops : List NamedOp) (g : Graph) (shard : Shard) → IsShardOf workers (resolved ops g.names g.kinds) w shard → (rows : ℕ → List OpenBlock) (source : ℕ) → (source % workers == w) ≡ true
+pub worker_rows : (workers w : ℕ) (ops : List NamedOp) (g : Graph) (shard : Shard)
+    → IsShardOf workers (resolved ops g.names g.kinds) w shard → (rows : ℕ → List OpenBlock) (source : ℕ)
+    → (source % workers == w) ≡ true
     → rows_all (steps_in shard) rows source ≡ rows_all (resolved ops g.names g.kinds) rows source
 worker_rows workers w ops g shard is rows source own =
-    ap (λ (after : ℕ → List OpenBlock). after source) (same_rows (steps_in shard) (shard_ops workers w (resolved ops g.names g.kinds)) is.acts_are rows)
+    ap (λ (after : ℕ → List OpenBlock). after source)
+    (same_rows (steps_in shard) (shard_ops workers w (resolved ops g.names g.kinds)) is.acts_are rows)
     ∙ shard_rows workers w ops g.names g.kinds rows source own
 
 -- the row of a source that no operation of its shard names stays, and neither takes nor drops a block
-pub worker_unnamed : (workers w : ℕ) (ops : List NamedOp) (g : Graph) (layout : ℕ → List Shape) (source : ℕ) → (source % workers == w) ≡ true
+pub worker_unnamed : (workers w : ℕ) (ops : List NamedOp) (g : Graph) (layout : ℕ → List Shape) (source : ℕ)
+    → (source % workers == w) ≡ true
     → All (λ r. key_is_of source r.key ≡ false) (shard_ops workers w (resolved ops g.names g.kinds))
-    → (taken_in (rows_all (resolved ops g.names g.kinds) (opened layout) source) ≡ 0) × (dropped_in (rows_all (resolved ops g.names g.kinds) (opened layout) source) ≡ 0)
+    → (taken_in (rows_all (resolved ops g.names g.kinds) (opened layout) source) ≡ 0)
+    × (dropped_in (rows_all (resolved ops g.names g.kinds) (opened layout) source) ≡ 0)
 worker_unnamed workers w ops g layout source own none =
     let same : rows_all (resolved ops g.names g.kinds) (opened layout) source ≡ map untouched (layout source) =
-    sym (shard_rows workers w ops g.names g.kinds (opened layout) source own) ∙ unnamed_rows (shard_ops workers w (resolved ops g.names g.kinds)) (opened layout) source none in
+    sym (shard_rows workers w ops g.names g.kinds (opened layout) source own)
+    ∙ unnamed_rows (shard_ops workers w (resolved ops g.names g.kinds)) (opened layout) source none in
     (ap taken_in same ∙ none_taken (layout source), ap dropped_in same ∙ none_dropped (layout source))

@@ -1,5 +1,6 @@
 -- Results of all shards, written at their places, are the batch's results.
-use Rattle.std.proofs.Common.{◌≡◌, ℕ, zero, suc, ◌+◌, ◌%◌, ◌<◌, ◌==◌, List, [], ◌∷◌, ◌++◌, length, set, Bool, true, false, cond, refl, sym, ap, ◌∙◌, ◌||◌, arith, subst, Option, Some, None, All, mod-lt, length-append}
+use Rattle.std.proofs.Common.{◌≡◌, ℕ, zero, suc, ◌+◌, ◌%◌, ◌<◌, ◌==◌, List, [], ◌∷◌, ◌++◌, length, set, Bool, true, false, cond}
+use Rattle.std.proofs.Common.{refl, sym, ap, ◌∙◌, ◌||◌, arith, subst, Option, Some, None, All, mod-lt, length-append}
 use Rattle.std.specs.List.{enumerate_from, range_with_len, list_any}
 use Rattle.std.proofs.lemmas.List.{append_assoc}
 use Rattle.std.proofs.lemmas.Bool.{eqb-false}
@@ -19,7 +20,8 @@ set_middle [] x y xs = refl
 set_middle (b ∷ before) x y xs = ap (λ l. b ∷ l) (set_middle before x y xs)
 
 -- one shard's results written
-one_shard : {A : Type 0} (p : Resolved → Bool) (rs : List Resolved) (ys before xs : List A) (k : ℕ) → length before ≡ k → length ys ≡ length rs → length xs ≡ length rs
+one_shard : {A : Type 0} (p : Resolved → Bool) (rs : List Resolved) (ys before xs : List A) (k : ℕ) → length before ≡ k
+    → length ys ≡ length rs → length xs ≡ length rs
     → written (results p rs ys k) (before ++ xs) ≡ before ++ mixed p rs ys xs
 one_shard p [] ys before xs k at a b = refl
 one_shard p (r ∷ rs) [] before xs k at a b = absurd (omega arith)
@@ -27,14 +29,18 @@ one_shard p (r ∷ rs) (y ∷ ys) before [] k at a b = absurd (omega arith)
 one_shard p (r ∷ rs) (y ∷ ys) before (x ∷ xs) k at a b =
     let go : (z : _) → written (results p rs ys (k + 1)) (before ++ z ∷ xs) ≡ before ++ z ∷ mixed p rs ys xs = λ z.
     ap (written (results p rs ys (k + 1))) (sym (append_assoc before (z ∷ []) xs))
-    ∙ one_shard p rs ys (before ++ z ∷ []) xs (k + 1) (length-append before (z ∷ []) ∙ ap (λ n. n + 1) at) (omega arith) (omega arith)
+    ∙ one_shard p rs ys (before ++ z ∷ []) xs (k + 1) (length-append before (z ∷ []) ∙ ap (λ n. n + 1) at) (omega arith)
+    (omega arith)
     ∙ append_assoc before (z ∷ []) (mixed p rs ys xs) in
-    elim (p r) as (λ b. written (cond b ((k, y) ∷ results p rs ys (k + 1)) (results p rs ys (k + 1))) (before ++ x ∷ xs) ≡ before ++ cond b y x ∷ mixed p rs ys xs) [
-      | true ↦ ap (written (results p rs ys (k + 1))) (ap (λ n. set (before ++ x ∷ xs) n y) (sym at) ∙ set_middle before x y xs) ∙ go y
+    elim (p r) as (λ b. written (cond b ((k, y) ∷ results p rs ys (k + 1)) (results p rs ys (k + 1))) (before ++ x ∷ xs)
+    ≡ before ++ cond b y x ∷ mixed p rs ys xs) [
+      | true ↦ ap (written (results p rs ys (k + 1))) (ap (λ n. set (before ++ x ∷ xs) n y) (sym at) ∙ set_middle before x y xs)
+          ∙ go y
       | false ↦ go x
     ]
 
-mixed_twice : {A : Type 0} (p d : Resolved → Bool) (rs : List Resolved) (ys xs : List A) → mixed p rs ys (mixed d rs ys xs) ≡ mixed (λ r. p r || d r) rs ys xs
+mixed_twice : {A : Type 0} (p d : Resolved → Bool) (rs : List Resolved) (ys xs : List A)
+    → mixed p rs ys (mixed d rs ys xs) ≡ mixed (λ r. p r || d r) rs ys xs
 mixed_twice p d [] ys xs = refl
 mixed_twice p d (r ∷ rs) [] xs = refl
 mixed_twice p d (r ∷ rs) (y ∷ ys) [] = refl
@@ -43,13 +49,15 @@ mixed_twice p d (r ∷ rs) (y ∷ ys) (x ∷ xs) = λ i. one (p r) (d r) y x i �
   one true b y x = refl
   one false b y x = refl
 
-mixed_length : {A : Type 0} (p : Resolved → Bool) (rs : List Resolved) (ys xs : List A) → length xs ≡ length rs → length (mixed p rs ys xs) ≡ length rs
+mixed_length : {A : Type 0} (p : Resolved → Bool) (rs : List Resolved) (ys xs : List A) → length xs ≡ length rs
+    → length (mixed p rs ys xs) ≡ length rs
 mixed_length p [] ys xs e = e
 mixed_length p (r ∷ rs) [] xs e = e
 mixed_length p (r ∷ rs) (y ∷ ys) [] e = e
 mixed_length p (r ∷ rs) (y ∷ ys) (x ∷ xs) e = let rest = mixed_length p rs ys xs (omega arith) in omega arith
 
-mixed_all : {A : Type 0} (d : Resolved → Bool) → ((r : Resolved) → d r ≡ true) → (rs : List Resolved) (ys xs : List A) → length ys ≡ length rs → length xs ≡ length rs → mixed d rs ys xs ≡ ys
+mixed_all : {A : Type 0} (d : Resolved → Bool) → ((r : Resolved) → d r ≡ true) → (rs : List Resolved) (ys xs : List A)
+    → length ys ≡ length rs → length xs ≡ length rs → mixed d rs ys xs ≡ ys
 mixed_all d h [] [] [] a b = refl
 mixed_all d h [] (y ∷ ys) xs a b = absurd (omega arith)
 mixed_all d h [] [] (x ∷ xs) a b = absurd (omega arith)
@@ -60,11 +68,13 @@ mixed_all d h (r ∷ rs) (y ∷ ys) (x ∷ xs) a b = λ i. cond (h r i) y x ∷ 
 abbrev done : ℕ → List ℕ → Resolved → Bool
 done workers ws r = list_any (λ w. is_of workers w r) ws
 
-steps : {A : Type 0} (workers : ℕ) (ws : List ℕ) (d : Resolved → Bool) (rs : List Resolved) (ys xs : List A) → length ys ≡ length rs → length xs ≡ length rs
+steps : {A : Type 0} (workers : ℕ) (ws : List ℕ) (d : Resolved → Bool) (rs : List Resolved) (ys xs : List A)
+    → length ys ≡ length rs → length xs ≡ length rs
     → written_all workers ws rs ys (mixed d rs ys xs) ≡ mixed (λ r. done workers ws r || d r) rs ys xs
 steps workers [] d rs ys xs a b = refl
 steps workers (w ∷ ws) d rs ys xs a b =
-    ap (written_all workers ws rs ys) (one_shard (is_of workers w) rs ys [] (mixed d rs ys xs) 0 refl a (mixed_length d rs ys xs b) ∙ mixed_twice (is_of workers w) d rs ys xs)
+    ap (written_all workers ws rs ys) (one_shard (is_of workers w) rs ys [] (mixed d rs ys xs) 0 refl a
+    (mixed_length d rs ys xs b) ∙ mixed_twice (is_of workers w) d rs ys xs)
     ∙ steps workers ws (λ r. is_of workers w r || d r) rs ys xs a b
     ∙ (λ i. mixed (λ r. turn (done workers ws r) (is_of workers w r) (d r) i) rs ys xs) where
       turn : (a b c : Bool) → (a || (b || c)) ≡ ((b || a) || c)
@@ -92,10 +102,12 @@ none_yet (r ∷ rs) (y ∷ ys) [] = refl
 none_yet (r ∷ rs) (y ∷ ys) (x ∷ xs) = ap (λ l. x ∷ l) (none_yet rs ys xs)
 
 -- for every number of workers the results of all shards, written at their places, are the batch's
-pub all_written : {A : Type 0} (workers : ℕ) → 0 < workers → (rs : List Resolved) (ys xs : List A) → length ys ≡ length rs → length xs ≡ length rs
+pub all_written : {A : Type 0} (workers : ℕ) → 0 < workers → (rs : List Resolved) (ys xs : List A) → length ys ≡ length rs
+    → length xs ≡ length rs
     → written_all workers (range_with_len 0 workers) rs ys xs ≡ ys
 all_written workers h rs ys xs a b =
     ap (written_all workers (range_with_len 0 workers) rs ys) (none_yet rs ys xs)
     ∙ steps workers (range_with_len 0 workers) (λ _. false) rs ys xs a b
     ∙ mixed_all (λ r. done workers (range_with_len 0 workers) r || false)
-    (λ r. let lt = every workers h r.source in ap (λ b. b || false) (in_range (shard_of workers r.source) 0 workers (omega arith) (omega arith))) rs ys xs a b
+    (λ r. let lt = every workers h r.source in ap (λ b. b || false)
+    (in_range (shard_of workers r.source) 0 workers (omega arith) (omega arith))) rs ys xs a b

@@ -29,7 +29,8 @@ pub record IsApplied (v : VersionView) (ops : List NamedOp) (numbers : List ℕ)
   -- the layout rule, and as many blocks taken and dropped as it says
   pub layout : (source : ℕ) → layout_of a.version.rows source ≡ layout_after ops (content v) (layout_of v.rows) source
   pub taken_are : length a.taken.items ≡ taken_by ops (content v) (layout_of v.rows) (length (after_all ops (content v)).names)
-  pub dropped_are : length a.dropped.items ≡ dropped_by ops (content v) (layout_of v.rows) (length (after_all ops (content v)).names)
+  pub dropped_are : length a.dropped.items ≡ dropped_by ops (content v) (layout_of v.rows)
+      (length (after_all ops (content v)).names)
 
 -- a source's row where these rows took the places of those before, one after another
 abbrev pub row_among : List (ℕ × List BlockView) → ℕ → List BlockView → List BlockView

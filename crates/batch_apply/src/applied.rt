@@ -1,6 +1,7 @@
 //! A batch applied to a version.
 
-ghost use Rattle.std.specs.Prelude.{◌≡◌, ◌≢◌, ◌+◌, ◌++◌, ◌<◌, ◌≤◌, ℕ, false, Bool, List, length, map, flat_map, replicate, count_by, IfOk, OnOk, All, AllPairs};
+ghost use Rattle.std.specs.Prelude.{◌≡◌, ◌≢◌, ◌+◌, ◌++◌, ◌<◌, ◌≤◌, ℕ, false, Bool, List, length, map, flat_map, replicate};
+ghost use Rattle.std.specs.Prelude.{count_by, IfOk, OnOk, All, AllPairs};
 ghost use Rattle.std.specs.List.{sum_by, AllZip};
 ghost use Rattle.graph_model.specs.declared.batches.Outcome.TheVariants.{Absent};
 ghost use Rattle.batch_pages.specs.Batches.{batch_value};
@@ -91,7 +92,9 @@ fn deal(
 ) -> Result<Vec<Job>, AllocError>
     requires { sum_by steps_of shards.items ≤ length blocks.old.items }
     ensures jobs { IfOk result (λ v. AllZip IsDealt shards.items v.items) }
-    ensures numbers { IfOk result (λ v. (q : ℕ → Bool) → count_by q (flat_map (λ j. numbers_of j.shard.fresh.items) v.items) + count_by q (numbers_of blocks.new.items) ≡ count_by q (numbers_of blocks.old.items)) }
+    ensures numbers { IfOk result (λ v. (q : ℕ → Bool)
+        → count_by q (flat_map (λ j. numbers_of j.shard.fresh.items) v.items) + count_by q (numbers_of blocks.new.items)
+        ≡ count_by q (numbers_of blocks.old.items)) }
 {
     let mut jobs = Vec::with_capacity(alloc, shards.len())?;
     for shard in shards {
@@ -109,7 +112,8 @@ fn take_last(blocks: &mut Vec<Arc<Block>>, count: usize) -> Result<Vec<Arc<Block
     requires { count ≤ length blocks.old.items }
     ensures taken { IfOk result (λ v. length v.items ≡ count) }
     ensures left { OnOk result (length blocks.new.items + count ≡ length blocks.old.items) }
-    ensures numbers { IfOk result (λ v. (q : ℕ → Bool) → count_by q (numbers_of blocks.new.items) + count_by q (numbers_of v.items) ≡ count_by q (numbers_of blocks.old.items)) }
+    ensures numbers { IfOk result (λ v. (q : ℕ → Bool)
+        → count_by q (numbers_of blocks.new.items) + count_by q (numbers_of v.items) ≡ count_by q (numbers_of blocks.old.items)) }
 {
     let rest = blocks.len() - count;
     let taken = blocks.split_off(rest)?;
@@ -136,8 +140,10 @@ fn gather(
     ensures outcomes { IfOk result (λ a. a.outcomes.items ≡ written_from dones.items (replicate operations Absent)) }
     ensures rows { IfOk result (λ a. row_values a.rows.items ≡ flat_map (λ d. row_values d.rows.items) dones.items) }
     ensures taken { IfOk result (λ a. a.left.taken.items ≡ flat_map (λ d. d.left.taken.items) dones.items) }
-    ensures dropped { IfOk result (λ a. blocks_of a.left.dropped.items ≡ flat_map (λ d. blocks_of d.left.dropped.items) dones.items) }
-    ensures unused { IfOk result (λ a. numbers_of a.left.unused.items ≡ numbers_of unused.items ++ flat_map (λ d. numbers_of d.left.unused.items) dones.items) }
+    ensures dropped { IfOk result (λ a. blocks_of a.left.dropped.items ≡ flat_map (λ d. blocks_of d.left.dropped.items)
+        dones.items) }
+    ensures unused { IfOk result (λ a. numbers_of a.left.unused.items ≡ numbers_of unused.items
+        ++ flat_map (λ d. numbers_of d.left.unused.items) dones.items) }
 {
     let mut all = Gathered {
         outcomes: vec![in alloc; Outcome::Absent; operations]?,
@@ -159,8 +165,10 @@ fn add(all: &mut Gathered, done: ShardDone) -> Result<(), AllocError>
     ensures outcomes { OnOk result (all.new.outcomes.items ≡ written done.outcomes.items all.old.outcomes.items) }
     ensures rows { OnOk result (row_values all.new.rows.items ≡ row_values all.old.rows.items ++ row_values done.rows.items) }
     ensures taken { OnOk result (all.new.left.taken.items ≡ all.old.left.taken.items ++ done.left.taken.items) }
-    ensures dropped { OnOk result (blocks_of all.new.left.dropped.items ≡ blocks_of all.old.left.dropped.items ++ blocks_of done.left.dropped.items) }
-    ensures unused { OnOk result (numbers_of all.new.left.unused.items ≡ numbers_of all.old.left.unused.items ++ numbers_of done.left.unused.items) }
+    ensures dropped { OnOk result (blocks_of all.new.left.dropped.items ≡ blocks_of all.old.left.dropped.items
+        ++ blocks_of done.left.dropped.items) }
+    ensures unused { OnOk result (numbers_of all.new.left.unused.items ≡ numbers_of all.old.left.unused.items
+        ++ numbers_of done.left.unused.items) }
 {
     let ShardDone {
         outcomes,

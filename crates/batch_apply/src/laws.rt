@@ -9,7 +9,8 @@ ghost use Rattle.graph_model.specs.Graph.{Graph};
 ghost use Rattle.graph_model.specs.declared.batches.NamedOp.{NamedOp};
 ghost use Rattle.graph_model.specs.declared.batches.Outcome.{Outcome};
 ghost use Rattle.block_layout.specs.Rows.{OpenBlock, shape_of};
-ghost use Rattle.block_layout.specs.Batches.{Resolved, resolved, rows_all, sum_below, taken_by, dropped_by, outcomes_all, opened, layout_after};
+ghost use Rattle.block_layout.specs.Batches.{Resolved, resolved, rows_all, sum_below, taken_by, dropped_by, outcomes_all};
+ghost use Rattle.block_layout.specs.Batches.{opened, layout_after};
 ghost use Rattle.batch_plan.specs.Shards.{is_of, IsShardOf};
 ghost use Rattle.batch_apply.specs.Sums.{ArePlanned};
 ghost use Rattle.shard_work.specs.Done.{IsShardDone, layout_by, steps_in};
@@ -20,7 +21,8 @@ ghost use Rattle.shard_work.specs.Closing.{row_values};
 /// The results of all shards, written at their places, are the batch's.
 #[tactic(auto, using(crate::proofs::Written::all_written))]
 pub fn law_all_written()
-    ensures { (workers : ℕ) → 0 < workers → (rs : List Resolved) (ys xs : List Outcome) → length ys ≡ length rs → length xs ≡ length rs
+    ensures { (workers : ℕ) → 0 < workers → (rs : List Resolved) (ys xs : List Outcome) → length ys ≡ length rs
+        → length xs ≡ length rs
         → written_all workers (range_with_len 0 workers) rs ys xs ≡ ys }
 {}
 
@@ -34,24 +36,31 @@ pub fn law_sum_all()
 /// A worker's shard leaves the rows of its sources as the batch does.
 #[tactic(auto, using(crate::proofs::Totals::worker_rows))]
 pub fn law_worker_rows()
-    ensures { (workers w : ℕ) (ops : List NamedOp) (g : Graph) (shard : Shard) → IsShardOf workers (resolved ops g.names g.kinds) w shard → (rows : ℕ → List OpenBlock) (source : ℕ) → (source % workers == w) ≡ true
+    ensures { (workers w : ℕ) (ops : List NamedOp) (g : Graph) (shard : Shard)
+        → IsShardOf workers (resolved ops g.names g.kinds) w shard → (rows : ℕ → List OpenBlock) (source : ℕ)
+        → (source % workers == w) ≡ true
         → rows_all (steps_in shard) rows source ≡ rows_all (resolved ops g.names g.kinds) rows source }
 {}
 
 /// All workers together take and drop as many blocks as the layout rule says of the batch, for every number of workers.
 pub fn law_batch_totals()
-    ensures { (workers : ℕ) (ops : List NamedOp) (g : Graph) (before : ℕ → List BlockView) (shards : List Shard) (dones : List ShardDone)
+    ensures { (workers : ℕ) (ops : List NamedOp) (g : Graph) (before : ℕ → List BlockView) (shards : List Shard)
+        (dones : List ShardDone)
         → 0 < workers → ArePlanned workers ops g shards → AllZip (IsShardDone before) shards dones
         → (sum_by (λ d. length d.left.taken.items) dones ≡ taken_by ops g (layout_by before) (length (after_all ops g).names))
-        × (sum_by (λ d. length d.left.dropped.items) dones ≡ dropped_by ops g (layout_by before) (length (after_all ops g).names)) }
+        × (sum_by (λ d. length d.left.dropped.items) dones ≡ dropped_by ops g (layout_by before)
+        (length (after_all ops g).names)) }
 {}
 
 /// A worker's outcomes are the batch's at its operations' places, and its rows have the layout that the batch leaves.
 pub fn law_shard_results()
-    ensures outcomes { (workers w : ℕ) (ops : List NamedOp) (g : Graph) (before : ℕ → List BlockView) (shard : Shard) (done : ShardDone)
+    ensures outcomes { (workers w : ℕ) (ops : List NamedOp) (g : Graph) (before : ℕ → List BlockView) (shard : Shard)
+        (done : ShardDone)
         → IsShardOf workers (resolved ops g.names g.kinds) w shard → IsShardDone before shard done
-        → done.outcomes.items ≡ results (is_of workers w) (resolved ops g.names g.kinds) (outcomes_all (resolved ops g.names g.kinds) (opened (layout_by before))) 0 }
-    ensures layout { (workers w : ℕ) (ops : List NamedOp) (g : Graph) (before : ℕ → List BlockView) (shard : Shard) (done : ShardDone)
+        → done.outcomes.items ≡ results (is_of workers w) (resolved ops g.names g.kinds)
+        (outcomes_all (resolved ops g.names g.kinds) (opened (layout_by before))) 0 }
+    ensures layout { (workers w : ℕ) (ops : List NamedOp) (g : Graph) (before : ℕ → List BlockView) (shard : Shard)
+        (done : ShardDone)
         → IsShardOf workers (resolved ops g.names g.kinds) w shard → IsShardDone before shard done
         → All (λ r. map shape_of r.1 ≡ layout_after ops g (layout_by before) r.0) (row_values done.rows.items) }
 {}

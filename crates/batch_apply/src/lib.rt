@@ -10,6 +10,3 @@ pub use laws::{
     law_all_written, law_batch_totals, law_shard_results, law_sum_all, law_worker_rows,
 };
 pub use workers::{Gate, Job, PassAll, do_all};
-
-#[cfg(test)]
-mod tests;

@@ -1,5 +1,7 @@
 -- Pieces of 256.
-use Rattle.std.proofs.Common.{◌≡◌, ℕ, zero, suc, ◌+◌, ◌*◌, ◌/◌, ◌%◌, ◌<◌, ◌≤◌, List, [], ◌∷◌, ◌++◌, length, get_or, set, flat_map, map, refl, sym, ap, ◌∙◌, arith, append_assoc, length-append, None, Some, Option, MatchOption, option_copied, Bor, drop}
+use Rattle.std.proofs.Common.{◌≡◌, ℕ, zero, suc, ◌+◌, ◌*◌, ◌/◌, ◌%◌, ◌<◌, ◌≤◌, List, [], ◌∷◌, ◌++◌, length, get_or, set}
+use Rattle.std.proofs.Common.{flat_map, map, refl, sym, ap, ◌∙◌, arith, append_assoc, length-append, None, Some, Option}
+use Rattle.std.proofs.Common.{MatchOption, option_copied, Bor, drop}
 use Rattle.std.specs.List.{slice_get, AllZip}
 use Rattle.std.proofs.lemmas.Slice.Zip.{AllZip-long}
 use Rattle.std.proofs.lemmas.List.{append-nil}
@@ -35,9 +37,11 @@ module _ {X A : Type 0} (f : X → List A) where
       let here : length (f x) ≡ 256 = are.2 (omega arith) in
       let both = length-append (f x) (flat_map f (y ∷ xs)) in omega arith
 
-  at : (xs : List X) (i j : ℕ) (e : X) → (s : ℕ) → s ≡ i * 256 + j → ArePieces f xs → i < length xs → j < 256 → slice_get (flat_map f xs) s ≡ slice_get (f (get_or xs i e)) j
+  at : (xs : List X) (i j : ℕ) (e : X) → (s : ℕ) → s ≡ i * 256 + j → ArePieces f xs → i < length xs → j < 256
+      → slice_get (flat_map f xs) s ≡ slice_get (f (get_or xs i e)) j
   at [] i j e s is are lt j256 = absurd (omega arith)
-  at (x ∷ []) zero j e s is are lt j256 = ap (λ (l : List A). slice_get l s) (append-nil (f x)) ∙ ap (λ n. slice_get (f x) n) (omega arith)
+  at (x ∷ []) zero j e s is are lt j256 = ap (λ (l : List A). slice_get l s) (append-nil (f x))
+      ∙ ap (λ n. slice_get (f x) n) (omega arith)
   at (x ∷ y ∷ xs) zero j e s is are lt j256 =
       let here : length (f x) ≡ 256 = are.2 (omega arith) in
       slice_get-left (f x) (flat_map f (y ∷ xs)) s (omega arith) ∙ ap (λ n. slice_get (f x) n) (omega arith)
@@ -49,7 +53,8 @@ module _ {X A : Type 0} (f : X → List A) where
       ∙ slice_get-right (f x) (flat_map f (y ∷ xs)) (i * 256 + j)
       ∙ at (y ∷ xs) i j e (i * 256 + j) refl are.3 (omega arith) j256
 
-  pub at_piece : (xs : List X) (s : ℕ) (e : X) → ArePieces f xs → s / 256 < length xs → slice_get (flat_map f xs) s ≡ slice_get (f (get_or xs (s / 256) e)) (s % 256)
+  pub at_piece : (xs : List X) (s : ℕ) (e : X) → ArePieces f xs → s / 256 < length xs
+      → slice_get (flat_map f xs) s ≡ slice_get (f (get_or xs (s / 256) e)) (s % 256)
   at_piece xs s e are lt =
       at xs (s / 256) (s % 256) e s (omega arith) are lt (omega arith)
 
@@ -60,7 +65,8 @@ module _ {X A : Type 0} (f : X → List A) where
   flat_push [] y = append-nil (f y)
   flat_push (x ∷ xs) y = ap (λ l. f x ++ l) (flat_push xs y) ∙ sym (append_assoc (f x) (flat_map f xs) (f y))
 
-  pub push_piece : (xs : List X) (y : X) → ArePieces f xs → length (flat_map f xs) % 256 ≡ 0 → 0 < length (f y) → length (f y) ≤ 256 → ArePieces f (xs ++ y ∷ [])
+  pub push_piece : (xs : List X) (y : X) → ArePieces f xs → length (flat_map f xs) % 256 ≡ 0 → 0 < length (f y)
+      → length (f y) ≤ 256 → ArePieces f (xs ++ y ∷ [])
   push_piece [] y are even some few = (some, few, (λ lt. absurd (omega arith)), tt)
   push_piece (x ∷ []) y are even some few =
       let both = length-append (f x) [] in
@@ -73,22 +79,27 @@ module _ {X A : Type 0} (f : X → List A) where
       let here : length (f x) ≡ 256 = are.2 (omega arith) in
       (are.0, are.1, (λ lt. here), push_piece (z ∷ xs) y are.3 (omega arith) some few)
 
-  pub grow_last : (xs : List X) (i : ℕ) (y e : X) (zs : List A) → suc i ≡ length xs → f y ≡ f (get_or xs i e) ++ zs → flat_map f (set xs i y) ≡ flat_map f xs ++ zs
+  pub grow_last : (xs : List X) (i : ℕ) (y e : X) (zs : List A) → suc i ≡ length xs → f y ≡ f (get_or xs i e) ++ zs
+      → flat_map f (set xs i y) ≡ flat_map f xs ++ zs
   grow_last [] i y e zs last grown = absurd (omega arith)
   grow_last (x ∷ []) zero y e zs last grown = append-nil (f y) ∙ grown ∙ ap (λ l. l ++ zs) (sym (append-nil (f x)))
   grow_last (x ∷ z ∷ xs) zero y e zs last grown = absurd (omega arith)
   grow_last (x ∷ xs) (suc i) y e zs last grown =
       ap (λ l. f x ++ l) (grow_last xs i y e zs (omega arith) grown) ∙ sym (append_assoc (f x) (flat_map f xs) zs)
 
-  pub set_last : (xs : List X) (i : ℕ) (y : X) → ArePieces f xs → suc i ≡ length xs → 0 < length (f y) → length (f y) ≤ 256 → ArePieces f (set xs i y)
+  pub set_last : (xs : List X) (i : ℕ) (y : X) → ArePieces f xs → suc i ≡ length xs → 0 < length (f y) → length (f y) ≤ 256
+      → ArePieces f (set xs i y)
   set_last [] i y are last some few = absurd (omega arith)
   set_last (x ∷ []) zero y are last some few = (some, few, (λ lt. absurd (omega arith)), tt)
   set_last (x ∷ z ∷ xs) zero y are last some few = absurd (omega arith)
   set_last (x ∷ []) (suc i) y are last some few = absurd (omega arith)
-  set_last (x ∷ z ∷ xs) (suc zero) y are last some few = (are.0, are.1, (λ lt. are.2 (omega arith)), set_last (z ∷ xs) zero y are.3 (omega arith) some few)
-  set_last (x ∷ z ∷ xs) (suc (suc i)) y are last some few = (are.0, are.1, (λ lt. are.2 (omega arith)), set_last (z ∷ xs) (suc i) y are.3 (omega arith) some few)
+  set_last (x ∷ z ∷ xs) (suc zero) y are last some few =
+      (are.0, are.1, (λ lt. are.2 (omega arith)), set_last (z ∷ xs) zero y are.3 (omega arith) some few)
+  set_last (x ∷ z ∷ xs) (suc (suc i)) y are last some few =
+      (are.0, are.1, (λ lt. are.2 (omega arith)), set_last (z ∷ xs) (suc i) y are.3 (omega arith) some few)
 
-  pub last_len : (xs : List X) (i : ℕ) (e : X) → ArePieces f xs → suc i ≡ length xs → length (flat_map f xs) ≡ i * 256 + length (f (get_or xs i e))
+  pub last_len : (xs : List X) (i : ℕ) (e : X) → ArePieces f xs → suc i ≡ length xs
+      → length (flat_map f xs) ≡ i * 256 + length (f (get_or xs i e))
   last_len [] i e are last = absurd (omega arith)
   last_len (x ∷ []) zero e are last = let both = length-append (f x) [] in omega arith
   last_len (x ∷ z ∷ xs) zero e are last = absurd (omega arith)
@@ -102,7 +113,8 @@ module _ {X A : Type 0} (f : X → List A) where
   flat-AllZip [] [] same = refl
   flat-AllZip [] (y ∷ ys) same = absurd same
   flat-AllZip (x ∷ xs) [] same = absurd same
-  flat-AllZip (x ∷ xs) (y ∷ ys) same = let tail : flat_map f ys ≡ flat_map f xs = flat-AllZip xs ys same.1 in let head : f y ≡ f x = same.0 in cc
+  flat-AllZip (x ∷ xs) (y ∷ ys) same = let tail : flat_map f ys ≡ flat_map f xs = flat-AllZip xs ys same.1 in
+      let head : f y ≡ f x = same.0 in cc
 
   pub pieces-AllZip : (xs ys : List X) → AllZip (λ x y. f y ≡ f x) xs ys → ArePieces f xs → ArePieces f ys
   pieces-AllZip [] [] same are = are
@@ -116,12 +128,14 @@ module _ {X A : Type 0} (f : X → List A) where
       (omega arith, omega arith, (λ lt. here ∙ are.2 (omega arith)), pieces-AllZip xs ys same.1 are.3)
 
   -- where the last piece is not full, it is the one that holds the next element
-  pub last_place : (xs : List X) (len : ℕ) → ArePieces f xs → length (flat_map f xs) ≡ len → ¬ (len % 256 ≡ 0) → suc (len / 256) ≡ length xs
+  pub last_place : (xs : List X) (len : ℕ) → ArePieces f xs → length (flat_map f xs) ≡ len → ¬ (len % 256 ≡ 0)
+      → suc (len / 256) ≡ length xs
   last_place xs len are long part =
       let most = at_most_full xs are in
       let nearly = nearly_full xs are in omega (arith, part)
 
-  pub last_room : (xs : List X) (len : ℕ) (e : X) → ArePieces f xs → length (flat_map f xs) ≡ len → ¬ (len % 256 ≡ 0) → length (f (get_or xs (len / 256) e)) ≡ len % 256
+  pub last_room : (xs : List X) (len : ℕ) (e : X) → ArePieces f xs → length (flat_map f xs) ≡ len → ¬ (len % 256 ≡ 0)
+      → length (f (get_or xs (len / 256) e)) ≡ len % 256
   last_room xs len e are long part =
       let last = last_len xs (len / 256) e are (last_place xs len are long part) in omega arith
 
@@ -129,7 +143,8 @@ pub map-AllZip : {X Y : Type 0} (f : X → Y) (xs ys : List X) → AllZip (λ x 
 map-AllZip f [] [] same = refl
 map-AllZip f [] (y ∷ ys) same = absurd same
 map-AllZip f (x ∷ xs) [] same = absurd same
-map-AllZip f (x ∷ xs) (y ∷ ys) same = let tail : map f ys ≡ map f xs = map-AllZip f xs ys same.1 in let head : f y ≡ f x = same.0 in cc
+map-AllZip f (x ∷ xs) (y ∷ ys) same = let tail : map f ys ≡ map f xs = map-AllZip f xs ys same.1 in
+    let head : f y ≡ f x = same.0 in cc
 
 -- what is left of a list from a place on, where the place has no element and where it has one
 pub drop_past : {X : Type 0} (xs : List X) (i : ℕ) → slice_get xs i ≡ None → drop i xs ≡ []
@@ -146,7 +161,8 @@ drop_next (y ∷ xs) (suc i) x at =
     let further : suc (i + 1) ≡ suc i + 1 = omega arith in
     drop_next xs i x at ∙ ap (λ n. x ∷ drop n (y ∷ xs)) further
 
-last_some : {X : Type 0} (xs : List X) (i : ℕ) → suc i ≡ length xs → (x : X) × ((slice_get xs i ≡ Some x) × ((others : List X) × (xs ≡ others ++ x ∷ [])))
+last_some : {X : Type 0} (xs : List X) (i : ℕ) → suc i ≡ length xs → (x : X)
+    × ((slice_get xs i ≡ Some x) × ((others : List X) × (xs ≡ others ++ x ∷ [])))
 last_some [] i last = absurd (omega arith)
 last_some (x ∷ []) zero last = (x, (refl, ([], refl)))
 last_some (x ∷ y ∷ xs) zero last = absurd (omega arith)
@@ -156,9 +172,11 @@ last_some (x ∷ y ∷ xs) (suc i) last =
     (rest.0, (rest.1.0, (x ∷ rest.1.1.0, ap (λ l. x ∷ l) rest.1.1.1)))
 
 -- what a look at the last place finds: the last element, behind the others
-pub last_of : {X : Type 0} (xs : List X) (i : ℕ) (result : Option X) → result ≡ slice_get xs i → suc i ≡ length xs → MatchOption result (xs ≡ []) (λ x. (others : List X) × (xs ≡ others ++ x ∷ []))
+pub last_of : {X : Type 0} (xs : List X) (i : ℕ) (result : Option X) → result ≡ slice_get xs i → suc i ≡ length xs
+    → MatchOption result (xs ≡ []) (λ x. (others : List X) × (xs ≡ others ++ x ∷ []))
 last_of xs i result at last = let found = last_some xs i last in rw (at ∙ found.1.0) found.1.1
 
-pub copied_match : {X : Type 0} (P : Type 0) (Q : X → Type 0) (result : Option (Bor X)) → MatchOption (option_copied result) P Q → MatchOption result P (λ b. Q b.now)
+pub copied_match : {X : Type 0} (P : Type 0) (Q : X → Type 0) (result : Option (Bor X)) → MatchOption (option_copied result) P Q
+    → MatchOption result P (λ b. Q b.now)
 copied_match P Q None p = p
 copied_match P Q (Some b) q = q

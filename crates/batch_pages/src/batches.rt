@@ -1,6 +1,7 @@
 //! The list and its calls.
 
-ghost use Rattle.std.specs.Prelude.{◌≡◌, ◌<◌, ◌≤◌, ◌^◌, ◌++◌, ◌∷◌, [], length, slice_get, option_copied, List, IfOk, MatchOption, OnOk, OnErr};
+ghost use Rattle.std.specs.Prelude.{◌≡◌, ◌<◌, ◌≤◌, ◌^◌, ◌++◌, ◌∷◌, [], length, slice_get, option_copied, List, IfOk};
+ghost use Rattle.std.specs.Prelude.{MatchOption, OnOk, OnErr};
 ghost use Rattle.graph_model.specs.declared.batches.NamedOp.{NamedOp};
 ghost use Rattle.batch_pages.specs.Batches.{batch_value};
 ghost use Rattle.batch_pages.specs.Pages.{in_pages, ArePages};
@@ -83,7 +84,8 @@ impl Model for BatchList {
 
     ghost view = { λ list. in_pages list.pages.items };
 
-    ghost invariant = { λ list. (length (in_pages list.pages.items) ≡ list.len) × ArePages list.pages.items × (list.len < 2 ^ 64) };
+    ghost invariant = { λ list. (length (in_pages list.pages.items) ≡ list.len) × ArePages list.pages.items
+        × (list.len < 2 ^ 64) };
 }
 
 impl BatchList {

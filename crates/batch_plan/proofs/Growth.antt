@@ -1,5 +1,7 @@
 -- A worker's operations as more of the batch are planned.
-use Rattle.std.proofs.Common.{◌≡◌, ◌≢◌, ℕ, zero, suc, ◌+◌, ◌<◌, ◌≤◌, ◌%◌, ◌==◌, ◌||◌, true, false, cond, List, [], ◌∷◌, ◌++◌, length, length-append, get_or, map, filter, refl, sym, ap, ap₂, ◌∙◌, arith, subst, All, AllPairs, nat_eq}
+use Rattle.std.proofs.Common.{◌≡◌, ◌≢◌, ℕ, zero, suc, ◌+◌, ◌<◌, ◌≤◌, ◌%◌, ◌==◌, ◌||◌, true, false, cond, List, [], ◌∷◌, ◌++◌}
+use Rattle.std.proofs.Common.{length, length-append, get_or, map, filter, refl, sym, ap, ap₂, ◌∙◌, arith, subst, All, AllPairs}
+use Rattle.std.proofs.Common.{nat_eq}
 use Rattle.std.specs.Prelude.{slice_index}
 use Rattle.std.specs.List.{enumerate_from, list_any}
 use Rattle.std.specs.declared.option.Option.{Option}
@@ -21,7 +23,8 @@ no_more : {A : Type 0} (xs : List A) → xs ++ [] ≡ xs
 no_more [] = refl
 no_more (x ∷ xs) = ap (λ l. x ∷ l) (no_more xs)
 
-enumerated_last : {A : Type 0} (k : ℕ) (xs : List A) (x : A) (m : ℕ) → m ≡ length xs + k → enumerate_from k (xs ++ x ∷ []) ≡ enumerate_from k xs ++ (m, x) ∷ []
+enumerated_last : {A : Type 0} (k : ℕ) (xs : List A) (x : A) (m : ℕ) → m ≡ length xs + k
+    → enumerate_from k (xs ++ x ∷ []) ≡ enumerate_from k xs ++ (m, x) ∷ []
 enumerated_last k [] x m e = let same : k ≡ m = omega arith in ap (λ n. (n, x) ∷ []) same
 enumerated_last k (y ∷ xs) x m e = ap (λ l. (k, y) ∷ l) (enumerated_last (k + 1) xs x m (omega arith))
 
@@ -34,10 +37,12 @@ last_of P [] x all = All-head P x [] all
 last_of P (y ∷ xs) x all = last_of P xs x (All-tail P y (xs ++ x ∷ []) all)
 
 pub same_number : (n : ℕ) → n == n ≡ true
-same_number n = elim (n == n) as (λ b. n == n ≡ b → b ≡ true) [ true ↦ λ t. refl | false ↦ λ t. absurd (eqb-false n n t refl) ] refl
+same_number n = elim (n == n) as (λ b. n == n ≡ b → b ≡ true) [ true ↦ λ t. refl | false ↦ λ t. absurd (eqb-false n n t refl) ]
+    refl
 
 pub other_number : (a b : ℕ) → (a ≡ b → ⊥) → a == b ≡ false
-other_number a b ne = elim (a == b) as (λ t. a == b ≡ t → t ≡ false) [ true ↦ λ t. absurd (ne (eqb-true a b t)) | false ↦ λ t. refl ] refl
+other_number a b ne = elim (a == b) as (λ t. a == b ≡ t → t ≡ false)
+    [ true ↦ λ t. absurd (ne (eqb-true a b t)) | false ↦ λ t. refl ] refl
 
 absent : (xs : List ℕ) (s : ℕ) → list_any (nat_eq s) xs ≡ false → (i d : ℕ) → i < length xs → get_or xs i d ≡ s → ⊥
 absent [] s none i d lt e = absurd (omega arith)
@@ -53,15 +58,18 @@ absent (x ∷ xs) s none (suc i) d lt e =
     ] none
 
 -- the sources with one more
-more_distinct : (o : Option Key) (sources : List ℕ) → AllPairs (λ a b. a ≢ b) sources → AllPairs (λ a b. a ≢ b) (with_source o sources)
+more_distinct : (o : Option Key) (sources : List ℕ) → AllPairs (λ a b. a ≢ b) sources
+    → AllPairs (λ a b. a ≢ b) (with_source o sources)
 more_distinct None sources u = u
 more_distinct (Some k) sources u =
-    elim (list_any (nat_eq k.source) sources) as (λ b. list_any (nat_eq k.source) sources ≡ b → AllPairs (λ a b. a ≢ b) (cond b sources (sources ++ k.source ∷ []))) [
+    elim (list_any (nat_eq k.source) sources) as (λ b. list_any (nat_eq k.source) sources ≡ b
+    → AllPairs (λ a b. a ≢ b) (cond b sources (sources ++ k.source ∷ []))) [
       | true ↦ λ _. u
       | false ↦ λ none. all_pairs_push (λ a b. a ≢ b) sources k.source u (λ i d lt e. absent sources k.source none i d lt e)
     ] refl
 
-more_all : (P : ℕ → Type 0) (o : Option Key) (sources : List ℕ) → All P sources → ((k : Key) → o ≡ Some k → P k.source) → All P (with_source o sources)
+more_all : (P : ℕ → Type 0) (o : Option Key) (sources : List ℕ) → All P sources → ((k : Key) → o ≡ Some k → P k.source)
+    → All P (with_source o sources)
 more_all P None sources all new = all
 more_all P (Some k) sources all new =
     elim (list_any (nat_eq k.source) sources) as (λ b. All P (cond b sources (sources ++ k.source ∷ []))) [
@@ -77,23 +85,29 @@ more_length (Some k) sources =
       | false ↦ let l = length-append sources (k.source ∷ []) in omega arith
     ]
 
-more_index : (o : Option Key) (sources : List ℕ) (i : ℕ) → i < length sources → slice_index (with_source o sources) i ≡ slice_index sources i
+more_index : (o : Option Key) (sources : List ℕ) (i : ℕ) → i < length sources
+    → slice_index (with_source o sources) i ≡ slice_index sources i
 more_index None sources i lt = refl
 more_index (Some k) sources i lt =
-    elim (list_any (nat_eq k.source) sources) as (λ b. slice_index (cond b sources (sources ++ k.source ∷ [])) i ≡ slice_index sources i) [
+    elim (list_any (nat_eq k.source) sources) as
+    (λ b. slice_index (cond b sources (sources ++ k.source ∷ [])) i ≡ slice_index sources i) [
       | true ↦ refl
       | false ↦ get_or_append_left sources (k.source ∷ []) 0 i lt
     ]
 
-key_stays : (o : Option Key) (sources : List ℕ) (p : Option Place) → IsPlace (length sources) p → key_at (with_source o sources) p ≡ key_at sources p
+key_stays : (o : Option Key) (sources : List ℕ) (p : Option Place) → IsPlace (length sources) p
+    → key_at (with_source o sources) p ≡ key_at sources p
 key_stays o sources None h = refl
-key_stays o sources (Some p) h = ap (λ n. Some (let k : Key = record { kind = p.kind.0; source = n; target = p.target } in k)) (more_index o sources p.row h)
+key_stays o sources (Some p) h = ap (λ n. Some (let k : Key = record { kind = p.kind.0; source = n; target = p.target } in k))
+    (more_index o sources p.row h)
 
-acts_stay : (o : Option Key) (sources : List ℕ) (steps : List Step) → AreSteps (length sources) steps → acts (resolved_in (with_source o sources) steps) ≡ acts (resolved_in sources steps)
+acts_stay : (o : Option Key) (sources : List ℕ) (steps : List Step) → AreSteps (length sources) steps
+    → acts (resolved_in (with_source o sources) steps) ≡ acts (resolved_in sources steps)
 acts_stay o sources [] all = refl
 acts_stay o sources (s ∷ steps) all =
     let Fine : Step → Type 0 = λ s. IsPlace (length sources) s.place × IsChange s.change in
-    ap₂ (λ (a : Option Key × EdgeChange) as'. a ∷ as') (ap (λ (q : Option Key). (q, s.change)) (key_stays o sources s.place (All-head Fine s steps all).0))
+    ap₂ (λ (a : Option Key × EdgeChange) as'. a ∷ as')
+    (ap (λ (q : Option Key). (q, s.change)) (key_stays o sources s.place (All-head Fine s steps all).0))
     (acts_stay o sources steps (All-tail Fine s steps all))
 
 wider : (n m : ℕ) → n ≤ m → (p : Option Place) → IsPlace n p → IsPlace m p
@@ -113,15 +127,18 @@ none_yet workers w = record {
   within = λ n all. All-nil (λ s. s < n);
 }
 
-module _ (workers w : ℕ) (rs : List Resolved) (r : Resolved) (sources : List ℕ) (steps : List Step) (is : AreShardSteps workers rs w sources steps) where
+module _ (workers w : ℕ) (rs : List Resolved) (r : Resolved) (sources : List ℕ) (steps : List Step)
+    (is : AreShardSteps workers rs w sources steps) where
   abbrev numbers : List (ℕ × Resolved) → List ℕ
   numbers ps = map (λ (p : ℕ × Resolved). p.0) (filter (λ (p : ℕ × Resolved). is_of workers w p.1) ps)
 
   next_places : numbers (enumerate_from 0 (rs ++ r ∷ [])) ≡ numbers (enumerate_from 0 rs) ++ numbers ((length rs, r) ∷ [])
   next_places =
       ap numbers (enumerated_last 0 rs r (length rs) (omega arith))
-      ∙ ap (map (λ (p : ℕ × Resolved). p.0)) (filter-append (λ (p : ℕ × Resolved). is_of workers w p.1) (enumerate_from 0 rs) ((length rs, r) ∷ []))
-      ∙ map-append (λ (p : ℕ × Resolved). p.0) (filter (λ (p : ℕ × Resolved). is_of workers w p.1) (enumerate_from 0 rs)) (filter (λ (p : ℕ × Resolved). is_of workers w p.1) ((length rs, r) ∷ []))
+      ∙ ap (map (λ (p : ℕ × Resolved). p.0)) (filter-append (λ (p : ℕ × Resolved). is_of workers w p.1) (enumerate_from 0 rs)
+      ((length rs, r) ∷ []))
+      ∙ map-append (λ (p : ℕ × Resolved). p.0) (filter (λ (p : ℕ × Resolved). is_of workers w p.1) (enumerate_from 0 rs))
+      (filter (λ (p : ℕ × Resolved). is_of workers w p.1) ((length rs, r) ∷ []))
 
   next_acts : acts (shard_ops workers w (rs ++ r ∷ [])) ≡ acts (shard_ops workers w rs) ++ acts (shard_ops workers w (r ∷ []))
   next_acts =
@@ -131,8 +148,10 @@ module _ (workers w : ℕ) (rs : List Resolved) (r : Resolved) (sources : List �
   -- an operation of another worker changes nothing
   pub passed : is_of workers w r ≡ false → AreShardSteps workers (rs ++ r ∷ []) w sources steps
   passed out = record {
-    places = is.places ∙ sym (next_places ∙ ap (λ b. numbers (enumerate_from 0 rs) ++ map (λ (p : ℕ × Resolved). p.0) (cond b ((length rs, r) ∷ []) [])) out ∙ no_more (numbers (enumerate_from 0 rs)));
-    acts_are = is.acts_are ∙ sym (next_acts ∙ ap (λ b. acts (shard_ops workers w rs) ++ acts (cond b (r ∷ []) [])) out ∙ no_more (acts (shard_ops workers w rs)));
+    places = is.places ∙ sym (next_places ∙ ap (λ b. numbers (enumerate_from 0 rs)
+        ++ map (λ (p : ℕ × Resolved). p.0) (cond b ((length rs, r) ∷ []) [])) out ∙ no_more (numbers (enumerate_from 0 rs)));
+    acts_are = is.acts_are ∙ sym (next_acts ∙ ap (λ b. acts (shard_ops workers w rs) ++ acts (cond b (r ∷ []) [])) out
+        ∙ no_more (acts (shard_ops workers w rs)));
     in_range = is.in_range;
     distinct = is.distinct;
     own = is.own;
@@ -140,7 +159,8 @@ module _ (workers w : ℕ) (rs : List Resolved) (r : Resolved) (sources : List �
   }
 
   -- one of the worker's own is added, with its source
-  pub added : is_of workers w r ≡ true → IsPlaced r → (next : List ℕ) (s : Step) → next ≡ with_source r.key sources → s.op ≡ length rs
+  pub added : is_of workers w r ≡ true → IsPlaced r → (next : List ℕ) (s : Step) → next ≡ with_source r.key sources
+      → s.op ≡ length rs
       → key_at next s.place ≡ r.key → IsPlace (length next) s.place → s.change ≡ r.change → IsChange s.change
       → AreShardSteps workers (rs ++ r ∷ []) w next (steps ++ s ∷ [])
   added mine placed next s grows op key place change valid =
@@ -152,15 +172,20 @@ module _ (workers w : ℕ) (rs : List Resolved) (r : Resolved) (sources : List �
         places =
             map-append (λ (t : Step). t.op) steps (s ∷ [])
             ∙ ap₂ (λ a b. a ++ b ∷ []) is.places op
-            ∙ sym (next_places ∙ ap (λ b. numbers (enumerate_from 0 rs) ++ map (λ (p : ℕ × Resolved). p.0) (cond b ((length rs, r) ∷ []) [])) mine);
+            ∙ sym (next_places ∙ ap (λ b. numbers (enumerate_from 0 rs)
+            ++ map (λ (p : ℕ × Resolved). p.0) (cond b ((length rs, r) ∷ []) [])) mine);
         acts_are =
             ap acts (map-append (λ (t : Step). resolved_at more t.change t.place) steps (s ∷ []))
             ∙ map-append (λ (r : Resolved). (r.key, r.change)) (resolved_in more steps) (resolved_in more (s ∷ []))
-            ∙ ap₂ (λ (a : List (Option Key × EdgeChange)) (b : Option Key × EdgeChange). a ++ b ∷ []) (acts_stay r.key sources steps is.in_range ∙ is.acts_are)
+            ∙ ap₂ (λ (a : List (Option Key × EdgeChange)) (b : Option Key × EdgeChange). a ++ b ∷ [])
+            (acts_stay r.key sources steps is.in_range ∙ is.acts_are)
             (λ i. (key_is i, change i))
             ∙ sym (next_acts ∙ ap (λ b. acts (shard_ops workers w rs) ++ acts (cond b (r ∷ []) [])) mine);
-        in_range = All-push (λ (s : Step). IsPlace (length more) s.place × IsChange s.change) steps s (steps_wider (length sources) (length more) (more_length r.key sources) steps is.in_range) (place_is, valid);
+        in_range = All-push (λ (s : Step). IsPlace (length more) s.place × IsChange s.change) steps s
+            (steps_wider (length sources) (length more) (more_length r.key sources) steps is.in_range) (place_is, valid);
         distinct = more_distinct r.key sources is.distinct;
-        own = more_all (λ s. s % workers ≡ w) r.key sources is.own (λ k e. eqb-true (k.source % workers) w (ap (λ o. shard_of workers o == w) (sym (placed k e)) ∙ mine));
-        within = λ n all. more_all (λ s. s < n) r.key sources (is.within n (all_left (IsSourceBelow n) rs (r ∷ []) all)) (last_of (IsSourceBelow n) rs r all);
+        own = more_all (λ s. s % workers ≡ w) r.key sources is.own
+            (λ k e. eqb-true (k.source % workers) w (ap (λ o. shard_of workers o == w) (sym (placed k e)) ∙ mine));
+        within = λ n all. more_all (λ s. s < n) r.key sources (is.within n (all_left (IsSourceBelow n) rs (r ∷ []) all))
+            (last_of (IsSourceBelow n) rs r all);
       })

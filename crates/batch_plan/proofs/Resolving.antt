@@ -1,5 +1,6 @@
 -- Both passes together give the batch's operations with the numbers of their names.
-use Rattle.std.proofs.Common.{◌≡◌, ℕ, List, [], ◌∷◌, length, map, Bool, true, false, cond, ◌&&◌, refl, sym, ap, subst, All, Option, Some, None, arith}
+use Rattle.std.proofs.Common.{◌≡◌, ℕ, List, [], ◌∷◌, length, map, Bool, true, false, cond, ◌&&◌, refl, sym, ap, subst, All}
+use Rattle.std.proofs.Common.{Option, Some, None, arith}
 use Rattle.graph_model.specs.Graph.{Key}
 use Rattle.graph_model.specs.Step.{number_of}
 use Rattle.graph_model.specs.declared.batches.NamedOp.{NamedOp}
@@ -13,7 +14,8 @@ use Rattle.batch_plan.specs.declared.resolve.ResolvedOp.{ResolvedOp}
 use Rattle.batch_plan.specs.Plan.{known, shown, ends_in, ends_all, key_from, with_kind, with_kinds}
 
 key_cases : (a b c : Bool) (k s t : ℕ)
-    → key_from (cond a (Some k) None) (cond b (Some s) None) (cond c (Some t) None) ≡ cond (a && (b && c)) (Some (let key : Key = record { kind = k; source = s; target = t } in key)) None
+    → key_from (cond a (Some k) None) (cond b (Some s) None) (cond c (Some t) None) ≡ cond (a && (b && c))
+    (Some (let key : Key = record { kind = k; source = s; target = t } in key)) None
 key_cases false b c k s t = refl
 key_cases true false c k s t = refl
 key_cases true true false k s t = refl
@@ -21,12 +23,16 @@ key_cases true true true k s t = refl
 
 one_resolved : (names kinds : List (List ℕ)) (op : NamedOp) → with_kind kinds (ends_in names op) op ≡ resolve names kinds op
 one_resolved names kinds op =
-    ap (λ (key : Option Key). let r : Resolved = record { source = known names (source_name op); key = key; change = change_of op } in r)
-    (key_cases (is_known kinds (kind_name op)) (is_known names (source_name op)) (is_known names (target_name op)) (number_of kinds (kind_name op)) (number_of names (source_name op)) (number_of names (target_name op)))
+    ap (λ (key : Option Key).
+    let r : Resolved = record { source = known names (source_name op); key = key; change = change_of op } in r)
+    (key_cases (is_known kinds (kind_name op)) (is_known names (source_name op)) (is_known names (target_name op))
+    (number_of kinds (kind_name op)) (number_of names (source_name op)) (number_of names (target_name op)))
 
-pub resolved_is : (ops : List NamedOp) (names kinds : List (List ℕ)) → with_kinds (ends_all ops names) ops kinds ≡ resolved ops names kinds
+pub resolved_is : (ops : List NamedOp) (names kinds : List (List ℕ))
+    → with_kinds (ends_all ops names) ops kinds ≡ resolved ops names kinds
 resolved_is [] names kinds = refl
-resolved_is (op ∷ ops) names kinds = λ i. one_resolved (names_after op names) (kinds_after op kinds) op i ∷ resolved_is ops (names_after op names) (kinds_after op kinds) i
+resolved_is (op ∷ ops) names kinds = λ i. one_resolved (names_after op names) (kinds_after op kinds) op i
+    ∷ resolved_is ops (names_after op names) (kinds_after op kinds) i
 
 pub as_many_ends : (ops : List NamedOp) (names : List (List ℕ)) → length (ends_all ops names) ≡ length ops
 as_many_ends [] names = refl
@@ -34,10 +40,12 @@ as_many_ends (op ∷ ops) names = let rest = as_many_ends ops (names_after op na
 
 as_many_resolved : (ops : List NamedOp) (names kinds : List (List ℕ)) → length (resolved ops names kinds) ≡ length ops
 as_many_resolved [] names kinds = refl
-as_many_resolved (op ∷ ops) names kinds = let rest = as_many_resolved ops (names_after op names) (kinds_after op kinds) in omega arith
+as_many_resolved (op ∷ ops) names kinds = let rest = as_many_resolved ops (names_after op names) (kinds_after op kinds) in omega
+    arith
 
 -- as many operations are resolved as there are
-pub as_many_shown : (found : List ResolvedOp) (ops : List NamedOp) (names kinds : List (List ℕ)) → map shown found ≡ resolved ops names kinds → length found ≡ length ops
+pub as_many_shown : (found : List ResolvedOp) (ops : List NamedOp) (names kinds : List (List ℕ))
+    → map shown found ≡ resolved ops names kinds → length found ≡ length ops
 as_many_shown found ops names kinds are =
     let all : length (map shown found) ≡ length (resolved ops names kinds) = ap length are in
     omega (arith, all, length-map found shown, as_many_resolved ops names kinds)
@@ -58,5 +66,6 @@ all_placed (e ∷ ends) (op ∷ ops) kinds =
     (placed_parts (known (kinds_after op kinds) (kind_name op)) e.source e.target) (all_placed ends ops (kinds_after op kinds))
 
 -- an operation with a key is on the key's source
-pub placed_in : (rs : List Resolved) (ends : List Ends) (ops : List NamedOp) (kinds : List (List ℕ)) → rs ≡ with_kinds ends ops kinds → All IsPlaced rs
+pub placed_in : (rs : List Resolved) (ends : List Ends) (ops : List NamedOp) (kinds : List (List ℕ))
+    → rs ≡ with_kinds ends ops kinds → All IsPlaced rs
 placed_in rs ends ops kinds e = subst (λ ss. All IsPlaced ss) (sym e) (all_placed ends ops kinds)

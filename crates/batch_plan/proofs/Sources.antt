@@ -1,5 +1,6 @@
 -- An operation's source is one of the vertices that the batch leaves.
-use Rattle.std.proofs.Common.{◌≡◌, ◌<◌, ℕ, List, [], ◌∷◌, length, ◌≤◌, Bool, true, false, cond, ◌&&◌, refl, sym, ap, subst, All, Option, Some, None, arith}
+use Rattle.std.proofs.Common.{◌≡◌, ◌<◌, ℕ, List, [], ◌∷◌, length, ◌≤◌, Bool, true, false, cond, ◌&&◌, refl, sym, ap, subst, All}
+use Rattle.std.proofs.Common.{Option, Some, None, arith}
 use Rattle.std.proofs.lemmas.List.Elements.{All-nil, All-cons}
 use Rattle.graph_model.specs.Graph.{Graph, Key}
 use Rattle.graph_model.specs.Step.{after_all}
@@ -14,7 +15,8 @@ use Rattle.batch_plan.specs.Shards.{IsSourceBelow, IsShardOf}
 use Rattle.batch_plan.proofs.Names.{no_fewer_all}
 use Rattle.batch_plan.proofs.Leaving.{names_left}
 
-below_if : (a b c : Bool) (q k : Key) (n : ℕ) → cond (a && (b && c)) (Some q) None ≡ Some k → (b ≡ true → q.source < n) → k.source < n
+below_if : (a b c : Bool) (q k : Key) (n : ℕ) → cond (a && (b && c)) (Some q) None ≡ Some k → (b ≡ true → q.source < n)
+    → k.source < n
 below_if false b c q k n is below = cc
 below_if true false c q k n is below = cc
 below_if true true false q k n is below = cc
@@ -24,16 +26,23 @@ below_if true true true q k n is below =
 
 one_below : (names kinds : List (List ℕ)) (op : NamedOp) (n : ℕ) → length names ≤ n → IsSourceBelow n (resolve names kinds op)
 one_below names kinds op n few k is =
-    below_if (is_known kinds (kind_name op)) (is_known names (source_name op)) (is_known names (target_name op)) (key_by names kinds op) k n is
+    below_if (is_known kinds (kind_name op)) (is_known names (source_name op)) (is_known names (target_name op))
+    (key_by names kinds op) k n is
     (λ known. omega (arith, few, number_of-lt names (source_name op) known))
 
-all_below : (ops : List NamedOp) (names kinds : List (List ℕ)) → All (IsSourceBelow (length (names_all ops names))) (resolved ops names kinds)
+all_below : (ops : List NamedOp) (names kinds : List (List ℕ))
+    → All (IsSourceBelow (length (names_all ops names))) (resolved ops names kinds)
 all_below [] names kinds = All-nil (IsSourceBelow (length names))
 all_below (op ∷ ops) names kinds =
     let n : ℕ = length (names_all ops (names_after op names)) in
-    All-cons (IsSourceBelow n) (resolve (names_after op names) (kinds_after op kinds) op) (resolved ops (names_after op names) (kinds_after op kinds))
-    (one_below (names_after op names) (kinds_after op kinds) op n (no_fewer_all ops (names_after op names))) (all_below ops (names_after op names) (kinds_after op kinds))
+    All-cons (IsSourceBelow n) (resolve (names_after op names) (kinds_after op kinds) op)
+    (resolved ops (names_after op names) (kinds_after op kinds))
+    (one_below (names_after op names) (kinds_after op kinds) op n (no_fewer_all ops (names_after op names)))
+    (all_below ops (names_after op names) (kinds_after op kinds))
 
-pub sources_within : (workers worker : ℕ) (ops : List NamedOp) (g : Graph) (shard : Shard) → IsShardOf workers (resolved ops g.names g.kinds) worker shard → All (λ s. s < length (after_all ops g).names) (sources_in shard)
+pub sources_within : (workers worker : ℕ) (ops : List NamedOp) (g : Graph) (shard : Shard)
+    → IsShardOf workers (resolved ops g.names g.kinds) worker shard
+    → All (λ s. s < length (after_all ops g).names) (sources_in shard)
 sources_within workers worker ops g shard is =
-    is.within (length (after_all ops g).names) (subst (λ ns. All (IsSourceBelow (length ns)) (resolved ops g.names g.kinds)) (names_left ops g) (all_below ops g.names g.kinds))
+    is.within (length (after_all ops g).names) (subst (λ ns. All (IsSourceBelow (length ns)) (resolved ops g.names g.kinds))
+    (names_left ops g) (all_below ops g.names g.kinds))

@@ -77,5 +77,6 @@ IsRefusal OutOfMemory book names = Unit {0}
 -- when a batch is not planned: for the names first, and for the kinds only where the names fit
 abbrev pub IsUnplanned : PlanError → List NamedOp → Book → Book → Type 0
 IsUnplanned plan.NamesFull ops names kinds = names.limit < length (names_all ops names.names)
-IsUnplanned plan.KindsFull ops names kinds = (kinds.limit < length (kinds_all ops kinds.names)) × (length (names_all ops names.names) ≤ names.limit)
+IsUnplanned plan.KindsFull ops names kinds = (kinds.limit < length (kinds_all ops kinds.names))
+    × (length (names_all ops names.names) ≤ names.limit)
 IsUnplanned plan.OutOfMemory ops names kinds = Unit {0}

@@ -1,5 +1,6 @@
 -- The operations of a batch by worker.
-use Rattle.std.specs.Prelude.{◌≡◌, ◌≢◌, ℕ, ◌<◌, ◌%◌, ◌==◌, List, [], ◌∷◌, ◌++◌, map, filter, length, Bool, if◌then◌else◌, nat_eq, All, AllPairs}
+use Rattle.std.specs.Prelude.{◌≡◌, ◌≢◌, ℕ, ◌<◌, ◌%◌, ◌==◌, List, [], ◌∷◌, ◌++◌, map, filter, length, Bool, if◌then◌else◌}
+use Rattle.std.specs.Prelude.{nat_eq, All, AllPairs}
 use Rattle.std.specs.List.{enumerate_from, list_any}
 use Rattle.std.specs.declared.option.Option.{Option}
 use Rattle.std.specs.declared.option.Option.TheVariants.{None, Some}

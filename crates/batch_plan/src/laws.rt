@@ -12,6 +12,7 @@ ghost use Rattle.batch_plan.specs.Shards.{IsShardOf};
 /// The sources of a batch's shards are vertices of the graph that the batch leaves.
 #[tactic(auto, using(crate::proofs::Sources::sources_within))]
 pub fn law_sources_within()
-    ensures { (workers worker : ℕ) (ops : List NamedOp) (g : Graph) (shard : Shard) → IsShardOf workers (resolved ops g.names g.kinds) worker shard
+    ensures { (workers worker : ℕ) (ops : List NamedOp) (g : Graph) (shard : Shard)
+        → IsShardOf workers (resolved ops g.names g.kinds) worker shard
         → All (λ s. s < length (after_all ops g).names) (sources_in shard) }
 {}

@@ -17,6 +17,3 @@ pub use planning::plan;
 pub use plans::{Plan, PlanError};
 pub use resolve::{EdgeKey, ResolvedOp};
 pub use shards::shard_for;
-
-#[cfg(test)]
-mod tests;

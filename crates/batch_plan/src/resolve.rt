@@ -7,7 +7,8 @@ ghost use Rattle.graph_model.specs.Valid.{is_name, is_kind_name, has_names, IsVa
 ghost use Rattle.std.specs.Option.{option_map};
 ghost use Rattle.block_layout.specs.Operations.{kind_name, change_of, names_after, kinds_after};
 ghost use Rattle.batch_plan.specs.Plan as plan;
-ghost use Rattle.batch_plan.specs.Plan.{known, ends_in, ends_all, names_all, kinds_all, key_from, key_of, shown, with_names, IsRefusal};
+ghost use Rattle.batch_plan.specs.Plan.{known, ends_in, ends_all, names_all, kinds_all, key_from, key_of, shown, with_names};
+ghost use Rattle.batch_plan.specs.Plan.{IsRefusal};
 
 use graph_model::{EdgeChange, KindId, NamedOp};
 use std::alloc::Global;
@@ -44,7 +45,8 @@ fn add_ends(names: &mut NameBook, source: &str, target: &str) -> Result<Ends, Ad
     ensures ends { let after = with_name (with_name names.old.names source.now) target.now in
         IfOk result (λ e. e ≡ record { source = known after source.now; target = known after target.now }) }
     ensures names { OnOk result (names.new ≡ with_names names.old (with_name (with_name names.old.names source.now) target.now)) }
-    ensures refused { IfErr result (λ error. IsRefusal error names.old (with_name (with_name names.old.names source.now) target.now)) }
+    ensures refused { IfErr result (λ error. IsRefusal error names.old
+        (with_name (with_name names.old.names source.now) target.now)) }
 {
     let source = names.add(source)?;
     let target = names.add(target)?;

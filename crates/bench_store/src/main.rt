@@ -3,9 +3,17 @@
 //! same loops in Rust.
 #![tactic(auto)]
 
+mod analyses;
+mod batches;
 mod blocks;
+mod desks;
+mod edges;
+mod times;
+mod versions;
 
-use std::time::CpuClock;
+use std::sync::Wait;
+use std::thread::Threads;
+use std::time::{Clock, CpuClock};
 use std::{env, io};
 
 fn main(rt: HostRuntime) -> io::Result<()> {
@@ -20,9 +28,16 @@ fn main(rt: HostRuntime) -> io::Result<()> {
 }
 
 /// Runs the measurement of a word; another word, or rounds that are no number, does nothing.
-fn measure<R: CpuClock + Print + AllocGlobal>(rt: &R, word: &str, rounds: &str) -> io::Result<()> {
+fn measure<R: Threads + Wait + Sync + Clock + CpuClock + Print + AllocGlobal>(
+    rt: &R,
+    word: &str,
+    rounds: &str,
+) -> io::Result<()> {
     match (word, rounds.parse::<u32>()) {
         ("blocks", Ok(rounds)) => blocks::measure(rt, rounds),
+        ("analyses", Ok(rounds)) => analyses::measure(rt, rounds),
+        ("batches", Ok(rounds)) => batches::measure(rt, rounds),
+        ("versions", Ok(rounds)) => versions::measure(rt, rounds),
         _ => Ok(()),
     }
 }

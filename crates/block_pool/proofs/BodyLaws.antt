@@ -16,7 +16,8 @@ pub bodies_set : (count : ℕ) (bodies : List (Option (Arc Block Global))) (k : 
 bodies_set count bodies k body lt own are = record {
   same_length = length-set bodies k body ∙ are.same_length;
   numbers = λ n within.
-      elim (n == k) as (λ b. n == k ≡ b → IfSome (get_or (set bodies k body) n None) (λ b. (arc_value {X = Block} b).number ≡ n)) [
+      elim (n == k) as (λ b. n == k ≡ b → IfSome (get_or (set bodies k body) n None)
+      (λ b. (arc_value {X = Block} b).number ≡ n)) [
         | true ↦ λ t.
             let e : n ≡ k = eqb-true n k t in
             let here : get_or (set bodies k body) n None ≡ body =

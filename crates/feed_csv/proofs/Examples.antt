@@ -5,10 +5,10 @@ use Rattle.csv.specs.Reading.{records_from, strip_bom}
 use Rattle.csv.specs.Records.{field_at}
 use Rattle.graph_model.specs.declared.batches.NamedOp.TheVariants.{Insert, Incr}
 use Rattle.graph_model.specs.declared.requests.Request.TheVariants.{Degrees, Levels}
-use Rattle.feed_csv.specs.Commands.{commit_of, degrees_of, incr_of, insert_of, item_of, levels_of}
+use Rattle.feed_csv.specs.Commands.{collect_of, commit_of, degrees_of, incr_of, insert_of, item_of, levels_of, stat_of}
 use Rattle.feed_csv.specs.Fields.{any_kind_at, kind_at, name_at, of_length, slot_at, time_at, weight_at}
 use Rattle.feed_csv.specs.Records.{records_of}
-use Rattle.feed_csv.specs.declared.command.Command.TheVariants.{Op, Query}
+use Rattle.feed_csv.specs.declared.command.Command.TheVariants.{Collect, Op, Query, Stat}
 use Rattle.feed_csv.specs.declared.command.FeedWord.TheVariants.{BadCommand, BadFields, BadName, BadTime}
 
 -- blank lines are no records, a quoted field may hold a comma, and a byte order mark is dropped
@@ -49,6 +49,18 @@ a-bad-name = refl
 pub a-commit-with-fields : item_of (codes "commit" ∷ codes "1" ∷ []) ≡ Err BadFields
 unfolding item_of commit_of of_length field_at
 a-commit-with-fields = refl
+
+pub the-counts : item_of (codes "stat" ∷ []) ≡ Ok Stat
+unfolding item_of stat_of of_length field_at
+the-counts = refl
+
+pub counts-with-fields : item_of (codes "stat" ∷ codes "1" ∷ []) ≡ Err BadFields
+unfolding item_of stat_of of_length field_at
+counts-with-fields = refl
+
+pub a-collection : item_of (codes "collect" ∷ []) ≡ Ok Collect
+unfolding item_of collect_of of_length field_at
+a-collection = refl
 
 pub an-unknown-command : item_of ([] ∷ []) ≡ Err BadCommand
 unfolding item_of field_at

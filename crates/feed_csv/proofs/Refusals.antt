@@ -1,6 +1,7 @@
 -- A record is refused for what it says, and never for a failed read or want of memory.
 use Rattle.std.proofs.Common.{◌≡◌, ◌≢◌, ℕ, Bool, true, false, cond, codes, List, Option, Some, None, Result, Ok, Err, refl, rules}
 use Rattle.feed_csv.specs.Commands.{Refuses, close_of, commit_of, cores_of, degrees_of, edge_of, incr_of, insert_of, item_of}
+use Rattle.feed_csv.specs.Commands.{collect_of, stat_of}
 use Rattle.feed_csv.specs.Commands.{labels_of, levels_of, open_of, remove_of}
 use Rattle.feed_csv.specs.Fields.{◌>>=◌, any_kind_at, field, kind_at, name_at, of_length, required, slot_at, time_at, weight_at}
 use Rattle.feed_csv.specs.Records.{Row}
@@ -153,6 +154,16 @@ edge_of-fails row =
     (λ v0. then (name_at r 3) _ (name_at-fails r 3) (λ v1. then (name_at r 4) _ (name_at-fails r 4) (λ v2.
     then (slot_at r 1) _ (slot_at-fails r 1) (λ v3. given _)))))
 
+stat_of-fails : (row : Row) → FailsByRecord (stat_of row)
+unfolding stat_of
+stat_of-fails row =
+    then (of_length 1 row) _ (of_length-fails 1 row) (λ r. given _)
+
+collect_of-fails : (row : Row) → FailsByRecord (collect_of row)
+unfolding collect_of
+collect_of-fails row =
+    then (of_length 1 row) _ (of_length-fails 1 row) (λ r. given _)
+
 -- no record is refused for Read or Memory
 pub item_of-fails : (row : Row) → FailsByRecord (item_of row)
 unfolding item_of
@@ -163,7 +174,9 @@ item_of-fails row =
     (tested (is (codes "open")) _ _ (open_of-fails row) (tested (is (codes "close")) _ _ (close_of-fails row)
     (tested (is (codes "bfs")) _ _ (levels_of-fails row) (tested (is (codes "comp")) _ _ (labels_of-fails row)
     (tested (is (codes "core")) _ _ (cores_of-fails row) (tested (is (codes "deg")) _ _ (degrees_of-fails row)
-    (tested (is (codes "edge")) _ _ (edge_of-fails row) (refused BadCommand tt)))))))))))
+    (tested (is (codes "edge")) _ _ (edge_of-fails row)
+    (tested (is (codes "stat")) _ _ (stat_of-fails row) (tested (is (codes "collect")) _ _ (collect_of-fails row)
+    (refused BadCommand tt)))))))))))))
 
 -- a record that was taken and refused is a step of the feed
 pub refused_step : (word : FeedWord) (row : Row) (old new : Script) → word ≢ Memory → Refuses word (item_of row)

@@ -6,7 +6,7 @@ use Rattle.graph_model.specs.declared.requests.Request.TheVariants.{Levels, Labe
 use Rattle.feed_csv.specs.Fields.{◌>>=◌, any_kind_at, field, kind_at, name_at, of_length, slot_at, time_at, weight_at}
 use Rattle.feed_csv.specs.Records.{Row}
 use Rattle.feed_csv.specs.declared.command.Command.{Command}
-use Rattle.feed_csv.specs.declared.command.Command.TheVariants.{Op, Commit, OpenSlot, CloseSlot, Query}
+use Rattle.feed_csv.specs.declared.command.Command.TheVariants.{Op, Commit, OpenSlot, CloseSlot, Query, Stat, Collect}
 use Rattle.feed_csv.specs.declared.command.FeedWord.{FeedWord}
 use Rattle.feed_csv.specs.declared.command.FeedWord.TheVariants.{Read, BadCommand, BadFields, BadName, BadWeight, BadTime}
 use Rattle.feed_csv.specs.declared.command.FeedWord.TheVariants.{BadSlot, Memory}
@@ -113,6 +113,18 @@ edge_of record_fields = do
   slot ← slot_at row 1
   Ok (Query slot (OneEdge kind source target))
 
+-- stat
+unfoldable pub stat_of : Row → Result Command FeedWord
+stat_of record_fields = do
+  row ← of_length 1 record_fields
+  Ok Stat
+
+-- collect
+unfoldable pub collect_of : Row → Result Command FeedWord
+collect_of record_fields = do
+  row ← of_length 1 record_fields
+  Ok Collect
+
 -- the first field says which command it is
 unfoldable pub item_of : Row → Result Command FeedWord
 item_of row =
@@ -128,7 +140,9 @@ item_of row =
     else (if bytes_eq word (codes "core") then cores_of row
     else (if bytes_eq word (codes "deg") then degrees_of row
     else (if bytes_eq word (codes "edge") then edge_of row
-    else Err BadCommand))))))))))
+    else (if bytes_eq word (codes "stat") then stat_of row
+    else (if bytes_eq word (codes "collect") then collect_of row
+    else Err BadCommand))))))))))))
 
 -- how a word of refusal is written
 abbrev pub word_text : FeedWord → List ℕ

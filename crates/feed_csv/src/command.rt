@@ -19,6 +19,10 @@ pub enum Command {
     CloseSlot(u8),
     /// Asks the session in this slot, which is below 16.
     Query(u8, Request),
+    /// Asks for the store's counts.
+    Stat,
+    /// Gives back what no session and no version holds any more.
+    Collect,
 }
 
 /// Why there is no command; where several hold of a record, the first in this order (but `Memory` at any time).

@@ -39,6 +39,10 @@ pub(crate) fn command_of(alloc: Global, row: &ByteRecord) -> Result<Command, Fee
         degrees(alloc, row)
     } else if word == b"edge".as_slice() {
         edge(alloc, row)
+    } else if word == b"stat".as_slice() {
+        stat(row)
+    } else if word == b"collect".as_slice() {
+        collect(row)
     } else {
         Err(FeedWord::BadCommand)
     }
@@ -134,6 +138,22 @@ fn commit(row: &ByteRecord) -> Result<Command, FeedWord>
 {
     check_length(row, 1)?;
     Ok(Command::Commit)
+}
+
+#[tactic(auto, unfolding(crate::specs::Commands::stat_of))]
+fn stat(row: &ByteRecord) -> Result<Command, FeedWord>
+    ensures { result ≡ spec.stat_of (fields_of row.now) }
+{
+    check_length(row, 1)?;
+    Ok(Command::Stat)
+}
+
+#[tactic(auto, unfolding(crate::specs::Commands::collect_of))]
+fn collect(row: &ByteRecord) -> Result<Command, FeedWord>
+    ensures { result ≡ spec.collect_of (fields_of row.now) }
+{
+    check_length(row, 1)?;
+    Ok(Command::Collect)
 }
 
 #[tactic(auto, unfolding(crate::specs::Commands::open_of))]

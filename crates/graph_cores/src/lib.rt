@@ -5,8 +5,6 @@
 mod links;
 mod peeling;
 mod rows;
-#[cfg(test)]
-mod tests;
 mod versions;
 
 pub use peeling::cores_over;

@@ -2,7 +2,5 @@
 #![tactic(auto)]
 
 mod tallies;
-#[cfg(test)]
-mod tests;
 
 pub use tallies::degrees;

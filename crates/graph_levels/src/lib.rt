@@ -5,8 +5,6 @@
 
 mod distances;
 mod parts;
-#[cfg(test)]
-mod tests;
 mod versions;
 
 pub use distances::levels_over;

@@ -12,8 +12,6 @@ mod laws;
 mod lists;
 mod requests;
 mod tables;
-#[cfg(test)]
-mod tests;
 mod texts;
 
 pub use batches::{Batch, NamedOp, Outcome, PushError};

@@ -26,7 +26,8 @@ is_empty_version = record {
 
 -- what a version keeps is true of the one without batches
 pub is_kept_empty : (names kinds : Book) (batches : List (List NamedOp)) (rows : List (List BlockView)) (edges : ℕ)
-    → names ≡ empty_book 65536 → kinds ≡ empty_book 64 → batches ≡ [] → rows ≡ [] → edges ≡ 0 → IsKept names kinds edges (version_of batches rows)
+    → names ≡ empty_book 65536 → kinds ≡ empty_book 64 → batches ≡ [] → rows ≡ [] → edges ≡ 0
+    → IsKept names kinds edges (version_of batches rows)
 is_kept_empty names kinds batches rows edges n k b r e =
     rw (n, k, b, r, e) (record {
       names_are = refl;

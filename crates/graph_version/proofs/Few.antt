@@ -1,5 +1,6 @@
 -- A version has at most 2 ^ 38 edges: as many as there are kinds, sources and targets.
-use Rattle.std.proofs.Common.{◌≡◌, ℕ, ◌^◌, ◌<◌, ◌≤◌, Bool, true, false, cond, ◌&&◌, eqb, List, [], ◌∷◌, refl, length, get_or, subst, sym, ap, ◌∙◌, arith, All}
+use Rattle.std.proofs.Common.{◌≡◌, ℕ, ◌^◌, ◌<◌, ◌≤◌, Bool, true, false, cond, ◌&&◌, eqb, List, [], ◌∷◌, refl, length, get_or}
+use Rattle.std.proofs.Common.{subst, sym, ap, ◌∙◌, arith, All}
 use Rattle.std.specs.Prelude.{count_by}
 use Rattle.std.specs.Option.{is_some}
 use Rattle.std.specs.FinMap.{get, len}
@@ -29,22 +30,36 @@ one_where : (a b : Bool) → (a ≡ true → b ≡ true) → cond a 1 0 ≤ cond
 one_where true b f = let e = f refl in subst (λ c. 1 ≤ cond c 1 0) (sym e) (omega arith)
 one_where false b f = omega arith
 
-has_parts : (k s t : ℕ) (e : Edge) → ((eqb e.kind.0 k && eqb e.source.0 s) && eqb e.target.0 t) ≡ true → has_key (record { kind = k; source = s; target = t }) e ≡ true
+has_parts : (k s t : ℕ) (e : Edge) → ((eqb e.kind.0 k && eqb e.source.0 s) && eqb e.target.0 t) ≡ true
+    → has_key (record { kind = k; source = s; target = t }) e ≡ true
 has_parts k s t e passes =
     let (left, target) = and_parts (eqb e.kind.0 k && eqb e.source.0 s) (eqb e.target.0 t) passes in
     let (kind, source) = and_parts (eqb e.kind.0 k) (eqb e.source.0 s) left in
-    has_key_at _ e (λ i. record { kind = sym (eqb-true e.kind.0 k kind) i; source = sym (eqb-true e.source.0 s source) i; target = sym (eqb-true e.target.0 t target) i })
+    has_key_at _ e (λ i. record {
+      kind = sym (eqb-true e.kind.0 k kind) i;
+      source = sym (eqb-true e.source.0 s source) i;
+      target = sym (eqb-true e.target.0 t target) i;
+    })
 
-at_key : (es : List Edge) → HasKeysOnce es → (k s t : ℕ) → count_by (λ (e : Edge). (eqb e.kind.0 k && eqb e.source.0 s) && eqb e.target.0 t) es ≤ 1
+at_key : (es : List Edge) → HasKeysOnce es → (k s t : ℕ)
+    → count_by (λ (e : Edge). (eqb e.kind.0 k && eqb e.source.0 s) && eqb e.target.0 t) es ≤ 1
 at_key es once k s t =
     let key : Key = record { kind = k; source = s; target = t } in
-    let fewer = sum_by-le-sum_by (λ (e : Edge). cond ((eqb e.kind.0 k && eqb e.source.0 s) && eqb e.target.0 t) 1 0) (λ e. cond (has_key key e) 1 0) es (λ e. one_where _ _ (has_parts k s t e)) in
+    let fewer = sum_by-le-sum_by (λ (e : Edge). cond ((eqb e.kind.0 k && eqb e.source.0 s) && eqb e.target.0 t) 1 0)
+    (λ e. cond (has_key key e) 1 0) es (λ e. one_where _ _ (has_parts k s t e)) in
     omega (arith, fewer, count_key key es once)
 
-few_edges : (es : List Edge) → HasKeysOnce es → All (λ (e : Edge). e.kind.0 < 64) es → All (λ (e : Edge). e.source.0 < 65536) es → All (λ (e : Edge). e.target.0 < 65536) es → length es ≤ 2 ^ 38
+few_edges : (es : List Edge) → HasKeysOnce es → All (λ (e : Edge). e.kind.0 < 64) es → All (λ (e : Edge). e.source.0 < 65536) es
+    → All (λ (e : Edge). e.target.0 < 65536) es → length es ≤ 2 ^ 38
 few_edges es once kinds sources targets =
-    let from : (k s : ℕ) → count_by (λ (e : Edge). eqb e.kind.0 k && eqb e.source.0 s) es ≤ 65536 = λ k s. omega (arith, crowd (λ (e : Edge). eqb e.kind.0 k && eqb e.source.0 s) (λ (e : Edge). e.target.0) 1 65536 es (at_key es once k s) targets) in
-    let of : (k : ℕ) → count_by (λ (e : Edge). true && eqb e.kind.0 k) es ≤ 2 ^ 32 = λ k. omega (arith, crowd (λ (e : Edge). eqb e.kind.0 k) (λ (e : Edge). e.source.0) 65536 65536 es (from k) sources) in
+    let from : (k s : ℕ) → count_by (λ (e : Edge). eqb e.kind.0 k && eqb e.source.0 s) es ≤ 65536 =
+    λ k s. omega (
+      arith,
+      crowd (λ (e : Edge). eqb e.kind.0 k && eqb e.source.0 s) (λ (e : Edge). e.target.0) 1 65536 es
+          (at_key es once k s) targets,
+    ) in
+    let of : (k : ℕ) → count_by (λ (e : Edge). true && eqb e.kind.0 k) es ≤ 2 ^ 32 =
+    λ k. omega (arith, crowd (λ (e : Edge). eqb e.kind.0 k) (λ (e : Edge). e.source.0) 65536 65536 es (from k) sources) in
     omega (arith, ones es, crowd (λ (e : Edge). true) (λ (e : Edge). e.kind.0) (2 ^ 32) 64 es of kinds)
 
 pub few_total : (v : VersionView) → IsVersion v → edge_total v ≤ 2 ^ 38
@@ -53,7 +68,10 @@ few_total v is =
     let each = rows_each_once (content v) v.rows is.rows in
     let there : (j : ℕ) (d : Edge) → j < length es → is_some (get (content v).edges (key_of (get_or es j d))) ≡ true = λ j d lt.
     ap (λ m. is_some (get m (key_of (get_or es j d)))) (sym each.same) ∙ ap is_some (get_listed es each.once j d lt) in
-    let kinds : All (λ (e : Edge). e.kind.0 < 64) es = λ j d lt. omega (arith, (is.within (key_of (get_or es j d)) (there j d lt)).0, is.small.kinds) in
-    let sources : All (λ (e : Edge). e.source.0 < 65536) es = λ j d lt. omega (arith, (is.within (key_of (get_or es j d)) (there j d lt)).1, is.small.names) in
-    let targets : All (λ (e : Edge). e.target.0 < 65536) es = λ j d lt. omega (arith, (is.within (key_of (get_or es j d)) (there j d lt)).2, is.small.names) in
+    let kinds : All (λ (e : Edge). e.kind.0 < 64) es =
+    λ j d lt. omega (arith, (is.within (key_of (get_or es j d)) (there j d lt)).0, is.small.kinds) in
+    let sources : All (λ (e : Edge). e.source.0 < 65536) es =
+    λ j d lt. omega (arith, (is.within (key_of (get_or es j d)) (there j d lt)).1, is.small.names) in
+    let targets : All (λ (e : Edge). e.target.0 < 65536) es =
+    λ j d lt. omega (arith, (is.within (key_of (get_or es j d)) (there j d lt)).2, is.small.names) in
     omega (arith, few_edges es each.once kinds sources targets, count_is_total v is)

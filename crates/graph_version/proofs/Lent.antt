@@ -26,12 +26,16 @@ passes f e takes is =
 kept : {X : Type 0} (p : X → Bool) (x : X) (xs ys : List X) → p x ≡ true → filter p xs ≡ ys → filter p (x ∷ xs) ≡ x ∷ ys
 kept p x xs ys is rest = rw is (ap (λ l. x ∷ l) rest)
 
-all_pass : (b : BlockView) (f : Filter) (slots : List (Option Slot)) → TakesAll f → All IsSlot slots → filter (in_view f) (map (entry_in b) (edges_in slots)) ≡ map (entry_in b) (edges_in slots)
+all_pass : (b : BlockView) (f : Filter) (slots : List (Option Slot)) → TakesAll f → All IsSlot slots
+    → filter (in_view f) (map (entry_in b) (edges_in slots)) ≡ map (entry_in b) (edges_in slots)
 all_pass b f [] takes is = refl
 all_pass b f (None ∷ slots) takes is = all_pass b f slots takes (All-tail IsSlot None slots is)
 all_pass b f (Some e ∷ slots) takes is =
-    kept (in_view f) (entry_in b e) (map (entry_in b) (edges_in slots)) _ (passes f (entry_in b e) takes (All-head IsSlot (Some e) slots is)) (all_pass b f slots takes (All-tail IsSlot (Some e) slots is))
+    kept (in_view f) (entry_in b e) (map (entry_in b) (edges_in slots)) _
+    (passes f (entry_in b e) takes (All-head IsSlot (Some e) slots is))
+    (all_pass b f slots takes (All-tail IsSlot (Some e) slots is))
 
 -- such a filter leaves out no edge of a block
-pub all_lent : (b : BlockView) (f : Filter) → TakesAll f → IsBlock b → map lent_of (filter (in_view f) (entries_of b)) ≡ map lent_of (entries_of b)
+pub all_lent : (b : BlockView) (f : Filter) → TakesAll f → IsBlock b
+    → map lent_of (filter (in_view f) (entries_of b)) ≡ map lent_of (entries_of b)
 all_lent b f takes is = ap (map lent_of) (all_pass b f b.slots takes is.stamped)

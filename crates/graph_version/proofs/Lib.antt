@@ -5,4 +5,3 @@ pub mod Totals
 pub mod Few
 pub mod Drafting
 pub mod Lent
-pub mod TakenBack

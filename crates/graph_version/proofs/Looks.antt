@@ -1,5 +1,6 @@
 -- A search of a row for an edge, block by block.
-use Rattle.std.proofs.Common.{◌≡◌, ℕ, zero, suc, ◌+◌, ◌<◌, true, List, [], ◌∷◌, length, get_or, map, take, Option, None, Some, refl, sym, ap, ◌∙◌, arith}
+use Rattle.std.proofs.Common.{◌≡◌, ℕ, zero, suc, ◌+◌, ◌<◌, true, List, [], ◌∷◌, length, get_or, map, take, Option, None, Some}
+use Rattle.std.proofs.Common.{refl, sym, ap, ◌∙◌, arith}
 use Rattle.std.specs.Option.{is_some, option_or}
 use Rattle.std.specs.declared.sync.Arc.{Arc}
 use Rattle.std.specs.declared.alloc.Global.{Global}
@@ -21,34 +22,40 @@ place_at place block = block_at (shape_of (block_value block)) place
 
 module _ {A B : Type 0} (f : A → Option B) where
   -- where the first elements have nothing, the list has what the others have
-  pub first_after : (xs : List A) (i : ℕ) (d : A) → i < length xs → first_some f (take i xs) ≡ None → is_some (f (get_or xs i d)) ≡ true → first_some f xs ≡ f (get_or xs i d)
+  pub first_after : (xs : List A) (i : ℕ) (d : A) → i < length xs → first_some f (take i xs) ≡ None
+      → is_some (f (get_or xs i d)) ≡ true → first_some f xs ≡ f (get_or xs i d)
   first_after [] i d lt none is = absurd (omega arith)
   first_after (x ∷ xs) zero d lt none is = taken (f x) (first_some f xs) is where
     taken : (a b : Option B) → is_some a ≡ true → option_or a b ≡ a
     taken None b is = cc
     taken (Some y) b is = refl
-  first_after (x ∷ xs) (suc i) d lt none is = left (f x) (first_some f (take i xs)) (first_some f xs) _ none (λ rest. first_after xs i d (omega arith) rest is) where
-    left : (a b c e : Option B) → option_or a b ≡ None → (b ≡ None → c ≡ e) → option_or a c ≡ e
-    left None b c e none go = go none
-    left (Some y) b c e none go = cc
+  first_after (x ∷ xs) (suc i) d lt none is = left (f x) (first_some f (take i xs)) (first_some f xs) _ none
+      (λ rest. first_after xs i d (omega arith) rest is) where
+        left : (a b c e : Option B) → option_or a b ≡ None → (b ≡ None → c ≡ e) → option_or a c ≡ e
+        left None b c e none go = go none
+        left (Some y) b c e none go = cc
 
   -- one element more that has nothing
-  pub none_more : (xs : List A) (i : ℕ) (d : A) → i < length xs → first_some f (take i xs) ≡ None → f (get_or xs i d) ≡ None → first_some f (take (i + 1) xs) ≡ None
+  pub none_more : (xs : List A) (i : ℕ) (d : A) → i < length xs → first_some f (take i xs) ≡ None → f (get_or xs i d) ≡ None
+      → first_some f (take (i + 1) xs) ≡ None
   none_more [] i d lt none here = absurd (omega arith)
   none_more (x ∷ xs) zero d lt none here = rw here refl
   none_more (x ∷ xs) (suc i) d lt none here =
       let further : suc (i + 1) ≡ suc i + 1 = omega arith in
-      ap (λ n. first_some f (take n (x ∷ xs))) (sym further) ∙ both (f x) (first_some f (take i xs)) _ none (λ rest. none_more xs i d (omega arith) rest here) where
+      ap (λ n. first_some f (take n (x ∷ xs))) (sym further)
+      ∙ both (f x) (first_some f (take i xs)) _ none (λ rest. none_more xs i d (omega arith) rest here) where
         both : (a b c : Option B) → option_or a b ≡ None → (b ≡ None → c ≡ None) → option_or a c ≡ None
         both None b c none go = go none
         both (Some y) b c none go = cc
 
 -- a row's shapes have what its blocks have
-pub look_at : (place : ℕ × ℕ) (blocks : List (Arc Block Global)) → row_at (map shape_of (block_values blocks)) place ≡ first_some (place_at place) blocks
+pub look_at : (place : ℕ × ℕ) (blocks : List (Arc Block Global))
+    → row_at (map shape_of (block_values blocks)) place ≡ first_some (place_at place) blocks
 look_at place [] = refl
 look_at place (b ∷ blocks) = ap (option_or (place_at place b)) (look_at place blocks)
 
-lent_some : (kind target : ℕ) (stamp : Option Stamp) (edge : LentEdge) → Some edge ≡ lent_to kind target stamp → is_some stamp ≡ true
+lent_some : (kind target : ℕ) (stamp : Option Stamp) (edge : LentEdge) → Some edge ≡ lent_to kind target stamp
+    → is_some stamp ≡ true
 lent_some kind target None edge same = cc
 lent_some kind target (Some s) edge same = refl
 
@@ -57,23 +64,31 @@ lent_none kind target None same = refl
 lent_none kind target (Some s) same = cc
 
 -- a block that lends no edge there has none there
-pub none_there : (kind target : ℕ) (block : Arc Block Global) → None ≡ lent_to kind target (place_at (kind, target) block) → place_at (kind, target) block ≡ None
+pub none_there : (kind target : ℕ) (block : Arc Block Global) → None ≡ lent_to kind target (place_at (kind, target) block)
+    → place_at (kind, target) block ≡ None
 none_there kind target block same = lent_none kind target (place_at (kind, target) block) same
 
-shown : (v : VersionView) (kind source target : ℕ) (blocks : List (Arc Block Global)) → IsVersion v → block_values blocks ≡ row_of v.rows source
-    → get (content v).edges (record { kind = kind; source = source; target = target }) ≡ first_some (place_at (kind, target)) blocks
+shown : (v : VersionView) (kind source target : ℕ) (blocks : List (Arc Block Global)) → IsVersion v
+    → block_values blocks ≡ row_of v.rows source
+    → get (content v).edges (record { kind = kind; source = source; target = target }) ≡ first_some (place_at (kind, target))
+    blocks
 shown v kind source target blocks is same =
     sym (is.rows.layout.shows (record { kind = kind; source = source; target = target }))
     ∙ ap (λ (row : List BlockView). row_at (map shape_of row) (kind, target)) (sym same)
     ∙ look_at (kind, target) blocks
 
 -- the first block that lends an edge there lends the content's
-pub found_edge : (v : VersionView) (kind source target : ℕ) (blocks : List (Arc Block Global)) (i : ℕ) (d : Arc Block Global) (edge : LentEdge) → IsVersion v → block_values blocks ≡ row_of v.rows source
-    → i < length blocks → first_some (place_at (kind, target)) (take i blocks) ≡ None → Some edge ≡ lent_to kind target (place_at (kind, target) (get_or blocks i d)) → Some edge ≡ lent_at v kind source target
+pub found_edge : (v : VersionView) (kind source target : ℕ) (blocks : List (Arc Block Global)) (i : ℕ) (d : Arc Block Global)
+    (edge : LentEdge) → IsVersion v → block_values blocks ≡ row_of v.rows source
+    → i < length blocks → first_some (place_at (kind, target)) (take i blocks) ≡ None
+    → Some edge ≡ lent_to kind target (place_at (kind, target) (get_or blocks i d)) → Some edge ≡ lent_at v kind source target
 found_edge v kind source target blocks i d edge is same lt none here =
-    here ∙ ap (lent_to kind target) (sym (shown v kind source target blocks is same ∙ first_after (place_at (kind, target)) blocks i d lt none (lent_some kind target _ edge here)))
+    here ∙ ap (lent_to kind target) (sym (shown v kind source target blocks is same
+    ∙ first_after (place_at (kind, target)) blocks i d lt none (lent_some kind target _ edge here)))
 
 -- where no block lends one, the content has none
-pub no_edge : (v : VersionView) (kind source target : ℕ) (blocks : List (Arc Block Global)) → IsVersion v → block_values blocks ≡ row_of v.rows source
+pub no_edge : (v : VersionView) (kind source target : ℕ) (blocks : List (Arc Block Global)) → IsVersion v
+    → block_values blocks ≡ row_of v.rows source
     → first_some (place_at (kind, target)) blocks ≡ None → None ≡ lent_at v kind source target
-no_edge v kind source target blocks is same none = ap (lent_to kind target) (sym (shown v kind source target blocks is same ∙ none))
+no_edge v kind source target blocks is same none =
+    ap (lent_to kind target) (sym (shown v kind source target blocks is same ∙ none))

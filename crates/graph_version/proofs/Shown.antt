@@ -1,5 +1,6 @@
 -- Rows that are tied to a graph by look-up list each of its edges once.
-use Rattle.std.proofs.Common.{◌≡◌, ◌≢◌, ℕ, zero, suc, ◌+◌, ◌<◌, Bool, true, false, cond, ◌&&◌, ◌==◌, List, [], ◌∷◌, ◌++◌, map, refl, sym, ap, ◌∙◌, arith}
+use Rattle.std.proofs.Common.{◌≡◌, ◌≢◌, ℕ, zero, suc, ◌+◌, ◌<◌, Bool, true, false, cond, ◌&&◌, ◌==◌, List, [], ◌∷◌, ◌++◌, map}
+use Rattle.std.proofs.Common.{refl, sym, ap, ◌∙◌, arith}
 use Rattle.std.specs.Prelude.{if◌then◌else◌, is_some, All}
 use Rattle.std.specs.Option.{option_or}
 use Rattle.std.specs.declared.option.Option.{Option}
@@ -51,7 +52,8 @@ slot_edge b e = edge_from (entry_in b e)
 abbrev slot_edges : BlockView → List (Option Slot) → List Edge
 slot_edges b slots = map edge_from (map (entry_in b) (edges_in slots))
 
-has_key_tests : (b : BlockView) (e : Slot) (k : Key) → has_key k (slot_edge b e) ≡ (((k.kind == b.kind) && (k.source == b.source)) && (k.target == e.target))
+has_key_tests : (b : BlockView) (e : Slot) (k : Key)
+    → has_key k (slot_edge b e) ≡ (((k.kind == b.kind) && (k.source == b.source)) && (k.target == e.target))
 has_key_tests b e k =
     same_bool _ _
     (λ t.
@@ -70,10 +72,12 @@ has_key_tests b e k =
 
 -- Look-up
 
-get_cons : (e : Edge) (es : List Edge) (key : Key) → get (map_of (e ∷ es)) key ≡ cond (has_key key e) (Some (stamp_of e)) (get (map_of es) key)
+get_cons : (e : Edge) (es : List Edge) (key : Key)
+    → get (map_of (e ∷ es)) key ≡ cond (has_key key e) (Some (stamp_of e)) (get (map_of es) key)
 get_cons e es key = get-insert keys_total (map_of es) (key_of e) (stamp_of e) key
 
-pick : (c d : Bool) (s : Stamp) (r x : Option Stamp) → cond (c && d) (Some s) (option_or (if c then r else None) x) ≡ option_or (if c then option_or (if d then Some s else None) r else None) x
+pick : (c d : Bool) (s : Stamp) (r x : Option Stamp) → cond (c && d) (Some s) (option_or (if c then r else None) x)
+    ≡ option_or (if c then option_or (if d then Some s else None) r else None) x
 pick true true s r x = refl
 pick true false s r x = refl
 pick false d s r x = refl
@@ -83,14 +87,17 @@ nothing true x = refl
 nothing false x = refl
 
 -- the map of some slots' edges and more, at a key
-pub get_slots : (b : BlockView) (slots : List (Option Slot)) (rest : List Edge) (k : Key) → get (map_of (slot_edges b slots ++ rest)) k ≡ option_or (stands_at b slots k) (get (map_of rest) k)
+pub get_slots : (b : BlockView) (slots : List (Option Slot)) (rest : List Edge) (k : Key)
+    → get (map_of (slot_edges b slots ++ rest)) k ≡ option_or (stands_at b slots k) (get (map_of rest) k)
 get_slots b [] rest k = nothing ((k.kind == b.kind) && (k.source == b.source)) (get (map_of rest) k)
 get_slots b (None ∷ slots) rest k = get_slots b slots rest k
 get_slots b (Some e ∷ slots) rest k =
     get_cons (slot_edge b e) (slot_edges b slots ++ rest) k
     ∙ ap (λ t. cond t (Some e.stamp) (get (map_of (slot_edges b slots ++ rest)) k)) (has_key_tests b e k)
-    ∙ ap (cond (((k.kind == b.kind) && (k.source == b.source)) && (k.target == e.target)) (Some e.stamp)) (get_slots b slots rest k)
-    ∙ pick ((k.kind == b.kind) && (k.source == b.source)) (k.target == e.target) e.stamp (stamp_at slots k.target) (get (map_of rest) k)
+    ∙ ap (cond (((k.kind == b.kind) && (k.source == b.source)) && (k.target == e.target)) (Some e.stamp))
+    (get_slots b slots rest k)
+    ∙ pick ((k.kind == b.kind) && (k.source == b.source)) (k.target == e.target) e.stamp (stamp_at slots k.target)
+    (get (map_of rest) k)
 
 -- the map of blocks' edges is their look-up
 pub get_blocks : (blocks : List BlockView) (k : Key) → get (map_of (edges_in_blocks blocks)) k ≡ look_up blocks k
@@ -99,7 +106,8 @@ get_blocks (b ∷ blocks) k = get_slots b b.slots (edges_in_blocks blocks) k ∙
 
 -- Each key once
 
-absent_cons : (key : Key) (e : Edge) (es : List Edge) → key ≢ key_of e → All (λ x. key ≢ key_of x) es → All (λ x. key ≢ key_of x) (e ∷ es)
+absent_cons : (key : Key) (e : Edge) (es : List Edge) → key ≢ key_of e → All (λ x. key ≢ key_of x) es
+    → All (λ x. key ≢ key_of x) (e ∷ es)
 absent_cons key e es apart rest zero d h = apart
 absent_cons key e es apart rest (suc k) d h = rest k d (omega arith)
 
@@ -107,7 +115,8 @@ absent_cons key e es apart rest (suc k) d h = rest k d (omega arith)
 not_there : (es : List Edge) (key : Key) → get (map_of es) key ≡ None → All (λ x. key ≢ key_of x) es
 not_there [] key none = λ k d h. absurd (omega arith)
 not_there (e ∷ es) key none =
-    elim (has_key key e) as (λ t. has_key key e ≡ t → cond t (Some (stamp_of e)) (get (map_of es) key) ≡ None → All (λ x. key ≢ key_of x) (e ∷ es)) [
+    elim (has_key key e) as (λ t. has_key key e ≡ t → cond t (Some (stamp_of e)) (get (map_of es) key) ≡ None
+    → All (λ x. key ≢ key_of x) (e ∷ es)) [
       | true ↦ λ t is. cc
       | false ↦ λ t is. absent_cons key e es (λ same. true≢false (sym (has_key_at key e same) ∙ t)) (not_there es key is)
     ] refl (sym (get_cons e es key) ∙ none)
@@ -116,19 +125,23 @@ none_left : (a b : Option Stamp) → a ≡ None → b ≡ None → option_or a b
 none_left None b e f = f
 none_left (Some x) b e f = cc
 
-here_there : (b : BlockView) (e : Slot) (r : Option Stamp) → (if (b.kind == b.kind) && (b.source == b.source) then r else None) ≡ r
+here_there : (b : BlockView) (e : Slot) (r : Option Stamp) → (if (b.kind == b.kind) && (b.source == b.source) then r else None)
+    ≡ r
 here_there b e r =
     let kinds : (b.kind == b.kind) ≡ true = eq-eqb b.kind b.kind refl in
     let sources : (b.source == b.source) ≡ true = eq-eqb b.source b.source refl in
     rw (kinds, sources) refl
 
-more_some : (c d : Bool) (x r : Option Stamp) (s : Stamp) → is_some (if c then r else None) ≡ true → is_some (if c then option_or (if d then Some s else None) r else None) ≡ true
+more_some : (c d : Bool) (x r : Option Stamp) (s : Stamp) → is_some (if c then r else None) ≡ true
+    → is_some (if c then option_or (if d then Some s else None) r else None) ≡ true
 more_some true true x r s is = refl
 more_some true false x r s is = is
 more_some false d x r s is = is
 
-later : (b : BlockView) (e : Slot) (slots : List (Option Slot)) (k : Key) → is_some (stands_at b slots k) ≡ true → is_some (stands_at b (Some e ∷ slots) k) ≡ true
-later b e slots k is = more_some ((k.kind == b.kind) && (k.source == b.source)) (k.target == e.target) None (stamp_at slots k.target) e.stamp is
+later : (b : BlockView) (e : Slot) (slots : List (Option Slot)) (k : Key) → is_some (stands_at b slots k) ≡ true
+    → is_some (stands_at b (Some e ∷ slots) k) ≡ true
+later b e slots k is = more_some ((k.kind == b.kind) && (k.source == b.source)) (k.target == e.target) None
+    (stamp_at slots k.target) e.stamp is
 
 -- slots with different targets, before edges that have none of their keys
 once_slots : (b : BlockView) (slots : List (Option Slot)) (rest : List Edge) → AreDistinct slots → HasKeysOnce rest
@@ -141,17 +154,21 @@ once_slots b (Some e ∷ slots) rest distinct once apart =
     let tested : (e.target == e.target) ≡ true = eq-eqb e.target e.target refl in
     let found : slot_at (Some e) e.target ≡ Some e.stamp = rw tested refl in
     let unique : stamp_at slots e.target ≡ None = distinct.0 e.target (ap is_some found) in
-    let here : stands_at b (Some e ∷ slots) key ≡ Some e.stamp = here_there b e (stamp_at (Some e ∷ slots) e.target) ∙ ap (λ o. option_or o (stamp_at slots e.target)) found in
+    let here : stands_at b (Some e ∷ slots) key ≡ Some e.stamp = here_there b e (stamp_at (Some e ∷ slots) e.target)
+    ∙ ap (λ o. option_or o (stamp_at slots e.target)) found in
     let others : stands_at b slots key ≡ None = here_there b e (stamp_at slots e.target) ∙ unique in
     let more : get (map_of rest) key ≡ None = apart key (ap is_some here) in
-    once_cons (slot_edge b e) (slot_edges b slots ++ rest) (not_there (slot_edges b slots ++ rest) key (get_slots b slots rest key ∙ none_left _ _ others more))
+    once_cons (slot_edge b e) (slot_edges b slots ++ rest)
+    (not_there (slot_edges b slots ++ rest) key (get_slots b slots rest key ∙ none_left _ _ others more))
     (once_slots b slots rest distinct.1 once (λ k is. apart k (later b e slots k is)))
 
 -- blocks of which no two have an edge of one key
-once_blocks : (blocks : List BlockView) → All (λ b. AreDistinct b.slots) blocks → NoKeyTwice whole_at blocks → HasKeysOnce (edges_in_blocks blocks)
+once_blocks : (blocks : List BlockView) → All (λ b. AreDistinct b.slots) blocks → NoKeyTwice whole_at blocks
+    → HasKeysOnce (edges_in_blocks blocks)
 once_blocks [] within between = once_none
 once_blocks (b ∷ blocks) within between =
-    once_slots b b.slots (edges_in_blocks blocks) (All-head (λ (x : BlockView). AreDistinct x.slots) b blocks within) (once_blocks blocks (All-tail (λ (x : BlockView). AreDistinct x.slots) b blocks within) between.1)
+    once_slots b b.slots (edges_in_blocks blocks) (All-head (λ (x : BlockView). AreDistinct x.slots) b blocks within)
+    (once_blocks blocks (All-tail (λ (x : BlockView). AreDistinct x.slots) b blocks within) between.1)
     (λ k is. get_blocks blocks k ∙ between.0 k is)
 
 -- Rows
@@ -164,7 +181,8 @@ or_assoc : {B : Type 0} (a b c : Option B) → option_or a (option_or b c) ≡ o
 or_assoc None b c = refl
 or_assoc (Some x) b c = refl
 
-first_append : {A B : Type 0} (f : A → Option B) (xs ys : List A) → first_some f (xs ++ ys) ≡ option_or (first_some f xs) (first_some f ys)
+first_append : {A B : Type 0} (f : A → Option B) (xs ys : List A)
+    → first_some f (xs ++ ys) ≡ option_or (first_some f xs) (first_some f ys)
 first_append f [] ys = refl
 first_append f (x ∷ xs) ys = ap (option_or (f x)) (first_append f xs ys) ∙ or_assoc (f x) (first_some f xs) (first_some f ys)
 
@@ -181,10 +199,12 @@ no_first None b e f = f
 no_first (Some x) b e f = cc
 
 keys_append : {A K B : Type 0} (at : A → K → Option B) (xs ys : List A) → NoKeyTwice at xs → NoKeyTwice at ys
-    → ((key : K) → is_some (first_some (λ x. at x key) xs) ≡ true → first_some (λ y. at y key) ys ≡ None) → NoKeyTwice at (xs ++ ys)
+    → ((key : K) → is_some (first_some (λ x. at x key) xs) ≡ true → first_some (λ y. at y key) ys ≡ None)
+    → NoKeyTwice at (xs ++ ys)
 keys_append at [] ys p q apart = q
 keys_append at (x ∷ xs) ys p q apart = (
-  (λ key is. first_append (λ y. at y key) xs ys ∙ no_first _ _ (p.0 key is) (apart key (some_left (at x key) (first_some (λ y. at y key) xs) is))),
+  (λ key is. first_append (λ y. at y key) xs ys
+      ∙ no_first _ _ (p.0 key is) (apart key (some_left (at x key) (first_some (λ y. at y key) xs) is))),
   keys_append at xs ys p.1 q (λ key is. apart key (some_right (at x key) (first_some (λ y. at y key) xs) is)),
 )
 
@@ -199,14 +219,16 @@ other_source b k apart = go (k.kind == b.kind) (k.source == b.source) refl where
 -- a block of the key's source has what its shape has
 same_source : (b : BlockView) (k : Key) → k.source ≡ b.source → whole_at b k ≡ block_at (shape_of b) (k.kind, k.target)
 same_source b k same = go (k.kind == b.kind) (k.source == b.source) (eq-eqb k.source b.source same) where
-  go : (c d : Bool) → d ≡ true → (if c && d then stamp_at b.slots k.target else None) ≡ (if c then stamp_at b.slots k.target else None)
+  go : (c d : Bool) → d ≡ true → (if c && d then stamp_at b.slots k.target else None)
+      ≡ (if c then stamp_at b.slots k.target else None)
   go true true t = refl
   go true false t = cc
   go false d t = refl
 
 source_if : (b : BlockView) (k : Key) → is_some (whole_at b k) ≡ true → k.source ≡ b.source
 source_if b k is = go (k.kind == b.kind) (k.source == b.source) refl is where
-  go : (c d : Bool) → (k.source == b.source) ≡ d → is_some (if c && d then stamp_at b.slots k.target else None) ≡ true → k.source ≡ b.source
+  go : (c d : Bool) → (k.source == b.source) ≡ d → is_some (if c && d then stamp_at b.slots k.target else None) ≡ true
+      → k.source ≡ b.source
   go true true t is = eqb-true k.source b.source t
   go true false t is = cc
   go false d t is = cc
@@ -216,22 +238,28 @@ other_row : (n : ℕ) (row : List BlockView) (k : Key) → All (λ b. b.source �
 other_row n [] k of apart = refl
 other_row n (b ∷ row) k of apart =
     let here : b.source ≡ n = All-head (λ (x : BlockView). x.source ≡ n) b row of in
-    no_first _ _ (other_source b k (λ same. apart (same ∙ here))) (other_row n row k (All-tail (λ (x : BlockView). x.source ≡ n) b row of) apart)
+    no_first _ _ (other_source b k (λ same. apart (same ∙ here)))
+    (other_row n row k (All-tail (λ (x : BlockView). x.source ≡ n) b row of) apart)
 
 -- a row of the key's source has what its shapes have
-same_row : (n : ℕ) (row : List BlockView) (k : Key) → All (λ b. b.source ≡ n) row → k.source ≡ n → look_up row k ≡ row_at (map shape_of row) (k.kind, k.target)
+same_row : (n : ℕ) (row : List BlockView) (k : Key) → All (λ b. b.source ≡ n) row → k.source ≡ n
+    → look_up row k ≡ row_at (map shape_of row) (k.kind, k.target)
 same_row n [] k of same = refl
 same_row n (b ∷ row) k of same =
     let here : b.source ≡ n = All-head (λ (x : BlockView). x.source ≡ n) b row of in
-    ap (λ o. option_or o (look_up row k)) (same_source b k (same ∙ sym here)) ∙ ap (option_or (block_at (shape_of b) (k.kind, k.target))) (same_row n row k (All-tail (λ (x : BlockView). x.source ≡ n) b row of) same)
+    ap (λ o. option_or o (look_up row k)) (same_source b k (same ∙ sym here))
+    ∙ ap (option_or (block_at (shape_of b) (k.kind, k.target)))
+    (same_row n row k (All-tail (λ (x : BlockView). x.source ≡ n) b row of) same)
 
-row_keys : (n : ℕ) (row : List BlockView) → All (λ b. b.source ≡ n) row → NoKeyTwice block_at (map shape_of row) → NoKeyTwice whole_at row
+row_keys : (n : ℕ) (row : List BlockView) → All (λ b. b.source ≡ n) row → NoKeyTwice block_at (map shape_of row)
+    → NoKeyTwice whole_at row
 row_keys n [] of between = tt
 row_keys n (b ∷ row) of between = (
   (λ k is.
       let here : k.source ≡ b.source = source_if b k is in
       let there : k.source ≡ n = here ∙ All-head (λ (x : BlockView). x.source ≡ n) b row of in
-      same_row n row k (All-tail (λ (x : BlockView). x.source ≡ n) b row of) there ∙ between.0 (k.kind, k.target) (ap is_some (sym (same_source b k here)) ∙ is)),
+      same_row n row k (All-tail (λ (x : BlockView). x.source ≡ n) b row of) there
+      ∙ between.0 (k.kind, k.target) (ap is_some (sym (same_source b k here)) ∙ is)),
   row_keys n row (All-tail (λ (x : BlockView). x.source ≡ n) b row of) between.1,
 )
 
@@ -245,7 +273,8 @@ rows_below : (n : ℕ) (rows : List (List BlockView)) (k : Key) → AreOf n rows
 rows_below n [] k of below = refl
 rows_below n (row ∷ rows) k of below =
     first_append (λ b. whole_at b k) row (blocks_of rows)
-    ∙ no_first _ _ (other_row n row k (head_of n row rows of) (λ same. absurd (omega arith))) (rows_below (n + 1) rows k (tail_of n row rows of) (omega arith))
+    ∙ no_first _ _ (other_row n row k (head_of n row rows of) (λ same. absurd (omega arith)))
+    (rows_below (n + 1) rows k (tail_of n row rows of) (omega arith))
 
 none_after : {B : Type 0} (a b : Option B) → b ≡ None → option_or a b ≡ a
 none_after None b e = e
@@ -256,7 +285,8 @@ none_before None b e = refl
 none_before (Some x) b e = cc
 
 -- what stands in all rows at a key stands in the row of the key's source
-rows_at : (n : ℕ) (rows : List (List BlockView)) (j : ℕ) (k : Key) → AreOf n rows → k.source ≡ n + j → look_up (blocks_of rows) k ≡ row_at (layout_of rows j) (k.kind, k.target)
+rows_at : (n : ℕ) (rows : List (List BlockView)) (j : ℕ) (k : Key) → AreOf n rows → k.source ≡ n + j
+    → look_up (blocks_of rows) k ≡ row_at (layout_of rows j) (k.kind, k.target)
 rows_at n [] j k of same = refl
 rows_at n (row ∷ rows) zero k of same =
     let here : k.source ≡ n = omega arith in
@@ -276,22 +306,30 @@ of_row n (b ∷ row) k of is =
       | Some s ↦ λ t rest. source_if b k (ap is_some t) ∙ All-head (λ (x : BlockView). x.source ≡ n) b row of
     ] refl is
 
-rows_keys : (n : ℕ) (rows : List (List BlockView)) → AreOf n rows → ((i : ℕ) → IsRow (layout_of rows i)) → NoKeyTwice whole_at (blocks_of rows)
+rows_keys : (n : ℕ) (rows : List (List BlockView)) → AreOf n rows → ((i : ℕ) → IsRow (layout_of rows i))
+    → NoKeyTwice whole_at (blocks_of rows)
 rows_keys n [] of each = tt
 rows_keys n (row ∷ rows) of each =
-    keys_append whole_at row (blocks_of rows) (row_keys n row (head_of n row rows of) (each 0).between) (rows_keys (n + 1) rows (tail_of n row rows of) (λ i. each (suc i)))
-    (λ k is. rows_below (n + 1) rows k (tail_of n row rows of) (let here : k.source ≡ n = of_row n row k (head_of n row rows of) is in omega arith))
+    keys_append whole_at row (blocks_of rows) (row_keys n row (head_of n row rows of) (each 0).between)
+    (rows_keys (n + 1) rows (tail_of n row rows of) (λ i. each (suc i)))
+    (λ k is. rows_below (n + 1) rows k (tail_of n row rows of)
+    (let here : k.source ≡ n = of_row n row k (head_of n row rows of) is in omega arith))
 
 all_shapes : (row : List BlockView) → All (λ b. AreDistinct b.slots) (map shape_of row) → All (λ b. AreDistinct b.slots) row
 all_shapes [] all = λ k d h. absurd (omega arith)
-all_shapes (b ∷ row) all = All-cons (λ b. AreDistinct b.slots) b row (All-head (λ b. AreDistinct b.slots) (shape_of b) (map shape_of row) all) (all_shapes row (All-tail (λ b. AreDistinct b.slots) (shape_of b) (map shape_of row) all))
+all_shapes (b ∷ row) all = All-cons (λ b. AreDistinct b.slots) b row
+    (All-head (λ b. AreDistinct b.slots) (shape_of b) (map shape_of row) all)
+    (all_shapes row (All-tail (λ b. AreDistinct b.slots) (shape_of b) (map shape_of row) all))
 
-rows_distinct : (rows : List (List BlockView)) → ((i : ℕ) → IsRow (layout_of rows i)) → All (λ b. AreDistinct b.slots) (blocks_of rows)
+rows_distinct : (rows : List (List BlockView)) → ((i : ℕ) → IsRow (layout_of rows i))
+    → All (λ b. AreDistinct b.slots) (blocks_of rows)
 rows_distinct [] each = λ k d h. absurd (omega arith)
-rows_distinct (row ∷ rows) each = All-append (λ b. AreDistinct b.slots) row (blocks_of rows) (all_shapes row (each 0).within) (rows_distinct rows (λ i. each (suc i)))
+rows_distinct (row ∷ rows) each = All-append (λ b. AreDistinct b.slots) row (blocks_of rows) (all_shapes row (each 0).within)
+    (rows_distinct rows (λ i. each (suc i)))
 
 -- the blocks of rows that are tied to a graph by look-up have each of its edges once, and no others
-pub rows_each_once : (g : Graph) (rows : List (List BlockView)) → AreRowsOf g rows → AreEachOnce (edges_in_blocks (blocks_of rows)) g
+pub rows_each_once : (g : Graph) (rows : List (List BlockView)) → AreRowsOf g rows
+    → AreEachOnce (edges_in_blocks (blocks_of rows)) g
 rows_each_once g rows is =
     let of : AreOf 0 rows = λ i k d h. (is.blocks i k d h).source_is ∙ omega arith in
     record {

@@ -15,7 +15,8 @@ use Rattle.graph_version.specs.declared.lending.BlockNumbers.{BlockNumbers}
 
 -- the content's edge of a kind from a source to a target, as it is lent
 abbrev pub lent_at : VersionView → ℕ → ℕ → ℕ → Option LentEdge
-lent_at v kind source target = lent_to kind target (get (content v).edges (record { kind = kind; source = source; target = target }))
+lent_at v kind source target = lent_to kind target
+    (get (content v).edges (record { kind = kind; source = source; target = target }))
 
 -- the edges of blocks, block by block, slots rising
 abbrev pub lent_in_blocks : List BlockView → List LentEdge

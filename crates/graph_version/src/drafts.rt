@@ -16,9 +16,6 @@ use std::marker::Model;
 use std::sync::Arc;
 use vertex_names::NameBook;
 
-#[cfg(test)]
-mod tests;
-
 /// A version that is being made over another one, from which it takes all that isn't set or replaced.
 ///
 /// After a refused growth the draft is given up, and the version that it was drafted over is as before.

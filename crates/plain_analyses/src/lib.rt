@@ -7,8 +7,6 @@
 mod arcs;
 mod cores;
 mod settling;
-#[cfg(test)]
-mod tests;
 mod walks;
 
 pub use arcs::shows;

@@ -9,8 +9,6 @@ mod edges;
 mod laws;
 mod names;
 mod reply;
-#[cfg(test)]
-mod tests;
 
 pub use apply::{PlainError, plain_apply};
 pub use laws::law_names_before_kinds;

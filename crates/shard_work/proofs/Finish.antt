@@ -1,5 +1,7 @@
 -- What a shard leaves, from the rows that it has opened, changed and closed.
-use Rattle.std.proofs.Common.{◌≡◌, ℕ, ◌+◌, ◌<◌, Bool, true, false, cond, not, ◌&&◌, ◌||◌, List, [], ◌∷◌, ◌++◌, length, get_or, map, filter, flat_map, count_by, zip, refl, sym, ap, ap₂, ◌∙◌, arith, subst, All, length-append, take}
+use Rattle.std.proofs.Common.{◌≡◌, ℕ, ◌+◌, ◌<◌, Bool, true, false, cond, not, ◌&&◌, ◌||◌, List, [], ◌∷◌, ◌++◌, length, get_or}
+use Rattle.std.proofs.Common.{map, filter, flat_map, count_by, zip, refl, sym, ap, ap₂, ◌∙◌, arith, subst, All, length-append}
+use Rattle.std.proofs.Common.{take}
 use Rattle.std.proofs.lemmas.List.Sums.{sum_by-cons}
 use Rattle.std.specs.Option.{is_some, option_to_list}
 use Rattle.std.specs.declared.option.Option.{Option}
@@ -14,8 +16,11 @@ use Rattle.std.proofs.lemmas.List.Elements.{All-head, All-tail, All-cons, All-ni
 use Rattle.edge_block.specs.declared.blocks.Block.{Block}
 use Rattle.edge_block.specs.Slots.{BlockView}
 use Rattle.block_layout.specs.Rows.{OpenBlock, shape_of, shapes, untouched, has_none, is_kept, row_end, taken_in, dropped_in}
-use Rattle.shard_work.specs.RowBlocks.{block_of, blocks_of, kept_of, open_of, opens, had_here, had_in, own_here, own_in, numbers_of, HaveSame, IsOf}
-use Rattle.shard_work.specs.Closing.{after_here, stays_here, written_here, dropped_here, unused_here, after_of, stays_of, written_of, dropped_of, unused_of, closed_rows, row_values, stays_all, written_all, dropped_all, unused_all}
+use Rattle.shard_work.specs.RowBlocks.{block_of, blocks_of, kept_of, open_of, opens, had_here, had_in, own_here, own_in}
+use Rattle.shard_work.specs.RowBlocks.{numbers_of, HaveSame, IsOf}
+use Rattle.shard_work.specs.Closing.{after_here, stays_here, written_here, dropped_here, unused_here, after_of, stays_of}
+use Rattle.shard_work.specs.Closing.{written_of, dropped_of, unused_of, closed_rows, row_values, stays_all, written_all}
+use Rattle.shard_work.specs.Closing.{dropped_all, unused_all}
 use Rattle.shard_work.specs.Shards.{AreOpen, AreOwn, resolved_in, sources_of, had_all, own_all}
 use Rattle.graph_version.specs.Versions.{IsBlockOf}
 use Rattle.shard_work.specs.Done.{AreBlockRows, IsShardDone, sum_of, layout_by, rows_by, sources_in}
@@ -26,7 +31,8 @@ use Rattle.shard_work.specs.declared.shard.OpenRow.{OpenRow}
 use Rattle.shard_work.proofs.Places.{count_by-append}
 
 -- what balances in each element balances in the whole list
-pub balance : {X A : Type 0} (p : A → Bool) (a b c d : X → List A) → ((x : X) → count_by p (a x) + count_by p (b x) ≡ count_by p (c x) + count_by p (d x)) → (xs : List X)
+pub balance : {X A : Type 0} (p : A → Bool) (a b c d : X → List A)
+    → ((x : X) → count_by p (a x) + count_by p (b x) ≡ count_by p (c x) + count_by p (d x)) → (xs : List X)
     → count_by p (flat_map a xs) + count_by p (flat_map b xs) ≡ count_by p (flat_map c xs) + count_by p (flat_map d xs)
 balance p a b c d each [] = refl
 balance p a b c d each (x ∷ xs) =
@@ -38,7 +44,8 @@ balance p a b c d each (x ∷ xs) =
     let l = count_by-append p (d x) (flat_map d xs) in
     omega arith
 
-pub map-pieces : {X A B : Type 0} (f : A → B) (g : X → List A) (xs : List X) → map f (flat_map g xs) ≡ flat_map (λ x. map f (g x)) xs
+pub map-pieces : {X A B : Type 0} (f : A → B) (g : X → List A) (xs : List X)
+    → map f (flat_map g xs) ≡ flat_map (λ x. map f (g x)) xs
 map-pieces f g [] = refl
 map-pieces f g (x ∷ xs) = map-append f (g x) (flat_map g xs) ∙ ap (λ r. map f (g x) ++ r) (map-pieces f g xs)
 
@@ -51,7 +58,8 @@ none_of [] = refl
 none_of (x ∷ xs) = none_of xs
 
 -- what adds up in each element adds up in the whole list
-adds_up : {X A : Type 0} (p : A → Bool) (a b c : X → List A) → ((x : X) → count_by p (a x) + count_by p (b x) ≡ count_by p (c x)) → (xs : List X)
+adds_up : {X A : Type 0} (p : A → Bool) (a b c : X → List A)
+    → ((x : X) → count_by p (a x) + count_by p (b x) ≡ count_by p (c x)) → (xs : List X)
     → count_by p (flat_map a xs) + count_by p (flat_map b xs) ≡ count_by p (flat_map c xs)
 adds_up p a b c each [] = refl
 adds_up p a b c each (x ∷ xs) =
@@ -63,7 +71,8 @@ adds_up p a b c each (x ∷ xs) =
     omega arith
 
 -- one block: it stays or is dropped, and what stays or is written is there after
-one_before : (t : Bool) (b : BlockView) (o : List BlockView) (p : BlockView → Bool) → count_by p (cond t [] (b ∷ [])) + count_by p (cond t o []) ≡ count_by p (cond t o (b ∷ []))
+one_before : (t : Bool) (b : BlockView) (o : List BlockView) (p : BlockView → Bool)
+    → count_by p (cond t [] (b ∷ [])) + count_by p (cond t o []) ≡ count_by p (cond t o (b ∷ []))
 one_before true b o p = omega arith
 one_before false b o p = omega arith
 
@@ -73,21 +82,30 @@ one_after true true b p = omega arith
 one_after true false b p = omega arith
 one_after false n b p = omega arith
 
-row_before : (p : BlockView → Bool) (row : List RowBlock) → count_by p (stays_of row) + count_by p (dropped_of row) ≡ count_by p (had_in row)
-row_before p row = adds_up p stays_here dropped_here had_here (λ h. one_before h.touched (block_of h.block) (map block_of (option_to_list h.before)) p) row
+row_before : (p : BlockView → Bool) (row : List RowBlock) → count_by p (stays_of row) + count_by p (dropped_of row)
+    ≡ count_by p (had_in row)
+row_before p row = adds_up p stays_here dropped_here had_here
+    (λ h. one_before h.touched (block_of h.block) (map block_of (option_to_list h.before)) p) row
 
-row_after : (p : BlockView → Bool) (row : List RowBlock) → count_by p (stays_of row) + count_by p (written_of row) ≡ count_by p (after_of row)
-row_after p row = adds_up p stays_here written_here after_here (λ h. one_after h.touched (has_none (shape_of (block_of h.block))) (block_of h.block) p) row
+row_after : (p : BlockView → Bool) (row : List RowBlock) → count_by p (stays_of row) + count_by p (written_of row)
+    ≡ count_by p (after_of row)
+row_after p row = adds_up p stays_here written_here after_here
+    (λ h. one_after h.touched (has_none (shape_of (block_of h.block))) (block_of h.block) p) row
 
-all_before : (work : List OpenRow) (p : BlockView → Bool) → count_by p (stays_all work) + count_by p (dropped_all work) ≡ count_by p (had_all work)
-all_before work p = adds_up p (λ (r : OpenRow). stays_of r.blocks.items) (λ (r : OpenRow). dropped_of r.blocks.items) (λ (r : OpenRow). had_in r.blocks.items) (λ r. row_before p r.blocks.items) work
+all_before : (work : List OpenRow) (p : BlockView → Bool) → count_by p (stays_all work) + count_by p (dropped_all work)
+    ≡ count_by p (had_all work)
+all_before work p = adds_up p (λ (r : OpenRow). stays_of r.blocks.items) (λ (r : OpenRow). dropped_of r.blocks.items)
+    (λ (r : OpenRow). had_in r.blocks.items) (λ r. row_before p r.blocks.items) work
 
-all_after : (work : List OpenRow) (p : BlockView → Bool) → count_by p (stays_all work) + count_by p (written_all work) ≡ count_by p (flat_map (λ r. after_of r.blocks.items) work)
-all_after work p = adds_up p (λ (r : OpenRow). stays_of r.blocks.items) (λ (r : OpenRow). written_of r.blocks.items) (λ (r : OpenRow). after_of r.blocks.items) (λ r. row_after p r.blocks.items) work
+all_after : (work : List OpenRow) (p : BlockView → Bool) → count_by p (stays_all work) + count_by p (written_all work)
+    ≡ count_by p (flat_map (λ r. after_of r.blocks.items) work)
+all_after work p = adds_up p (λ (r : OpenRow). stays_of r.blocks.items) (λ (r : OpenRow). written_of r.blocks.items)
+    (λ (r : OpenRow). after_of r.blocks.items) (λ r. row_after p r.blocks.items) work
 
 -- one block: each number is kept or handed back
 one_number : (t n : Bool) (b : BlockView) (q : ℕ → Bool)
-    → count_by q (map (λ b. b.number) (cond (t && not n) (b ∷ []) [])) + count_by q (cond (t && n) (b.number ∷ []) []) ≡ count_by q (cond t (b.number ∷ []) []) + count_by q []
+    → count_by q (map (λ b. b.number) (cond (t && not n) (b ∷ []) [])) + count_by q (cond (t && n) (b.number ∷ []) [])
+    ≡ count_by q (cond t (b.number ∷ []) []) + count_by q []
 one_number true true b q = omega arith
 one_number true false b q = omega arith
 one_number false n b q = refl
@@ -95,18 +113,25 @@ one_number false n b q = refl
 numbers_of_row : RowBlock → List ℕ
 numbers_of_row h = map (λ b. b.number) (written_here h)
 
-row_numbers : (q : ℕ → Bool) (row : List RowBlock) → count_by q (map (λ b. b.number) (written_of row)) + count_by q (unused_of row) ≡ count_by q (own_in row)
+row_numbers : (q : ℕ → Bool) (row : List RowBlock)
+    → count_by q (map (λ b. b.number) (written_of row)) + count_by q (unused_of row) ≡ count_by q (own_in row)
 row_numbers q row =
-    let sum = balance q (λ (h : RowBlock). map (λ b. b.number) (written_here h)) unused_here own_here (λ _. []) (λ h. one_number h.touched (has_none (shape_of (block_of h.block))) (block_of h.block) q) row in
+    let sum = balance q (λ (h : RowBlock). map (λ b. b.number) (written_here h)) unused_here own_here (λ _. [])
+    (λ h. one_number h.touched (has_none (shape_of (block_of h.block))) (block_of h.block) q) row in
     let pieces = ap (count_by q) (map-pieces (λ (b : BlockView). b.number) written_here row) in
-    let nothing : count_by q (let f : RowBlock → List ℕ = λ _. [] in flat_map f row) ≡ 0 = ap (count_by q) (none_of {A = ℕ} row) in
+    let nothing : count_by q (let f : RowBlock → List ℕ = λ _. [] in flat_map f row) ≡ 0 =
+    ap (count_by q) (none_of {A = ℕ} row) in
     omega arith
 
-pub all_numbers : (q : ℕ → Bool) (work : List OpenRow) → count_by q (map (λ b. b.number) (written_all work)) + count_by q (unused_all work) ≡ count_by q (own_all work)
+pub all_numbers : (q : ℕ → Bool) (work : List OpenRow)
+    → count_by q (map (λ b. b.number) (written_all work)) + count_by q (unused_all work) ≡ count_by q (own_all work)
 all_numbers q work =
-    let sum = balance q (λ (r : OpenRow). map (λ b. b.number) (written_of r.blocks.items)) (λ (r : OpenRow). unused_of r.blocks.items) (λ (r : OpenRow). own_in r.blocks.items) (λ _. []) (λ r. row_numbers q r.blocks.items ∙ (omega arith)) work in
+    let sum = balance q (λ (r : OpenRow). map (λ b. b.number) (written_of r.blocks.items))
+    (λ (r : OpenRow). unused_of r.blocks.items) (λ (r : OpenRow). own_in r.blocks.items) (λ _. [])
+    (λ r. row_numbers q r.blocks.items ∙ (omega arith)) work in
     let pieces = ap (count_by q) (map-pieces (λ (b : BlockView). b.number) (λ (r : OpenRow). written_of r.blocks.items) work) in
-    let nothing : count_by q (let f : OpenRow → List ℕ = λ _. [] in flat_map f work) ≡ 0 = ap (count_by q) (none_of {A = ℕ} work) in
+    let nothing : count_by q (let f : OpenRow → List ℕ = λ _. [] in flat_map f work) ≡ 0 =
+    ap (count_by q) (none_of {A = ℕ} work) in
     omega arith
 
 -- the layout at the batch's end
@@ -114,7 +139,8 @@ pub after_end : (row : List RowBlock) → map shape_of (after_of row) ≡ row_en
 after_end [] = refl
 after_end (h ∷ row) =
     let n : Bool = has_none (shape_of (block_of h.block)) in
-    elim (h.touched && n) as (λ b. map shape_of (cond b [] (block_of h.block ∷ []) ++ after_of row) ≡ shapes (cond (not b) (open_of h ∷ filter is_kept (opens row)) (filter is_kept (opens row)))) [
+    elim (h.touched && n) as (λ b. map shape_of (cond b [] (block_of h.block ∷ []) ++ after_of row)
+    ≡ shapes (cond (not b) (open_of h ∷ filter is_kept (opens row)) (filter is_kept (opens row)))) [
       | true ↦ after_end row
       | false ↦ ap (λ ss. shape_of (block_of h.block) ∷ ss) (after_end row)
     ]
@@ -127,13 +153,15 @@ pub length-written : (row : List RowBlock) → length (written_of row) ≡ taken
 length-written [] = refl
 length-written (h ∷ row) =
     length-append (written_here h) (written_of row)
-    ∙ ap₂ (λ a b. a + b) (one_written (h.touched && not (has_none (shape_of (block_of h.block)))) (block_of h.block)) (length-written row)
+    ∙ ap₂ (λ a b. a + b) (one_written (h.touched && not (has_none (shape_of (block_of h.block)))) (block_of h.block))
+    (length-written row)
     ∙ sym (count_more (λ (h : OpenBlock). h.touched && not (has_none h.shape)) (open_of h) (opens row)) where
       one_written : (b : Bool) (x : BlockView) → length (cond b (x ∷ []) []) ≡ cond b 1 0
       one_written true x = refl
       one_written false x = refl
 
-one_dropped : (t : Bool) (o : Option (Arc Block Global)) → length (cond t (map block_of (option_to_list o)) []) ≡ cond (t && (not t || is_some o)) 1 0
+one_dropped : (t : Bool) (o : Option (Arc Block Global)) → length (cond t (map block_of (option_to_list o)) [])
+    ≡ cond (t && (not t || is_some o)) 1 0
 one_dropped true None = refl
 one_dropped true (Some b) = refl
 one_dropped false o = refl
@@ -145,12 +173,15 @@ length-dropped (h ∷ row) =
     ∙ sym (count_more (λ (h : OpenBlock). h.touched && h.had) (open_of h) (opens row))
 
 -- a sum over open rows is one over their sources
-pub sum_open : {A : Type 0} (f : RowBlock → List A) (g : List OpenBlock → ℕ) (rows : ℕ → List OpenBlock) → ((row : List RowBlock) → length (flat_map f row) ≡ g (opens row))
-    → (work : List OpenRow) → AreOpen rows work → length (flat_map (λ r. flat_map f r.blocks.items) work) ≡ sum_of (λ source. g (rows source)) (sources_of work)
+pub sum_open : {A : Type 0} (f : RowBlock → List A) (g : List OpenBlock → ℕ) (rows : ℕ → List OpenBlock)
+    → ((row : List RowBlock) → length (flat_map f row) ≡ g (opens row))
+    → (work : List OpenRow) → AreOpen rows work → length (flat_map (λ r. flat_map f r.blocks.items) work)
+    ≡ sum_of (λ source. g (rows source)) (sources_of work)
 sum_open f g rows each [] all = refl
 sum_open f g rows each (r ∷ work) all =
     length-append (flat_map f r.blocks.items) (flat_map (λ (r : OpenRow). flat_map f r.blocks.items) work)
-    ∙ ap₂ (λ a b. a + b) (each r.blocks.items ∙ ap g (All-head (λ (r : OpenRow). opens r.blocks.items ≡ rows r.source.0) r work all))
+    ∙ ap₂ (λ a b. a + b) (each r.blocks.items ∙ ap g
+    (All-head (λ (r : OpenRow). opens r.blocks.items ≡ rows r.source.0) r work all))
     (sum_open f g rows each work (All-tail (λ (r : OpenRow). opens r.blocks.items ≡ rows r.source.0) r work all))
     ∙ sym (sum_by-cons (λ source. g (rows source)) r.source.0 (sources_of work))
 
@@ -162,10 +193,12 @@ pub pieces_closed : (work : List OpenRow) → flat_map (λ r. r.1) (closed_rows 
 pieces_closed [] = refl
 pieces_closed (r ∷ work) = ap (λ rest. after_of r.blocks.items ++ rest) (pieces_closed work)
 
-pub all_layout : (rows : ℕ → List OpenBlock) (work : List OpenRow) → AreOpen rows work → All (λ r. map shape_of r.1 ≡ row_end (rows r.0)) (closed_rows work)
+pub all_layout : (rows : ℕ → List OpenBlock) (work : List OpenRow) → AreOpen rows work
+    → All (λ r. map shape_of r.1 ≡ row_end (rows r.0)) (closed_rows work)
 all_layout rows [] all = All-nil (λ (r : ℕ × List BlockView). map shape_of r.1 ≡ row_end (rows r.0))
 all_layout rows (r ∷ work) all =
-    All-cons (λ (r : ℕ × List BlockView). map shape_of r.1 ≡ row_end (rows r.0)) (r.source.0, after_of r.blocks.items) (closed_rows work)
+    All-cons (λ (r : ℕ × List BlockView). map shape_of r.1 ≡ row_end (rows r.0)) (r.source.0, after_of r.blocks.items)
+    (closed_rows work)
     (after_end r.blocks.items ∙ ap row_end (All-head (λ (r : OpenRow). opens r.blocks.items ≡ rows r.source.0) r work all))
     (all_layout rows work (All-tail (λ (r : OpenRow). opens r.blocks.items ≡ rows r.source.0) r work all))
 
@@ -184,47 +217,60 @@ pub all_both : {A : Type 0} (P : A → Type 0) (xs ys : List A) → All P xs →
 all_both P [] ys a b = b
 all_both P (x ∷ xs) ys a b = All-cons P x (xs ++ ys) (All-head P x xs a) (all_both P xs ys (All-tail P x xs a) b)
 
-row_blocks : (source : ℕ) (row : List RowBlock) → All (IsOf source) row → All HasEdges (had_in row) → All (IsBlockOf source) (after_of row)
+row_blocks : (source : ℕ) (row : List RowBlock) → All (IsOf source) row → All HasEdges (had_in row)
+    → All (IsBlockOf source) (after_of row)
 row_blocks source [] own had = All-nil (IsBlockOf source)
 row_blocks source (h ∷ row) own had =
-    let rest : All (IsBlockOf source) (after_of row) = row_blocks source row (All-tail (IsOf source) h row own) (all_right HasEdges (had_here h) (had_in row) had) in
+    let rest : All (IsBlockOf source) (after_of row) = row_blocks source row (All-tail (IsOf source) h row own)
+    (all_right HasEdges (had_here h) (had_in row) had) in
     let here : All HasEdges (had_here h) = all_left HasEdges (had_here h) (had_in row) had in
     let mine : (block_of h.block).source ≡ source = All-head (IsOf source) h row own in
     let b : BlockView = block_of h.block in
     let n : Bool = has_none (shape_of b) in
-    elim h.touched as (λ t. All HasEdges (cond t (map block_of (option_to_list h.before)) (b ∷ [])) → All (IsBlockOf source) (cond (t && n) [] (b ∷ []) ++ after_of row)) [
+    elim h.touched as (λ t. All HasEdges (cond t (map block_of (option_to_list h.before)) (b ∷ []))
+    → All (IsBlockOf source) (cond (t && n) [] (b ∷ []) ++ after_of row)) [
       | true ↦ λ _. elim n as (λ m. n ≡ m → All (IsBlockOf source) (cond m [] (b ∷ []) ++ after_of row)) [
         | true ↦ λ _. rest
         | false ↦ λ e. All-cons (IsBlockOf source) b (after_of row) (record { source_is = mine; has_edges = e }) rest
       ] refl
-      | false ↦ λ e. All-cons (IsBlockOf source) b (after_of row) (record { source_is = mine; has_edges = All-head HasEdges b [] e }) rest
+      | false ↦ λ e. All-cons (IsBlockOf source) b (after_of row)
+          (record { source_is = mine; has_edges = All-head HasEdges b [] e }) rest
     ] here
 
-pub all_blocks : (work : List OpenRow) → AreOwn work → All HasEdges (had_all work) → All (λ r. All (IsBlockOf r.0) r.1) (closed_rows work)
+pub all_blocks : (work : List OpenRow) → AreOwn work → All HasEdges (had_all work)
+    → All (λ r. All (IsBlockOf r.0) r.1) (closed_rows work)
 all_blocks [] own had = All-nil (λ (r : ℕ × List BlockView). All (IsBlockOf r.0) r.1)
 all_blocks (r ∷ work) own had =
     All-cons (λ (r : ℕ × List BlockView). All (IsBlockOf r.0) r.1) (r.source.0, after_of r.blocks.items) (closed_rows work)
-    (row_blocks r.source.0 r.blocks.items (All-head (λ (r : OpenRow). All (IsOf r.source.0) r.blocks.items) r work own) (all_left HasEdges (had_in r.blocks.items) (had_all work) had))
-    (all_blocks work (All-tail (λ (r : OpenRow). All (IsOf r.source.0) r.blocks.items) r work own) (all_right HasEdges (had_in r.blocks.items) (had_all work) had))
+    (row_blocks r.source.0 r.blocks.items (All-head (λ (r : OpenRow). All (IsOf r.source.0) r.blocks.items) r work own)
+    (all_left HasEdges (had_in r.blocks.items) (had_all work) had))
+    (all_blocks work (All-tail (λ (r : OpenRow). All (IsOf r.source.0) r.blocks.items) r work own)
+    (all_right HasEdges (had_in r.blocks.items) (had_all work) had))
 
-pub rows_edges : (row : ℕ → List BlockView) → ((source : ℕ) → All (IsBlockOf source) (row source)) → (sources : List ℕ) → All HasEdges (flat_map row sources)
+pub rows_edges : (row : ℕ → List BlockView) → ((source : ℕ) → All (IsBlockOf source) (row source)) → (sources : List ℕ)
+    → All HasEdges (flat_map row sources)
 rows_edges row each [] = All-nil HasEdges
-rows_edges row each (s ∷ sources) = all_both HasEdges (row s) (flat_map row sources) (λ k d lt. (each s k d lt).has_edges) (rows_edges row each sources)
+rows_edges row each (s ∷ sources) = all_both HasEdges (row s) (flat_map row sources) (λ k d lt. (each s k d lt).has_edges)
+    (rows_edges row each sources)
 
 -- the row that is opened
 pub kept_all : (bs : List (Arc Block Global)) → map kept_of bs ≡ map untouched (map shape_of (blocks_of bs))
 kept_all [] = refl
 kept_all (b ∷ bs) = ap (λ hs. kept_of b ∷ hs) (kept_all bs)
 
-pub own_blocks : (bs : List (Arc Block Global)) (row : List BlockView) (source : ℕ) → blocks_of bs ≡ row → All (IsBlockOf source) row → All (λ b. (block_of b).source ≡ source) bs
+pub own_blocks : (bs : List (Arc Block Global)) (row : List BlockView) (source : ℕ) → blocks_of bs ≡ row
+    → All (IsBlockOf source) row → All (λ b. (block_of b).source ≡ source) bs
 own_blocks bs row source e all k d lt =
     let long : length (blocks_of bs) ≡ length bs = length-map bs block_of in
     ap (λ (b : BlockView). b.source) (sym (get_or-map block_of bs k d (block_of d) lt))
     ∙ (subst (λ r. All (IsBlockOf source) r) (sym e) all k (block_of d) (omega arith)).source_is
 
 -- one more row is opened
-pub opened_more : (rows : ℕ → List BlockView) (sources : List VertexId) (i : ℕ) → i < length sources → (work next : List OpenRow) (r : OpenRow) (bs : List (Arc Block Global)) → next ≡ work ++ r ∷ []
-    → r.source ≡ get_or sources i (record { 0 = 0 }) → blocks_of bs ≡ rows (get_or sources i (record { 0 = 0 })).0 → opens r.blocks.items ≡ map kept_of bs → had_in r.blocks.items ≡ blocks_of bs → own_in r.blocks.items ≡ [] → All (IsOf r.source.0) r.blocks.items
+pub opened_more : (rows : ℕ → List BlockView) (sources : List VertexId) (i : ℕ) → i < length sources
+    → (work next : List OpenRow) (r : OpenRow) (bs : List (Arc Block Global)) → next ≡ work ++ r ∷ []
+    → r.source ≡ get_or sources i (record { 0 = 0 }) → blocks_of bs ≡ rows (get_or sources i (record { 0 = 0 })).0
+    → opens r.blocks.items ≡ map kept_of bs → had_in r.blocks.items ≡ blocks_of bs → own_in r.blocks.items ≡ []
+    → All (IsOf r.source.0) r.blocks.items
     → (sources_of work ≡ map (λ s. s.0) (take i sources) → sources_of next ≡ map (λ s. s.0) (take (i + 1) sources))
     × (AreOpen (opened (layout_by rows)) work → AreOpen (opened (layout_by rows)) next)
     × (had_all work ≡ flat_map (λ s. rows s.0) (take i sources) → had_all next ≡ flat_map (λ s. rows s.0) (take (i + 1) sources))
@@ -235,49 +281,71 @@ opened_more rows sources i lt work next r bs is source row held had none own =
     let taken : take (i + 1) sources ≡ take i sources ++ s ∷ [] = take_more sources i (record { 0 = 0 }) lt in
     let here : opens r.blocks.items ≡ opened (layout_by rows) r.source.0 =
     held ∙ kept_all bs ∙ ap (λ b. map untouched (map shape_of b)) (row ∙ ap (λ (s : VertexId). rows s.0) (sym source)) in (
-      λ e. ap sources_of is ∙ map-append (λ (r : OpenRow). r.source.0) work (r ∷ []) ∙ ap₂ (λ a b. a ++ b ∷ []) e (ap (λ (s : VertexId). s.0) source) ∙ sym (ap (map (λ (s : VertexId). s.0)) taken ∙ map-append (λ (s : VertexId). s.0) (take i sources) (s ∷ [])),
-      λ e. subst (AreOpen (opened (layout_by rows))) (sym is) (All-push (λ (r : OpenRow). opens r.blocks.items ≡ opened (layout_by rows) r.source.0) work r e here),
-      λ e. ap had_all is ∙ flat_map-append (λ (r : OpenRow). had_in r.blocks.items) work (r ∷ []) ∙ ap₂ (λ a b. a ++ (b ++ [])) e (had ∙ row) ∙ sym (ap (flat_map (λ (s : VertexId). rows s.0)) taken ∙ flat_map-append (λ (s : VertexId). rows s.0) (take i sources) (s ∷ [])),
-      λ e. ap own_all is ∙ flat_map-append (λ (r : OpenRow). own_in r.blocks.items) work (r ∷ []) ∙ ap₂ (λ a b. a ++ (b ++ [])) e none,
+      λ e. ap sources_of is ∙ map-append (λ (r : OpenRow). r.source.0) work (r ∷ [])
+          ∙ ap₂ (λ a b. a ++ b ∷ []) e (ap (λ (s : VertexId). s.0) source)
+          ∙ sym (ap (map (λ (s : VertexId). s.0)) taken ∙ map-append (λ (s : VertexId). s.0) (take i sources) (s ∷ [])),
+      λ e. subst (AreOpen (opened (layout_by rows))) (sym is)
+          (All-push (λ (r : OpenRow). opens r.blocks.items ≡ opened (layout_by rows) r.source.0) work r e here),
+      λ e. ap had_all is ∙ flat_map-append (λ (r : OpenRow). had_in r.blocks.items) work (r ∷ [])
+          ∙ ap₂ (λ a b. a ++ (b ++ [])) e (had ∙ row)
+          ∙ sym (ap (flat_map (λ (s : VertexId). rows s.0)) taken
+          ∙ flat_map-append (λ (s : VertexId). rows s.0) (take i sources) (s ∷ [])),
+      λ e. ap own_all is ∙ flat_map-append (λ (r : OpenRow). own_in r.blocks.items) work (r ∷ [])
+          ∙ ap₂ (λ a b. a ++ (b ++ [])) e none,
       λ e. subst AreOwn (sym is) (All-push (λ (r : OpenRow). All (IsOf r.source.0) r.blocks.items) work r e own),
     )
 
 -- what open, changed and closed rows leave is what a shard must leave
 module _ (rows : ℕ → List BlockView) (shard : Shard) (done : ShardDone) (w0 w1 : List OpenRow) (fresh : List ℕ) where
   pub finish : AreBlockRows rows
-      → sources_of w0 ≡ sources_in shard → AreOpen (opened (layout_by rows)) w0 → had_all w0 ≡ flat_map rows (sources_in shard) → own_all w0 ≡ []
+      → sources_of w0 ≡ sources_in shard → AreOpen (opened (layout_by rows)) w0 → had_all w0 ≡ flat_map rows (sources_in shard)
+      → own_all w0 ≡ []
       → AreOpen (rows_all (resolved_in (sources_of w0) shard.steps.items) (opened (layout_by rows))) w1
-      → done.outcomes.items ≡ zip (map (λ s. s.op) shard.steps.items) (outcomes_all (resolved_in (sources_of w0) shard.steps.items) (opened (layout_by rows)))
-      → AreOwn w1 → sources_of w1 ≡ sources_of w0 → had_all w1 ≡ had_all w0 → HaveSame (own_all w1) fresh (own_all w0) (numbers_of shard.fresh.items)
+      → done.outcomes.items ≡ zip (map (λ s. s.op) shard.steps.items)
+      (outcomes_all (resolved_in (sources_of w0) shard.steps.items) (opened (layout_by rows)))
+      → AreOwn w1 → sources_of w1 ≡ sources_of w0 → had_all w1 ≡ had_all w0
+      → HaveSame (own_all w1) fresh (own_all w0) (numbers_of shard.fresh.items)
       → row_values done.rows.items ≡ closed_rows w1 → done.left.taken.items ≡ map (λ b. b.number) (written_all w1)
       → blocks_of done.left.dropped.items ≡ dropped_all w1 → numbers_of done.left.unused.items ≡ fresh ++ unused_all w1
       → IsShardDone rows shard done
   finish good s0 o0 h0 n0 o1 outs own s1 h1 same closed taken dropped unused =
-      let by : AreOpen (rows_by rows shard) w1 = subst (λ ss. AreOpen (rows_all (resolved_in ss shard.steps.items) (opened (layout_by rows))) w1) s0 o1 in
+      let by : AreOpen (rows_by rows shard) w1 = subst
+      (λ ss. AreOpen (rows_all (resolved_in ss shard.steps.items) (opened (layout_by rows))) w1) s0 o1 in
       let ss : sources_of w1 ≡ sources_in shard = s1 ∙ s0 in
       record {
-        outcomes_are = outs ∙ ap (λ ss. zip (map (λ s. s.op) shard.steps.items) (outcomes_all (resolved_in ss shard.steps.items) (opened (layout_by rows)))) s0;
+        outcomes_are = outs ∙ ap (λ ss. zip (map (λ s. s.op) shard.steps.items)
+            (outcomes_all (resolved_in ss shard.steps.items) (opened (layout_by rows)))) s0;
         sources_are = ap (map (λ r. r.0)) closed ∙ same_sources w1 ∙ ss;
-        layout = subst (λ rs. All (λ r. map shape_of r.1 ≡ row_end (rows_by rows shard r.0)) rs) (sym closed) (all_layout (rows_by rows shard) w1 by);
-        blocks = subst (λ rs. All (λ r. All (IsBlockOf r.0) r.1) rs) (sym closed) (all_blocks w1 own (subst (λ bs. All HasEdges bs) (sym (h1 ∙ h0)) (rows_edges rows good (sources_in shard))));
+        layout = subst (λ rs. All (λ r. map shape_of r.1 ≡ row_end (rows_by rows shard r.0)) rs) (sym closed)
+            (all_layout (rows_by rows shard) w1 by);
+        blocks = subst (λ rs. All (λ r. All (IsBlockOf r.0) r.1) rs) (sym closed)
+            (all_blocks w1 own (subst (λ bs. All HasEdges bs) (sym (h1 ∙ h0)) (rows_edges rows good (sources_in shard))));
         exchanged = record {
           kept = stays_all w1;
           fresh = written_all w1;
           taken_are = sym taken;
-          before_are = λ p. ap (λ bs. count_by p (stays_all w1) + count_by p bs) dropped ∙ all_before w1 p ∙ ap (count_by p) (h1 ∙ h0);
+          before_are = λ p. ap (λ bs. count_by p (stays_all w1) + count_by p bs) dropped ∙ all_before w1 p
+              ∙ ap (count_by p) (h1 ∙ h0);
           after_are = λ p. all_after w1 p ∙ sym (ap (count_by p) (ap (flat_map (λ r. r.1)) closed ∙ pieces_closed w1));
         };
-        taken_are = ap length taken ∙ length-map (written_all w1) (λ b. b.number) ∙ sum_open written_here taken_in (rows_by rows shard) length-written w1 by ∙ ap (sum_of (λ source. taken_in (rows_by rows shard source))) ss;
-        dropped_are = sym (length-map done.left.dropped.items block_of) ∙ ap length dropped ∙ sum_open dropped_here dropped_in (rows_by rows shard) length-dropped w1 by ∙ ap (sum_of (λ source. dropped_in (rows_by rows shard source))) ss;
+        taken_are = ap length taken ∙ length-map (written_all w1) (λ b. b.number)
+            ∙ sum_open written_here taken_in (rows_by rows shard) length-written w1 by ∙ ap
+            (sum_of (λ source. taken_in (rows_by rows shard source))) ss;
+        dropped_are = sym (length-map done.left.dropped.items block_of) ∙ ap length dropped
+            ∙ sum_open dropped_here dropped_in (rows_by rows shard) length-dropped w1 by ∙ ap
+            (sum_of (λ source. dropped_in (rows_by rows shard source))) ss;
         handed = λ q.
-            let t : count_by q done.left.taken.items ≡ count_by q (map (λ b. b.number) (written_all w1)) = ap (count_by q) taken in
-            let u : count_by q (numbers_of done.left.unused.items) ≡ count_by q fresh + count_by q (unused_all w1) = ap (count_by q) unused ∙ count_by-append q fresh (unused_all w1) in
+            let t : count_by q done.left.taken.items ≡ count_by q (map (λ b. b.number) (written_all w1)) =
+            ap (count_by q) taken in
+            let u : count_by q (numbers_of done.left.unused.items) ≡ count_by q fresh + count_by q (unused_all w1) =
+            ap (count_by q) unused ∙ count_by-append q fresh (unused_all w1) in
             let n = all_numbers q w1 in
             let z : count_by q (own_all w0) ≡ 0 = ap (count_by q) n0 in
             let e = same q in
             omega arith;
       }
 
-pub pieces_named : (rows : ℕ → List BlockView) (xs : List VertexId) → flat_map (λ s. rows s.0) xs ≡ flat_map rows (map (λ s. s.0) xs)
+pub pieces_named : (rows : ℕ → List BlockView) (xs : List VertexId)
+    → flat_map (λ s. rows s.0) xs ≡ flat_map rows (map (λ s. s.0) xs)
 pieces_named rows [] = refl
 pieces_named rows (x ∷ xs) = ap (λ rest. rows x.0 ++ rest) (pieces_named rows xs)

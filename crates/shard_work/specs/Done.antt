@@ -43,7 +43,8 @@ rows_by rows shard = rows_all (steps_in shard) (opened (layout_by rows))
 -- what the work on a shard leaves of these rows
 pub record IsShardDone (rows : ℕ → List BlockView) (shard : Shard) (done : ShardDone) : Type 0 where
   -- the outcomes of the operation rule, each at its place
-  pub outcomes_are : done.outcomes.items ≡ zip (map (λ s. s.op) shard.steps.items) (outcomes_all (steps_in shard) (opened (layout_by rows)))
+  pub outcomes_are : done.outcomes.items ≡ zip (map (λ s. s.op) shard.steps.items)
+      (outcomes_all (steps_in shard) (opened (layout_by rows)))
   -- the rows of the shard's sources, in order
   pub sources_are : map (λ r. r.0) (row_values done.rows.items) ≡ sources_in shard
   -- the layout rule, for each row
@@ -55,4 +56,5 @@ pub record IsShardDone (rows : ℕ → List BlockView) (shard : Shard) (done : S
   pub taken_are : length done.left.taken.items ≡ sum_of (λ source. taken_in (rows_by rows shard source)) (sources_in shard)
   pub dropped_are : length done.left.dropped.items ≡ sum_of (λ source. dropped_in (rows_by rows shard source)) (sources_in shard)
   -- each number handed in is taken or handed back
-  pub handed : (q : ℕ → Bool) → count_by q done.left.taken.items + count_by q (numbers_of done.left.unused.items) ≡ count_by q (numbers_of shard.fresh.items)
+  pub handed : (q : ℕ → Bool) → count_by q done.left.taken.items + count_by q (numbers_of done.left.unused.items)
+      ≡ count_by q (numbers_of shard.fresh.items)

@@ -68,6 +68,7 @@ IsOf source h = (block_of h.block).source ≡ source
 
 -- what a change at a target leaves of a block that has the edge
 pub record IsChanged (change : EdgeChange) (target : ℕ) (h g : RowBlock) : Type 0 where
-  pub shown : open_of g ≡ (if touches (outcome_at change (stamp_at (block_of h.block).slots target)) then touch (set_slot target (stamp_after change (stamp_at (block_of h.block).slots target))) (open_of h) else open_of h)
+  pub shown : open_of g ≡ (if touches (outcome_at change (stamp_at (block_of h.block).slots target)) then touch
+      (set_slot target (stamp_after change (stamp_at (block_of h.block).slots target))) (open_of h) else open_of h)
   pub had : had_here g ≡ had_here h
   pub source : (block_of g.block).source ≡ (block_of h.block).source

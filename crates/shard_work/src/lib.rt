@@ -9,6 +9,3 @@ mod rows;
 mod shard;
 
 pub use shard::{Leavings, Place, Shard, ShardDone, Step, work_on};
-
-#[cfg(test)]
-mod tests;

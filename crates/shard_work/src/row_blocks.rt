@@ -41,7 +41,8 @@ impl RowBlock {
     fn own(&mut self, fresh: &mut Vec<Arc<Block>>) -> Result<(), AllocError>
         requires { 0 < vec_len fresh.old }
         ensures touched { OnOk result (IsTouched (λ slots. slots) self.old self.new) }
-        ensures numbers { OnOk result (HaveSame (own_here self.new) (numbers_of fresh.new.items) (own_here self.old) (numbers_of fresh.old.items)) }
+        ensures numbers { OnOk result (HaveSame (own_here self.new) (numbers_of fresh.new.items) (own_here self.old)
+            (numbers_of fresh.old.items)) }
         ensures few { OnOk result (vec_len fresh.old ≤ vec_len fresh.new + 1) }
     {
         if self.touched {
@@ -72,7 +73,8 @@ impl RowBlock {
         requires first { IsTime first }
         requires recent { IsTime recent }
         ensures touched { OnOk result (IsTouched (put_slot (edge_slot target weight first recent)) self.old self.new) }
-        ensures numbers { OnOk result (HaveSame (own_here self.new) (numbers_of fresh.new.items) (own_here self.old) (numbers_of fresh.old.items)) }
+        ensures numbers { OnOk result (HaveSame (own_here self.new) (numbers_of fresh.new.items) (own_here self.old)
+            (numbers_of fresh.old.items)) }
         ensures few { OnOk result (vec_len fresh.old ≤ vec_len fresh.new + 1) }
     {
         self.own(fresh)?;
@@ -84,7 +86,8 @@ impl RowBlock {
     pub fn take(&mut self, fresh: &mut Vec<Arc<Block>>, target: u32) -> Result<(), AllocError>
         requires { 0 < vec_len fresh.old }
         ensures touched { OnOk result (IsTouched (take_slot target) self.old self.new) }
-        ensures numbers { OnOk result (HaveSame (own_here self.new) (numbers_of fresh.new.items) (own_here self.old) (numbers_of fresh.old.items)) }
+        ensures numbers { OnOk result (HaveSame (own_here self.new) (numbers_of fresh.new.items) (own_here self.old)
+            (numbers_of fresh.old.items)) }
         ensures few { OnOk result (vec_len fresh.old ≤ vec_len fresh.new + 1) }
     {
         self.own(fresh)?;

@@ -8,7 +8,8 @@ ghost use Rattle.graph_model.specs.Step.{stamp_after, outcome_at};
 ghost use Rattle.edge_block.specs.Slots.{has_room_for, stamp_at, edge_slot};
 ghost use Rattle.block_layout.specs.Rows as layout;
 ghost use Rattle.block_layout.specs.Rows.{touch, touches, change_row, edge_at, put_edge};
-ghost use Rattle.shard_work.specs.RowBlocks.{block_of, open_of, opens, had_here, had_in, numbers_of, own_here, own_in, set_slot, HaveSame, IsOf, IsChanged, IsTouched};
+ghost use Rattle.shard_work.specs.RowBlocks.{block_of, open_of, opens, had_here, had_in, numbers_of, own_here, own_in};
+ghost use Rattle.shard_work.specs.RowBlocks.{set_slot, HaveSame, IsOf, IsChanged, IsTouched};
 ghost use Rattle.graph_model.specs.Changes.{option_stamp, AreMarks, IsChange};
 
 use crate::row_blocks::RowBlock;
@@ -43,7 +44,8 @@ fn change_here(
     requires edge { is_some (stamp_at (block_of here.old.block).slots target) ≡ true }
     ensures outcome { IfOk result (λ o. o ≡ outcome_at change (stamp_at (block_of here.old.block).slots target)) }
     ensures changed { OnOk result (IsChanged change target here.old here.new) }
-    ensures numbers { OnOk result (HaveSame (own_here here.new) (numbers_of fresh.new.items) (own_here here.old) (numbers_of fresh.old.items)) }
+    ensures numbers { OnOk result (HaveSame (own_here here.new) (numbers_of fresh.new.items) (own_here here.old)
+        (numbers_of fresh.old.items)) }
     ensures few { OnOk result (vec_len fresh.old ≤ vec_len fresh.new + 1) }
 {
     let Some(edge) = here.block.find(target) else {
@@ -75,7 +77,8 @@ fn set_edge(
     requires room { IsTrue (has_room_for target (block_of here.old.block).slots) }
     requires after { IfSome after AreMarks }
     ensures touched { OnOk result (IsTouched (set_slot target (option_stamp after)) here.old here.new) }
-    ensures numbers { OnOk result (HaveSame (own_here here.new) (numbers_of fresh.new.items) (own_here here.old) (numbers_of fresh.old.items)) }
+    ensures numbers { OnOk result (HaveSame (own_here here.new) (numbers_of fresh.new.items) (own_here here.old)
+        (numbers_of fresh.old.items)) }
     ensures few { OnOk result (vec_len fresh.old ≤ vec_len fresh.new + 1) }
 {
     match after {
@@ -98,10 +101,12 @@ fn add_edge(
     requires absent { list_any (layout.has_edge (kind.0, target)) (opens row.old.items) ≡ false }
     requires marks { AreMarks marks }
     requires own { All (IsOf source.0) row.old.items }
-    ensures row { OnOk result (opens row.new.items ≡ put_edge kind.0 (edge_slot target marks.weight marks.first marks.recent) (opens row.old.items)) }
+    ensures row { OnOk result (opens row.new.items ≡ put_edge kind.0 (edge_slot target marks.weight marks.first marks.recent)
+        (opens row.old.items)) }
     ensures had { OnOk result (had_in row.new.items ≡ had_in row.old.items) }
     ensures own { OnOk result (All (IsOf source.0) row.new.items) }
-    ensures numbers { OnOk result (HaveSame (own_in row.new.items) (numbers_of fresh.new.items) (own_in row.old.items) (numbers_of fresh.old.items)) }
+    ensures numbers { OnOk result (HaveSame (own_in row.new.items) (numbers_of fresh.new.items) (own_in row.old.items)
+        (numbers_of fresh.old.items)) }
     ensures few { OnOk result (vec_len fresh.old ≤ vec_len fresh.new + 1) }
 {
     match room_in(row.as_slice(), kind) {
@@ -124,7 +129,8 @@ fn new_block(
 ) -> Result<RowBlock, AllocError>
     requires fresh { 0 < vec_len fresh.old }
     requires marks { AreMarks marks }
-    ensures shown { IfOk result (λ h. open_of h ≡ layout.new_block kind.0 (edge_slot target marks.weight marks.first marks.recent)) }
+    ensures shown { IfOk result (λ h. open_of h ≡ layout.new_block kind.0
+        (edge_slot target marks.weight marks.first marks.recent)) }
     ensures had { IfOk result (λ h. had_here h ≡ []) }
     ensures own { IfOk result (λ h. IsOf source.0 h) }
     ensures numbers { IfOk result (λ h. HaveSame (own_here h) (numbers_of fresh.new.items) [] (numbers_of fresh.old.items)) }
@@ -159,7 +165,8 @@ pub fn apply_step(
     ensures row { OnOk result (opens row.new.items ≡ change_row change (kind.0, target) (opens row.old.items)) }
     ensures had { OnOk result (had_in row.new.items ≡ had_in row.old.items) }
     ensures own { OnOk result (All (IsOf source.0) row.new.items) }
-    ensures numbers { OnOk result (HaveSame (own_in row.new.items) (numbers_of fresh.new.items) (own_in row.old.items) (numbers_of fresh.old.items)) }
+    ensures numbers { OnOk result (HaveSame (own_in row.new.items) (numbers_of fresh.new.items) (own_in row.old.items)
+        (numbers_of fresh.old.items)) }
     ensures few { OnOk result (vec_len fresh.old ≤ vec_len fresh.new + 1) }
 {
     match place_of(row.as_slice(), kind, target) {

@@ -1,14 +1,18 @@
 //! The rows of a shard's sources while a batch goes on.
 
-ghost use Rattle.std.specs.Prelude.{◌≡◌, ◌++◌, get_or, flat_map, ◌≢◌, ◌+◌, ◌<◌, ◌≤◌, ℕ, List, IfOk, OnOk, All, AllPairs, vec_len, length, map, zip, [], slice_index_or};
+ghost use Rattle.std.specs.Prelude.{◌≡◌, ◌++◌, get_or, flat_map, ◌≢◌, ◌+◌, ◌<◌, ◌≤◌, ℕ, List, IfOk, OnOk, All, AllPairs};
+ghost use Rattle.std.specs.Prelude.{vec_len, length, map, zip, [], slice_index_or};
 ghost use Rattle.block_layout.specs.Rows.{OpenBlock, has_none, shape_of};
 ghost use Rattle.block_layout.specs.Batches.{Resolved, rows_step, rows_all, outcome_in, outcomes_all, opened};
 ghost use Rattle.edge_block.specs.Slots.{BlockView};
 ghost use Rattle.shard_work.specs.RowBlocks.{block_of, blocks_of, kept_of, opens, had_in, own_in, numbers_of, HaveSame, IsOf};
-ghost use Rattle.shard_work.specs.Closing.{after_here, written_here, dropped_here, unused_here, after_of, written_of, dropped_of, unused_of, row_values, closed_rows, written_all, dropped_all, unused_all};
+ghost use Rattle.shard_work.specs.Closing.{after_here, written_here, dropped_here, unused_here, after_of, written_of};
+ghost use Rattle.shard_work.specs.Closing.{dropped_of, unused_of, row_values, closed_rows, written_all, dropped_all};
+ghost use Rattle.shard_work.specs.Closing.{unused_all};
 ghost use Rattle.shard_work.specs.Done.{AreBlockRows, IsShardDone, layout_by};
 ghost use Rattle.row_pages.specs.Rows.{row_of};
-ghost use Rattle.shard_work.specs.Shards.{AreOpen, AreOwn, IsPlace, AreSteps, key_at, resolved_at, resolved_in, sources_of, had_all, own_all};
+ghost use Rattle.shard_work.specs.Shards.{AreOpen, AreOwn, IsPlace, AreSteps, key_at, resolved_at, resolved_in, sources_of};
+ghost use Rattle.shard_work.specs.Shards.{had_all, own_all};
 ghost use Rattle.graph_model.specs.Changes.{IsChange};
 
 use crate::row_blocks::RowBlock;
@@ -54,12 +58,15 @@ pub fn do_step(
     requires place { IsPlace (length work.old.items) place }
     requires own { AreOwn work.old.items }
     requires distinct { AllPairs (λ a b. a ≢ b) (sources_of work.old.items) }
-    ensures rows { OnOk result ((rows : ℕ → List OpenBlock) → AreOpen rows work.old.items → AreOpen (rows_step (resolved_at (sources_of work.old.items) change place) rows) work.new.items) }
-    ensures outcome { IfOk result (λ o. (rows : ℕ → List OpenBlock) → AreOpen rows work.old.items → o ≡ outcome_in change (key_at (sources_of work.old.items) place) rows) }
+    ensures rows { OnOk result ((rows : ℕ → List OpenBlock) → AreOpen rows work.old.items
+        → AreOpen (rows_step (resolved_at (sources_of work.old.items) change place) rows) work.new.items) }
+    ensures outcome { IfOk result (λ o. (rows : ℕ → List OpenBlock) → AreOpen rows work.old.items
+        → o ≡ outcome_in change (key_at (sources_of work.old.items) place) rows) }
     ensures own { OnOk result (AreOwn work.new.items) }
     ensures sources { OnOk result (sources_of work.new.items ≡ sources_of work.old.items) }
     ensures had { OnOk result (had_all work.new.items ≡ had_all work.old.items) }
-    ensures numbers { OnOk result (HaveSame (own_all work.new.items) (numbers_of fresh.new.items) (own_all work.old.items) (numbers_of fresh.old.items)) }
+    ensures numbers { OnOk result (HaveSame (own_all work.new.items) (numbers_of fresh.new.items) (own_all work.old.items)
+        (numbers_of fresh.old.items)) }
     ensures few { OnOk result (vec_len fresh.old ≤ vec_len fresh.new + 1) }
 {
     let Some(place) = place else {
@@ -88,12 +95,15 @@ pub fn do_steps(
     requires steps { AreSteps (length work.old.items) steps.now }
     requires own { AreOwn work.old.items }
     requires distinct { AllPairs (λ a b. a ≢ b) (sources_of work.old.items) }
-    ensures rows { OnOk result ((rows : ℕ → List OpenBlock) → AreOpen rows work.old.items → AreOpen (rows_all (resolved_in (sources_of work.old.items) steps.now) rows) work.new.items) }
-    ensures outcomes { IfOk result (λ v. (rows : ℕ → List OpenBlock) → AreOpen rows work.old.items → v.items ≡ zip (map (λ s. s.op) steps.now) (outcomes_all (resolved_in (sources_of work.old.items) steps.now) rows)) }
+    ensures rows { OnOk result ((rows : ℕ → List OpenBlock) → AreOpen rows work.old.items
+        → AreOpen (rows_all (resolved_in (sources_of work.old.items) steps.now) rows) work.new.items) }
+    ensures outcomes { IfOk result (λ v. (rows : ℕ → List OpenBlock) → AreOpen rows work.old.items
+        → v.items ≡ zip (map (λ s. s.op) steps.now) (outcomes_all (resolved_in (sources_of work.old.items) steps.now) rows)) }
     ensures own { OnOk result (AreOwn work.new.items) }
     ensures sources { OnOk result (sources_of work.new.items ≡ sources_of work.old.items) }
     ensures had { OnOk result (had_all work.new.items ≡ had_all work.old.items) }
-    ensures numbers { OnOk result (HaveSame (own_all work.new.items) (numbers_of fresh.new.items) (own_all work.old.items) (numbers_of fresh.old.items)) }
+    ensures numbers { OnOk result (HaveSame (own_all work.new.items) (numbers_of fresh.new.items) (own_all work.old.items)
+        (numbers_of fresh.old.items)) }
 {
     let mut outcomes = Vec::with_capacity(alloc, steps.len())?;
     for step in steps {
@@ -181,7 +191,8 @@ pub fn close_row(
 ) -> Result<Vec<Arc<Block>>, AllocError>
     ensures row { IfOk result (λ r. blocks_of r.items ≡ after_of blocks.items) }
     ensures taken { OnOk result (left.new.taken.items ≡ left.old.taken.items ++ map (λ b. b.number) (written_of blocks.items)) }
-    ensures dropped { OnOk result (blocks_of left.new.dropped.items ≡ blocks_of left.old.dropped.items ++ dropped_of blocks.items) }
+    ensures dropped { OnOk result (blocks_of left.new.dropped.items ≡ blocks_of left.old.dropped.items
+        ++ dropped_of blocks.items) }
     ensures unused { OnOk result (numbers_of left.new.unused.items ≡ numbers_of left.old.unused.items ++ unused_of blocks.items) }
 {
     let mut row = Vec::with_capacity(alloc, blocks.len())?;
@@ -229,7 +240,8 @@ pub fn close_rows(
 ) -> Result<Vec<(VertexId, Vec<Arc<Block>>)>, AllocError>
     ensures rows { IfOk result (λ r. row_values r.items ≡ closed_rows work.items) }
     ensures taken { OnOk result (left.new.taken.items ≡ left.old.taken.items ++ map (λ b. b.number) (written_all work.items)) }
-    ensures dropped { OnOk result (blocks_of left.new.dropped.items ≡ blocks_of left.old.dropped.items ++ dropped_all work.items) }
+    ensures dropped { OnOk result (blocks_of left.new.dropped.items ≡ blocks_of left.old.dropped.items
+        ++ dropped_all work.items) }
     ensures unused { OnOk result (numbers_of left.new.unused.items ≡ numbers_of left.old.unused.items ++ unused_all work.items) }
 {
     let mut rows = Vec::with_capacity(alloc, work.len())?;

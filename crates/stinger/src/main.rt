@@ -2,24 +2,36 @@
 #![tactic(auto)]
 
 use std::env;
-use std::io::ErrorKind;
+use std::env::Env;
+use std::io::{ErrorKind, Read, Write};
 use std::process::ExitCode;
+use std::sync::Wait;
+use std::thread::Threads;
 use stinger_server::{refuse_arguments, stinger};
 
 fn main(rt: HostRuntime) -> ExitCode {
-    match run(&rt) {
+    let mut writer = rt.stdout();
+    let mut faults = rt.stderr();
+    match run(&rt, rt.stdin(), &mut writer, &mut faults) {
         Ok(status) => ExitCode::from(status),
         Err(_) => ExitCode::FAILURE,
     }
 }
 
-/// The arguments after the program's name, over the real streams.
-fn run(rt: &HostRuntime) -> anyhow::Result<u8> {
-    let mut faults = rt.stderr();
+/// The arguments after the program's name, over these streams.
+fn run<A, R: Read + Drop, W: Write, F: Write>(
+    rt: &A,
+    reader: R,
+    writer: &mut W,
+    faults: &mut F,
+) -> anyhow::Result<u8>
+where
+    A: AllocGlobal + Env + Threads + Wait + Sync,
+{
     let all = match env::args(rt) {
         Ok(all) => all,
         Err(error) if error.kind() == ErrorKind::InvalidData => {
-            return Ok(refuse_arguments(&mut faults));
+            return Ok(refuse_arguments(faults));
         }
         Err(error) => return Err(error.into()),
     };
@@ -28,12 +40,5 @@ fn run(rt: &HostRuntime) -> anyhow::Result<u8> {
     for argument in &given {
         arguments.push(argument.as_str())?;
     }
-    let mut writer = rt.stdout();
-    Ok(stinger(
-        rt,
-        arguments.as_slice(),
-        rt.stdin(),
-        &mut writer,
-        &mut faults,
-    ))
+    Ok(stinger(rt, arguments.as_slice(), reader, writer, faults))
 }

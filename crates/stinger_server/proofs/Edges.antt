@@ -1,20 +1,21 @@
 -- The out-degrees of a graph add up to the number of edges in the view: each of them leaves one vertex.
 use Rattle.std.proofs.Common.{◌≡◌, ℕ, ◌+◌, ◌<◌, ◌≤◌, zero, suc, Bool, true, false, cond, ◌&&◌, List, [], ◌∷◌, length, map, arith}
-use Rattle.std.proofs.Common.{refl, sym, ◌∙◌, inl, inr}
-use Rattle.std.specs.Prelude.{All, count_by, sum_by, ◌==◌}
+use Rattle.std.proofs.Common.{get_or, refl, sym, ap, ◌∙◌, inl, inr}
+use Rattle.std.specs.Prelude.{All, Some, count_by, is_some, sum_by, ◌==◌}
 use Rattle.std.specs.List.{range_with_len, zip}
-use Rattle.std.specs.FinMap.{entries}
+use Rattle.std.specs.FinMap.{entries, find, get-entries}
+use Rattle.std.specs.Cmp.{tied_itself}
+use Rattle.std.specs.Ordering.{is_eq}
 use Rattle.std.proofs.lemmas.Bool.Decides.{nat_tests}
 use Rattle.std.proofs.Math.Nat.{eq-or-lt_of_le}
 use Rattle.std.proofs.lemmas.List.Sums.{sum_by-cons}
+use Rattle.block_layout.specs.Batches.{IsWithin}
 use Rattle.graph_model.specs.Answer.{degree_at, degree_table}
-use Rattle.graph_model.specs.Graph.{IsContent, graph_of, key_of, stamp_of}
+use Rattle.graph_model.specs.Graph.{Graph, Key, Stamp, key_cmp}
 use Rattle.graph_model.specs.View.{in_view, leaves}
-use Rattle.graph_model.specs.declared.contents.Content.{Content}
 use Rattle.graph_model.specs.declared.ids.Degree.{Degree}
-use Rattle.graph_model.specs.declared.ids.Edge.{Edge}
 use Rattle.graph_model.specs.declared.ids.Filter.{Filter}
-use Rattle.graph_model.proofs.Folds.{count_entries}
+use Rattle.graph_model.proofs.Keys.{keys_total}
 
 -- the sum over n numbers from a
 abbrev sum_from : (ℕ → ℕ) → ℕ → ℕ → ℕ
@@ -58,20 +59,18 @@ one_shown : (b : Bool) (s n : ℕ) → s < n → ◌≡◌ {A = ℕ} (sum_from (
 one_shown true s n below = one_hit s 0 n (omega arith) (omega arith)
 one_shown false s n below = sum_from-zero 0 n
 
--- each listed edge in the view leaves one of the first n vertices
-by_sources : (f : Filter) (es : List Edge) (n : ℕ) → All (λ e. e.source.0 < n) es
-    → sum_from (λ v. count_by (λ e. leaves f v (key_of e, stamp_of e)) es) 0 n
-    ≡ count_by (λ e. in_view f (key_of e, stamp_of e)) es
+-- each edge in the view leaves one of the first n vertices
+by_sources : (f : Filter) (es : List (Key × Stamp)) (n : ℕ) → All (λ e. e.0.source < n) es
+    → sum_from (λ v. count_by (leaves f v) es) 0 n ≡ count_by (in_view f) es
 by_sources f [] n all = sum_from-zero 0 n
 by_sources f (e ∷ es) n all =
-    let split = sum_from-ext (λ v. count_by (λ e. leaves f v (key_of e, stamp_of e)) (e ∷ es))
-    (λ v. cond (leaves f v (key_of e, stamp_of e)) 1 0 + count_by (λ e. leaves f v (key_of e, stamp_of e)) es)
-    (λ v. sum_by-cons (λ e. cond (leaves f v (key_of e, stamp_of e)) 1 0) e es) 0 n in
-    let added = sum_from-add (λ v. cond (leaves f v (key_of e, stamp_of e)) 1 0)
-    (λ v. count_by (λ e. leaves f v (key_of e, stamp_of e)) es) 0 n in
-    let one = one_shown (in_view f (key_of e, stamp_of e)) e.source.0 n (all 0 e (omega arith)) in
+    let split = sum_from-ext (λ v. count_by (leaves f v) (e ∷ es))
+    (λ v. cond (leaves f v e) 1 0 + count_by (leaves f v) es)
+    (λ v. sum_by-cons (λ e. cond (leaves f v e) 1 0) e es) 0 n in
+    let added = sum_from-add (λ v. cond (leaves f v e) 1 0) (λ v. count_by (leaves f v) es) 0 n in
+    let one = one_shown (in_view f e) e.0.source n (all 0 e (omega arith)) in
     let rest = by_sources f es n (λ k d h. all (suc k) d (omega arith)) in
-    let counted = sum_by-cons (λ e. cond (in_view f (key_of e, stamp_of e)) 1 0) e es in
+    let counted = sum_by-cons (λ e. cond (in_view f e) 1 0) e es in
     omega (arith, split, added, one, rest, counted)
 
 -- a table's column of out-degrees, added up
@@ -84,15 +83,23 @@ column h (name ∷ names) a =
     (zip names (map h (range_with_len (a + 1) (length names)))) in
     omega (arith, first, column h names (a + 1))
 
-pub edges_in_view : (filter : Filter) (content : Content) → IsContent content
-    → sum_by (λ entry. entry.1.outgoing) (zip content.names (degree_table filter (graph_of content)))
-    ≡ count_by (in_view filter) (entries (graph_of content).edges)
-edges_in_view filter content valid =
-    let sources : All (λ (e : Edge). e.source.0 < length content.names) content.edges =
-    λ k d h. (valid.edges_within k d h).source in
-    column (degree_at filter (graph_of content)) content.names 0
-    ∙ (sum_from-ext (λ v. (degree_at filter (graph_of content) v).outgoing)
-    (λ v. count_by (λ e. leaves filter v (key_of e, stamp_of e)) content.edges)
-    (λ v. count_entries (leaves filter v) content.edges valid.keys_distinct) 0 (length content.names)
-    ∙ (by_sources filter content.edges (length content.names) sources
-    ∙ sym (count_entries (in_view filter) content.edges valid.keys_distinct)))
+-- an entry's key is found
+found : (es : List (Key × Stamp)) (k : ℕ) (d : Key × Stamp) → k < length es
+    → is_some (find key_cmp (get_or es k d).0 es) ≡ true
+found [] k d below = absurd (omega arith)
+found (e ∷ es) zero d below = ap (λ r. is_some (cond (is_eq r) (Some e.1) (find key_cmp e.0 es))) (tied_itself keys_total e.0)
+found (e ∷ es) (suc k) d below = elim (is_eq (key_cmp (get_or es k d).0 e.0)) as
+    (λ b. is_some (cond b (Some e.1) (find key_cmp (get_or es k d).0 es)) ≡ true) [
+      | true ↦ refl
+      | false ↦ found es k d (omega arith)
+    ]
+
+sources : (g : Graph) → IsWithin g → All (λ (e : Key × Stamp). e.0.source < length g.names) (entries g.edges)
+sources g within = λ k d below.
+    (within (get_or (entries g.edges) k d).0
+    (ap is_some (get-entries g.edges (get_or (entries g.edges) k d).0) ∙ found (entries g.edges) k d below)).1
+
+pub edges_in_view : (filter : Filter) (g : Graph) → IsWithin g
+    → sum_by (λ entry. entry.1.outgoing) (zip g.names (degree_table filter g)) ≡ count_by (in_view filter) (entries g.edges)
+edges_in_view filter g within =
+    column (degree_at filter g) g.names 0 ∙ by_sources filter (entries g.edges) (length g.names) (sources g within)

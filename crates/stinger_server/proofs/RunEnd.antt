@@ -1,20 +1,23 @@
 -- Why a run ends as it does.
-use Rattle.std.proofs.Common.{◌≡◌, ℕ, List, length, ◌∙◌, ap, sym}
-use Rattle.std.specs.Prelude.{Bool, false, Option, Result, Ok, Err, IfErr, IfOk, is_err}
-use Rattle.feed_csv.specs.Script.{Script}
+use Rattle.std.proofs.Common.{◌≡◌, ℕ, ◌+◌, ◌-◌, List, length, ◌∙◌, ap, subst, sym, arith, inl}
+use Rattle.std.specs.Prelude.{Bool, false, Option, Some, Result, Ok, Err, IfErr, IfOk, is_err}
+use Rattle.feed_csv.specs.Script.{NextStep, Script, TakesRow}
+use Rattle.feed_csv.specs.declared.command.Command.{Command}
 use Rattle.stinger_server.specs.declared.script.Run.{Run}
 use Rattle.stinger_server.specs.declared.script.ServeFault.{ServeFault}
-use Rattle.stinger_server.specs.declared.script.ServeFault.TheVariants.{Read, Memory, Write}
+use Rattle.stinger_server.specs.declared.script.ServeFault.TheVariants.{Read, Memory, Start, Write}
 use Rattle.stinger_server.specs.declared.script.Summary.{Summary}
 use Rattle.stinger_server.specs.States.{Setup}
-use Rattle.stinger_server.specs.Runs.{HasCause, IsReady, Starts, Turns, is_write}
+use Rattle.stinger_server.specs.Runs.{BreaksOff, Does, HasCause, IsFresh, IsReady, Starts, Turns, done_by, is_write}
 
--- there was no memory for a first record
+-- there was no store, or no memory for a first record
 pub cause_unstarted : (feed : Script) (setup : Setup) (before after : Option (List ℕ)) (failed : Bool) (fault : ServeFault)
-    → Starts setup before (Err fault) after → failed ≡ is_write {T = Run} (Err fault) → HasCause feed failed (Err fault)
-cause_unstarted feed setup before after failed Read ends marked = absurd ends
-cause_unstarted feed setup before after failed Memory ends marked = marked
-cause_unstarted feed setup before after failed Write ends marked = marked
+    → IsFresh feed → Starts setup before (Err fault) after → failed ≡ is_write {T = Run} (Err fault)
+    → HasCause feed failed (Err fault)
+cause_unstarted feed setup before after failed Read fresh ends marked = absurd ends
+cause_unstarted feed setup before after failed Memory fresh ends marked = marked
+cause_unstarted feed setup before after failed Start fresh ends marked = (fresh.reading, fresh.given, marked)
+cause_unstarted feed setup before after failed Write fresh ends marked = marked
 
 -- a turn ended the run
 pub cause_stopped : (feed feed' : Script) (run run' : Run) (now after : Option (List ℕ)) (failed : Bool) (fault : ServeFault)
@@ -22,6 +25,7 @@ pub cause_stopped : (feed feed' : Script) (run run' : Run) (now after : Option (
     → HasCause feed' failed (Err fault)
 cause_stopped feed feed' run run' now after failed Read turned marked = (turned.0, marked)
 cause_stopped feed feed' run run' now after failed Memory turned marked = marked
+cause_stopped feed feed' run run' now after failed Start turned marked = absurd turned
 cause_stopped feed feed' run run' now after failed Write turned marked = marked
 
 -- the feed met the end of the input, and the run was finished
@@ -38,3 +42,18 @@ cause_ended feed feed' run run' now mid failed (Ok summary) ready turned counts 
   marked,
 )
 cause_ended feed feed' run run' now mid failed (Err error) ready turned counts fault marked = rw fault marked
+
+-- a record broke a run off
+pub turn_broken : (command : Command) (field : Option Command) (feed feed' : Script) (run run' : Run)
+    (before after : Option (List ℕ)) (fault : ServeFault) → IsReady feed run → field ≡ Some command
+    → NextStep feed (Ok field) feed' → Does (Ok command) run before (Err fault) run' after
+    → Turns feed run before (Err fault) feed' run' after
+turn_broken command field feed feed' run run' before after Read ready is step does = absurd does
+turn_broken command field feed feed' run run' before after Start ready is step does = absurd does
+turn_broken command field feed feed' run run' before after Memory ready is step does =
+    let taken : NextStep feed (Ok (Some command)) feed' = rw is at step in
+    let count : feed'.given ≡ feed.given + 1 = taken.2.given in
+    (ap (λ phase. done_by phase feed'.given) taken.2.reading ∙ omega (arith, count, ready.records), does)
+turn_broken command field feed feed' run run' before after Write ready is step does =
+    let taken : NextStep feed (Ok (Some command)) feed' = rw is at step in
+    inl (taken.0, taken.2, subst (λ item. BreaksOff item run before after) (sym taken.1) does)

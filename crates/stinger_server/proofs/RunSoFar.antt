@@ -9,7 +9,7 @@ use Rattle.feed_csv.specs.Script.{IsOpen, MeetsEnd, Script, TakesRow}
 use Rattle.feed_csv.specs.declared.command.FeedWord.TheVariants as feed_word
 use Rattle.stinger_server.specs.declared.script.Run.{Run}
 use Rattle.stinger_server.specs.declared.script.ServeFault.{ServeFault}
-use Rattle.stinger_server.specs.declared.script.ServeFault.TheVariants.{Read, Memory, Write}
+use Rattle.stinger_server.specs.declared.script.ServeFault.TheVariants.{Read, Memory, Start, Write}
 use Rattle.stinger_server.specs.declared.script.Summary.{Summary}
 use Rattle.stinger_server.specs.declared.words.Word.{Word}
 use Rattle.stinger_server.specs.declared.words.Word.TheVariants.{Feed}
@@ -159,6 +159,7 @@ stopped setup rows feed feed' run run' before now after Memory reached turned = 
   appends_then before now after reached.lines _ reached.written turned.1,
   cut_of setup rows feed.left run before now (Feed feed_word.Memory) (records_done feed') reached turned.0,
 )
+stopped setup rows feed feed' run run' before now after Start reached turned = absurd turned
 stopped setup rows feed feed' run run' before now after Write reached turned = elim turned [
   | inl broken ↦ broken_off broken
   | inr line ↦ elim line [
@@ -363,5 +364,7 @@ never_started None setup feed before after fault fresh ends = tt
 never_started (Some rows) setup feed before after Read fresh ends = absurd ends
 never_started (Some rows) setup feed before after Memory fresh ends =
     rw (done_none feed fresh) (unstarted setup rows before after ends)
+never_started (Some rows) setup feed before after Start fresh ends =
+    rw (done_none feed fresh) ([], subst (λ now. Appends before now []) (sym ends) (appends_nothing before), (refl, refl))
 never_started (Some rows) setup feed before after Write fresh ends =
     unstarted_part setup rows before after (records_done feed) ends

@@ -1,8 +1,8 @@
-pub mod Limits
 pub mod Lines
 pub mod States
 pub mod Texts
 pub mod Writes
+pub mod Slots
 pub mod Servers
 pub mod Runs
 pub mod Program

@@ -10,7 +10,7 @@ use Rattle.graph_model.specs.declared.batches.Outcome.TheVariants.{Inserted, Upd
 use Rattle.feed_csv.specs.Commands.{word_text as feed_word_text}
 use Rattle.stinger_server.specs.declared.words.Word.{Word}
 use Rattle.stinger_server.specs.declared.words.Word.TheVariants.{Feed, NotOpen, AlreadyOpen, BadWindow, NoKind, NoVertex}
-use Rattle.stinger_server.specs.declared.words.Word.TheVariants.{BatchFull, NamesFull, KindsFull}
+use Rattle.stinger_server.specs.declared.words.Word.TheVariants.{BatchFull, BatchLimit, NamesFull, KindsFull, PoolEmpty}
 
 -- how a refusal is written
 abbrev pub word_text : Word → List ℕ
@@ -23,6 +23,8 @@ word_text NoVertex = codes "NoVertex"
 word_text BatchFull = codes "BatchFull"
 word_text NamesFull = codes "NamesFull"
 word_text KindsFull = codes "KindsFull"
+word_text BatchLimit = codes "BatchLimit"
+word_text PoolEmpty = codes "PoolEmpty"
 
 -- error <record> <Word>
 abbrev pub error_line : ℕ → Word → List ℕ
@@ -46,6 +48,24 @@ commit_line version outcomes =
     ++ (codes " rem=" ++ (decimal (count_by (is_outcome Removed) outcomes)
     ++ (codes " abs=" ++ (decimal (count_by (is_outcome Absent) outcomes)
     ++ (codes " ovf=" ++ (decimal (count_by (is_outcome Overflow) outcomes) ++ codes "\n")))))))))))
+
+-- collect floor=<n> recycled=<n> retired=<n>: the number that the retired were freed up to, how many were freed, and how
+-- many stay retired
+abbrev pub collect_line : ℕ → ℕ → ℕ → List ℕ
+collect_line floor recycled retired =
+    codes "collect floor=" ++ (decimal floor
+    ++ (codes " recycled=" ++ (decimal recycled
+    ++ (codes " retired=" ++ (decimal retired ++ codes "\n")))))
+
+-- stat v=<version> names=<n> edges=<n> free=<n> retired=<n> used=<n>
+abbrev pub stat_line : ℕ → ℕ → ℕ → ℕ → ℕ → ℕ → List ℕ
+stat_line version names edges free retired used =
+    codes "stat v=" ++ (decimal version
+    ++ (codes " names=" ++ (decimal names
+    ++ (codes " edges=" ++ (decimal edges
+    ++ (codes " free=" ++ (decimal free
+    ++ (codes " retired=" ++ (decimal retired
+    ++ (codes " used=" ++ (decimal used ++ codes "\n")))))))))))
 
 -- open <slot> v=<version>
 abbrev pub open_line : ℕ → ℕ → List ℕ

@@ -11,7 +11,7 @@ use Rattle.feed_csv.specs.declared.phase.Phase.{Phase}
 use Rattle.feed_csv.specs.declared.phase.Phase.TheVariants.{Ended, Reading, Stopped}
 use Rattle.stinger_server.specs.declared.script.Run.{Run}
 use Rattle.stinger_server.specs.declared.script.ServeFault.{ServeFault}
-use Rattle.stinger_server.specs.declared.script.ServeFault.TheVariants.{Read, Memory, Write}
+use Rattle.stinger_server.specs.declared.script.ServeFault.TheVariants.{Read, Memory, Start, Write}
 use Rattle.stinger_server.specs.declared.script.Summary.{Summary}
 use Rattle.stinger_server.specs.declared.server.Response.{Response}
 use Rattle.stinger_server.specs.declared.server.Response.TheVariants.{Lines, Refused}
@@ -41,12 +41,13 @@ pub record ShowsRun (run : Run) (here : Progress) : Type 0 where
   pub records : run.records ≡ here.records
   pub errors : run.errors ≡ here.errors
 
--- nothing is counted, and nothing is written; or there is no memory for a first record
+-- nothing is counted, and nothing is written; or there is no memory for a first record, or the store was not opened
 abbrev pub Starts : Setup → Option (List ℕ) → Result Run ServeFault → Option (List ℕ) → Type 0
 Starts setup before (Ok run) after =
     IsServer run.server × (run.records ≡ 0) × (run.errors ≡ 0) × ShowsRun run (beginning setup) × (after ≡ before)
 Starts setup before (Err Read) after = ⊥
 Starts setup before (Err Memory) after = Appends before after (error_line 1 (Feed word.Memory))
+Starts setup before (Err Start) after = after ≡ before
 Starts setup before (Err Write) after = AppendsPart before after (error_line 1 (Feed word.Memory))
 
 abbrev pub refusals : Response → ℕ
@@ -81,6 +82,7 @@ abbrev pub Does : Result Command FeedWord → Run → Option (List ℕ) → Resu
 Does item old before (Ok u) new after = Done item old before new after
 Does item old before (Err Read) new after = ⊥
 Does item old before (Err Memory) new after = Appends before after (error_line (old.records + 1) (Feed word.Memory))
+Does item old before (Err Start) new after = ⊥
 Does item old before (Err Write) new after = BreaksOff item old before after
 
 -- the feed stopped, since csv's reader failed or the limit was reached
@@ -106,6 +108,7 @@ Turns feed run before (Err Read) feed' run' after =
     HasReadFault feed' × (records_done feed' ≡ run.records) × Appends before after (error_line (run.records + 1) (Feed word.Read))
 Turns feed run before (Err Memory) feed' run' after =
     (records_done feed' ≡ run.records) × Appends before after (error_line (run.records + 1) (Feed word.Memory))
+Turns feed run before (Err Start) feed' run' after = ⊥
 Turns feed run before (Err Write) feed' run' after =
     ((row : Row) × TakesRow feed row feed' × BreaksOff (item_of row) run before after)
     ⊎ (AppendsPart before after (error_line (run.records + 1) (Feed word.Read))
@@ -116,14 +119,24 @@ abbrev pub is_write : {T : Type 0} → Result T ServeFault → Bool
 is_write (Ok x) = false
 is_write (Err Read) = false
 is_write (Err Memory) = false
+is_write (Err Start) = false
 is_write (Err Write) = true
+
+-- whether there was no store for a run
+abbrev pub is_start : {T : Type 0} → Result T ServeFault → Bool
+is_start (Ok x) = false
+is_start (Err Read) = false
+is_start (Err Memory) = false
+is_start (Err Start) = true
+is_start (Err Write) = false
 
 -- Why a run ends as it does, by what its feed came to and whether a call of the writer failed: at Ok the feed met the end of
 -- the input, and csv's reader never failed; Read is told of the feed's fault alone, and Write of the writer's. Nothing can be
--- said of memory, except that it is no other fault.
+-- said of memory, except that it is no other fault; and without a store nothing was read.
 abbrev pub HasCause : Script → Bool → Result Summary ServeFault → Type 0
 HasCause feed failed (Ok summary) =
     (feed.phase ≡ Ended) × (feed.failed ≡ false) × (summary.records ≡ feed.given) × (failed ≡ false)
 HasCause feed failed (Err Read) = HasReadFault feed × (failed ≡ false)
 HasCause feed failed (Err Memory) = failed ≡ false
+HasCause feed failed (Err Start) = (feed.phase ≡ Reading) × (feed.given ≡ 0) × (failed ≡ false)
 HasCause feed failed (Err Write) = failed ≡ true

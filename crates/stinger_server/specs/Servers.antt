@@ -1,39 +1,44 @@
 -- A server's fields, and the states that they show.
-use Rattle.std.specs.Prelude.{◌≡◌, ℕ, ◌<◌, ◌≤◌, List, [], ◌∷◌, All, bytes_eq, length, map, count_by, sum_by, Option, None, Some}
-use Rattle.std.specs.Prelude.{Ok, Err}
-use Rattle.graph_model.specs.Graph.{Graph, IsContent, graph_of}
+use Rattle.std.specs.Prelude.{◌≡◌, ℕ, ◌≤◌, List, bytes_eq, length, count_by, sum_by, Ok, Err, Bool}
 use Rattle.graph_model.specs.Limits.{name_limit}
-use Rattle.graph_model.specs.Step.{after_all}
-use Rattle.graph_model.specs.declared.batches.NamedOp.{NamedOp}
+use Rattle.graph_model.specs.Step.{empty_graph}
+use Rattle.graph_version.specs.Versions.{layout_of}
+use Rattle.block_pool.specs.Pools.{is_free}
+use Rattle.store_journal.specs.Desks.{DeskView, is_retired_by}
 use Rattle.graph_model.specs.declared.requests.Reply.{Reply}
 use Rattle.graph_model.specs.declared.requests.Reply.TheVariants.{Cores, Degrees, Labels, Levels, OneEdge}
 use Rattle.feed_csv.specs.declared.command.Command.{Command}
+use Rattle.feed_csv.specs.declared.command.FeedWord.TheVariants as feed
+use Rattle.stream_store.specs.declared.receipts.ApplyError.{ApplyError}
+use Rattle.stream_store.specs.declared.receipts.ApplyError.TheVariants as refused
+use Rattle.stinger_server.specs.declared.words.Word.{Word}
+use Rattle.stinger_server.specs.declared.words.Word.TheVariants.{Feed, BatchLimit, NamesFull, KindsFull, PoolEmpty}
 use Rattle.stinger_server.specs.Lines.{core_lines, degree_lines, edge_line, label_lines, level_lines}
+use Rattle.stinger_server.specs.Slots.{IsKept, held_numbers}
 use Rattle.stinger_server.specs.States.{IsDone, RecordResult, State, after_command}
 use Rattle.stinger_server.specs.declared.server.Server.{Server}
 use Rattle.stinger_server.specs.declared.server.Response.{Response}
 use Rattle.stinger_server.specs.declared.server.Response.TheVariants.{Lines, Refused}
 
--- a graph, what the first batch leaves of it, what the first two leave, and so on
-abbrev pub versions_from : Graph → List (List NamedOp) → List Graph
-versions_from g [] = g ∷ []
-versions_from g (batch ∷ batches) = g ∷ versions_from (after_all batch g) batches
-
-abbrev pub IsBelow : ℕ → Option ℕ → Type 0
-IsBelow n None = Unit {0}
-IsBelow n (Some held) = held < n
-
--- there is a content for each version, version 0 among them, and a slot holds none but these
+-- the desk's last version is one of an opening without edges, and the slots hold it or versions before it
 pub record IsServer (server : Server) : Type 0 where
-  pub contents : All IsContent server.contents.items
-  pub some_content : 0 < length server.contents.items
-  pub held : All (IsBelow (length server.contents.items)) server.held.items
+  pub opening : server.desk.desk.last.opening ≡ empty_graph
+  pub slots : IsKept server.desk.desk.last server.slots
 
--- the fields are those of the state: a content for each version
+-- the desk's last version is that of the state, and as many blocks are free, and retired by each number, as the state says
+pub record ShowsDesk (d : DeskView) (s : State) : Type 0 where
+  pub opening : d.last.opening ≡ s.opening
+  pub batches : d.last.batches ≡ s.batches
+  pub layout : layout_of d.last.rows ≡ s.layout
+  pub blocks : length d.pool ≡ s.blocks
+  pub free : count_by is_free d.pool ≡ s.free
+  pub retired : (q : ℕ → Bool) → count_by (is_retired_by q) d.pool ≡ count_by q s.retired
+
+-- the fields are those of the state
 pub record Shows (server : Server) (s : State) : Type 0 where
   pub pending : server.pending ≡ s.pending
-  pub contents : map graph_of server.contents.items ≡ versions_from s.opening s.batches
-  pub held : server.held.items ≡ s.held
+  pub desk : ShowsDesk server.desk.desk s
+  pub held : held_numbers server.slots ≡ s.held
 
 -- what a record came to, with the lines in the buffer
 abbrev pub result_of : Response → List ℕ → RecordResult
@@ -45,6 +50,14 @@ abbrev pub Obeys : Command → Server → Response → List ℕ → Server → T
 Obeys command old response lines new =
     (s : State) → Shows old s
     → IsDone command s (result_of response lines) × Shows new (after_command command (result_of response lines) s)
+
+-- the word for a refusal of the desk; want of memory is told as the feed tells it
+abbrev pub batch_word : ApplyError → Word
+batch_word refused.BatchLimit = BatchLimit
+batch_word refused.NamesFull = NamesFull
+batch_word refused.KindsFull = KindsFull
+batch_word (refused.PoolEmpty needed free) = PoolEmpty
+batch_word refused.OutOfMemory = Feed feed.Memory
 
 -- a table of degrees has at most so many entries
 abbrev pub HasFewEntries : Reply → Type 0

@@ -1,9 +1,11 @@
 -- Where a run stands between two records, and what one record does.
-use Rattle.std.specs.Prelude.{◌≡◌, ℕ, ◌+◌, nat_lt, List, [], ◌∷◌, ◌++◌, length, map, take, replicate, slice_get, slice_set}
-use Rattle.std.specs.Prelude.{count_by, if◌then◌else◌, Option, None, Some, Result, Ok, Err}
-use Rattle.std.specs.FinMap.{entries}
+use Rattle.std.specs.Prelude.{◌≡◌, ℕ, ◌+◌, ◌-◌, min, nat_le, nat_lt, List, [], ◌∷◌, ◌++◌, length, map, take, replicate, filter}
+use Rattle.std.specs.Prelude.{slice_get, slice_set, count_by, if◌then◌else◌, Option, None, Some, Result, Ok, Err}
+use Rattle.std.specs.FinMap.{entries, len}
+use Rattle.block_layout.specs.Batches.{dropped_by, layout_after, taken_by}
+use Rattle.block_layout.specs.Rows.{Shape}
 use Rattle.graph_model.specs.Graph.{Graph}
-use Rattle.graph_model.specs.Limits.{kind_limit, name_limit}
+use Rattle.graph_model.specs.Limits.{batch_limit, kind_limit, name_limit}
 use Rattle.graph_model.specs.Step.{after_all, empty_graph, left_by, outcomes}
 use Rattle.graph_model.specs.View.{in_view}
 use Rattle.graph_model.specs.Valid.{push_refusal}
@@ -18,32 +20,38 @@ use Rattle.graph_model.specs.declared.requests.Reply.TheVariants as reply
 use Rattle.graph_model.specs.declared.requests.AskError.{AskError}
 use Rattle.graph_model.specs.declared.requests.AskError.TheVariants as ask
 use Rattle.feed_csv.specs.declared.command.Command.{Command}
-use Rattle.feed_csv.specs.declared.command.Command.TheVariants.{Op, Commit, OpenSlot, CloseSlot, Query}
+use Rattle.feed_csv.specs.declared.command.Command.TheVariants.{Op, Commit, OpenSlot, CloseSlot, Query, Collect, Stat}
 use Rattle.feed_csv.specs.declared.command.FeedWord.{FeedWord}
 use Rattle.feed_csv.specs.declared.command.FeedWord.TheVariants as feed
-use Rattle.stinger_server.specs.declared.config.Config.{Config}
+use Rattle.stream_store.specs.Configs.{ConfigView}
 use Rattle.stinger_server.specs.declared.words.Word.{Word}
 use Rattle.stinger_server.specs.declared.words.Word.TheVariants.{Feed, NotOpen, AlreadyOpen, BadWindow, NoKind, NoVertex}
-use Rattle.stinger_server.specs.declared.words.Word.TheVariants.{BatchFull, NamesFull, KindsFull}
-use Rattle.stinger_server.specs.Lines.{close_line, commit_line, core_lines, count_different, degree_lines, edge_line, error_line}
-use Rattle.stinger_server.specs.Lines.{label_lines, level_lines, open_line}
+use Rattle.stinger_server.specs.declared.words.Word.TheVariants.{BatchFull, BatchLimit, NamesFull, KindsFull, PoolEmpty}
+use Rattle.stinger_server.specs.Lines.{close_line, collect_line, commit_line, core_lines, count_different, degree_lines}
+use Rattle.stinger_server.specs.Lines.{edge_line, error_line, label_lines, level_lines, open_line, stat_line}
 
--- how a run is set up: the graph that it opens with, and how many seats there are
+-- how a run is set up: the graph that it opens with, and how many blocks and seats there are
 pub record Setup : Type 0 where
   pub opening : Graph
+  pub blocks : ℕ
   pub seats : ℕ
 
--- a configuration opens with the empty graph
-abbrev pub set_up : Config → Setup
-set_up config = record { opening = empty_graph; seats = config.seats }
+-- a configuration opens with the empty graph; how many workers there are changes nothing that is written
+abbrev pub set_up : ConfigView → Setup
+set_up config = record { opening = empty_graph; blocks = config.blocks; seats = config.seats }
 
--- the graph of version 0; the pending operations; the batches accepted so far, in order; and the version that each slot
--- holds, or none, for as many slots as there are seats
+-- the graph of version 0; the pending operations; the batches accepted so far, in order; the version that each slot
+-- holds, or none, for as many slots as there are seats; the last version's row of blocks for each source; how many blocks
+-- there are, and how many of them are free; and for each retired block the number of the version that retired it
 pub record State : Type 0 where
   pub opening : Graph
   pub pending : List NamedOp
   pub batches : List (List NamedOp)
   pub held : List (Option ℕ)
+  pub layout : ℕ → List Shape
+  pub blocks : ℕ
+  pub free : ℕ
+  pub retired : List ℕ
 
 -- how far a run has come: its state, how many records there were, and how many of them printed an error line
 pub record Progress : Type 0 where
@@ -51,10 +59,19 @@ pub record Progress : Type 0 where
   pub records : ℕ
   pub errors : ℕ
 
--- at the start nothing is pending, accepted or held
+-- at the start nothing is pending, accepted or held, no source has a block, and all blocks are free
 abbrev pub beginning : Setup → Progress
 beginning setup = record {
-  state = record { opening = setup.opening; pending = []; batches = []; held = replicate setup.seats None };
+  state = record {
+    opening = setup.opening;
+    pending = [];
+    batches = [];
+    held = replicate setup.seats None;
+    layout = λ source. [];
+    blocks = setup.blocks;
+    free = setup.blocks;
+    retired = [];
+  };
   records = 0;
   errors = 0;
 }
@@ -89,12 +106,55 @@ ask_word ask.NoKind = NoKind
 ask_word ask.NoVertex = NoVertex
 ask_word ask.OutOfMemory = Feed feed.Memory
 
--- the pending batch is refused where it would leave more names than the limit, and else where more kinds
+-- what the pending batch would leave of the last version
+abbrev pub left_by_pending : State → Graph
+left_by_pending s = after_all s.pending (last_version s)
+
+-- how many blocks the pending batch takes and drops, by the layout rule
+abbrev pub taken : State → ℕ
+taken s = taken_by s.pending (last_version s) s.layout (length (left_by_pending s).names)
+
+abbrev pub dropped : State → ℕ
+dropped s = dropped_by s.pending (last_version s) s.layout (length (left_by_pending s).names)
+
+-- the pending batch is refused behind so many batches; else where it would leave more names than the limit; else where more
+-- kinds; else where it has more operations than blocks are free
 abbrev pub commit_refusal : State → Option Word
 commit_refusal s =
-    let left = after_all s.pending (last_version s) in
-    if nat_lt name_limit (length left.names) then Some NamesFull
-    else (if nat_lt kind_limit (length left.kinds) then Some KindsFull else None)
+    if nat_le batch_limit (length s.batches) then Some BatchLimit
+    else (if nat_lt name_limit (length (left_by_pending s).names) then Some NamesFull
+    else (if nat_lt kind_limit (length (left_by_pending s).kinds) then Some KindsFull
+    else (if nat_lt s.free (length s.pending) then Some PoolEmpty else None)))
+
+-- the pending batch is accepted: the blocks that it takes are no longer free, and those that it drops are retired with
+-- the new version's number
+abbrev pub after_commit : State → State
+after_commit s = record s {
+  pending = [];
+  batches = s.batches ++ s.pending ∷ [];
+  layout = layout_after s.pending (last_version s) s.layout;
+  free = s.free - taken s;
+  retired = s.retired ++ replicate (dropped s) (length s.batches + 1);
+}
+
+-- the floor: the least of the last version's number and all held numbers
+abbrev pub least_held : ℕ → List (Option ℕ) → ℕ
+least_held last [] = last
+least_held last (None ∷ held) = least_held last held
+least_held last (Some n ∷ held) = min n (least_held last held)
+
+abbrev pub floor_of : State → ℕ
+floor_of s = least_held (length s.batches) s.held
+
+-- how many blocks a collection frees: those retired with a number at most the floor
+abbrev pub recycled : State → ℕ
+recycled s = count_by (λ number. nat_le number (floor_of s)) s.retired
+
+abbrev pub after_collect : State → State
+after_collect s = record s {
+  free = s.free + recycled s;
+  retired = filter (λ number. nat_lt (floor_of s) number) s.retired;
+}
 
 abbrev pub op_refusal : Option PushError → Option Word
 op_refusal None = None
@@ -149,19 +209,26 @@ IsDone (OpenSlot slot) s outcome = outcome
     ≡ lines_unless (open_refusal (slice_get s.held slot)) (open_line slot (length s.batches))
 IsDone (CloseSlot slot) s outcome = outcome ≡ close_result slot (version_in (slice_get s.held slot))
 IsDone (Query slot request) s outcome = IsReplied slot request s (version_in (slice_get s.held slot)) outcome
+IsDone Collect s outcome = outcome ≡ Ok (collect_line (floor_of s) (recycled s) (length (after_collect s).retired))
+IsDone Stat s outcome = outcome ≡ Ok (stat_line (length s.batches) (length (last_version s).names)
+    (len (last_version s).edges) s.free (length s.retired) (s.blocks - (s.free + length s.retired)))
 
 -- the state that a command leaves: a refused one changes nothing, but a refused batch is given up
 abbrev pub after_command : Command → RecordResult → State → State
 after_command (Op op) (Ok lines) s = record s { pending = s.pending ++ op ∷ [] }
-after_command Commit (Ok lines) s = record s { pending = []; batches = s.batches ++ s.pending ∷ [] }
+after_command Commit (Ok lines) s = after_commit s
 after_command Commit (Err word) s = record s { pending = [] }
 after_command (OpenSlot slot) (Ok lines) s = record s { held = slice_set s.held slot (Some (length s.batches)) }
 after_command (CloseSlot slot) (Ok lines) s = record s { held = slice_set s.held slot None }
 after_command (Query slot request) (Ok lines) s = s
+after_command Collect (Ok lines) s = after_collect s
+after_command Stat (Ok lines) s = s
 after_command (Op op) (Err word) s = s
 after_command (OpenSlot slot) (Err word) s = s
 after_command (CloseSlot slot) (Err word) s = s
 after_command (Query slot request) (Err word) s = s
+after_command Collect (Err word) s = s
+after_command Stat (Err word) s = s
 
 -- a record is a command, or is refused for the word that its fields have
 abbrev pub IsRecordResult : Result Command FeedWord → State → RecordResult → Type 0

@@ -4,7 +4,7 @@ use Rattle.feed_csv.specs.Commands.{item_of}
 use Rattle.feed_csv.specs.Records.{Row, record_limit}
 use Rattle.feed_csv.specs.declared.command.FeedWord.TheVariants as feed
 use Rattle.stinger_server.specs.declared.script.ServeFault.{ServeFault}
-use Rattle.stinger_server.specs.declared.script.ServeFault.TheVariants.{Read, Memory, Write}
+use Rattle.stinger_server.specs.declared.script.ServeFault.TheVariants.{Read, Memory, Start, Write}
 use Rattle.stinger_server.specs.declared.script.Summary.{Summary}
 use Rattle.stinger_server.specs.declared.words.Word.{Word}
 use Rattle.stinger_server.specs.declared.words.Word.TheVariants.{Feed}
@@ -48,10 +48,11 @@ abbrev pub summary_of : Progress → Summary
 summary_of p = record { records = p.records; errors = p.errors; pending = length p.state.pending }
 
 -- what a run that did so many records has written when it returns: the whole text; or the text up to a fault; or, where a write
--- failed, a first part of such a text
+-- failed, a first part of such a text; or nothing, where the store was not opened
 abbrev pub IsText : Setup → List Row → ℕ → Result Summary ServeFault → List ℕ → Type 0
 IsText setup rows count (Ok summary) text =
     (there : Progress) × IsWhole setup rows text there × (there.records ≡ count) × (summary ≡ summary_of there)
 IsText setup rows count (Err Read) text = IsCut setup rows (Feed feed.Read) count text
 IsText setup rows count (Err Memory) text = IsCut setup rows (Feed feed.Memory) count text
+IsText setup rows count (Err Start) text = (text ≡ []) × (count ≡ 0)
 IsText setup rows count (Err Write) text = (full : List ℕ) × (rest : List ℕ) × IsWanted setup rows full × (full ≡ text ++ rest)

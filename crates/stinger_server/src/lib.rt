@@ -2,7 +2,6 @@
 //! `specs/Texts.antt` says of them.
 #![tactic(auto)]
 
-mod config;
 mod laws;
 mod lines;
 mod output;
@@ -10,12 +9,13 @@ mod program;
 mod script;
 mod server;
 mod sink;
+mod slots;
 mod words;
 
-pub use config::{BadConfig, Config};
 pub use laws::law_one_text;
 pub use program::{refuse_arguments, stinger};
 pub use script::{ServeFault, Summary, serve};
+pub use stream_store::{BadConfig, Config};
 
 #[cfg(test)]
 mod tests;

@@ -6,10 +6,11 @@ ghost use Rattle.stinger_server.specs.Lines as lines_of;
 
 use graph_model::{Degree, Name, Outcome};
 use std::alloc::AllocError;
+use stream_store::{Collected, Stat};
 
 pub(crate) fn commit(
     lines: &mut String,
-    version: usize,
+    version: u64,
     outcomes: &[Outcome],
 ) -> Result<(), AllocError>
     ensures { OnOk result (string_bytes lines.new ≡ string_bytes lines.old ++ lines_of.commit_line version outcomes.now) }
@@ -34,7 +35,7 @@ fn count_of(outcomes: &[Outcome], wanted: Outcome) -> usize
         .count()
 }
 
-pub(crate) fn open(lines: &mut String, slot: u8, version: usize) -> Result<(), AllocError>
+pub(crate) fn open(lines: &mut String, slot: u8, version: u64) -> Result<(), AllocError>
     ensures { OnOk result (string_bytes lines.new ≡ string_bytes lines.old ++ lines_of.open_line slot version) }
 {
     write!(lines, "open {slot} v={version}\n")
@@ -44,6 +45,35 @@ pub(crate) fn close(lines: &mut String, slot: u8) -> Result<(), AllocError>
     ensures { OnOk result (string_bytes lines.new ≡ string_bytes lines.old ++ lines_of.close_line slot) }
 {
     write!(lines, "close {slot}\n")
+}
+
+pub(crate) fn collect(lines: &mut String, collected: Collected) -> Result<(), AllocError>
+    ensures { OnOk result (string_bytes lines.new ≡ string_bytes lines.old
+        ++ lines_of.collect_line collected.floor collected.recycled collected.retired) }
+{
+    let floor = collected.floor;
+    let recycled = collected.recycled;
+    let retired = collected.retired;
+    write!(
+        lines,
+        "collect floor={floor} recycled={recycled} retired={retired}\n"
+    )
+}
+
+pub(crate) fn stat(lines: &mut String, stat: Stat) -> Result<(), AllocError>
+    ensures { OnOk result (string_bytes lines.new ≡ string_bytes lines.old
+        ++ lines_of.stat_line stat.number stat.names stat.edges stat.free stat.retired stat.used) }
+{
+    let number = stat.number;
+    let names = stat.names;
+    let edges = stat.edges;
+    let free = stat.free;
+    let retired = stat.retired;
+    let used = stat.used;
+    write!(
+        lines,
+        "stat v={number} names={names} edges={edges} free={free} retired={retired} used={used}\n"
+    )
 }
 
 pub(crate) fn edge(

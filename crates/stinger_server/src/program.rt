@@ -1,18 +1,25 @@
 //! The program over its arguments.
 
-ghost use Rattle.std.specs.Prelude.{◌≡◌, ◌⊎◌, ◌++◌, ◌∷◌, [], codes, false, IfOk, map, OnOk, OnErr};
-ghost use Rattle.clap.specs.Words.{app_of};
+ghost use Rattle.std.specs.Prelude.{◌≡◌, ◌≢◌, ◌⊎◌, ◌++◌, ◌∷◌, [], codes, false, IfOk, map, OnOk, OnErr};
+ghost use Rattle.std.specs.Prelude.{option_and_then};
+ghost use Rattle.clap.specs.Words.{app_of, kind_of, rule_of, subcommand_rows_of};
 ghost use Rattle.std.specs.Io.KnownBytes.{Appends};
-ghost use Rattle.stinger_server.specs.Program.{EachAsks, EndsWith, IsServed, IsTold, OnlyRunServes, asked, asked_of_command};
-ghost use Rattle.stinger_server.specs.Program.{is_version, program, without_help};
+ghost use Rattle.stinger_server.specs.Program.{Asked, EachAsks, EachIsRefused, EachServes, EndsWith, IsServed, IsTold};
+ghost use Rattle.stinger_server.specs.Program.{ReadsPlainly, ServesWithinLimits, arguments_of};
+ghost use Rattle.stream_store.specs.Configs.{ConfigView};
+ghost use Rattle.stinger_server.specs.Program.{asked, asked_by_kind, asked_for, asked_of_command, default_sizes};
+ghost use Rattle.stinger_server.specs.Program.{is_version, program, size_rule, sizes_given, sizes_in, sizes_of, without_help};
 ghost use Rattle.stinger_server.specs.Writes.{AppendsPart, held};
 
 use crate::sink::{Sink, Unwritten};
-use crate::{Config, ServeFault, output, serve};
+use crate::{BadConfig, Config, ServeFault, output, serve};
+use clap::builder::ValueParser;
 use clap::error::ErrorKind;
-use clap::{Command, Error};
+use clap::{Arg, ArgMatches, Command, Error};
 use std::alloc::AllocError;
 use std::io::{Read, Write};
+use std::sync::Wait;
+use std::thread::Threads;
 
 // The whole input was read and no record was refused, or the text that was asked for was written.
 const DONE: u8 = 0;
@@ -25,6 +32,12 @@ const USAGE: u8 = 2;
 
 const ABOUT: &str =
     "A store of a directed graph that changes by batches, with held snapshots (STINGER, HPEC 2012).";
+
+const WORKERS: &str = "How many workers apply a batch, from 1 to 8";
+
+const BLOCKS: &str = "How many blocks hold edges, from 16 to 65536";
+
+const SEATS: &str = "How many slots there are, from 1 to 16";
 
 const VERSION: &str = "stinger 0.1.0\n";
 
@@ -69,8 +82,9 @@ an edge whose weight would leave its limits stays as it was (ovf).
 
 Limits: a name has 1 to 64 bytes from ! to ~, and a kind is not *. A weight or an amount
 is from -1099511627776 to 1099511627776. A time is from 0 to 9223372036854775807. A slot is
-0 or 1. A batch has at most 4,096 operations, a graph 65,536 names and 64 kinds. A script
-has fewer than 1,000,000 records.
+a whole number below that of the seats, which `--seats` gives (2 without it). A batch has at
+most 4,096 operations, a graph 65,536 names and 64 kinds. A script has fewer than 1,000,000
+records.
 
 A session, with what each record prints beside it:
 
@@ -97,34 +111,43 @@ const HINT: &str = "\
 
 static HELP_FLAG: [&str; 1] = ["--help"];
 
-/// What the arguments ask for.
+/// How many workers, blocks and seats a run has.
 #[derive(Clone, Copy, Debug, PartialEq, Eq)]
-pub(crate) enum Asked {
-    Serve,
-    Help,
+pub(crate) struct Sizes {
+    workers: usize,
+    blocks: u32,
+    seats: usize,
+}
+
+/// What the arguments ask for, with the text that clap has for it.
+#[derive(Debug, Drop)]
+pub(crate) enum Order {
+    Serve(Sizes),
+    Help(String),
     Version,
-    Usage,
+    Usage(String),
 }
 
 /// The whole program over the arguments after its name, with `faults` as its standard error: `run` serves `reader`
-/// into `writer` at 2 seats; `--help`, `-h`, `help` and `run --help` write a text to `writer` which ends with the
-/// formats of records; `--version` writes the version.
+/// into `writer`; its options `--workers`, `--blocks` and `--seats`, each at most once, have a whole number from 1 to 8,
+/// from 16 to 65,536 and from 1 to 16, and 4, 16,384 and 2 where they are left out; `--help`, `-h`, `help` and
+/// `run --help` write a text to `writer` which ends with the formats of records; `--version` writes the version.
 ///
 /// The answer is the exit status: 0 where the script was read to its end without an error line, or the whole text
 /// was written; 1 where there was an error line or the run broke off, and where memory or a writer failed outside
 /// the run; and 2, with a text on `faults` alone, where the arguments are none of these. Where `writer` failed, a
 /// line on `faults` says so. That a write, a flush or a growth failed is told by the writers and the memory, so no
 /// clause says when 1 comes in place of 0 or 2.
-pub fn stinger<'a, A: AllocGlobal, R: Read + Drop, W: Write, F: Write>(
+pub fn stinger<'a, A: AllocGlobal + Threads + Wait + Sync, R: Read + Drop, W: Write, F: Write>(
     rt: &A,
     arguments: &'a [&'a str],
     reader: R,
     writer: &mut W,
     faults: &mut F,
 ) -> u8
-    ensures served { asked (map (λ argument. argument.now) arguments.now) ≡ Asked.Serve
+    ensures served { (sizes : ConfigView) → asked (map (λ argument. argument.now) arguments.now) ≡ Asked.Serve sizes
         → ((result ≡ 1) × (writer.new ≡ writer.old) × (faults.new ≡ faults.old))
-        ⊎ IsServed (R.remaining reader) result (W.contents writer.old) (W.contents writer.new)
+        ⊎ IsServed sizes (R.remaining reader) result (W.contents writer.old) (W.contents writer.new)
         F.contents UNWRITTEN.now faults.old faults.new }
     ensures helped { asked (map (λ argument. argument.now) arguments.now) ≡ Asked.Help
         → IsTold (EndsWith FORMATS.now) 0 result (W.contents writer.old) (W.contents writer.new) }
@@ -138,10 +161,10 @@ pub fn stinger<'a, A: AllocGlobal, R: Read + Drop, W: Write, F: Write>(
         → (writer.new ≡ writer.old) × IsTold (EndsWith HINT.now) 2 result (F.contents faults.old) (F.contents faults.new) }
 {
     match read_arguments(rt, arguments) {
-        Ok((Asked::Serve, _)) => run(rt, reader, writer, faults),
-        Ok((Asked::Help, text)) => show(writer, faults, text.as_str(), FORMATS),
-        Ok((Asked::Version, _)) => show(writer, faults, "", VERSION),
-        Ok((Asked::Usage, text)) => tell(faults, text.as_str(), HINT, USAGE),
+        Ok(Order::Serve(sizes)) => run_sizes(rt, sizes, reader, writer, faults),
+        Ok(Order::Help(text)) => show(writer, faults, text.as_str(), FORMATS),
+        Ok(Order::Version) => show(writer, faults, "", VERSION),
+        Ok(Order::Usage(text)) => tell(faults, text.as_str(), HINT, USAGE),
         Err(_) => FAULTY,
     }
 }
@@ -154,31 +177,89 @@ pub fn refuse_arguments<F: Write>(faults: &mut F) -> u8
     tell(faults, NOT_TEXT, HINT, USAGE)
 }
 
-/// What arguments ask for, at lists that are written out, and that no others have a script served.
+/// What arguments ask for, at lists that are written out; that without options it is what our own words say; and that a
+/// script is served with sizes within their limits alone.
 pub(crate) fn law_arguments()
-    ensures serve { EachAsks Asked.Serve ((codes "run" ∷ []) ∷ (codes "run" ∷ codes "--" ∷ []) ∷ []) }
+    ensures serve { EachAsks (Asked.Serve default_sizes) ((codes "run" ∷ []) ∷ (codes "run" ∷ codes "--" ∷ []) ∷ []) }
     ensures help { EachAsks Asked.Help ((codes "--help" ∷ []) ∷ (codes "-h" ∷ []) ∷ (codes "help" ∷ [])
         ∷ (codes "help" ∷ codes "run" ∷ []) ∷ (codes "run" ∷ codes "--help" ∷ []) ∷ (codes "run" ∷ codes "-h" ∷ []) ∷ []) }
     ensures version { EachAsks Asked.Version ((codes "--version" ∷ []) ∷ (codes "--version" ∷ codes "run" ∷ []) ∷ []) }
     ensures usage { EachAsks Asked.Usage ([] ∷ (codes "fly" ∷ []) ∷ (codes "run" ∷ codes "now" ∷ [])
         ∷ (codes "run" ∷ codes "run" ∷ []) ∷ (codes "--" ∷ codes "run" ∷ []) ∷ (codes "--help=run" ∷ []) ∷ (codes "-w" ∷ [])
         ∷ (codes "" ∷ []) ∷ (codes "run" ∷ codes "--version" ∷ []) ∷ []) }
-    ensures only { OnlyRunServes }
+    ensures plain { ReadsPlainly }
+    ensures limits { ServesWithinLimits }
 {}
 
-/// Serves the reader: 4 workers, 16,384 blocks and 2 seats.
-fn run<A: AllocGlobal, R: Read + Drop, W: Write, F: Write>(
+/// What the options of `run` ask for: each by itself, in both its forms and at both its limits, all three in any order,
+/// and the mistakes: a number past a limit, no number, no value, an option twice, a value too many.
+pub(crate) fn law_options()
+    ensures workers { EachServes 1 16384 2 (codes "run --workers 1" ∷ codes "run --workers=1" ∷ codes "run --workers 01 --"
+        ∷ []) }
+    ensures most_workers { EachServes 8 16384 2 (codes "run --workers 8" ∷ codes "run --workers=8" ∷ []) }
+    ensures blocks { EachServes 4 16 2 (codes "run --blocks 16" ∷ codes "run --blocks=16" ∷ []) }
+    ensures most_blocks { EachServes 4 65536 2 (codes "run --blocks 65536" ∷ codes "run --blocks=65536" ∷ []) }
+    ensures seats { EachServes 4 16384 1 (codes "run --seats 1" ∷ codes "run --seats=1" ∷ []) }
+    ensures most_seats { EachServes 4 16384 16 (codes "run --seats 16" ∷ codes "run --seats=16" ∷ []) }
+    ensures all { EachServes 2 64 3 (codes "run --workers 2 --blocks 64 --seats 3" ∷ codes "run --workers=2 --seats=3 --blocks=64"
+        ∷ codes "run --blocks 64 --workers 2 --seats 3" ∷ codes "run --blocks=64 --seats 3 --workers 2"
+        ∷ codes "run --seats 3 --workers=2 --blocks 64" ∷ codes "run --seats 3 --blocks 64 --workers 2" ∷ []) }
+    ensures workers_past { EachIsRefused (codes "run --workers 0" ∷ codes "run --workers 9" ∷ codes "run --workers=256"
+        ∷ codes "run --workers -1" ∷ codes "run --workers x" ∷ codes "run --workers " ∷ codes "run --workers=" ∷ []) }
+    ensures blocks_past { EachIsRefused (codes "run --blocks 15" ∷ codes "run --blocks 65537" ∷ codes "run --blocks 4294967312"
+        ∷ codes "run --blocks 1e3" ∷ codes "run --blocks " ∷ []) }
+    ensures seats_past { EachIsRefused (codes "run --seats 0" ∷ codes "run --seats 17" ∷ codes "run --seats 2.0"
+        ∷ codes "run --seats=" ∷ []) }
+    ensures twice { EachIsRefused (codes "run --workers 2 --workers 2" ∷ codes "run --blocks=64 --blocks 64"
+        ∷ codes "run --seats 1 --blocks 64 --seats 1" ∷ []) }
+    ensures without_value { EachIsRefused (codes "run --workers" ∷ codes "run --seats 3 --blocks" ∷ codes "run --seats"
+        ∷ codes "run --workers --seats 2" ∷ []) }
+    ensures elsewhere { EachIsRefused (codes "--workers 2 run" ∷ codes "--seats=1" ∷ codes "run 2" ∷ codes "run --workers 2 3"
+        ∷ codes "run -- --workers 2" ∷ codes "run --worker 2" ∷ codes "run -w 2" ∷ []) }
+    ensures help { EachAsks Asked.Help (arguments_of (codes "run --workers 2 --help") ∷ arguments_of (codes "run --seats=1 -h")
+        ∷ []) }
+{}
+
+/// Serves the reader in a run of these sizes; sizes past their limits are none that a run has.
+fn run_sizes<A: AllocGlobal + Threads + Wait + Sync, R: Read + Drop, W: Write, F: Write>(
     rt: &A,
+    sizes: Sizes,
     reader: R,
     writer: &mut W,
     faults: &mut F,
 ) -> u8
-    ensures { IsServed (R.remaining reader) result (W.contents writer.old) (W.contents writer.new)
+    ensures { ((result ≡ 1) × (writer.new ≡ writer.old) × (faults.new ≡ faults.old))
+        ⊎ IsServed (sizes_in sizes) (R.remaining reader) result (W.contents writer.old) (W.contents writer.new)
         F.contents UNWRITTEN.now faults.old faults.new }
 {
-    let Ok(config) = Config::new(4, 16_384, 2) else {
-        return FAULTY;
-    };
+    match Config::new(sizes.workers, sizes.blocks, sizes.seats) {
+        Ok(config) => run(rt, config, reader, writer, faults),
+        Err(_) => FAULTY,
+    }
+}
+
+/// The sizes of a configuration.
+fn sizes_of_config(config: Config) -> Sizes
+    ensures { sizes_in result ≡ config }
+{
+    Sizes {
+        workers: config.workers(),
+        blocks: config.blocks(),
+        seats: config.seats(),
+    }
+}
+
+/// Serves the reader.
+fn run<A: AllocGlobal + Threads + Wait + Sync, R: Read + Drop, W: Write, F: Write>(
+    rt: &A,
+    config: Config,
+    reader: R,
+    writer: &mut W,
+    faults: &mut F,
+) -> u8
+    ensures { IsServed config (R.remaining reader) result (W.contents writer.old) (W.contents writer.new)
+        F.contents UNWRITTEN.now faults.old faults.new }
+{
     match serve(rt, config, reader, writer) {
         Ok(summary) if summary.errors == 0 => DONE,
         Err(ServeFault::Write) => {
@@ -189,15 +270,12 @@ fn run<A: AllocGlobal, R: Read + Drop, W: Write, F: Write>(
     }
 }
 
-/// What the arguments ask for, and the text that clap has for those that don't serve.
-fn read_arguments<'a, A: AllocGlobal>(
-    rt: &A,
-    arguments: &'a [&'a str],
-) -> Result<(Asked, String), AllocError>
-    ensures { IfOk result (λ read. read.0 ≡ asked (map (λ argument. argument.now) arguments.now)) }
+/// What the arguments ask for.
+fn read_arguments<'a, A: AllocGlobal>(rt: &A, arguments: &'a [&'a str]) -> Result<Order, AllocError>
+    ensures { IfOk result (λ order. asked_for order ≡ asked (map (λ argument. argument.now) arguments.now)) }
 {
     if is_version(arguments) {
-        return Ok((Asked::Version, String::new(rt.alloc())));
+        return Ok(Order::Version);
     }
     read_command(rt, arguments)
 }
@@ -213,21 +291,43 @@ fn is_version(arguments: &[&str]) -> bool
 }
 
 /// What clap makes of the arguments.
-fn read_command<'a, A: AllocGlobal>(
-    rt: &A,
-    arguments: &'a [&'a str],
-) -> Result<(Asked, String), AllocError>
-    ensures { IfOk result (λ read. read.0 ≡ asked_of_command (map (λ argument. argument.now) arguments.now)) }
+fn read_command<'a, A: AllocGlobal>(rt: &A, arguments: &'a [&'a str]) -> Result<Order, AllocError>
+    ensures { IfOk result (λ order. asked_for order ≡ asked_of_command (map (λ argument. argument.now) arguments.now)) }
 {
-    let Err(error) = command(rt)?.try_get_matches_from(without_help(arguments)) else {
-        return Ok((Asked::Serve, String::new(rt.alloc())));
-    };
-    let asked = match error.kind() {
-        ErrorKind::OutOfMemory => return Err(AllocError),
-        ErrorKind::DisplayHelp => Asked::Help,
-        _ => Asked::Usage,
-    };
-    Ok((asked, error.to_string(rt.alloc())?))
+    match command(rt)?.try_get_matches_from(without_help(arguments)) {
+        Ok(matches) => match configure(&matches) {
+            Ok(config) => Ok(Order::Serve(sizes_of_config(config))),
+            Err(error) => Ok(Order::Usage(format!(in rt.alloc(); "error: {error}\n")?)),
+        },
+        Err(error) => explain(rt, &error),
+    }
+}
+
+/// The configuration that the options of a run stand for.
+fn configure(matches: &ArgMatches<'_>) -> Result<Config, BadConfig>
+    ensures { sizes_given result ≡ option_and_then (λ run. sizes_of run.1) (subcommand_rows_of matches.now) }
+{
+    let (_, options) = matches.subcommand().ok_or(BadConfig)?;
+    let workers: usize = options.get_one("workers").ok_or(BadConfig)?;
+    let blocks: u32 = options.get_one("blocks").ok_or(BadConfig)?;
+    let seats: usize = options.get_one("seats").ok_or(BadConfig)?;
+    Config::new(workers, blocks, seats)
+}
+
+/// What an error of the command line asks for.
+fn explain<A: AllocGlobal>(rt: &A, error: &Error) -> Result<Order, AllocError>
+    ensures known { OnOk result (kind_of error.now ≢ ErrorKind.OutOfMemory) }
+    ensures order { IfOk result (λ order. asked_for order ≡ asked_by_kind (kind_of error.now)) }
+{
+    let kind = error.kind();
+    if kind == ErrorKind::OutOfMemory {
+        return Err(AllocError);
+    }
+    let text = error.to_string(rt.alloc())?;
+    match kind {
+        ErrorKind::DisplayHelp => Ok(Order::Help(text)),
+        _ => Ok(Order::Usage(text)),
+    }
 }
 
 /// `help` asks for what `--help` does, whatever follows it.
@@ -244,15 +344,41 @@ fn without_help<'a>(arguments: &'a [&'a str]) -> &'a [&'a str]
 fn command<'a, A: AllocGlobal>(rt: &A) -> Result<Command<'a>, AllocError>
     ensures { IfOk result (λ command. app_of command ≡ program) }
 {
+    let workers = size(rt, "workers", 1, 8, "4", WORKERS);
+    let blocks = size(rt, "blocks", 16, 65_536, "16384", BLOCKS);
+    let seats = size(rt, "seats", 1, 16, "2", SEATS);
     let run = Command::new(rt.alloc(), "run")
         .about("Reads a script on standard input, and writes its lines on standard output")
-        .override_usage("stinger run < script");
+        .override_usage("stinger run [OPTIONS] < script")
+        .arg(workers)?
+        .arg(blocks)?
+        .arg(seats)?;
     Command::new(rt.alloc(), "stinger")
         .about(ABOUT)
         .no_binary_name(true)
         .disable_help_subcommand(true)
         .subcommand_required(true)
         .subcommand(run)
+}
+
+/// An option whose value is a whole number from `least` to `most`.
+fn size<'a, A: AllocGlobal>(
+    rt: &A,
+    name: &'a str,
+    least: u64,
+    most: u64,
+    default: &'a str,
+    help: &'a str,
+) -> Arg<'a>
+    ensures rule { rule_of result ≡ size_rule name.now least most default.now }
+    ensures local { result.global ≡ false }
+{
+    Arg::new(rt.alloc(), name)
+        .long(name)
+        .value_name("N")
+        .value_parser(ValueParser::unsigned(least, most))
+        .default_value(default)
+        .help(help)
 }
 
 /// Writes a text that was asked for, and then its end: the status is 0; or 1 where a write failed, and then a line on

@@ -5,20 +5,31 @@ ghost use Rattle.std.specs.Prelude.{OnOk, OnErr};
 ghost use Rattle.std.specs.Io.KnownBytes.{Appends};
 ghost use Rattle.feed_csv.specs.Records.{record_limit, records_of};
 ghost use Rattle.stinger_server.specs.Lines.{end_line};
+ghost use Rattle.std.specs.Prelude.{map};
+ghost use Rattle.std.specs.List.{range_with_len};
+ghost use Rattle.seat_board.specs.Board.{no_pins};
+ghost use Rattle.store_journal.specs.Opening.{opened_desk};
+ghost use Rattle.stream_store.specs.Configs.{ConfigView};
+ghost use Rattle.stream_store.specs.Seats.{SeatView};
 ghost use Rattle.stinger_server.specs.States.{Setup, beginning, printed, set_up};
 ghost use Rattle.stinger_server.specs.Servers.{IsServer, result_of};
 ghost use Rattle.stinger_server.specs.Texts.{IsText};
-ghost use Rattle.stinger_server.specs.Runs.{CountsRecord, Does, HasCause, IsFresh, IsReady, ShowsRun, Starts, Turns, is_write};
+ghost use Rattle.stinger_server.specs.Runs.{CountsRecord, Does, HasCause, IsFresh, IsReady, ShowsRun, Starts, Turns, is_start};
+ghost use Rattle.stinger_server.specs.Runs.{is_write};
 ghost use Rattle.stinger_server.specs.Runs.{records_done};
 ghost use Rattle.stinger_server.specs.Writes.{AppendsPart, AppendsSome, held};
 
+use crate::output;
 use crate::server::{Response, Server};
 use crate::sink::{Sink, Unwritten};
 use crate::words::Word;
-use crate::{Config, output};
 use feed_csv::{Command, Feed, FeedWord};
+use seat_board::Board;
 use std::alloc::{AllocError, Global};
 use std::io::{Read, Write};
+use std::sync::Wait;
+use std::thread::Threads;
+use stream_store::{Config, Desk, Seat, open_parts};
 use thiserror::Error;
 
 /// What a run that met the end of its input counted.
@@ -35,6 +46,8 @@ pub struct Summary {
 /// What ended a run before the end of its input.
 #[derive(Clone, Copy, Debug, PartialEq, Eq, Error)]
 pub enum ServeFault {
+    #[error("the store was not opened")]
+    Start,
     #[error("the reader failed, or 1,000,000 records were read")]
     Read,
     #[error("out of memory")]
@@ -56,13 +69,15 @@ struct Run {
 /// Reads a script and writes its text: for each record its lines or one error line, and at the end a line on
 /// the operations that are still pending.
 ///
-/// A record's lines are built whole before a byte of them is written. `Read` where the reader fails or
+/// The batches are applied to a store of that configuration by so many workers at once, and each open slot holds a
+/// version of it. A record's lines are built whole before a byte of them is written. `Start` where the store was not
+/// opened, with nothing read or written; `Read` where the reader fails or
 /// 1,000,000 records were read, and `Memory` where a growth was refused, each after the lines of exactly the records
 /// done before and an error line with the number of the record that was not done; `Write` where a write failed or
 /// took nothing, or the flush at the end failed, after which nothing more is written. No clause here says when each
 /// of these ends comes, since a reader and a writer have no word for a call that failed; `HasCause` in
 /// `specs/Runs.antt` says it of the run itself.
-pub fn serve<A: AllocGlobal, R: Read + Drop, W: Write>(
+pub fn serve<A: AllocGlobal + Threads + Wait + Sync, R: Read + Drop, W: Write>(
     rt: &A,
     config: Config,
     reader: R,
@@ -74,12 +89,12 @@ pub fn serve<A: AllocGlobal, R: Read + Drop, W: Write>(
 {
     let mut feed = Feed::over(rt.alloc(), reader);
     let mut sink = Sink::over(writer);
-    run_script(rt.alloc(), config, &mut feed, &mut sink)
+    run_script(rt, config, &mut feed, &mut sink)
 }
 
 /// A run from the first record on, over a feed that gave nothing yet and a sink that hasn't failed.
-fn run_script<R: Read, W: Write>(
-    alloc: Global,
+fn run_script<A: AllocGlobal + Threads + Wait + Sync, R: Read, W: Write>(
+    rt: &A,
     config: Config,
     feed: &mut Feed<R>,
     sink: &mut Sink<'_, W>,
@@ -88,25 +103,32 @@ fn run_script<R: Read, W: Write>(
     requires sink { sink.old.failed ≡ false }
     ensures same_writer { sink.new.writer.ghost_name ≡ sink.old.writer.ghost_name }
     ensures cause { HasCause feed.new sink.new.failed result }
-    ensures flushed { sink.new.failed ≡ false → sink.new.flushed ≡ true }
+    ensures flushed { is_start result ≡ false → sink.new.failed ≡ false → sink.new.flushed ≡ true }
     ensures text { IfSome feed.old.left (λ rows. AppendsSome (held W.contents sink.old) (held W.contents sink.new)
         (IsText (set_up config) rows (records_done feed.new) result)) }
 {
-    match start(alloc, config, sink) {
-        Ok(mut run) => turn_all(feed, &mut run, sink),
+    match start(rt, config, sink) {
+        Ok(mut run) => turn_all(rt, feed, &mut run, sink),
         Err(fault) => Err(fault),
     }
 }
 
-/// A run before its first record; or the end of one for which there is no memory.
-fn start<W: Write>(alloc: Global, config: Config, sink: &mut Sink<'_, W>) -> Result<Run, ServeFault>
+/// A run before its first record; or the end of one that has no store, or for which there is no memory.
+fn start<A: AllocGlobal + Wait, W: Write>(
+    rt: &A,
+    config: Config,
+    sink: &mut Sink<'_, W>,
+) -> Result<Run, ServeFault>
     requires working { sink.old.failed ≡ false }
     ensures same_writer { sink.new.writer.ghost_name ≡ sink.old.writer.ghost_name }
     ensures failed { sink.new.failed ≡ is_write result }
-    ensures flushed { OnErr result (sink.new.failed ≡ false → sink.new.flushed ≡ true) }
+    ensures flushed { OnErr result (is_start result ≡ false → sink.new.failed ≡ false → sink.new.flushed ≡ true) }
     ensures starts { Starts (set_up config) (held W.contents sink.old) result (held W.contents sink.new) }
 {
-    match Run::new(alloc, config) {
+    let Ok((desk, board, seats)) = open_parts(rt, rt.alloc(), config) else {
+        return Err(ServeFault::Start);
+    };
+    match Run::new(rt.alloc(), desk, board, seats) {
         Ok(run) => Ok(run),
         Err(_) => {
             output::last_line(sink, 1, Word::Feed(FeedWord::Memory))?;
@@ -116,13 +138,18 @@ fn start<W: Write>(alloc: Global, config: Config, sink: &mut Sink<'_, W>) -> Res
 }
 
 impl Run {
-    fn new(alloc: Global, config: Config) -> Result<Run, AllocError>
+    fn new(alloc: Global, desk: Desk, board: Board, seats: Vec<Seat>) -> Result<Run, AllocError>
+        requires desk { (blocks : ℕ) × (desk.desk ≡ opened_desk blocks) }
+        requires board { board ≡ no_pins }
+        requires few { length seats.items ≤ 16 }
+        requires numbers { map (λ (s : SeatView). s.number) seats.items ≡ range_with_len 0 (length seats.items) }
         ensures server { IfOk result (λ run. IsServer run.server) }
         ensures counts { IfOk result (λ run. (run.records ≡ 0) × (run.errors ≡ 0)) }
-        ensures beginning { IfOk result (λ run. ShowsRun run (beginning (set_up config))) }
+        ensures beginning { IfOk result (λ run. (config : ConfigView) → desk.desk ≡ opened_desk config.blocks
+            → length seats.items ≡ config.seats → ShowsRun run (beginning (set_up config))) }
     {
         Ok(Run {
-            server: Server::new(alloc, config)?,
+            server: Server::new(alloc, desk, board, seats)?,
             lines: String::new(alloc),
             records: 0,
             errors: 0,
@@ -130,7 +157,12 @@ impl Run {
     }
 
     /// Does a command, and writes what it came to. The lines are built before a byte of them is written.
-    fn obey<W: Write>(&mut self, command: Command, sink: &mut Sink<'_, W>) -> Result<(), ServeFault>
+    fn obey<P: Threads + Wait + Sync, W: Write>(
+        &mut self,
+        rt: &P,
+        command: Command,
+        sink: &mut Sink<'_, W>,
+    ) -> Result<(), ServeFault>
         requires server { IsServer self.old.server }
         requires room { self.old.records < record_limit }
         requires errors { self.old.errors ≤ self.old.records }
@@ -140,7 +172,7 @@ impl Run {
         ensures flushed { OnErr result (sink.new.failed ≡ false → sink.new.flushed ≡ true) }
         ensures does { Does (Ok command) self.old (held W.contents sink.old) result self.new (held W.contents sink.new) }
     {
-        match self.server.obey(command, &mut self.lines) {
+        match self.server.obey(rt, command, &mut self.lines) {
             Ok(response) => match self.print(response, sink) {
                 Ok(()) => Ok(()),
                 Err(_) => Err(ServeFault::Write),
@@ -209,7 +241,8 @@ impl Run {
 }
 
 /// Takes records until there is none.
-fn turn_all<R: Read, W: Write>(
+fn turn_all<P: Threads + Wait + Sync, R: Read, W: Write>(
+    rt: &P,
     feed: &mut Feed<R>,
     run: &mut Run,
     sink: &mut Sink<'_, W>,
@@ -223,7 +256,7 @@ fn turn_all<R: Read, W: Write>(
         → AppendsSome (held W.contents sink.old) (held W.contents sink.new) (IsText setup rows (records_done feed.new) result)) }
 {
     'records: loop {
-        match turn(feed, run, sink) {
+        match turn(rt, feed, run, sink) {
             Ok(true) => {}
             Ok(false) => return run.finish(sink),
             Err(fault) => return Err(fault),
@@ -232,7 +265,8 @@ fn turn_all<R: Read, W: Write>(
 }
 
 /// Takes the next record, and says whether there was one.
-fn turn<R: Read, W: Write>(
+fn turn<P: Threads + Wait + Sync, R: Read, W: Write>(
+    rt: &P,
     feed: &mut Feed<R>,
     run: &mut Run,
     sink: &mut Sink<'_, W>,
@@ -246,7 +280,7 @@ fn turn<R: Read, W: Write>(
 {
     match feed.next() {
         Ok(Some(command)) => {
-            run.obey(command, sink)?;
+            run.obey(rt, command, sink)?;
             Ok(true)
         }
         Ok(None) => Ok(false),

@@ -1,16 +1,27 @@
 //! The state of a run, and what a command does to it.
 
-ghost use Rattle.std.specs.Prelude.{◌≡◌, ◌≢◌, ◌+◌, ◌<◌, [], length, replicate, slice_get, string_bytes, ◌++◌, IfOk, OnOk, None};
-ghost use Rattle.graph_model.specs.Valid.{push_refusal};
-ghost use Rattle.stinger_server.specs.Servers.{HasFewEntries, IsServer, Obeys, Shows, shown_lines};
+ghost use Rattle.std.specs.Prelude.{◌≡◌, ℕ, ◌≢◌, ◌≤◌, [], length, map, replicate, slice_get, string_bytes, ◌++◌, IfOk, IfErr};
+ghost use Rattle.std.specs.Prelude.{OnOk, None, Ok, Err};
+ghost use Rattle.std.specs.List.{range_with_len};
+ghost use Rattle.seat_board.specs.Board.{no_pins};
+ghost use Rattle.store_journal.specs.Opening.{opened_desk};
+ghost use Rattle.stream_store.specs.Configs.{ConfigView};
+ghost use Rattle.stream_store.specs.Seats.{SeatView};
+ghost use Rattle.stinger_server.specs.Servers.{HasFewEntries, IsServer, Obeys, Shows, batch_word, shown_lines};
 ghost use Rattle.stinger_server.specs.States as states;
 
+use crate::lines;
+use crate::slots::Slots;
 use crate::words::Word;
-use crate::{Config, lines};
+use batch_apply::PassAll;
 use feed_csv::{Command, FeedWord};
-use graph_model::{AskError, Batch, Content, List, NamedOp, PushError, Reply, Request};
-use plain_graph::{PlainError, plain_apply, plain_reply};
+use graph_model::{AskError, Batch, NamedOp, PushError, Reply, Request};
+use seat_board::Board;
 use std::alloc::{AllocError, Global};
+use std::mem;
+use std::sync::Wait;
+use std::thread::Threads;
+use stream_store::{ApplyError, Desk, Seat};
 
 /// What a record came to: its lines stand in the buffer, or it was refused.
 #[derive(Clone, Copy, Debug, PartialEq, Eq)]
@@ -19,35 +30,38 @@ pub(crate) enum Response {
     Refused(Word),
 }
 
-/// The content of each version, and what each slot holds.
+/// The pending batch, the desk of the store, and what each slot holds.
 #[derive(Drop)]
 pub(crate) struct Server {
     alloc: Global,
     pending: Batch,
-    // The content of each version, and so one more than there are batches.
-    contents: Vec<Content>,
-    // The version that each slot holds.
-    held: Vec<Option<usize>>,
+    desk: Desk,
+    slots: Slots,
 }
 
 impl Server {
-    /// The state before the first record: version 0 is the empty graph, and each slot is free.
-    pub(crate) fn new(alloc: Global, config: Config) -> Result<Server, AllocError>
+    /// The state before the first record, over the parts of an opening: version 0 is the empty graph, all blocks are free,
+    /// and no slot holds a version.
+    pub(crate) fn new(
+        alloc: Global,
+        desk: Desk,
+        board: Board,
+        seats: Vec<Seat>,
+    ) -> Result<Server, AllocError>
+        requires desk { (blocks : ℕ) × (desk.desk ≡ opened_desk blocks) }
+        requires board { board ≡ no_pins }
+        requires few { length seats.items ≤ 16 }
+        requires numbers { map (λ (s : SeatView). s.number) seats.items ≡ range_with_len 0 (length seats.items) }
         ensures server { IfOk result IsServer }
-        ensures beginning { IfOk result (λ server. Shows server (states.beginning (states.set_up config)).state) }
+        ensures beginning { IfOk result (λ server. (config : ConfigView) → desk.desk ≡ opened_desk config.blocks
+            → length seats.items ≡ config.seats → Shows server (states.beginning (states.set_up config)).state) }
     {
-        let mut contents = Vec::new(alloc);
-        contents.push(Content {
-            names: List::of(Vec::new(alloc)),
-            kinds: List::of(Vec::new(alloc)),
-            edges: List::of(Vec::new(alloc)),
-        })?;
-        let held = vec![in alloc; None; usize::from(config.seats)]?;
+        let slots = Slots::new(alloc, board, seats)?;
         Ok(Server {
             alloc,
             pending: Batch::new(alloc),
-            contents,
-            held,
+            desk,
+            slots,
         })
     }
 
@@ -59,8 +73,9 @@ impl Server {
     }
 
     /// Does a command. Its lines replace those in the buffer; where it was refused, these mean nothing.
-    pub(crate) fn obey(
+    pub(crate) fn obey<R: Threads + Wait + Sync>(
         &mut self,
+        rt: &R,
         command: Command,
         lines: &mut String,
     ) -> Result<Response, AllocError>
@@ -71,10 +86,12 @@ impl Server {
         lines.clear();
         match command {
             Command::Op(op) => self.push(op),
-            Command::Commit => self.commit(lines),
+            Command::Commit => self.commit(rt, lines),
             Command::OpenSlot(slot) => self.open(slot, lines),
             Command::CloseSlot(slot) => self.close(slot, lines),
             Command::Query(slot, request) => self.ask(slot, &request, lines),
+            Command::Collect => self.collect(lines),
+            Command::Stat => self.stat(lines),
         }
     }
 
@@ -92,29 +109,25 @@ impl Server {
     }
 
     /// Applies the pending batch, which is empty afterwards, also where it was refused.
-    fn commit(&mut self, lines: &mut String) -> Result<Response, AllocError>
+    fn commit<R: Threads + Wait + Sync>(
+        &mut self,
+        rt: &R,
+        lines: &mut String,
+    ) -> Result<Response, AllocError>
         requires server { IsServer self.old }
         requires empty { string_bytes lines.old ≡ [] }
         ensures kept { IsServer self.new }
         ensures obeys { IfOk result (λ response. Obeys Command.Commit self.old response (string_bytes lines.new) self.new) }
     {
-        let version = self.contents.len();
-        let mut content = self.contents[version - 1].clone()?;
-        match plain_apply(self.alloc, &mut content, &self.pending) {
-            Ok(outcomes) => {
-                lines::commit(lines, version, outcomes.as_slice())?;
-                self.contents.push(content)?;
-                self.pending = Batch::new(self.alloc);
+        let batch = mem::replace(&mut self.pending, Batch::new(self.alloc));
+        match self.desk.apply(rt, &PassAll, batch) {
+            Ok(receipt) => {
+                lines::commit(lines, receipt.number, receipt.outcomes.as_slice())?;
                 Ok(Response::Lines)
             }
-            Err(PlainError::OutOfMemory) => Err(AllocError),
-            Err(PlainError::NamesFull) => {
-                self.pending = Batch::new(self.alloc);
-                Ok(Response::Refused(Word::NamesFull))
-            }
-            Err(PlainError::KindsFull) => {
-                self.pending = Batch::new(self.alloc);
-                Ok(Response::Refused(Word::KindsFull))
+            Err(error) => {
+                let word = apply_word(error)?;
+                Ok(Response::Refused(word))
             }
         }
     }
@@ -127,24 +140,15 @@ impl Server {
         ensures obeys { IfOk result (λ response. Obeys (Command.OpenSlot slot) self.old response
             (string_bytes lines.new) self.new) }
     {
-        match self.held_version(slot) {
+        match self.slots.session(slot) {
             Err(Word::NotOpen) => {
-                let version = self.last_version();
-                lines::open(lines, slot, version)?;
-                self.held[usize::from(slot)] = Some(version);
+                lines::open(lines, slot, self.desk.last().number())?;
+                self.slots.acquire(slot, &self.desk)?;
                 Ok(Response::Lines)
             }
             Err(word) => Ok(Response::Refused(word)),
             Ok(_) => Ok(Response::Refused(Word::AlreadyOpen)),
         }
-    }
-
-    /// The number of the last version.
-    fn last_version(&self) -> usize
-        requires { IsServer self.now }
-        ensures { result + 1 ≡ length self.now.contents.items }
-    {
-        self.contents.len() - 1
     }
 
     /// Frees a slot.
@@ -155,10 +159,10 @@ impl Server {
         ensures obeys { IfOk result (λ response. Obeys (Command.CloseSlot slot) self.old response
             (string_bytes lines.new) self.new) }
     {
-        match self.held_version(slot) {
+        match self.slots.session(slot) {
             Ok(_) => {
                 lines::close(lines, slot)?;
-                self.held[usize::from(slot)] = None;
+                self.slots.release(slot);
                 Ok(Response::Lines)
             }
             Err(word) => Ok(Response::Refused(word)),
@@ -172,11 +176,11 @@ impl Server {
         ensures obeys { IfOk result (λ response. Obeys (Command.Query slot request.now) self.now response
             (string_bytes lines.new) self.now) }
     {
-        let version = match self.held_version(slot) {
-            Ok(version) => version,
+        let session = match self.slots.session(slot) {
+            Ok(session) => session,
             Err(word) => return Ok(Response::Refused(word)),
         };
-        match plain_reply(self.alloc, &self.contents[version], request) {
+        match session.ask(request) {
             Ok(reply) => {
                 write_reply(lines, slot, &reply)?;
                 Ok(Response::Lines)
@@ -188,17 +192,27 @@ impl Server {
         }
     }
 
-    /// The version that a slot holds, or why it holds none.
-    fn held_version(&self, slot: u8) -> Result<usize, Word>
-        requires { IsServer self.now }
-        ensures slot { result ≡ states.version_in (slice_get self.now.held.items slot) }
-        ensures within { IfOk result (λ version. version < length self.now.contents.items) }
+    /// Frees the retired blocks that neither the last version nor a held one has, as far as the floor tells.
+    fn collect(&mut self, lines: &mut String) -> Result<Response, AllocError>
+        requires server { IsServer self.old }
+        requires empty { string_bytes lines.old ≡ [] }
+        ensures kept { IsServer self.new }
+        ensures obeys { IfOk result (λ response. Obeys Command.Collect self.old response (string_bytes lines.new) self.new) }
     {
-        match self.held.get(usize::from(slot)) {
-            None => Err(Word::Feed(FeedWord::BadSlot)),
-            Some(None) => Err(Word::NotOpen),
-            Some(Some(version)) => Ok(*version),
-        }
+        let floor = self.slots.floor(&self.desk);
+        let collected = self.desk.collect(floor);
+        lines::collect(lines, collected)?;
+        Ok(Response::Lines)
+    }
+
+    /// Tells the numbers of the store.
+    fn stat(&self, lines: &mut String) -> Result<Response, AllocError>
+        requires server { IsServer self.now }
+        requires empty { string_bytes lines.old ≡ [] }
+        ensures obeys { IfOk result (λ response. Obeys Command.Stat self.now response (string_bytes lines.new) self.now) }
+    {
+        lines::stat(lines, self.desk.stat())?;
+        Ok(Response::Lines)
     }
 }
 
@@ -226,6 +240,20 @@ fn push_word(error: PushError) -> Word
         PushError::BadTime => Word::Feed(FeedWord::BadTime),
         PushError::BatchFull => Word::BatchFull,
         PushError::OutOfMemory => Word::Feed(FeedWord::Memory),
+    }
+}
+
+/// The word for a batch's refusal; want of memory has none.
+fn apply_word(error: ApplyError) -> Result<Word, AllocError>
+    ensures known { OnOk result (error ≢ ApplyError.OutOfMemory) }
+    ensures word { IfOk result (λ word. word ≡ batch_word error) }
+{
+    match error {
+        ApplyError::BatchLimit => Ok(Word::BatchLimit),
+        ApplyError::NamesFull => Ok(Word::NamesFull),
+        ApplyError::KindsFull => Ok(Word::KindsFull),
+        ApplyError::PoolEmpty { .. } => Ok(Word::PoolEmpty),
+        ApplyError::OutOfMemory => Err(AllocError),
     }
 }
 

@@ -18,6 +18,10 @@ pub enum Word {
     BatchFull,
     NamesFull,
     KindsFull,
+    /// 65,536 batches were accepted before.
+    BatchLimit,
+    /// The batch has more operations than blocks are free.
+    PoolEmpty,
 }
 
 impl Word {
@@ -36,6 +40,8 @@ impl Word {
             Word::BatchFull => "BatchFull",
             Word::NamesFull => "NamesFull",
             Word::KindsFull => "KindsFull",
+            Word::BatchLimit => "BatchLimit",
+            Word::PoolEmpty => "PoolEmpty",
         }
     }
 }

@@ -1,7 +1,10 @@
 -- How many blocks are free, and how many retired, after a batch and after a collection.
 use Rattle.std.proofs.Common.{◌≡◌, ◌≢◌, ℕ, zero, suc, ◌+◌, ◌==◌, Bool, true, false, cond, ◌||◌, List, [], ◌∷◌, length, get_or}
-use Rattle.std.proofs.Common.{map, set, count_by, refl, sym, ap, ◌∙◌, arith}
-use Rattle.std.specs.Prelude.{slice_get, if◌then◌else◌}
+use Rattle.std.proofs.Common.{map, set, count_by, refl, sym, ap, ◌∙◌, arith, replicate, ◌&&◌}
+use Rattle.std.specs.Prelude.{slice_get, nat_le, nat_lt, if◌then◌else◌}
+use Rattle.std.proofs.lemmas.Bool.Decides.{nat_tests}
+use Rattle.std.proofs.lemmas.List.{length-map}
+use Rattle.block_pool.proofs.Grants.{length-marked}
 use Rattle.std.specs.Option.{option_map}
 use Rattle.std.specs.declared.option.Option.TheVariants.{Some}
 use Rattle.std.proofs.lemmas.Bool.{eq-eqb, true≢false, or_right}
@@ -12,7 +15,8 @@ use Rattle.block_pool.specs.Pools.{is_used_at, marked, changed}
 use Rattle.block_pool.proofs.Tallies.{count_more}
 use Rattle.epoch_core.specs.Blocks.{all_differ}
 use Rattle.epoch_core.proofs.Lists.{set_else, get_at, all_listed}
-use Rattle.store_journal.specs.Desks.{DeskView, IsAccepted, IsCollected, AcceptedCounts, CollectedCounts, ledger_of}
+use Rattle.store_journal.specs.Desks.{DeskView, IsAccepted, IsCollected, AcceptedCounts, CollectedCounts, is_retired_by}
+use Rattle.store_journal.specs.Desks.{ledger_of}
 use Rattle.store_journal.proofs.NumberLists.{differ_head, differ_tail}
 use Rattle.store_journal.proofs.ChangedLists.{marked_at}
 use Rattle.store_journal.proofs.OneNumber.{free_is, used_is, not_both}
@@ -112,6 +116,36 @@ dropped_have pool taken dropped legal m is =
     (not_taken pool taken dropped legal m is)
     ∙ used_is (slice_get pool m) (born_at pool taken dropped legal m is)
 
+-- by the number that retired them: those that pass a test, before and after they are all retired with one number
+
+count_replicate : (q : ℕ → Bool) (k number : ℕ) → count_by q (replicate k number) ≡ cond {A = ℕ} (q number) k 0
+count_replicate q zero number = elim (q number) as (λ t. 0 ≡ cond {A = ℕ} t 0 0) [ true ↦ refl | false ↦ refl ]
+count_replicate q (suc k) number =
+    let one = count_more q number (replicate k number) in
+    let rest = count_replicate q k number in
+    let both : (t : Bool) → q number ≡ t → count_by q (replicate (suc k) number) ≡ cond {A = ℕ} t (suc k) 0 = λ t e. elim t as
+    (λ t. q number ≡ t → count_by q (replicate (suc k) number) ≡ cond {A = ℕ} t (suc k) 0) [
+      | true ↦ λ e. (let a : (let n : ℕ = cond (q number) 1 0 in n) ≡ 1 = ap (λ b. cond b 1 0) e in
+          let b : count_by q (replicate k number) ≡ k = rest ∙ ap (λ b. cond b k 0) e in omega arith)
+      | false ↦ λ e. (let a : (let n : ℕ = cond (q number) 1 0 in n) ≡ 0 = ap (λ b. cond b 1 0) e in
+          let b : count_by q (replicate k number) ≡ 0 = rest ∙ ap (λ b. cond b k 0) e in omega arith)
+    ] e in
+    both (q number) refl
+
+retired_all : (q : ℕ → Bool) (number : ℕ) (ns : List ℕ) (pool : List Status) → all_differ ns ≡ true → AllHave Used pool ns
+    → count_by (is_retired_by q) (marked ns (Retired number) pool)
+    ≡ count_by (is_retired_by q) pool + count_by q (replicate (length ns) number)
+retired_all q number ns pool apart have = elim (q number) as (λ t. q number ≡ t
+    → count_by (is_retired_by q) (marked ns (Retired number) pool)
+    ≡ count_by (is_retired_by q) pool + count_by q (replicate (length ns) number)) [
+      | true ↦ λ e. (let all = more (is_retired_by q) Used (Retired number) ns pool refl e apart have in
+          let same : count_by q (replicate (length ns) number) ≡ length ns =
+          count_replicate q (length ns) number ∙ ap (λ b. cond b (length ns) 0) e in omega arith)
+      | false ↦ λ e. (let all = as_many (is_retired_by q) Used (Retired number) ns pool (sym e) apart have in
+          let same : count_by q (replicate (length ns) number) ≡ 0 =
+          count_replicate q (length ns) number ∙ ap (λ b. cond b (length ns) 0) e in omega arith)
+    ] refl
+
 pub accepted_counts : (old new : DeskView) (ops : List NamedOp) (taken dropped : List ℕ) → IsAccepted old ops taken dropped new
     → AcceptedCounts old taken dropped new
 accepted_counts old new ops taken dropped accepted =
@@ -130,7 +164,14 @@ accepted_counts old new ops taken dropped accepted =
     let free_then = as_many is_free Used (Retired number) dropped granted refl legal.dropped_apart born in
     let retired_first = as_many is_retired Free Used taken old.pool refl legal.apart free in
     let retired_then = more is_retired Used (Retired number) dropped granted refl refl legal.dropped_apart born in
-    record { free = omega arith; retired = omega arith }
+    record {
+      free = omega arith;
+      retired = omega arith;
+      retired_by = λ q. ap (count_by (is_retired_by q)) same ∙ (retired_all q number dropped granted legal.dropped_apart born
+          ∙ ap (λ k. k + count_by q (replicate (length dropped) number))
+          (as_many (is_retired_by q) Free Used taken old.pool refl legal.apart free));
+      blocks = ap length same ∙ (length-marked dropped (Retired number) granted ∙ length-marked taken Used old.pool);
+    }
 
 -- A collection
 
@@ -153,6 +194,27 @@ free_more floor (s ∷ pool) =
     let rest = free_more floor pool in
     omega arith
 
+above_one : (q : ℕ → Bool) (floor : ℕ) (s : Status) → is_retired_by q (recycled floor s)
+    ≡ is_retired_by (λ number. nat_lt floor number && q number) s
+above_one q floor Free = refl
+above_one q floor Used = refl
+above_one q floor (Retired v) = elim (nat_le v floor) as (λ t. nat_le v floor ≡ t
+    → is_retired_by q (if t then Free else Retired v) ≡ (nat_lt floor v && q v)) [
+      | true ↦ λ e. (let not : nat_lt floor v ≡ false = grind (arith, nat_tests) in rw not refl)
+      | false ↦ λ e. (let is : nat_lt floor v ≡ true = grind (arith, nat_tests) in rw is refl)
+    ] refl
+
+above_all : (q : ℕ → Bool) (floor : ℕ) (pool : List Status) → count_by (is_retired_by q) (map (recycled floor) pool)
+    ≡ count_by (is_retired_by (λ number. nat_lt floor number && q number)) pool
+above_all q floor [] = refl
+above_all q floor (s ∷ pool) =
+    let a = count_more (is_retired_by q) (recycled floor s) (map (recycled floor) pool) in
+    let b = count_more (is_retired_by (λ number. nat_lt floor number && q number)) s pool in
+    let one : (let n : ℕ = cond (is_retired_by q (recycled floor s)) 1 0 in n)
+    ≡ cond (is_retired_by (λ number. nat_lt floor number && q number) s) 1 0 = ap (λ t. cond t 1 0) (above_one q floor s) in
+    let rest = above_all q floor pool in
+    omega arith
+
 pub collected_counts : (old new : DeskView) (floor : ℕ) → IsCollected old floor new → CollectedCounts old floor new
 collected_counts old new floor collected =
     let free : count_by is_free new.pool ≡ count_by is_free (map (recycled floor) old.pool) =
@@ -161,4 +223,9 @@ collected_counts old new floor collected =
     ap (count_by is_retired) collected.pool in
     let more = free_more floor old.pool in
     let both = past_and_left floor old.pool in
-    record { free = omega arith; retired = omega arith }
+    record {
+      free = omega arith;
+      retired = omega arith;
+      retired_by = λ q. ap (count_by (is_retired_by q)) collected.pool ∙ above_all q floor old.pool;
+      blocks = ap length collected.pool ∙ length-map old.pool (recycled floor);
+    }

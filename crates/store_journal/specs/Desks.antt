@@ -1,6 +1,6 @@
 -- A desk: the last version, the journal, and what each block number is. A batch and a collection change it.
-use Rattle.std.specs.Prelude.{◌≡◌, ℕ, ◌+◌, ◌==◌, List, [], ◌∷◌, ◌++◌, length, map, count_by, if◌then◌else◌, All, Contains, Bool}
-use Rattle.std.specs.Prelude.{true, false}
+use Rattle.std.specs.Prelude.{◌≡◌, ℕ, ◌+◌, ◌==◌, nat_lt, List, [], ◌∷◌, ◌++◌, length, map, count_by, replicate, All, Contains}
+use Rattle.std.specs.Prelude.{Bool, true, false, ◌&&◌, if◌then◌else◌}
 use Rattle.std.specs.declared.option.Option.TheVariants.{Some}
 use Rattle.graph_model.specs.declared.batches.NamedOp.{NamedOp}
 use Rattle.graph_model.specs.Step.{after_all}
@@ -8,7 +8,7 @@ use Rattle.edge_block.specs.Slots.{BlockView}
 use Rattle.block_layout.specs.Batches.{layout_after, taken_by, dropped_by}
 use Rattle.row_pages.specs.Rows.{blocks_of, numbers_of}
 use Rattle.graph_version.specs.Versions.{VersionView, IsVersion, content, layout_of, is_in}
-use Rattle.block_pool.specs.Pools.{Status, AreFree, is_free, is_retired, is_born_at, is_past, recycled}
+use Rattle.block_pool.specs.Pools.{Status, Free, Used, Retired, AreFree, is_free, is_retired, is_born_at, is_past, recycled}
 use Rattle.shard_work.specs.Done.{Exchanges}
 use Rattle.store_journal.specs.Journal.{Entry, Applied, Collected, Ledger, empty_ledger, replay, is_legal, after_entry, exchanged}
 
@@ -70,10 +70,19 @@ pub record IsAccepted (old : DeskView) (ops : List NamedOp) (taken dropped : Lis
   pub kept : All (λ b. is_in b.number taken ≡ false → Contains (blocks_of old.last.rows) b) (blocks_of new.last.rows)
   pub layout : FollowsLayout old.last ops new.last (length taken) (length dropped)
 
--- free falls by what the batch takes, and retired grows by what it drops
+-- whether a block is retired, by a version whose number passes the test
+abbrev pub is_retired_by : (ℕ → Bool) → Status → Bool
+is_retired_by q Free = false
+is_retired_by q Used = false
+is_retired_by q (Retired version) = q version
+
+-- free falls by what the batch takes, and retired grows by what it drops, all of which the new version's number retires
 pub record AcceptedCounts (old : DeskView) (taken dropped : List ℕ) (new : DeskView) : Type 0 where
   pub free : count_by is_free new.pool + length taken ≡ count_by is_free old.pool
   pub retired : count_by is_retired new.pool ≡ count_by is_retired old.pool + length dropped
+  pub retired_by : (q : ℕ → Bool) → count_by (is_retired_by q) new.pool
+      ≡ count_by (is_retired_by q) old.pool + count_by q (replicate (length dropped) (length old.last.batches + 1))
+  pub blocks : length new.pool ≡ length old.pool
 
 -- Collections
 
@@ -88,7 +97,10 @@ pub record IsCollected (old : DeskView) (floor : ℕ) (new : DeskView) : Type 0 
   pub pool : new.pool ≡ map (recycled floor) old.pool
   pub journal : new.journal ≡ old.journal ++ collections floor (count_by (is_past floor) old.pool)
 
--- what the collection recycles was retired and is free
+-- what the collection recycles was retired and is free; retired is what numbers above the floor retired
 pub record CollectedCounts (old : DeskView) (floor : ℕ) (new : DeskView) : Type 0 where
   pub free : count_by is_free new.pool ≡ count_by is_free old.pool + count_by (is_past floor) old.pool
   pub retired : count_by is_retired new.pool + count_by (is_past floor) old.pool ≡ count_by is_retired old.pool
+  pub retired_by : (q : ℕ → Bool) → count_by (is_retired_by q) new.pool
+      ≡ count_by (is_retired_by (λ number. nat_lt floor number && q number)) old.pool
+  pub blocks : length new.pool ≡ length old.pool

@@ -41,7 +41,8 @@ pub fn law_journal()
 ///   ones retired with the new version's number, the unused ones given back.
 /// - `steps`: in each world of the machine that the desk showed, Take and Fill of each taken block and one Post of the
 ///   batch are all done, and leave a world that the new desk shows.
-/// - `counts`: free falls by as many blocks as it takes, and retired grows by as many as it drops.
+/// - `counts`: free falls by as many blocks as it takes, and retired grows by as many as it drops, with the new version's
+///   number.
 pub fn law_accepted()
     ensures accepted { (old : DeskView) (ops : List NamedOp) (numbers : List ℕ) (version : VersionView) (taken : List ℕ)
         (dropped : List BlockView) (unused : List ℕ) → IsDesk old → IsAppliedTo old ops numbers version taken dropped unused
@@ -64,7 +65,8 @@ pub fn law_accepted()
 /// - `desk`: it leaves a desk, where the floor is at most the number of batches.
 /// - `steps`: in each world of the machine with this floor that the desk showed, Recycle of each block that is past the
 ///   floor is done, which leaves a world that the new desk shows, and no further block goes.
-/// - `counts`: free grows, and retired falls, by as many blocks as are past the floor.
+/// - `counts`: free grows, and retired falls, by as many blocks as are past the floor; those that stay retired have numbers
+///   above it.
 pub fn law_collected()
     ensures desk { (old new : DeskView) (floor : ℕ) → IsDesk old → floor ≤ length old.last.batches
         → IsCollected old floor new → IsDesk new }
@@ -115,21 +117,3 @@ pub fn law_held_versions()
 pub fn law_examples()
     ensures { AreExamples }
 {}
-
-#[cfg(test)]
-mod tests {
-    use super::*;
-
-    #[test]
-    fn the_laws_are_there(rt: HostRuntime) {
-        law_journal();
-        law_accepted();
-        law_collected();
-        law_board_steps();
-        law_opening_shown();
-        law_histories();
-        law_stays_reached();
-        law_held_versions();
-        law_examples();
-    }
-}

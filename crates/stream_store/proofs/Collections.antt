@@ -1,19 +1,17 @@
 -- What a desk keeps at its opening, and over a collection.
-use Rattle.std.proofs.Common.{◌≡◌, ℕ, zero, suc, ◌+◌, ◌≤◌, List, [], map, replicate, length, refl, sym, ap, ◌∙◌, arith, count_by}
-use Rattle.std.proofs.lemmas.List.Sums.{sum_by-cons}
+use Rattle.std.proofs.Common.{◌≡◌, ℕ, zero, suc, ◌+◌, ◌≤◌, replicate, length, refl, sym, ap, ◌∙◌, arith, count_by}
 use Rattle.logbook.specs.Pages.{Book}
-use Rattle.graph_version.specs.Versions.{VersionView, empty_version}
-use Rattle.block_pool.specs.Pools.{Status, Free, is_retired, is_past, recycled}
+use Rattle.graph_version.specs.Versions.{empty_version}
+use Rattle.block_pool.specs.Pools.{Free, is_retired}
 use Rattle.version_shelf.specs.Shelves.{ShelfView, opened_shelf}
-use Rattle.store_journal.specs.Journal.{Entry}
-use Rattle.store_journal.specs.Desks.{DeskView, IsDesk, collections}
 use Rattle.store_journal.specs.Opening.{opened_desk}
 use Rattle.store_journal.proofs.CollectedDesk.{desk_collected, is_collected, collected_is_desk}
 use Rattle.store_journal.proofs.OpeningShown.{opened_is_desk}
-use Rattle.stream_store.specs.Kept.{DeskState, IsKept, entry_of, state_of}
+use Rattle.stream_store.specs.Kept.{DeskState, IsKept}
 
 -- what is kept holds of equal values too
-pub kept_same : (d e : DeskState) (s t : ShelfView) (workers entries room others more : ℕ) → IsKept d s workers entries room → e ≡ d → t ≡ s → others ≡ entries → room ≤ more
+pub kept_same : (d e : DeskState) (s t : ShelfView) (workers entries room others more : ℕ) → IsKept d s workers entries room
+    → e ≡ d → t ≡ s → others ≡ entries → room ≤ more
     → IsKept e t workers others more
 kept_same d e s t workers entries room others more kept same shelf len grows = record {
   desk = rw same kept.desk;
@@ -46,10 +44,13 @@ opened_kept book blocks workers some few = record {
 abbrev pub state_collected : DeskState → ℕ → DeskState
 state_collected d floor = record { book = d.book; desk = desk_collected d.desk floor }
 
-pub collection_kept : (d e : DeskState) (floor : ℕ) (s : ShelfView) (workers entries capacity others room : ℕ) → IsKept d s workers entries capacity
-    → floor ≤ length d.desk.last.batches → e ≡ state_collected d floor → others + count_by is_retired e.desk.pool ≤ room → IsKept e s workers others room
+pub collection_kept : (d e : DeskState) (floor : ℕ) (s : ShelfView) (workers entries capacity others room : ℕ)
+    → IsKept d s workers entries capacity
+    → floor ≤ length d.desk.last.batches → e ≡ state_collected d floor → others + count_by is_retired e.desk.pool ≤ room
+    → IsKept e s workers others room
 collection_kept d e floor s workers entries capacity others room kept low is fits = record {
-  desk = collected_is_desk d.desk e.desk floor kept.desk low (is_collected d.desk e.desk floor (ap (λ (x : DeskState). x.desk) is));
+  desk = collected_is_desk d.desk e.desk floor kept.desk low
+      (is_collected d.desk e.desk floor (ap (λ (x : DeskState). x.desk) is));
   book_is = kept.book_is ∙ sym (ap (λ (x : DeskState). x.book) is);
   opening_is = kept.opening_is ∙ sym (ap (λ (x : DeskState). x.desk.last.opening) is);
   posted_is = kept.posted_is ∙ sym (ap (λ (x : DeskState). x.desk.last.batches) is);

@@ -1,5 +1,5 @@
 -- A batch handed over: what the desk's call does with what was made of it.
-use Rattle.std.proofs.Common.{◌≡◌, ℕ, zero, suc, ◌+◌, ◌<◌, ◌≤◌, ◌==◌, Bool, true, false, List, [], ◌∷◌, ◌++◌, length, get_or, map, set}
+use Rattle.std.proofs.Common.{◌≡◌, ℕ, zero, suc, ◌+◌, ◌<◌, ◌≤◌, ◌==◌, true, false, List, [], ◌∷◌, ◌++◌, length, get_or, map, set}
 use Rattle.std.proofs.Common.{refl, sym, ap, subst, ◌∙◌, arith, count_by}
 use Rattle.std.specs.Prelude.{All}
 use Rattle.std.specs.Arc.{arc_value}
@@ -7,19 +7,19 @@ use Rattle.std.specs.declared.sync.Arc.{Arc}
 use Rattle.std.specs.declared.alloc.Global.{Global}
 use Rattle.std.proofs.lemmas.List.{map-append, length-map}
 use Rattle.std.proofs.lemmas.Bool.{eq-eqb, or_right}
-use Rattle.logbook.specs.Pages.{Book}
 use Rattle.graph_model.specs.declared.batches.NamedOp.{NamedOp}
 use Rattle.edge_block.specs.declared.blocks.Block.{Block}
 use Rattle.row_pages.specs.Rows as rows
 use Rattle.shard_work.specs.RowBlocks.{block_of, blocks_of, numbers_of}
 use Rattle.graph_version.specs.declared.versions.Version.{Version}
 use Rattle.graph_version.specs.Versions.{VersionView, is_in}
-use Rattle.block_pool.specs.Pools.{Status, Free, Used, Retired, is_free, is_retired, retired, marked, changed, AreFree}
+use Rattle.block_pool.specs.Pools.{Status, Free, Used, Retired, is_retired, retired, marked, changed, AreFree}
 use Rattle.version_shelf.specs.Shelves.{ShelfView, IsNext}
 use Rattle.store_journal.specs.Journal as journal
-use Rattle.store_journal.specs.Desks.{DeskView, IsDesk, FollowsLayout, last_numbers}
+use Rattle.store_journal.specs.Desks.{DeskView, IsDesk, FollowsLayout}
 use Rattle.store_journal.specs.Steps.{Accepts}
-use Rattle.store_journal.proofs.Accepting.{Application, next_desk, granted_pool, retired_pool, made_accepted, made_desk, moves_left}
+use Rattle.store_journal.proofs.Accepting.{Application, next_desk, granted_pool, retired_pool, made_accepted, made_desk}
+use Rattle.store_journal.proofs.Accepting.{moves_left}
 use Rattle.store_journal.proofs.Accepting.{dropped_movable, unused_movable, granted_movable, given_back, granted_unlisted}
 use Rattle.store_journal.proofs.BatchLaws.{accepted_steps}
 use Rattle.store_journal.proofs.RetiredCounts.{retired_room}
@@ -30,7 +30,7 @@ use Rattle.stream_store.specs.declared.applying.Prepared.{Prepared}
 use Rattle.stream_store.specs.declared.receipts.ApplyError.{ApplyError}
 use Rattle.stream_store.specs.declared.receipts.ApplyError.TheVariants.{BatchLimit, NamesFull, KindsFull, PoolEmpty, OutOfMemory}
 use Rattle.stream_store.specs.Applying.{IsPrepared}
-use Rattle.stream_store.specs.Kept.{DeskState, IsKept, entry_of, state_of}
+use Rattle.stream_store.specs.Kept.{DeskState, IsKept, entry_of}
 use Rattle.stream_store.specs.Moves.{AreUsedOnce}
 use Rattle.stream_store.specs.Refusals.{Refuses, RefusesGrant, IsAdmitted}
 
@@ -98,7 +98,8 @@ pub unlisted : (d : DeskView) (numbers handed : List ℕ) (v : VersionView) → 
     → v ≡ d.last → All (λ n. is_in n (rows.numbers_of (rows.blocks_of v.rows)) ≡ false) handed
 unlisted d numbers handed v desk free same at k e h =
     ap (λ (w : VersionView). is_in (get_or handed k e) (rows.numbers_of (rows.blocks_of w.rows))) at
-    ∙ granted_unlisted d numbers (get_or handed k e) desk free (ap (is_in (get_or handed k e)) (sym same) ∙ number_listed handed k e h)
+    ∙ granted_unlisted d numbers (get_or handed k e) desk free (ap (is_in (get_or handed k e)) (sym same)
+    ∙ number_listed handed k e h)
 
 -- The blocks' moves
 
@@ -113,7 +114,8 @@ retired_is : (h : Handing) (number : ℕ) → number ≡ length h.old.last.batch
     → marked (numbers_of h.prepared.dropped.items) (Retired number) h.pool ≡ retired_pool (application h)
 retired_is h number is =
     (λ i. marked (dropped_is h i) (Retired (is i)) (h.granted i))
-    ∙ changed_marked (rows.numbers_of (blocks_of h.prepared.dropped.items)) (length h.old.last.batches + 1) (granted_pool (application h))
+    ∙ changed_marked (rows.numbers_of (blocks_of h.prepared.dropped.items)) (length h.old.last.batches + 1)
+    (granted_pool (application h))
 
 pub dropped_once : (h : Handing) → AreUsedOnce (numbers_of h.prepared.dropped.items) h.pool
 dropped_once h =
@@ -127,10 +129,12 @@ pub unused_once : (h : Handing) (number : ℕ) → number ≡ length h.old.last.
     → AreUsedOnce (numbers_of h.prepared.unused.items) (marked (numbers_of h.prepared.dropped.items) (Retired number) h.pool)
 unused_once h number is =
     let m = unused_movable (application h) in
-    subst (AreUsedOnce (numbers_of h.prepared.unused.items)) (sym (retired_is h number is)) (record { used = m.used; apart = m.apart })
+    subst (AreUsedOnce (numbers_of h.prepared.unused.items)) (sym (retired_is h number is))
+    (record { used = m.used; apart = m.apart })
 
 pub end_pool : (h : Handing) (number : ℕ) (end : List Status) → number ≡ length h.old.last.batches + 1
-    → end ≡ marked (numbers_of h.prepared.unused.items) Free (marked (numbers_of h.prepared.dropped.items) (Retired number) h.pool)
+    → end ≡ marked (numbers_of h.prepared.unused.items) Free
+    (marked (numbers_of h.prepared.dropped.items) (Retired number) h.pool)
     → end ≡ (next_desk (application h)).pool
 end_pool h number end is moved =
     moved ∙ ap (marked (numbers_of h.prepared.unused.items) Free) (retired_is h number is) ∙ moves_left (application h)
@@ -176,8 +180,10 @@ end_room h end is =
     let room = retired_room (application h) in
     omega arith
 
-pub end_kept : (h : Handing) (new : DeskState) (shelf : ShelfView) (workers entries room : ℕ) → new.desk ≡ next_desk (application h)
-    → shelf.book ≡ new.book → shelf.opening ≡ h.old.last.opening → shelf.posted ≡ (version_of h).batches → 1 ≤ workers → workers ≤ 8
+pub end_kept : (h : Handing) (new : DeskState) (shelf : ShelfView) (workers entries room : ℕ)
+    → new.desk ≡ next_desk (application h)
+    → shelf.book ≡ new.book → shelf.opening ≡ h.old.last.opening → shelf.posted ≡ (version_of h).batches → 1 ≤ workers
+    → workers ≤ 8
     → entries + count_by is_retired new.desk.pool ≤ room → IsKept new shelf workers entries room
 end_kept h new shelf workers entries room is book opening posted some few fits = record {
   desk = subst IsDesk (sym is) (made_desk (application h));
@@ -206,7 +212,8 @@ grant_refused v free ops plan (PoolEmpty needed left) admitted refuses =
 grant_refused v free ops plan OutOfMemory admitted refuses = refuses
 
 -- a batch handed over, by what is known of the version that was lent
-abbrev pub handing : (old : DeskView) (ops : List NamedOp) (numbers handed : List ℕ) (prepared : Prepared) (pool : List Status) (v : VersionView)
+abbrev pub handing : (old : DeskView) (ops : List NamedOp) (numbers handed : List ℕ) (prepared : Prepared) (pool : List Status)
+    (v : VersionView)
     → IsDesk old → AreFree old.pool numbers → handed ≡ numbers → v ≡ old.last → IsPrepared v ops handed prepared
     → pool ≡ marked numbers Used old.pool → Handing
 handing old ops numbers handed prepared pool v before free same last is_prepared granted = record {

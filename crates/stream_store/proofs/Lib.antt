@@ -1,4 +1,5 @@
 pub mod Collections
 pub mod Moving
 pub mod Handing
+pub mod Rows
 pub mod Seated

@@ -1,5 +1,5 @@
 -- The last of some blocks is moved, and then the rest.
-use Rattle.std.proofs.Common.{◌≡◌, ℕ, zero, suc, ◌+◌, ◌≤◌, ◌==◌, Bool, true, cond, List, [], ◌∷◌, ◌++◌, map, set, count_by}
+use Rattle.std.proofs.Common.{◌≡◌, ℕ, ◌==◌, true, List, [], ◌∷◌, ◌++◌, set}
 use Rattle.std.proofs.Common.{refl, sym, ap, subst, ◌∙◌, arith}
 use Rattle.std.specs.Prelude.{slice_get, if◌then◌else◌}
 use Rattle.std.specs.Option.{option_map}
@@ -34,8 +34,10 @@ turned_in m n ns = in_times m (ns ++ n ∷ []) ∙ ap is_some_times (turned_time
 
 turned : (n : ℕ) (ns : List ℕ) (pool : List Status) → AreUsedOnce (ns ++ n ∷ []) pool → AreMovable (n ∷ ns) pool
 turned n ns pool once = record {
-  used = all_by (is_used_at pool) (n ∷ ns) (λ m is. all_listed (is_used_at pool) (ns ++ n ∷ []) m once.used (turned_in m n ns ∙ is));
-  apart = apart_if (n ∷ ns) (λ m. let same = turned_times m n ns in let one = once_at_most m (ns ++ n ∷ []) once.apart in omega arith);
+  used = all_by (is_used_at pool) (n ∷ ns) (λ m is. all_listed (is_used_at pool) (ns ++ n ∷ []) m once.used
+      (turned_in m n ns ∙ is));
+  apart = apart_if (n ∷ ns) (λ m. let same = turned_times m n ns in let one = once_at_most m (ns ++ n ∷ []) once.apart in omega
+      arith);
 }
 
 turned_marks : (n : ℕ) (ns : List ℕ) (s : Status) (pool : List Status) → marked ns s (set pool n s) ≡ marked (ns ++ n ∷ []) s pool

@@ -1,5 +1,6 @@
 -- Seats: a pin set twice, and the seats of an opening.
-use Rattle.std.proofs.Common.{◌≡◌, ℕ, zero, suc, ◌+◌, ◌<◌, ◌≤◌, List, [], ◌∷◌, ◌++◌, length, map, take, drop, refl, sym, ap, subst, ◌∙◌, arith}
+use Rattle.std.proofs.Common.{◌≡◌, ℕ, zero, suc, ◌+◌, ◌<◌, List, [], ◌∷◌, ◌++◌, length, map, take, drop, refl, sym, ap, subst}
+use Rattle.std.proofs.Common.{◌∙◌, arith}
 use Rattle.std.specs.Prelude.{All, Option, slice_set, slice_index_or}
 use Rattle.std.specs.List.{range_with_len}
 use Rattle.std.proofs.lemmas.List.{map-append, length-append}
@@ -22,15 +23,18 @@ pin_twice b s x y = λ i. record { floor = b.floor; pins = set_again b.pins s x 
 abbrev IsNew : Book → ToldView → Type 0
 IsNew book x = x ≡ record { book = book; version = empty_version }
 
-each : (book : Book) (seats : List SeatView) → All (IsNew book) (map (λ (s : SeatView). s.seen) seats) → All (IsNewSeat book) seats
+each : (book : Book) (seats : List SeatView) → All (IsNew book) (map (λ (s : SeatView). s.seen) seats)
+    → All (IsNewSeat book) seats
 each book [] all = λ k d h. absurd (omega arith)
 each book (s ∷ seats) all =
     All-cons (IsNewSeat book) s seats (All-head (IsNew book) s.seen (map (λ (t : SeatView). t.seen) seats) all)
     (each book seats (All-tail (IsNew book) s.seen (map (λ (t : SeatView). t.seen) seats) all))
 
 -- seats of readers that have seen version 0
-pub new_seats : (book other : Book) (version : VersionView) (seats : List SeatView) (readers : List ToldView) → map (λ (s : SeatView). s.seen) seats ≡ readers
-    → All (λ (x : ToldView). x ≡ record { book = book; version = version }) readers → version ≡ empty_version → other ≡ book → All (IsNewSeat other) seats
+pub new_seats : (book other : Book) (version : VersionView) (seats : List SeatView) (readers : List ToldView)
+    → map (λ (s : SeatView). s.seen) seats ≡ readers
+    → All (λ (x : ToldView). x ≡ record { book = book; version = version }) readers → version ≡ empty_version → other ≡ book
+    → All (IsNewSeat other) seats
 new_seats book other version seats readers same all empty is =
     each other seats (subst (λ (b : Book). All (IsNew b) (map (λ (s : SeatView). s.seen) seats)) (sym is)
     (subst (λ (rs : List ToldView). All (IsNew book) rs) (sym same)
@@ -44,7 +48,8 @@ range_more a (suc n) =
 
 -- one more seat, which has the next number
 pub numbers_more : (seats more : List SeatView) (s : SeatView) → more ≡ seats ++ s ∷ [] → s.number ≡ length seats
-    → map (λ (t : SeatView). t.number) seats ≡ range_with_len 0 (length seats) → map (λ (t : SeatView). t.number) more ≡ range_with_len 0 (length more)
+    → map (λ (t : SeatView). t.number) seats ≡ range_with_len 0 (length seats)
+    → map (λ (t : SeatView). t.number) more ≡ range_with_len 0 (length more)
 numbers_more seats more s items next same =
     let longer : length (seats ++ s ∷ []) ≡ length seats + 1 = length-append seats (s ∷ []) in
     let count : length more ≡ length (seats ++ s ∷ []) = ap length items in
@@ -55,16 +60,19 @@ numbers_more seats more s items next same =
     ∙ sym (range_more 0 (length seats)) ∙ ap (range_with_len 0) one
 
 -- the first reader taken off a list
-pub first_off : (xs ys : List ToldView) (x : ToldView) → 0 < length xs → x ≡ slice_index_or xs 0 x → ys ≡ take 0 xs ++ drop (0 + 1) xs → xs ≡ x ∷ ys
+pub first_off : (xs ys : List ToldView) (x : ToldView) → 0 < length xs → x ≡ slice_index_or xs 0 x → ys ≡ take 0 xs
+    ++ drop (0 + 1) xs → xs ≡ x ∷ ys
 first_off [] ys x some first rest = absurd (omega arith)
-first_off (z ∷ zs) ys x some first rest = ap (λ (w : ToldView). w ∷ zs) (sym first) ∙ ap (λ (ws : List ToldView). x ∷ ws) (sym rest)
+first_off (z ∷ zs) ys x some first rest = ap (λ (w : ToldView). w ∷ zs) (sym first)
+    ∙ ap (λ (ws : List ToldView). x ∷ ws) (sym rest)
 
 regroup : (xs ys : List ToldView) (x : ToldView) → (xs ++ x ∷ []) ++ ys ≡ xs ++ x ∷ ys
 regroup [] ys x = refl
 regroup (z ∷ zs) ys x = ap (λ (ws : List ToldView). z ∷ ws) (regroup zs ys x)
 
 -- the seat of the first reader is added to the seats
-pub seen_more : (seats more : List SeatView) (s : SeatView) (x : ToldView) (xs ys readers : List ToldView) → more ≡ seats ++ s ∷ [] → s.seen ≡ x → xs ≡ x ∷ ys
+pub seen_more : (seats more : List SeatView) (s : SeatView) (x : ToldView) (xs ys readers : List ToldView) → more ≡ seats ++ s
+    ∷ [] → s.seen ≡ x → xs ≡ x ∷ ys
     → map (λ (t : SeatView). t.seen) seats ++ xs ≡ readers → map (λ (t : SeatView). t.seen) more ++ ys ≡ readers
 seen_more seats more s x xs ys readers items is cut same =
     ap (λ (ms : List SeatView). map (λ (t : SeatView). t.seen) ms ++ ys) items

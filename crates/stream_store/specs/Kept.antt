@@ -22,7 +22,11 @@ entry_of (entries.Applied batch taken dropped) = Applied (arc_value {X = Batch} 
 entry_of (entries.Collected floor recycled) = Collected floor recycled
 
 abbrev pub state_of : Book → VersionView → List JournalEntry → List Status → DeskState
-state_of book last journal pool = record { book = book; desk = record { last = last; journal = map entry_of journal; pool = pool } }
+state_of book last journal pool = record {
+  book = book;
+  desk =
+      record { last = last; journal = map entry_of journal; pool = pool };
+}
 
 -- it is a desk, the shelf has posted the last version's batches, and the journal's spare room is never below the number
 -- of retired blocks, so that a collection takes no memory

@@ -1,12 +1,11 @@
 -- When the desk refuses a batch.
-use Rattle.std.specs.Prelude.{◌≡◌, ℕ, ◌<◌, ◌≤◌, List, length, count_by}
+use Rattle.std.specs.Prelude.{◌≡◌, ℕ, ◌<◌, ◌≤◌, List, length}
 use Rattle.graph_model.specs.Limits.{batch_limit}
 use Rattle.graph_model.specs.GraphLimits.{MeetsNameLimit, MeetsKindLimit}
 use Rattle.graph_model.specs.declared.batches.NamedOp.{NamedOp}
 use Rattle.graph_version.specs.Versions.{VersionView, content}
 use Rattle.batch_plan.specs.Planned.{IsPlan, MeetsNeitherLimit}
 use Rattle.batch_plan.specs.declared.plans.Plan.{Plan}
-use Rattle.block_pool.specs.Pools.{Status, is_free}
 use Rattle.stream_store.specs.declared.receipts.ApplyError.{ApplyError}
 use Rattle.stream_store.specs.declared.receipts.ApplyError.TheVariants.{BatchLimit, NamesFull, KindsFull, PoolEmpty, OutOfMemory}
 
@@ -14,9 +13,11 @@ use Rattle.stream_store.specs.declared.receipts.ApplyError.TheVariants.{BatchLim
 abbrev pub Refuses : VersionView → ℕ → List NamedOp → ApplyError → Type 0
 Refuses v free ops BatchLimit = batch_limit ≤ length v.batches
 Refuses v free ops NamesFull = (length v.batches < batch_limit) × MeetsNameLimit ops (content v)
-Refuses v free ops KindsFull = (length v.batches < batch_limit) × (MeetsNameLimit ops (content v) → ⊥) × MeetsKindLimit ops (content v)
+Refuses v free ops KindsFull = (length v.batches < batch_limit) × (MeetsNameLimit ops (content v) → ⊥)
+    × MeetsKindLimit ops (content v)
 Refuses v free ops (PoolEmpty needed left) =
-    (length v.batches < batch_limit) × MeetsNeitherLimit ops (content v) × (needed ≡ length ops) × (left ≡ free) × (free < length ops)
+    (length v.batches < batch_limit) × MeetsNeitherLimit ops (content v) × (needed ≡ length ops) × (left ≡ free)
+    × (free < length ops)
 Refuses v free ops OutOfMemory = Unit {0}
 
 -- a batch that the version's limits admit, and its plan for at least one worker

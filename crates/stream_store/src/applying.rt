@@ -1,7 +1,8 @@
 //! A batch on its way to the desk: its plan and its blocks, what is made of it before anything changes, and its
 //! publication.
 
-ghost use Rattle.std.specs.Prelude.{◌≡◌, ◌≢◌, ◌+◌, ◌<◌, ◌≤◌, ◌^◌, ◌++◌, ◌∷◌, [], ℕ, length, IfOk, IfErr, OnOk, OnErr, AllPairs, All, false, count_by, vec_capacity, vec_len};
+ghost use Rattle.std.specs.Prelude.{◌≡◌, ◌≢◌, ◌+◌, ◌<◌, ◌≤◌, ◌^◌, ◌++◌, ◌∷◌, [], ℕ, length, IfOk, IfErr, OnOk, OnErr, AllPairs};
+ghost use Rattle.std.specs.Prelude.{All, false, count_by, vec_capacity, vec_len};
 ghost use Rattle.std.specs.Arc.{arc_value};
 ghost use Rattle.row_pages.specs.Rows as rows;
 ghost use Rattle.shard_work.specs.RowBlocks.{numbers_of};
@@ -156,7 +157,8 @@ pub(crate) fn publish<R: Wait>(
     ensures posted { OnOk result (shelf.new.posted ≡ (arc_value {X = Version} version).batches) }
     ensures told { IfOk result (λ told. told ≡ record { book = shelf.old.book; version = arc_value {X = Version} version }) }
     ensures same { (shelf.new.book ≡ shelf.old.book) × (shelf.new.opening ≡ shelf.old.opening) }
-    ensures unchanged { OnErr result ((journal.new.items ≡ journal.old.items) × (vec_len journal.new ≡ vec_len journal.old) × (last.new ≡ last.old) × (shelf.new ≡ shelf.old)) }
+    ensures unchanged { OnErr result ((journal.new.items ≡ journal.old.items) × (vec_len journal.new ≡ vec_len journal.old)
+        × (last.new ≡ last.old) × (shelf.new ≡ shelf.old)) }
     ensures capacity { vec_capacity journal.old ≤ vec_capacity journal.new }
 {
     journal.reserve(room + 1)?;

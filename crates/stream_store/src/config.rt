@@ -36,7 +36,8 @@ impl Config {
     /// A configuration of so many workers, blocks and seats, where each is within its limits.
     pub fn new(workers: usize, blocks: u32, seats: usize) -> Result<Config, BadConfig>
         ensures { MatchResult result
-            (λ config. (config ≡ record { workers = workers; blocks = blocks; seats = seats }) × IsWithinLimits workers blocks seats)
+            (λ config. (config ≡ record { workers = workers; blocks = blocks; seats = seats })
+            × IsWithinLimits workers blocks seats)
             (λ _. IsWithinLimits workers blocks seats → ⊥) }
     {
         let is_within = 1 <= workers

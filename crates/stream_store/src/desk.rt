@@ -1,6 +1,7 @@
 //! The desk.
 
-ghost use Rattle.std.specs.Prelude.{◌≡◌, ◌+◌, ◌<◌, ◌≤◌, ◌++◌, [], length, map, replicate, count_by, vec_capacity, vec_len, IfOk, IfErr, OnOk, OnErr};
+ghost use Rattle.std.specs.Prelude.{◌≡◌, ◌+◌, ◌<◌, ◌≤◌, ◌++◌, [], length, map, replicate, count_by, vec_capacity, vec_len};
+ghost use Rattle.std.specs.Prelude.{IfOk, IfErr, OnOk, OnErr};
 ghost use Rattle.std.specs.Arc.{arc_value};
 ghost use Rattle.graph_version.specs.declared.versions.Version.{Version};
 ghost use Rattle.graph_version.specs.Versions.{content, empty_version};
@@ -53,7 +54,8 @@ impl Model for Desk {
 
     ghost view = { λ d. state_of d.shelf.book (arc_value {X = Version} d.last) d.journal.items d.pool };
 
-    ghost invariant = { λ d. IsKept (state_of d.shelf.book (arc_value {X = Version} d.last) d.journal.items d.pool) d.shelf d.workers (vec_len d.journal) (vec_capacity d.journal) };
+    ghost invariant = { λ d. IsKept (state_of d.shelf.book (arc_value {X = Version} d.last) d.journal.items d.pool) d.shelf
+        d.workers (vec_len d.journal) (vec_capacity d.journal) };
 }
 
 /// What a collection answers: its floor, how many blocks it recycled, and how many stay retired.

@@ -1,26 +1,36 @@
 //! The running store: a desk that keeps the last version, the pool of blocks, the journal and the shelf's writer; and
-//! seats, whose sessions hold a version.
+//! seats, whose sessions hold a version; and the store that threads share, desk and board behind a lock each.
 #![tactic(auto)]
 
 mod applying;
 mod config;
 mod desk;
 mod entries;
+mod laws;
 mod moves;
 mod opening;
 mod receipts;
 mod seats;
+mod store;
 
 pub use config::{BadConfig, Config};
 pub use desk::{Collected, Desk, Stat};
 pub use entries::JournalEntry;
+pub use laws::law_equal_answers;
 pub use opening::{OpenError, open_parts};
 pub use receipts::{ApplyError, Receipt};
-pub use seats::{Seat, Session};
+pub use seats::{PinnedSeat, Seat, Session};
+pub use store::{Naming, Store};
 
 #[cfg(test)]
 mod apply_tests;
 #[cfg(test)]
+mod ask_tests;
+#[cfg(test)]
 mod seat_tests;
 #[cfg(test)]
+mod store_tests;
+#[cfg(test)]
 mod tests;
+#[cfg(test)]
+mod thread_tests;

@@ -108,3 +108,54 @@ fn refused_sessions_set_no_pin(rt: HostRuntime) {
         None => tell_refused(&rt),
     }
 }
+
+fn is_applied<R: Threads + Wait + Sync>(
+    rt: &R,
+    desk: &mut Desk,
+    batch: Result<Batch, AllocError>,
+) -> bool {
+    match batch {
+        Ok(batch) => desk.apply(rt, &PassAll, batch).is_ok(),
+        Err(AllocError) => false,
+    }
+}
+
+/// The number of a session's version after one batch; the floor raised to 1, and to 2 after a second batch, and then again once
+/// the session let its version go.
+fn floors_beside<R: Threads + Wait + Sync>(
+    rt: &R,
+    alloc: Global,
+    desk: &mut Desk,
+    board: &mut Board,
+    seat: Seat,
+) -> Option<[u64; 4]> {
+    let first = is_applied(rt, desk, batch_of(alloc, &[("+", "a", "b")]));
+    let Ok(session) = seat.acquire_lent(desk, board) else {
+        return None;
+    };
+    let number = session.version().number();
+    let low = board.raise(1);
+    let second = is_applied(rt, desk, batch_of(alloc, &[("+", "a", "c")]));
+    let held = board.raise(2);
+    let _seat = session.release_lent(board);
+    let high = board.raise(2);
+    if first && second {
+        Some([number, low, held, high])
+    } else {
+        None
+    }
+}
+
+fn floors<R: Threads + Wait + Sync>(rt: &R, alloc: Global) -> Option<[u64; 4]> {
+    let config = Config::new(1, 16, 1).ok()?;
+    let Ok((mut desk, mut board, mut seats)) = open_parts(rt, alloc, config) else {
+        return None;
+    };
+    let seat = seats.pop()?;
+    floors_beside(rt, alloc, &mut desk, &mut board, seat)
+}
+
+#[test]
+fn keeps_the_floor_at_a_lent_version(rt: HostRuntime) {
+    assert_eq!(rt; floors(&rt, rt.alloc()), Some([1, 1, 1, 2]));
+}

@@ -1,18 +1,23 @@
 //! Seats and sessions. A session holds one version while the store goes on: acquire and release of Aspen ("Low-Latency
 //! Graph Streaming using Compressed Purely-Functional Trees"; Dhulipala, Blelloch, Shun; PLDI 2019).
 
-ghost use Rattle.std.specs.Prelude.{◌≡◌, max, length, IfOk, IfErr, OnOk, OnErr, MatchResult, Some, None, true};
+ghost use Rattle.std.specs.Prelude.{◌≡◌, ◌⊎◌, max, length, IfOk, IfErr, OnOk, OnErr, MatchResult, Some, None, true, Err};
+ghost use Rattle.graph_model.specs.Answer.{IsAnswer};
 ghost use Rattle.seat_board.specs.Board.{with_pin};
 ghost use Rattle.version_shelf.specs.Shelves.{Begins, IsOfOneShelf};
-ghost use Rattle.stream_store.specs.Seats.{held_version, lent_to, seat_of};
+ghost use Rattle.version_answers.specs.Numbered.{IsNumberedAnswer};
+ghost use Rattle.stream_store.specs.Seats.{held_version, held_graph, lent_to, seat_of};
 
 use crate::desk::Desk;
 use crate::receipts::Receipt;
+use crate::store::{Naming, Store};
+use graph_model::{AskError, Reply, Request};
 use graph_version::Version;
 use seat_board::{Board, SeatNo};
 use std::alloc::AllocError;
 use std::marker::Model;
-use std::sync::Arc;
+use std::sync::{Arc, Wait};
+use version_answers::{NumberedReply, answer, answer_in_numbers};
 use version_shelf::ShelfReader;
 
 /// One reader's place, without a session: its number on the board, and its reader of the shelf.
@@ -34,7 +39,26 @@ impl Model for Seat {
     ghost view = { λ s. record { number = s.number; seen = s.reader } };
 }
 
-/// A seat that holds a version.
+/// A seat of a store whose pin is set, and which hasn't entered a version since. Where it is dropped, the pin stays.
+#[derive(Drop)]
+pub struct PinnedSeat {
+    number: SeatNo,
+    reader: ShelfReader,
+}
+
+impl Model for PinnedSeat {
+    ghost use Rattle.stream_store.specs.Seats.{SeatView};
+    ghost use Rattle.std.specs.Coded.{codes};
+    ghost use Rattle.graph_model.specs.Coded.{graph_code};
+
+    ghost Value = { SeatView };
+
+    ghost coded = { Prim.hlevel (codes, graph_code) };
+
+    ghost view = { λ s. record { number = s.number; seen = s.reader } };
+}
+
+/// A seat that holds a version. Where it is dropped, the seat's pin stays.
 #[derive(Drop)]
 pub struct Session {
     number: SeatNo,
@@ -68,17 +92,28 @@ impl Seat {
     /// Takes over what a receipt tells, where it is newer. The receipt and the seat are of one opening.
     pub fn learn(&mut self, receipt: &Receipt) -> Result<(), AllocError>
         requires { IsOfOneShelf receipt.now.told self.old.seen }
-        ensures seen { MatchResult result (λ _. Begins self.old.seen self.new.seen × Begins receipt.now.told self.new.seen) (λ _. self.new ≡ self.old) }
+        ensures seen { MatchResult result (λ _. Begins self.old.seen self.new.seen × Begins receipt.now.told self.new.seen)
+            (λ _. self.new ≡ self.old) }
         ensures number { self.new.number ≡ self.old.number }
     {
         self.reader.learn(&receipt.told)
+    }
+
+    /// Pins the seat at the present floor, under the board's lock alone. It takes no memory.
+    pub fn pin<J: Naming, R: Wait>(self, rt: &R, store: &Store<J>) -> PinnedSeat
+        ensures { result ≡ self }
+    {
+        let Seat { number, reader } = self;
+        store.board(rt).pin(number);
+        PinnedSeat { number, reader }
     }
 
     /// A session on the desk's last version, and the seat's pin at the greater of the floor and that version's number. Where
     /// no shared copy of the version is to be had, the seat comes back and the board stays as it was.
     pub fn acquire_lent(self, desk: &Desk, board: &mut Board) -> Result<Session, (Seat, AllocError)>
         ensures session { IfOk result (λ s. s ≡ lent_to self desk.now.desk.last) }
-        ensures pinned { OnOk result (board.new ≡ with_pin board.old self.number (Some (record { number = max board.old.floor (length desk.now.desk.last.batches); is_settled = true }))) }
+        ensures pinned { OnOk result (board.new ≡ with_pin board.old self.number
+            (Some (record { number = max board.old.floor (length desk.now.desk.last.batches); is_settled = true }))) }
         ensures refused { IfErr result (λ e. e.0 ≡ self) }
         ensures unchanged { OnErr result (board.new ≡ board.old) }
     {
@@ -98,6 +133,27 @@ impl Seat {
     }
 }
 
+impl PinnedSeat {
+    /// A session on the version that the shelf shows, where that is newer than all that the seat had seen, and else on the
+    /// newest that it had seen; the pin is settled at that version's number, under the board's lock alone. It takes no memory
+    /// but one shared copy, and where that is refused the session holds what the seat had seen.
+    pub fn enter<J: Naming, R: Wait>(self, rt: &R, store: &Store<J>) -> Session
+        ensures later { Begins self.seen result.seen }
+        ensures held { result.lent ≡ None }
+        ensures number { result.number ≡ self.number }
+    {
+        let PinnedSeat { number, mut reader } = self;
+        reader.look();
+        let version = reader.newest().number();
+        store.board(rt).settle(number, version);
+        Session {
+            number,
+            reader,
+            lent: None,
+        }
+    }
+}
+
 impl Session {
     /// The version that the session holds.
     pub fn version(&self) -> &Version
@@ -107,6 +163,19 @@ impl Session {
             Some(version) => version,
             None => self.reader.newest(),
         }
+    }
+
+    /// Lets the version go, and takes the seat's pin away, under the board's lock alone. It takes no memory.
+    pub fn release<J: Naming, R: Wait>(self, rt: &R, store: &Store<J>) -> Seat
+        ensures { result ≡ seat_of self }
+    {
+        let Session {
+            number,
+            reader,
+            lent: _lent,
+        } = self;
+        store.board(rt).unpin(number);
+        Seat { number, reader }
     }
 
     /// Lets a version go that the desk lent, and takes the seat's pin away.
@@ -121,5 +190,20 @@ impl Session {
         } = self;
         board.unpin(number);
         Seat { number, reader }
+    }
+
+    /// The answer to a request over the version that the session holds: the first refusal that holds (`BadWindow`, `NoKind`,
+    /// `NoVertex`), or else the reply; `OutOfMemory` where a growth was refused. It takes no lock and waits for nobody.
+    pub fn ask(&self, request: &Request) -> Result<Reply, AskError>
+        ensures { (result ≡ Err AskError.OutOfMemory) ⊎ IsAnswer request.now (held_graph self.now) result }
+    {
+        answer(self.reader.allocator(), self.version(), request)
+    }
+
+    /// The same answer with vertices by their numbers in that version, for which no names are copied.
+    pub fn ask_in_numbers(&self, request: &Request) -> Result<NumberedReply, AskError>
+        ensures { (result ≡ Err AskError.OutOfMemory) ⊎ IsNumberedAnswer request.now (held_graph self.now) result }
+    {
+        answer_in_numbers(self.reader.allocator(), self.version(), request)
     }
 }

@@ -1,4 +1,4 @@
-use crate::{Collected, Config, OpenError, Stat, open_parts};
+use crate::{Collected, Config, OpenError, Stat, law_equal_answers, open_parts};
 use std::alloc::Global;
 use std::sync::Wait;
 
@@ -76,4 +76,9 @@ fn refused_openings_open_nothing(rt: HostRuntime) {
         "one growth alone is refused",
     );
     assert_eq!(rt; stat, FIRST);
+}
+
+#[test]
+fn the_law_is_there(rt: HostRuntime) {
+    law_equal_answers();
 }

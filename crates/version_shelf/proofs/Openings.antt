@@ -9,5 +9,6 @@ all_one t x e zero d lt = e
 all_one t x e (suc k) d lt = absurd (omega arith)
 
 -- one more reader that keeps what the others keep
-pub all_same_more : (t : ToldView) (xs : List ToldView) (x : ToldView) → All (λ (y : ToldView). y ≡ t) xs → x ≡ t → All (λ (y : ToldView). y ≡ t) (xs ++ x ∷ [])
+pub all_same_more : (t : ToldView) (xs : List ToldView) (x : ToldView) → All (λ (y : ToldView). y ≡ t) xs → x ≡ t
+    → All (λ (y : ToldView). y ≡ t) (xs ++ x ∷ [])
 all_same_more t xs x a e = All-append (λ (y : ToldView). y ≡ t) xs (x ∷ []) a (λ k d lt. all_one t x e k d lt)

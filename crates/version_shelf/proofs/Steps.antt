@@ -1,6 +1,7 @@
 -- The steps of the shelf keep its rule.
 use Rattle.graph_model.specs.declared.batches.NamedOp.{NamedOp}
-use Rattle.std.proofs.Common.{fold, ◌≡◌, ℕ, ◌≢◌, ◌⊎◌, Bool, true, false, MatchBool, List, [], ◌∷◌, ◌++◌, set, refl, sym, ap, subst, ◌∙◌, ⊎_elim, Option, Some, None, IfSome, IfOk, Result, Ok, Err}
+use Rattle.std.proofs.Common.{fold, ◌≡◌, ℕ, ◌≢◌, ◌⊎◌, Bool, true, false, MatchBool, List, [], ◌∷◌, ◌++◌, set, refl, sym, ap}
+use Rattle.std.proofs.Common.{subst, ◌∙◌, ⊎_elim, Option, Some, None, IfSome, IfOk, Result, Ok, Err}
 use Rattle.std.specs.Result.{result_ok}
 use mathlib.Core.Option.{some}
 use mathlib.Core.List.{IsPrefix}
@@ -21,7 +22,14 @@ pub begins_self : (x : ToldView) → Begins x x
 begins_self x = (refl, (refl, prefix_self x.version.batches))
 
 pub begins_trans : (x y z : ToldView) → Begins x y → Begins y z → Begins x z
-begins_trans x y z p q = (p.0 ∙ q.0, (p.1.0 ∙ q.1.0, prefix_trans x.version.batches y.version.batches z.version.batches p.1.1 q.1.1))
+begins_trans x y z p q = (
+  p.0 ∙ q.0,
+  (
+    p.1.0 ∙ q.1.0,
+    prefix_trans x.version.batches y.version.batches z.version.batches p.1.1
+        q.1.1,
+  ),
+)
 
 -- a new reader has seen nothing
 pub admits : Admits Keeps None
@@ -32,60 +40,83 @@ pub turns : (place : ℕ) (v : Option ToldView) (x y : ToldView) → Begins x y 
 turns place v x y up views h at = (
   Some y,
   (λ j u e. ⊎_elim (λ (t : (j ≡ place) × (Some y ≡ Some u)). subst (λ z. Begins z y) (some_same y u t.1) (begins_self y))
-      (λ (t : (j ≢ place) × (get_elem? views j ≡ some (Some u))). begins_trans u x y (h j u t.1) up) (at_set views place j (Some y) (Some u) e)),
+      (λ (t : (j ≢ place) × (get_elem? views j ≡ some (Some u))). begins_trans u x y (h j u t.1) up)
+      (at_set views place j (Some y) (Some u) e)),
   ((λ u e. h place u (at ∙ ap some e)), refl),
 )
 
 -- a place that hands on what it has seen, and keeps it
 pub forks : (place : ℕ) (v : Option ToldView) → Forks Keeps place v v v
 forks place v x views h at j u e =
-    ⊎_elim (λ (t : get_elem? (set views place v) j ≡ some (Some u)). h j u (subst (λ l. get_elem? l j ≡ some (Some u)) (set_again views place v at) t))
+    ⊎_elim (λ (t : get_elem? (set views place v) j ≡ some (Some u)). h j u
+    (subst (λ l. get_elem? l j ≡ some (Some u)) (set_again views place v at) t))
     (λ (same : v ≡ Some u). h place u (at ∙ ap some same)) (at_snoc (set views place v) v (Some u) j e)
 
 -- a reader that takes in what another has seen
 pub merges : (place : ℕ) (v : Option ToldView) (other : ℕ) (w : Option ToldView) → Merges Keeps place v other w w None
 merges place v other w x views h at apart there j u e =
     let theirs : (z : ToldView) → w ≡ Some z → Begins z x = λ z is.
-    ⊎_elim (λ (t : (other ≡ place) × (w ≡ w)). absurd (apart t.0)) (λ (t : (other ≢ place) × (get_elem? views other ≡ some w)). h other z (t.1 ∙ ap some is)) (at_set views place other w w there) in
+    ⊎_elim (λ (t : (other ≡ place) × (w ≡ w)). absurd (apart t.0))
+    (λ (t : (other ≢ place) × (get_elem? views other ≡ some w)). h other z (t.1 ∙ ap some is))
+    (at_set views place other w w there) in
     ⊎_elim (λ (t : (j ≡ other) × (None ≡ Some u)). none_not u t.1)
     (λ (t : (j ≢ other) × (get_elem? (set views place w) j ≡ some (Some u))).
-    ⊎_elim (λ (s : (j ≡ place) × (w ≡ Some u)). theirs u s.1) (λ (s : (j ≢ place) × (get_elem? views j ≡ some (Some u))). h j u s.1) (at_set views place j w (Some u) t.1))
+    ⊎_elim (λ (s : (j ≡ place) × (w ≡ Some u)). theirs u s.1)
+    (λ (s : (j ≢ place) × (get_elem? views j ≡ some (Some u))). h j u s.1) (at_set views place j w (Some u) t.1))
     (at_set (set views place w) other j None (Some u) e)
 
 -- the value that the last operation sets begins with what was shown
-pub next_begins : (x next op : ToldView) (before pending : List ToldView) → next ≡ fold (λ (_ y : ToldView). y) x pending → pending ≡ before ++ op ∷ [] → Begins x op → Begins x next
-next_begins x next op before pending is all up = subst (λ z. Begins x z) (sym (is ∙ (ap (fold (λ (_ y : ToldView). y) x) all ∙ fold_last x before op))) up
+pub next_begins : (x next op : ToldView) (before pending : List ToldView) → next ≡ fold (λ (_ y : ToldView). y) x pending
+    → pending ≡ before ++ op ∷ [] → Begins x op → Begins x next
+next_begins x next op before pending is all up =
+    subst (λ z. Begins x z) (sym (is ∙ (ap (fold (λ (_ y : ToldView). y) x) all ∙ fold_last x before op))) up
 
 -- a version of the history that has one batch more begins with what is shown
-pub posted_begins : (shown told : ToldView) (before : HistoryView) (batch : List NamedOp) → IsShowing before shown → told.book ≡ before.book
+pub posted_begins : (shown told : ToldView) (before : HistoryView) (batch : List NamedOp) → IsShowing before shown
+    → told.book ≡ before.book
     → told.version.opening ≡ shown.version.opening → told.version.batches ≡ before.batches ++ batch ∷ [] → Begins shown told
-posted_begins shown told before batch is book opening more =
-    (is.0 ∙ sym book, (sym opening, prefix_trans shown.version.batches before.batches told.version.batches is.1 (batch ∷ [], sym more)))
+posted_begins shown told before batch is book opening more = (
+  is.0 ∙ sym book,
+  (
+    sym opening,
+    prefix_trans shown.version.batches before.batches told.version.batches is.1
+        (batch ∷ [], sym more),
+  ),
+)
 
 -- what is shown, as before or what was posted, is a version of the history with that version
-pub still_showing : (old shown told : ToldView) (after : HistoryView) → Begins old told → after.book ≡ told.book → after.batches ≡ told.version.batches
+pub still_showing : (old shown told : ToldView) (after : HistoryView) → Begins old told → after.book ≡ told.book
+    → after.batches ≡ told.version.batches
     → (shown ≡ old) ⊎ (shown ≡ told) → IsShowing after shown
 still_showing old shown told after up book batches is =
-    ⊎_elim (λ (e : shown ≡ old). subst (λ x. IsShowing after x) (sym e) (up.0 ∙ sym book, subst (λ b. IsPrefix old.version.batches b) (sym batches) up.1.1))
-    (λ (e : shown ≡ told). subst (λ x. IsShowing after x) (sym e) (sym book, subst (λ b. IsPrefix told.version.batches b) (sym batches) (prefix_self told.version.batches))) is
+    ⊎_elim (λ (e : shown ≡ old). subst (λ x. IsShowing after x) (sym e)
+    (up.0 ∙ sym book, subst (λ b. IsPrefix old.version.batches b) (sym batches) up.1.1))
+    (λ (e : shown ≡ told). subst (λ x. IsShowing after x) (sym e)
+    (sym book, subst (λ b. IsPrefix told.version.batches b) (sym batches) (prefix_self told.version.batches))) is
 
 -- of two versions of one shelf, the one whose history begins the other's begins the other
-pub begins_by : (x y : ToldView) (h k : HistoryView) → x.version.batches ≡ h.batches → y.version.batches ≡ k.batches → IsOfOneShelf x y
-    → (t : Bool) → MatchBool t (IsPrefix h.batches k.batches) (IsPrefix k.batches h.batches) → MatchBool t (Begins x y) (Begins y x)
+pub begins_by : (x y : ToldView) (h k : HistoryView) → x.version.batches ≡ h.batches → y.version.batches ≡ k.batches
+    → IsOfOneShelf x y
+    → (t : Bool) → MatchBool t (IsPrefix h.batches k.batches) (IsPrefix k.batches h.batches)
+    → MatchBool t (Begins x y) (Begins y x)
 begins_by x y h k e f one true p = (one.0, (one.1, rw (e, f) p))
 begins_by x y h k e f one false p = (sym one.0, (sym one.1, rw (e, f) p))
 
 -- a copy that was to be had is of the same shelf
-pub copy_of_one_shelf : {E : Type 0} (before shown got : ToldView) (copy : Result ToldView E) → got ≡ shown → IfOk copy (λ told. told ≡ got)
+pub copy_of_one_shelf : {E : Type 0} (before shown got : ToldView) (copy : Result ToldView E) → got ≡ shown
+    → IfOk copy (λ told. told ≡ got)
     → IsOfOneShelf before shown → IfSome (result_ok copy) (λ told. IsOfOneShelf before told)
 copy_of_one_shelf before shown got (Ok told) same is one = subst (λ z. IsOfOneShelf before z) (sym (is ∙ same)) one
 copy_of_one_shelf before shown got (Err e) same is one = tt
 
 -- a version with one batch more ends with the batch that it lends as its last
-pub ends_with_last : (batches posted others : List (List NamedOp)) (next last : List NamedOp) → batches ≡ posted ++ next ∷ [] → batches ≡ others ++ last ∷ []
+pub ends_with_last : (batches posted others : List (List NamedOp)) (next last : List NamedOp) → batches ≡ posted ++ next ∷ []
+    → batches ≡ others ++ last ∷ []
     → batches ≡ posted ++ last ∷ []
-ends_with_last batches posted others next last p q = p ∙ ap (λ x. posted ++ x ∷ []) (same_last posted others next last (sym p ∙ q))
+ends_with_last batches posted others next last p q = p
+    ∙ ap (λ x. posted ++ x ∷ []) (same_last posted others next last (sym p ∙ q))
 
 -- the state of a shelf that nothing waits for is the one shown
-pub folded_nothing : (shown next : ToldView) (pending : List ToldView) → next ≡ fold (λ (_ y : ToldView). y) shown pending → pending ≡ [] → next ≡ shown
+pub folded_nothing : (shown next : ToldView) (pending : List ToldView) → next ≡ fold (λ (_ y : ToldView). y) shown pending
+    → pending ≡ [] → next ≡ shown
 folded_nothing shown next pending is none = is ∙ ap (fold (λ (_ y : ToldView). y) shown) none

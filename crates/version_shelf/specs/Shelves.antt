@@ -43,7 +43,13 @@ IsNext shelf v = (v.opening ≡ shelf.opening) × ((batch : List NamedOp) × (v.
 
 -- the shelf of a history and of what readers find
 abbrev pub shelf_of : HistoryView → ToldView → ShelfView
-shelf_of history shown = record { book = history.book; opening = shown.version.opening; posted = history.batches; shown = shown.version.batches }
+shelf_of history shown = record {
+  book = history.book;
+  opening = shown.version.opening;
+  posted = history.batches;
+  shown =
+      shown.version.batches;
+}
 
 -- what readers find is a version of this history
 abbrev pub IsShowing : HistoryView → ToldView → Type 0

@@ -117,7 +117,8 @@ impl History {
         requires end { end.now.word ≡ end_of self.old.book }
         requires room { length self.old.batches < 2 ^ 62 }
         ensures book { self.new.book ≡ self.old.book }
-        ensures batches { MatchBool result (self.new.batches ≡ self.old.batches ++ batch.now ∷ []) (IsPrefix self.old.batches self.new.batches) }
+        ensures batches { MatchBool result (self.new.batches ≡ self.old.batches ++ batch.now ∷ [])
+            (IsPrefix self.old.batches self.new.batches) }
     {
         let mut offer: Offer<Batch, u64, HistoryRule, NoTrade> = self
             .seen

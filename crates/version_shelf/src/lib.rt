@@ -16,6 +16,3 @@ mod writers;
 pub use readers::ShelfReader;
 pub use told::Told;
 pub use writers::{ShelfError, ShelfWriter, shelf};
-
-#[cfg(test)]
-mod tests;

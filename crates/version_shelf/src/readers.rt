@@ -10,7 +10,7 @@ use crate::rules::{Look, ReaderPlace};
 use crate::told::Told;
 use core::mem::replace_with;
 use graph_version::Version;
-use std::alloc::AllocError;
+use std::alloc::{AllocError, Global};
 use std::marker::Model;
 use std::sync::Arc;
 
@@ -18,6 +18,7 @@ use std::sync::Arc;
 /// contracts see it as what was told of that version.
 #[derive(Drop)]
 pub struct ShelfReader {
+    pub(crate) alloc: Global,
     pub(crate) place: ReaderPlace,
     pub(crate) newest: Told,
 }
@@ -35,7 +36,8 @@ impl Model for ShelfReader {
 
     ghost view = { λ r. r.newest };
 
-    ghost invariant = { λ r. IsSome (seen_at r.place.place) × IfSome (seen_at r.place.place) (λ seen. IsOfOneShelf seen r.newest) };
+    ghost invariant = { λ r. IsSome (seen_at r.place.place)
+        × IfSome (seen_at r.place.place) (λ seen. IsOfOneShelf seen r.newest) };
 }
 
 /// What is shown, where a shared copy of it is to be had, and the place afterwards.
@@ -68,7 +70,7 @@ impl ShelfReader {
     }
 
     /// Looks at the shelf, and keeps what it shows where that is newer.
-    pub(crate) fn look(&mut self)
+    pub fn look(&mut self)
         ensures { Begins self.old self.new }
     {
         let shown = replace_with(&mut self.place, (), |place, _| glance(place));
@@ -86,10 +88,16 @@ impl ShelfReader {
         &self.newest.version
     }
 
+    /// The allocator of its shelf, for what a reader makes of a version.
+    pub fn allocator(&self) -> Global {
+        self.alloc
+    }
+
     /// The version that the shelf shows, where it is newer than all that was seen, and else the newest that was seen.
     /// It takes no memory but one shared copy, and where that is refused it gives the version kept.
     pub fn enter(&mut self) -> &Arc<Version>
-        ensures* rests { sem 𝓛 (Rests self.entry (λ after. Begins self.old after × (arc_value {X = Version} result.now ≡ after.version))) }
+        ensures* rests { sem 𝓛 (Rests self.entry (λ after. Begins self.old after
+            × (arc_value {X = Version} result.now ≡ after.version))) }
         ensures later { Continues self.old.version (arc_value {X = Version} result.now) }
     {
         self.look();

@@ -94,7 +94,7 @@ pub fn shelf<R: Wait>(
     };
     let mut places = Vec::new(alloc);
     for _ in 0..readers {
-        let reader = writer.reader(&told)?;
+        let reader = writer.reader(alloc, &told)?;
         places.push(reader).map_err(|_| ShelfError::OutOfMemory)?;
     }
     Ok((writer, places))
@@ -163,7 +163,8 @@ impl ShelfWriter {
     pub fn post<R: Wait>(&mut self, rt: &R, version: Arc<Version>) -> Result<Told, AllocError>
         requires next { IsNext self.old (arc_value {X = Version} version) }
         ensures posted { MatchResult result
-            (λ told. (self.new.posted ≡ (arc_value {X = Version} version).batches) × (told ≡ record { book = self.old.book; version = arc_value {X = Version} version }))
+            (λ told. (self.new.posted ≡ (arc_value {X = Version} version).batches)
+            × (told ≡ record { book = self.old.book; version = arc_value {X = Version} version }))
             (λ _. self.new ≡ self.old) }
         ensures shown { (self.new.shown ≡ self.old.shown) ⊎ (self.new.shown ≡ self.new.posted) }
         ensures same { (self.new.book ≡ self.old.book) × (self.new.opening ≡ self.old.opening) }
@@ -188,7 +189,7 @@ impl ShelfWriter {
     }
 
     /// A reader that has learnt what was told.
-    fn reader(&mut self, told: &Told) -> Result<ShelfReader, ShelfError>
+    fn reader(&mut self, alloc: Global, told: &Told) -> Result<ShelfReader, ShelfError>
         requires book { told.now.book ≡ self.old.book }
         requires opening { told.now.version.opening ≡ self.old.opening }
         ensures reader { IfOk result (λ r. r ≡ told.now) }
@@ -201,6 +202,10 @@ impl ShelfWriter {
             .map_err(|_| ShelfError::NoReader)?;
         place.learn::<Notes>(self.place.tell::<Notes>());
         let newest = told.share().map_err(|_| ShelfError::OutOfMemory)?;
-        Ok(ShelfReader { place, newest })
+        Ok(ShelfReader {
+            alloc,
+            place,
+            newest,
+        })
     }
 }

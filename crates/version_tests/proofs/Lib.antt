@@ -1,1 +1,1 @@
-pub mod Numbers
+mod Empty

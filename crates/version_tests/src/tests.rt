@@ -1,9 +1,13 @@
 // Each test is a text: lines of batches, each with its outcomes and what it leaves.
 
 mod analyses;
-mod fresh;
+mod answers;
+mod gates;
 mod limits;
 mod ops;
+mod refusals;
+mod refused;
+mod requests;
 mod sames;
 mod sizes;
 mod steps;

@@ -4,8 +4,6 @@
 
 mod listed;
 mod source;
-#[cfg(test)]
-mod tests;
 mod versions;
 
 pub use listed::ListedArcs;

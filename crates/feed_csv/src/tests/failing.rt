@@ -194,7 +194,7 @@ fn is_given(call: u64, outcome: &Result<Option<Command>, FeedFault>) -> bool {
         Ok(Some(Command::OpenSlot(slot))) => call == 2 && *slot == 3,
         Ok(Some(Command::Query(slot, request))) => *slot == 3 && is_request(call, request),
         Ok(Some(Command::CloseSlot(slot))) => call == 8 && *slot == 3,
-        Ok(Some(Command::Commit)) => false,
+        Ok(Some(Command::Commit | Command::Stat | Command::Collect)) => false,
         Err(_) => (call == 3 || call == 12) && is_fault(outcome, call, FeedWord::BadCommand),
         Ok(None) => call >= 13,
     }

@@ -10,6 +10,9 @@ use std::test::Fail;
 const BAD_RECORDS: &str =
     "open,0\nbad\ncommit,1\ncommit => open 0; BadCommand 2; BadFields 3; commit; end";
 
+const WITHOUT_FIELDS: &str = "stat\nbad => stat; BadCommand 2; end ~~ \
+    collect\nstat,\ncollect => collect; BadFields 2; collect; end";
+
 const BLANK_LINES: &str = " => end ~~ \
     \n\r\n\r\r\n\n => end ~~ \
     \n\r\n\r\rcommit\rbad\r\ncommit\n\n => commit; BadCommand 2; commit; end ~~ \
@@ -74,6 +77,7 @@ fn check(rt: &impl Abort, alloc: Global, table: &str) -> Result<(), Fail> {
 fn goes_on_behind_a_bad_record(rt: HostRuntime) -> Result<(), Fail> {
     let bad_utf8 = b"r,k,a\xff,b\nr,k,a,b".as_slice();
     check_calls(&rt, rt.alloc(), bad_utf8, 1, 0, "BadName 1; r k a b; end");
+    check(&rt, rt.alloc(), WITHOUT_FIELDS)?;
     check(&rt, rt.alloc(), BAD_RECORDS)
 }
 

@@ -85,12 +85,16 @@ deg,15,k,0,1 => deg 15 k 0 1";
 // The first word that holds: the command, its fields, names and kinds, the weight, times, the slot.
 const REFUSALS: &str = "hello => BadCommand 1
 I,k,a,b,1,1 => BadCommand 1
-stat => BadCommand 1
-collect,1 => BadCommand 1
+stats => BadCommand 1
+Collect => BadCommand 1
 bfs,0,a,*,0 => BadFields 1
 comp,0,a,*,0,1 => BadFields 1
 core,0,*,0 => BadFields 1
 commit,1 => BadFields 1
+stat,1 => BadFields 1
+stat, => BadFields 1
+collect,1 => BadFields 1
+collect,0,x => BadFields 1
 i,*,a,b,x => BadFields 1
 i,*,a,b,x,x,x => BadFields 1
 a,*,a,b,x => BadFields 1
@@ -155,7 +159,9 @@ core,3,k,7,8 => core 3 k 7 8
 core,3,*,7,8 => core 3 any 7 8
 deg,3,k,7,8 => deg 3 k 7 8
 edge,3,k,a,b => edge k a b 3
-close,3 => close 3";
+close,3 => close 3
+stat => stat
+collect => collect";
 
 // Each line of a table is a record, and behind ` => ` what it gives.
 fn check(rt: &impl Abort, alloc: Global, table: &str) -> Result<(), Fail> {

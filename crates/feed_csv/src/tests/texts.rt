@@ -101,6 +101,8 @@ fn outcome_text(
         Ok(Some(Command::OpenSlot(slot))) => format!(in alloc; "open {slot}"),
         Ok(Some(Command::CloseSlot(slot))) => format!(in alloc; "close {slot}"),
         Ok(Some(Command::Query(slot, request))) => request_text(alloc, *slot, request),
+        Ok(Some(Command::Stat)) => String::from_str(alloc, "stat"),
+        Ok(Some(Command::Collect)) => String::from_str(alloc, "collect"),
         Err(fault) => {
             let word = fault.word.word();
             let at = fault.at;

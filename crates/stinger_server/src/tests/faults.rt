@@ -3,10 +3,17 @@
 use super::{FIRST, FIRST_TEXT, FakeWriter, REFUSED, REFUSED_TEXT, TornReader, is_cut, two_seats};
 use crate::{ServeFault, serve};
 use std::process::Abort;
+use std::sync::Wait;
+use std::thread::Threads;
 
 // A run of the script into a writer of each smaller size writes that many bytes of the text and tells `Write`, and
 // calls the writer no more.
-fn fills_each_writer(rt: &(impl Abort + AllocGlobal), script: &str, text: &str, fails: bool) {
+fn fills_each_writer(
+    rt: &(impl Abort + AllocGlobal + Threads + Wait + Sync),
+    script: &str,
+    text: &str,
+    fails: bool,
+) {
     for room in 0..text.len() {
         let mut writer = FakeWriter::new(rt, room, fails);
         let answer = serve(rt, two_seats(rt), script.as_bytes(), &mut writer);
@@ -40,7 +47,11 @@ fn writes_to_a_writer_that_takes_a_byte_a_call(rt: HostRuntime) {
 }
 
 // The run over a reader that fails after so many reads, and a writer whose flush fails, ends with this.
-fn tells_a_failed_flush(rt: &(impl Abort + AllocGlobal), reads: usize, text: &str) {
+fn tells_a_failed_flush(
+    rt: &(impl Abort + AllocGlobal + Threads + Wait + Sync),
+    reads: usize,
+    text: &str,
+) {
     let mut writer = FakeWriter::new(rt, usize::MAX, true);
     writer.flush_fails = true;
     let reader = TornReader {

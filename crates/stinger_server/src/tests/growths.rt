@@ -24,6 +24,10 @@ fn refused_growth_ends_a_run_at_its_record(rt: HostRuntime) {
     };
     match serve(&rt, two_seats(&rt), FIRST.as_bytes(), &mut output) {
         Ok(_) => assert_eq!(rt; output.as_slice(), FIRST_TEXT.as_bytes()),
+        Err(ServeFault::Start) => {
+            assert!(rt; output.is_empty());
+            refused(&rt);
+        }
         Err(fault) => {
             assert_eq!(rt; fault, ServeFault::Memory);
             assert!(rt; is_cut_by_memory(output.as_slice()));
@@ -45,6 +49,10 @@ fn refused_growth_leaves_no_line_of_an_analysis(rt: HostRuntime) {
     };
     match serve(&rt, two_seats(&rt), TABLES.as_bytes(), &mut output) {
         Ok(_) => assert_eq!(rt; output.as_slice(), TABLES_TEXT.as_bytes()),
+        Err(ServeFault::Start) => {
+            assert!(rt; output.is_empty());
+            refused(&rt);
+        }
         Err(fault) => {
             assert_eq!(rt; fault, ServeFault::Memory);
             assert!(rt; is_analysis_cut_by_memory(output.as_slice()));
@@ -62,6 +70,10 @@ fn refused_growth_into_a_full_writer_tells_the_writer(rt: HostRuntime) {
     let mut writer = FakeWriter::new(&rt, 5, true);
     writer.held = held;
     let answer = serve(&rt, two_seats(&rt), FIRST.as_bytes(), &mut writer);
+    if answer == Err(ServeFault::Start) {
+        assert!(rt; writer.held.is_empty());
+        return refused(&rt);
+    }
     assert_eq!(rt; answer, Err(ServeFault::Write));
     assert_eq!(rt; writer.refusals, 1);
     if writer.held.as_slice() == b"error".as_slice() {

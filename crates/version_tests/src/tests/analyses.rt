@@ -19,7 +19,7 @@ use std::thread::Threads;
 /// The tables of a view: levels from the source, labels, core numbers, and degrees out and in with the sum of the weights
 /// out.
 #[derive(Clone, Copy)]
-struct Tables {
+pub(super) struct Tables {
     view: Filter,
     source: VertexId,
     levels: &'static [Option<u32>],
@@ -30,9 +30,9 @@ struct Tables {
 
 /// A batch, and tables of what it leaves of the version without batches.
 #[derive(Clone, Copy)]
-struct Case {
-    line: &'static str,
-    tables: Tables,
+pub(super) struct Case {
+    pub(super) line: &'static str,
+    pub(super) tables: Tables,
 }
 
 // Whether the levels are those; nothing where memory is refused.
@@ -68,7 +68,7 @@ fn are_degrees(alloc: Global, version: &Version, wanted: &Tables) -> Option<bool
 }
 
 // Whether a version has these tables; nothing where memory is refused.
-fn has_tables(alloc: Global, version: &Version, wanted: &Tables) -> Option<bool> {
+pub(super) fn has_tables(alloc: Global, version: &Version, wanted: &Tables) -> Option<bool> {
     Some(
         are_levels(alloc, version, wanted)?
             && are_labels(alloc, version, wanted)?
@@ -112,8 +112,8 @@ fn has_plain_tables(alloc: Global, content: &Content, wanted: &Tables) -> Option
     )
 }
 
-// The version after a line of operations, by two workers.
-fn after<R: Threads + Sync + Abort>(
+/// The version after a line of operations, by two workers.
+pub(super) fn after<R: Threads + Sync + Abort>(
     rt: &R,
     alloc: Global,
     version: &Version,
@@ -125,8 +125,8 @@ fn after<R: Threads + Sync + Abort>(
         .version
 }
 
-// The content that a line of operations leaves of the one without names and edges.
-fn content_after(rt: &impl Abort, alloc: Global, line: &str) -> Content
+/// The content that a line of operations leaves of the one without names and edges.
+pub(super) fn content_after(rt: &impl Abort, alloc: Global, line: &str) -> Content
     ensures { IsContent result }
 {
     let mut content = empty(alloc);
@@ -166,7 +166,7 @@ const TRIANGLE: &str = "i,k,a,b,1,1 i,k,b,c,1,1 i,k,c,a,1,1 i,k,c,d,1,1";
 
 const TWO_KINDS: &str = "i,k,a,a,1,1 i,k,a,b,1,1 i,m,a,b,1,1";
 
-const PATH: Case = Case {
+pub(super) const PATH: Case = Case {
     line: "i,k,a,b,5,10 i,k,b,c,2,11",
     tables: Tables {
         view: EVERY,

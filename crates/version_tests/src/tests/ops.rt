@@ -33,7 +33,7 @@ impl From<PushError> for LineError {
     }
 }
 
-fn name(alloc: Global, text: &str) -> Result<Name, AllocError> {
+pub(super) fn name(alloc: Global, text: &str) -> Result<Name, AllocError> {
     Ok(Name::of(String::from_str(alloc, text)?))
 }
 

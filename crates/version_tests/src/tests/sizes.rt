@@ -177,3 +177,49 @@ fn shares_batches_at_the_ends_of_pieces(rt: HostRuntime) {
         version = turned(&rt, rt.alloc(), &version, &mut content, number);
     }
 }
+
+// So many operations: links from one vertex after another, and in every third's place the removal of the one before it.
+fn links_and_cuts(alloc: Global, operations: u32) -> Result<Batch, LineError> {
+    let mut batch = Batch::new(alloc);
+    for number in 0..operations {
+        batch.push(if number % 3 == 2 {
+            cut(alloc, number.saturating_sub(1))?
+        } else {
+            link(alloc, number)?
+        })?;
+    }
+    Ok(batch)
+}
+
+// The removal of a link.
+fn cut(alloc: Global, number: u32) -> Result<NamedOp, AllocError> {
+    let target = number.saturating_add(1);
+    removal(
+        alloc,
+        "k",
+        format!(in alloc; "v{number}")?.as_str(),
+        format!(in alloc; "v{target}")?.as_str(),
+    )
+}
+
+// A batch of so many operations, by so many workers.
+fn check_batch<R: Threads + Sync + Abort>(rt: &R, alloc: Global, workers: usize, operations: u32) {
+    let mut content = empty(alloc);
+    let batch = links_and_cuts(alloc, operations).expect(rt, "a batch");
+    let next = next(
+        rt,
+        alloc,
+        workers,
+        &Version::empty(alloc),
+        &mut content,
+        batch,
+    );
+    assert_eq!(rt; next.outcomes.len(), operations as usize);
+}
+
+#[test]
+fn applies_batches_about_256_operations(rt: HostRuntime) {
+    for (workers, operations) in [(1, 255), (1, 256), (1, 257), (4, 255), (4, 256), (4, 257)] {
+        check_batch(&rt, rt.alloc(), workers, operations);
+    }
+}

@@ -3,11 +3,11 @@
 ghost use Rattle.std.specs.Prelude.{◌<◌};
 ghost use Rattle.graph_model.specs.Graph.{IsContent};
 
-use super::fresh::fresh_blocks;
 use super::ops::batch_of;
 use super::sames::{check_same, row_text};
-use batch_apply::{Applied, PassAll, apply};
+use batch_apply::{Applied, Gate, PassAll, apply};
 use batch_plan::plan;
+use blank_blocks::fresh_blocks;
 use graph_model::{Batch, Content, List, Outcome, VertexId};
 use graph_version::Version;
 use plain_graph::plain_apply;
@@ -17,6 +17,7 @@ use std::sync::Arc;
 use std::thread::Threads;
 
 /// The content without names and edges.
+#[tactic(auto, using(crate::proofs::Empty::empty_content))]
 pub(super) fn empty(alloc: Global) -> Content
     ensures { IsContent result }
 {
@@ -27,10 +28,11 @@ pub(super) fn empty(alloc: Global) -> Content
     }
 }
 
-/// What a batch of operations leaves of a version, planned for so many workers.
-pub(super) fn applied<R: Threads + Sync>(
+/// What a batch of operations leaves of a version, planned for so many workers, which pass a gate.
+pub(super) fn applied_past<R: Threads + Sync, G: Gate + Sync>(
     rt: &R,
     alloc: Global,
+    gate: &G,
     workers: usize,
     version: &Version,
     batch: Batch,
@@ -47,7 +49,20 @@ pub(super) fn applied<R: Threads + Sync>(
     let Ok(batch) = Arc::new(alloc, batch) else {
         return None;
     };
-    apply(rt, alloc, &PassAll, version, plan, batch, blocks).ok()
+    apply(rt, alloc, gate, version, plan, batch, blocks).ok()
+}
+
+/// As `applied_past`, by the gate that does nothing.
+pub(super) fn applied<R: Threads + Sync>(
+    rt: &R,
+    alloc: Global,
+    workers: usize,
+    version: &Version,
+    batch: Batch,
+) -> Option<Applied>
+    requires workers { 0 < workers }
+{
+    applied_past(rt, alloc, &PassAll, workers, version, batch)
 }
 
 /// The version after a batch, which has what the plain application leaves of the content, and the same outcomes.

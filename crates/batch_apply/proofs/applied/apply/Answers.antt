@@ -27,7 +27,8 @@ pub do_all-requires-after_bounds : goal.do_all-requires-after_bounds
 do_all-requires-after_bounds g c κs within =
     let v : VersionView = c.args.version.now in
     let n : ℕ = c.requires.plan.0 in
-    dealt_ready n (resolved (batch_value c.args.batch) (content v).names (content v).kinds) 0 n c.args.plan.shards.items c.in_ok-jobs.jobs.items c.requires.plan.2.shards c.in_ok-jobs.ensures.jobs
+    dealt_ready n (resolved (batch_value c.args.batch) (content v).names (content v).kinds) 0 n c.args.plan.shards.items
+    c.in_ok-jobs.jobs.items c.requires.plan.2.shards c.in_ok-jobs.ensures.jobs
 
 pub finish-requires : goal.finish-requires
 finish-requires g c =
@@ -37,12 +38,17 @@ finish-requires g c =
     let d0 : DraftView = c.in_ok-over.field-0 in
     let d1 : DraftView = c.set_names-draft.result in
     let d2 : DraftView = c.in_ok-replace_rows.field-0 in
-    let e2 : ReplacesRows values d1 d2 = subst (λ rs. ReplacesRows rs d1 d2) c.in_ok-all.ensures.rows c.in_ok-replace_rows.ensures in
-    let among = draft_among v ops c.args.plan.names c.args.plan.kinds values d0 d1 d2 c.in_ok-draft.draft c.in_ok-over.ensures c.set_names-draft.ensures e2 c.in_ok-draft.ensures in
-    draft_whole v ops c.args.plan.names c.args.plan.kinds values d0 d1 d2 c.in_ok-draft.draft c.in_ok-over.ensures c.set_names-draft.ensures e2 c.in_ok-draft.ensures
+    let e2 : ReplacesRows values d1 d2 = subst (λ rs. ReplacesRows rs d1 d2) c.in_ok-all.ensures.rows
+    c.in_ok-replace_rows.ensures in
+    let among = draft_among v ops c.args.plan.names c.args.plan.kinds values d0 d1 d2 c.in_ok-draft.draft c.in_ok-over.ensures
+    c.set_names-draft.ensures e2 c.in_ok-draft.ensures in
+    draft_whole v ops c.args.plan.names c.args.plan.kinds values d0 d1 d2 c.in_ok-draft.draft c.in_ok-over.ensures
+    c.set_names-draft.ensures e2 c.in_ok-draft.ensures
     c.requires.plan.2.names c.requires.plan.2.kinds
-    (version_made v ops c.requires.plan.0 c.args.plan.shards.items c.in_ok-jobs.jobs.items c.in_ok-dones.dones.items (numbers_of c.args.blocks.items) (numbers_of c.deal.new.blocks.items)
-    c.requires.plan.1 c.number-number.ensures.version c.requires.plan.2.shards c.in_ok-jobs.ensures.jobs c.in_ok-dones.ensures c.in_ok-jobs.ensures.numbers
+    (version_made v ops c.requires.plan.0 c.args.plan.shards.items c.in_ok-jobs.jobs.items c.in_ok-dones.dones.items
+    (numbers_of c.args.blocks.items) (numbers_of c.deal.new.blocks.items)
+    c.requires.plan.1 c.number-number.ensures.version c.requires.plan.2.shards c.in_ok-jobs.ensures.jobs c.in_ok-dones.ensures
+    c.in_ok-jobs.ensures.numbers
     c.requires.distinct c.requires.unlisted c.requires.limits c.requires.few d2.version.rows among)
 
 pub returns : goal.returns
@@ -53,15 +59,21 @@ returns g c =
     let d0 : DraftView = c.in_ok-over.field-0 in
     let d1 : DraftView = c.set_names-draft.result in
     let d2 : DraftView = c.in_ok-replace_rows.field-0 in
-    let e2 : ReplacesRows values d1 d2 = subst (λ rs. ReplacesRows rs d1 d2) c.in_ok-all.ensures.rows c.in_ok-replace_rows.ensures in
-    let among = draft_among v ops c.args.plan.names c.args.plan.kinds values d0 d1 d2 c.in_ok-draft.draft c.in_ok-over.ensures c.set_names-draft.ensures e2 c.in_ok-draft.ensures in
-    let made = draft_is v ops c.args.plan.names c.args.plan.kinds values d0 d1 d2 c.in_ok-draft.draft c.in_ok-over.ensures c.set_names-draft.ensures e2 c.in_ok-draft.ensures in
-    applied_made v ops c.requires.plan.0 c.args.plan.shards.items c.in_ok-jobs.jobs.items c.in_ok-dones.dones.items (numbers_of c.args.blocks.items) (numbers_of c.deal.new.blocks.items)
-    c.requires.plan.1 c.number-number.ensures.version c.requires.plan.2.shards c.in_ok-jobs.ensures.jobs c.in_ok-dones.ensures c.in_ok-jobs.ensures.numbers
+    let e2 : ReplacesRows values d1 d2 = subst (λ rs. ReplacesRows rs d1 d2) c.in_ok-all.ensures.rows
+    c.in_ok-replace_rows.ensures in
+    let among = draft_among v ops c.args.plan.names c.args.plan.kinds values d0 d1 d2 c.in_ok-draft.draft c.in_ok-over.ensures
+    c.set_names-draft.ensures e2 c.in_ok-draft.ensures in
+    let made = draft_is v ops c.args.plan.names c.args.plan.kinds values d0 d1 d2 c.in_ok-draft.draft c.in_ok-over.ensures
+    c.set_names-draft.ensures e2 c.in_ok-draft.ensures in
+    applied_made v ops c.requires.plan.0 c.args.plan.shards.items c.in_ok-jobs.jobs.items c.in_ok-dones.dones.items
+    (numbers_of c.args.blocks.items) (numbers_of c.deal.new.blocks.items)
+    c.requires.plan.1 c.number-number.ensures.version c.requires.plan.2.shards c.in_ok-jobs.ensures.jobs c.in_ok-dones.ensures
+    c.in_ok-jobs.ensures.numbers
     c.requires.distinct c.requires.unlisted c.requires.limits c.requires.few d2.version.rows among
     _
     (c.in_ok-finish.ensures ∙ ap (λ (d : DraftView). d.version) made)
-    (c.in_ok-all.ensures.outcomes ∙ ap (λ n. written_from c.in_ok-dones.dones.items (replicate n Absent)) (c.len-operations.ensures.count ∙ ap length c.deref.ensures))
+    (c.in_ok-all.ensures.outcomes ∙ ap (λ n. written_from c.in_ok-dones.dones.items (replicate n Absent))
+    (c.len-operations.ensures.count ∙ ap length c.deref.ensures))
     c.in_ok-all.ensures.taken
     c.in_ok-all.ensures.dropped
     c.in_ok-all.ensures.unused

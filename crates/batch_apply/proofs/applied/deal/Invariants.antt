@@ -8,5 +8,6 @@ abbrev pub invariant-loop-shard : goal.invariant-loop-shard
 invariant-loop-shard l = record {
   jobs : AllZip IsDealt l.yielded l.jobs.items;
   left : length l.blocks.items + sum_by steps_of l.yielded ≡ length l.initial.blocks.items;
-  numbers : (q : ℕ → Bool) → count_by q (flat_map (λ j. numbers_of j.shard.fresh.items) l.jobs.items) + count_by q (numbers_of l.blocks.items) ≡ count_by q (numbers_of l.initial.blocks.items);
+  numbers : (q : ℕ → Bool) → count_by q (flat_map (λ j. numbers_of j.shard.fresh.items) l.jobs.items) + count_by q
+      (numbers_of l.blocks.items) ≡ count_by q (numbers_of l.initial.blocks.items);
 }

@@ -16,12 +16,17 @@ loop-done-preserved c =
     let was = c.loop-done.invariant in
     let now = c.in_ok-add.ensures in
     record {
-      outcomes = now.outcomes ∙ ap (written d.outcomes.items) was.outcomes ∙ sym (from_more before d (replicate c.args.operations Absent));
-      rows = now.rows ∙ ap (λ l. l ++ row_values d.rows.items) was.rows ∙ sym (flat_more (λ (d : ShardDone). row_values d.rows.items) before d);
-      taken = now.taken ∙ ap (λ l. l ++ d.left.taken.items) was.taken ∙ sym (flat_more (λ (d : ShardDone). d.left.taken.items) before d);
-      dropped = now.dropped ∙ ap (λ l. l ++ blocks_of d.left.dropped.items) was.dropped ∙ sym (flat_more (λ (d : ShardDone). blocks_of d.left.dropped.items) before d);
+      outcomes = now.outcomes ∙ ap (written d.outcomes.items) was.outcomes
+          ∙ sym (from_more before d (replicate c.args.operations Absent));
+      rows = now.rows ∙ ap (λ l. l ++ row_values d.rows.items) was.rows
+          ∙ sym (flat_more (λ (d : ShardDone). row_values d.rows.items) before d);
+      taken = now.taken ∙ ap (λ l. l ++ d.left.taken.items) was.taken
+          ∙ sym (flat_more (λ (d : ShardDone). d.left.taken.items) before d);
+      dropped = now.dropped ∙ ap (λ l. l ++ blocks_of d.left.dropped.items) was.dropped
+          ∙ sym (flat_more (λ (d : ShardDone). blocks_of d.left.dropped.items) before d);
       unused =
           now.unused ∙ ap (λ l. l ++ numbers_of d.left.unused.items) was.unused
           ∙ append_assoc (numbers_of c.args.unused.items) _ (numbers_of d.left.unused.items)
-          ∙ ap (λ l. numbers_of c.args.unused.items ++ l) (sym (flat_more (λ (d : ShardDone). numbers_of d.left.unused.items) before d));
+          ∙ ap (λ l. numbers_of c.args.unused.items ++ l)
+          (sym (flat_more (λ (d : ShardDone). numbers_of d.left.unused.items) before d));
     }

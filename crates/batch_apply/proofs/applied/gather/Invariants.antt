@@ -11,5 +11,6 @@ invariant-loop-done l = record {
   rows : row_values l.all.rows.items ≡ flat_map (λ d. row_values d.rows.items) l.yielded;
   taken : l.all.left.taken.items ≡ flat_map (λ d. d.left.taken.items) l.yielded;
   dropped : blocks_of l.all.left.dropped.items ≡ flat_map (λ d. blocks_of d.left.dropped.items) l.yielded;
-  unused : numbers_of l.all.left.unused.items ≡ numbers_of l.fn.unused.items ++ flat_map (λ d. numbers_of d.left.unused.items) l.yielded;
+  unused : numbers_of l.all.left.unused.items ≡ numbers_of l.fn.unused.items
+      ++ flat_map (λ d. numbers_of d.left.unused.items) l.yielded;
 }

@@ -1,4 +1,5 @@
-use Rattle.std.proofs.Common.{◌≡◌, ◌∙◌, ◌++◌, ◌∷◌, ◌≤◌, ◌/◌, ◌%◌, ℕ, [], suc, ap, sym, inl, inr, List, length, length-append, get_or, set, rules, arith, ◌+◌, Result, Ok, Err}
+use Rattle.std.proofs.Common.{◌≡◌, ◌∙◌, ◌++◌, ◌∷◌, ◌≤◌, ◌/◌, ◌%◌, ℕ, [], suc, ap, sym, inl, inr, List, length, length-append}
+use Rattle.std.proofs.Common.{get_or, set, rules, arith, ◌+◌, Result, Ok, Err}
 use Rattle.std.specs.Result.{IsOk, OnOk, OnErr}
 use Rattle.batch_pages.specs.Batches.{batch_value}
 use Rattle.std.specs.declared.sync.Arc.{Arc}
@@ -13,12 +14,15 @@ use Rattle.batch_pages.proofs.Results.{OnOk-then, OnErr-then, at_err, always-OnE
 use Rattle.batch_pages.proofs.batches.add_batch.Goals as goal
 
 -- a page like the last one in its place
-same_batches : (xs : List (Arc BatchPage Global)) (i : ℕ) (y e : Arc BatchPage Global) → suc i ≡ length xs → in_page y ≡ in_page (get_or xs i e) → in_pages (set xs i y) ≡ in_pages xs
+same_batches : (xs : List (Arc BatchPage Global)) (i : ℕ) (y e : Arc BatchPage Global) → suc i ≡ length xs
+    → in_page y ≡ in_page (get_or xs i e) → in_pages (set xs i y) ≡ in_pages xs
 same_batches xs i y e last same = grow_last in_page xs i y e [] last (same ∙ sym (append-nil _)) ∙ append-nil (in_pages xs)
 
 -- a push adds at most one
-grown_len : {T E : Type 0} (r : Result T E) (new old : List (List NamedOp)) (batch : List NamedOp) → OnOk r (new ≡ old ++ batch ∷ []) → OnErr r (new ≡ old) → (length old ≤ length new) × (length new ≤ length old + 1)
-grown_len (Ok x) new old batch pushed unchanged = let e = ap length pushed in let l = length-append old (batch ∷ []) in (omega arith, omega arith)
+grown_len : {T E : Type 0} (r : Result T E) (new old : List (List NamedOp)) (batch : List NamedOp)
+    → OnOk r (new ≡ old ++ batch ∷ []) → OnErr r (new ≡ old) → (length old ≤ length new) × (length new ≤ length old + 1)
+grown_len (Ok x) new old batch pushed unchanged = let e = ap length pushed in let l = length-append old (batch ∷ []) in
+    (omega arith, omega arith)
 grown_len (Err x) new old batch pushed unchanged = let e = ap length unchanged in (omega arith, omega arith)
 
 pub returns-then-len-eq0-clause-pages : goal.returns-then-len-eq0-clause-pages
@@ -26,28 +30,34 @@ returns-then-len-eq0-clause-pages c =
     let page : in_page c.in_ok-page.page ≡ batch_value c.args.batch ∷ [] = c.in_ok-page.ensures.ok ∙ c.in_ok-of.ensures in
     let one : length (in_page c.in_ok-page.page) ≡ 1 = ap length page in
     rw c.in_ok-push.ensures.items
-    (push_piece in_page c.args.pages.now.items c.in_ok-page.page c.requires.pages (ap (λ n. n % 256) c.requires.len ∙ c.if-len-eq0.true) (omega arith) (omega arith))
+    (push_piece in_page c.args.pages.now.items c.in_ok-page.page c.requires.pages (ap (λ n. n % 256) c.requires.len
+    ∙ c.if-len-eq0.true) (omega arith) (omega arith))
 
 pub index_mut-requires : goal.index_mut-requires
 index_mut-requires c =
-    let last = last_place in_page c.args.pages.now.items c.args.len c.requires.pages c.requires.len c.if-len-eq0.false in omega arith
+    let last = last_place in_page c.args.pages.now.items c.args.len c.requires.pages c.requires.len c.if-len-eq0.false in omega
+    arith
 
 pub returns-in_err-pages-clause-unchanged : goal.returns-in_err-pages-clause-unchanged
 returns-in_err-pages-clause-unchanged c =
     let h : Arc BatchPage Global = c.index_mut.result.now in
     let last = last_place in_page c.args.pages.now.items c.args.len c.requires.pages c.requires.len c.if-len-eq0.false in
-    let kept : in_page c.make_mut.follows.lender-at-none ≡ in_page h = elim (at_err _ _ c.in_err-pages.was c.make_mut.follows.holds-at-none) [ inl e ↦ e | inr e ↦ e ] in
-    always-OnErr _ (same_batches c.args.pages.now.items (c.args.len / 256) c.make_mut.follows.lender-at-none h last (kept ∙ ap in_page c.index_mut.ensures.value))
+    let kept : in_page c.make_mut.follows.lender-at-none ≡ in_page h =
+    elim (at_err _ _ c.in_err-pages.was c.make_mut.follows.holds-at-none) [ inl e ↦ e | inr e ↦ e ] in
+    always-OnErr _ (same_batches c.args.pages.now.items (c.args.len / 256) c.make_mut.follows.lender-at-none h last
+    (kept ∙ ap in_page c.index_mut.ensures.value))
 
 pub returns-in_err-pages-clause-pages : goal.returns-in_err-pages-clause-pages
 returns-in_err-pages-clause-pages c =
     let h : Arc BatchPage Global = c.index_mut.result.now in
     let last = last_place in_page c.args.pages.now.items c.args.len c.requires.pages c.requires.len c.if-len-eq0.false in
     let room = last_room in_page c.args.pages.now.items c.args.len h c.requires.pages c.requires.len c.if-len-eq0.false in
-    let kept : in_page c.make_mut.follows.lender-at-none ≡ in_page h = elim (at_err _ _ c.in_err-pages.was c.make_mut.follows.holds-at-none) [ inl e ↦ e | inr e ↦ e ] in
+    let kept : in_page c.make_mut.follows.lender-at-none ≡ in_page h =
+    elim (at_err _ _ c.in_err-pages.was c.make_mut.follows.holds-at-none) [ inl e ↦ e | inr e ↦ e ] in
     let long = ap length (kept ∙ ap in_page c.index_mut.ensures.value) in
     let part = c.if-len-eq0.false in
-    set_last in_page c.args.pages.now.items (c.args.len / 256) c.make_mut.follows.lender-at-none c.requires.pages last (omega (arith, part, long, room)) (omega (arith, long, room))
+    set_last in_page c.args.pages.now.items (c.args.len / 256) c.make_mut.follows.lender-at-none c.requires.pages last
+    (omega (arith, part, long, room)) (omega (arith, long, room))
 
 pub returns-clause-added : goal.returns-clause-added
 returns-clause-added c =
@@ -55,10 +65,13 @@ returns-clause-added c =
     let last = last_place in_page c.args.pages.now.items c.args.len c.requires.pages c.requires.len c.if-len-eq0.false in
     let same : c.in_ok-pages.field-0.now ≡ in_page h = elim c.in_ok-pages.ensures.value [ inl e ↦ e | inr e ↦ e ] in
     let ok : IsOk c.make_mut.result = search rules in
-    let from : c.in_ok-pages.field-0.now ≡ in_page (get_or c.args.pages.now.items (c.args.len / 256) h) = same ∙ ap in_page c.index_mut.ensures.value in
+    let from : c.in_ok-pages.field-0.now ≡ in_page (get_or c.args.pages.now.items (c.args.len / 256) h) = same
+    ∙ ap in_page c.index_mut.ensures.value in
     OnOk-then c.push-2.result
-    (λ pushed. grow_last in_page c.args.pages.now.items (c.args.len / 256) (c.make_mut.follows.lender c.push-2.new.self) h (batch_value c.args.batch ∷ []) last
-    (c.make_mut.follows.holds c.push-2.new.self ok ∙ pushed ∙ ap (λ (l : List (List NamedOp)). l ++ batch_value c.args.batch ∷ []) from))
+    (λ pushed. grow_last in_page c.args.pages.now.items (c.args.len / 256) (c.make_mut.follows.lender c.push-2.new.self) h
+    (batch_value c.args.batch ∷ []) last
+    (c.make_mut.follows.holds c.push-2.new.self ok ∙ pushed
+    ∙ ap (λ (l : List (List NamedOp)). l ++ batch_value c.args.batch ∷ []) from))
     c.push-2.ensures.pushed
 
 pub returns-clause-unchanged : goal.returns-clause-unchanged
@@ -82,5 +95,7 @@ returns-clause-pages c =
     let from = ap length (same ∙ ap in_page c.index_mut.ensures.value) in
     let into = ap length (c.make_mut.follows.holds c.push-2.new.self ok) in
     let part = c.if-len-eq0.false in
-    let grown = grown_len c.push-2.result c.push-2.new.self c.in_ok-pages.field-0.now (batch_value c.args.batch) c.push-2.ensures.pushed c.push-2.ensures.unchanged in
-    set_last in_page c.args.pages.now.items (c.args.len / 256) (c.make_mut.follows.lender c.push-2.new.self) c.requires.pages last (omega (arith, part, room, from, into, grown.0)) (omega (arith, room, from, into, grown.1))
+    let grown = grown_len c.push-2.result c.push-2.new.self c.in_ok-pages.field-0.now (batch_value c.args.batch)
+    c.push-2.ensures.pushed c.push-2.ensures.unchanged in
+    set_last in_page c.args.pages.now.items (c.args.len / 256) (c.make_mut.follows.lender c.push-2.new.self) c.requires.pages
+    last (omega (arith, part, room, from, into, grown.0)) (omega (arith, room, from, into, grown.1))

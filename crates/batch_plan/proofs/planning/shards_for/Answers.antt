@@ -6,4 +6,5 @@ use Rattle.batch_plan.proofs.planning.shards_for.Goals as goal
 
 pub loop-worker-preserved : goal.loop-worker-preserved
 loop-worker-preserved c =
-    rw c.in_ok-push.ensures.items (one_more_shard (IsShardOf c.args.workers (map shown c.args.ops.now)) c.loop-worker.worker c.loop-worker.shards.items c.in_ok-shard_for.field-0 c.loop-worker.invariant c.in_ok-shard_for.ensures)
+    rw c.in_ok-push.ensures.items (one_more_shard (IsShardOf c.args.workers (map shown c.args.ops.now)) c.loop-worker.worker
+    c.loop-worker.shards.items c.in_ok-shard_for.field-0 c.loop-worker.invariant c.in_ok-shard_for.ensures)

@@ -1,4 +1,5 @@
-use Rattle.std.proofs.Common.{◌≡◌, ◌∷◌, ◌++◌, ◌+◌, ℕ, List, [], map, append_assoc, drop, drop-cons, get_or, rules, sym, ap, ap₂, ◌∙◌}
+use Rattle.std.proofs.Common.{◌≡◌, ◌∷◌, ◌++◌, ◌+◌, ℕ, List, [], map, append_assoc, drop, drop-cons, get_or, rules, sym, ap, ap₂}
+use Rattle.std.proofs.Common.{◌∙◌}
 use Rattle.std.proofs.lemmas.List.{map-append}
 use Rattle.std.specs.declared.option.Option.{Option}
 use Rattle.std.specs.declared.option.Option.TheVariants.{None}
@@ -18,18 +19,23 @@ use Rattle.batch_plan.proofs.resolve.with_kinds.Goals as goal
 
 pub returns-in_err-kind-clause-refused : goal.returns-in_err-kind-clause-refused
 returns-in_err-kind-clause-refused c =
-    let step : drop c.loop-k.k c.args.ops.now ≡ c.index-ops-k.result ∷ drop (c.loop-k.k + 1) c.args.ops.now = search (rules, drop-cons) in
-    err_then c.from_residual-in_err-kind.result (λ error. IsRefusal error c.args.kinds.now (kinds_all c.args.ops.now c.args.kinds.now.names)) c.in_err-kind.field-0.0 c.from_residual-in_err-kind.ensures.1
-    (refused_kinds c.in_err-kind.field-0.0 c.args.kinds.now c.loop-k.kinds c.args.ops.now c.loop-k.k c.index-ops-k.result step c.loop-k.invariant.kinds c.loop-k.invariant.limit c.in_err-kind.ensures.refused)
+    let step : drop c.loop-k.k c.args.ops.now ≡ c.index-ops-k.result ∷ drop (c.loop-k.k + 1) c.args.ops.now =
+    search (rules, drop-cons) in
+    err_then c.from_residual-in_err-kind.result (λ error. IsRefusal error c.args.kinds.now
+    (kinds_all c.args.ops.now c.args.kinds.now.names)) c.in_err-kind.field-0.0 c.from_residual-in_err-kind.ensures.1
+    (refused_kinds c.in_err-kind.field-0.0 c.args.kinds.now c.loop-k.kinds c.args.ops.now c.loop-k.k c.index-ops-k.result step
+    c.loop-k.invariant.kinds c.loop-k.invariant.limit c.in_err-kind.ensures.refused)
 
 -- an operation's values show it by its kind
 shows_op : (e : Ends) (op : NamedOp) (kinds : List (List ℕ)) (key : Option Key) (kind : Option ℕ) (change : EdgeChange)
     → key ≡ key_from kind e.source e.target → kind ≡ known kinds (kind_name op) → change ≡ change_of op
     → (let r : Resolved = record { source = e.source; key = key; change = change } in r) ≡ with_kind kinds e op
-shows_op e op kinds key kind change key_is kind_is change_is = λ i. record { source = e.source; key = (key_is ∙ ap (λ k. key_from k e.source e.target) kind_is) i; change = change_is i }
+shows_op e op kinds key kind change key_is kind_is change_is =
+    λ i. record { source = e.source; key = (key_is ∙ ap (λ k. key_from k e.source e.target) kind_is) i; change = change_is i }
 
 -- one more operation is found
-one_more : (ends rest_ends : List Ends) (ops rest_ops : List NamedOp) (e : Ends) (op : NamedOp) (found : List ResolvedOp) (r : ResolvedOp) (kinds : List (List ℕ)) (all : List Resolved)
+one_more : (ends rest_ends : List Ends) (ops rest_ops : List NamedOp) (e : Ends) (op : NamedOp) (found : List ResolvedOp)
+    (r : ResolvedOp) (kinds : List (List ℕ)) (all : List Resolved)
     → ends ≡ e ∷ rest_ends → ops ≡ op ∷ rest_ops → shown r ≡ with_kind (kinds_after op kinds) e op
     → map shown found ++ with_kinds ends ops kinds ≡ all
     → map shown (found ++ r ∷ []) ++ with_kinds rest_ends rest_ops (kinds_after op kinds) ≡ all
@@ -53,13 +59,18 @@ loop-k-preserved c =
     let ends_step : drop k c.args.ends.now ≡ e ∷ drop (k + 1) c.args.ends.now = search (rules, drop-cons) in
     let book : c.op_kind.new.kinds ≡ with_names c.loop-k.kinds (kinds_after op kinds) = c.in_ok-kind.ensures.kinds in
     let names : c.op_kind.new.kinds.names ≡ kinds_after op kinds = ap (λ (b : Book). b.names) book in
-    let same = shows_op e op (kinds_after op kinds) _ _ c.change_by.result c.key_by.ensures c.in_ok-kind.ensures.kind c.change_by.ensures.change in
+    let same = shows_op e op (kinds_after op kinds) _ _ c.change_by.result c.key_by.ensures c.in_ok-kind.ensures.kind
+    c.change_by.ensures.change in
     record {
-      kinds = ap (kinds_all (drop (k + 1) c.args.ops.now)) names ∙ ap (λ l. kinds_all l kinds) (sym ops_step) ∙ c.loop-k.invariant.kinds;
+      kinds = ap (kinds_all (drop (k + 1) c.args.ops.now)) names ∙ ap (λ l. kinds_all l kinds) (sym ops_step)
+          ∙ c.loop-k.invariant.kinds;
       found =
-          ap₂ (λ (l : List ResolvedOp) (ks : List (List ℕ)). map shown l ++ with_kinds (drop (k + 1) c.args.ends.now) (drop (k + 1) c.args.ops.now) ks) c.in_ok-push.ensures.items names
-          ∙ one_more (drop k c.args.ends.now) (drop (k + 1) c.args.ends.now) (drop k c.args.ops.now) (drop (k + 1) c.args.ops.now) e op c.loop-k.found.items r kinds _
+          ap₂ (λ (l : List ResolvedOp) (ks : List (List ℕ)). map shown l
+          ++ with_kinds (drop (k + 1) c.args.ends.now) (drop (k + 1) c.args.ops.now) ks) c.in_ok-push.ensures.items names
+          ∙ one_more (drop k c.args.ends.now) (drop (k + 1) c.args.ends.now) (drop k c.args.ops.now)
+          (drop (k + 1) c.args.ops.now) e op c.loop-k.found.items r kinds _
           ends_step ops_step same c.loop-k.invariant.found;
-      changes = rw c.in_ok-push.ensures.items (All-push (λ (o : ResolvedOp). IsChange o.change) c.loop-k.found.items r c.loop-k.invariant.changes c.change_by.ensures.valid);
+      changes = rw c.in_ok-push.ensures.items (All-push (λ (o : ResolvedOp). IsChange o.change) c.loop-k.found.items r
+          c.loop-k.invariant.changes c.change_by.ensures.valid);
       limit = ap (λ (b : Book). b.limit) book ∙ c.loop-k.invariant.limit;
     }

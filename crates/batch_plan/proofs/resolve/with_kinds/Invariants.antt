@@ -7,7 +7,8 @@ use Rattle.batch_plan.proofs.resolve.with_kinds.Given as goal
 abbrev pub invariant-loop-k : goal.invariant-loop-k
 invariant-loop-k l = record {
   kinds : kinds_all (drop l.k l.ops) l.kinds.names ≡ kinds_all l.ops l.initial.kinds.names;
-  found : map shown l.found.items ++ with_kinds (drop l.k l.ends) (drop l.k l.ops) l.kinds.names ≡ with_kinds l.ends l.ops l.initial.kinds.names;
+  found : map shown l.found.items ++ with_kinds (drop l.k l.ends) (drop l.k l.ops) l.kinds.names ≡ with_kinds l.ends l.ops
+      l.initial.kinds.names;
   changes : All (λ op. IsChange op.change) l.found.items;
   limit : l.kinds.limit ≡ l.initial.kinds.limit;
 }

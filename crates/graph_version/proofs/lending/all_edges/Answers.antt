@@ -6,4 +6,5 @@ use Rattle.graph_version.proofs.lending.all_edges.Goals as goal
 pub returns : goal.returns
 returns c =
     let every : Filter = record { kind = None; lo = 0; hi = 18446744073709551615 } in
-    c.select.ensures.lends ∙ all_lent c.args.block.now every (record { kind = refl; from = refl; to = refl }) c.len-count.ensures.block
+    c.select.ensures.lends ∙ all_lent c.args.block.now every (record { kind = refl; from = refl; to = refl })
+    c.len-count.ensures.block

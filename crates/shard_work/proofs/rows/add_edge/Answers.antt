@@ -13,40 +13,50 @@ use Rattle.shard_work.proofs.rows.add_edge.Goals as goal
 
 pub put-requires-clause-room : goal.put-requires-clause-room
 put-requires-clause-room c =
-    let found : position (at_room c.args.kind.0) c.args.row.now.items ≡ Some c.in-Some.place = ap (position (at_room c.args.kind.0)) (sym c.as_slice.ensures.value) ∙ sym c.in-Some.ensures in
+    let found : position (at_room c.args.kind.0) c.args.row.now.items ≡ Some c.in-Some.place =
+    ap (position (at_room c.args.kind.0)) (sym c.as_slice.ensures.value) ∙ sym c.in-Some.ensures in
     subst (λ (h : RowBlock). has_room_for c.args.target (block_of h.block).slots ≡ true) (sym c.index_mut.ensures.value)
     (room_is c.args.kind.0 c.args.target c.args.row.now.items c.in-Some.place c.index_mut.result.now found)
 
 pub returns-in-Some-clause-row : goal.returns-in-Some-clause-row
 returns-in-Some-clause-row c =
-    let found : position (at_room c.args.kind.0) c.args.row.now.items ≡ Some c.in-Some.place = ap (position (at_room c.args.kind.0)) (sym c.as_slice.ensures.value) ∙ sym c.in-Some.ensures in
+    let found : position (at_room c.args.kind.0) c.args.row.now.items ≡ Some c.in-Some.place =
+    ap (position (at_room c.args.kind.0)) (sym c.as_slice.ensures.value) ∙ sym c.in-Some.ensures in
     let e : Slot = edge_slot c.args.target c.args.marks.weight c.args.marks.first c.args.marks.recent in
     let h : RowBlock = c.index_mut.result.now in
     on_ok_weaker c.put.result
-    (λ (t : IsTouched (put_slot e) h c.put.new.self). sym (put_into c.args.kind.0 e c.args.row.now.items c.in-Some.place c.put.new.self h c.requires.absent found
+    (λ (t : IsTouched (put_slot e) h c.put.new.self). sym
+    (put_into c.args.kind.0 e c.args.row.now.items c.in-Some.place c.put.new.self h c.requires.absent found
     (t.shown ∙ ap (λ (x : RowBlock). touch (put_slot e) (open_of x)) c.index_mut.ensures.value)))
     (rw (to_z-of_z w64 c.args.marks.weight (weight_fits c.args.marks.weight c.requires.marks.weight)) at c.put.ensures.touched)
 
 pub returns-in-Some-clause-had : goal.returns-in-Some-clause-had
 returns-in-Some-clause-had c =
-    let found : position (at_room c.args.kind.0) c.args.row.now.items ≡ Some c.in-Some.place = ap (position (at_room c.args.kind.0)) (sym c.as_slice.ensures.value) ∙ sym c.in-Some.ensures in
+    let found : position (at_room c.args.kind.0) c.args.row.now.items ≡ Some c.in-Some.place =
+    ap (position (at_room c.args.kind.0)) (sym c.as_slice.ensures.value) ∙ sym c.in-Some.ensures in
     let h : RowBlock = c.index_mut.result.now in
     on_ok_weaker c.put.result
-    (λ t. flat_map-set had_here c.args.row.now.items c.in-Some.place c.put.new.self h (room_within c.args.kind.0 c.args.row.now.items c.in-Some.place h found) (t.had ∙ ap had_here c.index_mut.ensures.value))
+    (λ t. flat_map-set had_here c.args.row.now.items c.in-Some.place c.put.new.self h
+    (room_within c.args.kind.0 c.args.row.now.items c.in-Some.place h found) (t.had ∙ ap had_here c.index_mut.ensures.value))
     c.put.ensures.touched
 
 pub returns-in-Some-clause-numbers : goal.returns-in-Some-clause-numbers
 returns-in-Some-clause-numbers c =
-    let found : position (at_room c.args.kind.0) c.args.row.now.items ≡ Some c.in-Some.place = ap (position (at_room c.args.kind.0)) (sym c.as_slice.ensures.value) ∙ sym c.in-Some.ensures in
+    let found : position (at_room c.args.kind.0) c.args.row.now.items ≡ Some c.in-Some.place =
+    ap (position (at_room c.args.kind.0)) (sym c.as_slice.ensures.value) ∙ sym c.in-Some.ensures in
     let h : RowBlock = c.index_mut.result.now in
     on_ok_weaker c.put.result
-    (λ t. row_numbers own_here c.args.row.now.items c.in-Some.place c.put.new.self h (numbers_of c.put.new.fresh.items) (numbers_of c.args.fresh.now.items) (room_within c.args.kind.0 c.args.row.now.items c.in-Some.place h found)
-    (subst (λ (x : RowBlock). HaveSame (own_here c.put.new.self) (numbers_of c.put.new.fresh.items) (own_here x) (numbers_of c.args.fresh.now.items)) c.index_mut.ensures.value t))
+    (λ t. row_numbers own_here c.args.row.now.items c.in-Some.place c.put.new.self h (numbers_of c.put.new.fresh.items)
+    (numbers_of c.args.fresh.now.items) (room_within c.args.kind.0 c.args.row.now.items c.in-Some.place h found)
+    (subst (λ (x : RowBlock). HaveSame (own_here c.put.new.self) (numbers_of c.put.new.fresh.items) (own_here x)
+    (numbers_of c.args.fresh.now.items)) c.index_mut.ensures.value t))
     c.put.ensures.numbers
 
 pub returns-in_ok-push-in-None-clause-row : goal.returns-in_ok-push-in-None-clause-row
 returns-in_ok-push-in-None-clause-row c =
-    let none : position (at_room c.args.kind.0) c.args.row.now.items ≡ None = ap (position (at_room c.args.kind.0)) (sym c.as_slice.ensures.value) ∙ sym c.in-None.ensures in
+    let none : position (at_room c.args.kind.0) c.args.row.now.items ≡ None =
+    ap (position (at_room c.args.kind.0)) (sym c.as_slice.ensures.value) ∙ sym c.in-None.ensures in
     rw c.in_ok-push-in-None.ensures.items
-    (sym (put_last c.args.kind.0 (edge_slot c.args.target c.args.marks.weight c.args.marks.first c.args.marks.recent) c.args.row.now.items _ c.requires.absent none
+    (sym (put_last c.args.kind.0 (edge_slot c.args.target c.args.marks.weight c.args.marks.first c.args.marks.recent)
+    c.args.row.now.items _ c.requires.absent none
     c.in_ok-block-in-None.ensures.shown))

@@ -9,71 +9,93 @@ use Rattle.shard_work.specs.RowBlocks.{block_of, opens, had_here, numbers_of, ow
 use Rattle.shard_work.specs.declared.row_blocks.RowBlock.{RowBlock}
 use Rattle.graph_model.specs.Changes.{option_stamp, stamp_in}
 use Rattle.shard_work.proofs.Places.{flat_map-set}
-use Rattle.shard_work.proofs.RowSteps.{at_edge, row_numbers, found_within, found_edge, found_some, found_changed, absent_any, absent_edge, absent_puts, absent_stays}
+use Rattle.shard_work.proofs.RowSteps.{at_edge, row_numbers, found_within, found_edge, found_some, found_changed, absent_any}
+use Rattle.shard_work.proofs.RowSteps.{absent_edge, absent_puts, absent_stays}
 use Rattle.shard_work.proofs.rows.apply_step.Goals as goal
 
 pub change_here-requires-clause-edge : goal.change_here-requires-clause-edge
 change_here-requires-clause-edge c =
-    let found : position (at_edge c.args.kind.0 c.args.target) c.args.row.now.items ≡ Some c.in-Some.place = ap (position (at_edge c.args.kind.0 c.args.target)) (sym c.as_slice.ensures.value) ∙ sym c.in-Some.ensures in
+    let found : position (at_edge c.args.kind.0 c.args.target) c.args.row.now.items ≡ Some c.in-Some.place =
+    ap (position (at_edge c.args.kind.0 c.args.target)) (sym c.as_slice.ensures.value) ∙ sym c.in-Some.ensures in
     subst (λ (h : RowBlock). is_some (stamp_at (block_of h.block).slots c.args.target) ≡ true) (sym c.index_mut.ensures.value)
     (found_some c.args.kind.0 c.args.target c.args.row.now.items c.in-Some.place c.index_mut.result.now found)
 
 pub add_edge-requires-clause-absent : goal.add_edge-requires-clause-absent
 add_edge-requires-clause-absent c =
-    let none : position (at_edge c.args.kind.0 c.args.target) c.args.row.now.items ≡ None = ap (position (at_edge c.args.kind.0 c.args.target)) (sym c.as_slice.ensures.value) ∙ sym c.in-None.ensures in
+    let none : position (at_edge c.args.kind.0 c.args.target) c.args.row.now.items ≡ None =
+    ap (position (at_edge c.args.kind.0 c.args.target)) (sym c.as_slice.ensures.value) ∙ sym c.in-None.ensures in
     absent_any c.args.kind.0 c.args.target c.args.row.now.items none
 
 pub returns-in-Some-clause-outcome : goal.returns-in-Some-clause-outcome
 returns-in-Some-clause-outcome c =
-    let found : position (at_edge c.args.kind.0 c.args.target) c.args.row.now.items ≡ Some c.in-Some.place = ap (position (at_edge c.args.kind.0 c.args.target)) (sym c.as_slice.ensures.value) ∙ sym c.in-Some.ensures in
+    let found : position (at_edge c.args.kind.0 c.args.target) c.args.row.now.items ≡ Some c.in-Some.place =
+    ap (position (at_edge c.args.kind.0 c.args.target)) (sym c.as_slice.ensures.value) ∙ sym c.in-Some.ensures in
     let h : RowBlock = c.index_mut.result.now in
-    rw (found_edge c.args.kind.0 c.args.target c.args.row.now.items c.in-Some.place h found, ← c.index_mut.ensures.value) c.change_here.ensures.outcome
+    rw (found_edge c.args.kind.0 c.args.target c.args.row.now.items c.in-Some.place h found, ← c.index_mut.ensures.value)
+    c.change_here.ensures.outcome
 
 pub returns-in-Some-clause-row : goal.returns-in-Some-clause-row
 returns-in-Some-clause-row c =
-    let found : position (at_edge c.args.kind.0 c.args.target) c.args.row.now.items ≡ Some c.in-Some.place = ap (position (at_edge c.args.kind.0 c.args.target)) (sym c.as_slice.ensures.value) ∙ sym c.in-Some.ensures in
+    let found : position (at_edge c.args.kind.0 c.args.target) c.args.row.now.items ≡ Some c.in-Some.place =
+    ap (position (at_edge c.args.kind.0 c.args.target)) (sym c.as_slice.ensures.value) ∙ sym c.in-Some.ensures in
     let h : RowBlock = c.index_mut.result.now in
     on_ok_weaker c.change_here.result
-    (λ t. sym (found_changed c.args.kind.0 c.args.target c.args.row.now.items c.in-Some.place h found c.args.change c.change_here.new.here (subst (λ (x : RowBlock). IsChanged c.args.change c.args.target x c.change_here.new.here) c.index_mut.ensures.value t)))
+    (λ t. sym (found_changed c.args.kind.0 c.args.target c.args.row.now.items c.in-Some.place h found c.args.change
+    c.change_here.new.here (subst (λ (x : RowBlock). IsChanged c.args.change c.args.target x c.change_here.new.here)
+    c.index_mut.ensures.value t)))
     c.change_here.ensures.changed
 
 pub returns-in-Some-clause-had : goal.returns-in-Some-clause-had
 returns-in-Some-clause-had c =
-    let found : position (at_edge c.args.kind.0 c.args.target) c.args.row.now.items ≡ Some c.in-Some.place = ap (position (at_edge c.args.kind.0 c.args.target)) (sym c.as_slice.ensures.value) ∙ sym c.in-Some.ensures in
+    let found : position (at_edge c.args.kind.0 c.args.target) c.args.row.now.items ≡ Some c.in-Some.place =
+    ap (position (at_edge c.args.kind.0 c.args.target)) (sym c.as_slice.ensures.value) ∙ sym c.in-Some.ensures in
     let h : RowBlock = c.index_mut.result.now in
     on_ok_weaker c.change_here.result
-    (λ t. flat_map-set had_here c.args.row.now.items c.in-Some.place c.change_here.new.here h (found_within c.args.kind.0 c.args.target c.args.row.now.items c.in-Some.place h found) (t.had ∙ ap had_here c.index_mut.ensures.value))
+    (λ t. flat_map-set had_here c.args.row.now.items c.in-Some.place c.change_here.new.here h
+    (found_within c.args.kind.0 c.args.target c.args.row.now.items c.in-Some.place h found)
+    (t.had ∙ ap had_here c.index_mut.ensures.value))
     c.change_here.ensures.changed
 
 pub returns-in-Some-clause-numbers : goal.returns-in-Some-clause-numbers
 returns-in-Some-clause-numbers c =
-    let found : position (at_edge c.args.kind.0 c.args.target) c.args.row.now.items ≡ Some c.in-Some.place = ap (position (at_edge c.args.kind.0 c.args.target)) (sym c.as_slice.ensures.value) ∙ sym c.in-Some.ensures in
+    let found : position (at_edge c.args.kind.0 c.args.target) c.args.row.now.items ≡ Some c.in-Some.place =
+    ap (position (at_edge c.args.kind.0 c.args.target)) (sym c.as_slice.ensures.value) ∙ sym c.in-Some.ensures in
     let h : RowBlock = c.index_mut.result.now in
     on_ok_weaker c.change_here.result
-    (λ t. row_numbers own_here c.args.row.now.items c.in-Some.place c.change_here.new.here h (numbers_of c.change_here.new.fresh.items) (numbers_of c.args.fresh.now.items) (found_within c.args.kind.0 c.args.target c.args.row.now.items c.in-Some.place h found)
-    (subst (λ (x : RowBlock). HaveSame (own_here c.change_here.new.here) (numbers_of c.change_here.new.fresh.items) (own_here x) (numbers_of c.args.fresh.now.items)) c.index_mut.ensures.value t))
+    (λ t. row_numbers own_here c.args.row.now.items c.in-Some.place c.change_here.new.here h
+    (numbers_of c.change_here.new.fresh.items) (numbers_of c.args.fresh.now.items)
+    (found_within c.args.kind.0 c.args.target c.args.row.now.items c.in-Some.place h found)
+    (subst (λ (x : RowBlock). HaveSame (own_here c.change_here.new.here) (numbers_of c.change_here.new.fresh.items) (own_here x)
+    (numbers_of c.args.fresh.now.items)) c.index_mut.ensures.value t))
     c.change_here.ensures.numbers
 
 pub returns-in_ok-add_edge-in-None-clause-outcome : goal.returns-in_ok-add_edge-in-None-clause-outcome
 returns-in_ok-add_edge-in-None-clause-outcome c =
-    let none : position (at_edge c.args.kind.0 c.args.target) c.args.row.now.items ≡ None = ap (position (at_edge c.args.kind.0 c.args.target)) (sym c.as_slice.ensures.value) ∙ sym c.in-None.ensures in
+    let none : position (at_edge c.args.kind.0 c.args.target) c.args.row.now.items ≡ None =
+    ap (position (at_edge c.args.kind.0 c.args.target)) (sym c.as_slice.ensures.value) ∙ sym c.in-None.ensures in
     rw (absent_edge c.args.kind.0 c.args.target c.args.row.now.items none) c.change_edge-outcome.ensures.outcome
 
 pub returns-in_ok-add_edge-in-None-clause-row : goal.returns-in_ok-add_edge-in-None-clause-row
 returns-in_ok-add_edge-in-None-clause-row c =
-    let none : position (at_edge c.args.kind.0 c.args.target) c.args.row.now.items ≡ None = ap (position (at_edge c.args.kind.0 c.args.target)) (sym c.as_slice.ensures.value) ∙ sym c.in-None.ensures in
+    let none : position (at_edge c.args.kind.0 c.args.target) c.args.row.now.items ≡ None =
+    ap (position (at_edge c.args.kind.0 c.args.target)) (sym c.as_slice.ensures.value) ∙ sym c.in-None.ensures in
     let marks = c.in-Some-after.marks in
-    let stamp : Some (stamp_in marks) ≡ stamp_after c.args.change None = ap option_stamp (sym c.in-Some-after.is) ∙ c.change_edge-outcome.ensures.stamp in
+    let stamp : Some (stamp_in marks) ≡ stamp_after c.args.change None = ap option_stamp (sym c.in-Some-after.is)
+    ∙ c.change_edge-outcome.ensures.stamp in
     rw (absent_edge c.args.kind.0 c.args.target c.args.row.now.items none)
-    (c.in_ok-add_edge-in-None.ensures.row ∙ sym (absent_puts c.args.change (c.args.kind.0, c.args.target) (opens c.args.row.now.items) (stamp_in marks) stamp))
+    (c.in_ok-add_edge-in-None.ensures.row ∙ sym (absent_puts c.args.change (c.args.kind.0, c.args.target)
+    (opens c.args.row.now.items) (stamp_in marks) stamp))
 
 pub returns-in_default-clause-outcome : goal.returns-in_default-clause-outcome
 returns-in_default-clause-outcome c =
-    let none : position (at_edge c.args.kind.0 c.args.target) c.args.row.now.items ≡ None = ap (position (at_edge c.args.kind.0 c.args.target)) (sym c.as_slice.ensures.value) ∙ sym c.in-None.ensures in
+    let none : position (at_edge c.args.kind.0 c.args.target) c.args.row.now.items ≡ None =
+    ap (position (at_edge c.args.kind.0 c.args.target)) (sym c.as_slice.ensures.value) ∙ sym c.in-None.ensures in
     rw (absent_edge c.args.kind.0 c.args.target c.args.row.now.items none) c.change_edge-outcome.ensures.outcome
 
 pub returns-in_default-clause-row : goal.returns-in_default-clause-row
 returns-in_default-clause-row c =
-    let none : position (at_edge c.args.kind.0 c.args.target) c.args.row.now.items ≡ None = ap (position (at_edge c.args.kind.0 c.args.target)) (sym c.as_slice.ensures.value) ∙ sym c.in-None.ensures in
+    let none : position (at_edge c.args.kind.0 c.args.target) c.args.row.now.items ≡ None =
+    ap (position (at_edge c.args.kind.0 c.args.target)) (sym c.as_slice.ensures.value) ∙ sym c.in-None.ensures in
     rw (absent_edge c.args.kind.0 c.args.target c.args.row.now.items none)
-    (sym (absent_stays c.args.change (c.args.kind.0, c.args.target) (opens c.args.row.now.items) (ap option_stamp (sym c.in_default.is) ∙ c.change_edge-outcome.ensures.stamp)))
+    (sym (absent_stays c.args.change (c.args.kind.0, c.args.target) (opens c.args.row.now.items)
+    (ap option_stamp (sym c.in_default.is) ∙ c.change_edge-outcome.ensures.stamp)))

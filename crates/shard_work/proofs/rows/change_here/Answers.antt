@@ -8,8 +8,10 @@ use Rattle.shard_work.proofs.rows.change_here.Goals as goal
 pub change_edge-outcome-requires-clause-before : goal.change_edge-outcome-requires-clause-before
 change_edge-outcome-requires-clause-before c =
     let r = stamped_at c.deref.result.now.slots c.args.target _ c.in-Some.ensures.block.stamped c.in-Some.ensures.edge.stands in
-    rw (to_z-of_z w64 c.in-Some.edge.weight.now (weight_fits c.in-Some.edge.weight.now r.0)) (record { weight = r.0; first = r.1; recent = r.2 })
+    rw (to_z-of_z w64 c.in-Some.edge.weight.now (weight_fits c.in-Some.edge.weight.now r.0))
+    (record { weight = r.0; first = r.1; recent = r.2 })
 
 pub set_edge-requires-clause-room : goal.set_edge-requires-clause-room
 set_edge-requires-clause-room c =
-    subst (λ b. has_room_for c.args.target b.slots ≡ true) c.deref.ensures (room_found c.args.target c.deref.result.now.slots _ c.in-Some.ensures.edge.stands)
+    subst (λ b. has_room_for c.args.target b.slots ≡ true) c.deref.ensures
+    (room_found c.args.target c.deref.result.now.slots _ c.in-Some.ensures.edge.stands)

@@ -4,4 +4,5 @@ use Rattle.shard_work.proofs.shard.blocks_at.Goals as goal
 
 pub returns-clause-own : goal.returns-clause-own
 returns-clause-own c =
-    own_blocks c.row_blocks.result.now (row_of c.args.version.now.rows c.args.source.0) c.args.source.0 c.row_blocks.ensures (c.requires c.args.source.0)
+    own_blocks c.row_blocks.result.now (row_of c.args.version.now.rows c.args.source.0) c.args.source.0 c.row_blocks.ensures
+    (c.requires c.args.source.0)

@@ -13,16 +13,22 @@ loop-step-preserved c =
     let sources : List ℕ = sources_of c.args.work.now.items in
     record {
       rows = λ rows all.
-          let here : AreOpen (rows_step (resolved_at (sources_of c.loop-step.work.items) s.change s.place) (rows_all (resolved_in sources (take i c.args.steps.now)) rows)) c.do_step.new.work.items =
-          c.in_ok-outcome.ensures.rows (rows_all (resolved_in sources (take i c.args.steps.now)) rows) (c.loop-step.invariant.rows rows all) in
+          let here : AreOpen (rows_step (resolved_at (sources_of c.loop-step.work.items) s.change s.place)
+          (rows_all (resolved_in sources (take i c.args.steps.now)) rows)) c.do_step.new.work.items =
+          c.in_ok-outcome.ensures.rows (rows_all (resolved_in sources (take i c.args.steps.now)) rows)
+          (c.loop-step.invariant.rows rows all) in
           subst (λ now. AreOpen now c.do_step.new.work.items)
-          (ap (λ ss. rows_step (resolved_at ss s.change s.place) (rows_all (resolved_in sources (take i c.args.steps.now)) rows)) c.loop-step.invariant.sources
+          (ap (λ ss. rows_step (resolved_at ss s.change s.place)
+          (rows_all (resolved_in sources (take i c.args.steps.now)) rows)) c.loop-step.invariant.sources
           ∙ all_rows_more sources c.args.steps.now i c.loop-step-test.true rows) here;
       outcomes = λ rows all.
-          all_outcomes_more sources c.args.steps.now i c.loop-step-test.true rows c.loop-step.outcomes.items c.push.new.self.items c.in_ok-outcome.outcome
+          all_outcomes_more sources c.args.steps.now i c.loop-step-test.true rows c.loop-step.outcomes.items
+          c.push.new.self.items c.in_ok-outcome.outcome
           (c.loop-step.invariant.outcomes rows all)
-          (c.in_ok-outcome.ensures.outcome (rows_all (resolved_in sources (take i c.args.steps.now)) rows) (c.loop-step.invariant.rows rows all)
-          ∙ ap (λ ss. outcome_in s.change (key_at ss s.place) (rows_all (resolved_in sources (take i c.args.steps.now)) rows)) c.loop-step.invariant.sources)
+          (c.in_ok-outcome.ensures.outcome (rows_all (resolved_in sources (take i c.args.steps.now)) rows)
+          (c.loop-step.invariant.rows rows all)
+          ∙ ap (λ ss. outcome_in s.change (key_at ss s.place) (rows_all (resolved_in sources (take i c.args.steps.now)) rows))
+          c.loop-step.invariant.sources)
           c.in_ok-push.ensures.items;
       own = search rules;
       sources = search rules;

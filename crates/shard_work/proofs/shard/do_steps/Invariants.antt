@@ -7,11 +7,15 @@ use Rattle.shard_work.proofs.shard.do_steps.Given as goal
 
 abbrev pub invariant-loop-step : goal.invariant-loop-step
 invariant-loop-step l = record {
-  rows : (rows : ℕ → List OpenBlock) → AreOpen rows l.initial.work.items → AreOpen (rows_all (resolved_in (sources_of l.initial.work.items) (take l.step-index l.steps)) rows) l.work.items;
-  outcomes : (rows : ℕ → List OpenBlock) → AreOpen rows l.initial.work.items → l.outcomes.items ≡ zip (map (λ s. s.op) (take l.step-index l.steps)) (outcomes_all (resolved_in (sources_of l.initial.work.items) (take l.step-index l.steps)) rows);
+  rows : (rows : ℕ → List OpenBlock) → AreOpen rows l.initial.work.items
+      → AreOpen (rows_all (resolved_in (sources_of l.initial.work.items) (take l.step-index l.steps)) rows) l.work.items;
+  outcomes : (rows : ℕ → List OpenBlock) → AreOpen rows l.initial.work.items
+      → l.outcomes.items ≡ zip (map (λ s. s.op) (take l.step-index l.steps))
+      (outcomes_all (resolved_in (sources_of l.initial.work.items) (take l.step-index l.steps)) rows);
   own : AreOwn l.work.items;
   sources : sources_of l.work.items ≡ sources_of l.initial.work.items;
   had : had_all l.work.items ≡ had_all l.initial.work.items;
-  numbers : HaveSame (own_all l.work.items) (numbers_of l.fresh.items) (own_all l.initial.work.items) (numbers_of l.initial.fresh.items);
+  numbers : HaveSame (own_all l.work.items) (numbers_of l.fresh.items) (own_all l.initial.work.items)
+      (numbers_of l.initial.fresh.items);
   few : vec_len l.initial.fresh ≤ vec_len l.fresh + l.step-index;
 }

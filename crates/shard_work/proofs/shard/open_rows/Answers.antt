@@ -9,8 +9,12 @@ use Rattle.shard_work.proofs.shard.open_rows.Goals as goal
 pub loop-source-preserved : goal.loop-source-preserved
 loop-source-preserved c =
     let r : OpenRow = c.in_ok-row.row in
-    let more = opened_more (row_of c.args.version.now.rows) c.args.sources.now c.loop-source.source-index c.loop-source-test.true c.loop-source.work.items c.push.new.self.items r c.blocks_at.result.now c.in_ok-push.ensures.items
-    c.in_ok-row.ensures.source c.blocks_at.ensures.row c.in_ok-row.ensures.blocks c.in_ok-row.ensures.had c.in_ok-row.ensures.none_own (subst (λ (s : VertexId). All (IsOf s.0) r.blocks.items) (sym c.in_ok-row.ensures.source) c.in_ok-row.ensures.own) in
+    let more = opened_more (row_of c.args.version.now.rows) c.args.sources.now c.loop-source.source-index
+    c.loop-source-test.true c.loop-source.work.items c.push.new.self.items r c.blocks_at.result.now
+    c.in_ok-push.ensures.items
+    c.in_ok-row.ensures.source c.blocks_at.ensures.row c.in_ok-row.ensures.blocks c.in_ok-row.ensures.had
+    c.in_ok-row.ensures.none_own (subst (λ (s : VertexId). All (IsOf s.0) r.blocks.items) (sym c.in_ok-row.ensures.source)
+    c.in_ok-row.ensures.own) in
     record {
       sources = more.0 c.loop-source.invariant.sources;
       blocks = more.1 c.loop-source.invariant.blocks;

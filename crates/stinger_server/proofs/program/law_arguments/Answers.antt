@@ -1,6 +1,7 @@
 use Rattle.std.proofs.Common.{refl}
 use Rattle.clap.proofs.OnLiterals.{clap_on_literals}
-use Rattle.stinger_server.proofs.Asked.{only_run_serves}
+use Rattle.stinger_server.proofs.Asked.{reads_plainly}
+use Rattle.stinger_server.proofs.Served.{serves_within}
 use Rattle.stinger_server.proofs.program.law_arguments.Goals as goal
 
 pub returns : goal.returns
@@ -10,5 +11,6 @@ returns c = record {
   help = (refl, (refl, (refl, (refl, (refl, (refl, tt))))));
   version = (refl, (refl, tt));
   usage = (refl, (refl, (refl, (refl, (refl, (refl, (refl, (refl, (refl, tt)))))))));
-  only = only_run_serves;
+  plain = reads_plainly;
+  limits = serves_within;
 }

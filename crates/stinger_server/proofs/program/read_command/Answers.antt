@@ -1,28 +1,28 @@
-use Rattle.std.proofs.Common.{◌∙◌, ap, ap₂, map, sym, subst}
+use Rattle.std.proofs.Common.{◌∙◌, ap, ap₂, map}
 use Rattle.clap.specs.Faults.{fault_of, is_simple_and_free}
-use Rattle.clap.specs.Kinds.{HasKind, Kinds}
-use Rattle.stinger_server.specs.Program.{asked_of_command}
-use Rattle.stinger_server.proofs.Asked.{asked_for_help, asked_kinds, asked_to_serve, asked_wrongly}
-use Rattle.stinger_server.proofs.program.read_command.Goals.{in-DisplayHelp, in_default-kind}
+use Rattle.clap.specs.Simple.{is_simple, subcommand_of}
+use Rattle.stinger_server.specs.Program.{Serve}
+use Rattle.stinger_server.proofs.Served.{asked_well, explained}
 use Rattle.stinger_server.proofs.program.read_command.Goals as goal
 
-pub returns-in_default : goal.returns-in_default
-returns-in_default g c =
-    let arguments = map (λ argument. argument.now) c.args.arguments.now in
-    let kinds = ap₂ fault_of c.in_ok-command.ensures c.without_help.ensures in
-    asked_to_serve (asked_of_command arguments) _ (asked_kinds arguments)
-    (sym kinds ∙ c.in_default.ensures.kinds (ap is_simple_and_free c.in_ok-command.ensures))
+pub returns-in-Ok-configure : goal.returns-in-Ok-configure
+returns-in-Ok-configure g c =
+    ap Serve c.sizes_of_config.ensures ∙ asked_well (map (λ argument. argument.now) c.args.arguments.now) _ _ _
+    (ap₂ fault_of c.in_ok-command.ensures c.without_help.ensures)
+    (c.in-Ok.ensures.kinds (ap is_simple_and_free c.in_ok-command.ensures))
+    ((c.in-Ok.ensures.matches (ap is_simple c.in_ok-command.ensures)).1
+    ∙ ap₂ subcommand_of c.in_ok-command.ensures c.without_help.ensures) c.in-Ok-configure.ensures
+
+pub returns-in-Ok : goal.returns-in-Ok
+returns-in-Ok g c =
+    asked_well (map (λ argument. argument.now) c.args.arguments.now) _ _ _
+    (ap₂ fault_of c.in_ok-command.ensures c.without_help.ensures)
+    (c.in-Ok.ensures.kinds (ap is_simple_and_free c.in_ok-command.ensures))
+    ((c.in-Ok.ensures.matches (ap is_simple c.in_ok-command.ensures)).1
+    ∙ ap₂ subcommand_of c.in_ok-command.ensures c.without_help.ensures) c.in-Err-configure.ensures
 
 pub returns : goal.returns
 returns g c =
-    let arguments = map (λ argument. argument.now) c.args.arguments.now in
-    let kinds = ap₂ fault_of c.in_ok-command.ensures c.without_help.ensures in
-    let fails = subst (λ (given : Kinds). HasKind given c.in-Err.error) kinds
-    (c.in-Err.ensures.kinds (ap is_simple_and_free c.in_ok-command.ensures)) in
-    elim c.match-kind.branch [
-      | in-DisplayHelp w ↦ w.asked-is ∙ asked_for_help (asked_of_command arguments) _ _ (asked_kinds arguments) fails
-          (sym c.kind.ensures ∙ w.in-DisplayHelp.is)
-      | in_default-kind w ↦ w.asked-is ∙ asked_wrongly (asked_of_command arguments) _ _ (asked_kinds arguments) fails
-          (λ memory. w.in_default-kind.not-OutOfMemory (c.kind.ensures ∙ memory))
-          (λ help. w.in_default-kind.not-DisplayHelp (c.kind.ensures ∙ help))
-    ]
+    explained c.explain.result (map (λ argument. argument.now) c.args.arguments.now) _ _
+    (ap₂ fault_of c.in_ok-command.ensures c.without_help.ensures)
+    (c.in-Err.ensures.kinds (ap is_simple_and_free c.in_ok-command.ensures)) c.explain.ensures.known c.explain.ensures.order

@@ -1,4 +1,7 @@
-use Rattle.std.proofs.Common.{inl}
+use Rattle.std.proofs.Common.{rules, ◌≡◌, arith, inl}
+use Rattle.std.specs.Prelude.{Err}
+use Rattle.std.proofs.lemmas.Grind.{common_steps}
+use Rattle.stinger_server.proofs.RunEnd.{turn_broken}
 use Rattle.stinger_server.proofs.OneRecord.{breaks_refused, fault_row, refused}
 use Rattle.stinger_server.proofs.script.turn.Goals as goal
 
@@ -19,3 +22,10 @@ returns-in-Err-print-clause-turns g c =
     fault_row c.in-Err.fault.word c.args.feed.now c.next.new.self c.in_default.not-Read c.in_default.not-Memory
     c.in-Err.ensures.step.1 in
     inl (row.0, row.2, breaks_refused _ c.in-Err.fault.word _ _ _ row.1 c.in-Err-print.ensures.part)
+
+pub returns-in_err-obey-in-Ok-Some-clause-turns : goal.returns-in_err-obey-in-Ok-Some-clause-turns
+returns-in_err-obey-in-Ok-Some-clause-turns g c =
+    let broken = turn_broken c.in-Ok-Some.command c.in-Ok-Some.field-0 c.args.feed.now c.next.new.self c.args.run.now
+    c.obey.new.self _ _ _ c.requires.ready c.in-Ok-Some.field-0-is c.in-Ok-Some.ensures.step
+    c.in_err-obey-in-Ok-Some.ensures.does in
+    first_of (search (rules, broken), grind (arith, common_steps, broken))

@@ -4,7 +4,8 @@ use Rattle.stream_store.proofs.Moving.{IsMoving}
 use Rattle.stream_store.proofs.moves.give_back_blocks.Given as goal
 
 abbrev pub invariant-loop-block : goal.invariant-loop-block
-invariant-loop-block l = IsMoving (numbers_of l.blocks.items) Free l.pool (marked (numbers_of l.initial.blocks.items) Free l.initial.pool)
+invariant-loop-block l = IsMoving (numbers_of l.blocks.items) Free l.pool
+    (marked (numbers_of l.initial.blocks.items) Free l.initial.pool)
 
 abbrev pub decreases-loop-block : goal.decreases-loop-block
 decreases-loop-block l = goal.left-loop-block l

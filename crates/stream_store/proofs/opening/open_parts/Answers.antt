@@ -6,8 +6,10 @@ use Rattle.stream_store.proofs.opening.open_parts.Goals as goal
 
 pub returns-clause-seats : goal.returns-clause-seats
 returns-clause-seats g c =
-    let same : map (λ (s : SeatView). s.seen) c.in-Ok-seats_of.seats.items ≡ c.in-Ok-shelf.parts.1.items = c.in-Ok-seats_of.ensures.seen in
+    let same : map (λ (s : SeatView). s.seen) c.in-Ok-seats_of.seats.items ≡ c.in-Ok-shelf.parts.1.items =
+    c.in-Ok-seats_of.ensures.seen in
     let count : length c.in-Ok-shelf.parts.1.items ≡ c.args.config.seats = omega (arith, c.in-Ok-shelf.ensures.count) in (
       sym (length-map c.in-Ok-seats_of.seats.items (λ (s : SeatView). s.seen)) ∙ ap length same ∙ count,
-      new_seats _ _ _ c.in-Ok-seats_of.seats.items c.in-Ok-shelf.parts.1.items same c.in-Ok-shelf.ensures.readers c.empty.ensures (ap (λ d. d.book) c.opened.ensures),
+      new_seats _ _ _ c.in-Ok-seats_of.seats.items c.in-Ok-shelf.parts.1.items same c.in-Ok-shelf.ensures.readers
+          c.empty.ensures (ap (λ d. d.book) c.opened.ensures),
     )

@@ -10,5 +10,11 @@ loop-readers-preserved c =
     let seen : c.of.result.seen ≡ c.remove-reader.result = search rules in
     let some : 0 < length c.loop-readers.readers.items = search rules in
     let cut : c.loop-readers.readers.items ≡ c.remove-reader.result ∷ c.remove-reader.new.self.items =
-    first_off c.loop-readers.readers.items c.remove-reader.new.self.items c.remove-reader.result some c.remove-reader.ensures.value c.remove-reader.ensures.by_index.2 in
-    (seen_more c.loop-readers.seats.items c.push.new.self.items c.of.result c.remove-reader.result _ _ _ items seen cut c.loop-readers.invariant.0, few, numbers_more c.loop-readers.seats.items c.push.new.self.items c.of.result items next c.loop-readers.invariant.2)
+    first_off c.loop-readers.readers.items c.remove-reader.new.self.items c.remove-reader.result some
+    c.remove-reader.ensures.value c.remove-reader.ensures.by_index.2 in (
+      seen_more c.loop-readers.seats.items c.push.new.self.items c.of.result c.remove-reader.result _ _ _ items seen cut
+          c.loop-readers.invariant.0,
+      few,
+      numbers_more c.loop-readers.seats.items c.push.new.self.items c.of.result items next
+          c.loop-readers.invariant.2,
+    )

@@ -16,7 +16,8 @@ returns-in-Ok c =
             c.leave.ensures.1 ∙ entered.1.1,
             (up.0, up.1.0),
             subst (λ (o : Option ToldView). IfSome o (λ told. IsOfOneShelf before told)) (sym c.ok-shown.ensures.value)
-                (copy_of_one_shelf before c.in-Ok.reading.part.value c.get.result.now c.share.result c.get.ensures c.share.ensures (up.0, up.1.0)),
+                (copy_of_one_shelf before c.in-Ok.reading.part.value c.get.result.now c.share.result c.get.ensures
+                c.share.ensures (up.0, up.1.0)),
           );
     }
 

@@ -7,5 +7,9 @@ use Rattle.version_shelf.proofs.writers.shelf.Given as goal
 abbrev pub invariant-loop : goal.invariant-loop
 invariant-loop g l =
     (vec_len l.places ≡ l.counter)
-    × All (λ (x : ToldView). x ≡ record { book = l.initial.told-inside.history.book; version = arc_value {X = Version} l.initial.told-inside.version }) l.places.items
+    × All (λ (x : ToldView). x ≡ record {
+      book = l.initial.told-inside.history.book;
+      version =
+          arc_value {X = Version} l.initial.told-inside.version;
+    }) l.places.items
     × (l.writer ≡ l.initial.writer)

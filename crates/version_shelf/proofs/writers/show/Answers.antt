@@ -9,4 +9,5 @@ publish_as-place-requires g c next is =
     let told = c.args.told in
     let shown : ToldView = w.desk.shown.value in
     let up : Begins shown told = subst (λ d. Begins d.shown.value told) (sym c.in-Ok.ensures.desk) c.requires.newer in
-    turns _ _ shown next (next_begins shown next told (drop c.args.place.behind c.args.place.log.items) _ is c.in-Ok.ensures.pending up)
+    turns _ _ shown next (next_begins shown next told (drop c.args.place.behind c.args.place.log.items) _ is
+    c.in-Ok.ensures.pending up)

@@ -10,12 +10,14 @@ returns-in_err-batch-clause-steps c =
 
 pub overflow_add-self : goal.overflow_add-self
 overflow_add-self c =
-    let lt = slice_get_within c.args.self.now.batches.now c.args.self.now.place c.in_ok-batch.batch.now (sym c.in_ok-batch.ensures.batch) in
+    let lt = slice_get_within c.args.self.now.batches.now c.args.self.now.place c.in_ok-batch.batch.now
+    (sym c.in_ok-batch.ensures.batch) in
     let few = c.in_ok-batch.ensures.few in
     omega (arith, lt, few)
 
 pub returns-clause-steps : goal.returns-clause-steps
-returns-clause-steps c = drop_next c.args.self.now.batches.now c.args.self.now.place c.in_ok-batch.batch.now (sym c.in_ok-batch.ensures.batch)
+returns-clause-steps c = drop_next c.args.self.now.batches.now c.args.self.now.place c.in_ok-batch.batch.now
+    (sym c.in_ok-batch.ensures.batch)
 
 pub returns-clause-goes : goal.returns-clause-goes
 returns-clause-goes c =

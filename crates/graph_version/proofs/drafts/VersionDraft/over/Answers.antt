@@ -5,4 +5,5 @@ pub invariant_of-result : goal.invariant_of-result
 invariant_of-result c = kept_count _ _ _ _ _ _ c.version.invariant c.in_ok-share-4.ensures
 
 pub returns : goal.returns
-returns c = rw (← c.version.view_is) (drafted _ _ _ _ _ _ _ _ _ c.version.invariant c.in_ok-share.ensures c.in_ok-share-2.ensures c.in_ok-share-3.ensures c.in_ok-share-4.ensures)
+returns c = rw (← c.version.view_is) (drafted _ _ _ _ _ _ _ _ _ c.version.invariant c.in_ok-share.ensures
+    c.in_ok-share-2.ensures c.in_ok-share-3.ensures c.in_ok-share-4.ensures)

@@ -1,31 +1,26 @@
-use Rattle.std.proofs.Common.{sym}
-use Rattle.stinger_server.proofs.Replies.{few_answered, replied_err, replied_ok}
-use Rattle.stinger_server.proofs.Versions.{content_is, version_is}
+use Rattle.stinger_server.proofs.Asking.{few_asked, replied_err_at, replied_ok_at}
 use Rattle.stinger_server.proofs.server.Server.ask.Goals as goal
 
 pub write_reply-requires : goal.write_reply-requires
 write_reply-requires c =
-    few_answered c.args.request.now _ _ (content_is _ _ _ c.index.ensures c.requires.server.contents c.in-Ok.ensures.within)
-    c.in-Ok-plain_reply.ensures.answer
+    few_asked c.args.self.now c.args.slot c.args.request.now c.in-Ok.session.now c.in-Ok-ask.reply c.requires.server
+    c.in-Ok.ensures.session c.in-Ok-ask.ensures
 
-pub returns-in_ok-write_reply-in-Ok-plain_reply : goal.returns-in_ok-write_reply-in-Ok-plain_reply
-returns-in_ok-write_reply-in-Ok-plain_reply c = record {
+pub returns-in_ok-write_reply-in-Ok-ask : goal.returns-in_ok-write_reply-in-Ok-ask
+returns-in_ok-write_reply-in-Ok-ask c = record {
   obeys = λ s shows. (
-    replied_ok c.args.slot c.args.request.now s _ c.in-Ok.version _ _ (rw (← shows.held) (sym c.in-Ok.ensures.slot))
-        (content_is _ _ _ c.index.ensures c.requires.server.contents c.in-Ok.ensures.within)
-        (version_is _ _ _ _ _ c.index.ensures shows.contents c.in-Ok.ensures.within) c.in-Ok-plain_reply.ensures.answer
-        (rw c.requires.empty at c.in_ok-write_reply-in-Ok-plain_reply.ensures),
+    replied_ok_at c.args.self.now s c.args.slot c.args.request.now c.in-Ok.session.now c.in-Ok-ask.reply _ c.requires.server
+        shows c.in-Ok.ensures.session c.in-Ok-ask.ensures (rw c.requires.empty at c.in_ok-write_reply-in-Ok-ask.ensures),
     shows,
   );
 }
 
-pub returns-in_ok-word-in-Err-plain_reply : goal.returns-in_ok-word-in-Err-plain_reply
-returns-in_ok-word-in-Err-plain_reply c = record {
+pub returns-in_ok-word-in-Err-ask : goal.returns-in_ok-word-in-Err-ask
+returns-in_ok-word-in-Err-ask c = record {
   obeys = λ s shows. (
-    replied_err c.args.slot c.args.request.now s _ c.in-Ok.version c.in-Err-plain_reply.error c.in_ok-word-in-Err-plain_reply.word
-        (rw (← shows.held) (sym c.in-Ok.ensures.slot))
-        (version_is _ _ _ _ _ c.index.ensures shows.contents c.in-Ok.ensures.within) c.in-Err-plain_reply.ensures.answer
-        c.in_ok-word-in-Err-plain_reply.ensures.known c.in_ok-word-in-Err-plain_reply.ensures.word,
+    replied_err_at c.args.self.now s c.args.slot c.args.request.now c.in-Ok.session.now c.in-Err-ask.error
+        c.in_ok-word-in-Err-ask.word c.requires.server shows c.in-Ok.ensures.session c.in-Err-ask.ensures
+        c.in_ok-word-in-Err-ask.ensures.known c.in_ok-word-in-Err-ask.ensures.word,
     shows,
   );
 }

@@ -1,14 +1,15 @@
-use Rattle.std.proofs.Common.{◌≡◌, ◌+◌, ◌≤◌, length, map, count_by, refl, sym, ap, subst, ◌∙◌, arith, rules}
+use Rattle.std.proofs.Common.{◌≡◌, ◌+◌, length, count_by, refl, ap, subst, ◌∙◌, arith, rules}
 use Rattle.std.specs.Arc.{arc_value}
 use Rattle.graph_version.specs.declared.versions.Version.{Version}
 use Rattle.graph_version.specs.Versions.{VersionView}
-use Rattle.block_pool.specs.Pools.{is_free, is_retired}
+use Rattle.block_pool.specs.Pools.{is_free}
 use Rattle.batch_plan.proofs.Names.{err_then}
 use Rattle.store_journal.specs.Steps.{Accepts}
 use Rattle.stream_store.specs.Kept.{DeskState, state_of}
 use Rattle.stream_store.specs.Refusals.{Refuses}
 use Rattle.stream_store.proofs.Collections.{kept_same}
-use Rattle.stream_store.proofs.Handing.{Handing, handing, desk_of, back_used, back_same, dropped_once, unused_once, end_pool, end_desk}
+use Rattle.stream_store.proofs.Handing.{Handing, handing, desk_of, back_used, back_same, dropped_once, unused_once, end_pool}
+use Rattle.stream_store.proofs.Handing.{end_desk}
 use Rattle.stream_store.proofs.Handing.{end_accepts, end_room, end_kept}
 use Rattle.stream_store.proofs.desk.Desk.apply.Goals as goal
 
@@ -23,26 +24,31 @@ returns-in_err-plan-clause-refused g c =
 
 pub give_back_numbers-requires : goal.give_back_numbers-requires
 give_back_numbers-requires g c =
-    back_used c.self.inside.pool c.grant_blocks.new.pool c.in_ok-numbers.field-0.numbers.items c.in_ok-numbers.ensures.numbers.0 c.in_ok-numbers.ensures.used
+    back_used c.self.inside.pool c.grant_blocks.new.pool c.in_ok-numbers.field-0.numbers.items c.in_ok-numbers.ensures.numbers.0
+    c.in_ok-numbers.ensures.used
 
 pub give_back_numbers-requires-in_default-publish : goal.give_back_numbers-requires-in_default-publish
 give_back_numbers-requires-in_default-publish g c =
-    back_used c.self.inside.pool c.grant_blocks.new.pool c.in_ok-numbers.field-0.numbers.items c.in_ok-numbers.ensures.numbers.0 c.in_ok-numbers.ensures.used
+    back_used c.self.inside.pool c.grant_blocks.new.pool c.in_ok-numbers.field-0.numbers.items c.in_ok-numbers.ensures.numbers.0
+    c.in_ok-numbers.ensures.used
 
 pub invariant_of-self-in_default : goal.invariant_of-self-in_default
 invariant_of-self-in_default g c =
     let same : c.give_back_numbers.new.pool ≡ c.self.inside.pool =
     back_same c.self.inside.pool c.grant_blocks.new.pool _ c.in_ok-numbers.field-0.numbers.items c.in_ok-numbers.ensures.numbers.0
     c.in_ok-numbers.ensures.used c.give_back_numbers.ensures in
-    kept_same (state_of c.self.inside.shelf.book (arc_value {X = Version} c.self.inside.last) c.self.inside.journal.items c.self.inside.pool) _ c.self.inside.shelf _ c.self.inside.workers _ _ _ _ c.self.invariant
-    (ap (state_of c.self.inside.shelf.book (arc_value {X = Version} c.self.inside.last) c.self.inside.journal.items) same) refl refl (omega arith)
+    kept_same (state_of c.self.inside.shelf.book (arc_value {X = Version} c.self.inside.last) c.self.inside.journal.items
+    c.self.inside.pool) _ c.self.inside.shelf _ c.self.inside.workers _ _ _ _ c.self.invariant
+    (ap (state_of c.self.inside.shelf.book (arc_value {X = Version} c.self.inside.last) c.self.inside.journal.items) same) refl
+    refl (omega arith)
 
 pub returns-in_default-clause-unchanged : goal.returns-in_default-clause-unchanged
 returns-in_default-clause-unchanged g c =
     let same : c.give_back_numbers.new.pool ≡ c.self.inside.pool =
     back_same c.self.inside.pool c.grant_blocks.new.pool _ c.in_ok-numbers.field-0.numbers.items c.in_ok-numbers.ensures.numbers.0
     c.in_ok-numbers.ensures.used c.give_back_numbers.ensures in
-    ap (state_of c.self.inside.shelf.book (arc_value {X = Version} c.self.inside.last) c.self.inside.journal.items) same ∙ c.self.view_is
+    ap (state_of c.self.inside.shelf.book (arc_value {X = Version} c.self.inside.last) c.self.inside.journal.items) same
+    ∙ c.self.view_is
 
 pub invariant_of-self-in_default-publish : goal.invariant_of-self-in_default-publish
 invariant_of-self-in_default-publish g c =
@@ -50,7 +56,8 @@ invariant_of-self-in_default-publish g c =
     back_same c.self.inside.pool c.grant_blocks.new.pool _ c.in_ok-numbers.field-0.numbers.items c.in_ok-numbers.ensures.numbers.0
     c.in_ok-numbers.ensures.used c.give_back_numbers-in_default-publish.ensures in
     let u = c.in_default-publish.ensures.unchanged in
-    kept_same (state_of c.self.inside.shelf.book (arc_value {X = Version} c.self.inside.last) c.self.inside.journal.items c.self.inside.pool) _ c.self.inside.shelf _ c.self.inside.workers _ _ _ _ c.self.invariant
+    kept_same (state_of c.self.inside.shelf.book (arc_value {X = Version} c.self.inside.last) c.self.inside.journal.items
+    c.self.inside.pool) _ c.self.inside.shelf _ c.self.inside.workers _ _ _ _ c.self.invariant
     (λ i. state_of (u.3 i).book (arc_value {X = Version} (u.2 i)) (u.0 i) (same i)) u.3 u.1 c.in_default-publish.ensures.capacity
 
 pub returns-in_default-publish-clause-unchanged : goal.returns-in_default-publish-clause-unchanged

@@ -1,7 +1,7 @@
-use Rattle.std.proofs.Common.{◌≡◌, ◌≤◌, ◌+◌, ◌++◌, length, sym, ap, subst, ◌∙◌, arith, count_by, map}
+use Rattle.std.proofs.Common.{◌≡◌, ◌≤◌, ◌++◌, length, sym, ap, subst, ◌∙◌, arith, count_by, map}
 use Rattle.std.specs.Arc.{arc_value}
 use Rattle.graph_version.specs.declared.versions.Version.{Version}
-use Rattle.block_pool.specs.Pools.{is_past, is_retired, recycled}
+use Rattle.block_pool.specs.Pools.{is_past, is_retired}
 use Rattle.store_journal.specs.Desks.{collections}
 use Rattle.store_journal.specs.Steps.{TakesAt, recycling}
 use Rattle.store_journal.proofs.Collecting.{collected_takes}
@@ -19,14 +19,26 @@ enter_collection-requires c = λ some.
 
 pub invariant_of-self : goal.invariant_of-self
 invariant_of-self c =
-    let old : DeskState = state_of c.self.inside.shelf.book (arc_value {X = Version} c.self.inside.last) c.self.inside.journal.items c.self.inside.pool in
-    let new : DeskState = state_of c.self.inside.shelf.book (arc_value {X = Version} c.self.inside.last) c.enter_collection.new.journal.items c.recycle-recycled.new.self in
+    let old : DeskState = state_of c.self.inside.shelf.book (arc_value {X = Version} c.self.inside.last)
+    c.self.inside.journal.items c.self.inside.pool in
+    let new : DeskState = state_of c.self.inside.shelf.book (arc_value {X = Version} c.self.inside.last)
+    c.enter_collection.new.journal.items c.recycle-recycled.new.self in
     let count = c.recycle-recycled.ensures.count in
-    let entries : map entry_of c.enter_collection.new.journal.items ≡ map entry_of c.self.inside.journal.items ++ collections c.args.floor (count_by (is_past c.args.floor) c.self.inside.pool) =
+    let entries : map entry_of c.enter_collection.new.journal.items ≡ map entry_of c.self.inside.journal.items
+    ++ collections c.args.floor (count_by (is_past c.args.floor) c.self.inside.pool) =
     c.enter_collection.ensures.entries ∙ ap (λ n. map entry_of c.self.inside.journal.items ++ collections c.args.floor n) count in
-    let low : c.args.floor ≤ length (arc_value {X = Version} c.self.inside.last).batches = subst (λ (d : DeskState). c.args.floor ≤ length d.desk.last.batches) (sym c.self.view_is) c.requires in
+    let low : c.args.floor ≤ length (arc_value {X = Version} c.self.inside.last).batches =
+    subst (λ (d : DeskState). c.args.floor ≤ length d.desk.last.batches) (sym c.self.view_is) c.requires in
     let is : new ≡ state_collected old c.args.floor =
-    λ i. record { book = old.book; desk = record { last = old.desk.last; journal = entries i; pool = c.recycle-recycled.ensures.pool i } } in
+    λ i. record {
+      book = old.book;
+      desk = record {
+        last = old.desk.last;
+        journal = entries i;
+        pool =
+            c.recycle-recycled.ensures.pool i;
+      };
+    } in
     let past = past_and_left c.args.floor c.self.inside.pool in
     let left = ap (count_by is_retired) c.recycle-recycled.ensures.pool in
     let room = c.self.invariant.room_is in
@@ -35,11 +47,15 @@ invariant_of-self c =
 
 pub returns-clause-steps : goal.returns-clause-steps
 returns-clause-steps c =
-    let old : DeskState = state_of c.self.inside.shelf.book (arc_value {X = Version} c.self.inside.last) c.self.inside.journal.items c.self.inside.pool in
-    let new : DeskState = state_of c.self.inside.shelf.book (arc_value {X = Version} c.self.inside.last) c.enter_collection.new.journal.items c.recycle-recycled.new.self in
+    let old : DeskState = state_of c.self.inside.shelf.book (arc_value {X = Version} c.self.inside.last)
+    c.self.inside.journal.items c.self.inside.pool in
+    let new : DeskState = state_of c.self.inside.shelf.book (arc_value {X = Version} c.self.inside.last)
+    c.enter_collection.new.journal.items c.recycle-recycled.new.self in
     let count = c.recycle-recycled.ensures.count in
-    let entries : map entry_of c.enter_collection.new.journal.items ≡ map entry_of c.self.inside.journal.items ++ collections c.args.floor (count_by (is_past c.args.floor) c.self.inside.pool) =
+    let entries : map entry_of c.enter_collection.new.journal.items ≡ map entry_of c.self.inside.journal.items
+    ++ collections c.args.floor (count_by (is_past c.args.floor) c.self.inside.pool) =
     c.enter_collection.ensures.entries ∙ ap (λ n. map entry_of c.self.inside.journal.items ++ collections c.args.floor n) count in
-    let is : new.desk ≡ (state_collected old c.args.floor).desk = λ i. record { last = old.desk.last; journal = entries i; pool = c.recycle-recycled.ensures.pool i } in
+    let is : new.desk ≡ (state_collected old c.args.floor).desk =
+    λ i. record { last = old.desk.last; journal = entries i; pool = c.recycle-recycled.ensures.pool i } in
     subst (λ (d : DeskState). TakesAt c.args.floor d.desk (recycling c.args.floor d.desk.pool) new.desk) c.self.view_is
     (collected_takes old.desk new.desk c.args.floor (is_collected old.desk new.desk c.args.floor is))

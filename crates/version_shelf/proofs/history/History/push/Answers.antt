@@ -13,5 +13,6 @@ compare_exchange-found-requires c =
       b ∙ sym (ap (λ w. w.book) h),
       pen.0 ∙ (b ∙ sym (ap (λ w. w.book) h)),
       offer.0,
-      rw (ap (λ w. w.key) h, pen.1, offer.1, offer.3) (adds_moves c.self.inside.seen.log c.args.batch.now c.self.inside.count (sym c.self.invariant)),
+      rw (ap (λ w. w.key) h, pen.1, offer.1, offer.3)
+          (adds_moves c.self.inside.seen.log c.args.batch.now c.self.inside.count (sym c.self.invariant)),
     )

@@ -13,8 +13,10 @@ invariant_of-self g c =
     let told : ToldView = record { book = c.again-2.result.book; version = c.in_ok-copy.copy.value } in
     let batch = c.in-Some.batch.now in
     let copied : told.version ≡ c.args.version.value = c.in_ok-copy.ensures in
-    let book : c.push.new.self.book ≡ before.book = c.push.ensures.book ∙ ap (λ (h : HistoryView). h.book) c.again-history.ensures in
-    let batches : c.push.new.self.batches ≡ before.batches ++ batch ∷ [] = c.if-not-push.ensures.batches ∙ ap (λ (h : HistoryView). h.batches ++ batch ∷ []) c.again-history.ensures in
+    let book : c.push.new.self.book ≡ before.book = c.push.ensures.book
+    ∙ ap (λ (h : HistoryView). h.book) c.again-history.ensures in
+    let batches : c.push.new.self.batches ≡ before.batches ++ batch ∷ [] = c.if-not-push.ensures.batches
+    ∙ ap (λ (h : HistoryView). h.batches ++ batch ∷ []) c.again-history.ensures in
     let next : c.args.version.value.batches ≡ before.batches ++ c.requires.next.1.0 ∷ [] =
     c.requires.next.1.1 ∙ ap (λ (s : ShelfView). s.posted ++ c.requires.next.1.0 ∷ []) (sym c.self.view_is) in
     let ends : c.args.version.value.batches ≡ before.batches ++ batch ∷ [] =

@@ -1,0 +1,78 @@
+//! Desks whose versions have edges of these graphs.
+
+use crate::edges::Edges;
+use batch_apply::PassAll;
+use graph_model::{Batch, Name, NamedOp};
+use std::alloc::{AllocError, Global};
+use std::io;
+use std::sync::Wait;
+use std::thread::Threads;
+use stream_store::{Config, Desk, open_parts};
+
+/// The error of a call of the store that was refused.
+pub(crate) fn refused() -> io::Error {
+    io::Error::other("the store refused a call")
+}
+
+/// A new desk of 65,536 blocks.
+pub(crate) fn opened<R: Wait + AllocGlobal>(rt: &R, workers: usize) -> io::Result<Desk> {
+    let Ok(config) = Config::new(workers, 65_536, 1) else {
+        return Err(refused());
+    };
+    match open_parts(rt, rt.alloc(), config) {
+        Ok((desk, _board, _seats)) => Ok(desk),
+        Err(_) => Err(refused()),
+    }
+}
+
+fn vertex_name(alloc: Global, vertex: u32) -> Result<Name, AllocError> {
+    Ok(Name::of(format!(in alloc; "v{vertex}")?))
+}
+
+fn insertion(alloc: Global, edge: (u32, u32)) -> Result<NamedOp, AllocError> {
+    Ok(NamedOp::Insert {
+        kind: Name::of(String::from_str(alloc, "k")?),
+        source: vertex_name(alloc, edge.0)?,
+        target: vertex_name(alloc, edge.1)?,
+        weight: 1,
+        time: 1,
+    })
+}
+
+/// The insertions of the next edges, at most 4,096.
+pub(crate) fn insertions(alloc: Global, edges: &mut Edges, count: u32) -> io::Result<Batch> {
+    let mut batch = Batch::new(alloc);
+    for _ in 0..count {
+        if batch.push(insertion(alloc, edges.next_edge())?).is_err() {
+            return Err(refused());
+        }
+    }
+    Ok(batch)
+}
+
+/// Applies a batch, and recycles what it retired.
+pub(crate) fn apply_to<R: Threads + Wait + Sync>(
+    rt: &R,
+    desk: &mut Desk,
+    batch: Batch,
+) -> io::Result<()> {
+    if desk.apply(rt, &PassAll, batch).is_err() {
+        return Err(refused());
+    }
+    let number = desk.stat().number;
+    let _collected = desk.collect(number);
+    Ok(())
+}
+
+/// Inserts so many of the next edges, in batches of 4,096 and a last one of what is left.
+pub(crate) fn grow<R: Threads + Wait + Sync + AllocGlobal>(
+    rt: &R,
+    desk: &mut Desk,
+    edges: &mut Edges,
+    count: u32,
+) -> io::Result<()> {
+    for _ in 0..count / 4096 {
+        apply_to(rt, desk, insertions(rt.alloc(), edges, 4096)?)?;
+    }
+    apply_to(rt, desk, insertions(rt.alloc(), edges, count % 4096)?)
+}

@@ -1,0 +1,2 @@
+mod OneEdge
+mod TakenBack

@@ -1,0 +1,60 @@
+-- A draft over the version without batches whose one replaced row is taken back, with a batch without operations, is a version.
+use Rattle.std.proofs.Common.{◌≡◌, ◌≢◌, ◌∙◌, ℕ, All, List, [], refl, sym, ap, subst, map, true, arith, true≢false, inl, inr}
+use Rattle.std.specs.Prelude.{AllPairs}
+use Rattle.std.specs.Option.{is_some}
+use Rattle.std.specs.FinMap.{get-empty}
+use Rattle.std.proofs.lemmas.Bool.Decides.{eqb_tells}
+use Rattle.graph_model.specs.Graph.{key_cmp}
+use Rattle.graph_model.specs.Step.{empty_graph}
+use Rattle.edge_block.specs.Slots.{BlockView}
+use Rattle.block_layout.specs.Rows.{shape_of, row_at, IsRow}
+use Rattle.row_pages.specs.Rows.{row_of, numbers_of}
+use Rattle.graph_version.specs.Versions.{IsBlockOf, AreRowsOf, empty_version}
+use Rattle.graph_version.specs.Kept.{vertex_book, kind_book}
+use Rattle.graph_version.specs.Drafts.{DraftView, drafted_over, with_batch, ReplacesRow, IsWhole}
+use Rattle.graph_version.proofs.Totals.{same_blocks, at_source, elsewhere}
+use Rattle.graph_version.proofs.Empty.{no_row}
+
+no_block : (s : ℕ) → All (IsBlockOf s) []
+no_block s k d h = absurd (omega arith)
+
+no_number : AllPairs ◌≢◌ (numbers_of [])
+no_number i j d h g = absurd (omega arith)
+
+bare : (rows : List (List BlockView)) → ((s : ℕ) → row_of rows s ≡ []) → AreRowsOf empty_graph rows
+bare rows none = record {
+  layout = record {
+    distinct = λ s. subst (λ (row : List BlockView). IsRow (map shape_of row)) (sym (none s)) no_row;
+    shows = λ k. ap (λ (row : List BlockView). row_at (map shape_of row) (k.kind, k.target)) (none k.source)
+        ∙ sym (get-empty key_cmp k);
+  };
+  blocks = λ s. subst (λ (row : List BlockView). All (IsBlockOf s) row) (sym (none s)) (no_block s);
+  numbers = subst (λ (blocks : List BlockView). AllPairs ◌≢◌ (numbers_of blocks)) (sym (same_blocks rows [] none)) no_number;
+}
+
+-- the draft with other rows
+abbrev with_rows : DraftView → List (List BlockView) → DraftView
+with_rows d rows = record d { version = record d.version { rows = rows } }
+
+pub taken_back : (drafted put taken pushed : DraftView) (row : List BlockView) → drafted ≡ drafted_over empty_version
+    → ReplacesRow 0 row drafted put → ReplacesRow 0 [] put taken → pushed ≡ with_batch taken [] → IsWhole pushed
+taken_back drafted put taken pushed row is first second last =
+    let rows : List (List BlockView) = taken.version.rows in
+    let none : (s : ℕ) → row_of rows s ≡ [] = λ s. elim (eqb_tells s 0) [
+      | inl e ↦ second.rows s ∙ at_source 0 s [] _ e.1
+      | inr e ↦ second.rows s ∙ elsewhere 0 s [] _ e.1 ∙ first.rows s ∙ elsewhere 0 s row _ e.1
+          ∙ ap (λ (d : DraftView). row_of d.version.rows s) is
+    ] in
+    let same : pushed ≡ with_batch (with_rows (with_rows (drafted_over empty_version) put.version.rows) rows) [] =
+    last ∙ ap (λ (d : DraftView). with_batch d [])
+    (second.rest ∙ ap (λ (d : DraftView). with_rows d rows)
+    (first.rest ∙ ap (λ (d : DraftView). with_rows d put.version.rows) is)) in
+    subst IsWhole (sym same) (record {
+      names_are = refl;
+      kinds_are = refl;
+      version = record {
+        rows = bare rows none;
+        within = λ k is. absurd (true≢false (sym is ∙ ap is_some (get-empty key_cmp k)));
+        small = record { names = omega arith; kinds = omega arith; count = omega arith };
+      };
+    })

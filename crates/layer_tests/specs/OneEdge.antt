@@ -1,0 +1,11 @@
+-- One edge, from a to b of kind k, of weight 5 and time 10: the batch that inserts it, and a block that has it.
+use Rattle.std.specs.Prelude.{ℕ, pos, codes, List, [], ◌∷◌}
+use Rattle.graph_model.specs.declared.batches.NamedOp.{NamedOp}
+use Rattle.graph_model.specs.declared.batches.NamedOp.TheVariants.{Insert}
+use Rattle.edge_block.specs.Slots.{BlockView, empty_block, with_slots, put_slot, edge_slot, empty_slots}
+
+abbrev pub one_insert : List NamedOp
+one_insert = Insert (codes "k") (codes "a") (codes "b") (pos 5) 10 ∷ []
+
+abbrev pub one_edge_block : ℕ → BlockView
+one_edge_block number = with_slots (empty_block number 0 0) (put_slot (edge_slot 1 (pos 5) 10 10) empty_slots)

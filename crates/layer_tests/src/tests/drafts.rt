@@ -1,0 +1,168 @@
+ghost use Rattle.std.specs.Prelude.{◌≡◌, IfOk};
+ghost use Rattle.graph_version.specs.Versions.{empty_version};
+ghost use Rattle.layer_tests.specs.OneEdge as edge;
+
+use batch_plan::{Plan, plan};
+use block_pool::Pool;
+use edge_block::Block;
+use graph_model::{Batch, KindId, Name, NamedOp, VertexId};
+use graph_version::{Version, VersionDraft};
+use std::alloc::{AllocError, Global};
+use std::io::Print;
+use std::process::Abort;
+use std::sync::Arc;
+use std::test::Fail;
+
+// Tells `tools/refuse-each-growth` that a growth was refused.
+fn tell_refused(rt: &impl Print) {
+    let _ = println!(rt; "refused");
+}
+
+// The version has so many batches, and no name, edge or block.
+fn assert_bare(rt: &impl Abort, version: &Version, number: u64) {
+    assert_eq!(rt; version.number(), number);
+    assert_eq!(rt; version.batches().count() as u64, number);
+    assert_eq!(rt; version.last_batch().is_some(), number > 0);
+    assert_eq!(rt; version.names().len(), 0);
+    assert_eq!(rt; version.kinds().len(), 0);
+    assert_edgeless(rt, version);
+}
+
+// The version has no edge or block.
+fn assert_edgeless(rt: &impl Abort, version: &Version) {
+    assert_eq!(rt; version.edge_count(), 0);
+    assert!(rt; version.edge(KindId(0), VertexId(0), VertexId(1)).is_none());
+    assert!(rt; version.row(VertexId(0)).next().is_none());
+    assert!(rt; version.row_blocks(VertexId(0)).is_empty());
+    assert!(rt; version.blocks().next().is_none());
+}
+
+// A granted block for source 0 and kind 0 with an edge of weight 5 to target 1.
+fn filled(number: u32) -> Block
+    ensures { result ≡ edge.one_edge_block number }
+{
+    let mut block = Block::blank(number);
+    block.clear_for(VertexId(0), KindId(0));
+    block.put(1, 5, 10, 10);
+    block
+}
+
+// The version of one batch without operations: a row is put into the draft, and taken back.
+fn put_and_taken_back(alloc: Global, before: &Version) -> Result<Version, AllocError>
+    requires { before.now ≡ empty_version }
+{
+    let mut row = Vec::new(alloc);
+    row.push(Arc::new(alloc, filled(7))?)?;
+    let drafted = VersionDraft::over(before)?;
+    let put = drafted.replace_row(VertexId(0), row)?;
+    let taken = put.replace_row(VertexId(0), Vec::new(alloc))?;
+    let batch = Arc::new(alloc, Batch::new(alloc))?;
+    taken.push_batch(batch)?.finish()
+}
+
+#[test]
+fn leaves_the_version_before(rt: HostRuntime) -> Result<(), Fail> {
+    let before = Version::empty(rt.alloc());
+    assert_bare(&rt, &before, 0);
+    let after = put_and_taken_back(rt.alloc(), &before)?;
+    assert_bare(&rt, &after, 1);
+    assert_bare(&rt, &before, 0);
+    Ok(())
+}
+
+#[test]
+fn refused_drafts_leave_the_version(rt: HostRuntime) {
+    let before = Version::empty(rt.alloc());
+    let after = match put_and_taken_back(rt.alloc(), &before) {
+        Ok(after) => after,
+        Err(_) => {
+            tell_refused(&rt);
+            assert_bare(&rt, &before, 0);
+            put_and_taken_back(rt.alloc(), &before).expect(&rt, "one growth alone is refused")
+        }
+    };
+    assert_bare(&rt, &before, 0);
+    assert_bare(&rt, &after, 1);
+}
+
+// A name of this text.
+fn name(alloc: Global, text: &str) -> Result<Name, AllocError>
+    ensures { IfOk result (λ name. name ≡ text.now) }
+{
+    Ok(Name::of(String::from_str(alloc, text)?))
+}
+
+// The batch that inserts the edge from a to b.
+fn one_insert(alloc: Global) -> Result<Batch, AllocError>
+    ensures { IfOk result (λ batch. batch ≡ edge.one_insert) }
+{
+    let mut batch = Batch::new(alloc);
+    let op = NamedOp::Insert {
+        kind: name(alloc, "k")?,
+        source: name(alloc, "a")?,
+        target: name(alloc, "b")?,
+        weight: 5,
+        time: 10,
+    };
+    match batch.push(op) {
+        Ok(()) => Ok(batch),
+        Err(_) => Err(AllocError),
+    }
+}
+
+// The version of one edge, made by hand: its names, its row of one block with this number, and its batch.
+fn of_one_edge(alloc: Global, before: &Version, number: u32) -> Result<Version, AllocError>
+    requires { before.now ≡ empty_version }
+{
+    let batch = one_insert(alloc)?;
+    let Ok(planned) = plan(alloc, before, &batch, 1) else {
+        return Err(AllocError);
+    };
+    let Plan {
+        names,
+        kinds,
+        shards: _shards,
+    } = planned;
+    let mut row = Vec::new(alloc);
+    row.push(Arc::new(alloc, filled(number))?)?;
+    let shared = VersionDraft::over(before)?;
+    let drafted = shared.set_names(names, kinds);
+    let put = drafted.replace_row(VertexId(0), row)?;
+    let entered = Arc::new(alloc, batch)?;
+    put.push_batch(entered)?.finish()
+}
+
+// The version has the edge from a to b, in the block with this number.
+fn assert_one_edge(rt: &impl Abort, version: &Version, number: u32) {
+    assert_eq!(rt; version.number(), 1);
+    assert_eq!(rt; version.edge_count(), 1);
+    assert_eq!(rt; version.names().number("b"), Some(1));
+    assert_eq!(rt; version.kinds().number("k"), Some(0));
+    let mut blocks = version.blocks();
+    assert_eq!(rt; (blocks.next(), blocks.next()), (Some(number), None));
+    let mut row = version.row(VertexId(0));
+    assert_eq!(rt; (row.next().is_some(), row.next().is_some()), (true, false));
+    assert!(rt; version.row(VertexId(1)).next().is_none());
+}
+
+// The number of a block that a new pool of 16 grants.
+fn granted_number(alloc: Global) -> Result<u32, AllocError> {
+    let Ok(grant) = Pool::new(alloc, 16)?.grant(1) else {
+        return Err(AllocError);
+    };
+    grant.numbers.first().copied().ok_or(AllocError)
+}
+
+#[test]
+fn makes_a_version_of_one_edge(rt: HostRuntime) -> Result<(), Fail> {
+    let number = granted_number(rt.alloc())?;
+    let before = Version::empty(rt.alloc());
+    let after = of_one_edge(rt.alloc(), &before, number)?;
+    assert_one_edge(&rt, &after, number);
+    let Some(found) = after.edge(KindId(0), VertexId(0), VertexId(1)) else {
+        panic!(&rt; "the edge is there")
+    };
+    assert_eq!(&rt; (*found.weight, *found.first, *found.recent), (5, 10, 10));
+    assert_bare(&rt, &before, 0);
+    Ok(())
+}

@@ -1,0 +1,201 @@
+//! Levels and labels of small views, with values written by hand from the definitions, and of a long path.
+
+use graph_levels::{LevelError, labels, labels_over, levels, levels_over};
+use graph_model::{Filter, VertexId};
+use graph_version::Version;
+use std::alloc::{AllocError, Global};
+use std::test::Fail;
+use view_edges::ListedArcs;
+
+/// How many vertices, the arcs, the source, the levels from it, and the labels.
+type Case = (
+    u16,
+    &'static [(u32, u32)],
+    u32,
+    &'static [Option<u32>],
+    &'static [u32],
+);
+
+fn view(alloc: Global, count: u16, arcs: &[(u32, u32)]) -> Result<ListedArcs, AllocError> {
+    Ok(ListedArcs {
+        count,
+        arcs: Vec::from_slice(alloc, arcs)?,
+    })
+}
+
+/// Whether these are the levels from a source that is a vertex; nothing where memory is refused.
+fn are_levels(
+    alloc: Global,
+    edges: &ListedArcs,
+    source: u32,
+    wanted: &[Option<u32>],
+) -> Option<bool> {
+    if source >= edges.count as u32 {
+        return Some(false);
+    }
+    match levels_over(alloc, edges, VertexId(source)) {
+        Ok(levels) => Some(levels.as_slice() == wanted),
+        Err(AllocError) => None,
+    }
+}
+
+/// Whether these are the labels; nothing where memory is refused.
+fn are_labels(alloc: Global, edges: &ListedArcs, wanted: &[u32]) -> Option<bool> {
+    match labels_over(alloc, edges) {
+        Ok(labels) => Some(labels.as_slice() == wanted),
+        Err(AllocError) => None,
+    }
+}
+
+/// Small views.
+const CASES: [Case; 7] = [
+    // a triangle with a tail, from its corner and from the tail's end
+    (
+        4,
+        &[(0, 1), (1, 2), (2, 0), (2, 3)],
+        0,
+        &[Some(0), Some(1), Some(2), Some(3)],
+        &[0, 0, 0, 0],
+    ),
+    (
+        4,
+        &[(0, 1), (1, 2), (2, 0), (2, 3)],
+        3,
+        &[None, None, None, Some(0)],
+        &[0, 0, 0, 0],
+    ),
+    // levels go by direction, and labels against it too
+    (2, &[(1, 0)], 0, &[Some(0), None], &[0, 0]),
+    // loops, and an arc twice
+    (
+        4,
+        &[(0, 0), (0, 1), (0, 1), (2, 2)],
+        0,
+        &[Some(0), Some(1), None, None],
+        &[0, 0, 2, 3],
+    ),
+    // the shorter of two ways
+    (
+        5,
+        &[(0, 1), (1, 2), (2, 3), (0, 3), (3, 4)],
+        0,
+        &[Some(0), Some(1), Some(2), Some(1), Some(2)],
+        &[0, 0, 0, 0, 0],
+    ),
+    // trees that are joined by their ends
+    (
+        6,
+        &[(3, 4), (1, 2), (2, 4)],
+        3,
+        &[None, None, None, Some(0), Some(1), None],
+        &[0, 1, 1, 1, 1, 5],
+    ),
+    // one vertex, and an arc to none
+    (1, &[(0, 1)], 0, &[Some(0)], &[0]),
+];
+
+#[test]
+fn small_views_have_their_levels_and_labels(rt: HostRuntime) -> Result<(), Fail> {
+    for (count, arcs, source, wanted_levels, wanted_labels) in CASES {
+        let edges = view(rt.alloc(), count, arcs)?;
+        assert_eq!(rt;
+            are_levels(rt.alloc(), &edges, source, wanted_levels),
+            Some(true)
+        );
+        assert_eq!(rt; are_labels(rt.alloc(), &edges, wanted_labels), Some(true));
+    }
+    Ok(())
+}
+
+#[test]
+fn no_vertices_have_no_labels(rt: HostRuntime) -> Result<(), Fail> {
+    let edges = view(rt.alloc(), 0, &[])?;
+    assert_eq!(rt; are_labels(rt.alloc(), &edges, &[]), Some(true));
+    Ok(())
+}
+
+/// A path of so many vertices, from the last down to the first.
+fn path(alloc: Global, count: u16) -> Result<ListedArcs, AllocError> {
+    let mut arcs = Vec::new(alloc);
+    for vertex in 1..count {
+        arcs.push((vertex as u32, vertex as u32 - 1))?;
+    }
+    Ok(ListedArcs { count, arcs })
+}
+
+/// The greatest level from the last vertex of a path, and the greatest label; nothing where memory is refused.
+fn path_ends(alloc: Global, count: u16) -> Option<(Option<u32>, Option<u32>)> {
+    let edges = path(alloc, count).ok()?;
+    let last = (count as u32).checked_sub(1)?;
+    if last >= edges.count as u32 {
+        return None;
+    }
+    let far = {
+        let table = levels_over(alloc, &edges, VertexId(last)).ok()?;
+        table.first().copied()?
+    };
+    let least = labels_over(alloc, &edges).ok()?;
+    Some((far, least.last().copied()))
+}
+
+#[test]
+fn a_long_path_is_one_part(rt: HostRuntime) {
+    assert_eq!(rt; path_ends(rt.alloc(), 3000), Some((Some(2999), Some(0))));
+}
+
+#[test]
+fn refused_tables_leave_the_view(rt: HostRuntime) -> Result<(), Fail> {
+    let Ok(edges) = view(rt.alloc(), 3, &[(0, 1), (1, 2)]) else {
+        println!(rt; "refused")?;
+        return Ok(());
+    };
+    let told = (
+        are_levels(rt.alloc(), &edges, 0, &[Some(0), Some(1), Some(2)]),
+        are_labels(rt.alloc(), &edges, &[0, 0, 0]),
+    );
+    assert_eq!(rt; edges.arcs.as_slice(), [(0, 1), (1, 2)].as_slice());
+    match told {
+        (Some(right), Some(same)) => assert!(rt; right && same),
+        (None, Some(same)) => {
+            assert!(rt; same);
+            println!(rt; "refused")?;
+        }
+        (levels, _) => {
+            assert_eq!(rt; levels, Some(true));
+            println!(rt; "refused")?;
+        }
+    }
+    Ok(())
+}
+
+/// All edges.
+const ALL: Filter = Filter {
+    kind: None,
+    lo: 0,
+    hi: u64::MAX,
+};
+
+/// How many levels a version without batches has from the first vertex.
+fn levels_at_the_opening(alloc: Global) -> Result<usize, LevelError> {
+    match levels(alloc, &Version::empty(alloc), VertexId(0), &ALL) {
+        Ok(table) => Ok(table.len()),
+        Err(error) => Err(error),
+    }
+}
+
+/// How many labels it has; nothing where memory is refused.
+fn labels_at_the_opening(alloc: Global) -> Option<usize> {
+    match labels(alloc, &Version::empty(alloc), &ALL) {
+        Ok(table) => Some(table.len()),
+        Err(AllocError) => None,
+    }
+}
+
+#[test]
+fn a_version_without_vertices(rt: HostRuntime) {
+    assert_eq!(rt;
+        levels_at_the_opening(rt.alloc()),
+        Err(LevelError::NoVertex)
+    );
+    assert_eq!(rt; labels_at_the_opening(rt.alloc()), Some(0));
+}

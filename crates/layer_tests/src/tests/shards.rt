@@ -1,0 +1,152 @@
+ghost use Rattle.std.specs.Prelude.{◌≡◌, IfOk, ◌≤◌, length};
+ghost use Rattle.shard_work.specs.Shards.{AreSteps};
+ghost use Rattle.graph_model.specs.Changes.{IsChange};
+
+use edge_block::Block;
+use graph_model::{EdgeChange, KindId, Outcome, VertexId};
+use graph_version::Version;
+use shard_work::{Place, Shard, ShardDone, Step, work_on};
+use std::alloc::{AllocError, Global};
+use std::io::Print;
+use std::process::Abort;
+use std::sync::Arc;
+use std::test::Fail;
+
+/// What a letter says of an edge, with a number: `i` inserts, `+` adds to the weight, `m` inserts the greatest weight,
+/// and `-` removes.
+fn change_by(letter: u8, number: i8) -> EdgeChange
+    ensures { IsChange result }
+{
+    let number = i64::from(number);
+    match letter {
+        b'i' => EdgeChange::Insert {
+            weight: number,
+            time: 1,
+        },
+        b'+' => EdgeChange::Incr {
+            amount: number,
+            time: 2,
+        },
+        b'm' => EdgeChange::Insert {
+            weight: 1 << 40,
+            time: 3,
+        },
+        _ => EdgeChange::Remove,
+    }
+}
+
+/// The shard of one source, of a table of letters, targets and numbers.
+fn shard_of(alloc: Global, table: &[(u8, u32, i8)]) -> Result<Shard, AllocError>
+    ensures fresh { IfOk result (λ s. length s.steps.items ≤ length s.fresh.items) }
+    ensures steps { IfOk result (λ s. AreSteps 1 s.steps.items) }
+    ensures sources { IfOk result (λ s. length s.sources.items ≡ 1) }
+{
+    let mut steps = Vec::new(alloc);
+    let mut fresh = Vec::new(alloc);
+    let mut op = 0;
+    for (letter, target, number) in table {
+        fresh.push(Arc::new(alloc, Block::blank(op))?)?;
+        steps.push(Step {
+            op,
+            place: Some(Place {
+                row: 0,
+                kind: KindId(0),
+                target: *target,
+            }),
+            change: change_by(*letter, *number),
+        })?;
+        op = op.wrapping_add(1);
+    }
+    let mut sources = Vec::new(alloc);
+    sources.push(VertexId(7))?;
+    Ok(Shard {
+        sources,
+        steps,
+        fresh,
+    })
+}
+
+/// What the work on a table leaves of an empty graph.
+fn work(alloc: Global, table: &[(u8, u32, i8)]) -> Result<ShardDone, AllocError> {
+    let shard = shard_of(alloc, table)?;
+    work_on(alloc, &Version::empty(alloc), shard)
+}
+
+/// A table that inserts the targets below a number.
+fn inserts(alloc: Global, count: u32) -> Result<Vec<(u8, u32, i8)>, AllocError> {
+    let mut table = Vec::new(alloc);
+    for target in 0..count {
+        table.push((b'i', target, 1))?;
+    }
+    Ok(table)
+}
+
+/// What the work on insertions of the targets below a number leaves.
+fn work_on_inserts(alloc: Global, count: u32) -> Result<ShardDone, AllocError> {
+    let table = inserts(alloc, count)?;
+    work(alloc, table.as_slice())
+}
+
+// Two blocks are taken, the first of which is full.
+fn check_overflow(rt: &impl Abort, done: &ShardDone) {
+    assert_eq!(rt; done.left.taken.len(), 2);
+    assert_eq!(rt; done.left.unused.len(), 31);
+    assert_eq!(rt; done.left.dropped.len(), 0);
+    assert_eq!(rt; done.rows.len(), 1);
+    assert_eq!(rt; done.rows[0].0, VertexId(7));
+    let row = done.rows[0].1.as_slice();
+    assert_eq!(rt; row.len(), 2);
+    assert_eq!(rt; (row[0].len(), row[1].len()), (32, 1));
+    assert!(rt; row[1].find(32).is_some());
+}
+
+#[test]
+fn fills_a_block_and_appends_a_second(rt: HostRuntime) -> Result<(), Fail> {
+    check_overflow(&rt, &work_on_inserts(rt.alloc(), 33)?);
+    Ok(())
+}
+
+/// Tables of one source's operations from an empty graph: the outcomes, the blocks taken, and the targets' weights.
+#[test]
+fn works_by_the_operation_rule(rt: HostRuntime) -> Result<(), Fail> {
+    let all = [
+        (b'i', 5, 1),
+        (b'+', 5, 2),
+        (b'm', 6, 0),
+        (b'+', 6, 1),
+        (b'-', 5, 0),
+        (b'-', 5, 0),
+    ];
+    let done = work(rt.alloc(), &all)?;
+    let mut outcomes = done.outcomes.as_slice().iter().map(|entry| entry.1);
+    assert_eq!(rt; outcomes.next(), Some(Outcome::Inserted));
+    assert_eq!(rt; outcomes.next(), Some(Outcome::Updated));
+    assert_eq!(rt; outcomes.next(), Some(Outcome::Inserted));
+    assert_eq!(rt; outcomes.next(), Some(Outcome::Overflow));
+    assert_eq!(rt; outcomes.next(), Some(Outcome::Removed));
+    assert_eq!(rt; outcomes.next(), Some(Outcome::Absent));
+    assert_eq!(rt; outcomes.next(), None);
+    assert_eq!(rt; (done.left.taken.len(), done.left.unused.len()), (1, 5));
+    Ok(())
+}
+
+/// A block that the batch fills and empties again is in no row, and is handed back.
+#[test]
+fn leaves_an_emptied_block_out(rt: HostRuntime) -> Result<(), Fail> {
+    let done = work(rt.alloc(), &[(b'i', 5, 1), (b'-', 5, 0)])?;
+    assert_eq!(rt; (done.left.taken.len(), done.left.unused.len()), (0, 2));
+    assert_eq!(rt; done.rows.len(), 1);
+    assert_eq!(rt; done.rows[0].1.len(), 0);
+    Ok(())
+}
+
+#[test]
+fn refused_work_gives_the_shard_up(rt: HostRuntime) -> Result<(), Fail> {
+    if let Err(AllocError) = work(
+        rt.alloc(),
+        &[(b'i', 5, 1), (b'+', 5, 1), (b'i', 6, 1), (b'-', 5, 0)],
+    ) {
+        println!(rt; "refused")?;
+    }
+    Ok(())
+}

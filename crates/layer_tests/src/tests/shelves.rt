@@ -1,0 +1,84 @@
+ghost use Rattle.std.specs.Prelude.{◌≡◌, [], ◌∷◌, IfOk};
+ghost use Rattle.std.specs.Arc.{arc_value};
+ghost use Rattle.graph_version.specs.declared.versions.Version.{Version};
+ghost use Rattle.graph_version.specs.Versions.{empty_version};
+ghost use Rattle.version_shelf.specs.Shelves.{opened_shelf};
+
+use graph_model::Batch;
+use graph_version::{Version, VersionDraft};
+use std::alloc::{AllocError, Global};
+use std::io::Print;
+use std::process::Abort;
+use std::sync::{Arc, Wait};
+use std::test::Fail;
+use version_shelf::{ShelfReader, ShelfWriter, shelf};
+
+// Tells `tools/refuse-each-growth` that a growth was refused.
+fn tell_refused(rt: &impl Print) {
+    let _ = println!(rt; "refused");
+}
+
+// The version of one batch without operations.
+fn one_batch(alloc: Global) -> Result<Arc<Version>, AllocError>
+    ensures { IfOk result (λ v. arc_value {X = Version} v ≡ record empty_version { batches = [] ∷ [] }) }
+{
+    let draft = VersionDraft::over(&Version::empty(alloc))?;
+    let batch = Arc::new(alloc, Batch::new(alloc))?;
+    let version = draft.push_batch(batch)?.finish()?;
+    Ok(Arc::new(alloc, version)?)
+}
+
+// Posts the version of one batch; the first reader learns of it. Each reader enters before and after.
+fn numbers_entered<R: Wait>(
+    rt: &R,
+    alloc: Global,
+    writer: &mut ShelfWriter,
+    first: &mut ShelfReader,
+    second: &mut ShelfReader,
+) -> Result<[u64; 4], AllocError>
+    requires writer { writer.old ≡ opened_shelf writer.old.book empty_version }
+    requires first { first.old ≡ record { book = writer.old.book; version = empty_version } }
+    requires second { second.old ≡ record { book = writer.old.book; version = empty_version } }
+{
+    let before = [first.enter().number(), second.enter().number()];
+    let told = writer.post(rt, one_batch(alloc)?)?;
+    first.learn(&told)?;
+    let after = [first.enter().number(), second.enter().number()];
+    Ok([before[0], before[1], after[0], after[1]])
+}
+
+// The numbers entered over a new shelf, or nothing where a growth was refused.
+fn over_a_new_shelf<R: Wait>(rt: &R, alloc: Global) -> Option<[u64; 4]> {
+    let Ok((mut writer, mut readers)) = shelf(rt, alloc, Version::empty(alloc), 2) else {
+        return None;
+    };
+    let mut second = readers.pop()?;
+    let mut first = readers.pop()?;
+    numbers_entered(rt, alloc, &mut writer, &mut first, &mut second).ok()
+}
+
+#[test]
+fn shows_a_posted_version_to_each_reader(rt: HostRuntime) {
+    assert_eq!(rt; over_a_new_shelf(&rt, rt.alloc()), Some([0, 0, 1, 1]));
+}
+
+#[test]
+fn refused_growths_leave_the_shelf(rt: HostRuntime) {
+    let entered = match over_a_new_shelf(&rt, rt.alloc()) {
+        Some(entered) => entered,
+        None => {
+            // The shelf wasn't opened, or the version that was to be posted wasn't made.
+            tell_refused(&rt);
+            over_a_new_shelf(&rt, rt.alloc()).expect(&rt, "one growth alone is refused")
+        }
+    };
+    let [first_before, second_before, first_after, second_after] = entered;
+    assert_eq!(rt; [first_before, second_before], [0, 0]);
+    // Who learnt of a posted version enters it, also where the growth that would show it was refused.
+    assert_eq!(rt; first_after, 1);
+    if second_after == 0 {
+        tell_refused(&rt);
+    } else {
+        assert_eq!(rt; second_after, 1);
+    }
+}

@@ -1,0 +1,4 @@
+// The types, and the slow functions over them.
+
+mod plain;
+mod types;

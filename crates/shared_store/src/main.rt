@@ -1,0 +1,145 @@
+//! A store that threads share, as an example: one thread feeds two batches, and two readers hold a version each meanwhile. What it
+//! prints is the same whatever the schedule.
+#![tactic(auto)]
+
+mod feeder;
+mod readers;
+mod signs;
+
+ghost use Rattle.std.specs.Prelude.{◌≡◌, All};
+ghost use Rattle.graph_model.specs.Step.{empty_graph};
+ghost use Rattle.stream_store.specs.Seats.{IsNewSeat};
+ghost use Rattle.stream_store.specs.Stores.{IsOfOpening};
+
+use crate::feeder::feed;
+use crate::readers::{Sight, read};
+use crate::signs::Signs;
+use seat_board::Board;
+use std::alloc::Global;
+use std::io;
+use std::marker::Brand;
+use std::process::ExitCode;
+use std::sync::Wait;
+use std::thread::{Threads, join};
+use stream_store::{Collected, Config, Desk, Naming, Seat, Store, open_parts};
+
+/// What the readers held, and two collections: while they held it, and after.
+#[derive(Clone, Copy)]
+struct Report {
+    first: Sight,
+    second: Sight,
+    held: Collected,
+    released: Collected,
+}
+
+/// What both readers saw, and what was collected while they held their versions.
+fn told_by_all<J: Naming + Send + Sync, R: Threads + Wait + Sync>(
+    rt: &R,
+    alloc: Global,
+    store: &Store<J>,
+    first: Seat,
+    second: Seat,
+) -> (Collected, (Option<Sight>, Option<Sight>))
+    requires first { IsOfOpening J.book first.seen }
+    requires second { IsOfOpening J.book second.seen }
+{
+    let signs = Signs::new();
+    join(
+        rt,
+        || feed(rt, alloc, store, &signs),
+        || -> (Option<Sight>, Option<Sight>)
+            requires { IsOfOpening J.book first.seen × IsOfOpening J.book second.seen }
+        { read_both(rt, store, &signs, first, second) },
+    )
+}
+
+/// What both readers saw, each in a thread of its own.
+fn read_both<J: Naming + Send + Sync, R: Threads + Wait + Sync>(
+    rt: &R,
+    store: &Store<J>,
+    signs: &Signs<J>,
+    first: Seat,
+    second: Seat,
+) -> (Option<Sight>, Option<Sight>)
+    requires first { IsOfOpening J.book first.seen }
+    requires second { IsOfOpening J.book second.seen }
+{
+    join(
+        rt,
+        || -> Option<Sight>
+            requires { IsOfOpening J.book first.seen }
+        { read(rt, store, &signs.first, &signs.collected, first) },
+        || -> Option<Sight>
+            requires { IsOfOpening J.book second.seen }
+        { read(rt, store, &signs.second, &signs.collected, second) },
+    )
+}
+
+/// The whole over a new store; nothing where a growth was refused.
+fn report_over<J: Naming + Send + Sync, R: Threads + Wait + Sync>(
+    rt: &R,
+    alloc: Global,
+    desk: Desk,
+    board: Board,
+    mut seats: Vec<Seat>,
+) -> Option<Report>
+    requires book { desk.book ≡ J.book }
+    requires opening { desk.desk.last.opening ≡ empty_graph }
+    requires seats { All (IsNewSeat J.book) seats.items }
+{
+    let second = seats.pop()?;
+    let first = seats.pop()?;
+    let store = Store::<J>::over(desk, board);
+    let (held, sights) = told_by_all(rt, alloc, &store, first, second);
+    let released = store.collect(rt);
+    match sights {
+        (Some(first), Some(second)) => Some(Report {
+            first,
+            second,
+            held,
+            released,
+        }),
+        _ => None,
+    }
+}
+
+fn over_a_new_store<R: Threads + Wait + Sync>(rt: &R, alloc: Global) -> Option<Report> {
+    let config = Config::new(2, 16, 2).ok()?;
+    let Ok((desk, board, seats)) = open_parts(rt, alloc, config) else {
+        return None;
+    };
+    report_over::<Brand, R>(rt, alloc, desk, board, seats)
+}
+
+fn print_sight(rt: &impl Print, reader: u32, sight: Sight) -> io::Result<()> {
+    println!(rt;
+        "reader {reader} holds version {}: {} names, {} edges",
+        sight.number, sight.names, sight.edges
+    )
+}
+
+fn print_collected(rt: &impl Print, when: &str, collected: Collected) -> io::Result<()> {
+    println!(rt;
+        "{when}: floor {}, {} recycled, {} retired",
+        collected.floor, collected.recycled, collected.retired
+    )
+}
+
+fn print_report(rt: &impl Print, report: Report) -> io::Result<()> {
+    print_sight(rt, 1, report.first)?;
+    print_sight(rt, 2, report.second)?;
+    print_collected(rt, "while both hold them", report.held)?;
+    print_collected(rt, "after they let them go", report.released)
+}
+
+fn main(rt: HostRuntime) -> ExitCode {
+    let printed = match over_a_new_store(&rt, rt.alloc()) {
+        Some(report) => print_report(&rt, report).is_ok(),
+        None => false,
+    };
+    if printed {
+        ExitCode::SUCCESS
+    } else {
+        ExitCode::FAILURE
+    }
+}

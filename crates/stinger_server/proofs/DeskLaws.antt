@@ -1,0 +1,286 @@
+-- A desk that shows a state: what batches, collections and counts come to.
+use Rattle.std.proofs.Common.{◌≡◌, ◌≢◌, ℕ, zero, suc, ◌+◌, ◌-◌, ◌<◌, ◌≤◌, Bool, true, false, cond, ◌&&◌, List, [], ◌∷◌, ◌++◌}
+use Rattle.std.proofs.Common.{length, map}
+use Rattle.std.proofs.Common.{count_by, filter, replicate, refl, sym, ap, subst, ◌∙◌, arith}
+use Rattle.std.specs.Prelude.{Option, None, Some, Ok, Err, nat_le, nat_lt, if◌then◌else◌}
+use Rattle.std.specs.FinMap.{len}
+use Rattle.std.proofs.lemmas.Bool.Decides.{nat_tests}
+use Rattle.std.proofs.lemmas.List.{length-append}
+use Rattle.std.proofs.lemmas.List.Sums.{length-filter}
+use Rattle.batch_apply.proofs.Kept.{count_append}
+use Rattle.block_layout.specs.Batches.{dropped_by, layout_after, taken_by}
+use Rattle.block_pool.specs.Pools.{Status, Free, Used, Retired, is_free, is_past, is_retired, is_used}
+use Rattle.block_pool.proofs.Tallies.{count_more, count_true}
+use Rattle.feed_csv.specs.declared.command.Command.TheVariants.{Collect, Commit, Stat}
+use Rattle.graph_model.specs.Graph.{Graph}
+use Rattle.graph_model.specs.GraphLimits.{MeetsKindLimit, MeetsNameLimit}
+use Rattle.graph_model.specs.Limits.{batch_limit, kind_limit, name_limit}
+use Rattle.graph_model.specs.Step.{after_all, left_by, outcomes}
+use Rattle.graph_model.specs.declared.batches.NamedOp.{NamedOp}
+use Rattle.graph_model.specs.declared.batches.Outcome.{Outcome}
+use Rattle.graph_version.specs.Kept.{edge_total}
+use Rattle.graph_version.specs.Versions.{content, layout_of}
+use Rattle.store_journal.specs.Desks.{DeskView, IsAccepted, IsCollected, AcceptedCounts, CollectedCounts, is_retired_by}
+use Rattle.store_journal.specs.Opening.{opened_desk}
+use Rattle.store_journal.specs.Steps.{Accepts}
+use Rattle.store_journal.proofs.StatusCounts.{accepted_counts, collected_counts}
+use Rattle.stream_store.specs.Configs.{ConfigView}
+use Rattle.stream_store.specs.Refusals.{IsWithin, Refuses}
+use Rattle.stream_store.specs.declared.receipts.ApplyError.{ApplyError}
+use Rattle.stream_store.specs.declared.receipts.ApplyError.TheVariants as refused
+use Rattle.stinger_server.specs.Lines.{collect_line, commit_line, stat_line}
+use Rattle.stinger_server.specs.Servers.{ShowsDesk, batch_word}
+use Rattle.stinger_server.specs.States.{IsDone, State, after_collect, after_commit, beginning, commit_refusal, dropped, floor_of}
+use Rattle.stinger_server.specs.States.{last_version, left_by_pending, recycled, set_up, taken}
+use Rattle.stinger_server.specs.declared.words.Word.TheVariants.{BatchLimit, KindsFull, NamesFull, PoolEmpty}
+
+-- Counts
+
+same_counts : (p q : Status → Bool) → ((s : Status) → p s ≡ q s) → (pool : List Status) → count_by p pool ≡ count_by q pool
+same_counts p q same [] = refl
+same_counts p q same (s ∷ pool) =
+    let a = count_more p s pool in
+    let b = count_more q s pool in
+    let one : (let n : ℕ = cond (p s) 1 0 in n) ≡ cond (q s) 1 0 = ap (λ t. cond t 1 0) (same s) in
+    let rest = same_counts p q same pool in
+    omega arith
+
+retired_any : (s : Status) → is_retired s ≡ is_retired_by (λ number. true) s
+retired_any Free = refl
+retired_any Used = refl
+retired_any (Retired version) = refl
+
+past_any : (floor : ℕ) (s : Status) → is_past floor s ≡ is_retired_by (λ number. nat_le number floor) s
+past_any floor Free = refl
+past_any floor Used = refl
+past_any floor (Retired version) = refl
+
+-- each block is free, retired or used
+parts_one : (s : Status) → (let n : ℕ = cond (is_free s) 1 0 in n) + cond (is_retired s) 1 0 + cond (is_used s) 1 0 ≡ 1
+parts_one Free = refl
+parts_one Used = refl
+parts_one (Retired version) = refl
+
+parts : (pool : List Status) → count_by is_free pool + count_by is_retired pool + count_by is_used pool ≡ length pool
+parts [] = refl
+parts (s ∷ pool) =
+    let a = count_more is_free s pool in
+    let b = count_more is_retired s pool in
+    let c = count_more is_used s pool in
+    let one = parts_one s in
+    let rest = parts pool in
+    omega arith
+
+count_filter : {X : Type 0} (p q : X → Bool) (xs : List X) → count_by (λ x. p x && q x) xs ≡ count_by q (filter p xs)
+count_filter p q [] = refl
+count_filter p q (x ∷ xs) =
+    let rest = count_filter p q xs in
+    let one = count_more (λ x. p x && q x) x xs in
+    elim (p x) as (λ t. p x ≡ t → count_by (λ x. p x && q x) (x ∷ xs) ≡ count_by q (if t then x ∷ filter p xs else filter p xs)) [
+      | true ↦ λ e. (let here : (let n : ℕ = cond (p x && q x) 1 0 in n) ≡ cond (q x) 1 0 = ap (λ t. cond (t && q x) 1 0) e in
+          let more = count_more q x (filter p xs) in omega arith)
+      | false ↦ λ e. (let here : (let n : ℕ = cond (p x && q x) 1 0 in n) ≡ 0 = ap (λ t. cond (t && q x) 1 0) e in omega arith)
+    ] refl
+
+-- how many are retired is how many numbers there are
+all_retired : (d : DeskView) (s : State) → ShowsDesk d s → count_by is_retired d.pool ≡ length s.retired
+all_retired d s shows =
+    same_counts is_retired (is_retired_by (λ number. true)) retired_any d.pool
+    ∙ (shows.retired (λ number. true) ∙ count_true s.retired)
+
+-- The opening
+
+none_counted : (p : Status → Bool) → p Free ≡ false → (n : ℕ) → count_by p (replicate n Free) ≡ 0
+none_counted p none zero = refl
+none_counted p none (suc n) =
+    let more = count_more p Free (replicate n Free) in
+    let here : (let k : ℕ = cond (p Free) 1 0 in k) ≡ 0 = ap (λ t. cond t 1 0) none in
+    let rest = none_counted p none n in
+    omega arith
+
+all_counted : (n : ℕ) → count_by is_free (replicate n Free) ≡ n
+all_counted zero = refl
+all_counted (suc n) =
+    let more = count_more is_free Free (replicate n Free) in let rest = all_counted n in omega arith
+
+length-replicate : (n : ℕ) → length (replicate n Free) ≡ n
+length-replicate zero = refl
+length-replicate (suc n) = ap suc (length-replicate n)
+
+pub shows_opened : (d : DeskView) (config : ConfigView) → d ≡ opened_desk config.blocks
+    → ShowsDesk d (beginning (set_up config)).state
+shows_opened d config opened = rw opened (record {
+  opening = refl;
+  batches = refl;
+  layout = refl;
+  blocks = length-replicate config.blocks;
+  free = all_counted config.blocks;
+  retired = λ q. none_counted (is_retired_by q) refl config.blocks;
+})
+
+-- A batch
+
+content_is : (d : DeskView) (s : State) → ShowsDesk d s → content d.last ≡ last_version s
+content_is d s shows = λ i. left_by (shows.batches i) (shows.opening i)
+
+left_is : (d : DeskView) (s : State) (ops : List NamedOp) → ShowsDesk d s → ops ≡ s.pending
+    → after_all ops (content d.last) ≡ left_by_pending s
+left_is d s ops shows pending = λ i. after_all (pending i) (content_is d s shows i)
+
+refusal_none : (s : State) → length s.batches < batch_limit → length (left_by_pending s).names ≤ name_limit
+    → length (left_by_pending s).kinds ≤ kind_limit → length s.pending ≤ s.free → commit_refusal s ≡ None
+refusal_none s batches names kinds blocks = grind (arith, nat_tests)
+
+refusal_batches : (s : State) → batch_limit ≤ length s.batches → commit_refusal s ≡ Some BatchLimit
+refusal_batches s batches = grind (arith, nat_tests)
+
+refusal_names : (s : State) → length s.batches < batch_limit → name_limit < length (left_by_pending s).names
+    → commit_refusal s ≡ Some NamesFull
+refusal_names s batches names = grind (arith, nat_tests)
+
+refusal_kinds : (s : State) → length s.batches < batch_limit → length (left_by_pending s).names ≤ name_limit
+    → kind_limit < length (left_by_pending s).kinds → commit_refusal s ≡ Some KindsFull
+refusal_kinds s batches names kinds = grind (arith, nat_tests)
+
+refusal_blocks : (s : State) → length s.batches < batch_limit → length (left_by_pending s).names ≤ name_limit
+    → length (left_by_pending s).kinds ≤ kind_limit → s.free < length s.pending → commit_refusal s ≡ Some PoolEmpty
+refusal_blocks s batches names kinds blocks = grind (arith, nat_tests)
+
+not_above : (m n : ℕ) → (m < n → ⊥) → n ≤ m
+not_above m n not = omega (arith, not)
+
+batches_after : (d e : DeskView) (ops : List NamedOp) → Accepts d ops e → e.last.batches ≡ d.last.batches ++ ops ∷ []
+batches_after d e ops accepts = ap (λ l. l.batches) accepts.accepted.ledger
+
+pub opening_after : (d e : DeskView) (ops : List NamedOp) → Accepts d ops e → e.last.opening ≡ d.last.opening
+opening_after d e ops accepts = accepts.accepted.opening
+
+pub commit_done : (s : State) (d e : DeskView) (ops : List NamedOp) (number : ℕ) (results : List Outcome) (lines : List ℕ)
+    → ShowsDesk d s → ops ≡ s.pending → IsWithin d.last (count_by is_free d.pool) ops → Accepts d ops e
+    → number ≡ length e.last.batches → results ≡ outcomes ops (content d.last) → lines ≡ commit_line number results
+    → IsDone Commit s (Ok lines)
+commit_done s d e ops number results lines shows pending within accepts number_is results_are lines_are =
+    let left : after_all ops (content d.last) ≡ left_by_pending s = left_is d s ops shows pending in
+    let names : length (left_by_pending s).names ≤ name_limit =
+    rw left at (not_above name_limit (length (after_all ops (content d.last)).names) within.limits.0) in
+    let kinds : length (left_by_pending s).kinds ≤ kind_limit =
+    rw left at (not_above kind_limit (length (after_all ops (content d.last)).kinds) within.limits.1) in
+    let few : length s.batches < batch_limit = rw shows.batches at within.few in
+    let blocks : length s.pending ≤ s.free = rw (pending, shows.free) at within.blocks in
+    let none : commit_refusal s ≡ None = refusal_none s few names kinds blocks in
+    let count : number ≡ length s.batches + 1 =
+    number_is ∙ (ap length (batches_after d e ops accepts) ∙ (length-append d.last.batches (ops ∷ [])
+    ∙ ap (λ b. length b + 1) shows.batches)) in
+    let outcomes_are : results ≡ outcomes s.pending (last_version s) =
+    results_are ∙ (λ i. outcomes (pending i) (content_is d s shows i)) in
+    rw (none, lines_are, count, outcomes_are) refl
+
+pub shows_committed : (s : State) (d e : DeskView) (ops : List NamedOp) → ShowsDesk d s → ops ≡ s.pending → Accepts d ops e
+    → ShowsDesk e (after_commit s)
+shows_committed s d e ops shows pending accepts =
+    let accepted = accepts.accepted in
+    let same = content_is d s shows in
+    let left = left_is d s ops shows pending in
+    let counts : AcceptedCounts d accepts.taken accepts.dropped e =
+    accepted_counts d e ops accepts.taken accepts.dropped accepted in
+    let takes : length accepts.taken ≡ taken s =
+    accepted.layout.taken_are ∙ (λ i. taken_by (pending i) (same i) (shows.layout i) (length (left i).names)) in
+    let drops : length accepts.dropped ≡ dropped s =
+    accepted.layout.dropped_are ∙ (λ i. dropped_by (pending i) (same i) (shows.layout i) (length (left i).names)) in
+    let number : length d.last.batches ≡ length s.batches = ap length shows.batches in
+    record {
+      opening = accepted.opening ∙ shows.opening;
+      batches = batches_after d e ops accepts ∙ (λ i. shows.batches i ++ pending i ∷ []);
+      layout = (λ i source. accepted.layout.rows source i) ∙ (λ i. layout_after (pending i) (same i) (shows.layout i));
+      blocks = counts.blocks ∙ shows.blocks;
+      free = omega (arith, counts.free, takes, shows.free);
+      retired = λ q. counts.retired_by q
+          ∙ ((λ i. shows.retired q i + count_by q (replicate (drops i) (number i + 1)))
+          ∙ sym (count_append q s.retired (replicate (dropped s) (length s.batches + 1))));
+    }
+
+refused_numbers : (s : State) (d : DeskView) (ops : List NamedOp) (error : ApplyError) → ShowsDesk d s → ops ≡ s.pending
+    → error ≢ refused.OutOfMemory → Refuses d.last (count_by is_free d.pool) ops error
+    → commit_refusal s ≡ Some (batch_word error)
+refused_numbers s d ops refused.BatchLimit shows pending known is = refusal_batches s (rw shows.batches at is)
+refused_numbers s d ops refused.NamesFull shows pending known is =
+    refusal_names s (rw shows.batches at is.0) (rw (left_is d s ops shows pending) at is.1)
+refused_numbers s d ops refused.KindsFull shows pending known is =
+    let left = left_is d s ops shows pending in
+    refusal_kinds s (rw shows.batches at is.0)
+    (rw left at (not_above name_limit (length (after_all ops (content d.last)).names) is.1)) (rw left at is.2)
+refused_numbers s d ops (refused.PoolEmpty needed free) shows pending known is =
+    let left = left_is d s ops shows pending in
+    refusal_blocks s (rw shows.batches at is.0)
+    (rw left at (not_above name_limit (length (after_all ops (content d.last)).names) is.1.0))
+    (rw left at (not_above kind_limit (length (after_all ops (content d.last)).kinds) is.1.1))
+    (rw (shows.free, pending) at is.4)
+refused_numbers s d ops refused.OutOfMemory shows pending known is = absurd (known refl)
+
+pub commit_refused : (s : State) (d : DeskView) (ops : List NamedOp) (error : ApplyError) → ShowsDesk d s → ops ≡ s.pending
+    → error ≢ refused.OutOfMemory → Refuses d.last (count_by is_free d.pool) ops error
+    → IsDone Commit s (Err (batch_word error))
+commit_refused s d ops error shows pending known is = rw (refused_numbers s d ops error shows pending known is) refl
+
+-- a refused batch is given up, and nothing else changes
+pub shows_given_up : (s : State) (d : DeskView) → ShowsDesk d s → ShowsDesk d (record s { pending = [] })
+shows_given_up s d shows = record {
+  opening = shows.opening;
+  batches = shows.batches;
+  layout = shows.layout;
+  blocks = shows.blocks;
+  free = shows.free;
+  retired = shows.retired;
+}
+
+-- A collection
+
+past_is : (s : State) (d : DeskView) (floor : ℕ) → ShowsDesk d s → floor ≡ floor_of s
+    → count_by (is_past floor) d.pool ≡ recycled s
+past_is s d floor shows same =
+    same_counts (is_past floor) (is_retired_by (λ number. nat_le number floor)) (past_any floor) d.pool
+    ∙ (shows.retired (λ number. nat_le number floor) ∙ ap (λ k. count_by (λ number. nat_le number k) s.retired) same)
+
+pub shows_collected : (s : State) (d e : DeskView) (floor : ℕ) → ShowsDesk d s → IsCollected d floor e → floor ≡ floor_of s
+    → ShowsDesk e (after_collect s)
+shows_collected s d e floor shows collected same =
+    let counts : CollectedCounts d floor e = collected_counts d e floor collected in
+    record {
+      opening = ap (λ v. v.opening) collected.last ∙ shows.opening;
+      batches = ap (λ v. v.batches) collected.last ∙ shows.batches;
+      layout = ap (λ v. layout_of v.rows) collected.last ∙ shows.layout;
+      blocks = counts.blocks ∙ shows.blocks;
+      free = omega (arith, counts.free, past_is s d floor shows same, shows.free);
+      retired = λ q. counts.retired_by q
+          ∙ (shows.retired (λ number. nat_lt floor number && q number)
+          ∙ (ap (λ k. count_by (λ number. nat_lt k number && q number) s.retired) same
+          ∙ count_filter (λ number. nat_lt (floor_of s) number) q s.retired));
+    }
+
+pub collect_done : (s : State) (d e : DeskView) (floor count left : ℕ) (lines : List ℕ) → ShowsDesk d s → IsCollected d floor e
+    → floor ≡ floor_of s → count ≡ count_by (is_past floor) d.pool → left ≡ count_by is_retired e.pool
+    → lines ≡ collect_line floor count left → IsDone Collect s (Ok lines)
+collect_done s d e floor count left lines shows collected same count_is left_is lines_are =
+    let gone : count ≡ recycled s = count_is ∙ past_is s d floor shows same in
+    let stay : left ≡ length (after_collect s).retired =
+    left_is ∙ all_retired e (after_collect s) (shows_collected s d e floor shows collected same) in
+    rw (lines_are, same, gone, stay) refl
+
+-- The counts
+
+pub stat_done : (s : State) (d : DeskView) (number names edges free retired used : ℕ) (lines : List ℕ) → ShowsDesk d s
+    → number ≡ length d.last.batches → names ≡ length (content d.last).names → edges ≡ edge_total d.last
+    → free ≡ count_by is_free d.pool → retired ≡ count_by is_retired d.pool → used ≡ count_by is_used d.pool
+    → lines ≡ stat_line number names edges free retired used → IsDone Stat s (Ok lines)
+stat_done s d number names edges free retired used lines shows number_is names_are edges_are free_are retired_are used_are
+    lines_are =
+    let same = content_is d s shows in
+    let a : number ≡ length s.batches = number_is ∙ ap length shows.batches in
+    let b : names ≡ length (last_version s).names = names_are ∙ ap (λ g. length g.names) same in
+    let c : edges ≡ len (last_version s).edges = edges_are ∙ ap (λ g. len g.edges) same in
+    let f : free ≡ s.free = free_are ∙ shows.free in
+    let r : retired ≡ length s.retired = retired_are ∙ all_retired d s shows in
+    let whole = parts d.pool in
+    let u : used ≡ s.blocks - (s.free + length s.retired) =
+    omega (arith, whole, used_are, free_are, retired_are, f, r, shows.blocks) in
+    rw (lines_are, a, b, c, f, r, u) refl

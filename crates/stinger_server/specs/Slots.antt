@@ -1,0 +1,47 @@
+-- Slots: each has a seat, or a session on a version that the desk lent.
+use Rattle.std.specs.Prelude.{◌≡◌, ℕ, ◌<◌, ◌≤◌, List, length, map, take, slice_get, slice_index_or, slice_set, Option, None, Some}
+use Rattle.std.specs.Option.{option_map}
+use Rattle.graph_version.specs.Versions.{VersionView, IsVersion}
+use Rattle.seat_board.specs.Board.{BoardState, pin_at}
+use Rattle.seat_board.specs.declared.board.TheConstants.{SEATS}
+use Rattle.stream_store.specs.Seats.{SeatView, SessionView, held_version}
+use Rattle.stinger_server.specs.declared.slots.Slots.{Slots}
+
+-- the number of the version that a session holds
+abbrev pub held_number : Option SessionView → Option ℕ
+held_number session = option_map (λ s. length (held_version s).batches) session
+
+abbrev pub held_numbers : Slots → List (Option ℕ)
+held_numbers slots = map held_number slots.sessions.items
+
+-- the last version, or one before it: what the first of the last version's batches left
+pub record IsEarlier (last v : VersionView) : Type 0 where
+  pub version : IsVersion v
+  pub opening : v.opening ≡ last.opening
+  pub count : length v.batches ≤ length last.batches
+  pub batches : v.batches ≡ take (length v.batches) last.batches
+
+-- a slot has its seat, or a session of it that holds the last version or one before it
+abbrev pub IsSlot : VersionView → ℕ → Option SeatView → Option SessionView → Type 0
+IsSlot last slot (Some seat) None = seat.number ≡ slot
+IsSlot last slot None (Some session) = (session.number ≡ slot) × IsEarlier last (held_version session)
+IsSlot last slot (Some seat) (Some session) = ⊥
+IsSlot last slot None None = ⊥
+
+-- the pins on the board are the held numbers, and the floor is at most the last version's number
+pub record IsPinned (last : ℕ) (board : BoardState) (sessions : List (Option SessionView)) : Type 0 where
+  pub pins : length board.pins ≡ SEATS
+  pub numbers : (slot : ℕ) → option_map (λ pin. pin.number) (pin_at board.pins slot)
+      ≡ held_number (slice_index_or sessions slot None)
+  pub floor : board.floor ≤ last
+
+pub record AreSlots (last : VersionView) (board : BoardState) (seats : List (Option SeatView))
+    (sessions : List (Option SessionView)) : Type 0 where
+  pub same_length : length seats ≡ length sessions
+  pub few : length sessions ≤ SEATS
+  pub each : (slot : ℕ) → slot < length sessions
+      → IsSlot last slot (slice_index_or seats slot None) (slice_index_or sessions slot None)
+  pub pinned : IsPinned (length last.batches) board sessions
+
+abbrev pub IsKept : VersionView → Slots → Type 0
+IsKept last slots = AreSlots last slots.board slots.seats.items slots.sessions.items

@@ -1,0 +1,29 @@
+-- A store behind locks: what its calls answer, where what the locks held is not known.
+use Rattle.std.specs.Prelude.{◌≡◌, ℕ, List, [], ◌∷◌, ◌++◌, length}
+use Rattle.logbook.specs.Pages.{Book}
+use Rattle.graph_model.specs.Step.{outcomes, left_by, empty_graph}
+use Rattle.graph_model.specs.declared.batches.NamedOp.{NamedOp}
+use Rattle.graph_model.specs.declared.batches.Outcome.{Outcome}
+use Rattle.graph_version.specs.Versions.{VersionView}
+use Rattle.version_shelf.specs.Shelves.{ToldView}
+use Rattle.stream_store.specs.Refusals.{Refuses}
+use Rattle.stream_store.specs.declared.receipts.ApplyError.{ApplyError}
+
+-- a version of the shelf of this book, which began with the empty graph
+pub record IsOfOpening (book : Book) (x : ToldView) : Type 0 where
+  pub book_is : x.book ≡ book
+  pub opening_is : x.version.opening ≡ empty_graph
+
+-- a receipt tells of a version whose batches end with this one and have its number; the outcomes are those of the operation
+-- rule over what the batches before left
+pub record IsReceiptOf (ops : List NamedOp) (number : ℕ) (results : List Outcome) (told : ToldView) : Type 0 where
+  pub earlier : List (List NamedOp)
+  pub ends : told.version.batches ≡ earlier ++ ops ∷ []
+  pub number_is : number ≡ length told.version.batches
+  pub outcomes_are : results ≡ outcomes ops (left_by earlier told.version.opening)
+
+-- there is a version, and a number of free blocks, at which the batch is so refused
+pub record IsRefusalOf (ops : List NamedOp) (e : ApplyError) : Type 0 where
+  pub last : VersionView
+  pub free : ℕ
+  pub refuses : Refuses last free ops e

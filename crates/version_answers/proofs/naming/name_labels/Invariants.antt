@@ -1,0 +1,8 @@
+use Rattle.std.proofs.Common.{◌≡◌, take}
+use Rattle.std.specs.Prelude.{zip}
+use Rattle.graph_model.specs.Answer.{names_of}
+use Rattle.graph_levels.specs.Vertices.{numbers_of}
+use Rattle.version_answers.proofs.naming.name_labels.Given as goal
+
+abbrev pub invariant-loop-vertex : goal.invariant-loop-vertex
+invariant-loop-vertex l = l.rows.items ≡ take l.vertex (zip l.names.names (names_of l.names.names (numbers_of l.labels)))

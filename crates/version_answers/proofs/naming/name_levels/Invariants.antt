@@ -1,0 +1,8 @@
+use Rattle.std.proofs.Common.{◌≡◌, take}
+use Rattle.std.specs.Prelude.{zip}
+use Rattle.std.specs.List.{filter_map}
+use Rattle.graph_model.specs.Answer.{level_row}
+use Rattle.version_answers.proofs.naming.name_levels.Given as goal
+
+abbrev pub invariant-loop-vertex : goal.invariant-loop-vertex
+invariant-loop-vertex l = l.rows.items ≡ filter_map level_row (take l.vertex (zip l.names.names l.levels))

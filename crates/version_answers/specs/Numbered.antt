@@ -1,0 +1,45 @@
+-- The answer to a request in numbers, and the same reply with names.
+use Rattle.std.specs.Prelude.{◌≡◌, ℕ, List, zip, Result, Ok, Err}
+use Rattle.std.specs.FinMap.{get}
+use Rattle.std.specs.Option.{option_map}
+use Rattle.std.specs.declared.option.Option.{Option}
+use Rattle.std.specs.declared.option.Option.TheVariants.{None, Some}
+use Rattle.graph_model.specs.Graph.{Graph}
+use Rattle.graph_model.specs.Step.{number_of, key_in}
+use Rattle.graph_model.specs.Analyses.{AreLevels, AreLabels, AreCoreNumbers}
+use Rattle.graph_model.specs.Answer.{refusal, resolved, degree_table, shown, reached, names_of}
+use Rattle.graph_model.specs.declared.ids.VertexId.{VertexId}
+use Rattle.graph_model.specs.declared.requests.Request.{Request}
+use Rattle.graph_model.specs.declared.requests.Request.TheVariants.{Levels as AskLevels, Labels as AskLabels, Cores as AskCores}
+use Rattle.graph_model.specs.declared.requests.Request.TheVariants.{Degrees as AskDegrees, OneEdge as AskOneEdge}
+use Rattle.graph_model.specs.declared.requests.Reply.{Reply}
+use Rattle.graph_model.specs.declared.requests.Reply.TheVariants as replies
+use Rattle.graph_model.specs.declared.requests.AskError.{AskError}
+use Rattle.graph_levels.specs.Vertices.{numbers_of}
+use Rattle.version_answers.specs.declared.numbered.NumberedReply.{NumberedReply}
+use Rattle.version_answers.specs.declared.numbered.NumberedReply.TheVariants.{Levels, Labels, Cores, Degrees, OneEdge}
+
+-- a reply in numbers to a request that is not refused: one table over the view, or one edge
+abbrev pub IsNumberedReply : Request → Graph → NumberedReply → Type 0
+IsNumberedReply (AskLevels source filter) g reply =
+    (levels : List (Option ℕ)) × AreLevels (resolved g filter) g (number_of g.names source) levels × (reply ≡ Levels levels)
+IsNumberedReply (AskLabels filter) g reply =
+    (labels : List VertexId) × AreLabels (resolved g filter) g (numbers_of labels) × (reply ≡ Labels labels)
+IsNumberedReply (AskCores filter) g reply =
+    (numbers : List ℕ) × AreCoreNumbers (resolved g filter) g numbers × (reply ≡ Cores numbers)
+IsNumberedReply (AskDegrees filter) g reply = reply ≡ Degrees (degree_table (resolved g filter) g)
+IsNumberedReply (AskOneEdge kind source target) g reply =
+    reply ≡ OneEdge (option_map shown (get g.edges (key_in g.names g.kinds kind source target)))
+
+-- the answer in numbers: the first refusal that holds, or else a reply
+abbrev pub IsNumberedAnswer : Request → Graph → Result NumberedReply AskError → Type 0
+IsNumberedAnswer request g (Ok reply) = (refusal request g ≡ None) × IsNumberedReply request g reply
+IsNumberedAnswer request g (Err error) = refusal request g ≡ Some error
+
+-- a reply with names in place of numbers, where these are the vertices' names
+abbrev pub named : List (List ℕ) → NumberedReply → Reply
+named names (Levels levels) = replies.Levels (reached names levels)
+named names (Labels labels) = replies.Labels (zip names (names_of names (numbers_of labels)))
+named names (Cores numbers) = replies.Cores (zip names numbers)
+named names (Degrees degrees) = replies.Degrees (zip names degrees)
+named names (OneEdge edge) = replies.OneEdge edge

@@ -1,0 +1,134 @@
+// Gates: all workers with operations work at once, and each worker arrives once.
+
+ghost use Rattle.std.specs.Prelude.{◌<◌};
+
+use super::ops::batch_of;
+use super::steps::applied_past;
+use batch_apply::{Applied, Gate};
+use graph_version::Version;
+use std::alloc::Global;
+use std::process::Abort;
+use std::sync::atomic::{AtomicBool, AtomicUsize, Ordering};
+use std::thread::{Threads, yield_now};
+
+// What a line of operations leaves of the version without batches, by so many workers that pass a gate.
+fn passed<R: Threads + Sync + Abort, G: Gate + Sync>(
+    rt: &R,
+    alloc: Global,
+    gate: &G,
+    workers: usize,
+    line: &str,
+) -> Applied
+    requires workers { 0 < workers }
+{
+    let batch = batch_of(alloc, line).expect(rt, "operations");
+    let version = Version::empty(alloc);
+    applied_past(rt, alloc, gate, workers, &version, batch).expect(rt, "the next version")
+}
+
+// How often a worker looks whether the others have come.
+const TURNS: u32 = 10_000_000;
+
+// Holds each worker until all have come, or until its turns are over.
+#[derive(Drop)]
+struct Meeting {
+    arrived: AtomicUsize,
+    in_vain: AtomicBool,
+}
+
+impl Gate for Meeting {
+    fn arrive(&self, _worker: usize, of: usize) {
+        self.arrived.fetch_add(1, Ordering::SeqCst);
+        for _ in 0..TURNS {
+            if self.arrived.load(Ordering::SeqCst) >= of {
+                return;
+            }
+            yield_now();
+        }
+        self.in_vain.store(true, Ordering::SeqCst);
+    }
+}
+
+// Each of two workers has an operation, and none goes on before both have come.
+#[test]
+fn workers_work_at_once(rt: HostRuntime) {
+    let meeting = Meeting {
+        arrived: AtomicUsize::new(0),
+        in_vain: AtomicBool::new(false),
+    };
+    let next = passed(&rt, rt.alloc(), &meeting, 2, "i,k,a,b,1,1 i,k,b,a,1,1");
+    assert!(rt; !meeting.in_vain.load(Ordering::SeqCst));
+    assert_eq!(rt; meeting.arrived.load(Ordering::SeqCst), 2);
+    assert_eq!(rt; next.version.edge_count(), 2);
+}
+
+// Counts the arrivals of each of at most four workers, and those that tell another number of workers.
+#[derive(Drop)]
+struct Arrivals {
+    workers: usize,
+    counts: [AtomicUsize; 4],
+    others: AtomicUsize,
+}
+
+impl Arrivals {
+    fn of(workers: usize) -> Arrivals {
+        Arrivals {
+            workers,
+            counts: [
+                AtomicUsize::new(0),
+                AtomicUsize::new(0),
+                AtomicUsize::new(0),
+                AtomicUsize::new(0),
+            ],
+            others: AtomicUsize::new(0),
+        }
+    }
+
+    fn counted(&self, worker: usize) -> usize {
+        match self.counts.get(worker) {
+            Some(count) => count.load(Ordering::SeqCst),
+            None => 0,
+        }
+    }
+}
+
+impl Gate for Arrivals {
+    fn arrive(&self, worker: usize, of: usize) {
+        let count = match self.counts.get(worker) {
+            Some(count) if of == self.workers => count,
+            _ => &self.others,
+        };
+        count.fetch_add(1, Ordering::SeqCst);
+    }
+}
+
+// So many workers arrive once each, and no other, for these operations.
+fn check_arrivals<R: Threads + Sync + Abort>(rt: &R, alloc: Global, workers: usize, line: &str)
+    requires workers { 0 < workers }
+{
+    let arrivals = Arrivals::of(workers);
+    let _next = passed(rt, alloc, &arrivals, workers, line);
+    for worker in 0..4 {
+        let wanted = if worker < workers { 1 } else { 0 };
+        assert_eq!(rt;
+            arrivals.counted(worker),
+            wanted,
+            "{workers} workers: {line}"
+        );
+    }
+    assert_eq!(rt; arrivals.others.load(Ordering::SeqCst), 0);
+}
+
+// Also those without operations.
+#[test]
+fn each_worker_arrives_once(rt: HostRuntime) {
+    check_arrivals(&rt, rt.alloc(), 4, "i,k,a,b,1,1 i,k,a,c,1,1");
+    check_arrivals(
+        &rt,
+        rt.alloc(),
+        4,
+        "i,k,a,b,1,1 i,k,b,c,1,1 i,k,c,d,1,1 i,k,d,a,1,1",
+    );
+    check_arrivals(&rt, rt.alloc(), 4, "");
+    check_arrivals(&rt, rt.alloc(), 1, "i,k,a,b,1,1 i,k,b,c,1,1");
+}

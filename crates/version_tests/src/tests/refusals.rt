@@ -1,0 +1,135 @@
+// Want of memory: a version stays as it is where the next one isn't made, and where it has no answer.
+
+use super::ops::{LineError, batch_of};
+use super::requests::{reply_text, request_of};
+use super::steps::applied;
+use batch_apply::Applied;
+use graph_model::{AskError, KindId, Outcome, VertexId};
+use graph_version::Version;
+use std::alloc::Global;
+use std::io::Print;
+use std::process::Abort;
+use std::thread::Threads;
+use version_answers::answer;
+
+// What a line of operations leaves of a version, by two workers; nothing where memory is refused.
+fn applied_line<R: Threads + Sync + Abort>(
+    rt: &R,
+    alloc: Global,
+    version: &Version,
+    line: &str,
+) -> Option<Applied> {
+    match batch_of(alloc, line) {
+        Ok(batch) => applied(rt, alloc, 2, version, batch),
+        Err(error) => {
+            assert!(rt; matches!(error, LineError::OutOfMemory));
+            None
+        }
+    }
+}
+
+// The numbers of batches, names, kinds and edges, and the weight of the edge from the first vertex to the second.
+fn told(version: &Version) -> (u64, usize, usize, u64, Option<i64>) {
+    (
+        version.number(),
+        version.names().len(),
+        version.kinds().len(),
+        version.edge_count(),
+        version
+            .edge(KindId(0), VertexId(0), VertexId(1))
+            .map(|edge| *edge.weight),
+    )
+}
+
+// The next version has what the second line leaves, or memory was refused.
+fn check_next(rt: &(impl Abort + Print), next: Option<Applied>) {
+    match next {
+        Some(next) => {
+            assert_eq!(rt; told(&next.version), (2, 3, 2, 2, Some(3)));
+            assert_eq!(rt;
+                next.outcomes.as_slice(),
+                [Outcome::Updated, Outcome::Removed, Outcome::Inserted].as_slice()
+            );
+        }
+        None => {
+            let _ = println!(rt; "refused");
+        }
+    }
+}
+
+#[test]
+fn refused_apply_leaves_the_version(rt: HostRuntime) {
+    let alloc = rt.alloc();
+    let first = applied_line(
+        &rt,
+        alloc,
+        &Version::empty(alloc),
+        "i,k,a,b,1,1 i,k,b,a,1,1",
+    );
+    let Some(first) = first else {
+        let _ = println!(&rt; "refused");
+        return;
+    };
+    let line = "a,k,a,b,2,2 r,k,b,a i,m,b,c,1,1";
+    check_next(&rt, applied_line(&rt, alloc, &first.version, line));
+    assert_eq!(rt; told(&first.version), (1, 2, 1, 2, Some(1)));
+}
+
+// A version's answer as a text; nothing where memory is refused.
+fn asked(rt: &impl Abort, alloc: Global, version: &Version, text: &str) -> Option<String> {
+    let request = match request_of(alloc, text) {
+        Ok(request) => request,
+        Err(error) => {
+            assert!(rt; matches!(error, LineError::OutOfMemory));
+            return None;
+        }
+    };
+    match answer(alloc, version, &request) {
+        Ok(reply) => reply_text(alloc, &reply).ok(),
+        Err(error) => {
+            assert_eq!(rt; error, AskError::OutOfMemory);
+            None
+        }
+    }
+}
+
+// The version has this answer, or memory was refused.
+fn check_asked(
+    rt: &(impl Abort + Print),
+    alloc: Global,
+    version: &Version,
+    text: &str,
+    wanted: &str,
+) {
+    match asked(rt, alloc, version, text) {
+        Some(told) => assert_eq!(rt; told.as_str(), wanted),
+        None => {
+            let _ = println!(rt; "refused");
+        }
+    }
+}
+
+#[test]
+fn refused_answer_leaves_the_version(rt: HostRuntime) {
+    let alloc = rt.alloc();
+    let first = applied_line(
+        &rt,
+        alloc,
+        &Version::empty(alloc),
+        "i,k,a,b,1,1 i,k,b,a,1,1",
+    );
+    let Some(first) = first else {
+        let _ = println!(&rt; "refused");
+        return;
+    };
+    for (text, wanted) in [
+        ("bfs,a,k,0,9", "a 0,b 1,"),
+        ("comp,k,0,9", "a a,b a,"),
+        ("core,k,0,9", "a 1,b 1,"),
+        ("deg,k,0,9", "a 1 1 1,b 1 1 1,"),
+        ("edge,k,a,b", "1 1 1"),
+    ] {
+        check_asked(&rt, alloc, &first.version, text, wanted);
+        assert_eq!(rt; told(&first.version), (1, 2, 1, 2, Some(1)));
+    }
+}
