@@ -1,5 +1,5 @@
 -- Edges and stamps compared, and when edges are each once the edges of a graph.
-use Rattle.std.proofs.Common.{◌≡◌, ◌≢◌, suc, ◌-◌, Bool, true, false, cond, not, ◌&&◌, ◌||◌, List, [], ◌∷◌, length, get_or}
+use Rattle.std.proofs.Common.{◌≡◌, ◌≢◌, suc, ◌-◌, Bool, true, false, cond, not, List, [], ◌∷◌, length, get_or}
 use Rattle.std.proofs.Common.{Decides, refl, sym, ap, subst, ◌∙◌, arith}
 use Rattle.std.specs.Prelude.{All, is_some}
 use Rattle.std.specs.List.{list_any, list_all}
@@ -9,7 +9,7 @@ use Rattle.std.specs.FinMap.{FinMap, get, same_map, insert, remove, len, get-ins
 use Rattle.std.proofs.lemmas.Bool.Decides.{Decides-and, Decides-by_and, Decides-eqb, Decides-int_eq, Decides-like, Decides-not}
 use Rattle.graph_model.specs.Graph.{Graph, Key, Stamp, key_cmp, key_of, stamp_of, map_of}
 use Rattle.graph_model.specs.declared.ids.Edge.{Edge}
-use Rattle.graph_model.proofs.Keys.{keys_total, exact_keys, has_key, has_key-true, has_key-false, HasKeysOnce, once_none}
+use Rattle.graph_model.proofs.Keys.{keys_total, exact_keys, is_key_of, is_key_of-true, is_key_of-false, HasKeysOnce, once_none}
 use Rattle.graph_model.proofs.Keys.{once_head, once_tail, once_cons, get_listed, len_once}
 use Rattle.graph_model.proofs.EdgeLookup.{Decides-has_key}
 use Rattle.epoch_core.proofs.Lists.{neither}
@@ -60,9 +60,9 @@ put_back : (m : FinMap key_cmp Stamp) (e : Edge) (q : Key) → get m (key_of e) 
     → get (insert (remove m (key_of e)) (key_of e) (stamp_of e)) q ≡ get m q
 put_back m e q stands =
     get-insert keys_total (remove m (key_of e)) (key_of e) (stamp_of e) q
-    ∙ ap (cond (has_key q e) (Some (stamp_of e))) (get-remove keys_total m (key_of e) q)
-    ∙ elim (has_key q e) as (λ t. has_key q e ≡ t → cond t (Some (stamp_of e)) (cond t None (get m q)) ≡ get m q) [
-      | true ↦ λ t. sym stands ∙ ap (get m) (sym (has_key-true q e t))
+    ∙ ap (cond (is_key_of q e) (Some (stamp_of e))) (get-remove keys_total m (key_of e) q)
+    ∙ elim (is_key_of q e) as (λ t. is_key_of q e ≡ t → cond t (Some (stamp_of e)) (cond t None (get m q)) ≡ get m q) [
+      | true ↦ λ t. sym stands ∙ ap (get m) (sym (is_key_of-true q e t))
       | false ↦ λ _. refl
     ] refl
 
@@ -75,7 +75,7 @@ map_from_all m (e ∷ es) once all few =
     let others : AllStand rest es =
     λ k d h.
     let x : Edge = get_or es k d in
-    let other : has_key (key_of x) e ≡ false = has_key-false (key_of x) e (λ same. once_head e es once k d h (sym same)) in
+    let other : is_key_of (key_of x) e ≡ false = is_key_of-false (key_of x) e (λ same. once_head e es once k d h (sym same)) in
     get-remove keys_total m (key_of e) (key_of x) ∙ ap (λ t. cond t None (get m (key_of x))) other
     ∙ all (suc k) d (omega arith) in
     let fewer : len rest ≡ len m - 1 = len-remove keys_total m (key_of e)

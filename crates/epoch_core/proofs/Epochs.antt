@@ -1,11 +1,10 @@
 -- The epoch law, from what is sound.
-use Rattle.std.proofs.Common.{◌≡◌, ◌≢◌, ℕ, zero, suc, ◌<◌, ◌≤◌, true, false, inl, inr, List, [], ◌∷◌, length, get_or, refl, sym}
-use Rattle.std.proofs.Common.{ap, subst, ◌∙◌, arith, eqb, ltb}
-use Rattle.std.specs.Prelude.{slice_get, if◌then◌else◌, count_by, is_some, AllPairs}
+use Rattle.std.proofs.Common.{◌≡◌, ℕ, zero, suc, ◌≤◌, true, inl, inr, List, [], ◌∷◌, length, refl, sym}
+use Rattle.std.proofs.Common.{ap, subst, ◌∙◌, arith, ltb}
+use Rattle.std.specs.Prelude.{slice_get, if◌then◌else◌, count_by, is_some}
 use Rattle.std.specs.Option.{option_map}
 use Rattle.std.specs.declared.option.Option.{Option}
 use Rattle.std.specs.declared.option.Option.TheVariants.{None, Some}
-use Rattle.std.proofs.lemmas.Bool.{eq-eqb}
 use Rattle.std.proofs.lemmas.Bool.Decides.{nat_tests}
 use Rattle.epoch_core.specs.declared.states.Status.{Status}
 use Rattle.epoch_core.specs.declared.states.Status.TheVariants.{Free, Fresh, Used, Retired}
@@ -16,7 +15,7 @@ use Rattle.epoch_core.specs.Worlds.{World, blocks_at, held_in, pin_in, session_o
 use Rattle.epoch_core.specs.Machine.{with_heap}
 use Rattle.epoch_core.specs.Epochs.{FillsNoHeldBlock, IsPartition, PinsInOrder}
 use Rattle.epoch_core.specs.Sound.{IsKeptAt, IsSessionSound, IsSound}
-use Rattle.epoch_core.proofs.Lists.{true_or_false, or_false, not_true, and_left, and_right}
+use Rattle.epoch_core.proofs.Lists.{true_or_false}
 use Rattle.epoch_core.proofs.Keeping.{Fills, fills}
 
 some_of_map : {A B : Type 0} (f : A → B) (o : Option A) → is_some (option_map f o) ≡ true → (x : A) × (o ≡ Some x)

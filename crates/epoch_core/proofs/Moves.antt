@@ -15,7 +15,7 @@ use Rattle.epoch_core.specs.declared.states.Hold.{Hold}
 use Rattle.epoch_core.specs.declared.states.Inquiry.{Inquiry}
 use Rattle.epoch_core.specs.declared.states.SessionState.{SessionState}
 use Rattle.epoch_core.specs.declared.states.SessionState.TheVariants.{Idle, Pinned, Holding, Asking}
-use Rattle.epoch_core.specs.Blocks.{changed_at, is_at, is_listed, is_used}
+use Rattle.epoch_core.specs.Blocks.{is_at, is_listed, is_used}
 use Rattle.epoch_core.specs.Worlds.{World, blocks_at, edges_at, edges_of, last_blocks, last_number, pin_in, session_of}
 use Rattle.epoch_core.specs.Machine.{is_all_read, least_pin, lesser, move, read_on, settled_at, to_ask, to_enter, to_pin, to_read}
 use Rattle.epoch_core.specs.Machine.{to_release, to_reply, to_settle, with_sessions}

@@ -1,6 +1,6 @@
 -- The test of a Post decides its rule.
-use Rattle.std.proofs.Common.{◌≡◌, ◌≢◌, ◌⊎◌, ◌↔◌, ℕ, zero, suc, ◌<◌, ◌≤◌, Bool, true, false, not, ◌&&◌, inl, inr, List, [], ◌∷◌}
-use Rattle.std.proofs.Common.{length, get_or, Decides, refl, sym, ap, ◌∙◌, arith, eqb, leb}
+use Rattle.std.proofs.Common.{◌≡◌, ◌≢◌, ◌⊎◌, ◌↔◌, ℕ, suc, ◌<◌, Bool, true, false, not, inl, inr, List, [], ◌∷◌}
+use Rattle.std.proofs.Common.{length, Decides, refl, sym, ◌∙◌, arith, eqb, leb}
 use Rattle.std.specs.Prelude.{slice_get, if◌then◌else◌, is_some, All, AllPairs, IsTrue}
 use Rattle.std.specs.declared.option.Option.{Option}
 use Rattle.std.specs.declared.option.Option.TheVariants.{None, Some}

@@ -6,7 +6,6 @@ use Rattle.std.specs.Option.{option_map}
 use Rattle.std.specs.declared.option.Option.{Option}
 use Rattle.std.specs.declared.option.Option.TheVariants.{None, Some}
 use Rattle.std.proofs.lemmas.Bool.{cases_eq}
-use Rattle.graph_model.specs.declared.ids.Edge.{Edge}
 use Rattle.graph_model.specs.declared.batches.NamedOp.{NamedOp}
 use Rattle.epoch_core.specs.declared.states.Status.{Status}
 use Rattle.epoch_core.specs.declared.states.Status.TheVariants.{Free, Fresh, Used, Retired}
@@ -16,7 +15,7 @@ use Rattle.epoch_core.specs.Worlds.{Shows, World, edges_of, graph_at, last_block
 use Rattle.epoch_core.specs.Worlds.{version_at}
 use Rattle.epoch_core.specs.Posting.{MayPost, all_listable, can_post, graph_after, is_listable, posted, version_by}
 use Rattle.epoch_core.specs.Sound.{IsDatedAt, IsKeptAt, IsNamed, IsSound}
-use Rattle.epoch_core.proofs.Lists.{get_enumerated, length_enumerated, and_left, and_right, all_listed}
+use Rattle.epoch_core.proofs.Lists.{get_enumerated, length_enumerated, all_listed}
 use Rattle.epoch_core.proofs.Changes.{length_next, version_before, graph_before, version_next, graph_next}
 use Rattle.epoch_core.proofs.PostRule.{Decides-post, listable_of}
 use Rattle.epoch_core.proofs.Keeping.{Carries, carry}

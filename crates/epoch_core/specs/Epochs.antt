@@ -1,5 +1,5 @@
 -- Blocks and pins at any moment.
-use Rattle.std.specs.Prelude.{◌≡◌, ◌≢◌, ℕ, ◌≤◌, nat_lt, false, List, [], ◌∷◌, count_by, if◌then◌else◌, slice_get, IsTrue, IsFalse}
+use Rattle.std.specs.Prelude.{◌≡◌, ◌≢◌, ℕ, ◌≤◌, nat_lt, List, [], ◌∷◌, count_by, if◌then◌else◌, slice_get, IsTrue, IsFalse}
 use Rattle.std.specs.Prelude.{AllPairs}
 use Rattle.std.specs.declared.option.Option.TheVariants.{Some}
 use Rattle.graph_model.specs.declared.ids.Edge.{Edge}

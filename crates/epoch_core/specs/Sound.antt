@@ -1,5 +1,5 @@
 -- What holds of the machine at every moment, and carries the laws.
-use Rattle.std.specs.Prelude.{◌≡◌, ◌≢◌, ℕ, ◌≤◌, ◌<◌, true, List, length, take, slice_get, AllPairs, MatchOption, IsTrue}
+use Rattle.std.specs.Prelude.{◌≡◌, ◌≢◌, ℕ, ◌≤◌, ◌<◌, length, take, slice_get, AllPairs, MatchOption, IsTrue}
 use Rattle.std.specs.declared.option.Option.{Option}
 use Rattle.epoch_core.specs.declared.states.Status.{Status}
 use Rattle.epoch_core.specs.declared.states.Status.TheVariants.{Free, Fresh, Used, Retired}

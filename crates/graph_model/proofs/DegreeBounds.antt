@@ -14,7 +14,7 @@ use Rattle.graph_model.specs.View.{in_view, leaves, enters}
 use Rattle.graph_model.specs.Degrees.{listed_degree, IsWithinLimits}
 use Rattle.graph_model.specs.declared.ids.Edge.{Edge}
 use Rattle.graph_model.specs.declared.ids.Filter.{Filter}
-use Rattle.graph_model.proofs.Keys.{HasKeysOnce, has_key, has_key_at, count_key}
+use Rattle.graph_model.proofs.Keys.{HasKeysOnce, is_key_of, is_key_of_at, count_key}
 use Rattle.graph_model.proofs.Folds.{fold_from}
 
 step_up : (b : Bool) (c k : ℕ) → cond (b && ltb c (suc k)) 1 0 ≤ cond (b && ltb c k) 1 0 + cond (b && eqb c k) 1 0
@@ -79,12 +79,12 @@ one_where true b then = let e = then refl in subst (λ c. 1 ≤ cond c 1 0) (sym
 one_where false b then = omega arith
 
 leaves_key : (f : Filter) (v k t : ℕ) (e : Edge) → ((leaves f v (entry_of e) && eqb e.kind.0 k) && eqb e.target.0 t) ≡ true
-    → has_key (record { kind = k; source = v; target = t }) e ≡ true
+    → is_key_of (record { kind = k; source = v; target = t }) e ≡ true
 leaves_key f v k t e passes =
     let (left, target) = and_parts (leaves f v (entry_of e) && eqb e.kind.0 k) (eqb e.target.0 t) passes in
     let (leaving, kind) = and_parts (leaves f v (entry_of e)) (eqb e.kind.0 k) left in
     let source = (and_parts (in_view f (entry_of e)) (eqb e.source.0 v) leaving).1 in
-    has_key_at _ e
+    is_key_of_at _ e
     (λ i. record {
       kind = sym (eqb-true e.kind.0 k kind) i;
       source = sym (eqb-true e.source.0 v source) i;
@@ -96,16 +96,16 @@ leaves_once : (f : Filter) (v : ℕ) (es : List Edge) → HasKeysOnce es → (k 
 leaves_once f v es once k t =
     let key : Key = record { kind = k; source = v; target = t } in
     let fewer = sum_by-le-sum_by (λ (e : Edge). cond ((leaves f v (entry_of e) && eqb e.kind.0 k) && eqb e.target.0 t) 1 0)
-    (λ e. cond (has_key key e) 1 0) es (λ e. one_where _ _ (leaves_key f v k t e)) in
+    (λ e. cond (is_key_of key e) 1 0) es (λ e. one_where _ _ (leaves_key f v k t e)) in
     omega (arith, fewer, count_key key es once)
 
 enters_key : (f : Filter) (v k s : ℕ) (e : Edge) → ((enters f v (entry_of e) && eqb e.kind.0 k) && eqb e.source.0 s) ≡ true
-    → has_key (record { kind = k; source = s; target = v }) e ≡ true
+    → is_key_of (record { kind = k; source = s; target = v }) e ≡ true
 enters_key f v k s e passes =
     let (left, source) = and_parts (enters f v (entry_of e) && eqb e.kind.0 k) (eqb e.source.0 s) passes in
     let (entering, kind) = and_parts (enters f v (entry_of e)) (eqb e.kind.0 k) left in
     let target = (and_parts (in_view f (entry_of e)) (eqb e.target.0 v) entering).1 in
-    has_key_at _ e
+    is_key_of_at _ e
     (λ i. record {
       kind = sym (eqb-true e.kind.0 k kind) i;
       source = sym (eqb-true e.source.0 s source) i;
@@ -117,7 +117,7 @@ enters_once : (f : Filter) (v : ℕ) (es : List Edge) → HasKeysOnce es → (k 
 enters_once f v es once k s =
     let key : Key = record { kind = k; source = s; target = v } in
     let fewer = sum_by-le-sum_by (λ (e : Edge). cond ((enters f v (entry_of e) && eqb e.kind.0 k) && eqb e.source.0 s) 1 0)
-    (λ e. cond (has_key key e) 1 0) es (λ e. one_where _ _ (enters_key f v k s e)) in
+    (λ e. cond (is_key_of key e) 1 0) es (λ e. one_where _ _ (enters_key f v k s e)) in
     omega (arith, fewer, count_key key es once)
 
 -- the size of a whole number, as two bounds and back

@@ -36,24 +36,24 @@ exact_keys x y e =
     let target = nat_cmp-IsAntisymmetric x.target y.target ends.1 in
     λ i. record { kind = kind i; source = source i; target = target i }
 
--- whether an edge has the key
-abbrev pub has_key : Key → Edge → Bool
-has_key key e = eq_by_cmp key_cmp key (key_of e)
+-- whether an edge's key ties with this one in the order of keys, as a map looks it up; EdgeLookup shows that it then has the key
+abbrev pub is_key_of : Key → Edge → Bool
+is_key_of key e = eq_by_cmp key_cmp key (key_of e)
 
 tied_equal : (o : Ordering) → is_eq o ≡ true → o ≡ Equal
 tied_equal Less e = cc
 tied_equal Equal e = refl
 tied_equal Greater e = cc
 
-pub has_key-true : (key : Key) (e : Edge) → has_key key e ≡ true → key ≡ key_of e
-has_key-true key e t = exact_keys key (key_of e) (tied_equal _ t)
+pub is_key_of-true : (key : Key) (e : Edge) → is_key_of key e ≡ true → key ≡ key_of e
+is_key_of-true key e t = exact_keys key (key_of e) (tied_equal _ t)
 
-pub has_key_at : (key : Key) (e : Edge) → key ≡ key_of e → has_key key e ≡ true
-has_key_at key e same = ap (λ k. eq_by_cmp key_cmp key k) (sym same) ∙ ap is_eq (tied_itself keys_total key)
+pub is_key_of_at : (key : Key) (e : Edge) → key ≡ key_of e → is_key_of key e ≡ true
+is_key_of_at key e same = ap (λ k. eq_by_cmp key_cmp key k) (sym same) ∙ ap is_eq (tied_itself keys_total key)
 
-pub has_key-false : (key : Key) (e : Edge) → key ≢ key_of e → has_key key e ≡ false
-has_key-false key e apart = elim (has_key key e) as (λ b. has_key key e ≡ b
-    → has_key key e ≡ false) [ true ↦ λ t. absurd (apart (has_key-true key e t)) | false ↦ λ t. t ] refl
+pub is_key_of-false : (key : Key) (e : Edge) → key ≢ key_of e → is_key_of key e ≡ false
+is_key_of-false key e apart = elim (is_key_of key e) as (λ b. is_key_of key e ≡ b
+    → is_key_of key e ≡ false) [ true ↦ λ t. absurd (apart (is_key_of-true key e t)) | false ↦ λ t. t ] refl
 
 -- each key stands once
 abbrev pub HasKeysOnce : List Edge → Type 0
@@ -69,29 +69,30 @@ pub find_absent : (key : Key) (es : List Edge) → All (λ x. key ≢ key_of x) 
 find_absent key [] absent = refl
 find_absent key (e ∷ es) absent =
     let none = find_absent key es (λ k d h. absent (suc k) d (omega arith)) in
-    ap (λ b. cond b (Some (stamp_of e)) (find key_cmp key (map entry_of es))) (has_key-false key e (absent 0 e (omega arith)))
+    ap (λ b. cond b (Some (stamp_of e)) (find key_cmp key (map entry_of es))) (is_key_of-false key e (absent 0 e (omega arith)))
     ∙ none
 
 pub get_is : (key : Key) (edges : List Edge) → get (map_of edges) key ≡ find key_cmp key (map entry_of edges)
 get_is key edges = get-from_entries keys_total (map entry_of edges) key
 
-no_key : (key : Key) (es : List Edge) → All (λ x. key ≢ key_of x) es → count_by (has_key key) es ≡ 0
+no_key : (key : Key) (es : List Edge) → All (λ x. key ≢ key_of x) es → count_by (is_key_of key) es ≡ 0
 no_key key [] absent = refl
 no_key key (e ∷ es) absent =
     let none = no_key key es (λ k d h. absent (suc k) d (omega arith)) in
-    sum_by-cons (λ x. cond (has_key key x) 1 0) e es
-    ∙ ap (λ b. cond b 1 0 + count_by (has_key key) es) (has_key-false key e (absent 0 e (omega arith))) ∙ omega arith
+    sum_by-cons (λ x. cond (is_key_of key x) 1 0) e es
+    ∙ ap (λ b. cond b 1 0 + count_by (is_key_of key) es) (is_key_of-false key e (absent 0 e (omega arith))) ∙ omega arith
 
 -- a key stands at most once, as a count
-pub count_key : (key : Key) (es : List Edge) → HasKeysOnce es → count_by (has_key key) es ≤ 1
+pub count_key : (key : Key) (es : List Edge) → HasKeysOnce es → count_by (is_key_of key) es ≤ 1
 count_key key [] once = omega arith
 count_key key (e ∷ es) once =
     let rest = count_key key es (once_tail e es once) in
-    let whole = sum_by-cons (λ x. cond (has_key key x) 1 0) e es in
-    elim (has_key key e) as (λ b. has_key key e ≡ b → count_by (has_key key) (e ∷ es) ≡ cond b 1 0 + count_by (has_key key) es
-    → count_by (has_key key) (e ∷ es) ≤ 1) [
+    let whole = sum_by-cons (λ x. cond (is_key_of key x) 1 0) e es in
+    elim (is_key_of key e) as (λ b. is_key_of key e ≡ b → count_by (is_key_of key) (e ∷ es) ≡ cond b 1 0
+    + count_by (is_key_of key) es
+    → count_by (is_key_of key) (e ∷ es) ≤ 1) [
       | true ↦ λ t w.
-          let same = has_key-true key e t in
+          let same = is_key_of-true key e t in
           let none = no_key key es (λ k d h. subst (λ q. q ≢ key_of (get_or es k d)) (sym same) (once_head e es once k d h)) in
           omega arith
       | false ↦ λ t w. omega arith
@@ -102,27 +103,27 @@ pub find_listed : (key : Key) (es : List Edge) (s : Stamp) → find key_cmp key 
     → (x : Edge) × (Contains es x × (key ≡ key_of x) × (stamp_of x ≡ s))
 find_listed key [] s is = cc
 find_listed key (e ∷ es) s is =
-    elim (has_key key e) as (λ b. has_key key e ≡ b → cond b (Some (stamp_of e)) (find key_cmp key (map entry_of es)) ≡ Some s
+    elim (is_key_of key e) as (λ b. is_key_of key e ≡ b → cond b (Some (stamp_of e)) (find key_cmp key (map entry_of es)) ≡ Some s
     → (x : Edge) × (Contains (e ∷ es) x × (key ≡ key_of x) × (stamp_of x ≡ s))) [
-      | true ↦ λ t w. (e, ((0, omega arith, refl), has_key-true key e t, cc))
+      | true ↦ λ t w. (e, ((0, omega arith, refl), is_key_of-true key e t, cc))
       | false ↦ λ t w. let rest = find_listed key es s w in
           (rest.0, ((suc rest.1.0.0, omega (arith, rest.1.0.1), rest.1.0.2), rest.1.1, rest.1.2))
     ] refl is
 
 -- where a key stands at most once, a look-up finds what is listed
-pub find_present : (key : Key) (es : List Edge) (x : Edge) → count_by (has_key key) es ≤ 1 → Contains es x → key ≡ key_of x
+pub find_present : (key : Key) (es : List Edge) (x : Edge) → count_by (is_key_of key) es ≤ 1 → Contains es x → key ≡ key_of x
     → find key_cmp key (map entry_of es) ≡ Some (stamp_of x)
 find_present key [] x few (k, h, at) same = absurd (omega arith)
 find_present key (e ∷ es) x few (zero, h, at) same =
-    ap (λ b. cond b (Some (stamp_of e)) (find key_cmp key (map entry_of es))) (has_key_at key e (same ∙ ap key_of (sym at)))
+    ap (λ b. cond b (Some (stamp_of e)) (find key_cmp key (map entry_of es))) (is_key_of_at key e (same ∙ ap key_of (sym at)))
     ∙ ap (λ y. Some (stamp_of y)) at
 find_present key (e ∷ es) x few (suc k, h, at) same =
-    let whole = sum_by-cons (λ y. cond (has_key key y) 1 0) e es in
+    let whole = sum_by-cons (λ y. cond (is_key_of key y) 1 0) e es in
     let here : k < length es = omega arith in
-    let listed = get_or-le-sum_by (λ y. cond (has_key key y) 1 0) es k x here in
-    let counted : cond {A = ℕ} (has_key key (get_or es k x)) 1 0 ≡ 1 =
-    ap (λ (b : Bool). cond {A = ℕ} b 1 0) (has_key_at key (get_or es k x) (same ∙ ap key_of (sym at))) in
-    elim (has_key key e) as (λ b. count_by (has_key key) (e ∷ es) ≡ cond b 1 0 + count_by (has_key key) es
+    let listed = get_or-le-sum_by (λ y. cond (is_key_of key y) 1 0) es k x here in
+    let counted : cond {A = ℕ} (is_key_of key (get_or es k x)) 1 0 ≡ 1 =
+    ap (λ (b : Bool). cond {A = ℕ} b 1 0) (is_key_of_at key (get_or es k x) (same ∙ ap key_of (sym at))) in
+    elim (is_key_of key e) as (λ b. count_by (is_key_of key) (e ∷ es) ≡ cond b 1 0 + count_by (is_key_of key) es
     → cond b (Some (stamp_of e)) (find key_cmp key (map entry_of es)) ≡ Some (stamp_of x)) [
       | true ↦ λ w. absurd (omega arith)
       | false ↦ λ w. find_present key es x (omega arith) (k, here, at) same
@@ -137,8 +138,8 @@ found_again key es fs once moved o (Some s) at_es at_fs =
 found_again key es fs once moved None None at_es at_fs = refl
 found_again key es fs once moved (Some s) None at_es at_fs =
     let (x, (listed, same, is)) = find_listed key es s at_es in
-    let few : count_by (has_key key) fs ≤ 1 =
-    omega (arith, sum_by-IsPermutation (λ e. cond (has_key key e) 1 0) es fs moved, count_key key es once) in
+    let few : count_by (is_key_of key) fs ≤ 1 =
+    omega (arith, sum_by-IsPermutation (λ e. cond (is_key_of key e) 1 0) es fs moved, count_key key es once) in
     sym at_fs ∙ find_present key fs x few (Contains-permutation es fs x moved listed) same ∙ ap Some is
 
 -- a list in another order makes the same map
@@ -159,17 +160,17 @@ once_cons e es apart once (suc i) (suc j) d h g = once i j d (omega arith) (omeg
 
 -- what stands in the map at a key, once an edge is listed before
 get_cons : (e : Edge) (es : List Edge) (key : Key)
-    → get (map_of (e ∷ es)) key ≡ cond (has_key key e) (Some (stamp_of e)) (get (map_of es) key)
+    → get (map_of (e ∷ es)) key ≡ cond (is_key_of key e) (Some (stamp_of e)) (get (map_of es) key)
 get_cons e es key = get-insert keys_total (map_of es) (key_of e) (stamp_of e) key
 
 -- each listed edge stands in the map, where each key is listed once
 pub get_listed : (es : List Edge) → HasKeysOnce es → All (λ e. get (map_of es) (key_of e) ≡ Some (stamp_of e)) es
 get_listed [] once k d h = absurd (omega arith)
 get_listed (e ∷ es) once zero d h =
-    get_cons e es (key_of e) ∙ ap (λ b. cond b (Some (stamp_of e)) (get (map_of es) (key_of e))) (has_key_at (key_of e) e refl)
+    get_cons e es (key_of e) ∙ ap (λ b. cond b (Some (stamp_of e)) (get (map_of es) (key_of e))) (is_key_of_at (key_of e) e refl)
 get_listed (e ∷ es) once (suc k) d h =
     let x = get_or es k d in
-    let other = has_key-false (key_of x) e (λ same. once_head e es once k d (omega arith) (sym same)) in
+    let other = is_key_of-false (key_of x) e (λ same. once_head e es once k d (omega arith) (sym same)) in
     get_cons e es (key_of x) ∙ ap (λ b. cond b (Some (stamp_of e)) (get (map_of es) (key_of x))) other
     ∙ get_listed es (once_tail e es once) k d (omega arith)
 

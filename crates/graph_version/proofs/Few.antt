@@ -9,7 +9,7 @@ use Rattle.graph_model.specs.declared.ids.Edge.{Edge}
 use Rattle.std.proofs.lemmas.Bool.{and_parts, eqb-true}
 use Rattle.std.proofs.lemmas.List.Sums.{sum_by-cons, sum_by-le-sum_by}
 use Rattle.graph_model.proofs.DegreeBounds.{crowd}
-use Rattle.graph_model.proofs.Keys.{HasKeysOnce, has_key, has_key_at, count_key, get_listed, len_once}
+use Rattle.graph_model.proofs.Keys.{HasKeysOnce, is_key_of, is_key_of_at, count_key, get_listed, len_once}
 use Rattle.row_pages.specs.Rows.{blocks_of}
 use Rattle.graph_version.specs.Versions.{VersionView, content, IsVersion}
 use Rattle.graph_version.specs.Edges.{edges_in_blocks}
@@ -31,11 +31,11 @@ one_where true b f = let e = f refl in subst (λ c. 1 ≤ cond c 1 0) (sym e) (o
 one_where false b f = omega arith
 
 has_parts : (k s t : ℕ) (e : Edge) → ((eqb e.kind.0 k && eqb e.source.0 s) && eqb e.target.0 t) ≡ true
-    → has_key (record { kind = k; source = s; target = t }) e ≡ true
+    → is_key_of (record { kind = k; source = s; target = t }) e ≡ true
 has_parts k s t e passes =
     let (left, target) = and_parts (eqb e.kind.0 k && eqb e.source.0 s) (eqb e.target.0 t) passes in
     let (kind, source) = and_parts (eqb e.kind.0 k) (eqb e.source.0 s) left in
-    has_key_at _ e (λ i. record {
+    is_key_of_at _ e (λ i. record {
       kind = sym (eqb-true e.kind.0 k kind) i;
       source = sym (eqb-true e.source.0 s source) i;
       target = sym (eqb-true e.target.0 t target) i;
@@ -46,7 +46,7 @@ at_key : (es : List Edge) → HasKeysOnce es → (k s t : ℕ)
 at_key es once k s t =
     let key : Key = record { kind = k; source = s; target = t } in
     let fewer = sum_by-le-sum_by (λ (e : Edge). cond ((eqb e.kind.0 k && eqb e.source.0 s) && eqb e.target.0 t) 1 0)
-    (λ e. cond (has_key key e) 1 0) es (λ e. one_where _ _ (has_parts k s t e)) in
+    (λ e. cond (is_key_of key e) 1 0) es (λ e. one_where _ _ (has_parts k s t e)) in
     omega (arith, fewer, count_key key es once)
 
 few_edges : (es : List Edge) → HasKeysOnce es → All (λ (e : Edge). e.kind.0 < 64) es → All (λ (e : Edge). e.source.0 < 65536) es

@@ -13,7 +13,8 @@ use Rattle.std.proofs.lemmas.List.Elements.{All-head, All-tail, All-cons, All-ap
 use Rattle.std.proofs.lemmas.Bool.{eq-eqb, eqb-true, true≢false}
 use Rattle.graph_model.specs.Graph.{Graph, Key, Stamp, key_cmp, key_of, stamp_of, map_of}
 use Rattle.graph_model.specs.declared.ids.Edge.{Edge}
-use Rattle.graph_model.proofs.Keys.{keys_total, exact_keys, has_key, has_key-true, has_key_at, HasKeysOnce, once_none, once_cons}
+use Rattle.graph_model.proofs.Keys.{keys_total, exact_keys, is_key_of, is_key_of-true, is_key_of_at, HasKeysOnce}
+use Rattle.graph_model.proofs.Keys.{once_none, once_cons}
 use Rattle.edge_block.specs.Slots.{Slot, BlockView, first_some, NoKeyTwice, slot_at, stamp_at, AreDistinct, edges_in, entry_in}
 use Rattle.block_layout.specs.Rows.{shape_of, block_at, row_at, IsRow}
 use Rattle.row_pages.specs.Rows.{row_of, blocks_of}
@@ -52,12 +53,12 @@ slot_edge b e = edge_from (entry_in b e)
 abbrev slot_edges : BlockView → List (Option Slot) → List Edge
 slot_edges b slots = map edge_from (map (entry_in b) (edges_in slots))
 
-has_key_tests : (b : BlockView) (e : Slot) (k : Key)
-    → has_key k (slot_edge b e) ≡ (((k.kind == b.kind) && (k.source == b.source)) && (k.target == e.target))
-has_key_tests b e k =
+is_key_of_tests : (b : BlockView) (e : Slot) (k : Key)
+    → is_key_of k (slot_edge b e) ≡ (((k.kind == b.kind) && (k.source == b.source)) && (k.target == e.target))
+is_key_of_tests b e k =
     same_bool _ _
     (λ t.
-    let same : k ≡ key_of (slot_edge b e) = has_key-true k (slot_edge b e) t in
+    let same : k ≡ key_of (slot_edge b e) = is_key_of-true k (slot_edge b e) t in
     let kinds : (k.kind == b.kind) ≡ true = eq-eqb k.kind b.kind (ap (λ q. q.kind) same) in
     let sources : (k.source == b.source) ≡ true = eq-eqb k.source b.source (ap (λ q. q.source) same) in
     let targets : (k.target == e.target) ≡ true = eq-eqb k.target e.target (ap (λ q. q.target) same) in
@@ -68,12 +69,12 @@ has_key_tests b e k =
     let kinds : k.kind ≡ b.kind = eqb-true k.kind b.kind first.0 in
     let sources : k.source ≡ b.source = eqb-true k.source b.source first.1 in
     let targets : k.target ≡ e.target = eqb-true k.target e.target parts.1 in
-    has_key_at k (slot_edge b e) (λ i. record { kind = kinds i; source = sources i; target = targets i }))
+    is_key_of_at k (slot_edge b e) (λ i. record { kind = kinds i; source = sources i; target = targets i }))
 
 -- Look-up
 
 get_cons : (e : Edge) (es : List Edge) (key : Key)
-    → get (map_of (e ∷ es)) key ≡ cond (has_key key e) (Some (stamp_of e)) (get (map_of es) key)
+    → get (map_of (e ∷ es)) key ≡ cond (is_key_of key e) (Some (stamp_of e)) (get (map_of es) key)
 get_cons e es key = get-insert keys_total (map_of es) (key_of e) (stamp_of e) key
 
 pick : (c d : Bool) (s : Stamp) (r x : Option Stamp) → cond (c && d) (Some s) (option_or (if c then r else None) x)
@@ -93,7 +94,7 @@ get_slots b [] rest k = nothing ((k.kind == b.kind) && (k.source == b.source)) (
 get_slots b (None ∷ slots) rest k = get_slots b slots rest k
 get_slots b (Some e ∷ slots) rest k =
     get_cons (slot_edge b e) (slot_edges b slots ++ rest) k
-    ∙ ap (λ t. cond t (Some e.stamp) (get (map_of (slot_edges b slots ++ rest)) k)) (has_key_tests b e k)
+    ∙ ap (λ t. cond t (Some e.stamp) (get (map_of (slot_edges b slots ++ rest)) k)) (is_key_of_tests b e k)
     ∙ ap (cond (((k.kind == b.kind) && (k.source == b.source)) && (k.target == e.target)) (Some e.stamp))
     (get_slots b slots rest k)
     ∙ pick ((k.kind == b.kind) && (k.source == b.source)) (k.target == e.target) e.stamp (stamp_at slots k.target)
@@ -115,10 +116,10 @@ absent_cons key e es apart rest (suc k) d h = rest k d (omega arith)
 not_there : (es : List Edge) (key : Key) → get (map_of es) key ≡ None → All (λ x. key ≢ key_of x) es
 not_there [] key none = λ k d h. absurd (omega arith)
 not_there (e ∷ es) key none =
-    elim (has_key key e) as (λ t. has_key key e ≡ t → cond t (Some (stamp_of e)) (get (map_of es) key) ≡ None
+    elim (is_key_of key e) as (λ t. is_key_of key e ≡ t → cond t (Some (stamp_of e)) (get (map_of es) key) ≡ None
     → All (λ x. key ≢ key_of x) (e ∷ es)) [
       | true ↦ λ t is. cc
-      | false ↦ λ t is. absent_cons key e es (λ same. true≢false (sym (has_key_at key e same) ∙ t)) (not_there es key is)
+      | false ↦ λ t is. absent_cons key e es (λ same. true≢false (sym (is_key_of_at key e same) ∙ t)) (not_there es key is)
     ] refl (sym (get_cons e es key) ∙ none)
 
 none_left : (a b : Option Stamp) → a ≡ None → b ≡ None → option_or a b ≡ None

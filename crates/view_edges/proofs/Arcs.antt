@@ -11,7 +11,7 @@ use Rattle.graph_model.specs.Graph.{Key, Stamp, key_cmp, key_of, stamp_of, entry
 use Rattle.graph_model.specs.Analyses.{LeadsTo}
 use Rattle.graph_model.proofs.Arcs.{contains_map, map_contains}
 use Rattle.graph_model.proofs.Counts.{contains_filter, filter_contains}
-use Rattle.graph_model.proofs.Keys.{get_is, find_listed, has_key, has_key_at}
+use Rattle.graph_model.proofs.Keys.{get_is, find_listed, is_key_of, is_key_of_at}
 use Rattle.view_edges.specs.Listed.{edge_along, is_within, leaves, along, all_edges, put_targets}
 
 pick : (b : Bool) (s : Stamp) (o : Option Stamp) → o ≡ Some s → cond b (Some s) o ≡ Some s
@@ -23,8 +23,8 @@ present : (key : Key) (arcs : List (ℕ × ℕ)) (x : ℕ × ℕ) → Contains a
 present key [] x c same = let l = c.1 in absurd (omega arith)
 present key (y ∷ ys) x (zero, l, e) same =
     ap (λ t. cond t (Some (stamp_of (edge_along (0, 0)))) (find key_cmp key (map entry_of (map edge_along ys))))
-    (has_key_at key (edge_along y) (same ∙ ap (λ arc. key_of (edge_along arc)) (sym e)))
-present key (y ∷ ys) x (suc k, l, e) same = pick (has_key key (edge_along y)) _ _ (present key ys x (k, omega arith, e) same)
+    (is_key_of_at key (edge_along y) (same ∙ ap (λ arc. key_of (edge_along arc)) (sym e)))
+present key (y ∷ ys) x (suc k, l, e) same = pick (is_key_of key (edge_along y)) _ _ (present key ys x (k, omega arith, e) same)
 
 module _ (count : ℕ) (arcs : List (ℕ × ℕ)) where
   pub arc_along : (a b : ℕ) → LeadsTo all_edges (along count arcs) a b → Contains (filter (is_within count) arcs) (a, b)
