@@ -2,3 +2,4 @@ pub mod Selected
 pub mod Weights
 pub mod Windows
 pub mod UsedParts
+pub mod Lanes

@@ -7,7 +7,7 @@ use Rattle.std.proofs.lemmas.Bool.{ne_eqb, cases_lt}
 use Rattle.std.proofs.lemmas.Nat.{leading_length}
 use Rattle.std.proofs.lemmas.Nat.Bits.{bit_at_above}
 use Rattle.std.proofs.lemmas.List.{length-take, get_or-take, take_all}
-use Rattle.lane_scan.specs.Masks.{InMask, IsUsedPart, IsPlaceOf, IsPlaceWithin, selected_from, selected}
+use Rattle.lane_scan.specs.Masks.{InMask, IsUsedPart, IsPlaceWithin, selected_from, selected}
 use Rattle.lane_scan.proofs.Selected.{same_after}
 
 -- no bit stands past the highest one
@@ -56,25 +56,6 @@ selected_used mask xs used h =
     (λ k m above within e set. let same : k ≡ m = omega arith in h.past k above within (rw same set))
 
 -- the same places count
-pub place_from_used : (xs used : List ℕ) (live target place : ℕ) → IsUsedPart live xs used → IsPlaceOf used live target place
-    → IsPlaceOf xs live target place
-place_from_used xs used live target place h at =
-    let within : place < length used = at.within in
-    record {
-      within = omega (arith, used_few live xs used h);
-      lives = at.lives;
-      holds = sym (used_at live xs used place h within)
-          ∙ at.holds;
-    }
-
-pub place_in_used : (xs used : List ℕ) (live target place : ℕ) → IsUsedPart live xs used → IsPlaceOf xs live target place
-    → IsPlaceOf used live target place
-place_in_used xs used live target place h at =
-    elim (cases_lt place (length used)) [
-      | inl within ↦ record { within = within; lives = at.lives; holds = used_at live xs used place h within ∙ at.holds }
-      | inr past ↦ absurd (h.past place past at.within at.lives)
-    ]
-
 pub within_from_used : (xs used : List ℕ) (live lo hi place : ℕ) → IsUsedPart live xs used → IsPlaceWithin used live lo hi place
     → IsPlaceWithin xs live lo hi place
 within_from_used xs used live lo hi place h at =

@@ -1,13 +1,17 @@
 //! Scans over the columns of a block: at most 32 items, and a word whose bits are the places that count.
 //!
 //! Place `k` is in a mask where the mask's bit `k` is set and `k` is below the column's length: bits
-//! at or past the length are ignored. A scan ends at the highest place of its mask, so that one over few places
-//! costs few steps. No scan takes memory.
+//! at or past the length are ignored. Targets and times of a column of 32 are compared all at once, or the first
+//! four targets or eight times alone where no other place counts, and so without a branch for each place; the other
+//! scans end at the highest place of their mask, so that one over few places costs few steps. No scan takes memory.
 #![tactic(auto)]
 
 ghost use Rattle.std.specs.Prelude.{◌≡◌, ℕ, ◌+◌, ◌<◌, ◌≤◌, ◌^◌, ◌↔◌, ℤ, pos, ◌+ℤ◌, List, [], ◌∷◌, ◌++◌, length, fold, All};
-ghost use Rattle.std.specs.Prelude.{IsTrue};
-ghost use Rattle.lane_scan.specs.Masks.{InMask, IsFirstPlaceOf, IsPlaceWithin, IsUsedPart, IsWeight, AreBoundsOf, selected};
+ghost use Rattle.std.specs.Prelude.{IsTrue, slice_index};
+ghost use Rattle.lane_scan.specs.Masks.{InMask, IsFirstPlaceOf, IsPlaceOf, IsPlaceWithin, IsUsedPart, IsWeight, AreBoundsOf};
+ghost use Rattle.lane_scan.specs.Masks.{selected};
+
+use std::simd::prelude::*;
 
 #[cfg(test)]
 mod tests;
@@ -17,17 +21,103 @@ pub fn find_target(targets: &[u32], live: u32, target: u32) -> Option<usize>
     requires { length targets.now ≤ 32 }
     ensures { IsFirstPlaceOf targets.now live target result }
 {
-    let used = used_part(targets, live);
-    for (place, held) in used.iter().enumerate() {
-        if *held == target && is_in(live, place) {
-            return Some(place);
+    let due = target_mask(targets, live, target);
+    if due == 0 {
+        return None;
+    }
+    Some(due.trailing_zeros() as usize)
+}
+
+/// The live places that hold the target, as a mask.
+fn target_mask(targets: &[u32], live: u32, target: u32) -> u32
+    requires { length targets.now ≤ 32 }
+    ensures { (place : ℕ) → (InMask result place ↔ IsPlaceOf targets.now live target place) }
+{
+    if live < 16 && targets.len() >= 4 {
+        equal_lanes_4(targets, target) & live
+    } else if targets.len() == 32 {
+        equal_lanes_32(targets, target) & live
+    } else {
+        target_mask_one_by_one(targets, live, target)
+    }
+}
+
+/// Which of the first four places hold the target, as a mask.
+#[inline(always)]
+fn equal_lanes_4(targets: &[u32], target: u32) -> u32
+    requires { 4 ≤ length targets.now }
+    ensures { (place : ℕ) → place < 4 → (InMask result place ↔ (slice_index targets.now place ≡ target)) }
+{
+    let column = u32x4::from_slice(targets);
+    column.simd_eq(u32x4::splat(target)).to_bitmask() as u32
+}
+
+/// Which of 32 places hold the target, as a mask.
+#[inline(always)]
+fn equal_lanes_32(targets: &[u32], target: u32) -> u32
+    requires { length targets.now ≡ 32 }
+    ensures { (place : ℕ) → place < 32 → (InMask result place ↔ (slice_index targets.now place ≡ target)) }
+{
+    let column = u32x32::from_slice(targets);
+    column.simd_eq(u32x32::splat(target)).to_bitmask() as u32
+}
+
+/// The live places that hold the target, as a mask: of a column of any length, one place after another.
+fn target_mask_one_by_one(targets: &[u32], live: u32, target: u32) -> u32
+    requires { length targets.now ≤ 32 }
+    ensures { (place : ℕ) → (InMask result place ↔ IsPlaceOf targets.now live target place) }
+{
+    let mut held = 0;
+    for (place, found) in targets.iter().enumerate() {
+        if is_in(live, place) && *found == target {
+            held |= 1 << place;
         }
     }
-    None
+    held
 }
 
 /// The live places whose value is in `lo..=hi`, as a mask.
 pub fn window_mask(times: &[u64], live: u32, lo: u64, hi: u64) -> u32
+    requires { length times.now ≤ 32 }
+    ensures { (place : ℕ) → (InMask result place ↔ IsPlaceWithin times.now live lo hi place) }
+{
+    if live < 256 && times.len() >= 8 {
+        window_lanes_8(times, lo, hi) & live
+    } else if times.len() == 32 {
+        window_lanes_32(times, lo, hi) & live
+    } else {
+        window_mask_one_by_one(times, live, lo, hi)
+    }
+}
+
+/// Which of the first eight places have a value in `lo..=hi`, as a mask.
+#[inline(always)]
+fn window_lanes_8(times: &[u64], lo: u64, hi: u64) -> u32
+    requires { 8 ≤ length times.now }
+    ensures { (place : ℕ) → place < 8 →
+        (InMask result place ↔ ((lo ≤ slice_index times.now place) × (slice_index times.now place ≤ hi))) }
+{
+    let column = u64x8::from_slice(times);
+    let from = u64x8::splat(lo).simd_le(column).to_bitmask() as u32;
+    let to = column.simd_le(u64x8::splat(hi)).to_bitmask() as u32;
+    from & to
+}
+
+/// Which of 32 places have a value in `lo..=hi`, as a mask.
+#[inline(always)]
+fn window_lanes_32(times: &[u64], lo: u64, hi: u64) -> u32
+    requires { length times.now ≡ 32 }
+    ensures { (place : ℕ) → place < 32 →
+        (InMask result place ↔ ((lo ≤ slice_index times.now place) × (slice_index times.now place ≤ hi))) }
+{
+    let column = u64x32::from_slice(times);
+    let from = u64x32::splat(lo).simd_le(column).to_bitmask() as u32;
+    let to = column.simd_le(u64x32::splat(hi)).to_bitmask() as u32;
+    from & to
+}
+
+/// The live places whose value is in `lo..=hi`, as a mask: of a column of any length, one place after another.
+fn window_mask_one_by_one(times: &[u64], live: u32, lo: u64, hi: u64) -> u32
     requires { length times.now ≤ 32 }
     ensures { (place : ℕ) → (InMask result place ↔ IsPlaceWithin times.now live lo hi place) }
 {

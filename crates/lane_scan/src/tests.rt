@@ -71,6 +71,16 @@ fn next(state: &mut u64) -> u32 {
     (*state >> 32) as u32
 }
 
+/// A word of live places: of the first four alone, of the first eight, or of all.
+fn live_places(state: &mut u64) -> u32 {
+    let word = next(state);
+    match next(state) % 3 {
+        0 => word % 16,
+        1 => word % 256,
+        _ => word,
+    }
+}
+
 /// Numbers below 8, so that many are equal.
 fn few_targets(state: &mut u64) -> [u32; 32] {
     let mut targets = [0; 32];
@@ -131,7 +141,7 @@ fn finds_as_a_walk_from_the_end(rt: HostRuntime) {
         for _ in 0..INPUTS {
             let column = few_targets(&mut state);
             let targets = &column[..len];
-            let live = next(&mut state);
+            let live = live_places(&mut state);
             let target = next(&mut state) % 8;
 
             let mut expected = None;
@@ -152,7 +162,7 @@ fn window_is_as_built_from_the_highest_place(rt: HostRuntime) {
         for _ in 0..INPUTS {
             let column = few_times(&mut state);
             let times = &column[..len];
-            let live = next(&mut state);
+            let live = live_places(&mut state);
             let lo = u64::from(next(&mut state) % 32);
             let hi = u64::from(next(&mut state) % 32);
 

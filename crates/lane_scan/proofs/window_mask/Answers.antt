@@ -1,56 +1,13 @@
-use Rattle.std.proofs.Common.{arith, length, inl, inr}
-use Rattle.std.proofs.lemmas.Bool.{iff_false, cases_lt}
-use Rattle.lane_scan.specs.Masks.{IsPlaceWithin}
-use Rattle.lane_scan.proofs.UsedParts.{used_few, within_from_used, within_in_used}
-use Rattle.lane_scan.proofs.Windows.{judged_in, judged_out}
+use Rattle.std.proofs.Common.{arith}
+use Rattle.lane_scan.proofs.Lanes.{live_within}
 use Rattle.lane_scan.proofs.window_mask.Goals as goal
-use Rattle.lane_scan.proofs.window_mask.Goals.{then-is_in+then-lo-time+then-time-hi, else-is_in}
-use Rattle.lane_scan.proofs.window_mask.Goals.{else-is_in-via-then-is_in+then-lo-time+else-time-hi}
-use Rattle.lane_scan.proofs.window_mask.Goals.{else-is_in-via-then-is_in+else-lo-time, else-is_in-via-else-is_in}
 
-pub loop-place-preserved : goal.loop-place-preserved
-loop-place-preserved c =
-    elim c.if-is_in.branch [
-      | then-is_in+then-lo-time+then-time-hi w ↦
-          rw w.within-is
-          (judged_in c.used_part-used.result.now c.args.live c.args.lo c.args.hi c.loop-place.within c.loop-place.place
-          c.loop-place.invariant
-          (omega (arith, used_few c.args.live c.args.times.now c.used_part-used.result.now c.used_part-used.ensures))
-          (record {
-            within = c.loop-place-test.true;
-            lives = c.is_in.ensures.0 w.if-is_in.true;
-            from_lo = omega arith;
-            to_hi = omega arith;
-          }))
-      | else-is_in w ↦
-          rw w.within-is
-          (judged_out c.used_part-used.result.now c.args.live c.args.lo c.args.hi c.loop-place.within c.loop-place.place
-          c.loop-place.invariant
-          (elim w.else-is_in.branch [
-            | else-is_in-via-then-is_in+then-lo-time+else-time-hi w' ↦
-                (λ (in' : IsPlaceWithin c.used_part-used.result.now c.args.live c.args.lo c.args.hi c.loop-place.place). omega
-                (arith, in'.to_hi))
-            | else-is_in-via-then-is_in+else-lo-time w' ↦
-                (λ (in' : IsPlaceWithin c.used_part-used.result.now c.args.live c.args.lo c.args.hi c.loop-place.place). omega
-                (arith, in'.from_lo))
-            | else-is_in-via-else-is_in w' ↦
-                (λ (in' : IsPlaceWithin c.used_part-used.result.now c.args.live c.args.lo c.args.hi c.loop-place.place). iff_false
-                c.is_in.ensures w'.if-is_in.false in'.lives)
-          ]))
-    ]
+pub returns-then-times-ge8 : goal.returns-then-times-ge8
+returns-then-times-ge8 c =
+    live_within c.args.times.now c.args.live c.args.lo c.args.hi c.window_lanes_8.result 8 (omega arith) (omega arith)
+    c.window_lanes_8.ensures
 
-pub returns : goal.returns
-returns c = λ place.
-    elim (cases_lt place (length c.used_part-used.result.now)) [
-      | inl within ↦ (
-        (λ set. within_from_used c.args.times.now c.used_part-used.result.now c.args.live c.args.lo c.args.hi place
-            c.used_part-used.ensures ((c.loop-place.invariant.below place (omega arith)).0 set)),
-        (λ at. (c.loop-place.invariant.below place (omega arith)).1
-            (within_in_used c.args.times.now c.used_part-used.result.now c.args.live c.args.lo c.args.hi place
-            c.used_part-used.ensures at)),
-      )
-      | inr past ↦ (
-        (λ set. absurd (c.loop-place.invariant.above place (omega arith) set)),
-        (λ at. absurd (c.used_part-used.ensures.past place past at.within at.lives)),
-      )
-    ]
+pub returns-then-times-eq32 : goal.returns-then-times-eq32
+returns-then-times-eq32 c =
+    live_within c.args.times.now c.args.live c.args.lo c.args.hi c.window_lanes_32.result 32 (omega arith)
+    (omega (arith, c.ranges.live.fits)) c.window_lanes_32.ensures
