@@ -1,5 +1,5 @@
 ghost use Rattle.std.specs.Prelude.{◌≡◌, ◌≤◌, ◌↔◌, ℕ, Some, length, slice_get, option_copied, IsTrue, IsOk, IfOk, IfErr, OnOk};
-ghost use Rattle.std.specs.Prelude.{OnErr};
+ghost use Rattle.std.specs.Prelude.{OnErr, IfSome};
 ghost use Rattle.std.specs.Option.{SomeIff};
 ghost use Rattle.graph_model.specs.Step.{with_name, number_of};
 ghost use Rattle.graph_model.specs.Answer.{is_listed};
@@ -54,6 +54,8 @@ pub struct NameBook {
     index: HashIndex,
     /// The numbers of the names whose hash another name had taken.
     others: Vec<u32>,
+    /// The number that `add` found last: operations mostly have one kind, which is then found without its hash.
+    last: u32,
 }
 
 impl Model for NameBook {
@@ -79,6 +81,7 @@ impl NameBook {
             texts: Texts::new(alloc),
             index: HashIndex::new(alloc),
             others: Vec::new(alloc),
+            last: 0,
         }
     }
 
@@ -116,6 +119,18 @@ impl NameBook {
         self.texts.find_among(&self.others, name)
     }
 
+    /// The number that `add` found last, if it is the name's.
+    fn last_if(&self, name: &str) -> Option<u32>
+        ensures listed { IfSome result (λ number. IsTrue (is_listed self.now.names name.now)) }
+        ensures number { IfSome result (λ number. number ≡ number_of self.now.names name.now) }
+    {
+        if self.texts.is_at(self.last, name) {
+            Some(self.last)
+        } else {
+            None
+        }
+    }
+
     /// The name of that number, if there are more names than that.
     pub fn name(&self, number: u32) -> Option<&str>
         ensures { option_copied result ≡ slice_get self.now.names number }
@@ -138,8 +153,12 @@ impl NameBook {
         ensures refused { IfErr result (λ error. Refuses error self.old name.now) }
         ensures unchanged { OnErr result (self.new ≡ self.old) }
     {
+        if let Some(number) = self.last_if(name) {
+            return Ok(number);
+        }
         let hash = hash_of(name);
         if let Some(number) = self.number_at(hash, name) {
+            self.last = number;
             return Ok(number);
         }
         let number = self.texts.len();
@@ -164,6 +183,7 @@ impl NameBook {
             texts: self.texts.share()?,
             index: self.index.share()?,
             others: self.others.clone()?,
+            last: self.last,
         })
     }
 }

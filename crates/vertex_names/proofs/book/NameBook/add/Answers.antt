@@ -4,8 +4,8 @@ use Rattle.vertex_names.specs.Index.{text_hash, Stands}
 use Rattle.vertex_names.proofs.Names.{number_of-new, not_listed, IsBook-pushed, IsIndexed-kept, IsIndexed-pushed}
 use Rattle.vertex_names.proofs.book.NameBook.add.Goals as goal
 
-pub invariant_of-self : goal.invariant_of-self
-invariant_of-self c = (c.self.invariant.0, IsIndexed-kept _ _ _ _ _ c.self.invariant.1 c.enter.ensures.kept)
+pub invariant_of-self-in_err-enter : goal.invariant_of-self-in_err-enter
+invariant_of-self-in_err-enter c = (c.self.invariant.0, IsIndexed-kept _ _ _ _ _ c.self.invariant.1 c.enter.ensures.kept)
 
 pub invariant_of-self-in_err-push : goal.invariant_of-self-in_err-push
 invariant_of-self-in_err-push c =
@@ -15,7 +15,8 @@ invariant_of-self-in_err-push c =
 pub invariant_of-self-2 : goal.invariant_of-self-2
 invariant_of-self-2 c =
     let names : List (List ℕ) = c.self.inside.texts in
-    let new : is_listed names c.args.name.now ≡ false = not_listed _ _ c.args.name.now c.self.view_is c.in_default.ensures in
+    let new : is_listed names c.args.name.now ≡ false =
+    not_listed _ _ c.args.name.now c.self.view_is c.in_default-number_at.ensures in
     let room : length names < c.self.inside.limit = omega (arith, c.len-number.ensures) in
     let pushed : c.push.new.self ≡ names ++ c.args.name.now ∷ [] =
     c.in_ok-push.ensures.pushed ∙ ap (λ (n : List ℕ). names ++ n ∷ []) c.in_ok-text.ensures.ok in
@@ -32,5 +33,5 @@ invariant_of-self-2 c =
 pub returns-clause-number : goal.returns-clause-number
 returns-clause-number c =
     let new : is_listed c.self.inside.texts c.args.name.now ≡ false =
-    not_listed _ _ c.args.name.now c.self.view_is c.in_default.ensures in
+    not_listed _ _ c.args.name.now c.self.view_is c.in_default-number_at.ensures in
     rw (← c.self.view_is) (c.len-number.ensures ∙ sym (number_of-new _ _ new))
