@@ -1,26 +1,23 @@
 -- What all shards leave is what the batch leaves of the version.
 use Rattle.std.proofs.Common.{◌≡◌, ◌≢◌, ℕ, zero, suc, ◌+◌, ◌<◌, ◌≤◌, ◌==◌, Bool, true, false, cond, ◌||◌, List, [], ◌∷◌, ◌++◌}
-use Rattle.std.proofs.Common.{length, length-append, get_or, map, flat_map, count_by, replicate, refl, sym, ap, ap₂, ◌∙◌, arith}
+use Rattle.std.proofs.Common.{length, length-append, map, flat_map, count_by, replicate, refl, sym, ap, ap₂, ◌∙◌, arith}
 use Rattle.std.proofs.Common.{subst, All, AllPairs, ltb}
 use Rattle.std.specs.List.{sum_by, range_with_len, AllZip, list_any}
-use Rattle.std.proofs.lemmas.Bool.{eqb-true, eqb-false, ltb-true, ltb-false, true≢false}
+use Rattle.std.proofs.lemmas.Bool.{eqb-true, ltb-true, ltb-false, true≢false}
 use Rattle.std.proofs.lemmas.List.{length-map, map-append, length-replicate}
 use Rattle.std.proofs.lemmas.Grind.{flat_map-append}
 use Rattle.std.proofs.lemmas.List.Sums.{sum_by-cons}
 use Rattle.std.proofs.lemmas.List.Elements.{All-head, All-tail, All-nil, All-append}
-use Rattle.std.specs.declared.sync.Arc.{Arc}
-use Rattle.std.specs.declared.alloc.Global.{Global}
-use Rattle.graph_model.specs.Graph.{Graph, Key}
+use Rattle.graph_model.specs.Graph.{Graph}
 use Rattle.graph_model.specs.Limits.{name_limit, kind_limit, batch_limit}
 use Rattle.graph_model.specs.Step.{after_all, outcomes, left_by}
 use Rattle.graph_model.specs.declared.batches.NamedOp.{NamedOp}
 use Rattle.graph_model.specs.declared.batches.Outcome.{Outcome}
 use Rattle.graph_model.specs.declared.batches.Outcome.TheVariants.{Absent}
 use Rattle.edge_block.specs.Slots.{BlockView}
-use Rattle.edge_block.specs.declared.blocks.Block.{Block}
 use Rattle.vertex_names.specs.Book.{Book}
-use Rattle.block_layout.specs.Rows.{Shape, shape_of, row_at, IsRow}
-use Rattle.block_layout.specs.Batches.{Resolved, resolved, outcomes_all, opened, layout_after, taken_by, dropped_by, IsLayoutOf}
+use Rattle.block_layout.specs.Rows.{shape_of, row_at, IsRow}
+use Rattle.block_layout.specs.Batches.{Resolved, resolved, outcomes_all, opened, layout_after}
 use Rattle.block_layout.specs.Batches.{IsWithin}
 use Rattle.block_layout.proofs.GraphLaws.{batch_layout}
 use Rattle.row_pages.specs.Rows as rows
@@ -31,10 +28,10 @@ use Rattle.shard_work.specs.Done.{IsShardDone, Exchanges, sources_in}
 use Rattle.shard_work.specs.declared.shard.Shard.{Shard}
 use Rattle.shard_work.specs.declared.shard.ShardDone.{ShardDone}
 use Rattle.shard_work.proofs.ShardSteps.{length-outcomes_all}
-use Rattle.graph_version.specs.Versions.{VersionView, IsVersion, IsSmall, IsBlockOf, AreRowsOf, content, layout_of, is_in}
+use Rattle.graph_version.specs.Versions.{VersionView, IsVersion, IsBlockOf, AreRowsOf, content, layout_of, is_in}
 use Rattle.graph_version.specs.Kept.{vertex_book, kind_book}
 use Rattle.graph_version.specs.Drafts.{DraftView, drafted_over, with_batch, IsWhole}
-use Rattle.batch_plan.specs.Shards.{IsShardOf, is_of}
+use Rattle.batch_plan.specs.Shards.{IsShardOf}
 use Rattle.batch_plan.specs.Planned.{MeetsNeitherLimit}
 use Rattle.batch_apply.specs.Plans.{written, written_all}
 use Rattle.batch_apply.specs.Sums.{ArePlanned}
@@ -42,10 +39,10 @@ use Rattle.batch_apply.specs.Applied.{IsApplied, ReplacesRows, row_among, writte
 use Rattle.batch_apply.specs.declared.applied.Applied.{Applied}
 use Rattle.batch_apply.proofs.Totals.{count_more}
 use Rattle.batch_apply.proofs.Written.{all_written}
-use Rattle.batch_apply.proofs.Together.{sources_all, Zipped, all_once, all_within, once, quiet_layout, batch_totals}
+use Rattle.batch_apply.proofs.Together.{all_once, all_within, once, quiet_layout, batch_totals}
 use Rattle.batch_apply.proofs.Together.{shard_outcomes_at, shard_layout_at}
 use Rattle.batch_apply.proofs.Placed.{times, sources_of, among_is}
-use Rattle.batch_apply.proofs.Kept.{count_append, count_map, pairs, some_times, exchanged_all}
+use Rattle.batch_apply.proofs.Kept.{count_append, count_map, pairs, exchanged_all}
 use Rattle.batch_apply.specs.Jobs.{IsDealt, AreDone}
 use Rattle.batch_apply.specs.declared.workers.Job.{Job}
 use Rattle.batch_apply.proofs.Dealt.{length-resolved, shards_in, dealt_planned, done_in, fresh_in}

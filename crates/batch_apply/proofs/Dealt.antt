@@ -1,8 +1,8 @@
 -- Shards that have got their fresh blocks.
-use Rattle.std.proofs.Common.{◌≡◌, ◌≢◌, ℕ, zero, suc, ◌+◌, ◌<◌, ◌≤◌, ◌==◌, true, false, cond, List, [], ◌∷◌, ◌++◌, length, map}
+use Rattle.std.proofs.Common.{◌≡◌, ℕ, zero, suc, ◌+◌, ◌<◌, ◌≤◌, ◌==◌, true, false, cond, List, [], ◌∷◌, ◌++◌, length, map}
 use Rattle.std.proofs.Common.{flat_map, refl, sym, ap, ap₂, ◌∙◌, arith, subst, All}
 use Rattle.std.specs.List.{sum_by, range_with_len, AllZip}
-use Rattle.std.proofs.lemmas.Bool.{eqb-true, eqb-false}
+use Rattle.std.proofs.lemmas.Bool.{eqb-true}
 use Rattle.std.proofs.lemmas.List.{length-map}
 use Rattle.std.proofs.lemmas.List.Sums.{sum_by-cons}
 use Rattle.std.proofs.lemmas.List.Elements.{All-nil, All-cons}
@@ -12,12 +12,12 @@ use Rattle.edge_block.specs.Slots.{BlockView}
 use Rattle.block_layout.specs.Operations.{names_after, kinds_after}
 use Rattle.block_layout.specs.Batches.{Resolved, resolved, shard_of, shard_ops}
 use Rattle.shard_work.specs.RowBlocks.{numbers_of}
-use Rattle.shard_work.specs.Shards.{AreSteps, resolved_at, resolved_in}
+use Rattle.shard_work.specs.Shards.{AreSteps, resolved_at}
 use Rattle.shard_work.specs.Done.{IsShardDone, sources_in, steps_in}
 use Rattle.shard_work.specs.declared.shard.Shard.{Shard}
 use Rattle.shard_work.specs.declared.shard.ShardDone.{ShardDone}
 use Rattle.shard_work.specs.declared.shard.Step.{Step}
-use Rattle.batch_plan.specs.Shards.{acts, AreShardSteps, IsShardOf}
+use Rattle.batch_plan.specs.Shards.{AreShardSteps, IsShardOf}
 use Rattle.batch_apply.specs.Jobs.{steps_of, IsDealt, IsShard, AreDone}
 use Rattle.batch_apply.specs.declared.workers.Job.{Job}
 

@@ -1,13 +1,11 @@
 -- What shards leave, put together, is what the batch leaves.
-use Rattle.std.proofs.Common.{◌≡◌, ℕ, ◌+◌, ◌%◌, ◌==◌, List, [], ◌∷◌, map, filter, zip, Bool, true, false, cond, refl, sym, ap}
-use Rattle.std.proofs.Common.{◌∙◌, Option, Some, None, All, not, ◌&&◌}
+use Rattle.std.proofs.Common.{◌≡◌, ℕ, ◌+◌, ◌%◌, ◌==◌, List, [], ◌∷◌, map, filter, zip, Bool, true, false, cond, refl, ap}
+use Rattle.std.proofs.Common.{◌∙◌, All}
 use Rattle.std.specs.List.{enumerate_from}
-use Rattle.std.proofs.lemmas.Bool.{true≢false, false≢true}
 use Rattle.std.proofs.lemmas.List.Elements.{All-head, All-tail}
 use Rattle.graph_model.specs.Graph.{Graph}
 use Rattle.graph_model.specs.declared.batches.NamedOp.{NamedOp}
-use Rattle.graph_model.specs.declared.batches.Outcome.{Outcome}
-use Rattle.block_layout.specs.Rows.{Shape, OpenBlock, untouched, row_end, shapes, is_kept}
+use Rattle.block_layout.specs.Rows.{Shape, OpenBlock, untouched, row_end}
 use Rattle.block_layout.specs.Batches.{Resolved, resolved, shard_of, shard_ops, picked, rows_all, rows_step, outcomes_all}
 use Rattle.block_layout.specs.Batches.{opened, layout_after, key_is_of, row_step}
 use Rattle.block_layout.proofs.ShardLaws.{shard_rows, shard_outcomes}

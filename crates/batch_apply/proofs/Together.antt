@@ -1,24 +1,20 @@
 -- The blocks that all workers take and drop are those of the batch.
 use Rattle.std.proofs.Common.{◌≡◌, ◌≢◌, ℕ, zero, suc, ◌+◌, ◌%◌, ◌<◌, ◌≤◌, ◌==◌, List, [], ◌∷◌, ◌++◌, length, map, flat_map}
-use Rattle.std.proofs.Common.{get_or, count_by, Bool, true, false, cond, refl, sym, ap, ap₂, ◌∙◌, arith, subst, Option, Some}
+use Rattle.std.proofs.Common.{get_or, count_by, true, false, cond, refl, sym, ap, ap₂, ◌∙◌, arith, subst, Option, Some}
 use Rattle.std.proofs.Common.{None, All, AllPairs, mod-lt, zip}
 use Rattle.std.specs.List.{sum_by, range_with_len, AllZip}
-use Rattle.std.specs.declared.sync.Arc.{Arc}
-use Rattle.std.specs.declared.alloc.Global.{Global}
-use Rattle.std.specs.declared.vec.Vec.{Vec}
-use Rattle.std.proofs.lemmas.Bool.{true≢false, false≢true, eqb-true, eqb-false, false_from_ne_true, true_from_ne_false}
+use Rattle.std.proofs.lemmas.Bool.{eqb-true, eqb-false, false_from_ne_true, true_from_ne_false}
 use Rattle.std.proofs.lemmas.List.{length-map, get_or-map}
 use Rattle.std.proofs.lemmas.List.Sums.{sum_by-cons, sum_by-append}
 use Rattle.std.proofs.lemmas.List.Elements.{All-head, All-tail, All-cons, All-nil, All-append, All-map}
 use Rattle.graph_model.specs.Graph.{Graph, Key}
 use Rattle.graph_model.specs.Step.{after_all}
 use Rattle.graph_model.specs.declared.batches.NamedOp.{NamedOp}
-use Rattle.edge_block.specs.declared.blocks.Block.{Block}
 use Rattle.graph_model.specs.declared.changes.EdgeChange.{EdgeChange}
 use Rattle.block_layout.specs.Rows.{Shape, OpenBlock, taken_in, dropped_in, shape_of, row_end}
-use Rattle.block_layout.specs.Batches.{Resolved, resolved, shard_ops, sum_below, rows_all, opened, key_is_of, taken_by}
+use Rattle.block_layout.specs.Batches.{Resolved, resolved, shard_ops, rows_all, opened, key_is_of, taken_by}
 use Rattle.block_layout.specs.Batches.{dropped_by, outcomes_all, layout_after}
-use Rattle.shard_work.specs.Shards.{IsPlace, key_at, resolved_at, resolved_in}
+use Rattle.shard_work.specs.Shards.{IsPlace, key_at, resolved_at}
 use Rattle.shard_work.specs.Done.{IsShardDone, sources_in, steps_in, rows_by, layout_by, sum_of}
 use Rattle.shard_work.specs.declared.shard.Shard.{Shard}
 use Rattle.shard_work.specs.declared.shard.ShardDone.{ShardDone}

@@ -1,18 +1,17 @@
 -- Sums over the sources of shards are sums over all sources.
-use Rattle.std.proofs.Common.{◌≡◌, ◌≢◌, ℕ, zero, suc, ◌+◌, ◌*◌, ◌%◌, ◌<◌, ◌≤◌, ◌==◌, List, [], ◌∷◌, ◌++◌, length, map, filter}
-use Rattle.std.proofs.Common.{count_by, Bool, true, false, cond, not, ◌&&◌, refl, sym, ap, ap₂, ◌∙◌, arith, subst, Option, Some}
-use Rattle.std.proofs.Common.{None, All, AllPairs}
+use Rattle.std.proofs.Common.{◌≡◌, ℕ, zero, suc, ◌+◌, ◌%◌, ◌<◌, ◌≤◌, ◌==◌, List, [], ◌∷◌, map, filter}
+use Rattle.std.proofs.Common.{count_by, Bool, true, false, cond, not, ◌&&◌, refl, sym, ap, ap₂, ◌∙◌, arith, Option}
+use Rattle.std.proofs.Common.{All}
 use Rattle.std.specs.List.{sum_by}
-use Rattle.std.proofs.lemmas.Bool.{true≢false, false≢true, eqb-true, eqb-false, false_from_ne_true}
+use Rattle.std.proofs.lemmas.Bool.{eqb-true, eqb-false, false_from_ne_true}
 use Rattle.std.proofs.lemmas.List.Sums.{sum_by-cons}
 use Rattle.std.proofs.lemmas.List.Elements.{All-head, All-tail, All-cons, All-nil}
 use Rattle.graph_model.specs.Graph.{Graph, Key}
 use Rattle.graph_model.specs.declared.batches.NamedOp.{NamedOp}
-use Rattle.graph_model.specs.declared.batches.Outcome.{Outcome}
 use Rattle.graph_model.specs.declared.changes.EdgeChange.{EdgeChange}
-use Rattle.block_layout.specs.Rows.{Shape, OpenBlock, untouched, taken_in, dropped_in, row_end, has_none}
+use Rattle.block_layout.specs.Rows.{Shape, OpenBlock, untouched, taken_in, dropped_in, has_none}
 use Rattle.block_layout.specs.Batches.{Resolved, resolved, shard_ops, sum_below, rows_all, rows_step, row_step, outcome_in}
-use Rattle.block_layout.specs.Batches.{outcomes_all, opened, key_is_of, layout_after}
+use Rattle.block_layout.specs.Batches.{outcomes_all, opened, key_is_of}
 use Rattle.block_layout.proofs.ShardLaws.{shard_rows}
 use Rattle.batch_plan.specs.Shards.{acts, IsShardOf}
 use Rattle.shard_work.specs.Done.{steps_in}

@@ -1,10 +1,10 @@
 -- Results of all shards, written at their places, are the batch's results.
-use Rattle.std.proofs.Common.{◌≡◌, ℕ, zero, suc, ◌+◌, ◌%◌, ◌<◌, ◌==◌, List, [], ◌∷◌, ◌++◌, length, set, Bool, true, false, cond}
-use Rattle.std.proofs.Common.{refl, sym, ap, ◌∙◌, ◌||◌, arith, subst, Option, Some, None, All, mod-lt, length-append}
-use Rattle.std.specs.List.{enumerate_from, range_with_len, list_any}
+use Rattle.std.proofs.Common.{◌≡◌, ℕ, zero, suc, ◌+◌, ◌<◌, ◌==◌, List, [], ◌∷◌, ◌++◌, length, set, Bool, true, false, cond}
+use Rattle.std.proofs.Common.{refl, sym, ap, ◌∙◌, ◌||◌, arith, Option, Some, None, mod-lt, length-append}
+use Rattle.std.specs.List.{range_with_len, list_any}
 use Rattle.std.proofs.lemmas.List.{append_assoc}
 use Rattle.std.proofs.lemmas.Bool.{eqb-false}
-use Rattle.block_layout.specs.Batches.{Resolved, shard_of, picked}
+use Rattle.block_layout.specs.Batches.{Resolved, shard_of}
 use Rattle.batch_plan.specs.Shards.{is_of}
 use Rattle.batch_apply.specs.Plans.{written, results, written_all}
 

@@ -1,5 +1,5 @@
 -- The work on shards.
-use Rattle.std.specs.Prelude.{◌≡◌, ◌≢◌, ℕ, ◌≤◌, List, map, length, AllPairs, All}
+use Rattle.std.specs.Prelude.{◌≡◌, ◌≢◌, ℕ, ◌≤◌, List, map, length, AllPairs}
 use Rattle.std.specs.List.{AllZip}
 use Rattle.edge_block.specs.Slots.{BlockView}
 use Rattle.shard_work.specs.Shards.{AreSteps}

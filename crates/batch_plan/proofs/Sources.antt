@@ -1,12 +1,12 @@
 -- An operation's source is one of the vertices that the batch leaves.
-use Rattle.std.proofs.Common.{◌≡◌, ◌<◌, ℕ, List, [], ◌∷◌, length, ◌≤◌, Bool, true, false, cond, ◌&&◌, refl, sym, ap, subst, All}
-use Rattle.std.proofs.Common.{Option, Some, None, arith}
+use Rattle.std.proofs.Common.{◌≡◌, ◌<◌, ℕ, List, [], ◌∷◌, length, ◌≤◌, Bool, true, false, cond, ◌&&◌, refl, subst, All}
+use Rattle.std.proofs.Common.{Some, None, arith}
 use Rattle.std.proofs.lemmas.List.Elements.{All-nil, All-cons}
 use Rattle.graph_model.specs.Graph.{Graph, Key}
 use Rattle.graph_model.specs.Step.{after_all}
 use Rattle.graph_model.specs.declared.batches.NamedOp.{NamedOp}
 use Rattle.graph_model.proofs.NameLists.{number_of-lt}
-use Rattle.block_layout.specs.Batches.{Resolved, is_known, resolve, resolved}
+use Rattle.block_layout.specs.Batches.{is_known, resolve, resolved}
 use Rattle.block_layout.specs.Operations.{source_name, target_name, kind_name, names_after, kinds_after, key_by}
 use Rattle.shard_work.specs.Done.{sources_in}
 use Rattle.shard_work.specs.declared.shard.Shard.{Shard}

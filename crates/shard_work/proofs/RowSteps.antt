@@ -13,7 +13,8 @@ use Rattle.graph_model.specs.Graph.{Stamp, IsWeight, IsTime}
 use Rattle.graph_model.specs.Step.{stamp_after, outcome_at}
 use Rattle.graph_model.specs.declared.changes.EdgeChange.{EdgeChange}
 use Rattle.graph_model.specs.declared.changes.EdgeChange.TheVariants.{Insert, Incr, Remove}
-use Rattle.edge_block.specs.Slots.{Slot, stamp_at, is_free, put_slot, has_room_for, IsSlot, first_some, at_first}
+use Rattle.edge_block.proofs.Entries.{list_any-holds}
+use Rattle.edge_block.specs.Slots.{Slot, holds, stamp_at, is_free, put_slot, has_room_for, IsSlot, first_some, at_first}
 use Rattle.block_layout.specs.Rows.{OpenBlock, has_edge, has_room, open_at, edge_at, touch, touches, put_edge, set_edge}
 use Rattle.block_layout.specs.Rows.{new_block, change_row}
 use Rattle.shard_work.specs.RowBlocks.{block_of, open_of, opens, set_slot, IsChanged, HaveSame}
@@ -53,6 +54,11 @@ edge_kind kind target h is =
       | false ↦ λ i. absurd (false≢true i)
     ] is
 
+pub edge_target : (kind target : ℕ) (h : RowBlock) → at_edge kind target h ≡ true
+    → list_any (holds target) (block_of h.block).slots ≡ true
+edge_target kind target h is = list_any-holds target (block_of h.block).slots
+    ∙ ap is_some (sym (edge_kind kind target (open_of h) is)) ∙ is
+
 module _ (kind target : ℕ) (row : List RowBlock) where
   module _ (i : ℕ) (d : RowBlock) (found : position (at_edge kind target) row ≡ Some i) where
     abbrev here : RowBlock
@@ -68,7 +74,8 @@ module _ (kind target : ℕ) (row : List RowBlock) where
     pub found_edge : edge_at (opens row) (kind, target) ≡ stamp_at (block_of here.block).slots target
     found_edge = mapped row ∙ first_has (λ h. open_at (open_of h) (kind, target)) row i d found
         ∙ edge_kind kind target (open_of here) stands where
-          mapped : (row : List RowBlock) → edge_at (opens row) (kind, target) ≡ first_some (λ h. open_at (open_of h) (kind, target))
+          mapped : (row : List RowBlock) → edge_at (opens row) (kind, target)
+              ≡ first_some (λ h. open_at (open_of h) (kind, target))
               row
           mapped [] = refl
           mapped (h ∷ row) = ap (option_or (open_at (open_of h) (kind, target))) (mapped row)

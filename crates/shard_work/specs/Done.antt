@@ -1,5 +1,5 @@
 -- What a shard must leave of a version's rows.
-use Rattle.std.specs.Prelude.{◌≡◌, ℕ, ◌+◌, List, [], map, flat_map, zip, length, count_by, All, Bool}
+use Rattle.std.specs.Prelude.{◌≡◌, ℕ, ◌+◌, List, map, flat_map, zip, length, count_by, All, Bool}
 use Rattle.edge_block.specs.Slots.{BlockView}
 use Rattle.graph_version.specs.Versions.{IsBlockOf}
 use Rattle.block_layout.specs.Rows.{OpenBlock, Shape, shape_of, row_end, taken_in, dropped_in}

@@ -1,4 +1,6 @@
 pub mod RowBlocks
+pub mod Notes
+pub mod Room
 pub mod Shards
 pub mod Closing
 pub mod Done

@@ -11,12 +11,18 @@ ghost use Rattle.shard_work.specs.Closing.{dropped_of, unused_of, row_values, cl
 ghost use Rattle.shard_work.specs.Closing.{unused_all};
 ghost use Rattle.shard_work.specs.Done.{AreBlockRows, IsShardDone, layout_by};
 ghost use Rattle.row_pages.specs.Rows.{row_of};
-ghost use Rattle.shard_work.specs.Shards.{AreOpen, AreOwn, IsPlace, AreSteps, key_at, resolved_at, resolved_in, sources_of};
+ghost use Rattle.shard_work.specs.Shards.{AreOpen, AreOwn, AreHinted, IsPlace};
+ghost use Rattle.shard_work.specs.Shards.{AreSteps, key_at, resolved_at, resolved_in, sources_of};
 ghost use Rattle.shard_work.specs.Shards.{had_all, own_all};
+ghost use Rattle.shard_work.specs.Notes.{IsNoted};
+ghost use Rattle.shard_work.specs.Room.{AreHints};
 ghost use Rattle.graph_model.specs.Changes.{IsChange};
 
+use crate::notes::Notes;
+use crate::room::Room;
 use crate::row_blocks::RowBlock;
-use crate::rows::apply_step;
+use crate::rows::{Hints, apply_step};
+use crate::targets::{MANY_STEPS, targets_by_row, targets_of};
 use edge_block::Block;
 use graph_model::{EdgeChange, KindId, Outcome, VertexId};
 use graph_version::Version;
@@ -28,6 +34,7 @@ use std::sync::Arc;
 pub struct OpenRow {
     pub source: VertexId,
     pub blocks: Vec<RowBlock>,
+    pub hints: Hints,
 }
 
 /// Where an operation's edge is: the place of its source among the shard's, its kind and its target.
@@ -58,11 +65,13 @@ pub fn do_step(
     requires place { IsPlace (length work.old.items) place }
     requires own { AreOwn work.old.items }
     requires distinct { AllPairs (λ a b. a ≢ b) (sources_of work.old.items) }
+    requires hinted { AreHinted work.old.items }
     ensures rows { OnOk result ((rows : ℕ → List OpenBlock) → AreOpen rows work.old.items
         → AreOpen (rows_step (resolved_at (sources_of work.old.items) change place) rows) work.new.items) }
     ensures outcome { IfOk result (λ o. (rows : ℕ → List OpenBlock) → AreOpen rows work.old.items
         → o ≡ outcome_in change (key_at (sources_of work.old.items) place) rows) }
     ensures own { OnOk result (AreOwn work.new.items) }
+    ensures hinted { OnOk result (AreHinted work.new.items) }
     ensures sources { OnOk result (sources_of work.new.items ≡ sources_of work.old.items) }
     ensures had { OnOk result (had_all work.new.items ≡ had_all work.old.items) }
     ensures numbers { OnOk result (HaveSame (own_all work.new.items) (numbers_of fresh.new.items) (own_all work.old.items)
@@ -75,6 +84,7 @@ pub fn do_step(
     let row = &mut work[place.row as usize];
     let outcome = apply_step(
         &mut row.blocks,
+        &mut row.hints,
         fresh,
         row.source,
         place.kind,
@@ -95,11 +105,13 @@ pub fn do_steps(
     requires steps { AreSteps (length work.old.items) steps.now }
     requires own { AreOwn work.old.items }
     requires distinct { AllPairs (λ a b. a ≢ b) (sources_of work.old.items) }
+    requires hinted { AreHinted work.old.items }
     ensures rows { OnOk result ((rows : ℕ → List OpenBlock) → AreOpen rows work.old.items
         → AreOpen (rows_all (resolved_in (sources_of work.old.items) steps.now) rows) work.new.items) }
     ensures outcomes { IfOk result (λ v. (rows : ℕ → List OpenBlock) → AreOpen rows work.old.items
         → v.items ≡ zip (map (λ s. s.op) steps.now) (outcomes_all (resolved_in (sources_of work.old.items) steps.now) rows)) }
     ensures own { OnOk result (AreOwn work.new.items) }
+    ensures hinted { OnOk result (AreHinted work.new.items) }
     ensures sources { OnOk result (sources_of work.new.items ≡ sources_of work.old.items) }
     ensures had { OnOk result (had_all work.new.items ≡ had_all work.old.items) }
     ensures numbers { OnOk result (HaveSame (own_all work.new.items) (numbers_of fresh.new.items) (own_all work.old.items)
@@ -113,14 +125,25 @@ pub fn do_steps(
     Ok(outcomes)
 }
 
+/// A row of as many blocks is read once beforehand, where many operations touch it.
+const LONG_ROW: usize = 4;
+
 /// The row of a source as the version has it, before the batch's first operation.
-pub fn open_row(alloc: Global, source: VertexId, row: &[Arc<Block>]) -> Result<OpenRow, AllocError>
+///
+/// The targets are those that the batch's operations ask for, where it has many for this row.
+pub fn open_row(
+    alloc: Global,
+    source: VertexId,
+    row: &[Arc<Block>],
+    targets: &[u32],
+) -> Result<OpenRow, AllocError>
     requires { All (λ b. (block_of b).source ≡ source.0) row.now }
     ensures source { IfOk result (λ r. r.source ≡ source) }
     ensures blocks { IfOk result (λ r. opens r.blocks.items ≡ map kept_of row.now) }
     ensures had { IfOk result (λ r. had_in r.blocks.items ≡ blocks_of row.now) }
     ensures none_own { IfOk result (λ r. own_in r.blocks.items ≡ []) }
     ensures own { IfOk result (λ r. All (IsOf source.0) r.blocks.items) }
+    ensures hinted { IfOk result (λ r. AreHints r.hints r.blocks.items) }
 {
     let mut blocks = Vec::with_capacity(alloc, row.len() + 1)?;
     for block in row {
@@ -130,7 +153,29 @@ pub fn open_row(alloc: Global, source: VertexId, row: &[Arc<Block>]) -> Result<O
             before: None,
         })?;
     }
-    Ok(OpenRow { source, blocks })
+    let notes = notes_for(alloc, blocks.as_slice(), targets)?;
+    Ok(OpenRow {
+        source,
+        blocks,
+        hints: Hints {
+            notes,
+            room: Room {
+                kind: KindId(0),
+                place: 0,
+            },
+        },
+    })
+}
+
+/// Notes of a row for the targets that the batch asks for, where the row is long and they are many.
+fn notes_for(alloc: Global, row: &[RowBlock], targets: &[u32]) -> Result<Option<Notes>, AllocError>
+    ensures { IfOk result (λ notes. IsNoted notes row.now) }
+{
+    if row.len() < LONG_ROW || targets.len() < MANY_STEPS {
+        return Ok(None);
+    }
+    let notes = Notes::of_row(alloc, row, targets)?;
+    Ok(Some(notes))
 }
 
 /// What rows leave at the batch's end.
@@ -203,10 +248,13 @@ pub fn close_row(
 }
 
 /// The rows of sources as the version has them.
+///
+/// For each row, in order, there are the targets that the batch's operations ask for, where it has many for this row.
 pub fn open_rows(
     alloc: Global,
     version: &Version,
     sources: &[VertexId],
+    targets: &[Vec<u32>],
 ) -> Result<Vec<OpenRow>, AllocError>
     requires { AreBlockRows (row_of version.now.rows) }
     ensures sources { IfOk result (λ w. sources_of w.items ≡ map (λ s. s.0) sources.now) }
@@ -214,10 +262,12 @@ pub fn open_rows(
     ensures had { IfOk result (λ w. had_all w.items ≡ flat_map (λ s. row_of version.now.rows s.0) sources.now) }
     ensures none_own { IfOk result (λ w. own_all w.items ≡ []) }
     ensures own { IfOk result (λ w. AreOwn w.items) }
+    ensures hinted { IfOk result (λ w. AreHinted w.items) }
 {
     let mut work = Vec::with_capacity(alloc, sources.len())?;
     for source in sources {
-        let row = open_row(alloc, *source, blocks_at(version, *source))?;
+        let asked = targets_of(targets, work.len());
+        let row = open_row(alloc, *source, blocks_at(version, *source), asked)?;
         work.push(row)?;
     }
     Ok(work)
@@ -285,7 +335,8 @@ pub fn work_on(alloc: Global, version: &Version, shard: Shard) -> Result<ShardDo
     } = shard;
     // A version's contract says with its number that its rows are rows of blocks.
     let _number = version.number();
-    let mut work = open_rows(alloc, version, sources.as_slice())?;
+    let targets = targets_by_row(alloc, sources.len(), steps.as_slice())?;
+    let mut work = open_rows(alloc, version, sources.as_slice(), targets.as_slice())?;
     let outcomes = do_steps(alloc, &mut work, &mut fresh, steps.as_slice())?;
     let mut left = Leavings {
         taken: Vec::new(alloc),

@@ -1,11 +1,9 @@
-use Rattle.std.proofs.Common.{◌≡◌, ◌≤◌, ℕ, List, length, replicate, arith, sym, ap, ◌∙◌, subst}
-use Rattle.std.specs.List.{sum_by}
+use Rattle.std.proofs.Common.{ℕ, List, length, replicate, arith, ap, ◌∙◌, subst}
 use Rattle.graph_model.specs.declared.batches.NamedOp.{NamedOp}
 use Rattle.graph_model.specs.declared.batches.Outcome.TheVariants.{Absent}
 use Rattle.block_layout.specs.Batches.{Resolved, resolved}
 use Rattle.batch_pages.specs.Batches.{batch_value}
 use Rattle.shard_work.specs.RowBlocks.{numbers_of}
-use Rattle.shard_work.specs.declared.shard.Shard.{Shard}
 use Rattle.graph_version.specs.Versions.{VersionView, content}
 use Rattle.graph_version.specs.Drafts.{DraftView}
 use Rattle.batch_apply.specs.Applied.{ReplacesRows, written_from}

@@ -1,10 +1,7 @@
-use Rattle.std.proofs.Common.{◌≡◌, ◌+◌, ◌++◌, ◌∷◌, ◌≤◌, [], ℕ, List, length, flat_map, count_by, take, drop, rules, arith, refl}
+use Rattle.std.proofs.Common.{◌≡◌, ◌+◌, ◌++◌, ◌∷◌, [], ℕ, List, flat_map, count_by, arith, refl}
 use Rattle.std.proofs.Common.{sym, ap, ◌∙◌, subst}
-use Rattle.std.specs.List.{sum_by, AllZip}
+use Rattle.std.specs.List.{AllZip}
 use Rattle.std.proofs.lemmas.List.Sums.{sum_by-append, sum_by-cons}
-use Rattle.std.specs.declared.sync.Arc.{Arc}
-use Rattle.std.specs.declared.alloc.Global.{Global}
-use Rattle.edge_block.specs.declared.blocks.Block.{Block}
 use Rattle.shard_work.specs.RowBlocks.{numbers_of}
 use Rattle.batch_apply.specs.Jobs.{steps_of, IsDealt}
 use Rattle.batch_apply.specs.declared.workers.Job.{Job}

@@ -1,7 +1,6 @@
-use Rattle.std.proofs.Common.{◌++◌, ℕ, List, replicate, sym, ap, ◌∙◌}
+use Rattle.std.proofs.Common.{◌++◌, List, replicate, sym, ap, ◌∙◌}
 use Rattle.std.proofs.lemmas.List.{append_assoc}
 use Rattle.graph_model.specs.declared.batches.Outcome.TheVariants.{Absent}
-use Rattle.edge_block.specs.Slots.{BlockView}
 use Rattle.shard_work.specs.RowBlocks.{blocks_of, numbers_of}
 use Rattle.shard_work.specs.Closing.{row_values}
 use Rattle.shard_work.specs.declared.shard.ShardDone.{ShardDone}

@@ -1,4 +1,3 @@
-use Rattle.std.proofs.Common.{◌≡◌, ◌++◌, List, sym, ap, ◌∙◌}
 use Rattle.std.proofs.lemmas.Result.{IfOk-at_ok}
 use Rattle.row_pages.specs.Rows.{row_of}
 use Rattle.shard_work.specs.Done.{IsShardDone}

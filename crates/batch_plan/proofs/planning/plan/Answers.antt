@@ -1,4 +1,4 @@
-use Rattle.std.proofs.Common.{◌≡◌, ◌≤◌, length, arith, ap, sym, subst, List}
+use Rattle.std.proofs.Common.{◌≤◌, length, arith, ap, sym, subst, List}
 use Rattle.batch_plan.specs.declared.resolve.ResolvedOp.{ResolvedOp}
 use Rattle.batch_plan.proofs.Resolving.{as_many_shown}
 use Rattle.batch_plan.proofs.planning.plan.Goals as goal

@@ -1,4 +1,4 @@
-use Rattle.std.proofs.Common.{ℕ, map}
+use Rattle.std.proofs.Common.{map}
 use Rattle.batch_plan.specs.Plan.{shown}
 use Rattle.batch_plan.specs.Shards.{IsShardOf}
 use Rattle.batch_plan.proofs.Leaving.{one_more_shard}

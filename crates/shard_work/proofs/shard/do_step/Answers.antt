@@ -9,7 +9,7 @@ use Rattle.shard_work.proofs.shard.do_step.Goals as goal
 pub returns-clause-rows : goal.returns-clause-rows
 returns-clause-rows c =
     let h : OpenRow = c.index_mut-row.result.now in
-    let y : OpenRow = record h { blocks = c.apply_step.new.row } in
+    let y : OpenRow = record h { blocks = c.apply_step.new.row; hints = c.apply_step.new.hints } in
     let lt : c.in-Some.place.row < length c.args.work.now.items =
     (let p : IsPlace (length c.args.work.now.items) c.args.place = c.requires.place in rw c.in-Some.is at p) in
     λ rows all.
@@ -21,7 +21,7 @@ returns-clause-rows c =
 pub returns-clause-sources : goal.returns-clause-sources
 returns-clause-sources c =
     let h : OpenRow = c.index_mut-row.result.now in
-    let y : OpenRow = record h { blocks = c.apply_step.new.row } in
+    let y : OpenRow = record h { blocks = c.apply_step.new.row; hints = c.apply_step.new.hints } in
     let lt : c.in-Some.place.row < length c.args.work.now.items =
     (let p : IsPlace (length c.args.work.now.items) c.args.place = c.requires.place in rw c.in-Some.is at p) in
     same_sources c.args.work.now.items c.in-Some.place h y c.index_mut-row.ensures.value lt refl
@@ -29,7 +29,7 @@ returns-clause-sources c =
 pub returns-clause-had : goal.returns-clause-had
 returns-clause-had c =
     let h : OpenRow = c.index_mut-row.result.now in
-    let y : OpenRow = record h { blocks = c.apply_step.new.row } in
+    let y : OpenRow = record h { blocks = c.apply_step.new.row; hints = c.apply_step.new.hints } in
     let lt : c.in-Some.place.row < length c.args.work.now.items =
     (let p : IsPlace (length c.args.work.now.items) c.args.place = c.requires.place in rw c.in-Some.is at p) in
     same_had c.args.work.now.items c.in-Some.place h y c.index_mut-row.ensures.value lt refl c.in_ok-outcome.ensures.had
@@ -37,7 +37,7 @@ returns-clause-had c =
 pub returns-clause-numbers : goal.returns-clause-numbers
 returns-clause-numbers c =
     let h : OpenRow = c.index_mut-row.result.now in
-    let y : OpenRow = record h { blocks = c.apply_step.new.row } in
+    let y : OpenRow = record h { blocks = c.apply_step.new.row; hints = c.apply_step.new.hints } in
     let lt : c.in-Some.place.row < length c.args.work.now.items =
     (let p : IsPlace (length c.args.work.now.items) c.args.place = c.requires.place in rw c.in-Some.is at p) in
     same_numbers c.args.work.now.items c.in-Some.place h y c.index_mut-row.ensures.value lt refl

@@ -31,6 +31,7 @@ loop-step-preserved c =
           c.loop-step.invariant.sources)
           c.in_ok-push.ensures.items;
       own = search rules;
+      hinted = search rules;
       sources = search rules;
       had = search rules;
       numbers = λ q. (let a = c.in_ok-outcome.ensures.numbers q in let b = c.loop-step.invariant.numbers q in omega arith);

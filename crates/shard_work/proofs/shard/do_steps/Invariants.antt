@@ -2,7 +2,7 @@ use Rattle.std.proofs.Common.{◌≡◌, ◌≤◌, ◌+◌, ℕ, List, map, tak
 use Rattle.block_layout.specs.Rows.{OpenBlock}
 use Rattle.block_layout.specs.Batches.{rows_all, outcomes_all}
 use Rattle.shard_work.specs.RowBlocks.{numbers_of, HaveSame}
-use Rattle.shard_work.specs.Shards.{AreOpen, AreOwn, resolved_in, sources_of, had_all, own_all}
+use Rattle.shard_work.specs.Shards.{AreOpen, AreOwn, AreHinted, resolved_in, sources_of, had_all, own_all}
 use Rattle.shard_work.proofs.shard.do_steps.Given as goal
 
 abbrev pub invariant-loop-step : goal.invariant-loop-step
@@ -13,6 +13,7 @@ invariant-loop-step l = record {
       → l.outcomes.items ≡ zip (map (λ s. s.op) (take l.step-index l.steps))
       (outcomes_all (resolved_in (sources_of l.initial.work.items) (take l.step-index l.steps)) rows);
   own : AreOwn l.work.items;
+  hinted : AreHinted l.work.items;
   sources : sources_of l.work.items ≡ sources_of l.initial.work.items;
   had : had_all l.work.items ≡ had_all l.initial.work.items;
   numbers : HaveSame (own_all l.work.items) (numbers_of l.fresh.items) (own_all l.initial.work.items)

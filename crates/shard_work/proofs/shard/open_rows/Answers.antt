@@ -1,5 +1,8 @@
-use Rattle.std.proofs.Common.{sym, subst, All}
+use Rattle.std.proofs.Common.{sym, subst, All, [], ◌∷◌}
+use Rattle.std.proofs.lemmas.List.Elements.{All-append, All-cons, All-nil}
 use Rattle.graph_model.specs.declared.ids.VertexId.{VertexId}
+use Rattle.shard_work.specs.Room.{AreHints}
+use Rattle.shard_work.specs.Shards.{AreHinted}
 use Rattle.shard_work.specs.RowBlocks.{IsOf}
 use Rattle.row_pages.specs.Rows.{row_of}
 use Rattle.shard_work.specs.declared.shard.OpenRow.{OpenRow}
@@ -21,4 +24,8 @@ loop-source-preserved c =
       had = more.2 c.loop-source.invariant.had;
       none_own = more.3 c.loop-source.invariant.none_own;
       own = more.4 c.loop-source.invariant.own;
+      hinted = subst AreHinted (sym c.in_ok-push.ensures.items)
+          (All-append (λ (o : OpenRow). AreHints o.hints o.blocks.items) c.loop-source.work.items (r ∷ [])
+          c.loop-source.invariant.hinted (All-cons (λ (o : OpenRow). AreHints o.hints o.blocks.items) r []
+          c.in_ok-row.ensures.hinted (All-nil (λ (o : OpenRow). AreHints o.hints o.blocks.items))));
     }

@@ -26,16 +26,16 @@ returns c =
           c.close_rows.new.left;
     }) w0 w1 (numbers_of c.do_steps.new.fresh.items)
     c.number-number.ensures.version.rows.blocks
-    (c.in_ok-work.ensures.sources ∙ ap (map (λ (s : VertexId). s.0)) c.as_slice.ensures.value)
+    (c.in_ok-work.ensures.sources ∙ ap (map (λ (s : VertexId). s.0)) c.as_slice-2.ensures.value)
     c.in_ok-work.ensures.blocks
-    (c.in_ok-work.ensures.had ∙ ap (flat_map (λ (s : VertexId). v s.0)) c.as_slice.ensures.value
+    (c.in_ok-work.ensures.had ∙ ap (flat_map (λ (s : VertexId). v s.0)) c.as_slice-2.ensures.value
     ∙ pieces_named v c.args.shard.sources.items)
     c.in_ok-work.ensures.none_own
-    (subst (λ (steps : List Step). AreOpen (rows_all (resolved_in (sources_of w0) steps) start) w1) c.as_slice-2.ensures.value
+    (subst (λ (steps : List Step). AreOpen (rows_all (resolved_in (sources_of w0) steps) start) w1) c.as_slice-4.ensures.value
     (c.in_ok-outcomes.ensures.rows start c.in_ok-work.ensures.blocks))
     (c.in_ok-outcomes.ensures.outcomes start c.in_ok-work.ensures.blocks
     ∙ ap (λ (steps : List Step). zip (map (λ s. s.op) steps) (outcomes_all (resolved_in (sources_of w0) steps) start))
-    c.as_slice-2.ensures.value)
+    c.as_slice-4.ensures.value)
     c.in_ok-outcomes.ensures.own
     c.in_ok-outcomes.ensures.sources
     c.in_ok-outcomes.ensures.had
