@@ -49,15 +49,32 @@ pub(crate) fn batch_of(alloc: Global, ops: &[(&str, &str, &str)]) -> Result<Batc
     Ok(batch)
 }
 
-/// An insertion from each of the sources to each of the targets.
-fn all_pairs(alloc: Global, sources: &[&str], targets: &[&str]) -> Result<Batch, AllocError> {
+/// An insertion from each of the sources to each of the targets, in each of the rounds.
+fn all_pairs(
+    alloc: Global,
+    rounds: usize,
+    sources: &[&str],
+    targets: &[&str],
+) -> Result<Batch, AllocError> {
     let mut batch = Batch::new(alloc);
-    for source in sources {
-        for target in targets {
-            push(&mut batch, operation(alloc, ("+", *source, *target))?)?;
-        }
+    for _ in 0..rounds {
+        push_pairs(alloc, &mut batch, sources, targets)?;
     }
     Ok(batch)
+}
+
+fn push_pairs(
+    alloc: Global,
+    batch: &mut Batch,
+    sources: &[&str],
+    targets: &[&str],
+) -> Result<(), AllocError> {
+    for source in sources {
+        for target in targets {
+            push(batch, operation(alloc, ("+", *source, *target))?)?;
+        }
+    }
+    Ok(())
 }
 
 /// A new desk of so many workers and blocks.
@@ -170,7 +187,7 @@ fn too_many<R: Threads + Wait + Sync>(
     let refused = apply_to(
         rt,
         &mut desk,
-        all_pairs(alloc, &LETTERS[..1], &LETTERS[..17]),
+        all_pairs(alloc, 1, &LETTERS[..1], &LETTERS[..17]),
     )
     .err();
     let stat = desk.stat();
@@ -190,24 +207,24 @@ fn refuses_more_operations_than_free_blocks(rt: HostRuntime) -> Result<(), Fail>
     Ok(())
 }
 
-/// The counts after an insertion from each of 32 sources to each of 20 targets, over 1,024 blocks.
+/// The counts after four insertions from each of 32 sources to each of 20 targets, over 4,096 blocks.
 fn pairs_applied<R: Threads + Wait + Sync>(
     rt: &R,
     alloc: Global,
     workers: usize,
 ) -> Result<Stat, AllocError> {
-    let mut desk = new_desk(rt, alloc, workers, 1024)?;
+    let mut desk = new_desk(rt, alloc, workers, 4096)?;
     match apply_to(
         rt,
         &mut desk,
-        all_pairs(alloc, LETTERS.as_slice(), &LETTERS[..20]),
+        all_pairs(alloc, 4, LETTERS.as_slice(), &LETTERS[..20]),
     ) {
         Ok(_receipt) => Ok(desk.stat()),
         Err(_) => Err(AllocError),
     }
 }
 
-/// The 640 operations are shared by the workers, and leave 640 edges in 32 blocks for each number of them.
+/// The 2,560 operations are shared by the workers, and leave 640 edges in 32 blocks for each number of them.
 #[test]
 fn applies_a_batch_by_several_workers(rt: HostRuntime) -> Result<(), Fail> {
     for workers in [1, 3, 4] {
@@ -215,7 +232,7 @@ fn applies_a_batch_by_several_workers(rt: HostRuntime) -> Result<(), Fail> {
             number: 1,
             names: 32,
             edges: 640,
-            free: 992,
+            free: 4064,
             retired: 0,
             used: 32,
         };

@@ -27,7 +27,7 @@ use std::thread::Threads;
 use version_shelf::{ShelfWriter, Told};
 
 /// A batch with fewer operations is one worker's: to start a thread takes as long as some hundred operations.
-const SHARED_OPERATIONS: usize = 512;
+const SHARED_OPERATIONS: usize = 2048;
 
 /// The plan of a batch after this version, for at most so many workers; what it leaves is the same for each number.
 pub(crate) fn plan_next(

@@ -33,7 +33,10 @@ fn cores_request() -> Request {
     }
 }
 
-fn edge_told(alloc: Global, session: &Session) -> Result<Option<(i64, u64, u64)>, AskError> {
+pub(crate) fn edge_told(
+    alloc: Global,
+    session: &Session,
+) -> Result<Option<(i64, u64, u64)>, AskError> {
     match session.ask(&edge_request(alloc)?)? {
         Reply::OneEdge(edge) => Ok(edge),
         _ => Err(AskError::NoKind),

@@ -184,6 +184,17 @@ impl Desk {
         }
     }
 
+    /// Ends the desk: the last version comes back, and all else is given back. Where a desk is dropped without this, what its
+    /// shelf showed last is never given back. Seats keep what they have seen, and find nothing newer. It waits for those that
+    /// are looking at the shelf.
+    pub fn close<R: Wait>(self, rt: &R) -> Arc<Version>
+        ensures { arc_value {X = Version} result ≡ self.desk.last }
+    {
+        let Desk { last, shelf, .. } = self;
+        let _shown = shelf.close(rt);
+        last
+    }
+
     /// The last version.
     pub fn last(&self) -> &Arc<Version>
         ensures { arc_value {X = Version} result.now ≡ self.now.desk.last }

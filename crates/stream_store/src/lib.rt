@@ -29,6 +29,8 @@ mod ask_tests;
 #[cfg(test)]
 mod seat_tests;
 #[cfg(test)]
+mod shared_ask_tests;
+#[cfg(test)]
 mod store_tests;
 #[cfg(test)]
 mod tests;

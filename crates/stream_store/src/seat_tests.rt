@@ -159,3 +159,41 @@ fn floors<R: Threads + Wait + Sync>(rt: &R, alloc: Global) -> Option<[u64; 4]> {
 fn keeps_the_floor_at_a_lent_version(rt: HostRuntime) {
     assert_eq!(rt; floors(&rt, rt.alloc()), Some([1, 1, 1, 2]));
 }
+
+/// The numbers of the last version of a desk that is closed, and of the version that a session holds meanwhile.
+fn closed_beside<R: Threads + Wait + Sync>(
+    rt: &R,
+    alloc: Global,
+    mut desk: Desk,
+    board: &mut Board,
+    seat: Seat,
+) -> Option<[u64; 2]> {
+    let first = is_applied(rt, &mut desk, batch_of(alloc, &[("+", "a", "b")]));
+    let Ok(session) = seat.acquire_lent(&desk, board) else {
+        return None;
+    };
+    let second = is_applied(rt, &mut desk, batch_of(alloc, &[("+", "a", "c")]));
+    let last = desk.close(rt).number();
+    let held = session.version().number();
+    let _seat = session.release_lent(board);
+    if first && second {
+        Some([last, held])
+    } else {
+        None
+    }
+}
+
+fn closed<R: Threads + Wait + Sync>(rt: &R, alloc: Global) -> Option<[u64; 2]> {
+    let config = Config::new(1, 16, 1).ok()?;
+    match open_parts(rt, alloc, config) {
+        Ok((desk, mut board, mut seats)) => {
+            closed_beside(rt, alloc, desk, &mut board, seats.pop()?)
+        }
+        Err(_) => None,
+    }
+}
+
+#[test]
+fn a_closed_desk_leaves_a_session_its_version(rt: HostRuntime) {
+    assert_eq!(rt; closed(&rt, rt.alloc()), Some([2, 1]));
+}

@@ -1,8 +1,10 @@
 //! Seats and sessions. A session holds one version while the store goes on: acquire and release of Aspen ("Low-Latency
 //! Graph Streaming using Compressed Purely-Functional Trees"; Dhulipala, Blelloch, Shun; PLDI 2019).
 
-ghost use Rattle.std.specs.Prelude.{◌≡◌, ◌⊎◌, max, length, IfOk, IfErr, OnOk, OnErr, MatchResult, Some, None, true, Err};
+ghost use Rattle.std.specs.Prelude.{◌≡◌, ◌⊎◌, ℕ, List, max, length, IfOk, IfErr, OnOk, OnErr, MatchResult, Some, None, true};
+ghost use Rattle.std.specs.Prelude.{Err};
 ghost use Rattle.graph_model.specs.Answer.{IsAnswer};
+ghost use Rattle.graph_model.specs.declared.requests.Request.TheVariants.{OneEdge};
 ghost use Rattle.seat_board.specs.Board.{with_pin};
 ghost use Rattle.version_shelf.specs.Shelves.{Begins, IsOfOneShelf};
 ghost use Rattle.version_answers.specs.Numbered.{IsNumberedAnswer};
@@ -79,7 +81,11 @@ impl Model for Session {
 
     ghost coded = { Prim.hlevel (codes, graph_code) };
 
-    ghost view = { λ s. record { number = s.number; seen = s.reader; lent = option_map (λ v. arc_value {X = Version} v) s.lent } };
+    ghost view = { λ s. record {
+      number = s.number;
+      seen = s.reader;
+      lent = option_map (λ v. arc_value {X = Version} v) s.lent;
+    } };
 }
 
 impl Seat {
@@ -193,17 +199,24 @@ impl Session {
     }
 
     /// The answer to a request over the version that the session holds: the first refusal that holds (`BadWindow`, `NoKind`,
-    /// `NoVertex`), or else the reply; `OutOfMemory` where a growth was refused. It takes no lock and waits for nobody.
+    /// `NoVertex`), or else the reply; `OutOfMemory` where a growth was refused, and never for one edge. It takes no lock and
+    /// waits for nobody.
     pub fn ask(&self, request: &Request) -> Result<Reply, AskError>
-        ensures { (result ≡ Err AskError.OutOfMemory) ⊎ IsAnswer request.now (held_graph self.now) result }
+        ensures answer { (result ≡ Err AskError.OutOfMemory) ⊎ IsAnswer request.now (held_graph self.now) result }
+        ensures one_edge { (kind source target : List ℕ) → request.now ≡ OneEdge kind source target
+            → IsAnswer request.now (held_graph self.now) result }
     {
-        answer(self.reader.allocator(), self.version(), request)
+        let held = self.version();
+        answer(self.reader.allocator(), held, request)
     }
 
     /// The same answer with vertices by their numbers in that version, for which no names are copied.
     pub fn ask_in_numbers(&self, request: &Request) -> Result<NumberedReply, AskError>
-        ensures { (result ≡ Err AskError.OutOfMemory) ⊎ IsNumberedAnswer request.now (held_graph self.now) result }
+        ensures answer { (result ≡ Err AskError.OutOfMemory) ⊎ IsNumberedAnswer request.now (held_graph self.now) result }
+        ensures one_edge { (kind source target : List ℕ) → request.now ≡ OneEdge kind source target
+            → IsNumberedAnswer request.now (held_graph self.now) result }
     {
-        answer_in_numbers(self.reader.allocator(), self.version(), request)
+        let held = self.version();
+        answer_in_numbers(self.reader.allocator(), held, request)
     }
 }

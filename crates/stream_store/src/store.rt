@@ -2,18 +2,21 @@
 //! contract; of what a call answers the contracts say what holds whatever it held.
 
 ghost use Rattle.std.specs.Prelude.{◌≡◌, ◌≤◌, IfOk, IfErr};
+ghost use Rattle.std.specs.Arc.{arc_value};
 ghost use Rattle.std.specs.Coded.{codes};
 ghost use Rattle.graph_model.specs.Coded.{graph_code};
 ghost use Rattle.graph_model.specs.Step.{empty_graph};
+ghost use Rattle.graph_version.specs.declared.versions.Version.{Version};
 ghost use Rattle.stream_store.specs.Stores.{IsReceiptOf, IsRefusalOf, IsOfOpening};
 
 use crate::desk::{Collected, Desk, Stat};
 use crate::receipts::{ApplyError, Receipt};
 use batch_apply::Gate;
 use graph_model::Batch;
+use graph_version::Version;
 use seat_board::{Board, SeatNo};
 use std::marker::{Brand, Model, PhantomData};
-use std::sync::{Mutex, MutexGuard, Wait};
+use std::sync::{Arc, Mutex, MutexGuard, Wait};
 use std::thread::Threads;
 
 /// Which opening a store and its seats are of. It exists in the proofs alone: whoever opens a store names its opening, and
@@ -105,6 +108,18 @@ impl<J: Naming> Store<J> {
     /// The counts of the desk, under its lock.
     pub fn stat<R: Wait>(&self, rt: &R) -> Stat {
         self.desk.lock(rt).desk.stat()
+    }
+
+    /// Ends the store, as `Desk::close` ends its desk.
+    pub fn close<R: Wait>(self, rt: &R) -> Arc<Version>
+        ensures { (arc_value {X = Version} result).opening ≡ empty_graph }
+    {
+        let Store {
+            desk,
+            board: _board,
+        } = self;
+        let NamedDesk { desk, of: _ } = desk.into_inner();
+        desk.close(rt)
     }
 
     /// The board, locked.

@@ -67,10 +67,11 @@ fn keeps_to_its_limits(rt: HostRuntime) {
 #[test]
 fn refused_openings_open_nothing(rt: HostRuntime) {
     let config = Config::new(4, 16, 2).expect(&rt, "within the limits");
-    if let Err(error) = opened(&rt, rt.alloc(), config) {
-        tell_refused(&rt);
-        assert_eq!(rt; error, OpenError::OutOfMemory);
-    }
+    let Err(error) = opened(&rt, rt.alloc(), config) else {
+        return;
+    };
+    tell_refused(&rt);
+    assert_eq!(rt; error, OpenError::OutOfMemory);
     let (stat, _, _, _) = opened(&rt, rt.alloc(), config).expect(
         &rt,
         "one growth alone is refused",

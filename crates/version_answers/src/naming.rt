@@ -1,11 +1,13 @@
 //! Names in place of numbers.
 
-ghost use Rattle.std.specs.Prelude.{◌≡◌, ◌++◌, [], length, zip, IfOk, OnOk, slice_index_or};
+ghost use Rattle.std.specs.Prelude.{◌≡◌, ◌++◌, ℕ, ℤ, [], length, zip, IfOk, OnOk, OnErr, slice_index_or};
+ghost use Rattle.std.specs.declared.option.Option.{Option};
 ghost use Rattle.std.specs.Option.{option_to_list};
 ghost use Rattle.graph_model.specs.Answer.{reached, level_row, names_of};
 ghost use Rattle.graph_levels.specs.Vertices.{numbers_of};
 ghost use Rattle.graph_version.specs.Versions.{content};
 ghost use Rattle.version_answers.specs.Numbered.{named};
+ghost use Rattle.version_answers.specs.declared.numbered.NumberedReply.TheVariants.{OneEdge};
 
 use crate::numbered::NumberedReply;
 use graph_model::{List, Name, Reply, VertexId};
@@ -17,13 +19,14 @@ use vertex_names::NameBook;
 /// no walk reaches are left out, and a label becomes the name of its vertex.
 ///
 /// Rows past the last vertex are left out, and a label past it becomes an empty text; a reply about this version has neither.
-/// The error is want of memory.
+/// The error is want of memory, and never comes for one edge.
 pub fn name_reply(
     alloc: Global,
     version: &Version,
     reply: NumberedReply,
 ) -> Result<Reply, AllocError>
-    ensures { IfOk result (λ r. r ≡ named (content version.now).names reply) }
+    ensures with_names { IfOk result (λ r. r ≡ named (content version.now).names reply) }
+    ensures one_edge { OnErr result ((edge : Option (ℤ × ℕ × ℕ)) → reply ≡ OneEdge edge → ⊥) }
 {
     let names = version.names();
     match reply {

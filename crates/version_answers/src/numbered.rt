@@ -1,6 +1,6 @@
 //! Answers with vertices by their numbers.
 
-ghost use Rattle.std.specs.Prelude.{◌≡◌, ◌⊎◌, Err, IfOk, MatchResult, None, Some, true};
+ghost use Rattle.std.specs.Prelude.{◌≡◌, ◌⊎◌, ℕ, List, Err, IfOk, MatchResult, None, Some, true};
 ghost use Rattle.std.specs.Option.{SomeIff, option_map};
 ghost use Rattle.std.specs.FinMap.{get};
 ghost use Rattle.graph_model.specs.Answer.{filter_refusal, resolved, shown, is_listed};
@@ -33,7 +33,7 @@ pub enum NumberedReply {
 }
 
 /// The answer to a request over a version's content, in numbers: the first refusal that holds (`BadWindow`, `NoKind`,
-/// `NoVertex`), or else the reply; `OutOfMemory` where a growth was refused.
+/// `NoVertex`), or else the reply; `OutOfMemory` where a growth was refused, and never for one edge.
 ///
 /// Levels, labels and core numbers take time near to linear in the edges of the view, degrees one pass over the blocks, and
 /// one edge a search of its source's row and no memory.
@@ -42,7 +42,9 @@ pub fn answer_in_numbers(
     version: &Version,
     request: &Request,
 ) -> Result<NumberedReply, AskError>
-    ensures { (result ≡ Err AskError.OutOfMemory) ⊎ IsNumberedAnswer request.now (content version.now) result }
+    ensures answer { (result ≡ Err AskError.OutOfMemory) ⊎ IsNumberedAnswer request.now (content version.now) result }
+    ensures one_edge { (kind source target : List ℕ) → request.now ≡ OneEdge kind source target
+        → IsNumberedAnswer request.now (content version.now) result }
 {
     match request {
         Request::Levels { source, filter } => answer_levels(alloc, version, source, filter),

@@ -55,7 +55,7 @@ impl Model for ShelfWriter {
 }
 
 impl Drop for ShelfWriter {
-    /// What the shelf shows stays for its readers.
+    /// What the shelf shows stays for its readers, and its memory is never given back: `close` gives it back.
     fn drop(self) {
         let ShelfWriter {
             place,
@@ -186,6 +186,21 @@ impl ShelfWriter {
         };
         show_in(rt, &mut self.place, shown);
         Ok(Told { version, history })
+    }
+
+    /// Ends the shelf: what it showed last comes back, and all else that it kept is given back. Its readers keep what they have
+    /// seen, and find nothing newer. It waits for those that are looking.
+    pub fn close<R: Wait>(self, rt: &R) -> Told
+        ensures book { result.book ≡ self.book }
+        ensures opening { result.version.opening ≡ self.opening }
+        ensures shown { result.version.batches ≡ self.shown }
+    {
+        let ShelfWriter {
+            place,
+            end: _end,
+            history: _history,
+        } = self;
+        Box::into_inner(place.take(rt))
     }
 
     /// A reader that has learnt what was told.

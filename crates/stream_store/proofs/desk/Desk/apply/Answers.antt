@@ -1,9 +1,12 @@
-use Rattle.std.proofs.Common.{◌≡◌, ◌+◌, length, count_by, refl, ap, subst, ◌∙◌, arith, rules}
+use Rattle.std.proofs.Common.{◌≡◌, ◌+◌, length, length-append, count_by, refl, sym, ap, ap₂, subst, ◌∙◌, arith, rules}
 use Rattle.std.specs.Arc.{arc_value}
 use Rattle.graph_version.specs.declared.versions.Version.{Version}
-use Rattle.graph_version.specs.Versions.{VersionView}
+use Rattle.logbook.specs.Pages.{Book}
+use Rattle.graph_model.specs.Step.{outcomes}
+use Rattle.graph_version.specs.Versions.{VersionView, content}
 use Rattle.block_pool.specs.Pools.{is_free}
 use Rattle.batch_plan.proofs.Names.{err_then}
+use Rattle.version_shelf.specs.Shelves.{ToldView}
 use Rattle.store_journal.specs.Steps.{Accepts}
 use Rattle.stream_store.specs.Kept.{DeskState, state_of}
 use Rattle.stream_store.specs.Refusals.{Refuses}
@@ -126,3 +129,22 @@ returns-clause-accepted g c =
     subst (λ (s : DeskState). Accepts s.desk c.args.batch
     (desk_of (arc_value {X = Version} c.publish.new.last) c.publish.new.journal.items c.move_blocks.new.pool)) c.self.view_is
     (end_accepts h _ end)
+
+abbrev told_of : Book → VersionView → ToldView
+told_of book version = record { book = book; version = version }
+
+pub returns-clause-receipt : goal.returns-clause-receipt
+returns-clause-receipt g c =
+    let last : c.deref-3.result.now ≡ arc_value {X = Version} c.self.inside.last = search rules in
+    let lent : c.deref-2.result.now ≡ arc_value {X = Version} c.self.inside.last = search rules in
+    let number : c.number-number.result + 1 ≡ length (arc_value {X = Version} c.self.inside.last).batches + 1 =
+    ap (λ n. n + 1) (c.number-number.ensures.number ∙ ap (λ (v : VersionView). length v.batches) lent) in
+    let p = c.in-Ok-publish.ensures in
+    let made = c.in-Ok.ensures in
+    record {
+      told_is = p.told ∙ ap₂ told_of (ap (λ (s : DeskState). s.book) c.self.view_is) (sym p.last);
+      number_is = number ∙ sym (ap (λ (v : VersionView). length v.batches) p.last ∙ ap length made.batches ∙ length-append _ _
+          ∙ ap (λ (v : VersionView). length v.batches + 1) last);
+      outcomes_are = made.outcomes_are ∙ ap (λ (v : VersionView). outcomes c.args.batch (content v))
+          (last ∙ ap (λ (s : DeskState). s.desk.last) c.self.view_is);
+    }

@@ -1,0 +1,138 @@
+//! Sessions over the shared store that ask while another thread feeds, against what the definitions give.
+
+ghost use Rattle.std.specs.Prelude.{◌≡◌};
+ghost use Rattle.graph_model.specs.Step.{empty_graph};
+
+use crate::apply_tests::batch_of;
+use crate::ask_tests::edge_told;
+use crate::{Config, Desk, Naming, Seat, Session, Store, open_parts};
+use batch_apply::PassAll;
+use graph_model::Batch;
+use seat_board::Board;
+use std::alloc::{AllocError, Global};
+use std::marker::Brand;
+use std::sync::Wait;
+use std::thread::{Threads, join};
+
+/// How often a session asks beside a batch.
+const TURNS: u32 = 100;
+
+/// Weight, first and recent time of the edge from `a` to `b`, where it is there.
+type Edge = Option<(i64, u64, u64)>;
+
+/// Whether both batches were applied; what a session on version 1 answers beside the second batch and after it; what the same
+/// seat's next session answers, and the number of its version.
+#[derive(Clone, Copy, Debug, PartialEq, Eq)]
+struct Told {
+    are_applied: (bool, bool),
+    beside: Option<Edge>,
+    after: Option<Edge>,
+    next: Option<Edge>,
+    number: u64,
+}
+
+fn is_applied<J: Naming, R: Threads + Wait + Sync>(
+    rt: &R,
+    store: &Store<J>,
+    batch: Result<Batch, AllocError>,
+) -> bool {
+    match batch {
+        Ok(batch) => store.apply(rt, &PassAll, batch).is_ok(),
+        Err(AllocError) => false,
+    }
+}
+
+/// What the session answers each time that it is asked; nothing where two answers differ.
+fn answered(alloc: Global, session: &Session) -> Option<Edge> {
+    let first = edge_told(alloc, session).ok()?;
+    for _ in 0..TURNS {
+        if edge_told(alloc, session).ok() != Some(first) {
+            return None;
+        }
+    }
+    Some(first)
+}
+
+/// One thread takes the edge away, while the session asks in another.
+fn beside_a_batch<J: Naming + Send + Sync, R: Threads + Wait + Sync>(
+    rt: &R,
+    alloc: Global,
+    store: &Store<J>,
+    session: Session,
+) -> (bool, (Session, Option<Edge>)) {
+    let batch = batch_of(alloc, &[("-", "a", "b"), ("+", "b", "c")]);
+    join(
+        rt,
+        || is_applied(rt, store, batch),
+        || {
+            let edge = answered(alloc, &session);
+            (session, edge)
+        },
+    )
+}
+
+fn told_by<J: Naming + Send + Sync, R: Threads + Wait + Sync>(
+    rt: &R,
+    alloc: Global,
+    store: &Store<J>,
+    seat: Seat,
+) -> Told {
+    let first = is_applied(rt, store, batch_of(alloc, &[("+", "a", "b")]));
+    let session = seat.pin(rt, store).enter(rt, store);
+    let (second, (session, beside)) = beside_a_batch(rt, alloc, store, session);
+    let after = edge_told(alloc, &session).ok();
+    let seat = session.release(rt, store);
+    let session = seat.pin(rt, store).enter(rt, store);
+    let next = edge_told(alloc, &session).ok();
+    let number = session.version().number();
+    let _seat = session.release(rt, store);
+    Told {
+        are_applied: (first, second),
+        beside,
+        after,
+        next,
+        number,
+    }
+}
+
+/// What is told over a store, and the number of its last version, which comes back once it is closed.
+fn told_over<J: Naming + Send + Sync, R: Threads + Wait + Sync>(
+    rt: &R,
+    alloc: Global,
+    desk: Desk,
+    board: Board,
+    seat: Seat,
+) -> (Told, u64)
+    requires book { desk.book ≡ J.book }
+    requires opening { desk.desk.last.opening ≡ empty_graph }
+{
+    let store = Store::<J>::over(desk, board);
+    let told = told_by(rt, alloc, &store, seat);
+    (told, store.close(rt).number())
+}
+
+fn over_a_new_store<R: Threads + Wait + Sync>(rt: &R, alloc: Global) -> Option<(Told, u64)> {
+    let config = Config::new(2, 16, 1).ok()?;
+    match open_parts(rt, alloc, config) {
+        Ok((desk, board, mut seats)) => match seats.pop() {
+            Some(seat) => Some(told_over::<Brand, R>(rt, alloc, desk, board, seat)),
+            None => None,
+        },
+        Err(_) => None,
+    }
+}
+
+/// The session that holds version 1 has the edge, of weight 1 and both times 1, however often it is asked; the next session
+/// holds version 2, which has both names and the kind and no such edge.
+const TOLD: Told = Told {
+    are_applied: (true, true),
+    beside: Some(Some((1, 1, 1))),
+    after: Some(Some((1, 1, 1))),
+    next: Some(None),
+    number: 2,
+};
+
+#[test]
+fn answers_of_the_held_version_beside_a_batch(rt: HostRuntime) {
+    assert_eq!(rt; over_a_new_store(&rt, rt.alloc()), Some((TOLD, 2)));
+}
