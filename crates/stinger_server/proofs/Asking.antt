@@ -1,23 +1,22 @@
 -- What a slot's session answers, from what the server's slots hold.
-use Rattle.std.proofs.Common.{◌≡◌, ◌≢◌, ℕ, ◌<◌, List, length, map, take, get_or, sym, ap, subst, ◌∙◌}
+use Rattle.std.proofs.Common.{◌≡◌, ◌≢◌, ℕ, List, length, take, get_or, sym, ap, subst, ◌∙◌}
 use Rattle.std.specs.Prelude.{◌⊎◌, Option, None, Some, Result, Ok, Err, slice_get}
 use Rattle.std.proofs.lemmas.Option.{get_or_from_slice_get, slice_get_within}
-use Rattle.graph_model.specs.Answer.{IsAnswer}
-use Rattle.graph_model.specs.Graph.{Graph}
 use Rattle.graph_model.specs.Step.{left_by}
 use Rattle.graph_model.specs.declared.requests.AskError.{AskError}
 use Rattle.graph_model.specs.declared.requests.AskError.TheVariants as ask
-use Rattle.graph_model.specs.declared.requests.Reply.{Reply}
 use Rattle.graph_model.specs.declared.requests.Request.{Request}
 use Rattle.graph_version.specs.Versions.{VersionView}
 use Rattle.stream_store.specs.Seats.{SeatView, SessionView, held_graph, held_version}
-use Rattle.stinger_server.specs.Servers.{HasFewEntries, IsServer, Shows, shown_lines}
-use Rattle.stinger_server.specs.Slots.{IsEarlier, IsSlot, held_number}
+use Rattle.version_answers.specs.Numbered.{IsNumberedAnswer, named}
+use Rattle.version_answers.specs.declared.numbered.NumberedReply.{NumberedReply}
+use Rattle.stinger_server.specs.Servers.{IsServer, Shows, shown_lines}
+use Rattle.stinger_server.specs.Slots.{IsEarlier, IsSlot}
 use Rattle.stinger_server.specs.States.{IsReplied, State, ask_word, version, version_in}
 use Rattle.stinger_server.specs.declared.server.Server.{Server}
 use Rattle.stinger_server.specs.declared.words.Word.{Word}
 use Rattle.stinger_server.proofs.Commands.{held_there}
-use Rattle.stinger_server.proofs.Replies.{IsAsked, asked_version, few_answered, replied_err, replied_ok}
+use Rattle.stinger_server.proofs.Replies.{IsAsked, asked_version, replied_err, replied_ok}
 
 earlier_in : (last : VersionView) (slot : ℕ) (seat : Option SeatView) (session : Option SessionView) (s : SessionView)
     → IsSlot last slot seat session → session ≡ Some s → IsEarlier last (held_version s)
@@ -61,18 +60,13 @@ number_there server state slot s shows there =
     ap (λ held. version_in (slice_get held slot)) (sym shows.held)
     ∙ ap version_in (held_there server.slots.sessions.items slot s there)
 
-pub few_asked : (server : Server) (slot : ℕ) (request : Request) (s : SessionView) (reply : Reply) → IsServer server
-    → slice_get server.slots.sessions.items slot ≡ Some (Some s)
-    → ((let r : Result Reply AskError = Ok reply in r ≡ Err ask.OutOfMemory) ⊎ IsAnswer request (held_graph s) (Ok reply))
-    → HasFewEntries reply
-few_asked server slot request s reply is there answer =
-    few_answered request (held_graph s) reply (asked_there server slot s is there) answer
-
-pub replied_ok_at : (server : Server) (state : State) (slot : ℕ) (request : Request) (s : SessionView) (reply : Reply)
+pub replied_ok_at : (server : Server) (state : State) (slot : ℕ) (request : Request) (s : SessionView) (reply : NumberedReply)
     (lines : List ℕ) → IsServer server → Shows server state
     → slice_get server.slots.sessions.items slot ≡ Some (Some s)
-    → ((let r : Result Reply AskError = Ok reply in r ≡ Err ask.OutOfMemory) ⊎ IsAnswer request (held_graph s) (Ok reply))
-    → lines ≡ shown_lines slot reply → IsReplied slot request state (version_in (slice_get state.held slot)) (Ok lines)
+    → ((let r : Result NumberedReply AskError = Ok reply in r ≡ Err ask.OutOfMemory)
+    ⊎ IsNumberedAnswer request (held_graph s) (Ok reply))
+    → lines ≡ shown_lines slot (named (held_graph s).names reply)
+    → IsReplied slot request state (version_in (slice_get state.held slot)) (Ok lines)
 replied_ok_at server state slot request s reply lines is shows there answer shown =
     replied_ok slot request state (held_graph s) (length (held_version s).batches) reply lines
     (number_there server state slot s shows there) (asked_there server slot s is there)
@@ -80,7 +74,8 @@ replied_ok_at server state slot request s reply lines is shows there answer show
 
 pub replied_err_at : (server : Server) (state : State) (slot : ℕ) (request : Request) (s : SessionView) (error : AskError)
     (word : Word) → IsServer server → Shows server state → slice_get server.slots.sessions.items slot ≡ Some (Some s)
-    → ((let r : Result Reply AskError = Err error in r ≡ Err ask.OutOfMemory) ⊎ IsAnswer request (held_graph s) (Err error))
+    → ((let r : Result NumberedReply AskError = Err error in r ≡ Err ask.OutOfMemory)
+    ⊎ IsNumberedAnswer request (held_graph s) (Err error))
     → error ≢ ask.OutOfMemory → word ≡ ask_word error
     → IsReplied slot request state (version_in (slice_get state.held slot)) (Err word)
 replied_err_at server state slot request s error word is shows there answer known is_word =

@@ -7,6 +7,7 @@ pub mod Commands
 pub mod Edges
 pub mod OwnLabels
 pub mod Replies
+pub mod TableRows
 pub mod Asking
 pub mod OneRecord
 pub mod RunSoFar

@@ -1,5 +1,5 @@
 -- The lines of a reply, from what the reply says.
-use Rattle.std.proofs.Common.{◌≡◌, ◌≢◌, ℕ, ◌≤◌, List, [], ◌∷◌, length, arith, refl, ◌∙◌, ap, inl, inr}
+use Rattle.std.proofs.Common.{◌≡◌, ◌≢◌, ℕ, List, refl, ◌∙◌, ap, inl, inr}
 use Rattle.std.specs.Prelude.{AllPairs, Result, Ok, Err, ◌⊎◌, slice_get}
 use Rattle.std.specs.List.{zip}
 use Rattle.graph_model.specs.Answer.{IsAnswer, IsReply, resolved, degree_table, names_of}
@@ -12,44 +12,27 @@ use Rattle.graph_model.specs.declared.requests.Request.TheVariants as request
 use Rattle.graph_model.specs.declared.requests.Reply.{Reply}
 use Rattle.graph_model.specs.declared.requests.AskError.{AskError}
 use Rattle.graph_model.specs.declared.requests.AskError.TheVariants as ask
+use Rattle.graph_levels.specs.Vertices.{numbers_of}
+use Rattle.version_answers.specs.Numbered.{IsNumberedAnswer, IsNumberedReply, named}
+use Rattle.version_answers.specs.declared.numbered.NumberedReply.{NumberedReply}
 use Rattle.stinger_server.proofs.Edges.{edges_in_view}
 use Rattle.stinger_server.proofs.NamesApart.{apart_names}
 use Rattle.stinger_server.proofs.OwnLabels.{own_labels}
 use Rattle.stinger_server.specs.Lines.{degree_lines, label_lines}
-use Rattle.stinger_server.specs.Servers.{HasFewEntries, shown_lines}
+use Rattle.stinger_server.specs.Servers.{shown_lines}
 use Rattle.stinger_server.specs.States.{IsReplied, State, ask_word, reply_lines, version, version_in}
 use Rattle.stinger_server.specs.declared.words.Word.{Word}
 
-length-zip : {X Y : Type 0} (xs : List X) (ys : List Y) → length (zip xs ys) ≤ length xs
-length-zip [] ys = omega arith
-length-zip (x ∷ xs) [] = omega arith
-length-zip (x ∷ xs) (y ∷ ys) = omega (arith, length-zip xs ys)
-
--- a graph whose names differ and are few, and whose edges join its vertices
+-- a graph whose names differ, and whose edges join its vertices
 pub record IsAsked (g : Graph) : Type 0 where
   pub names_distinct : AllPairs (λ a b. a ≢ b) g.names
-  pub names_few : length g.names ≤ 65536
   pub within : IsWithin g
 
 pub asked_version : (v : VersionView) → IsVersion v → v.opening ≡ empty_graph → IsAsked (content v)
 asked_version v version opening = record {
   names_distinct = rw opening (apart_names v.batches);
-  names_few = version.small.names;
   within = version.within;
 }
-
--- a table of degrees has at most one entry for each vertex
-pub few_entries : (request : Request) (g : Graph) (reply : Reply) → IsAsked g
-    → IsReply request g reply
-    → HasFewEntries reply
-few_entries (request.Degrees filter) g reply valid is =
-    let short = length-zip g.names (degree_table (resolved g filter) g) in
-    let few : length g.names ≤ 65536 = valid.names_few in
-    rw is (omega arith)
-few_entries (request.Levels source filter) g reply valid is = rw is.2 tt
-few_entries (request.Labels filter) g reply valid is = rw is.2 tt
-few_entries (request.Cores filter) g reply valid is = rw is.2 tt
-few_entries (request.OneEdge kind source target) g reply valid is = rw is tt
 
 pub shown_lines-reply : (slot : ℕ) (request : Request) (g : Graph) (reply : Reply) → IsAsked g
     → IsReply request g reply → shown_lines slot reply ≡ reply_lines slot request g reply
@@ -64,37 +47,40 @@ shown_lines-reply slot (request.Degrees filter) g reply valid is =
     rw is (ap (λ n. degree_lines slot n table) (edges_in_view (resolved g filter) g valid.within))
 shown_lines-reply slot (request.OneEdge kind source target) g reply valid is = rw is refl
 
+-- a reply in numbers is a reply by the names of its vertices
+named_reply : (request : Request) (g : Graph) (reply : NumberedReply) → IsNumberedReply request g reply
+    → IsReply request g (named g.names reply)
+named_reply (request.Levels source filter) g reply is = (is.0, is.1, ap (named g.names) is.2)
+named_reply (request.Labels filter) g reply is = (numbers_of is.0, is.1, ap (named g.names) is.2)
+named_reply (request.Cores filter) g reply is = (is.0, is.1, ap (named g.names) is.2)
+named_reply (request.Degrees filter) g reply is = ap (named g.names) is
+named_reply (request.OneEdge kind source target) g reply is = ap (named g.names) is
+
 -- a result that isn't want of memory is an answer
-answer_ok : (request : Request) (g : Graph) (reply : Reply)
-    → ((let r : Result Reply AskError = Ok reply in r ≡ Err ask.OutOfMemory) ⊎ IsAnswer request g (Ok reply))
-    → IsAnswer request g (Ok reply)
-answer_ok request g reply answer = elim answer [ inl short ↦ cc | inr is ↦ is ]
+answer_ok : (request : Request) (g : Graph) (reply : NumberedReply)
+    → ((let r : Result NumberedReply AskError = Ok reply in r ≡ Err ask.OutOfMemory) ⊎ IsNumberedAnswer request g (Ok reply))
+    → IsAnswer request g (Ok (named g.names reply))
+answer_ok request g reply answer = elim answer [ inl short ↦ cc | inr is ↦ (is.0, named_reply request g reply is.1) ]
 
 answer_err : (request : Request) (g : Graph) (error : AskError) → (error ≡ ask.OutOfMemory → ⊥)
-    → ((let r : Result Reply AskError = Err error in r ≡ Err ask.OutOfMemory) ⊎ IsAnswer request g (Err error))
+    → ((let r : Result NumberedReply AskError = Err error in r ≡ Err ask.OutOfMemory) ⊎ IsNumberedAnswer request g (Err error))
     → IsAnswer request g (Err error)
 answer_err request g error known answer = elim answer [ inl short ↦ absurd (known cc) | inr is ↦ is ]
 
-pub few_answered : (request : Request) (g : Graph) (reply : Reply) → IsAsked g
-    → ((let r : Result Reply AskError = Ok reply in r ≡ Err ask.OutOfMemory) ⊎ IsAnswer request g (Ok reply))
-    → HasFewEntries reply
-few_answered request g reply valid answer =
-    few_entries request g reply valid (answer_ok request g reply answer).1
-
 -- the lines of a reply over the content of the version that the slot holds
-pub replied_ok : (slot : ℕ) (request : Request) (s : State) (g : Graph) (n : ℕ) (reply : Reply) (lines : List ℕ)
+pub replied_ok : (slot : ℕ) (request : Request) (s : State) (g : Graph) (n : ℕ) (reply : NumberedReply) (lines : List ℕ)
     → version_in (slice_get s.held slot) ≡ Ok n → IsAsked g → g ≡ version n s
-    → ((let r : Result Reply AskError = Ok reply in r ≡ Err ask.OutOfMemory) ⊎ IsAnswer request g (Ok reply))
-    → lines ≡ shown_lines slot reply → IsReplied slot request s (version_in (slice_get s.held slot)) (Ok lines)
+    → ((let r : Result NumberedReply AskError = Ok reply in r ≡ Err ask.OutOfMemory) ⊎ IsNumberedAnswer request g (Ok reply))
+    → lines ≡ shown_lines slot (named g.names reply) → IsReplied slot request s (version_in (slice_get s.held slot)) (Ok lines)
 replied_ok slot request s g n reply lines held valid same answer shown =
     let is = answer_ok request g reply answer in
-    let text : lines ≡ reply_lines slot request g reply =
-    shown ∙ shown_lines-reply slot request g reply valid is.1 in
-    rw (held, ← same) (Ok reply, is, ap (λ text. Ok text) text)
+    let text : lines ≡ reply_lines slot request g (named g.names reply) =
+    shown ∙ shown_lines-reply slot request g (named g.names reply) valid is.1 in
+    rw (held, ← same) (Ok (named g.names reply), is, ap (λ text. Ok text) text)
 
 pub replied_err : (slot : ℕ) (request : Request) (s : State) (g : Graph) (n : ℕ) (error : AskError) (word : Word)
     → version_in (slice_get s.held slot) ≡ Ok n → g ≡ version n s
-    → ((let r : Result Reply AskError = Err error in r ≡ Err ask.OutOfMemory) ⊎ IsAnswer request g (Err error))
+    → ((let r : Result NumberedReply AskError = Err error in r ≡ Err ask.OutOfMemory) ⊎ IsNumberedAnswer request g (Err error))
     → error ≢ ask.OutOfMemory → word ≡ ask_word error
     → IsReplied slot request s (version_in (slice_get s.held slot)) (Err word)
 replied_err slot request s g n error word held same answer known is_word =

@@ -1,6 +1,5 @@
 -- A server's fields, and the states that they show.
-use Rattle.std.specs.Prelude.{◌≡◌, ℕ, ◌≤◌, List, bytes_eq, length, count_by, sum_by, Ok, Err, Bool}
-use Rattle.graph_model.specs.Limits.{name_limit}
+use Rattle.std.specs.Prelude.{◌≡◌, ℕ, List, bytes_eq, length, count_by, sum_by, Ok, Err, Bool}
 use Rattle.graph_model.specs.Step.{empty_graph}
 use Rattle.graph_version.specs.Versions.{layout_of}
 use Rattle.block_pool.specs.Pools.{is_free}
@@ -58,14 +57,6 @@ batch_word refused.NamesFull = NamesFull
 batch_word refused.KindsFull = KindsFull
 batch_word (refused.PoolEmpty needed free) = PoolEmpty
 batch_word refused.OutOfMemory = Feed feed.Memory
-
--- a table of degrees has at most so many entries
-abbrev pub HasFewEntries : Reply → Type 0
-HasFewEntries (Levels entries) = Unit {0}
-HasFewEntries (Labels entries) = Unit {0}
-HasFewEntries (Cores entries) = Unit {0}
-HasFewEntries (Degrees entries) = length entries ≤ name_limit
-HasFewEntries (OneEdge shown) = Unit {0}
 
 -- a reply's lines, read off the reply alone: of the vertices with one label, one is that label itself, and each edge of the
 -- view leaves one vertex

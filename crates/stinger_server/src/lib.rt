@@ -10,6 +10,7 @@ mod script;
 mod server;
 mod sink;
 mod slots;
+mod tables;
 mod words;
 
 pub use laws::law_one_text;

@@ -7,15 +7,15 @@ ghost use Rattle.seat_board.specs.Board.{no_pins};
 ghost use Rattle.store_journal.specs.Opening.{opened_desk};
 ghost use Rattle.stream_store.specs.Configs.{ConfigView};
 ghost use Rattle.stream_store.specs.Seats.{SeatView};
-ghost use Rattle.stinger_server.specs.Servers.{HasFewEntries, IsServer, Obeys, Shows, batch_word, shown_lines};
+ghost use Rattle.stinger_server.specs.Servers.{IsServer, Obeys, Shows, batch_word};
 ghost use Rattle.stinger_server.specs.States as states;
 
-use crate::lines;
 use crate::slots::Slots;
 use crate::words::Word;
+use crate::{lines, tables};
 use batch_apply::PassAll;
 use feed_csv::{Command, FeedWord};
-use graph_model::{AskError, Batch, NamedOp, PushError, Reply, Request};
+use graph_model::{AskError, Batch, NamedOp, PushError, Request};
 use seat_board::Board;
 use std::alloc::{AllocError, Global};
 use std::mem;
@@ -180,9 +180,9 @@ impl Server {
             Ok(session) => session,
             Err(word) => return Ok(Response::Refused(word)),
         };
-        match session.ask(request) {
+        match session.ask_in_numbers(request) {
             Ok(reply) => {
-                write_reply(lines, slot, &reply)?;
+                tables::reply(lines, slot, session.version().names(), &reply)?;
                 Ok(Response::Lines)
             }
             Err(error) => {
@@ -213,20 +213,6 @@ impl Server {
     {
         lines::stat(lines, self.desk.stat())?;
         Ok(Response::Lines)
-    }
-}
-
-/// Appends the lines of a reply.
-fn write_reply(lines: &mut String, slot: u8, reply: &Reply) -> Result<(), AllocError>
-    requires { HasFewEntries reply.now }
-    ensures { OnOk result (string_bytes lines.new ≡ string_bytes lines.old ++ shown_lines slot reply.now) }
-{
-    match reply {
-        Reply::Levels(entries) => lines::levels(lines, slot, entries.as_slice()),
-        Reply::Labels(entries) => lines::labels(lines, slot, entries.as_slice()),
-        Reply::Cores(entries) => lines::cores(lines, slot, entries.as_slice()),
-        Reply::Degrees(entries) => lines::degrees(lines, slot, entries.as_slice()),
-        Reply::OneEdge(shown) => lines::edge(lines, slot, *shown),
     }
 }
 
