@@ -4,6 +4,7 @@ mod analyses;
 mod answers;
 mod gates;
 mod limits;
+mod long_rows;
 mod ops;
 mod refusals;
 mod refused;

@@ -1,4 +1,6 @@
-ghost use Rattle.std.specs.Prelude.{◌≡◌, IfOk};
+ghost use Rattle.std.specs.Prelude.{◌≡◌, [], IfOk};
+ghost use Rattle.row_pages.specs.Sharing.{block_values};
+ghost use Rattle.graph_version.specs.Drafts.{ReplacesRow, IsWhole, drafted_over, with_batch};
 ghost use Rattle.graph_version.specs.Versions.{empty_version};
 ghost use Rattle.layer_tests.specs.OneEdge as edge;
 
@@ -47,17 +49,44 @@ fn filled(number: u32) -> Block
     block
 }
 
+// A row of one block.
+fn one_row(alloc: Global) -> Result<Vec<Arc<Block>>, AllocError> {
+    let block = Arc::new(alloc, filled(7))?;
+    Ok(Vec::from_array(alloc, [block])?)
+}
+
+// The draft over a version in which this is the row of the first source.
+fn with_row(before: &Version, row: Vec<Arc<Block>>) -> Result<VersionDraft, AllocError>
+    ensures { IfOk result (λ put. ReplacesRow 0 (block_values row.items) (drafted_over before.now) put) }
+{
+    VersionDraft::over(before)?.replace_row(VertexId(0), row)
+}
+
+// The draft without that row.
+fn without_row(alloc: Global, put: VersionDraft) -> Result<VersionDraft, AllocError>
+    ensures { IfOk result (λ taken. ReplacesRow 0 [] put taken) }
+{
+    put.replace_row(VertexId(0), Vec::new(alloc))
+}
+
+// The version of a draft with a batch without operations.
+fn finished(alloc: Global, draft: VersionDraft) -> Result<Version, AllocError>
+    requires batches { draft.version.batches ≡ [] }
+    requires whole { IsWhole (with_batch draft []) }
+{
+    match Arc::new(alloc, Batch::new(alloc)) {
+        Ok(batch) => draft.push_batch(batch)?.finish(),
+        Err(_) => Err(AllocError),
+    }
+}
+
 // The version of one batch without operations: a row is put into the draft, and taken back.
 fn put_and_taken_back(alloc: Global, before: &Version) -> Result<Version, AllocError>
     requires { before.now ≡ empty_version }
 {
-    let mut row = Vec::new(alloc);
-    row.push(Arc::new(alloc, filled(7))?)?;
-    let drafted = VersionDraft::over(before)?;
-    let put = drafted.replace_row(VertexId(0), row)?;
-    let taken = put.replace_row(VertexId(0), Vec::new(alloc))?;
-    let batch = Arc::new(alloc, Batch::new(alloc))?;
-    taken.push_batch(batch)?.finish()
+    let put = with_row(before, one_row(alloc)?)?;
+    let taken = without_row(alloc, put)?;
+    finished(alloc, taken)
 }
 
 #[test]

@@ -1,6 +1,7 @@
 ghost use Rattle.std.specs.Prelude.{◌≡◌, [], ◌∷◌, IfOk};
 ghost use Rattle.std.specs.Arc.{arc_value};
 ghost use Rattle.graph_version.specs.declared.versions.Version.{Version};
+ghost use Rattle.graph_version.specs.Drafts.{drafted_over, with_batch};
 ghost use Rattle.graph_version.specs.Versions.{empty_version};
 ghost use Rattle.version_shelf.specs.Shelves.{opened_shelf};
 
@@ -18,14 +19,36 @@ fn tell_refused(rt: &impl Print) {
     let _ = println!(rt; "refused");
 }
 
+// A draft of the version without batches.
+fn drafted(alloc: Global) -> Result<VersionDraft, AllocError>
+    ensures { IfOk result (λ draft. draft ≡ drafted_over empty_version) }
+{
+    VersionDraft::over(&Version::empty(alloc))
+}
+
+// The draft with a batch without operations.
+fn with_a_batch(alloc: Global, draft: VersionDraft) -> Result<VersionDraft, AllocError>
+    requires { draft.version.batches ≡ [] }
+    ensures { IfOk result (λ next. next ≡ with_batch draft []) }
+{
+    match Arc::new(alloc, Batch::new(alloc)) {
+        Ok(batch) => draft.push_batch(batch),
+        Err(_) => Err(AllocError),
+    }
+}
+
 // The version of one batch without operations.
+fn made_of_one(alloc: Global) -> Result<Version, AllocError>
+    ensures { IfOk result (λ v. v ≡ record empty_version { batches = [] ∷ [] }) }
+{
+    with_a_batch(alloc, drafted(alloc)?)?.finish()
+}
+
+// The same to be shared.
 fn one_batch(alloc: Global) -> Result<Arc<Version>, AllocError>
     ensures { IfOk result (λ v. arc_value {X = Version} v ≡ record empty_version { batches = [] ∷ [] }) }
 {
-    let draft = VersionDraft::over(&Version::empty(alloc))?;
-    let batch = Arc::new(alloc, Batch::new(alloc))?;
-    let version = draft.push_batch(batch)?.finish()?;
-    Ok(Arc::new(alloc, version)?)
+    Ok(Arc::new(alloc, made_of_one(alloc)?)?)
 }
 
 // Posts the version of one batch; the first reader learns of it. Each reader enters before and after.

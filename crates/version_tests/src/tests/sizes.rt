@@ -33,8 +33,8 @@ fn chain(alloc: Global, first: u32, end: u32) -> Result<Batch, LineError> {
     Ok(batch)
 }
 
-// The version after a batch that takes, drops and leaves unused so many blocks.
-fn grown<R: Threads + Sync + Abort>(
+/// The version after a batch that takes, drops and leaves unused so many blocks.
+pub(super) fn grown<R: Threads + Sync + Abort>(
     rt: &R,
     alloc: Global,
     workers: usize,
@@ -81,8 +81,8 @@ fn shares_names_and_rows_at_the_ends_of_pieces(rt: HostRuntime) {
     }
 }
 
-// One edge from vertex 0 to each of the others.
-fn star(alloc: Global, targets: u32) -> Result<Batch, LineError> {
+/// One edge from vertex 0 to each of the others.
+pub(super) fn star(alloc: Global, targets: u32) -> Result<Batch, LineError> {
     let mut batch = Batch::new(alloc);
     for number in 0..targets {
         batch.push(insertion(

@@ -96,7 +96,8 @@ fn letter(outcome: Outcome) -> char {
     }
 }
 
-fn letters(alloc: Global, outcomes: &[Outcome]) -> Result<String, AllocError> {
+/// The first letters of outcomes, in order.
+pub(super) fn letters(alloc: Global, outcomes: &[Outcome]) -> Result<String, AllocError> {
     let mut text = String::new(alloc);
     for outcome in outcomes {
         text.push(letter(*outcome))?;
