@@ -218,22 +218,28 @@ fn insertions(edges: &mut Edges, count: u32) -> Vec<Op> {
 
 struct Desk {
     workers: usize,
-    last: Version,
+    last: Arc<Version>,
     free: Vec<Arc<Block>>,
 }
 
 impl Desk {
     fn new(workers: usize) -> Desk {
         let last = Version { names: Book::new(), pages: Vec::new(), edges: 0, _batch: None };
-        Desk { workers, last, free: (0..65_536).map(|number| Arc::new(Block::blank(number))).collect() }
+        Desk { workers, last: Arc::new(last), free: (0..65_536).map(|number| Arc::new(Block::blank(number))).collect() }
     }
 
     fn apply(&mut self, ops: Vec<Op>) {
-        let plan = plan(&self.last, &ops, if ops.len() < 512 { 1 } else { self.workers });
-        let fresh = self.free.split_off(self.free.len() - ops.len());
-        let (version, mut left) = apply(&self.last, plan, Arc::new(ops), fresh);
-        self.last = version;
+        let mut left = self.apply_alone(ops);
         self.free.append(&mut left);
+    }
+
+    /// Applies a batch; the blocks that its version doesn't have come back.
+    fn apply_alone(&mut self, ops: Vec<Op>) -> Vec<Arc<Block>> {
+        let plan = plan(&self.last, &ops, if ops.len() < 2048 { 1 } else { self.workers });
+        let fresh = self.free.split_off(self.free.len() - ops.len());
+        let (version, left) = apply(&self.last, plan, Arc::new(ops), fresh);
+        self.last = Arc::new(version);
+        left
     }
 
     fn grow(&mut self, edges: &mut Edges, count: u32) {
@@ -275,7 +281,7 @@ fn batches(rounds: u32) {
             let mut desk = Desk::new(workers);
             let mut edges = Edges::new(shape);
             desk.grow(&mut edges, 65_536);
-            for size in [1, 8, 64, 512, 4096] {
+            for size in [1, 8, 64, 512, 1024, 2048, 4096] {
                 for _ in 0..rounds {
                     measure_size(graph, &mut desk, &mut edges, size);
                 }
@@ -301,9 +307,65 @@ fn measure_rows(rows: u32, rounds: u32) {
     }
 }
 
+/// What a number of a block is: free, used, or retired by a version.
+#[derive(Clone, Copy, PartialEq)]
+enum Place {
+    Free,
+    Used,
+    Retired(u64),
+}
+
+/// Frees the numbers that are retired with at most the floor.
+fn collect(places: &mut [Place], free: &mut Vec<u32>, retired: &mut Vec<u32>, floor: u64) -> usize {
+    let before = free.len();
+    retired.retain(|number| match places[*number as usize] {
+        Place::Retired(version) if version <= floor => {
+            places[*number as usize] = Place::Free;
+            free.push(*number);
+            false
+        }
+        _ => true,
+    });
+    free.len() - before
+}
+
+fn measure_collection() {
+    let mut places = vec![Place::Used; 65_536];
+    let mut retired: Vec<u32> = (0..4096).map(|number| number * 16).collect();
+    let mut free = Vec::with_capacity(65_536);
+    for number in &retired {
+        places[*number as usize] = Place::Retired(7);
+    }
+    let before = process_and_elapsed();
+    let freed = collect(std::hint::black_box(&mut places), &mut free, &mut retired, 7);
+    tell("collect", std::hint::black_box(freed), before);
+}
+
+/// A version let go, once two batches followed it. Its blocks stay, as the store's pool keeps them, and so does its batch, as the
+/// store's journal keeps it.
+fn measure_drop(desk: &mut Desk, edges: &mut Edges, rows: u32) {
+    let held = desk.last.clone();
+    let _batch = held._batch.clone();
+    let mut left = desk.apply_alone(insertions(edges, 4096));
+    left.append(&mut desk.apply_alone(insertions(edges, 4096)));
+    let before = process_and_elapsed();
+    drop(held);
+    tell("drop", rows as usize, before);
+    desk.free.append(&mut left);
+}
+
 fn versions(rounds: u32) {
     for rows in [1_000, 10_000, 60_000] {
         measure_rows(rows, rounds);
+    }
+    for _ in 0..rounds {
+        measure_collection();
+    }
+    let mut desk = Desk::new(1);
+    desk.grow(&mut Edges::new(Shape::Path), 50_000);
+    let mut edges = Edges::new(Shape::Turns(50_000));
+    for _ in 0..rounds {
+        measure_drop(&mut desk, &mut edges, 50_000);
     }
     for _ in 0..rounds {
         let mut desk = Desk::new(1);

@@ -44,7 +44,7 @@ fn measure_graph<R: Threads + Wait + Sync + Clock + CpuClock + Print + AllocGlob
     let mut desk = opened(rt, workers)?;
     let mut edges = Edges::new(shape);
     grow(rt, &mut desk, &mut edges, 65_536)?;
-    for size in [1, 8, 64, 512, 4096] {
+    for size in [1, 8, 64, 512, 1024, 2048, 4096] {
         measure_size(rt, graph, &mut desk, &mut edges, size, workers, rounds)?;
     }
     Ok(())

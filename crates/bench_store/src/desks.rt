@@ -50,17 +50,32 @@ pub(crate) fn insertions(alloc: Global, edges: &mut Edges, count: u32) -> io::Re
     Ok(batch)
 }
 
+/// Applies a batch.
+pub(crate) fn apply_alone<R: Threads + Wait + Sync>(
+    rt: &R,
+    desk: &mut Desk,
+    batch: Batch,
+) -> io::Result<()> {
+    match desk.apply(rt, &PassAll, batch) {
+        Ok(_) => Ok(()),
+        Err(_) => Err(refused()),
+    }
+}
+
+/// Recycles what was retired, and tells how many blocks that were.
+pub(crate) fn collect_all(desk: &mut Desk) -> u32 {
+    let number = desk.stat().number;
+    desk.collect(number).recycled
+}
+
 /// Applies a batch, and recycles what it retired.
 pub(crate) fn apply_to<R: Threads + Wait + Sync>(
     rt: &R,
     desk: &mut Desk,
     batch: Batch,
 ) -> io::Result<()> {
-    if desk.apply(rt, &PassAll, batch).is_err() {
-        return Err(refused());
-    }
-    let number = desk.stat().number;
-    let _collected = desk.collect(number);
+    apply_alone(rt, desk, batch)?;
+    let _recycled = collect_all(desk);
     Ok(())
 }
 

@@ -8,6 +8,7 @@ mod batches;
 mod blocks;
 mod desks;
 mod edges;
+mod stores;
 mod times;
 mod versions;
 
@@ -38,6 +39,7 @@ fn measure<R: Threads + Wait + Sync + Clock + CpuClock + Print + AllocGlobal>(
         ("analyses", Ok(rounds)) => analyses::measure(rt, rounds),
         ("batches", Ok(rounds)) => batches::measure(rt, rounds),
         ("versions", Ok(rounds)) => versions::measure(rt, rounds),
+        ("stores", Ok(rounds)) => stores::measure(rt, rounds),
         _ => Ok(()),
     }
 }

@@ -1,12 +1,13 @@
 //! What versions cost: batches of 4,096 changes of different rows over versions of 1,000, 10,000 and 60,000 rows, grants of
-//! 4,096 blocks, and shares of a book of 65,536 names.
+//! 4,096 blocks, collections of as many, versions that are let go, and shares of a book of 65,536 names.
 
-use crate::desks::{apply_to, grow, insertions, opened, refused};
+use crate::desks::{apply_alone, apply_to, collect_all, grow, insertions, opened, refused};
 use crate::edges::{Edges, Shape};
 use crate::times::Times;
 use block_pool::Pool;
+use graph_version::Version;
 use std::io;
-use std::sync::Wait;
+use std::sync::{Arc, Wait};
 use std::thread::Threads;
 use std::time::{Clock, CpuClock};
 use stream_store::Desk;
@@ -24,6 +25,7 @@ pub(crate) fn measure<R: Threads + Wait + Sync + Clock + CpuClock + Print + Allo
     for _ in 0..rounds {
         measure_grants(rt)?;
     }
+    measure_lettings(rt, 50_000, rounds)?;
     let mut desk = opened(rt, 1)?;
     grow(rt, &mut desk, &mut Edges::new(Shape::Path), 65_535)?;
     for _ in 0..rounds {
@@ -64,6 +66,59 @@ fn measure_batch<R: Threads + Wait + Sync + Clock + CpuClock + Print + AllocGlob
     apply_to(rt, desk, batch)?;
     spent.add_since(rt, before)?;
     tell(rt, "batch", rows as usize, spent)
+}
+
+fn measure_lettings<R: Threads + Wait + Sync + Clock + CpuClock + Print + AllocGlobal>(
+    rt: &R,
+    rows: u32,
+    rounds: u32,
+) -> io::Result<()> {
+    let mut desk = opened(rt, 1)?;
+    grow(rt, &mut desk, &mut Edges::new(Shape::Path), rows)?;
+    let mut edges = Edges::new(Shape::Turns { vertices: rows });
+    for _ in 0..rounds {
+        measure_letting_go(rt, &mut desk, &mut edges, rows)?;
+    }
+    Ok(())
+}
+
+/// A collection of what a batch of 4,096 changes retired; and a version let go that two such batches followed, so that nothing
+/// but the measurement has it. The blocks that they retired are the pool's.
+fn measure_letting_go<R: Threads + Wait + Sync + Clock + CpuClock + Print + AllocGlobal>(
+    rt: &R,
+    desk: &mut Desk,
+    edges: &mut Edges,
+    rows: u32,
+) -> io::Result<()> {
+    apply_alone(rt, desk, insertions(rt.alloc(), edges, 4096)?)?;
+    measure_collection(rt, desk)?;
+    let held = Arc::try_clone(desk.last())?;
+    for _ in 0..2 {
+        apply_alone(rt, desk, insertions(rt.alloc(), edges, 4096)?)?;
+    }
+    measure_drop(rt, held, rows as usize)?;
+    let _recycled = collect_all(desk);
+    Ok(())
+}
+
+fn measure_collection<R: Clock + CpuClock + Print>(rt: &R, desk: &mut Desk) -> io::Result<()> {
+    let mut spent = Times::NONE;
+    let before = Times::now(rt)?;
+    let recycled = collect_all(desk);
+    spent.add_since(rt, before)?;
+    tell(rt, "collect", recycled as usize, spent)
+}
+
+fn measure_drop<R: Clock + CpuClock + Print>(
+    rt: &R,
+    version: Arc<Version>,
+    rows: usize,
+) -> io::Result<()> {
+    let mut spent = Times::NONE;
+    let before = Times::now(rt)?;
+    drop(version);
+    spent.add_since(rt, before)?;
+    tell(rt, "drop", rows, spent)
 }
 
 /// A grant of 4,096 blocks of a new pool.
