@@ -6,9 +6,9 @@ ghost use Rattle.stream_store.specs.Seats.{IsNewSeat};
 ghost use Rattle.stream_store.specs.Stores.{IsOfOpening};
 
 use crate::apply_tests::batch_of;
-use crate::{Collected, Config, Desk, Naming, Receipt, Seat, Session, Stat, Store, open_parts};
+use crate::{Collected, Config, Desk, Naming, Receipt, Seat, Stat, Store, open_parts};
 use batch_apply::{Gate, PassAll};
-use graph_model::{AskError, Batch, Name, NamedFilter, Reply, Request};
+use graph_model::Batch;
 use seat_board::Board;
 use std::alloc::{AllocError, Global};
 use std::marker::{Brand, PhantomData};
@@ -29,14 +29,13 @@ struct Handed<J: Naming> {
     ghost opening_is: { receipt.told.version.opening ≡ empty_graph } by { Prim.hlevel (codes, graph_code) },
 }
 
-/// What a thread sees that learnt of version 1: the version's number, names and edges, and whether the levels from `a` are those
-/// of a path; and the store's counts and a collection once it let the version go.
+/// What a thread sees that learnt of version 1: the version's number, names and edges; and the store's counts and a collection
+/// once it let the version go.
 #[derive(Clone, Copy, Debug, PartialEq, Eq)]
 struct Sights {
     number: u64,
     names: usize,
     edges: u64,
-    has_path: bool,
     stat: Stat,
     collected: Collected,
 }
@@ -69,35 +68,9 @@ fn handed_of<J: Naming, R: Threads + Wait + Sync>(
     }
 }
 
-fn levels_request(alloc: Global) -> Result<Request, AllocError> {
-    Ok(Request::Levels {
-        source: Name::of(String::from_str(alloc, "a")?),
-        filter: NamedFilter {
-            kind: None,
-            lo: 0,
-            hi: 9,
-        },
-    })
-}
-
-/// Whether the levels from `a` are told as those of the path from `a` over `b` to `c`.
-fn tells_path(alloc: Global, session: &Session) -> Result<bool, AskError> {
-    match session.ask(&levels_request(alloc)?)? {
-        Reply::Levels(levels) => Ok(are_told(levels.as_slice(), &[("a", 0), ("b", 1), ("c", 2)])),
-        _ => Ok(false),
-    }
-}
-
-fn are_told(levels: &[(Name, u32)], wanted: &[(&str, u32)]) -> bool {
-    levels.len() == wanted.len()
-        && levels.iter().zip(wanted).all(|(told, level)| told.0.as_str() == level.0
-            && told.1 == level.1)
-}
-
 /// Waits for the receipt, learns of it, and acquires.
 fn read<J: Naming, R: Wait>(
     rt: &R,
-    alloc: Global,
     store: &Store<J>,
     slot: &OnceLock<Option<Handed<J>>>,
     mut seat: Seat,
@@ -112,10 +85,10 @@ fn read<J: Naming, R: Wait>(
         }
         None => return None,
     }
-    Some(seen_by(rt, alloc, store, seat))
+    Some(seen_by(rt, store, seat))
 }
 
-fn seen_by<J: Naming, R: Wait>(rt: &R, alloc: Global, store: &Store<J>, seat: Seat) -> Sights {
+fn seen_by<J: Naming, R: Wait>(rt: &R, store: &Store<J>, seat: Seat) -> Sights {
     let session = seat.pin(rt, store).enter(rt, store);
     let version = session.version();
     let (number, names, edges) = (
@@ -123,13 +96,11 @@ fn seen_by<J: Naming, R: Wait>(rt: &R, alloc: Global, store: &Store<J>, seat: Se
         version.names().len(),
         version.edge_count(),
     );
-    let has_path = tells_path(alloc, &session) == Ok(true);
     let _seat = session.release(rt, store);
     Sights {
         number,
         names,
         edges,
-        has_path,
         stat: store.stat(rt),
         collected: store.collect(rt),
     }
@@ -151,7 +122,7 @@ fn handed_over<J: Naming + Send + Sync, R: Threads + Wait + Sync>(
         || feed(rt, store, &slot, batch),
         || -> Option<Sights>
             requires { IsOfOpening J.book seat.seen }
-        { read(rt, alloc, store, &slot, seat) },
+        { read(rt, store, &slot, seat) },
     );
     seen
 }
@@ -273,7 +244,6 @@ const LEARNT: Sights = Sights {
     number: 1,
     names: 3,
     edges: 2,
-    has_path: true,
     stat: Stat {
         number: 1,
         names: 3,
