@@ -6,4 +6,4 @@ use Rattle.layer_tests.proofs.tests.drafts.put_and_taken_back.Goals as goal
 pub finished-requires-clause-whole : goal.finished-requires-clause-whole
 finished-requires-clause-whole c =
     taken_back (drafted_over c.args.before.now) _ _ _ _ (ap drafted_over c.requires) c.in_ok-put.ensures
-        c.in_ok-taken.ensures refl
+    c.in_ok-taken.ensures refl
