@@ -1,4 +1,7 @@
 // The loops of crates/bench_store's word `blocks` in Rust, over the same columns: what `bench/blocks` compares with.
+mod graphs;
+
+use graphs::thread_cpu_time;
 use std::hint::black_box;
 
 const BLOCKS: u32 = 64;
@@ -10,23 +13,6 @@ struct Block {
     targets: [u32; 32],
     weights: [i64; 32],
     recents: [u64; 32],
-}
-
-#[repr(C)]
-struct Timespec {
-    seconds: i64,
-    nanoseconds: i64,
-}
-
-unsafe extern "C" {
-    fn clock_gettime(clock: i32, time: *mut Timespec) -> i32;
-}
-
-/// The processor time of this thread, in nanoseconds (Linux's clock 3).
-fn thread_cpu_time() -> u64 {
-    let mut time = Timespec { seconds: 0, nanoseconds: 0 };
-    unsafe { clock_gettime(3, &mut time) };
-    time.seconds as u64 * 1_000_000_000 + time.nanoseconds as u64
 }
 
 fn spread(number: u32) -> u32 {

@@ -1,5 +1,5 @@
-// Edges of graphs and their rows of blocks, as crates/bench_store draws and the store keeps them: what the programs of
-// bench/analyses, bench/batches and bench/versions share.
+// Edges of graphs and their rows of blocks, as crates/bench_store draws and the store keeps them, and processor time: what
+// the programs of bench/ share.
 #![allow(dead_code)]
 use std::collections::HashMap;
 use std::sync::Arc;
