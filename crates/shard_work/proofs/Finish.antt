@@ -1,27 +1,34 @@
 -- What a shard leaves, from the rows that it has opened, changed and closed.
-use Rattle.std.proofs.Common.{◌≡◌, ℕ, ◌+◌, ◌<◌, Bool, true, false, cond, not, ◌&&◌, ◌||◌, List, [], ◌∷◌, ◌++◌, length, get_or}
+use Rattle.std.proofs.Common.{◌≡◌, ℕ, zero, suc, ◌+◌, ◌<◌, ◌≤◌, Bool, true, false, cond, not, ◌&&◌, ◌||◌, List, [], ◌∷◌, ◌++◌, length, get_or}
 use Rattle.std.proofs.Common.{map, filter, flat_map, count_by, zip, refl, sym, ap, ap₂, ◌∙◌, arith, subst, All, length-append}
 use Rattle.std.proofs.Common.{take}
-use Rattle.std.proofs.lemmas.List.Sums.{sum_by-cons}
+use Rattle.std.proofs.lemmas.List.Sums.{count_by-le-length, sum_by-cons}
 use Rattle.std.specs.Option.{is_some, option_to_list}
 use Rattle.std.specs.declared.option.Option.{Option}
 use Rattle.std.specs.declared.option.Option.TheVariants.{None, Some}
 use Rattle.std.specs.declared.sync.Arc.{Arc}
 use Rattle.std.specs.declared.alloc.Global.{Global}
-use Rattle.std.proofs.lemmas.List.{get_or-map, length-map, map-append, take_more}
-use Rattle.std.proofs.lemmas.Grind.{flat_map-append}
-use Rattle.graph_model.specs.declared.ids.VertexId.{VertexId}
-use Rattle.block_layout.specs.Batches.{opened, rows_all, outcomes_all}
-use Rattle.std.proofs.lemmas.List.Elements.{All-head, All-tail, All-cons, All-nil, All-push}
+use Rattle.std.proofs.lemmas.Bool.{false≢true, lt-ltb, le-ltb}
+use Rattle.std.proofs.lemmas.List.{get_or-map, get_or_default, length-map, map-append, take_all}
+use Rattle.graph_model.specs.declared.batches.Outcome.{Outcome}
+use Rattle.graph_model.specs.declared.batches.Outcome.TheVariants.{Absent}
+use Rattle.graph_model.specs.declared.changes.EdgeChange.{EdgeChange}
+use Rattle.block_layout.specs.Batches.{opened, rows_all, outcome_in, outcomes_all}
+use Rattle.std.proofs.lemmas.List.Elements.{All-head, All-tail, All-cons, All-nil}
 use Rattle.edge_block.specs.declared.blocks.Block.{Block}
 use Rattle.edge_block.specs.Slots.{BlockView}
 use Rattle.block_layout.specs.Rows.{OpenBlock, shape_of, shapes, untouched, has_none, is_kept, row_end, taken_in, dropped_in}
 use Rattle.shard_work.specs.RowBlocks.{block_of, blocks_of, kept_of, open_of, opens, had_here, had_in, own_here, own_in}
-use Rattle.shard_work.specs.RowBlocks.{numbers_of, HaveSame, IsOf}
+use Rattle.shard_work.specs.RowBlocks.{numbers_of, IsOf}
 use Rattle.shard_work.specs.Closing.{after_here, stays_here, written_here, dropped_here, unused_here, after_of, stays_of}
 use Rattle.shard_work.specs.Closing.{written_of, dropped_of, unused_of, closed_rows, row_values, stays_all, written_all}
 use Rattle.shard_work.specs.Closing.{dropped_all, unused_all}
-use Rattle.shard_work.specs.Shards.{AreOpen, AreOwn, resolved_in, sources_of, had_all, own_all}
+use Rattle.shard_work.specs.Shards.{AreOpen, AreOwn, IsPlace, AreSteps, key_at, resolved_at, resolved_in, sources_of, had_all}
+use Rattle.shard_work.specs.Shards.{own_all}
+use Rattle.shard_work.specs.Groups.{is_past}
+use Rattle.shard_work.specs.Progress.{AreOutcomes, AreRowsDone}
+use Rattle.shard_work.specs.declared.shard.Place.{Place}
+use Rattle.shard_work.specs.declared.shard.Step.{Step}
 use Rattle.graph_version.specs.Versions.{IsBlockOf}
 use Rattle.shard_work.specs.Done.{AreBlockRows, IsShardDone, sum_of, layout_by, rows_by, sources_in}
 use Rattle.shard_work.specs.declared.shard.Shard.{Shard}
@@ -29,6 +36,8 @@ use Rattle.shard_work.specs.declared.shard.ShardDone.{ShardDone}
 use Rattle.shard_work.specs.declared.row_blocks.RowBlock.{RowBlock}
 use Rattle.shard_work.specs.declared.shard.OpenRow.{OpenRow}
 use Rattle.shard_work.proofs.Places.{count_by-append}
+use Rattle.shard_work.proofs.ShardSteps.{first_step, length-outcomes_all}
+use Rattle.shard_work.proofs.SourceSteps.{outcome_of}
 
 -- what balances in each element balances in the whole list
 pub balance : {X A : Type 0} (p : A → Bool) (a b c d : X → List A)
@@ -265,87 +274,126 @@ own_blocks bs row source e all k d lt =
     ap (λ (b : BlockView). b.source) (sym (get_or-map block_of bs k d (block_of d) lt))
     ∙ (subst (λ r. All (IsBlockOf source) r) (sym e) all k (block_of d) (omega arith)).source_is
 
--- one more row is opened
-pub opened_more : (rows : ℕ → List BlockView) (sources : List VertexId) (i : ℕ) → i < length sources
-    → (work next : List OpenRow) (r : OpenRow) (bs : List (Arc Block Global)) → next ≡ work ++ r ∷ []
-    → r.source ≡ get_or sources i (record { 0 = 0 }) → blocks_of bs ≡ rows (get_or sources i (record { 0 = 0 })).0
-    → opens r.blocks.items ≡ map kept_of bs → had_in r.blocks.items ≡ blocks_of bs → own_in r.blocks.items ≡ []
-    → All (IsOf r.source.0) r.blocks.items
-    → (sources_of work ≡ map (λ s. s.0) (take i sources) → sources_of next ≡ map (λ s. s.0) (take (i + 1) sources))
-    × (AreOpen (opened (layout_by rows)) work → AreOpen (opened (layout_by rows)) next)
-    × (had_all work ≡ flat_map (λ s. rows s.0) (take i sources) → had_all next ≡ flat_map (λ s. rows s.0) (take (i + 1) sources))
-    × (own_all work ≡ [] → own_all next ≡ [])
-    × (AreOwn work → AreOwn next)
-opened_more rows sources i lt work next r bs is source row held had none own =
-    let s : VertexId = get_or sources i (record { 0 = 0 }) in
-    let taken : take (i + 1) sources ≡ take i sources ++ s ∷ [] = take_more sources i (record { 0 = 0 }) lt in
-    let here : opens r.blocks.items ≡ opened (layout_by rows) r.source.0 =
-    held ∙ kept_all bs ∙ ap (λ b. map untouched (map shape_of b)) (row ∙ ap (λ (s : VertexId). rows s.0) (sym source)) in (
-      λ e. ap sources_of is ∙ map-append (λ (r : OpenRow). r.source.0) work (r ∷ [])
-          ∙ ap₂ (λ a b. a ++ b ∷ []) e (ap (λ (s : VertexId). s.0) source)
-          ∙ sym (ap (map (λ (s : VertexId). s.0)) taken ∙ map-append (λ (s : VertexId). s.0) (take i sources) (s ∷ [])),
-      λ e. subst (AreOpen (opened (layout_by rows))) (sym is)
-          (All-push (λ (r : OpenRow). opens r.blocks.items ≡ opened (layout_by rows) r.source.0) work r e here),
-      λ e. ap had_all is ∙ flat_map-append (λ (r : OpenRow). had_in r.blocks.items) work (r ∷ [])
-          ∙ ap₂ (λ a b. a ++ (b ++ [])) e (had ∙ row)
-          ∙ sym (ap (flat_map (λ (s : VertexId). rows s.0)) taken
-          ∙ flat_map-append (λ (s : VertexId). rows s.0) (take i sources) (s ∷ [])),
-      λ e. ap own_all is ∙ flat_map-append (λ (r : OpenRow). own_in r.blocks.items) work (r ∷ [])
-          ∙ ap₂ (λ a b. a ++ (b ++ [])) e none,
-      λ e. subst AreOwn (sym is) (All-push (λ (r : OpenRow). All (IsOf r.source.0) r.blocks.items) work r e own),
-    )
+-- before the first row is opened no operation in a row has an outcome, and each other one is absent
+pub none_written : (rows : ℕ → List BlockView) (sources : List ℕ) (steps : List Step)
+    → AreOutcomes sources steps rows 0 (map (λ s. (s.op, Absent)) steps)
+none_written rows sources steps = record {
+  places = places steps;
+  are = λ k s o lt past.
+      ap (λ (p : ℕ × Outcome). p.1) (get_or-map (λ (s : Step). (s.op, Absent)) steps k first_step o lt)
+      ∙ sym (outcome_of sources steps k (opened (layout_by rows)) lt
+      ∙ absent (get_or steps k first_step).change (get_or steps k first_step).place
+      (ap (λ (s : Step). is_past 0 s.place) (get_or_default steps k first_step s lt) ∙ past) (rows_all (resolved_in sources
+      (take k steps)) (opened (layout_by rows))));
+} where
+  places : (steps : List Step) → map (λ (o : ℕ × Outcome). o.0) (map (λ (s : Step). (s.op, Absent)) steps)
+      ≡ map (λ (s : Step). s.op) steps
+  places [] = refl
+  places (s ∷ steps) = ap (λ ops. s.op ∷ ops) (places steps)
 
--- what open, changed and closed rows leave is what a shard must leave
-module _ (rows : ℕ → List BlockView) (shard : Shard) (done : ShardDone) (w0 w1 : List OpenRow) (fresh : List ℕ) where
-  pub finish : AreBlockRows rows
-      → sources_of w0 ≡ sources_in shard → AreOpen (opened (layout_by rows)) w0 → had_all w0 ≡ flat_map rows (sources_in shard)
-      → own_all w0 ≡ []
-      → AreOpen (rows_all (resolved_in (sources_of w0) shard.steps.items) (opened (layout_by rows))) w1
-      → done.outcomes.items ≡ zip (map (λ s. s.op) shard.steps.items)
-      (outcomes_all (resolved_in (sources_of w0) shard.steps.items) (opened (layout_by rows)))
-      → AreOwn w1 → sources_of w1 ≡ sources_of w0 → had_all w1 ≡ had_all w0
-      → HaveSame (own_all w1) fresh (own_all w0) (numbers_of shard.fresh.items)
-      → row_values done.rows.items ≡ closed_rows w1 → done.left.taken.items ≡ map (λ b. b.number) (written_all w1)
-      → blocks_of done.left.dropped.items ≡ dropped_all w1 → numbers_of done.left.unused.items ≡ fresh ++ unused_all w1
+  absent : (change : EdgeChange) (p : Option Place) → is_past 0 p ≡ false → (now : ℕ → List OpenBlock)
+      → outcome_in change (key_at sources p) now ≡ Absent
+  absent change None past now = refl
+  absent change (Some p) past now = absurd (false≢true (sym past ∙ ap not (le-ltb p.row 0 (omega arith))))
+
+pub few_past : (rows : ℕ) (steps : List Step) (n : ℕ) → length steps ≤ n → count_by (λ s. is_past rows s.place) steps ≤ n
+few_past rows steps n few = let h = count_by-le-length (λ (s : Step). is_past rows s.place) steps in omega arith
+
+-- no row is done yet
+pub none_yet : (rows : ℕ → List BlockView) (sources : List ℕ) (steps : List Step) (fresh : List (Arc Block Global))
+    (done : ShardDone) → done.outcomes.items ≡ map (λ s. (s.op, Absent)) steps → done.rows.items ≡ []
+    → done.left.taken.items ≡ [] → done.left.dropped.items ≡ [] → done.left.unused.items ≡ []
+    → AreRowsDone rows sources steps (numbers_of fresh) 0 fresh done
+none_yet rows sources steps fresh done outs closed taken dropped unused = record {
+  work = [];
+  sources_are = refl;
+  layout = All-nil (λ (r : OpenRow). opens r.blocks.items
+      ≡ rows_all (resolved_in sources steps) (opened (layout_by rows)) r.source.0);
+  own = All-nil (λ (r : OpenRow). All (IsOf r.source.0) r.blocks.items);
+  had = refl;
+  numbers = λ q. omega arith;
+  outcomes = subst (AreOutcomes sources steps rows 0) (sym outs) (none_written rows sources steps);
+  closed = ap row_values closed;
+  taken = taken;
+  dropped = ap blocks_of dropped;
+  unused = ap numbers_of unused;
+}
+
+-- a list of pairs by their parts
+zipped : (outs : List (ℕ × Outcome)) (rs : List Outcome) → length rs ≡ length outs
+    → ((k : ℕ) (o : ℕ × Outcome) → k < length outs → (get_or outs k o).1 ≡ get_or rs k Absent)
+    → outs ≡ zip (map (λ o. o.0) outs) rs
+zipped [] [] e h = refl
+zipped [] (r ∷ rs) e h = absurd (omega arith)
+zipped (o ∷ outs) [] e h = absurd (omega arith)
+zipped (o ∷ outs) (r ∷ rs) e h =
+    ap₂ (λ a b. a ∷ b) (ap (λ x. (o.0, x)) (h zero o (omega arith)))
+    (zipped outs rs (omega arith) (λ k p lt. h (suc k) p (omega arith)))
+
+-- every operation is on one of the rows
+all_past : (rows : ℕ) (p : Option Place) → IsPlace rows p → is_past rows p ≡ false
+all_past rows None w = refl
+all_past rows (Some p) w = ap not (lt-ltb p.row rows w)
+
+outcomes_all_are : (rows : ℕ → List BlockView) (sources : List ℕ) (steps : List Step) (outs : List (ℕ × Outcome))
+    → AreSteps (length sources) steps → AreOutcomes sources steps rows (length sources) outs
+    → outs ≡ zip (map (λ s. s.op) steps) (outcomes_all (resolved_in sources steps) (opened (layout_by rows)))
+outcomes_all_are rows sources steps outs in_rows d =
+    let a : length (outcomes_all (resolved_in sources steps) (opened (layout_by rows))) ≡ length (resolved_in sources steps) =
+    length-outcomes_all (resolved_in sources steps) (opened (layout_by rows)) in
+    let b : length (resolved_in sources steps) ≡ length steps = length-map steps
+    (λ (s : Step). resolved_at sources s.change s.place) in
+    let long : length outs ≡ length steps = sym (length-map outs (λ (o : ℕ × Outcome). o.0)) ∙ ap length d.places
+    ∙ length-map steps (λ (s : Step). s.op) in
+    zipped outs (outcomes_all (resolved_in sources steps) (opened (layout_by rows))) (omega arith)
+    (λ k o lt. d.are k first_step o (omega arith) (all_past (length sources) (get_or steps k first_step).place
+    (in_rows k first_step (omega arith)).0))
+    ∙ ap (λ ops. zip ops (outcomes_all (resolved_in sources steps) (opened (layout_by rows)))) d.places
+
+-- what all rows leave is what a shard must leave
+module _ (rows : ℕ → List BlockView) (shard : Shard) (before done : ShardDone) (fresh : List (Arc Block Global)) where
+  pub finish : AreBlockRows rows → AreSteps (length (sources_in shard)) shard.steps.items
+      → AreRowsDone rows (sources_in shard) shard.steps.items (numbers_of shard.fresh.items) (length (sources_in shard)) fresh
+      before → done.outcomes.items ≡ before.outcomes.items → done.rows.items ≡ before.rows.items
+      → done.left.taken.items ≡ before.left.taken.items → done.left.dropped.items ≡ before.left.dropped.items
+      → numbers_of done.left.unused.items ≡ numbers_of before.left.unused.items ++ numbers_of fresh
       → IsShardDone rows shard done
-  finish good s0 o0 h0 n0 o1 outs own s1 h1 same closed taken dropped unused =
-      let by : AreOpen (rows_by rows shard) w1 = subst
-      (λ ss. AreOpen (rows_all (resolved_in ss shard.steps.items) (opened (layout_by rows))) w1) s0 o1 in
-      let ss : sources_of w1 ≡ sources_in shard = s1 ∙ s0 in
+  finish good in_rows d same_outcomes same_rows same_taken same_dropped same_unused =
+      let w : List OpenRow = d.work in
+      let all : take (length (sources_in shard)) (sources_in shard) ≡ sources_in shard =
+      take_all (length (sources_in shard)) (sources_in shard) (omega arith) in
+      let ss : sources_of w ≡ sources_in shard = d.sources_are ∙ all in
+      let had : had_all w ≡ flat_map rows (sources_in shard) = d.had ∙ ap (flat_map rows) all in
+      let closed : row_values done.rows.items ≡ closed_rows w = ap row_values same_rows ∙ d.closed in
+      let taken : done.left.taken.items ≡ map (λ b. b.number) (written_all w) = same_taken ∙ d.taken in
+      let dropped : blocks_of done.left.dropped.items ≡ dropped_all w = ap blocks_of same_dropped ∙ d.dropped in
       record {
-        outcomes_are = outs ∙ ap (λ ss. zip (map (λ s. s.op) shard.steps.items)
-            (outcomes_all (resolved_in ss shard.steps.items) (opened (layout_by rows)))) s0;
-        sources_are = ap (map (λ r. r.0)) closed ∙ same_sources w1 ∙ ss;
+        outcomes_are = same_outcomes ∙ outcomes_all_are rows (sources_in shard) shard.steps.items before.outcomes.items in_rows
+            d.outcomes;
+        sources_are = ap (map (λ r. r.0)) closed ∙ same_sources w ∙ ss;
         layout = subst (λ rs. All (λ r. map shape_of r.1 ≡ row_end (rows_by rows shard r.0)) rs) (sym closed)
-            (all_layout (rows_by rows shard) w1 by);
+            (all_layout (rows_by rows shard) w d.layout);
         blocks = subst (λ rs. All (λ r. All (IsBlockOf r.0) r.1) rs) (sym closed)
-            (all_blocks w1 own (subst (λ bs. All HasEdges bs) (sym (h1 ∙ h0)) (rows_edges rows good (sources_in shard))));
+            (all_blocks w d.own (subst (λ bs. All HasEdges bs) (sym had) (rows_edges rows good (sources_in shard))));
         exchanged = record {
-          kept = stays_all w1;
-          fresh = written_all w1;
+          kept = stays_all w;
+          fresh = written_all w;
           taken_are = sym taken;
-          before_are = λ p. ap (λ bs. count_by p (stays_all w1) + count_by p bs) dropped ∙ all_before w1 p
-              ∙ ap (count_by p) (h1 ∙ h0);
-          after_are = λ p. all_after w1 p ∙ sym (ap (count_by p) (ap (flat_map (λ r. r.1)) closed ∙ pieces_closed w1));
+          before_are = λ p. ap (λ bs. count_by p (stays_all w) + count_by p bs) dropped ∙ all_before w p ∙ ap (count_by p) had;
+          after_are = λ p. all_after w p ∙ sym (ap (count_by p) (ap (flat_map (λ r. r.1)) closed ∙ pieces_closed w));
         };
-        taken_are = ap length taken ∙ length-map (written_all w1) (λ b. b.number)
-            ∙ sum_open written_here taken_in (rows_by rows shard) length-written w1 by ∙ ap
+        taken_are = ap length taken ∙ length-map (written_all w) (λ b. b.number)
+            ∙ sum_open written_here taken_in (rows_by rows shard) length-written w d.layout ∙ ap
             (sum_of (λ source. taken_in (rows_by rows shard source))) ss;
         dropped_are = sym (length-map done.left.dropped.items block_of) ∙ ap length dropped
-            ∙ sum_open dropped_here dropped_in (rows_by rows shard) length-dropped w1 by ∙ ap
+            ∙ sum_open dropped_here dropped_in (rows_by rows shard) length-dropped w d.layout ∙ ap
             (sum_of (λ source. dropped_in (rows_by rows shard source))) ss;
         handed = λ q.
-            let t : count_by q done.left.taken.items ≡ count_by q (map (λ b. b.number) (written_all w1)) =
-            ap (count_by q) taken in
-            let u : count_by q (numbers_of done.left.unused.items) ≡ count_by q fresh + count_by q (unused_all w1) =
-            ap (count_by q) unused ∙ count_by-append q fresh (unused_all w1) in
-            let n = all_numbers q w1 in
-            let z : count_by q (own_all w0) ≡ 0 = ap (count_by q) n0 in
-            let e = same q in
+            let t : count_by q done.left.taken.items ≡ count_by q (map (λ b. b.number) (written_all w)) = ap (count_by q) taken in
+            let u : count_by q (numbers_of done.left.unused.items) ≡ count_by q (unused_all w) + count_by q (numbers_of fresh) =
+            ap (count_by q) (same_unused ∙ ap (λ ns. ns ++ numbers_of fresh) d.unused)
+            ∙ count_by-append q (unused_all w) (numbers_of fresh) in
+            let n = all_numbers q w in
+            let e = d.numbers q in
             omega arith;
       }
-
-pub pieces_named : (rows : ℕ → List BlockView) (xs : List VertexId)
-    → flat_map (λ s. rows s.0) xs ≡ flat_map rows (map (λ s. s.0) xs)
-pieces_named rows [] = refl
-pieces_named rows (x ∷ xs) = ap (λ rest. rows x.0 ++ rest) (pieces_named rows xs)

@@ -9,7 +9,6 @@ use Rattle.edge_block.specs.Slots.{BlockView}
 use Rattle.block_layout.specs.Rows.{OpenBlock}
 use Rattle.block_layout.specs.Batches.{Resolved}
 use Rattle.shard_work.specs.RowBlocks.{opens, had_in, own_in, IsOf}
-use Rattle.shard_work.specs.Room.{AreHints}
 use Rattle.shard_work.specs.declared.shard.OpenRow.{OpenRow}
 use Rattle.shard_work.specs.declared.shard.Place.{Place}
 use Rattle.shard_work.specs.declared.shard.Step.{Step}
@@ -21,10 +20,6 @@ AreOpen rows work = All (λ r. opens r.blocks.items ≡ rows r.source.0) work
 -- each block of an open row has the row's source
 abbrev pub AreOwn : List OpenRow → Type 0
 AreOwn work = All (λ r. All (IsOf r.source.0) r.blocks.items) work
-
--- what is known of the open rows is so
-abbrev pub AreHinted : List OpenRow → Type 0
-AreHinted work = All (λ r. AreHints r.hints r.blocks.items) work
 
 abbrev pub sources_of : List OpenRow → List ℕ
 sources_of work = map (λ r. r.source.0) work

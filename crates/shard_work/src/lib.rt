@@ -4,11 +4,11 @@
 //! a fresh block that the shard owns, and takes its place.
 #![tactic(auto)]
 
+mod groups;
 mod notes;
 mod room;
 mod row_blocks;
 mod rows;
 mod shard;
-mod targets;
 
 pub use shard::{Leavings, Place, Shard, ShardDone, Step, work_on};

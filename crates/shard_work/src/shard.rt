@@ -1,28 +1,27 @@
 //! The rows of a shard's sources while a batch goes on.
 
-ghost use Rattle.std.specs.Prelude.{◌≡◌, ◌++◌, get_or, flat_map, ◌≢◌, ◌+◌, ◌<◌, ◌≤◌, ℕ, List, IfOk, OnOk, All, AllPairs};
-ghost use Rattle.std.specs.Prelude.{vec_len, length, map, zip, [], slice_index_or};
+ghost use Rattle.std.specs.Prelude.{◌≡◌, ◌≢◌, ◌+◌, ◌++◌, ◌<◌, ◌≤◌, ℕ, List, [], IfOk, OnOk, All, AllPairs, true, false};
+ghost use Rattle.std.specs.Prelude.{vec_len, length, get_or, map, count_by};
+ghost use Rattle.graph_model.specs.declared.batches.Outcome.TheVariants.{Absent};
+ghost use Rattle.graph_model.specs.Changes.{IsChange};
 ghost use Rattle.block_layout.specs.Rows.{OpenBlock, has_none, shape_of};
-ghost use Rattle.block_layout.specs.Batches.{Resolved, rows_step, rows_all, outcome_in, outcomes_all, opened};
-ghost use Rattle.edge_block.specs.Slots.{BlockView};
+ghost use Rattle.block_layout.specs.Batches.{row_step, rows_all, outcome_in};
+ghost use Rattle.row_pages.specs.Rows.{row_of};
 ghost use Rattle.shard_work.specs.RowBlocks.{block_of, blocks_of, kept_of, opens, had_in, own_in, numbers_of, HaveSame, IsOf};
 ghost use Rattle.shard_work.specs.Closing.{after_here, written_here, dropped_here, unused_here, after_of, written_of};
-ghost use Rattle.shard_work.specs.Closing.{dropped_of, unused_of, row_values, closed_rows, written_all, dropped_all};
-ghost use Rattle.shard_work.specs.Closing.{unused_all};
-ghost use Rattle.shard_work.specs.Done.{AreBlockRows, IsShardDone, layout_by};
-ghost use Rattle.row_pages.specs.Rows.{row_of};
-ghost use Rattle.shard_work.specs.Shards.{AreOpen, AreOwn, AreHinted, IsPlace};
-ghost use Rattle.shard_work.specs.Shards.{AreSteps, key_at, resolved_at, resolved_in, sources_of};
-ghost use Rattle.shard_work.specs.Shards.{had_all, own_all};
+ghost use Rattle.shard_work.specs.Closing.{dropped_of, unused_of};
+ghost use Rattle.shard_work.specs.Done.{AreBlockRows, IsShardDone};
+ghost use Rattle.shard_work.specs.Groups.{is_at, is_past, key_of, AreGroups, IsSourceRow, IsOutcome};
+ghost use Rattle.shard_work.specs.Progress.{AreRowsDone};
+ghost use Rattle.shard_work.specs.Shards.{AreSteps, resolved_in};
 ghost use Rattle.shard_work.specs.Notes.{IsNoted};
 ghost use Rattle.shard_work.specs.Room.{AreHints};
-ghost use Rattle.graph_model.specs.Changes.{IsChange};
 
+use crate::groups::{Groups, group_steps, targets_of};
 use crate::notes::Notes;
 use crate::room::Room;
 use crate::row_blocks::RowBlock;
 use crate::rows::{Hints, apply_step};
-use crate::targets::{MANY_STEPS, targets_by_row, targets_of};
 use edge_block::Block;
 use graph_model::{EdgeChange, KindId, Outcome, VertexId};
 use graph_version::Version;
@@ -53,35 +52,32 @@ pub struct Step {
     pub change: EdgeChange,
 }
 
-/// Does one operation, and answers its outcome.
-pub fn do_step(
-    work: &mut Vec<OpenRow>,
+/// Does one operation on its row, and answers its outcome.
+fn do_step(
+    row: &mut OpenRow,
     fresh: &mut Vec<Arc<Block>>,
     place: Option<Place>,
     change: EdgeChange,
 ) -> Result<Outcome, AllocError>
     requires change { IsChange change }
     requires fresh { 0 < vec_len fresh.old }
-    requires place { IsPlace (length work.old.items) place }
-    requires own { AreOwn work.old.items }
-    requires distinct { AllPairs (λ a b. a ≢ b) (sources_of work.old.items) }
-    requires hinted { AreHinted work.old.items }
-    ensures rows { OnOk result ((rows : ℕ → List OpenBlock) → AreOpen rows work.old.items
-        → AreOpen (rows_step (resolved_at (sources_of work.old.items) change place) rows) work.new.items) }
-    ensures outcome { IfOk result (λ o. (rows : ℕ → List OpenBlock) → AreOpen rows work.old.items
-        → o ≡ outcome_in change (key_at (sources_of work.old.items) place) rows) }
-    ensures own { OnOk result (AreOwn work.new.items) }
-    ensures hinted { OnOk result (AreHinted work.new.items) }
-    ensures sources { OnOk result (sources_of work.new.items ≡ sources_of work.old.items) }
-    ensures had { OnOk result (had_all work.new.items ≡ had_all work.old.items) }
-    ensures numbers { OnOk result (HaveSame (own_all work.new.items) (numbers_of fresh.new.items) (own_all work.old.items)
-        (numbers_of fresh.old.items)) }
+    requires own { All (IsOf row.old.source.0) row.old.blocks.items }
+    requires hinted { AreHints row.old.hints row.old.blocks.items }
+    ensures row { OnOk result (opens row.new.blocks.items
+        ≡ row_step change (key_of row.old.source.0 place) (opens row.old.blocks.items)) }
+    ensures outcome { IfOk result (λ o. o
+        ≡ outcome_in change (key_of row.old.source.0 place) (λ _. opens row.old.blocks.items)) }
+    ensures source { OnOk result (row.new.source ≡ row.old.source) }
+    ensures hinted { OnOk result (AreHints row.new.hints row.new.blocks.items) }
+    ensures had { OnOk result (had_in row.new.blocks.items ≡ had_in row.old.blocks.items) }
+    ensures own { OnOk result (All (IsOf row.new.source.0) row.new.blocks.items) }
+    ensures numbers { OnOk result (HaveSame (own_in row.new.blocks.items) (numbers_of fresh.new.items)
+        (own_in row.old.blocks.items) (numbers_of fresh.old.items)) }
     ensures few { OnOk result (vec_len fresh.old ≤ vec_len fresh.new + 1) }
 {
     let Some(place) = place else {
         return Ok(Outcome::Absent);
     };
-    let row = &mut work[place.row as usize];
     let outcome = apply_step(
         &mut row.blocks,
         &mut row.hints,
@@ -94,39 +90,55 @@ pub fn do_step(
     Ok(outcome)
 }
 
-/// Does operations in order, and answers their outcomes, each with its operation's place in the batch.
-pub fn do_steps(
-    alloc: Global,
-    work: &mut Vec<OpenRow>,
+/// Does the operations on one row in order, and writes their outcomes.
+fn do_steps(
+    opened: &mut OpenRow,
     fresh: &mut Vec<Arc<Block>>,
+    outcomes: &mut Vec<(u32, Outcome)>,
     steps: &[Step],
-) -> Result<Vec<(u32, Outcome)>, AllocError>
-    requires fresh { length steps.now ≤ vec_len fresh.old }
-    requires steps { AreSteps (length work.old.items) steps.now }
-    requires own { AreOwn work.old.items }
-    requires distinct { AllPairs (λ a b. a ≢ b) (sources_of work.old.items) }
-    requires hinted { AreHinted work.old.items }
-    ensures rows { OnOk result ((rows : ℕ → List OpenBlock) → AreOpen rows work.old.items
-        → AreOpen (rows_all (resolved_in (sources_of work.old.items) steps.now) rows) work.new.items) }
-    ensures outcomes { IfOk result (λ v. (rows : ℕ → List OpenBlock) → AreOpen rows work.old.items
-        → v.items ≡ zip (map (λ s. s.op) steps.now) (outcomes_all (resolved_in (sources_of work.old.items) steps.now) rows)) }
-    ensures own { OnOk result (AreOwn work.new.items) }
-    ensures hinted { OnOk result (AreHinted work.new.items) }
-    ensures sources { OnOk result (sources_of work.new.items ≡ sources_of work.old.items) }
-    ensures had { OnOk result (had_all work.new.items ≡ had_all work.old.items) }
-    ensures numbers { OnOk result (HaveSame (own_all work.new.items) (numbers_of fresh.new.items) (own_all work.old.items)
-        (numbers_of fresh.old.items)) }
+    groups: &Groups,
+    row: usize,
+) -> Result<(), AllocError>
+    requires groups { AreGroups 0 steps.now groups.now.first.items groups.now.next.items }
+    requires row { row < length groups.now.first.items }
+    requires steps { length groups.now.next.items ≡ length steps.now }
+    requires changes { All (λ s. IsChange s.change) steps.now }
+    requires outcomes { length outcomes.old.items ≡ length steps.now }
+    requires fresh { count_by (λ s. is_at row s.place) steps.now ≤ vec_len fresh.old }
+    requires own { All (IsOf opened.old.source.0) opened.old.blocks.items }
+    requires hinted { AreHints opened.old.hints opened.old.blocks.items }
+    ensures rows { OnOk result ((sources : List ℕ) (rows : ℕ → List OpenBlock)
+        → IsSourceRow sources steps.now row opened.old.source.0 → opens opened.old.blocks.items ≡ rows opened.old.source.0
+        → opens opened.new.blocks.items ≡ rows_all (resolved_in sources steps.now) rows opened.old.source.0) }
+    ensures written { OnOk result ((sources : List ℕ) (rows : ℕ → List OpenBlock)
+        → IsSourceRow sources steps.now row opened.old.source.0 → opens opened.old.blocks.items ≡ rows opened.old.source.0
+        → (k : ℕ) (s : Step) (o : ℕ × Outcome) → k < length steps.now → is_at row (get_or steps.now k s).place ≡ true
+        → IsOutcome sources steps.now rows k (get_or outcomes.new.items k o).1) }
+    ensures others { OnOk result ((k : ℕ) (s : Step) (o : ℕ × Outcome) → k < length steps.now
+        → is_at row (get_or steps.now k s).place ≡ false → get_or outcomes.new.items k o ≡ get_or outcomes.old.items k o) }
+    ensures places { OnOk result (map (λ o. o.0) outcomes.new.items ≡ map (λ o. o.0) outcomes.old.items) }
+    ensures source { OnOk result (opened.new.source ≡ opened.old.source) }
+    ensures had { OnOk result (had_in opened.new.blocks.items ≡ had_in opened.old.blocks.items) }
+    ensures own { OnOk result (All (IsOf opened.new.source.0) opened.new.blocks.items) }
+    ensures numbers { OnOk result (HaveSame (own_in opened.new.blocks.items) (numbers_of fresh.new.items)
+        (own_in opened.old.blocks.items) (numbers_of fresh.old.items)) }
+    ensures few { OnOk result (vec_len fresh.old ≤ vec_len fresh.new + count_by (λ s. is_at row s.place) steps.now) }
 {
-    let mut outcomes = Vec::with_capacity(alloc, steps.len())?;
-    for step in steps {
-        let outcome = do_step(work, fresh, step.place, step.change)?;
-        outcomes.push((step.op, outcome))?;
+    let mut index = groups.first[row];
+    while index < steps.len() {
+        let step = steps[index];
+        let outcome = do_step(opened, fresh, step.place, step.change)?;
+        outcomes[index].1 = outcome;
+        index = groups.next[index];
     }
-    Ok(outcomes)
+    Ok(())
 }
 
 /// A row of as many blocks is read once beforehand, where many operations touch it.
 const LONG_ROW: usize = 4;
+
+/// As many operations are many for a row.
+const MANY_STEPS: usize = 16;
 
 /// The row of a source as the version has it, before the batch's first operation.
 ///
@@ -247,32 +259,6 @@ pub fn close_row(
     Ok(row)
 }
 
-/// The rows of sources as the version has them.
-///
-/// For each row, in order, there are the targets that the batch's operations ask for, where it has many for this row.
-pub fn open_rows(
-    alloc: Global,
-    version: &Version,
-    sources: &[VertexId],
-    targets: &[Vec<u32>],
-) -> Result<Vec<OpenRow>, AllocError>
-    requires { AreBlockRows (row_of version.now.rows) }
-    ensures sources { IfOk result (λ w. sources_of w.items ≡ map (λ s. s.0) sources.now) }
-    ensures blocks { IfOk result (λ w. AreOpen (opened (layout_by (row_of version.now.rows))) w.items) }
-    ensures had { IfOk result (λ w. had_all w.items ≡ flat_map (λ s. row_of version.now.rows s.0) sources.now) }
-    ensures none_own { IfOk result (λ w. own_all w.items ≡ []) }
-    ensures own { IfOk result (λ w. AreOwn w.items) }
-    ensures hinted { IfOk result (λ w. AreHinted w.items) }
-{
-    let mut work = Vec::with_capacity(alloc, sources.len())?;
-    for source in sources {
-        let asked = targets_of(targets, work.len());
-        let row = open_row(alloc, *source, blocks_at(version, *source), asked)?;
-        work.push(row)?;
-    }
-    Ok(work)
-}
-
 /// The blocks of a source's row.
 fn blocks_at(version: &Version, source: VertexId) -> &[Arc<Block>]
     requires { AreBlockRows (row_of version.now.rows) }
@@ -280,26 +266,6 @@ fn blocks_at(version: &Version, source: VertexId) -> &[Arc<Block>]
     ensures own { All (λ b. (block_of b).source ≡ source.0) result.now }
 {
     version.row_blocks(source)
-}
-
-/// The rows of the next version, each with its source.
-pub fn close_rows(
-    alloc: Global,
-    work: Vec<OpenRow>,
-    left: &mut Leavings,
-) -> Result<Vec<(VertexId, Vec<Arc<Block>>)>, AllocError>
-    ensures rows { IfOk result (λ r. row_values r.items ≡ closed_rows work.items) }
-    ensures taken { OnOk result (left.new.taken.items ≡ left.old.taken.items ++ map (λ b. b.number) (written_all work.items)) }
-    ensures dropped { OnOk result (blocks_of left.new.dropped.items ≡ blocks_of left.old.dropped.items
-        ++ dropped_all work.items) }
-    ensures unused { OnOk result (numbers_of left.new.unused.items ≡ numbers_of left.old.unused.items ++ unused_all work.items) }
-{
-    let mut rows = Vec::with_capacity(alloc, work.len())?;
-    for row in work {
-        let blocks = close_row(alloc, row.blocks, left)?;
-        rows.push((row.source, blocks))?;
-    }
-    Ok(rows)
 }
 
 /// The operations of a shard's sources, and its fresh blocks.
@@ -321,7 +287,69 @@ pub struct ShardDone {
     pub left: Leavings,
 }
 
-/// Does a shard's operations on a version's rows.
+/// Opens the row of a source, does its operations and closes it.
+fn do_row(
+    alloc: Global,
+    version: &Version,
+    sources: &[VertexId],
+    steps: &[Step],
+    groups: &Groups,
+    row: usize,
+    fresh: &mut Vec<Arc<Block>>,
+    done: &mut ShardDone,
+) -> Result<(), AllocError>
+    requires rows { AreBlockRows (row_of version.now.rows) }
+    requires row { row < length sources.now }
+    requires steps { AreSteps (length sources.now) steps.now }
+    requires distinct { AllPairs (λ a b. a ≢ b) (map (λ s. s.0) sources.now) }
+    requires groups { AreGroups 0 steps.now groups.now.first.items groups.now.next.items }
+    requires firsts { length groups.now.first.items ≡ length sources.now }
+    requires nexts { length groups.now.next.items ≡ length steps.now }
+    requires outcomes { length done.old.outcomes.items ≡ length steps.now }
+    requires fresh { count_by (λ s. is_past row s.place) steps.now ≤ vec_len fresh.old }
+    ensures fresh { OnOk result (count_by (λ s. is_past (row + 1) s.place) steps.now ≤ vec_len fresh.new) }
+    ensures done { OnOk result ((handed : List ℕ)
+        → AreRowsDone (row_of version.now.rows) (map (λ s. s.0) sources.now) steps.now handed row fresh.old.items done.old
+        → AreRowsDone (row_of version.now.rows) (map (λ s. s.0) sources.now) steps.now handed (row + 1) fresh.new.items done.new) }
+{
+    let source = sources[row];
+    let blocks = blocks_at(version, source);
+    let asked = if blocks.len() < LONG_ROW {
+        Vec::new(alloc)
+    } else {
+        targets_of(alloc, groups, steps, row)?
+    };
+    let mut opened = open_row(alloc, source, blocks, asked.as_slice())?;
+    do_steps(&mut opened, fresh, &mut done.outcomes, steps, groups, row)?;
+    let closed = close_row(alloc, opened.blocks, &mut done.left)?;
+    done.rows.push((source, closed))?;
+    Ok(())
+}
+
+/// What a shard leaves before its first row is opened: no operation has an outcome yet.
+fn none_done(alloc: Global, rows: usize, steps: &[Step]) -> Result<ShardDone, AllocError>
+    ensures outcomes { IfOk result (λ d. d.outcomes.items ≡ map (λ s. (s.op, Absent)) steps.now) }
+    ensures rows { IfOk result (λ d. d.rows.items ≡ []) }
+    ensures taken { IfOk result (λ d. d.left.taken.items ≡ []) }
+    ensures dropped { IfOk result (λ d. d.left.dropped.items ≡ []) }
+    ensures unused { IfOk result (λ d. d.left.unused.items ≡ []) }
+{
+    let mut outcomes = Vec::with_capacity(alloc, steps.len())?;
+    for step in steps {
+        outcomes.push((step.op, Outcome::Absent))?;
+    }
+    Ok(ShardDone {
+        outcomes,
+        rows: Vec::with_capacity(alloc, rows)?,
+        left: Leavings {
+            taken: Vec::new(alloc),
+            dropped: Vec::new(alloc),
+            unused: Vec::new(alloc),
+        },
+    })
+}
+
+/// Does a shard's operations on a version's rows, source by source.
 pub fn work_on(alloc: Global, version: &Version, shard: Shard) -> Result<ShardDone, AllocError>
     requires fresh { length shard.steps.items ≤ vec_len shard.fresh }
     requires steps { AreSteps (length shard.sources.items) shard.steps.items }
@@ -335,18 +363,20 @@ pub fn work_on(alloc: Global, version: &Version, shard: Shard) -> Result<ShardDo
     } = shard;
     // A version's contract says with its number that its rows are rows of blocks.
     let _number = version.number();
-    let targets = targets_by_row(alloc, sources.len(), steps.as_slice())?;
-    let mut work = open_rows(alloc, version, sources.as_slice(), targets.as_slice())?;
-    let outcomes = do_steps(alloc, &mut work, &mut fresh, steps.as_slice())?;
-    let mut left = Leavings {
-        taken: Vec::new(alloc),
-        dropped: Vec::new(alloc),
-        unused: fresh,
-    };
-    let rows = close_rows(alloc, work, &mut left)?;
-    Ok(ShardDone {
-        outcomes,
-        rows,
-        left,
-    })
+    let groups = group_steps(alloc, sources.len(), steps.as_slice())?;
+    let mut done = none_done(alloc, sources.len(), steps.as_slice())?;
+    for row in 0..sources.len() {
+        do_row(
+            alloc,
+            version,
+            sources.as_slice(),
+            steps.as_slice(),
+            &groups,
+            row,
+            &mut fresh,
+            &mut done,
+        )?;
+    }
+    done.left.unused.append(&mut fresh)?;
+    Ok(done)
 }

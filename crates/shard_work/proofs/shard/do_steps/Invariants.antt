@@ -1,22 +1,37 @@
-use Rattle.std.proofs.Common.{◌≡◌, ◌≤◌, ◌+◌, ℕ, List, map, take, zip, vec_len}
+use Rattle.std.proofs.Common.{◌≡◌, ◌+◌, ◌-◌, ◌≤◌, ◌<◌, ℕ, List, All, length, get_or, map, take, count_by, vec_len, true, false}
 use Rattle.block_layout.specs.Rows.{OpenBlock}
-use Rattle.block_layout.specs.Batches.{rows_all, outcomes_all}
-use Rattle.shard_work.specs.RowBlocks.{numbers_of, HaveSame}
-use Rattle.shard_work.specs.Shards.{AreOpen, AreOwn, AreHinted, resolved_in, sources_of, had_all, own_all}
+use Rattle.block_layout.specs.Batches.{rows_all}
+use Rattle.graph_model.specs.declared.batches.Outcome.{Outcome}
+use Rattle.shard_work.specs.RowBlocks.{opens, had_in, own_in, numbers_of, HaveSame, IsOf}
+use Rattle.shard_work.specs.Room.{AreHints}
+use Rattle.shard_work.specs.Shards.{resolved_in}
+use Rattle.shard_work.specs.Groups.{is_at, IsSourceRow, IsOutcome}
+use Rattle.shard_work.specs.declared.shard.Step.{Step}
 use Rattle.shard_work.proofs.shard.do_steps.Given as goal
 
-abbrev pub invariant-loop-step : goal.invariant-loop-step
-invariant-loop-step l = record {
-  rows : (rows : ℕ → List OpenBlock) → AreOpen rows l.initial.work.items
-      → AreOpen (rows_all (resolved_in (sources_of l.initial.work.items) (take l.step-index l.steps)) rows) l.work.items;
-  outcomes : (rows : ℕ → List OpenBlock) → AreOpen rows l.initial.work.items
-      → l.outcomes.items ≡ zip (map (λ s. s.op) (take l.step-index l.steps))
-      (outcomes_all (resolved_in (sources_of l.initial.work.items) (take l.step-index l.steps)) rows);
-  own : AreOwn l.work.items;
-  hinted : AreHinted l.work.items;
-  sources : sources_of l.work.items ≡ sources_of l.initial.work.items;
-  had : had_all l.work.items ≡ had_all l.initial.work.items;
-  numbers : HaveSame (own_all l.work.items) (numbers_of l.fresh.items) (own_all l.initial.work.items)
+abbrev pub invariant-loop-index : goal.invariant-loop-index
+invariant-loop-index l = record {
+  within : l.index ≤ length l.steps;
+  there : (s : Step) → l.index < length l.steps → is_at l.row (get_or l.steps l.index s).place ≡ true;
+  rows : (sources : List ℕ) (rows : ℕ → List OpenBlock) → IsSourceRow sources l.steps l.row l.initial.opened.source.0
+      → opens l.initial.opened.blocks.items ≡ rows l.initial.opened.source.0
+      → opens l.opened.blocks.items ≡ rows_all (resolved_in sources (take l.index l.steps)) rows l.initial.opened.source.0;
+  written : (sources : List ℕ) (rows : ℕ → List OpenBlock) → IsSourceRow sources l.steps l.row l.initial.opened.source.0
+      → opens l.initial.opened.blocks.items ≡ rows l.initial.opened.source.0
+      → (k : ℕ) (s : Step) (o : ℕ × Outcome) → k < l.index → is_at l.row (get_or l.steps k s).place ≡ true
+      → IsOutcome sources l.steps rows k (get_or l.outcomes.items k o).1;
+  others : (k : ℕ) (s : Step) (o : ℕ × Outcome) → k < length l.steps → is_at l.row (get_or l.steps k s).place ≡ false
+      → get_or l.outcomes.items k o ≡ get_or l.initial.outcomes.items k o;
+  places : map (λ o. o.0) l.outcomes.items ≡ map (λ o. o.0) l.initial.outcomes.items;
+  length : length l.outcomes.items ≡ length l.steps;
+  source : l.opened.source ≡ l.initial.opened.source;
+  hinted : AreHints l.opened.hints l.opened.blocks.items;
+  had : had_in l.opened.blocks.items ≡ had_in l.initial.opened.blocks.items;
+  own : All (IsOf l.opened.source.0) l.opened.blocks.items;
+  numbers : HaveSame (own_in l.opened.blocks.items) (numbers_of l.fresh.items) (own_in l.initial.opened.blocks.items)
       (numbers_of l.initial.fresh.items);
-  few : vec_len l.initial.fresh ≤ vec_len l.fresh + l.step-index;
+  few : vec_len l.initial.fresh ≤ vec_len l.fresh + count_by (λ s. is_at l.row s.place) (take l.index l.steps);
 }
+
+abbrev pub decreases-loop-index : goal.decreases-loop-index
+decreases-loop-index l = length l.steps - l.index

@@ -1,0 +1,92 @@
+-- One more source's row is done.
+use Rattle.std.proofs.Common.{◌≡◌, ℕ, ◌+◌, ◌<◌, true, false, List, [], ◌∷◌, ◌++◌, length, get_or, map, flat_map, count_by, take}
+use Rattle.std.proofs.Common.{refl, sym, ap, ap₂, ◌∙◌, arith, All}
+use Rattle.std.specs.declared.sync.Arc.{Arc}
+use Rattle.std.specs.declared.alloc.Global.{Global}
+use Rattle.std.proofs.lemmas.List.{map-append, take_more, append-nil}
+use Rattle.std.proofs.lemmas.List.Elements.{All-push}
+use Rattle.std.proofs.lemmas.Grind.{flat_map-append}
+use Rattle.graph_model.specs.declared.batches.Outcome.{Outcome}
+use Rattle.edge_block.specs.declared.blocks.Block.{Block}
+use Rattle.edge_block.specs.Slots.{BlockView}
+use Rattle.block_layout.specs.Batches.{rows_all, opened}
+use Rattle.shard_work.specs.RowBlocks.{blocks_of, numbers_of, opens, had_in, own_in, HaveSame, IsOf}
+use Rattle.shard_work.specs.Closing.{row_values, after_of, written_of, dropped_of, unused_of, written_all}
+use Rattle.shard_work.specs.Shards.{resolved_in, own_all}
+use Rattle.shard_work.specs.Groups.{is_at, IsSourceRow, IsOutcome}
+use Rattle.shard_work.specs.Progress.{AreOutcomes, AreRowsDone}
+use Rattle.shard_work.specs.Done.{layout_by}
+use Rattle.shard_work.specs.declared.shard.OpenRow.{OpenRow}
+use Rattle.shard_work.specs.declared.shard.ShardDone.{ShardDone}
+use Rattle.shard_work.specs.declared.shard.Step.{Step}
+use Rattle.shard_work.proofs.Places.{count_by-append}
+use Rattle.shard_work.proofs.SourceSteps.{past_here}
+
+-- a list of pieces, with one more
+pub one_piece : {A B : Type 0} (f : A → List B) (xs : List A) (x : A) → flat_map f (xs ++ x ∷ []) ≡ flat_map f xs ++ f x
+one_piece f xs x = flat_map-append f xs (x ∷ []) ∙ ap (λ ys. flat_map f xs ++ ys) (append-nil (f x))
+
+module _ (rows : ℕ → List BlockView) (sources : List ℕ) (steps : List Step) where
+  -- the outcomes of operations on one more row
+  pub outcomes_more : (row : ℕ) (old new : List (ℕ × Outcome)) → map (λ o. o.0) new ≡ map (λ o. o.0) old
+      → ((k : ℕ) (s : Step) (o : ℕ × Outcome) → k < length steps → is_at row (get_or steps k s).place ≡ true
+      → IsOutcome sources steps (opened (layout_by rows)) k (get_or new k o).1)
+      → ((k : ℕ) (s : Step) (o : ℕ × Outcome) → k < length steps → is_at row (get_or steps k s).place ≡ false
+      → get_or new k o ≡ get_or old k o)
+      → AreOutcomes sources steps rows row old → AreOutcomes sources steps rows (row + 1) new
+  outcomes_more row old new places written others d = record {
+    places = places ∙ d.places;
+    are = λ k s o lt past.
+        elim (is_at row (get_or steps k s).place) as (λ t. is_at row (get_or steps k s).place ≡ t
+        → IsOutcome sources steps (opened (layout_by rows)) k (get_or new k o).1) [
+          | true ↦ λ t. written k s o lt t
+          | false ↦ λ t. ap (λ (p : ℕ × Outcome). p.1) (others k s o lt t)
+              ∙ d.are k s o lt (past_here row (get_or steps k s).place past t)
+        ] refl;
+  }
+
+  -- the row as it was opened, and as it was closed
+  module _ (row : ℕ) (start r : OpenRow) (is : IsSourceRow sources steps row start.source.0)
+      (source : r.source ≡ start.source) where
+    taken : take (row + 1) sources ≡ take row sources ++ start.source.0 ∷ []
+    taken = take_more sources row 0 is.within ∙ ap (λ s. take row sources ++ s ∷ []) is.source_is
+
+    pub row_done : (handed : List ℕ) (fresh next : List (Arc Block Global)) (before after : ShardDone)
+        → opens r.blocks.items ≡ rows_all (resolved_in sources steps) (opened (layout_by rows)) start.source.0
+        → All (IsOf r.source.0) r.blocks.items
+        → had_in r.blocks.items ≡ rows start.source.0
+        → HaveSame (own_in r.blocks.items) (numbers_of next) [] (numbers_of fresh)
+        → (AreOutcomes sources steps rows row before.outcomes.items
+        → AreOutcomes sources steps rows (row + 1) after.outcomes.items)
+        → row_values after.rows.items ≡ row_values before.rows.items ++ (r.source.0, after_of r.blocks.items) ∷ []
+        → after.left.taken.items ≡ before.left.taken.items ++ map (λ b. b.number) (written_of r.blocks.items)
+        → blocks_of after.left.dropped.items ≡ blocks_of before.left.dropped.items ++ dropped_of r.blocks.items
+        → numbers_of after.left.unused.items ≡ numbers_of before.left.unused.items ++ unused_of r.blocks.items
+        → AreRowsDone rows sources steps handed row fresh before → AreRowsDone rows sources steps handed (row + 1) next after
+    row_done handed fresh next before after shown own had same outcomes closed took dropped unused d = record {
+      work = d.work ++ r ∷ [];
+      sources_are = map-append (λ (r : OpenRow). r.source.0) d.work (r ∷ [])
+          ∙ ap₂ (λ a b. a ++ b ∷ []) d.sources_are (ap (λ s. s.0) source) ∙ sym taken;
+      layout = All-push (λ (r : OpenRow). opens r.blocks.items
+          ≡ rows_all (resolved_in sources steps) (opened (layout_by rows)) r.source.0) d.work r d.layout
+          (shown ∙ ap (λ s. rows_all (resolved_in sources steps) (opened (layout_by rows)) s.0) (sym source));
+      own = All-push (λ (r : OpenRow). All (IsOf r.source.0) r.blocks.items) d.work r d.own own;
+      had = one_piece (λ (r : OpenRow). had_in r.blocks.items) d.work r ∙ ap₂ (λ a b. a ++ b) d.had had
+          ∙ sym (ap (flat_map rows) taken ∙ one_piece rows (take row sources) start.source.0);
+      numbers = λ q.
+          let all = ap (count_by q) (one_piece (λ (r : OpenRow). own_in r.blocks.items) d.work r)
+          ∙ count_by-append q (own_all d.work) (own_in r.blocks.items) in
+          let here = same q in
+          let those = d.numbers q in
+          omega arith;
+      outcomes = outcomes d.outcomes;
+      closed = closed ∙ ap (λ rs. rs ++ (r.source.0, after_of r.blocks.items) ∷ []) d.closed
+          ∙ sym (map-append (λ (r : OpenRow). (r.source.0, after_of r.blocks.items)) d.work (r ∷ []));
+      taken = took ∙ ap (λ ns. ns ++ map (λ (b : BlockView). b.number) (written_of r.blocks.items)) d.taken
+          ∙ sym (ap (map (λ (b : BlockView). b.number)) (one_piece (λ (r : OpenRow). written_of r.blocks.items) d.work r)
+          ∙ map-append (λ (b : BlockView). b.number) (written_all d.work) (written_of r.blocks.items));
+      dropped = dropped ∙ ap (λ bs. bs ++ dropped_of r.blocks.items) d.dropped
+          ∙ sym (one_piece (λ (r : OpenRow). dropped_of r.blocks.items) d.work r);
+      unused = unused ∙ ap (λ ns. ns ++ unused_of r.blocks.items) d.unused
+          ∙ sym (one_piece (λ (r : OpenRow). unused_of r.blocks.items) d.work r);
+    }
