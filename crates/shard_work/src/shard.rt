@@ -310,7 +310,8 @@ fn do_row(
     ensures fresh { OnOk result (count_by (λ s. is_past (row + 1) s.place) steps.now ≤ vec_len fresh.new) }
     ensures done { OnOk result ((handed : List ℕ)
         → AreRowsDone (row_of version.now.rows) (map (λ s. s.0) sources.now) steps.now handed row fresh.old.items done.old
-        → AreRowsDone (row_of version.now.rows) (map (λ s. s.0) sources.now) steps.now handed (row + 1) fresh.new.items done.new) }
+        → AreRowsDone (row_of version.now.rows) (map (λ s. s.0) sources.now) steps.now handed (row + 1) fresh.new.items
+        done.new) }
 {
     let source = sources[row];
     let blocks = blocks_at(version, source);

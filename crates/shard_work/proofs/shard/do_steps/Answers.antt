@@ -56,7 +56,8 @@ loop-index-preserved c =
       rows = λ sources rows is e.
           c.in_ok-outcome.ensures.row ∙ ap (λ (s : VertexId). row_step (get_or c.args.steps.now i first_step).change
           (key_of s.0 (get_or c.args.steps.now i first_step).place) (opens c.loop-index.opened.blocks.items))
-          c.loop-index.invariant.source ∙ stepped sources c.args.steps.now c.args.row c.args.opened.now.source.0 is rows i (opens c.loop-index.opened.blocks.items) lt at
+          c.loop-index.invariant.source ∙ stepped sources c.args.steps.now c.args.row c.args.opened.now.source.0 is rows i
+          (opens c.loop-index.opened.blocks.items) lt at
           (c.loop-index.invariant.rows sources rows is e)
           ∙ sym (skipped sources c.args.steps.now c.args.row c.args.opened.now.source.0 is rows (n - (i + 1)) (i + 1) n
           (omega (arith, next.ahead)) next.within next.between);

@@ -43,4 +43,5 @@ returns c =
     (subst (λ n. AreRowsDone v (sources_in c.args.shard) c.args.shard.steps.items (numbers_of c.args.shard.fresh.items) n
     c.loop-row.fresh.items c.loop-row.done) last c.loop-row.invariant.done)
     refl refl refl refl
-    (ap numbers_of c.in_ok-append.ensures.items ∙ map-append (λ (b : Arc Block Global). (block_of b).number) c.loop-row.done.left.unused.items c.loop-row.fresh.items)
+    (ap numbers_of c.in_ok-append.ensures.items ∙ map-append (λ (b : Arc Block Global). (block_of b).number)
+    c.loop-row.done.left.unused.items c.loop-row.fresh.items)
