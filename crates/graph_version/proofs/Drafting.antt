@@ -1,13 +1,11 @@
 -- A draft's beginning and end.
-use Rattle.std.proofs.Common.{◌≡◌, ℕ, ◌%◌, ◌^◌, List, refl, ap, arith}
+use Rattle.std.proofs.Common.{◌≡◌, ℕ, ◌%◌, ◌^◌, List, refl, arith}
 use Rattle.graph_model.specs.declared.batches.NamedOp.{NamedOp}
 use Rattle.edge_block.specs.Slots.{BlockView}
 use Rattle.vertex_names.specs.Book.{Book}
-use Rattle.row_pages.specs.Rows.{blocks_of}
-use Rattle.graph_version.specs.Kept.{version_of, IsKept}
+use Rattle.graph_version.specs.Kept.{version_of, edge_total, IsKept}
 use Rattle.graph_version.specs.Drafts.{DraftView, drafted_over, IsWhole}
-use Rattle.graph_version.proofs.Totals.{count_in}
-use Rattle.graph_version.proofs.Few.{count_is_total, few_total}
+use Rattle.graph_version.proofs.Few.{few_total}
 
 -- the draft of these parts
 abbrev pub draft_of : Book → Book → List (List NamedOp) → List (List BlockView) → DraftView
@@ -23,29 +21,13 @@ drafted names kinds old_names old_kinds batches old_batches rows old_rows edges 
     let kinds_are = is.kinds_are in
     rw (n, k, b, r, names_are, kinds_are) refl
 
-pub kept_count : (names kinds : Book) (batches : List (List NamedOp)) (rows old_rows : List (List BlockView)) (edges : ℕ)
-    → IsKept names kinds edges (version_of batches old_rows) → rows ≡ old_rows → edges ≡ count_in (blocks_of rows) % 2 ^ 64
-kept_count names kinds batches rows old_rows edges is r =
-    let same = ap (λ (l : List (List BlockView)). count_in (blocks_of l)) r in
-    omega (
-      arith,
-      same,
-      is.edges_are,
-      count_is_total (version_of batches old_rows) is.version,
-      few_total (version_of batches old_rows) is.version,
-    )
-
+-- the count of a version's edges, where it is known modulo 2^64
 pub whole_kept : (names kinds : Book) (batches : List (List NamedOp)) (rows : List (List BlockView)) (edges : ℕ)
-    → IsWhole (draft_of names kinds batches rows) → edges ≡ count_in (blocks_of rows) % 2 ^ 64
+    → IsWhole (draft_of names kinds batches rows) → edges ≡ edge_total (version_of batches rows) % 2 ^ 64
     → IsKept names kinds edges (version_of batches rows)
 whole_kept names kinds batches rows edges is count = record {
   names_are = is.names_are;
   kinds_are = is.kinds_are;
-  edges_are = omega (
-    arith,
-    count,
-    count_is_total (version_of batches rows) is.version,
-    few_total (version_of batches rows) is.version,
-  );
+  edges_are = omega (arith, count, few_total (version_of batches rows) is.version);
   version = is.version;
 }

@@ -2,8 +2,10 @@
 
 ghost use Rattle.std.specs.Prelude.{◌≡◌, ◌%◌, ◌^◌, ◌<◌, length, IfOk};
 ghost use Rattle.batch_pages.specs.Batches.{batch_value};
+ghost use Rattle.row_pages.specs.Rows.{blocks_of};
 ghost use Rattle.row_pages.specs.Sharing.{block_values};
 ghost use Rattle.graph_version.specs.Edges.{edges_in_blocks};
+ghost use Rattle.graph_version.specs.Kept.{edge_total};
 ghost use Rattle.graph_version.specs.Drafts.{drafted_over, with_batch, ReplacesRow, IsWhole};
 
 use crate::versions::Version;
@@ -25,16 +27,10 @@ pub struct VersionDraft {
     kinds: NameBook,
     batches: BatchList,
     rows: Rows,
-    /// The number of edges in all rows, modulo 2^64: while rows are replaced one by one, they need not yet be those of
-    /// a graph within its limits.
-    edges: u64,
 }
 
 impl Model for VersionDraft {
-    ghost use Rattle.std.specs.Prelude.{◌≡◌, ◌%◌, ◌^◌, length};
-    ghost use Rattle.row_pages.specs.Rows.{blocks_of};
     ghost use Rattle.graph_version.specs.Kept.{version_of};
-    ghost use Rattle.graph_version.specs.Edges.{edges_in_blocks};
     ghost use Rattle.graph_version.specs.Drafts.{DraftView};
     ghost use Rattle.std.specs.Coded.{codes};
     ghost use Rattle.graph_model.specs.Coded.{graph_code};
@@ -44,8 +40,6 @@ impl Model for VersionDraft {
     ghost coded = { Prim.hlevel (codes, graph_code) };
 
     ghost view = { λ d. record { names = d.names; kinds = d.kinds; version = version_of d.batches d.rows } };
-
-    ghost invariant = { λ d. d.edges ≡ length (edges_in_blocks (blocks_of d.rows)) % 2 ^ 64 };
 }
 
 impl VersionDraft {
@@ -59,7 +53,6 @@ impl VersionDraft {
             kinds: version.kinds.share()?,
             batches: version.batches.share()?,
             rows: version.rows.share()?,
-            edges: version.edges,
         })
     }
 
@@ -82,14 +75,8 @@ impl VersionDraft {
     ) -> Result<VersionDraft, AllocError>
         ensures { IfOk result (λ draft. ReplacesRow source.0 (block_values blocks.items) self draft) }
     {
-        let before = edges_in_row(self.rows.row_blocks(source));
-        let edges = self
-            .edges
-            .wrapping_sub(before)
-            .wrapping_add(edges_in_row(&blocks));
         Ok(VersionDraft {
             rows: self.rows.replace_row(source, blocks)?,
-            edges,
             ..self
         })
     }
@@ -104,19 +91,41 @@ impl VersionDraft {
     }
 
     /// The version, once its rows have what its batches leave, each block with its row's source and with an edge, no
-    /// two edges of one key and no two blocks of one number, and its books have the names.
+    /// two edges of one key and no two blocks of one number, and its books have the names. Its edges are counted.
     pub fn finish(self) -> Result<Version, AllocError>
         requires { IsWhole self }
         ensures { IfOk result (λ version. version ≡ self.version) }
     {
-        Ok(Version {
+        let edges = edges_in_rows(&self.rows);
+        Ok(self.finish_counted(edges))
+    }
+
+    /// As `finish`, where it is known how many edges there are, modulo 2^64: no block is read.
+    pub fn finish_counted(self, edges: u64) -> Version
+        requires whole { IsWhole self }
+        requires edges { edges ≡ edge_total self.version % 2 ^ 64 }
+        ensures { result ≡ self.version }
+    {
+        Version {
             names: self.names,
             kinds: self.kinds,
             batches: self.batches,
             rows: self.rows,
-            edges: self.edges,
-        })
+            edges,
+        }
     }
+}
+
+/// How many edges rows have, modulo 2^64.
+fn edges_in_rows(rows: &Rows) -> u64
+    ensures { result ≡ length (edges_in_blocks (blocks_of rows.now)) % 2 ^ 64 }
+{
+    let mut edges = 0_u64;
+    for source in 0..rows.len() {
+        let row = rows.row_blocks(VertexId(source as u32));
+        edges = edges.wrapping_add(edges_in_row(row));
+    }
+    edges
 }
 
 /// How many edges blocks have, modulo 2^64.

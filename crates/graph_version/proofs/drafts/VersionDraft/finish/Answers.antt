@@ -1,10 +1,11 @@
-use Rattle.std.proofs.Common.{sym, ap, subst}
+use Rattle.std.proofs.Common.{ℕ, ◌%◌, ◌^◌, ◌∙◌, sym, ap, subst}
 use Rattle.graph_version.specs.Drafts.{DraftView, IsWhole}
-use Rattle.graph_version.proofs.Drafting.{whole_kept}
+use Rattle.graph_version.specs.Kept.{edge_total}
+use Rattle.graph_version.proofs.Few.{count_is_total}
 use Rattle.graph_version.proofs.drafts.VersionDraft.finish.Goals as goal
 
-pub invariant_of-result : goal.invariant_of-result
-invariant_of-result c = whole_kept _ _ _ _ _ (subst IsWhole (sym c.self.view_is) c.requires) c.self.invariant
-
-pub returns : goal.returns
-returns c = ap (λ (d : DraftView). d.version) c.self.view_is
+pub finish_counted-requires-clause-edges : goal.finish_counted-requires-clause-edges
+finish_counted-requires-clause-edges c =
+    let whole = subst IsWhole (sym c.self.view_is) c.requires in
+    c.edges_in_rows-edges.ensures ∙ ap (λ (n : ℕ). n % 2 ^ 64) (count_is_total _ whole.version)
+    ∙ ap (λ (d : DraftView). edge_total d.version % 2 ^ 64) c.self.view_is

@@ -1,8 +1,5 @@
-use Rattle.graph_version.proofs.Drafting.{drafted, kept_count}
+use Rattle.graph_version.proofs.Drafting.{drafted}
 use Rattle.graph_version.proofs.drafts.VersionDraft.over.Goals as goal
-
-pub invariant_of-result : goal.invariant_of-result
-invariant_of-result c = kept_count _ _ _ _ _ _ c.version.invariant c.in_ok-share-4.ensures
 
 pub returns : goal.returns
 returns c = rw (← c.version.view_is) (drafted _ _ _ _ _ _ _ _ _ c.version.invariant c.in_ok-share.ensures
