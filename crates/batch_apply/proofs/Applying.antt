@@ -10,6 +10,7 @@ use Rattle.std.proofs.lemmas.List.Sums.{sum_by-cons}
 use Rattle.std.proofs.lemmas.List.Elements.{All-head, All-tail, All-nil, All-append}
 use Rattle.graph_model.specs.Graph.{Graph}
 use Rattle.graph_model.specs.Limits.{name_limit, kind_limit, batch_limit}
+use Rattle.std.specs.FinMap.{len}
 use Rattle.graph_model.specs.Step.{after_all, outcomes, left_by}
 use Rattle.graph_model.specs.declared.batches.NamedOp.{NamedOp}
 use Rattle.graph_model.specs.declared.batches.Outcome.{Outcome}
@@ -29,7 +30,7 @@ use Rattle.shard_work.specs.declared.shard.Shard.{Shard}
 use Rattle.shard_work.specs.declared.shard.ShardDone.{ShardDone}
 use Rattle.shard_work.proofs.ShardSteps.{length-outcomes_all}
 use Rattle.graph_version.specs.Versions.{VersionView, IsVersion, IsBlockOf, AreRowsOf, content, layout_of, is_in}
-use Rattle.graph_version.specs.Kept.{vertex_book, kind_book}
+use Rattle.graph_version.specs.Kept.{vertex_book, kind_book, edge_total}
 use Rattle.graph_version.specs.Drafts.{DraftView, drafted_over, with_batch, IsWhole}
 use Rattle.batch_plan.specs.Shards.{IsShardOf}
 use Rattle.batch_plan.specs.Planned.{MeetsNeitherLimit}
@@ -383,6 +384,11 @@ module _ (v : VersionView) (ops : List NamedOp) (workers : ℕ) (shards : List S
       version_next v ops workers positive is with_fresh planned_jobs dones (done_in (row_of v.rows) jobs dones done) after among
       numbers rest handed_jobs distinct unlisted limits few
 
+  pub outcomes_made : written_from dones (replicate (length ops) Absent) ≡ outcomes ops (content v)
+  outcomes_made =
+      outcomes_next v ops workers positive is with_fresh planned_jobs dones (done_in (row_of v.rows) jobs dones done) after among
+      numbers rest handed_jobs distinct unlisted limits few
+
   pub applied_made : (a : Applied) → a.version ≡ record { opening = v.opening; batches = v.batches ++ ops ∷ []; rows = after }
       → a.outcomes.items ≡ written_from dones (replicate (length ops) Absent)
       → a.taken.items ≡ taken_left dones → blocks_of a.dropped.items ≡ dropped_left dones → numbers_of a.unused.items ≡ rest
@@ -415,6 +421,10 @@ module _ (v : VersionView) (ops : List NamedOp) (names kinds : Book) (values : L
       (e2.rest
       ∙ ap (λ (d : DraftView). let r : DraftView = record d { version = record d.version { rows = d2.version.rows } } in r)
       first)
+
+  pub edges_left : edge_total d3.version ≡ len (after_all ops (content v)).edges
+  edges_left = ap (λ (d : DraftView). edge_total d.version) draft_is
+      ∙ ap (λ (h : Graph). len h.edges) (left_more v.batches ops v.opening)
 
   pub draft_among : (s : ℕ) → row_of d2.version.rows s ≡ row_among values s (row_of v.rows s)
   draft_among s = e2.rows_are s ∙ ap (λ (d : DraftView). row_among values s (row_of d.version.rows s)) first

@@ -1,7 +1,7 @@
 //! A batch applied to a version.
 
-ghost use Rattle.std.specs.Prelude.{◌≡◌, ◌≢◌, ◌+◌, ◌++◌, ◌<◌, ◌≤◌, ℕ, false, Bool, List, length, map, flat_map, replicate};
-ghost use Rattle.std.specs.Prelude.{count_by, IfOk, OnOk, All, AllPairs};
+ghost use Rattle.std.specs.Prelude.{◌≡◌, ◌≢◌, ◌+◌, ◌++◌, ◌%◌, ◌^◌, ◌<◌, ◌≤◌, ℕ, false, Bool, List, length, map, flat_map};
+ghost use Rattle.std.specs.Prelude.{replicate, count_by, IfOk, OnOk, All, AllPairs};
 ghost use Rattle.std.specs.List.{sum_by, AllZip};
 ghost use Rattle.graph_model.specs.declared.batches.Outcome.TheVariants.{Absent};
 ghost use Rattle.batch_pages.specs.Batches.{batch_value};
@@ -12,6 +12,7 @@ ghost use Rattle.graph_version.specs.Versions.{content, is_in};
 ghost use Rattle.batch_plan.specs.Planned.{IsPlan, MeetsNeitherLimit};
 ghost use Rattle.batch_apply.specs.Plans.{written};
 ghost use Rattle.batch_apply.specs.Jobs.{steps_of, IsDealt};
+ghost use Rattle.batch_apply.specs.Counts.{is_inserted, is_removed};
 ghost use Rattle.batch_apply.specs.Applied.{IsApplied, ReplacesRows, written_from};
 
 use crate::workers::{Gate, Job, do_all};
@@ -73,10 +74,11 @@ pub fn apply<R: Threads + Sync, G: Gate + Sync>(
     let jobs = deal(alloc, shards, &mut unused)?;
     let dones = do_all(rt, alloc, gate, version, workers, jobs)?;
     let all = gather(alloc, operations, dones, unused)?;
+    let edges = edges_after(version.edge_count(), &all.outcomes);
     let draft = VersionDraft::over(version)?.set_names(names, kinds);
     let draft = replace_rows(draft, all.rows)?.push_batch(batch)?;
     Ok(Applied {
-        version: draft.finish()?,
+        version: draft.finish_counted(edges),
         outcomes: all.outcomes,
         taken: all.left.taken,
         dropped: all.left.dropped,
@@ -194,6 +196,36 @@ fn write_outcomes(outcomes: &mut Vec<Outcome>, found: Vec<(u32, Outcome)>)
             outcomes[place] = outcome;
         }
     }
+}
+
+/// How many edges operations with these outcomes leave where there were so many before, modulo 2^64.
+fn edges_after(before: u64, outcomes: &[Outcome]) -> u64
+    ensures { (after : ℕ) → after + count_by is_removed outcomes.now ≡ before + count_by is_inserted outcomes.now
+        → result ≡ after % 2 ^ 64 }
+{
+    before
+        .wrapping_add(inserted_in(outcomes) as u64)
+        .wrapping_sub(removed_in(outcomes) as u64)
+}
+
+/// How many operations inserted an edge.
+fn inserted_in(outcomes: &[Outcome]) -> usize
+    ensures { result ≡ count_by is_inserted outcomes.now }
+{
+    outcomes
+        .iter()
+        .filter(|outcome| **outcome == Outcome::Inserted)
+        .count()
+}
+
+/// How many operations removed an edge.
+fn removed_in(outcomes: &[Outcome]) -> usize
+    ensures { result ≡ count_by is_removed outcomes.now }
+{
+    outcomes
+        .iter()
+        .filter(|outcome| **outcome == Outcome::Removed)
+        .count()
 }
 
 /// The draft with these rows, each in the place of its source's row.

@@ -1,14 +1,20 @@
-use Rattle.std.proofs.Common.{ℕ, List, length, replicate, arith, ap, ◌∙◌, subst}
+use Rattle.std.proofs.Common.{◌≡◌, ℕ, ◌+◌, ◌%◌, ◌^◌, List, length, replicate, arith, sym, ap, ◌∙◌, subst}
+use Rattle.std.specs.Prelude.{count_by}
+use Rattle.std.specs.FinMap.{len}
 use Rattle.graph_model.specs.declared.batches.NamedOp.{NamedOp}
+use Rattle.graph_model.specs.Step.{after_all, outcomes}
 use Rattle.graph_model.specs.declared.batches.Outcome.TheVariants.{Absent}
 use Rattle.block_layout.specs.Batches.{Resolved, resolved}
 use Rattle.batch_pages.specs.Batches.{batch_value}
 use Rattle.shard_work.specs.RowBlocks.{numbers_of}
 use Rattle.graph_version.specs.Versions.{VersionView, content}
 use Rattle.graph_version.specs.Drafts.{DraftView}
+use Rattle.batch_apply.specs.Counts.{is_inserted, is_removed}
 use Rattle.batch_apply.specs.Applied.{ReplacesRows, written_from}
+use Rattle.batch_apply.proofs.EdgeCounts.{len_after_all}
 use Rattle.batch_apply.proofs.Dealt.{few_steps, length-resolved, dealt_ready}
-use Rattle.batch_apply.proofs.Applying.{rows_left, version_made, applied_made, draft_is, draft_among, draft_whole}
+use Rattle.batch_apply.proofs.Applying.{rows_left, version_made, outcomes_made, applied_made}
+use Rattle.batch_apply.proofs.Applying.{draft_is, draft_among, draft_whole, edges_left}
 use Rattle.batch_apply.proofs.applied.apply.Goals as goal
 
 pub deal-requires : goal.deal-requires
@@ -28,8 +34,8 @@ do_all-requires-after_bounds g c κs within =
     dealt_ready n (resolved (batch_value c.args.batch) (content v).names (content v).kinds) 0 n c.args.plan.shards.items
     c.in_ok-jobs.jobs.items c.requires.plan.2.shards c.in_ok-jobs.ensures.jobs
 
-pub finish-requires : goal.finish-requires
-finish-requires g c =
+pub finish_counted-requires-clause-whole : goal.finish_counted-requires-clause-whole
+finish_counted-requires-clause-whole g c =
     let v : VersionView = c.args.version.now in
     let ops : List NamedOp = batch_value c.args.batch in
     let values = rows_left c.in_ok-dones.dones.items in
@@ -48,6 +54,33 @@ finish-requires g c =
     c.requires.plan.1 c.number-number.ensures.version c.requires.plan.2.shards c.in_ok-jobs.ensures.jobs c.in_ok-dones.ensures
     c.in_ok-jobs.ensures.numbers
     c.requires.distinct c.requires.unlisted c.requires.limits c.requires.few d2.version.rows among)
+
+pub finish_counted-requires-clause-edges : goal.finish_counted-requires-clause-edges
+finish_counted-requires-clause-edges g c =
+    let v : VersionView = c.args.version.now in
+    let ops : List NamedOp = batch_value c.args.batch in
+    let values = rows_left c.in_ok-dones.dones.items in
+    let d0 : DraftView = c.in_ok-over.field-0 in
+    let d1 : DraftView = c.set_names-draft.result in
+    let d2 : DraftView = c.in_ok-replace_rows.field-0 in
+    let e2 : ReplacesRows values d1 d2 = subst (λ rs. ReplacesRows rs d1 d2) c.in_ok-all.ensures.rows
+    c.in_ok-replace_rows.ensures in
+    let among = draft_among v ops c.args.plan.names c.args.plan.kinds values d0 d1 d2 c.in_ok-draft.draft c.in_ok-over.ensures
+    c.set_names-draft.ensures e2 c.in_ok-draft.ensures in
+    let left = edges_left v ops c.args.plan.names c.args.plan.kinds values d0 d1 d2 c.in_ok-draft.draft c.in_ok-over.ensures
+    c.set_names-draft.ensures e2 c.in_ok-draft.ensures in
+    let told : c.in_ok-all.all.outcomes.items ≡ outcomes ops (content v) = c.in_ok-all.ensures.outcomes
+    ∙ ap (λ n. written_from c.in_ok-dones.dones.items (replicate n Absent))
+    (c.len-operations.ensures.count ∙ ap length c.deref.ensures)
+    ∙ outcomes_made v ops c.requires.plan.0 c.args.plan.shards.items c.in_ok-jobs.jobs.items c.in_ok-dones.dones.items
+    (numbers_of c.args.blocks.items) (numbers_of c.deal.new.blocks.items)
+    c.requires.plan.1 c.number-number.ensures.version c.requires.plan.2.shards c.in_ok-jobs.ensures.jobs c.in_ok-dones.ensures
+    c.in_ok-jobs.ensures.numbers
+    c.requires.distinct c.requires.unlisted c.requires.limits c.requires.few d2.version.rows among in
+    let as_many : len (after_all ops (content v)).edges + count_by is_removed c.deref-2.result.now
+    ≡ c.edge_count.result + count_by is_inserted c.deref-2.result.now
+    = rw (c.deref-2.ensures.value, told, c.edge_count.ensures) (len_after_all ops (content v)) in
+    c.edges_after-edges.ensures (len (after_all ops (content v)).edges) as_many ∙ ap (λ (n : ℕ). n % 2 ^ 64) (sym left)
 
 pub returns : goal.returns
 returns g c =
@@ -69,7 +102,7 @@ returns g c =
     c.in_ok-jobs.ensures.numbers
     c.requires.distinct c.requires.unlisted c.requires.limits c.requires.few d2.version.rows among
     _
-    (c.in_ok-finish.ensures ∙ ap (λ (d : DraftView). d.version) made)
+    (c.finish_counted.ensures ∙ ap (λ (d : DraftView). d.version) made)
     (c.in_ok-all.ensures.outcomes ∙ ap (λ n. written_from c.in_ok-dones.dones.items (replicate n Absent))
     (c.len-operations.ensures.count ∙ ap length c.deref.ensures))
     c.in_ok-all.ensures.taken
