@@ -12,6 +12,3 @@ mod rules;
 
 pub use command::{Command, FeedFault, FeedWord};
 pub use feed::Feed;
-
-#[cfg(test)]
-mod tests;

@@ -1,7 +1,7 @@
 // What a call gave, as text: a command with its values, a fault's word and number, or the end.
 
 use super::readers::Pieces;
-use crate::{Command, Feed, FeedFault};
+use feed_csv::{Command, Feed, FeedFault};
 use graph_model::{Name, NamedFilter, NamedOp, Request};
 use std::alloc::{AllocError, Global};
 

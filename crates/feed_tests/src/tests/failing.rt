@@ -2,7 +2,7 @@
 
 use super::readers::{Pieces, Repeating, in_pieces};
 use super::texts::gives;
-use crate::{Command, Feed, FeedFault, FeedWord};
+use feed_csv::{Command, Feed, FeedFault, FeedWord};
 use graph_model::{Name, NamedFilter, NamedOp, Request};
 use std::alloc::Global;
 use std::io;

@@ -2,7 +2,7 @@
 
 use super::readers::in_pieces;
 use super::texts::gives;
-use crate::{Feed, FeedFault, FeedWord};
+use feed_csv::{Feed, FeedFault, FeedWord};
 use std::alloc::Global;
 use std::process::Abort;
 use std::test::Fail;
