@@ -85,6 +85,58 @@ fn shows_a_posted_version_to_each_reader(rt: HostRuntime) {
     assert_eq!(rt; over_a_new_shelf(&rt, rt.alloc()), Some([0, 0, 1, 1]));
 }
 
+// Whether the version of one batch was posted.
+fn is_posted<R: Wait>(rt: &R, alloc: Global, writer: &mut ShelfWriter) -> bool
+    requires { writer.old ≡ opened_shelf writer.old.book empty_version }
+    ensures { (writer.new.book ≡ writer.old.book) × (writer.new.opening ≡ writer.old.opening) }
+{
+    match one_batch(alloc) {
+        Ok(version) => writer.post(rt, version).is_ok(),
+        Err(_) => false,
+    }
+}
+
+// The first reader enters a posted version, and again once the shelf is closed; then the second enters, before and after it
+// learnt what the close told.
+fn numbers_beside_a_close<R: Wait>(
+    rt: &R,
+    alloc: Global,
+    mut writer: ShelfWriter,
+    mut first: ShelfReader,
+    mut second: ShelfReader,
+) -> Option<[u64; 4]>
+    requires writer { writer ≡ opened_shelf writer.book empty_version }
+    requires second { second ≡ record { book = writer.book; version = empty_version } }
+{
+    let posted = is_posted(rt, alloc, &mut writer);
+    let seen = first.enter().number();
+    let told = writer.close(rt);
+    let kept = first.enter().number();
+    let before = second.enter().number();
+    let learnt = second.learn(&told).is_ok();
+    let after = second.enter().number();
+    if posted && learnt {
+        Some([seen, kept, before, after])
+    } else {
+        None
+    }
+}
+
+fn over_a_closed_shelf<R: Wait>(rt: &R, alloc: Global) -> Option<[u64; 4]> {
+    let Ok((writer, mut readers)) = shelf(rt, alloc, Version::empty(alloc), 2) else {
+        return None;
+    };
+    match (readers.pop(), readers.pop()) {
+        (Some(second), Some(first)) => numbers_beside_a_close(rt, alloc, writer, first, second),
+        _ => None,
+    }
+}
+
+#[test]
+fn a_closed_shelf_shows_nothing_newer(rt: HostRuntime) {
+    assert_eq!(rt; over_a_closed_shelf(&rt, rt.alloc()), Some([1, 1, 0, 1]));
+}
+
 #[test]
 fn refused_growths_leave_the_shelf(rt: HostRuntime) {
     let entered = match over_a_new_shelf(&rt, rt.alloc()) {
