@@ -21,18 +21,3 @@ pub use opening::{OpenError, open_parts};
 pub use receipts::{ApplyError, Receipt};
 pub use seats::{PinnedSeat, Seat, Session};
 pub use store::{Naming, Store};
-
-#[cfg(test)]
-mod apply_tests;
-#[cfg(test)]
-mod ask_tests;
-#[cfg(test)]
-mod seat_tests;
-#[cfg(test)]
-mod shared_ask_tests;
-#[cfg(test)]
-mod store_tests;
-#[cfg(test)]
-mod tests;
-#[cfg(test)]
-mod thread_tests;

@@ -1,24 +1,22 @@
-//! Sessions over the shared store that ask while another thread feeds, against what the definitions give.
+// Sessions over the shared store that ask while another thread feeds, against what the definitions give.
 
 ghost use Rattle.std.specs.Prelude.{◌≡◌};
 ghost use Rattle.graph_model.specs.Step.{empty_graph};
 
-use crate::apply_tests::batch_of;
-use crate::ask_tests::edge_told;
-use crate::{Config, Desk, Naming, Seat, Session, Store, open_parts};
-use batch_apply::PassAll;
+use super::answers::{Edge, SECOND, edge_told};
+use super::batches::batch_of;
+use super::opened::{Opened, new_store};
+use super::stores::{entered, error_of, let_go};
 use graph_model::Batch;
 use seat_board::Board;
 use std::alloc::{AllocError, Global};
 use std::marker::Brand;
 use std::sync::Wait;
 use std::thread::{Threads, join};
+use stream_store::{Desk, Naming, Seat, Session, Store};
 
 /// How often a session asks beside a batch.
 const TURNS: u32 = 100;
-
-/// Weight, first and recent time of the edge from `a` to `b`, where it is there.
-type Edge = Option<(i64, u64, u64)>;
 
 /// Whether both batches were applied; what a session on version 1 answers beside the second batch and after it; what the same
 /// seat's next session answers, and the number of its version.
@@ -36,10 +34,7 @@ fn is_applied<J: Naming, R: Threads + Wait + Sync>(
     store: &Store<J>,
     batch: Result<Batch, AllocError>,
 ) -> bool {
-    match batch {
-        Ok(batch) => store.apply(rt, &PassAll, batch).is_ok(),
-        Err(AllocError) => false,
-    }
+    error_of(rt, store, batch).is_none()
 }
 
 /// What the session answers each time that it is asked; nothing where two answers differ.
@@ -60,7 +55,7 @@ fn beside_a_batch<J: Naming + Send + Sync, R: Threads + Wait + Sync>(
     store: &Store<J>,
     session: Session,
 ) -> (bool, (Session, Option<Edge>)) {
-    let batch = batch_of(alloc, &[("-", "a", "b"), ("+", "b", "c")]);
+    let batch = batch_of(alloc, SECOND.as_slice());
     join(
         rt,
         || is_applied(rt, store, batch),
@@ -71,21 +66,30 @@ fn beside_a_batch<J: Naming + Send + Sync, R: Threads + Wait + Sync>(
     )
 }
 
+/// What the seat's next session answers, and the number of its version.
+fn next_told<J: Naming, R: Wait>(
+    rt: &R,
+    alloc: Global,
+    store: &Store<J>,
+    seat: Seat,
+) -> (Option<Edge>, u64) {
+    let session = entered(rt, store, seat);
+    let told = (edge_told(alloc, &session).ok(), session.version().number());
+    let _seat = let_go(rt, store, session);
+    told
+}
+
 fn told_by<J: Naming + Send + Sync, R: Threads + Wait + Sync>(
     rt: &R,
     alloc: Global,
     store: &Store<J>,
     seat: Seat,
 ) -> Told {
-    let first = is_applied(rt, store, batch_of(alloc, &[("+", "a", "b")]));
-    let session = seat.pin(rt, store).enter(rt, store);
+    let first = is_applied(rt, store, batch_of(alloc, &[("i", "a", "b", 1, 1)]));
+    let session = entered(rt, store, seat);
     let (second, (session, beside)) = beside_a_batch(rt, alloc, store, session);
     let after = edge_told(alloc, &session).ok();
-    let seat = session.release(rt, store);
-    let session = seat.pin(rt, store).enter(rt, store);
-    let next = edge_told(alloc, &session).ok();
-    let number = session.version().number();
-    let _seat = session.release(rt, store);
+    let (next, number) = next_told(rt, alloc, store, let_go(rt, store, session));
     Told {
         are_applied: (first, second),
         beside,
@@ -112,14 +116,13 @@ fn told_over<J: Naming + Send + Sync, R: Threads + Wait + Sync>(
 }
 
 fn over_a_new_store<R: Threads + Wait + Sync>(rt: &R, alloc: Global) -> Option<(Told, u64)> {
-    let config = Config::new(2, 16, 1).ok()?;
-    match open_parts(rt, alloc, config) {
-        Ok((desk, board, mut seats)) => match seats.pop() {
-            Some(seat) => Some(told_over::<Brand, R>(rt, alloc, desk, board, seat)),
-            None => None,
-        },
-        Err(_) => None,
-    }
+    let Opened {
+        desk,
+        board,
+        first,
+        second: _,
+    } = new_store(rt, alloc, 2, 16)?;
+    Some(told_over::<Brand, R>(rt, alloc, desk, board, first))
 }
 
 /// The session that holds version 1 has the edge, of weight 1 and both times 1, however often it is asked; the next session

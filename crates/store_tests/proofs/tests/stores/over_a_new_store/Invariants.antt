@@ -1,4 +1,4 @@
-use Rattle.stream_store.proofs.shared_ask_tests.over_a_new_store.Given as goal
+use Rattle.store_tests.proofs.tests.stores.over_a_new_store.Given as goal
 
 -- the store is of the opening that was just made
 abbrev pub ghosts-told_over : goal.ghosts-told_over

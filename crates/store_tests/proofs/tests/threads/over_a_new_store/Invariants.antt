@@ -1,4 +1,4 @@
-use Rattle.stream_store.proofs.thread_tests.over_a_new_store.Given as goal
+use Rattle.store_tests.proofs.tests.threads.over_a_new_store.Given as goal
 
 -- the store is of the opening that was just made
 abbrev pub ghosts-both_over : goal.ghosts-both_over

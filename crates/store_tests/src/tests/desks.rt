@@ -1,81 +1,14 @@
-use crate::{ApplyError, Collected, Config, Desk, Receipt, Stat, open_parts};
+// The desk: batches and collections by one thread that owns it.
+
+use super::batches::{Op, all_pairs, batch_of, tell_refused};
+use super::opened::new_store;
 use batch_apply::PassAll;
-use graph_model::{Batch, Name, NamedOp, Outcome};
+use graph_model::{Batch, Outcome};
 use std::alloc::{AllocError, Global};
-use std::io::Print;
 use std::sync::Wait;
 use std::test::Fail;
 use std::thread::Threads;
-
-// Tells `tools/refuse-each-growth` that a growth was refused.
-pub(crate) fn tell_refused(rt: &impl Print) {
-    let _ = println!(rt; "refused");
-}
-
-fn name(alloc: Global, text: &str) -> Result<Name, AllocError> {
-    Ok(Name::of(String::from_str(alloc, text)?))
-}
-
-/// An operation of kind `k`: a removal where the first text is `-`, else an insertion of weight 1 at time 1.
-fn operation(alloc: Global, op: (&str, &str, &str)) -> Result<NamedOp, AllocError> {
-    if op.0 == "-" {
-        return Ok(NamedOp::Remove {
-            kind: name(alloc, "k")?,
-            source: name(alloc, op.1)?,
-            target: name(alloc, op.2)?,
-        });
-    }
-    Ok(NamedOp::Insert {
-        kind: name(alloc, "k")?,
-        source: name(alloc, op.1)?,
-        target: name(alloc, op.2)?,
-        weight: 1,
-        time: 1,
-    })
-}
-
-fn push(batch: &mut Batch, op: NamedOp) -> Result<(), AllocError> {
-    match batch.push(op) {
-        Ok(()) => Ok(()),
-        Err(_) => Err(AllocError),
-    }
-}
-
-pub(crate) fn batch_of(alloc: Global, ops: &[(&str, &str, &str)]) -> Result<Batch, AllocError> {
-    let mut batch = Batch::new(alloc);
-    for op in ops {
-        push(&mut batch, operation(alloc, *op)?)?;
-    }
-    Ok(batch)
-}
-
-/// An insertion from each of the sources to each of the targets, in each of the rounds.
-fn all_pairs(
-    alloc: Global,
-    rounds: usize,
-    sources: &[&str],
-    targets: &[&str],
-) -> Result<Batch, AllocError> {
-    let mut batch = Batch::new(alloc);
-    for _ in 0..rounds {
-        push_pairs(alloc, &mut batch, sources, targets)?;
-    }
-    Ok(batch)
-}
-
-fn push_pairs(
-    alloc: Global,
-    batch: &mut Batch,
-    sources: &[&str],
-    targets: &[&str],
-) -> Result<(), AllocError> {
-    for source in sources {
-        for target in targets {
-            push(batch, operation(alloc, ("+", *source, *target))?)?;
-        }
-    }
-    Ok(())
-}
+use stream_store::{ApplyError, Collected, Desk, Receipt, Stat};
 
 /// A new desk of so many workers and blocks.
 fn new_desk<R: Wait>(
@@ -84,12 +17,9 @@ fn new_desk<R: Wait>(
     workers: usize,
     blocks: u32,
 ) -> Result<Desk, AllocError> {
-    let Ok(config) = Config::new(workers, blocks, 2) else {
-        return Err(AllocError);
-    };
-    match open_parts(rt, alloc, config) {
-        Ok((desk, _board, _readers)) => Ok(desk),
-        Err(_) => Err(AllocError),
+    match new_store(rt, alloc, workers, blocks) {
+        Some(opened) => Ok(opened.desk),
+        None => Err(AllocError),
     }
 }
 
@@ -104,12 +34,21 @@ fn apply_to<R: Threads + Wait + Sync>(
     }
 }
 
+/// Applies a batch; whether it was accepted.
+pub(super) fn is_applied<R: Threads + Wait + Sync>(
+    rt: &R,
+    desk: &mut Desk,
+    batch: Result<Batch, AllocError>,
+) -> bool {
+    apply_to(rt, desk, batch).is_ok()
+}
+
 /// Two insertions from different sources, a removal whose source is unknown, and the first insertion again.
-const FOUR: [(&str, &str, &str); 4] = [
-    ("+", "a", "b"),
-    ("+", "b", "c"),
-    ("-", "z", "a"),
-    ("+", "a", "b"),
+const FOUR: [Op; 4] = [
+    ("i", "a", "b", 1, 1),
+    ("i", "b", "c", 1, 1),
+    ("r", "z", "a", 0, 0),
+    ("i", "a", "b", 1, 1),
 ];
 
 const LETTERS: [&str; 32] = [
@@ -148,22 +87,27 @@ fn are_of_four(outcomes: &[Outcome]) -> bool {
         .as_slice()
 }
 
-/// The receipt's number, whether its outcomes are those of the four operations, the counts, and the number of entries.
+/// The number of the receipt of the four operations, and whether its outcomes are theirs.
+fn applies_four<R: Threads + Wait + Sync>(
+    rt: &R,
+    alloc: Global,
+    desk: &mut Desk,
+) -> Option<(u64, bool)> {
+    match apply_to(rt, desk, batch_of(alloc, FOUR.as_slice())) {
+        Ok(receipt) => Some((receipt.number, are_of_four(receipt.outcomes.as_slice()))),
+        Err(_) => None,
+    }
+}
+
+/// What the receipt of the four operations tells, the counts, and the number of entries.
 fn four_applied<R: Threads + Wait + Sync>(
     rt: &R,
     alloc: Global,
     workers: usize,
-) -> Result<(u64, bool, Stat, usize), AllocError> {
+) -> Result<(Option<(u64, bool)>, Stat, usize), AllocError> {
     let mut desk = new_desk(rt, alloc, workers, 16)?;
-    match apply_to(rt, &mut desk, batch_of(alloc, FOUR.as_slice())) {
-        Ok(receipt) => Ok((
-            receipt.number,
-            are_of_four(receipt.outcomes.as_slice()),
-            desk.stat(),
-            desk.journal().len(),
-        )),
-        Err(_) => Err(AllocError),
-    }
+    let told = applies_four(rt, alloc, &mut desk);
+    Ok((told, desk.stat(), desk.journal().len()))
 }
 
 #[test]
@@ -171,7 +115,7 @@ fn applies_a_batch(rt: HostRuntime) -> Result<(), Fail> {
     for workers in [1, 4] {
         assert_eq!(rt;
             four_applied(&rt, rt.alloc(), workers)?,
-            (1, true, AFTER, 1)
+            (Some((1, true)), AFTER, 1)
         );
     }
     Ok(())
@@ -191,10 +135,8 @@ fn too_many<R: Threads + Wait + Sync>(
     )
     .err();
     let stat = desk.stat();
-    match apply_to(rt, &mut desk, batch_of(alloc, FOUR.as_slice())) {
-        Ok(_receipt) => Ok((refused, stat, desk.stat())),
-        Err(_) => Err(AllocError),
-    }
+    let _told = applies_four(rt, alloc, &mut desk);
+    Ok((refused, stat, desk.stat()))
 }
 
 #[test]
@@ -214,14 +156,12 @@ fn pairs_applied<R: Threads + Wait + Sync>(
     workers: usize,
 ) -> Result<Stat, AllocError> {
     let mut desk = new_desk(rt, alloc, workers, 4096)?;
-    match apply_to(
+    let _applied = is_applied(
         rt,
         &mut desk,
         all_pairs(alloc, 4, LETTERS.as_slice(), &LETTERS[..20]),
-    ) {
-        Ok(_receipt) => Ok(desk.stat()),
-        Err(_) => Err(AllocError),
-    }
+    );
+    Ok(desk.stat())
 }
 
 /// The 2,560 operations are shared by the workers, and leave 640 edges in 32 blocks for each number of them.
@@ -241,18 +181,25 @@ fn applies_a_batch_by_several_workers(rt: HostRuntime) -> Result<(), Fail> {
     Ok(())
 }
 
-/// What two collections answer after the edges a to b and a to c were inserted by two batches, at floors 1 and 2, the
-/// counts before and after them, and the number of entries.
+/// A desk of 16 blocks after the edges a to b and a to c were inserted by two batches.
+fn after_two<R: Threads + Wait + Sync>(rt: &R, alloc: Global) -> Result<Desk, AllocError> {
+    let mut desk = new_desk(rt, alloc, 1, 16)?;
+    let first = is_applied(rt, &mut desk, batch_of(alloc, &[("i", "a", "b", 1, 1)]));
+    let second = is_applied(rt, &mut desk, batch_of(alloc, &[("i", "a", "c", 1, 1)]));
+    if first && second {
+        Ok(desk)
+    } else {
+        Err(AllocError)
+    }
+}
+
+/// What two collections answer after two batches, at floors 1 and 2, the counts before and after them, and the number of
+/// entries.
 fn collected<R: Threads + Wait + Sync>(
     rt: &R,
     alloc: Global,
 ) -> Result<(Stat, Collected, Collected, Stat, usize), AllocError> {
-    let mut desk = new_desk(rt, alloc, 1, 16)?;
-    let first = apply_to(rt, &mut desk, batch_of(alloc, &[("+", "a", "b")]));
-    let second = apply_to(rt, &mut desk, batch_of(alloc, &[("+", "a", "c")]));
-    if first.is_err() || second.is_err() {
-        return Err(AllocError);
-    }
+    let mut desk = after_two(rt, alloc)?;
     let before = desk.stat();
     if before.number != 2 {
         return Err(AllocError);
@@ -301,7 +248,7 @@ fn tried_twice<R: Threads + Wait + Sync>(
     let refused = apply_to(rt, &mut desk, batch_of(alloc, FOUR.as_slice())).err();
     let stat = desk.stat();
     if refused.is_some() {
-        let _again = apply_to(rt, &mut desk, batch_of(alloc, FOUR.as_slice()));
+        let _told = applies_four(rt, alloc, &mut desk);
     }
     Ok((refused, stat, desk.stat()))
 }

@@ -1,12 +1,14 @@
-ghost use Rattle.std.specs.Prelude.{◌≡◌, All, IfOk, IfSome};
+// The store that threads share, read in one thread while another feeds.
+
+ghost use Rattle.std.specs.Prelude.{◌≡◌};
 ghost use Rattle.std.specs.Coded.{codes};
 ghost use Rattle.graph_model.specs.Coded.{graph_code};
 ghost use Rattle.graph_model.specs.Step.{empty_graph};
-ghost use Rattle.stream_store.specs.Seats.{IsNewSeat};
 ghost use Rattle.stream_store.specs.Stores.{IsOfOpening};
 
-use crate::apply_tests::batch_of;
-use crate::{Collected, Config, Desk, Naming, Receipt, Seat, Stat, Store, open_parts};
+use super::batches::{Op, batch_of};
+use super::opened::{Opened, new_store};
+use super::stores::{apply_to, entered, let_go};
 use batch_apply::{Gate, PassAll};
 use graph_model::Batch;
 use seat_board::Board;
@@ -16,6 +18,7 @@ use std::sync::atomic::AtomicBool;
 use std::sync::atomic::Ordering::SeqCst;
 use std::sync::{OnceLock, Wait};
 use std::thread::{Threads, join, yield_now};
+use stream_store::{Collected, Desk, Naming, Receipt, Seat, Session, Stat, Store};
 
 /// How often a thread looks for what another is to tell it.
 const TURNS: u32 = 10_000_000;
@@ -29,13 +32,18 @@ struct Handed<J: Naming> {
     ghost opening_is: { receipt.told.version.opening ≡ empty_graph } by { Prim.hlevel (codes, graph_code) },
 }
 
-/// What a thread sees that learnt of version 1: the version's number, names and edges; and the store's counts and a collection
-/// once it let the version go.
+/// What is seen of a version: its number, names and edges.
 #[derive(Clone, Copy, Debug, PartialEq, Eq)]
-struct Sights {
+struct Sight {
     number: u64,
     names: usize,
     edges: u64,
+}
+
+/// What a thread sees that learnt of version 1; and the store's counts and a collection once it let the version go.
+#[derive(Clone, Copy, Debug, PartialEq, Eq)]
+struct Sights {
+    version: Sight,
     stat: Stat,
     collected: Collected,
 }
@@ -56,15 +64,22 @@ fn handed_of<J: Naming, R: Threads + Wait + Sync>(
     store: &Store<J>,
     batch: Result<Batch, AllocError>,
 ) -> Option<Handed<J>> {
-    let Ok(batch) = batch else {
-        return None;
-    };
-    match store.apply(rt, &PassAll, batch) {
+    match apply_to(rt, store, &PassAll, batch) {
         Ok(receipt) => Some(Handed {
             receipt,
             of: PhantomData,
         }),
         Err(_) => None,
+    }
+}
+
+/// The seat learns of what it was handed.
+fn learns<J: Naming>(seat: &mut Seat, handed: &Option<Handed<J>>) -> bool
+    requires { IsOfOpening J.book seat.old.seen }
+{
+    match handed {
+        Some(handed) => seat.learn(&handed.receipt).is_ok(),
+        None => false,
     }
 }
 
@@ -77,34 +92,35 @@ fn read<J: Naming, R: Wait>(
 ) -> Option<Sights>
     requires { IsOfOpening J.book seat.seen }
 {
-    match slot.wait(rt) {
-        Some(handed) => {
-            if seat.learn(&handed.receipt).is_err() {
-                return None;
-            }
-        }
-        None => return None,
+    if learns(&mut seat, slot.wait(rt)) {
+        Some(seen_by(rt, store, seat))
+    } else {
+        None
     }
-    Some(seen_by(rt, store, seat))
+}
+
+fn sight_of(session: &Session) -> Sight {
+    let version = session.version();
+    Sight {
+        number: version.number(),
+        names: version.names().len(),
+        edges: version.edge_count(),
+    }
 }
 
 fn seen_by<J: Naming, R: Wait>(rt: &R, store: &Store<J>, seat: Seat) -> Sights {
-    let session = seat.pin(rt, store).enter(rt, store);
-    let version = session.version();
-    let (number, names, edges) = (
-        version.number(),
-        version.names().len(),
-        version.edge_count(),
-    );
-    let _seat = session.release(rt, store);
+    let session = entered(rt, store, seat);
+    let version = sight_of(&session);
+    let _seat = let_go(rt, store, session);
     Sights {
-        number,
-        names,
-        edges,
+        version,
         stat: store.stat(rt),
         collected: store.collect(rt),
     }
 }
+
+/// The edges a to b and b to c.
+const CHAIN: [Op; 2] = [("i", "a", "b", 1, 1), ("i", "b", "c", 1, 1)];
 
 /// One thread applies a batch, another learns of it.
 fn handed_over<J: Naming + Send + Sync, R: Threads + Wait + Sync>(
@@ -116,7 +132,7 @@ fn handed_over<J: Naming + Send + Sync, R: Threads + Wait + Sync>(
     requires { IsOfOpening J.book seat.seen }
 {
     let slot: OnceLock<Option<Handed<J>>> = OnceLock::new();
-    let batch = batch_of(alloc, &[("+", "a", "b"), ("+", "b", "c")]);
+    let batch = batch_of(alloc, CHAIN.as_slice());
     let (_fed, seen) = join(
         rt,
         || feed(rt, store, &slot, batch),
@@ -167,9 +183,9 @@ fn read_beside<J: Naming, R: Wait>(
     if !is_set(&gate.arrived) {
         return None;
     }
-    let session = seat.pin(rt, store).enter(rt, store);
+    let session = entered(rt, store, seat);
     let number = session.version().number();
-    let _seat = session.release(rt, store);
+    let _seat = let_go(rt, store, session);
     gate.read.store(true, SeqCst);
     Some(number)
 }
@@ -180,70 +196,81 @@ fn apply_behind<J: Naming, R: Threads + Wait + Sync>(
     gate: &HoldFirst,
     batch: Result<Batch, AllocError>,
 ) -> Option<u64> {
-    let Ok(batch) = batch else {
-        return None;
-    };
-    match store.apply(rt, gate, batch) {
+    match apply_to(rt, store, gate, batch) {
         Ok(receipt) => Some(receipt.number),
         Err(_) => None,
     }
 }
 
-/// One thread applies a batch, whose first worker is held until the other has acquired, looked and released: the receipt's
-/// number, the number seen, and whether a thread gave up waiting.
+/// What two threads did beside each other: the receipt's number, the number seen, and whether a thread gave up waiting.
+#[derive(Clone, Copy, Debug, PartialEq, Eq)]
+struct Beside {
+    applied: Option<u64>,
+    seen: Option<u64>,
+    is_late: bool,
+}
+
+/// One thread applies a batch, whose first worker is held until the other has acquired, looked and released.
 fn beside_a_batch<J: Naming + Send + Sync, R: Threads + Wait + Sync>(
     rt: &R,
     alloc: Global,
     store: &Store<J>,
     seat: Seat,
-) -> (Option<u64>, Option<u64>, bool) {
+) -> Beside {
     let gate = HoldFirst {
         arrived: AtomicBool::new(false),
         read: AtomicBool::new(false),
         late: AtomicBool::new(false),
     };
-    let batch = batch_of(alloc, &[("+", "a", "b")]);
+    let batch = batch_of(alloc, &CHAIN[..1]);
     let (applied, seen) = join(
         rt,
         || apply_behind(rt, store, &gate, batch),
         || read_beside(rt, store, &gate, seat),
     );
-    (applied, seen, gate.late.load(SeqCst))
+    Beside {
+        applied,
+        seen,
+        is_late: gate.late.load(SeqCst),
+    }
 }
 
 /// What the two threads saw: one that was handed a receipt, and then one that read beside a batch.
-type Seen = (Option<Sights>, (Option<u64>, Option<u64>, bool));
+type Seen = (Option<Sights>, Beside);
 
 fn both_over<J: Naming + Send + Sync, R: Threads + Wait + Sync>(
     rt: &R,
     alloc: Global,
     desk: Desk,
     board: Board,
-    mut seats: Vec<Seat>,
-) -> Option<Seen>
+    first: Seat,
+    second: Seat,
+) -> Seen
     requires book { desk.book ≡ J.book }
     requires opening { desk.desk.last.opening ≡ empty_graph }
-    requires seats { All (IsNewSeat J.book) seats.items }
+    requires seat { IsOfOpening J.book first.seen }
 {
-    let other = seats.pop()?;
-    let seat = seats.pop()?;
     let store = Store::<J>::over(desk, board);
-    let handed = handed_over(rt, alloc, &store, seat);
-    Some((handed, beside_a_batch(rt, alloc, &store, other)))
+    let handed = handed_over(rt, alloc, &store, first);
+    (handed, beside_a_batch(rt, alloc, &store, second))
 }
 
 fn over_a_new_store<R: Threads + Wait + Sync>(rt: &R, alloc: Global) -> Option<Seen> {
-    let config = Config::new(4, 16, 2).ok()?;
-    let Ok((desk, board, seats)) = open_parts(rt, alloc, config) else {
-        return None;
-    };
-    both_over::<Brand, R>(rt, alloc, desk, board, seats)
+    let Opened {
+        desk,
+        board,
+        first,
+        second,
+    } = new_store(rt, alloc, 4, 16)?;
+    Some(both_over::<Brand, R>(rt, alloc, desk, board, first, second))
 }
 
 const LEARNT: Sights = Sights {
-    number: 1,
-    names: 3,
-    edges: 2,
+    version: Sight {
+        number: 1,
+        names: 3,
+        edges: 2,
+    },
     stat: Stat {
         number: 1,
         names: 3,
@@ -259,12 +286,18 @@ const LEARNT: Sights = Sights {
     },
 };
 
+const BESIDE: Beside = Beside {
+    applied: Some(2),
+    seen: Some(1),
+    is_late: false,
+};
+
 /// The thread that was handed the receipt of version 1 sees it. While the first worker of the second batch is held, another
 /// thread acquires version 1, looks at it, and lets it go.
 #[test]
 fn reads_in_one_thread_while_another_feeds(rt: HostRuntime) {
     assert_eq!(rt;
         over_a_new_store(&rt, rt.alloc()),
-        Some((Some(LEARNT), (Some(2), Some(1), false)))
+        Some((Some(LEARNT), BESIDE))
     );
 }

@@ -1,11 +1,9 @@
-use crate::{Collected, Config, OpenError, Stat, law_equal_answers, open_parts};
+// The opening, and the limits of what is opened.
+
+use super::batches::tell_refused;
 use std::alloc::Global;
 use std::sync::Wait;
-
-// Tells `tools/refuse-each-growth` that a growth was refused.
-fn tell_refused(rt: &impl Print) {
-    let _ = println!(rt; "refused");
-}
+use stream_store::{Collected, Config, OpenError, Stat, law_equal_answers, open_parts};
 
 // The counts of a new store of 16 blocks and 2 seats, a collection of it, and how many entries and readers it has.
 fn opened<R: Wait>(

@@ -1,98 +1,29 @@
-ghost use Rattle.std.specs.Prelude.{◌≡◌, All, IfOk};
+// The store that threads share, called by one thread.
+
+ghost use Rattle.std.specs.Prelude.{◌≡◌, IfOk};
 ghost use Rattle.graph_model.specs.Step.{empty_graph};
 ghost use Rattle.version_shelf.specs.Shelves.{IsOfOneShelf};
-ghost use Rattle.stream_store.specs.Seats.{IsNewSeat};
 ghost use Rattle.stream_store.specs.Stores.{IsOfOpening};
 
-use crate::apply_tests::tell_refused;
-use crate::{ApplyError, Collected, Config, Desk, Naming, Receipt, Seat, Stat, Store, open_parts};
-use batch_apply::PassAll;
-use graph_model::{Batch, KindId, Name, NamedOp, Outcome, VertexId};
+use super::batches::{Op, batch_of, tell_refused};
+use super::opened::{Opened, new_store};
+use batch_apply::{Gate, PassAll};
+use graph_model::{Batch, KindId, Outcome, VertexId};
 use graph_version::Version;
 use seat_board::Board;
 use std::alloc::{AllocError, Global};
 use std::marker::Brand;
 use std::sync::Wait;
 use std::thread::Threads;
+use stream_store::{ApplyError, Collected, Desk, Naming, Receipt, Seat, Session, Stat, Store};
 
-/// An operation of kind `knows`: an insertion, or an addition to the weight.
-struct Line {
-    is_addition: bool,
-    source: &'static str,
-    target: &'static str,
-    weight: i64,
-    time: u64,
-}
+/// The edges a to b and b to c.
+const CHAIN: [Op; 2] = [("i", "a", "b", 5, 10), ("i", "b", "c", 2, 11)];
 
-/// The edges ann to bob and bob to cat.
-const CHAIN: [Line; 2] = [
-    Line {
-        is_addition: false,
-        source: "ann",
-        target: "bob",
-        weight: 5,
-        time: 10,
-    },
-    Line {
-        is_addition: false,
-        source: "bob",
-        target: "cat",
-        weight: 2,
-        time: 11,
-    },
-];
+/// One more for a to b.
+const MORE: [Op; 1] = [("a", "a", "b", 1, 20)];
 
-/// One more for ann to bob.
-const MORE: [Line; 1] = [Line {
-    is_addition: true,
-    source: "ann",
-    target: "bob",
-    weight: 1,
-    time: 20,
-}];
-
-fn name(alloc: Global, text: &str) -> Result<Name, AllocError> {
-    Ok(Name::of(String::from_str(alloc, text)?))
-}
-
-fn operation(alloc: Global, line: &Line) -> Result<NamedOp, AllocError> {
-    let kind = name(alloc, "knows")?;
-    let source = name(alloc, line.source)?;
-    let target = name(alloc, line.target)?;
-    if line.is_addition {
-        return Ok(NamedOp::Incr {
-            kind,
-            source,
-            target,
-            amount: line.weight,
-            time: line.time,
-        });
-    }
-    Ok(NamedOp::Insert {
-        kind,
-        source,
-        target,
-        weight: line.weight,
-        time: line.time,
-    })
-}
-
-fn push(batch: &mut Batch, op: NamedOp) -> Result<(), AllocError> {
-    match batch.push(op) {
-        Ok(()) => Ok(()),
-        Err(_) => Err(AllocError),
-    }
-}
-
-fn batch_of(alloc: Global, lines: &[Line]) -> Result<Batch, AllocError> {
-    let mut batch = Batch::new(alloc);
-    for line in lines {
-        push(&mut batch, operation(alloc, line)?)?;
-    }
-    Ok(batch)
-}
-
-/// What is seen of a version: its number, and weight, first and recent time of the edge ann to bob.
+/// What is seen of a version: its number, and weight, first and recent time of the edge a to b.
 #[derive(Clone, Copy, Debug, PartialEq, Eq)]
 struct Sight {
     number: u64,
@@ -100,14 +31,15 @@ struct Sight {
 }
 
 fn edge_of(version: &Version) -> Option<(i64, u64, u64)> {
-    let kind = u8::try_from(version.kinds().number("knows")?).ok()?;
-    let ann = version.names().number("ann")?;
-    let bob = version.names().number("bob")?;
-    let edge = version.edge(KindId(kind), VertexId(ann), VertexId(bob))?;
+    let kind = u8::try_from(version.kinds().number("k")?).ok()?;
+    let source = version.names().number("a")?;
+    let target = version.names().number("b")?;
+    let edge = version.edge(KindId(kind), VertexId(source), VertexId(target))?;
     Some((*edge.weight, *edge.first, *edge.recent))
 }
 
-fn sight_of(version: &Version) -> Sight {
+fn sight_of(session: &Session) -> Sight {
+    let version = session.version();
     Sight {
         number: version.number(),
         edge: edge_of(version),
@@ -115,17 +47,37 @@ fn sight_of(version: &Version) -> Sight {
 }
 
 /// Applies a batch.
-fn apply_to<J: Naming, R: Threads + Wait + Sync>(
+pub(super) fn apply_to<J: Naming, R: Threads + Wait + Sync, G: Gate + Sync>(
     rt: &R,
     store: &Store<J>,
+    gate: &G,
     batch: Result<Batch, AllocError>,
 ) -> Result<Receipt, ApplyError>
     ensures { IfOk result (λ r. IsOfOpening J.book r.told) }
 {
     match batch {
-        Ok(batch) => store.apply(rt, &PassAll, batch),
+        Ok(batch) => store.apply(rt, gate, batch),
         Err(AllocError) => Err(ApplyError::OutOfMemory),
     }
+}
+
+/// Applies a batch; the error, where it is refused.
+pub(super) fn error_of<J: Naming, R: Threads + Wait + Sync>(
+    rt: &R,
+    store: &Store<J>,
+    batch: Result<Batch, AllocError>,
+) -> Option<ApplyError> {
+    apply_to(rt, store, &PassAll, batch).err()
+}
+
+/// A session on the newest version that the seat finds.
+pub(super) fn entered<J: Naming, R: Wait>(rt: &R, store: &Store<J>, seat: Seat) -> Session {
+    seat.pin(rt, store).enter(rt, store)
+}
+
+/// Lets the session's version go.
+pub(super) fn let_go<J: Naming, R: Wait>(rt: &R, store: &Store<J>, session: Session) -> Seat {
+    session.release(rt, store)
 }
 
 /// The number of the receipt, and the last outcome.
@@ -134,9 +86,35 @@ fn answered<J: Naming, R: Threads + Wait + Sync>(
     store: &Store<J>,
     batch: Result<Batch, AllocError>,
 ) -> Option<(u64, Option<Outcome>)> {
-    match apply_to(rt, store, batch) {
+    match apply_to(rt, store, &PassAll, batch) {
         Ok(receipt) => Some((receipt.number, receipt.outcomes.as_slice().last().copied())),
         Err(_) => None,
+    }
+}
+
+/// What became of a receipt: whether there was one, whether the seat was refused to learn of it at first, and whether it learnt.
+#[derive(Clone, Copy, Debug, PartialEq, Eq)]
+struct Learning {
+    applied: bool,
+    refused: bool,
+    learnt: bool,
+}
+
+/// The seat learns of the receipt; where that is refused, it is tried once more.
+fn learn_twice(seat: &mut Seat, receipt: &Receipt) -> Learning
+    requires { IsOfOneShelf receipt.now.told seat.old.seen }
+{
+    match seat.learn(receipt) {
+        Ok(()) => Learning {
+            applied: true,
+            refused: false,
+            learnt: true,
+        },
+        Err(AllocError) => Learning {
+            applied: true,
+            refused: true,
+            learnt: seat.learn(receipt).is_ok(),
+        },
     }
 }
 
@@ -146,19 +124,22 @@ fn learns_of<J: Naming, R: Threads + Wait + Sync>(
     store: &Store<J>,
     seat: &mut Seat,
     batch: Result<Batch, AllocError>,
-) -> bool
+) -> Learning
     requires { IsOfOpening J.book seat.old.seen }
 {
-    match apply_to(rt, store, batch) {
-        Ok(receipt) => seat.learn(&receipt).is_ok(),
-        Err(_) => false,
+    match apply_to(rt, store, &PassAll, batch) {
+        Ok(receipt) => learn_twice(seat, &receipt),
+        Err(_) => Learning {
+            applied: false,
+            refused: false,
+            learnt: false,
+        },
     }
 }
 
 /// A session on version 1, while a second batch is applied and collected, and what is collected once it is let go.
 #[derive(Clone, Copy, Debug, PartialEq, Eq)]
 struct Held {
-    learnt: bool,
     second: Option<(u64, Option<Outcome>)>,
     low: Collected,
     held: Sight,
@@ -166,22 +147,19 @@ struct Held {
     stat: Stat,
 }
 
+/// What is seen while a seat that learnt of version 1 holds it.
 fn while_held<J: Naming, R: Threads + Wait + Sync>(
     rt: &R,
     alloc: Global,
     store: &Store<J>,
-    mut seat: Seat,
-) -> Held
-    requires { IsOfOpening J.book seat.seen }
-{
-    let learnt = learns_of(rt, store, &mut seat, batch_of(alloc, CHAIN.as_slice()));
-    let session = seat.pin(rt, store).enter(rt, store);
+    seat: Seat,
+) -> Held {
+    let session = entered(rt, store, seat);
     let second = answered(rt, store, batch_of(alloc, MORE.as_slice()));
     let low = store.collect(rt);
-    let held = sight_of(session.version());
-    let _seat = session.release(rt, store);
+    let held = sight_of(&session);
+    let _seat = let_go(rt, store, session);
     Held {
-        learnt,
         second,
         low,
         held,
@@ -211,9 +189,9 @@ fn while_pinned<J: Naming, R: Threads + Wait + Sync>(
     let second = answered(rt, store, batch_of(alloc, MORE.as_slice()));
     let low = store.collect(rt);
     let session = pinned.enter(rt, store);
-    let entered = sight_of(session.version());
+    let entered = sight_of(&session);
     let high = store.collect(rt);
-    let _seat = session.release(rt, store);
+    let _seat = let_go(rt, store, session);
     Pinned {
         first,
         second,
@@ -236,10 +214,10 @@ fn try_twice<J: Naming, R: Threads + Wait + Sync>(
     alloc: Global,
     store: &Store<J>,
 ) -> Tried {
-    let error = apply_to(rt, store, batch_of(alloc, CHAIN.as_slice())).err();
+    let error = error_of(rt, store, batch_of(alloc, CHAIN.as_slice()));
     let after = store.stat(rt);
     if error.is_some() {
-        let _again = apply_to(rt, store, batch_of(alloc, CHAIN.as_slice()));
+        let _again = error_of(rt, store, batch_of(alloc, CHAIN.as_slice()));
     }
     Tried {
         error,
@@ -248,51 +226,12 @@ fn try_twice<J: Naming, R: Threads + Wait + Sync>(
     }
 }
 
-/// A receipt that is learnt again where it was refused: whether there was one, whether it was refused at first, whether it was
-/// learnt, and the number of the version entered then.
-#[derive(Clone, Copy, Debug, PartialEq, Eq)]
-struct Learnt {
-    applied: bool,
-    refused: bool,
-    learnt: bool,
-    number: u64,
-}
-
-/// Whether the receipt was refused at first, and whether it was learnt.
-fn learn_twice(seat: &mut Seat, receipt: &Receipt) -> (bool, bool)
-    requires { IsOfOneShelf receipt.now.told seat.old.seen }
-{
-    match seat.learn(receipt) {
-        Ok(()) => (false, true),
-        Err(AllocError) => (true, seat.learn(receipt).is_ok()),
-    }
-}
-
-fn learn_and_enter<J: Naming, R: Threads + Wait + Sync>(
-    rt: &R,
-    alloc: Global,
-    store: &Store<J>,
-    mut seat: Seat,
-) -> Learnt
-    requires { IsOfOpening J.book seat.seen }
-{
-    let (applied, (refused, learnt)) = match apply_to(
-        rt,
-        store,
-        batch_of(alloc, CHAIN.as_slice()),
-    ) {
-        Ok(receipt) => (true, learn_twice(&mut seat, &receipt)),
-        Err(_) => (false, (false, false)),
-    };
-    let session = seat.pin(rt, store).enter(rt, store);
+/// The number of the version that the seat enters.
+fn number_entered<J: Naming, R: Wait>(rt: &R, store: &Store<J>, seat: Seat) -> u64 {
+    let session = entered(rt, store, seat);
     let number = session.version().number();
-    let _seat = session.release(rt, store);
-    Learnt {
-        applied,
-        refused,
-        learnt,
-        number,
-    }
+    let _seat = let_go(rt, store, session);
+    number
 }
 
 /// What is done over a new store.
@@ -308,17 +247,17 @@ enum Tale {
 #[derive(Clone, Copy, Debug, PartialEq, Eq)]
 enum Told {
     Twice(Option<(u64, Option<Outcome>)>, Option<(u64, Option<Outcome>)>),
-    Held(Held),
+    Held(Learning, Held),
     Pinned(Pinned),
     Tried(Tried),
-    Learnt(Learnt),
+    Learnt(Learning, u64),
 }
 
 fn told_of<J: Naming, R: Threads + Wait + Sync>(
     rt: &R,
     alloc: Global,
     store: &Store<J>,
-    seat: Seat,
+    mut seat: Seat,
     tale: Tale,
 ) -> Told
     requires { IsOfOpening J.book seat.seen }
@@ -328,10 +267,16 @@ fn told_of<J: Naming, R: Threads + Wait + Sync>(
             answered(rt, store, batch_of(alloc, &CHAIN[..1])),
             answered(rt, store, batch_of(alloc, &CHAIN[..1])),
         ),
-        Tale::Held => Told::Held(while_held(rt, alloc, store, seat)),
+        Tale::Held => {
+            let learning = learns_of(rt, store, &mut seat, batch_of(alloc, CHAIN.as_slice()));
+            Told::Held(learning, while_held(rt, alloc, store, seat))
+        }
         Tale::Pinned => Told::Pinned(while_pinned(rt, alloc, store, seat)),
         Tale::Tried => Told::Tried(try_twice(rt, alloc, store)),
-        Tale::Learnt => Told::Learnt(learn_and_enter(rt, alloc, store, seat)),
+        Tale::Learnt => {
+            let learning = learns_of(rt, store, &mut seat, batch_of(alloc, CHAIN.as_slice()));
+            Told::Learnt(learning, number_entered(rt, store, seat))
+        }
     }
 }
 
@@ -340,24 +285,24 @@ fn told_over<J: Naming, R: Threads + Wait + Sync>(
     alloc: Global,
     desk: Desk,
     board: Board,
-    mut seats: Vec<Seat>,
+    seat: Seat,
     tale: Tale,
-) -> Option<Told>
+) -> Told
     requires book { desk.book ≡ J.book }
     requires opening { desk.desk.last.opening ≡ empty_graph }
-    requires seats { All (IsNewSeat J.book) seats.items }
+    requires seat { IsOfOpening J.book seat.seen }
 {
-    let seat = seats.pop()?;
-    let store = Store::<J>::over(desk, board);
-    Some(told_of(rt, alloc, &store, seat, tale))
+    told_of(rt, alloc, &Store::<J>::over(desk, board), seat, tale)
 }
 
 fn over_a_new_store<R: Threads + Wait + Sync>(rt: &R, alloc: Global, tale: Tale) -> Option<Told> {
-    let config = Config::new(4, 16, 2).ok()?;
-    let Ok((desk, board, seats)) = open_parts(rt, alloc, config) else {
-        return None;
-    };
-    told_over::<Brand, R>(rt, alloc, desk, board, seats, tale)
+    let Opened {
+        desk,
+        board,
+        first: _,
+        second,
+    } = new_store(rt, alloc, 4, 16)?;
+    Some(told_over::<Brand, R>(rt, alloc, desk, board, second, tale))
 }
 
 #[test]
@@ -372,8 +317,12 @@ fn applies_one_batch_twice(rt: HostRuntime) {
 /// While version 1 is held, the floor is 1 and the block that version 2 dropped stays.
 #[test]
 fn collects_what_no_session_holds(rt: HostRuntime) {
-    let held = Held {
+    let learning = Learning {
+        applied: true,
+        refused: false,
         learnt: true,
+    };
+    let held = Held {
         second: Some((2, Some(Outcome::Updated))),
         low: Collected {
             floor: 1,
@@ -400,7 +349,7 @@ fn collects_what_no_session_holds(rt: HostRuntime) {
     };
     assert_eq!(rt;
         over_a_new_store(&rt, rt.alloc(), Tale::Held),
-        Some(Told::Held(held))
+        Some(Told::Held(learning, held))
     );
 }
 
@@ -473,12 +422,12 @@ fn refused_batches_leave_the_store(rt: HostRuntime) {
 #[test]
 fn refused_receipts_are_learnt_later(rt: HostRuntime) {
     let told = over_a_new_store(&rt, rt.alloc(), Tale::Learnt);
-    if let Some(Told::Learnt(learnt)) = told {
-        if !learnt.applied || learnt.refused {
+    if let Some(Told::Learnt(learning, number)) = told {
+        if !learning.applied || learning.refused {
             tell_refused(&rt);
         }
-        assert_eq!(rt; learnt.learnt, learnt.applied);
-        assert_eq!(rt; learnt.number, u64::from(learnt.applied));
+        assert_eq!(rt; learning.learnt, learning.applied);
+        assert_eq!(rt; number, u64::from(learning.applied));
     } else {
         // The store wasn't opened.
         tell_refused(&rt);

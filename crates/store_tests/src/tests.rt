@@ -1,0 +1,11 @@
+// A module for each part of the store whose calls are tested. `batches` and `opened` make what all of them begin with.
+
+mod answers;
+mod batches;
+mod desks;
+mod limits;
+mod opened;
+mod seats;
+mod shared_answers;
+mod stores;
+mod threads;

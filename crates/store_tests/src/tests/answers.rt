@@ -1,0 +1,128 @@
+// What sessions on lent versions answer.
+
+use super::batches::{Op, batch_of, name, tell_refused};
+use super::desks::is_applied;
+use super::opened::{Opened, new_store};
+use super::seats::{lent, let_go};
+use graph_model::{AskError, NamedFilter, Reply, Request};
+use seat_board::Board;
+use std::alloc::{AllocError, Global};
+use std::sync::Wait;
+use std::thread::Threads;
+use stream_store::{Desk, Seat, Session};
+use version_answers::NumberedReply;
+
+/// Weight, first and recent time of the edge from `a` to `b`, where it is there.
+pub(super) type Edge = Option<(i64, u64, u64)>;
+
+/// What a session answers of the edge from `a` to `b`, and whether the core numbers are those wanted.
+type Answers = (Edge, bool);
+
+fn edge_request(alloc: Global) -> Result<Request, AllocError> {
+    Ok(Request::OneEdge {
+        kind: name(alloc, "k")?,
+        source: name(alloc, "a")?,
+        target: name(alloc, "b")?,
+    })
+}
+
+fn cores_request() -> Request {
+    Request::Cores {
+        filter: NamedFilter {
+            kind: None,
+            lo: 0,
+            hi: 9,
+        },
+    }
+}
+
+/// What the session answers of the edge from `a` to `b`.
+pub(super) fn edge_told(alloc: Global, session: &Session) -> Result<Edge, AskError> {
+    match session.ask(&edge_request(alloc)?)? {
+        Reply::OneEdge(edge) => Ok(edge),
+        _ => Err(AskError::NoKind),
+    }
+}
+
+fn tells_cores(session: &Session, wanted: &[u32]) -> Result<bool, AskError> {
+    match session.ask_in_numbers(&cores_request())? {
+        NumberedReply::Cores(numbers) => Ok(numbers.as_slice() == wanted),
+        _ => Ok(false),
+    }
+}
+
+fn told(alloc: Global, session: &Session, cores: &[u32]) -> Option<Answers> {
+    let edge = edge_told(alloc, session).ok()?;
+    let has_cores = tells_cores(session, cores).ok()?;
+    Some((edge, has_cores))
+}
+
+/// The edge from a to b.
+const FIRST: [Op; 1] = [("i", "a", "b", 1, 1)];
+
+/// It goes, and one from b to c comes.
+pub(super) const SECOND: [Op; 2] = [("r", "a", "b", 0, 0), ("i", "b", "c", 1, 1)];
+
+/// The answers of a session that holds the desk's last version while a batch takes the edge away, and its seat.
+fn held_over_a_batch<R: Threads + Wait + Sync>(
+    rt: &R,
+    alloc: Global,
+    desk: &mut Desk,
+    board: &mut Board,
+    seat: Seat,
+) -> (Seat, Option<Answers>) {
+    match lent(desk, board, seat) {
+        Ok(session) => {
+            let second = is_applied(rt, desk, batch_of(alloc, SECOND.as_slice()));
+            let answers = told(alloc, &session, &[1, 1]);
+            let seat = let_go(session, board);
+            (seat, if second { answers } else { None })
+        }
+        Err(seat) => (seat, None),
+    }
+}
+
+/// The answers of a session on the desk's last version.
+fn held_after(alloc: Global, desk: &Desk, board: &mut Board, seat: Seat) -> Option<Answers> {
+    match lent(desk, board, seat) {
+        Ok(session) => told(alloc, &session, &[0, 1, 1]),
+        Err(_) => None,
+    }
+}
+
+/// The answers over a new store: of a session from before the second batch, and of one after it.
+fn over_two_batches<R: Threads + Wait + Sync>(
+    rt: &R,
+    alloc: Global,
+) -> Option<(Option<Answers>, Option<Answers>)> {
+    let Opened {
+        mut desk,
+        mut board,
+        first,
+        second: _,
+    } = new_store(rt, alloc, 1, 16)?;
+    let _first = is_applied(rt, &mut desk, batch_of(alloc, FIRST.as_slice()));
+    let (seat, before) = held_over_a_batch(rt, alloc, &mut desk, &mut board, first);
+    let after = held_after(alloc, &desk, &mut board, seat);
+    Some((before, after))
+}
+
+const BEFORE: Answers = (Some((1, 1, 1)), true);
+
+const AFTER: Answers = (None, true);
+
+#[test]
+fn a_session_answers_of_its_version(rt: HostRuntime) {
+    assert_eq!(rt;
+        over_two_batches(&rt, rt.alloc()),
+        Some((Some(BEFORE), Some(AFTER)))
+    );
+}
+
+#[test]
+fn refused_ask_answers_of_no_other_version(rt: HostRuntime) {
+    match over_two_batches(&rt, rt.alloc()) {
+        Some((Some(before), Some(after))) => assert_eq!(rt; (before, after), (BEFORE, AFTER)),
+        _ => tell_refused(&rt),
+    }
+}

@@ -1,0 +1,96 @@
+// Batches of operations of kind `k`.
+
+use graph_model::{Batch, Name, NamedOp};
+use std::alloc::{AllocError, Global};
+use std::io::Print;
+
+/// An operation: `i` inserts, `a` adds to the weight, `r` removes; its source and target, its weight or amount, its time.
+pub(super) type Op = (&'static str, &'static str, &'static str, i64, u64);
+
+// Tells `tools/refuse-each-growth` that a growth was refused.
+pub(super) fn tell_refused(rt: &impl Print) {
+    let _ = println!(rt; "refused");
+}
+
+pub(super) fn name(alloc: Global, text: &str) -> Result<Name, AllocError> {
+    Ok(Name::of(String::from_str(alloc, text)?))
+}
+
+fn insertion(alloc: Global, op: Op) -> Result<NamedOp, AllocError> {
+    Ok(NamedOp::Insert {
+        kind: name(alloc, "k")?,
+        source: name(alloc, op.1)?,
+        target: name(alloc, op.2)?,
+        weight: op.3,
+        time: op.4,
+    })
+}
+
+fn increment(alloc: Global, op: Op) -> Result<NamedOp, AllocError> {
+    Ok(NamedOp::Incr {
+        kind: name(alloc, "k")?,
+        source: name(alloc, op.1)?,
+        target: name(alloc, op.2)?,
+        amount: op.3,
+        time: op.4,
+    })
+}
+
+fn removal(alloc: Global, op: Op) -> Result<NamedOp, AllocError> {
+    Ok(NamedOp::Remove {
+        kind: name(alloc, "k")?,
+        source: name(alloc, op.1)?,
+        target: name(alloc, op.2)?,
+    })
+}
+
+fn operation(alloc: Global, op: Op) -> Result<NamedOp, AllocError> {
+    match op.0 {
+        "i" => insertion(alloc, op),
+        "a" => increment(alloc, op),
+        _ => removal(alloc, op),
+    }
+}
+
+fn push(batch: &mut Batch, op: Result<NamedOp, AllocError>) -> Result<(), AllocError> {
+    match op {
+        Ok(op) => batch.push(op).map_err(|_| AllocError),
+        Err(error) => Err(error),
+    }
+}
+
+pub(super) fn batch_of(alloc: Global, ops: &[Op]) -> Result<Batch, AllocError> {
+    let mut batch = Batch::new(alloc);
+    for op in ops {
+        push(&mut batch, operation(alloc, *op))?;
+    }
+    Ok(batch)
+}
+
+/// An insertion from each of the sources to each of the targets, in each of the rounds.
+pub(super) fn all_pairs(
+    alloc: Global,
+    rounds: usize,
+    sources: &[&'static str],
+    targets: &[&'static str],
+) -> Result<Batch, AllocError> {
+    let mut batch = Batch::new(alloc);
+    for _ in 0..rounds {
+        push_pairs(alloc, &mut batch, sources, targets)?;
+    }
+    Ok(batch)
+}
+
+fn push_pairs(
+    alloc: Global,
+    batch: &mut Batch,
+    sources: &[&'static str],
+    targets: &[&'static str],
+) -> Result<(), AllocError> {
+    for source in sources {
+        for target in targets {
+            push(batch, insertion(alloc, ("i", *source, *target, 1, 1)))?;
+        }
+    }
+    Ok(())
+}

@@ -1,0 +1,243 @@
+// Sessions on versions that a desk lends.
+
+ghost use Rattle.std.specs.Prelude.{◌≡◌};
+
+use super::batches::{batch_of, tell_refused};
+use super::desks::is_applied;
+use super::opened::{Opened, new_store};
+use batch_apply::PassAll;
+use graph_model::Batch;
+use seat_board::{Board, Pin, SeatNo};
+use std::alloc::{AllocError, Global};
+use std::sync::Wait;
+use std::thread::Threads;
+use stream_store::{Desk, Seat, Session};
+
+/// A session on the desk's last version, or the seat where it is refused.
+pub(super) fn lent(desk: &Desk, board: &mut Board, seat: Seat) -> Result<Session, Seat> {
+    match seat.acquire_lent(desk, board) {
+        Ok(session) => Ok(session),
+        Err((seat, AllocError)) => Err(seat),
+    }
+}
+
+/// Lets the session's version go.
+pub(super) fn let_go(session: Session, board: &mut Board) -> Seat {
+    session.release_lent(board)
+}
+
+pub(super) fn number_held(session: &Session) -> u64 {
+    session.version().number()
+}
+
+/// What is seen of a session: whether it was refused at first, and its seat's pin then; the number of its version; the
+/// pin while it holds it, and after it let it go.
+#[derive(Clone, Copy, Debug, PartialEq, Eq)]
+struct Sights {
+    refused: bool,
+    before: Option<Pin>,
+    number: u64,
+    held: Option<Pin>,
+    after: Option<Pin>,
+}
+
+/// Applies a batch, and the seat learns of it.
+fn learns_of<R: Threads + Wait + Sync>(
+    rt: &R,
+    desk: &mut Desk,
+    seat: &mut Seat,
+    batch: Result<Batch, AllocError>,
+) -> bool
+    requires { seat.old.seen ≡ record { book = desk.old.book; version = desk.old.desk.last } }
+{
+    let Ok(batch) = batch else {
+        return false;
+    };
+    match desk.apply(rt, &PassAll, batch) {
+        Ok(receipt) => seat.learn(&receipt).is_ok(),
+        Err(_) => false,
+    }
+}
+
+/// A session of the seat of that number, whether it was refused at first, and the seat's pin then. Where it is refused, it is
+/// tried once more.
+fn held(
+    desk: &Desk,
+    board: &mut Board,
+    seat: Seat,
+    number: SeatNo,
+) -> Option<(Session, bool, Option<Pin>)> {
+    let before = board.pin_of(number);
+    match lent(desk, board, seat) {
+        Ok(session) => Some((session, false, before)),
+        Err(seat) => {
+            let left = board.pin_of(number);
+            match lent(desk, board, seat) {
+                Ok(session) => Some((session, true, left)),
+                Err(_) => None,
+            }
+        }
+    }
+}
+
+/// A session of the seat of that number, which lets its version go again.
+fn held_and_released(desk: &Desk, board: &mut Board, seat: Seat, number: SeatNo) -> Option<Sights> {
+    let (session, refused, before) = held(desk, board, seat, number)?;
+    let entered = number_held(&session);
+    let held = board.pin_of(number);
+    let _seat = let_go(session, board);
+    Some(Sights {
+        refused,
+        before,
+        number: entered,
+        held,
+        after: board.pin_of(number),
+    })
+}
+
+/// A session of the second of two seats over a new store, after one batch that the seat learnt of.
+fn over_a_new_store<R: Threads + Wait + Sync>(rt: &R, alloc: Global) -> Option<Sights> {
+    let Opened {
+        mut desk,
+        mut board,
+        first: _,
+        mut second,
+    } = new_store(rt, alloc, 1, 16)?;
+    let batch = batch_of(alloc, &[("i", "a", "b", 1, 1)]);
+    if learns_of(rt, &mut desk, &mut second, batch) {
+        held_and_released(&desk, &mut board, second, SeatNo::new(1)?)
+    } else {
+        None
+    }
+}
+
+const LENT: Sights = Sights {
+    refused: false,
+    before: None,
+    number: 1,
+    held: Some(Pin {
+        number: 1,
+        is_settled: true,
+    }),
+    after: None,
+};
+
+#[test]
+fn lends_the_last_version(rt: HostRuntime) {
+    assert_eq!(rt; over_a_new_store(&rt, rt.alloc()), Some(LENT));
+}
+
+#[test]
+fn refused_sessions_set_no_pin(rt: HostRuntime) {
+    match over_a_new_store(&rt, rt.alloc()) {
+        Some(sights) => {
+            if sights.refused {
+                tell_refused(&rt);
+            }
+            let refused = sights.refused;
+            assert_eq!(rt; sights, Sights { refused, ..LENT });
+        }
+        // The store wasn't opened, or the batch wasn't applied or learnt.
+        None => tell_refused(&rt),
+    }
+}
+
+/// Applies a batch that inserts an edge from a.
+fn applies_an_edge<R: Threads + Wait + Sync>(
+    rt: &R,
+    alloc: Global,
+    desk: &mut Desk,
+    target: &'static str,
+) -> bool {
+    is_applied(rt, desk, batch_of(alloc, &[("i", "a", target, 1, 1)]))
+}
+
+/// The number of a session's version after one batch; the floor raised to 1, and to 2 after a second batch, and then again once
+/// the session let its version go. Nothing where it is refused.
+fn floors_beside<R: Threads + Wait + Sync>(
+    rt: &R,
+    alloc: Global,
+    desk: &mut Desk,
+    board: &mut Board,
+    seat: Seat,
+) -> Option<[u64; 4]> {
+    match lent(desk, board, seat) {
+        Ok(session) => {
+            let low = board.raise(1);
+            let second = applies_an_edge(rt, alloc, desk, "c");
+            let held = board.raise(2);
+            let number = number_held(&session);
+            let _seat = let_go(session, board);
+            if second {
+                Some([number, low, held, board.raise(2)])
+            } else {
+                None
+            }
+        }
+        Err(_) => None,
+    }
+}
+
+fn floors<R: Threads + Wait + Sync>(rt: &R, alloc: Global) -> Option<[u64; 4]> {
+    let Opened {
+        mut desk,
+        mut board,
+        first,
+        second: _,
+    } = new_store(rt, alloc, 1, 16)?;
+    if applies_an_edge(rt, alloc, &mut desk, "b") {
+        floors_beside(rt, alloc, &mut desk, &mut board, first)
+    } else {
+        None
+    }
+}
+
+#[test]
+fn keeps_the_floor_at_a_lent_version(rt: HostRuntime) {
+    assert_eq!(rt; floors(&rt, rt.alloc()), Some([1, 1, 1, 2]));
+}
+
+/// The number of the last version of a desk that is closed.
+fn closed<R: Wait>(rt: &R, desk: Desk) -> u64 {
+    desk.close(rt).number()
+}
+
+/// The numbers of the last version of a desk that is closed after a second batch, and of the version that a session holds
+/// meanwhile; nothing where it is refused.
+fn closed_beside<R: Threads + Wait + Sync>(
+    rt: &R,
+    alloc: Global,
+    mut desk: Desk,
+    mut board: Board,
+    seat: Seat,
+) -> Option<[u64; 2]> {
+    match lent(&desk, &mut board, seat) {
+        Ok(session) => {
+            let _second = applies_an_edge(rt, alloc, &mut desk, "c");
+            let last = closed(rt, desk);
+            let held = number_held(&session);
+            let _seat = let_go(session, &mut board);
+            Some([last, held])
+        }
+        Err(_) => None,
+    }
+}
+
+fn closed_over_a_session<R: Threads + Wait + Sync>(rt: &R, alloc: Global) -> Option<[u64; 2]> {
+    let Opened {
+        mut desk,
+        board,
+        first,
+        second: _,
+    } = new_store(rt, alloc, 1, 16)?;
+    if applies_an_edge(rt, alloc, &mut desk, "b") {
+        closed_beside(rt, alloc, desk, board, first)
+    } else {
+        None
+    }
+}
+
+#[test]
+fn a_closed_desk_leaves_a_session_its_version(rt: HostRuntime) {
+    assert_eq!(rt; closed_over_a_session(&rt, rt.alloc()), Some([2, 1]));
+}
