@@ -14,9 +14,6 @@ mod tables;
 mod words;
 
 pub use laws::law_one_text;
-pub use program::{refuse_arguments, stinger};
+pub use program::{law_arguments, law_options, refuse_arguments, stinger};
 pub use script::{ServeFault, Summary, serve};
 pub use stream_store::{BadConfig, Config};
-
-#[cfg(test)]
-mod tests;

@@ -179,7 +179,7 @@ pub fn refuse_arguments<F: Write>(faults: &mut F) -> u8
 
 /// What arguments ask for, at lists that are written out; that without options it is what our own words say; and that a
 /// script is served with sizes within their limits alone.
-pub(crate) fn law_arguments()
+pub fn law_arguments()
     ensures serve { EachAsks (Asked.Serve default_sizes) ((codes "run" ∷ []) ∷ (codes "run" ∷ codes "--" ∷ []) ∷ []) }
     ensures help { EachAsks Asked.Help ((codes "--help" ∷ []) ∷ (codes "-h" ∷ []) ∷ (codes "help" ∷ [])
         ∷ (codes "help" ∷ codes "run" ∷ []) ∷ (codes "run" ∷ codes "--help" ∷ []) ∷ (codes "run" ∷ codes "-h" ∷ []) ∷ []) }
@@ -193,7 +193,7 @@ pub(crate) fn law_arguments()
 
 /// What the options of `run` ask for: each by itself, in both its forms and at both its limits, all three in any order,
 /// and the mistakes: a number past a limit, no number, no value, an option twice, a value too many.
-pub(crate) fn law_options()
+pub fn law_options()
     ensures workers { EachServes 1 16384 2 (codes "run --workers 1" ∷ codes "run --workers=1" ∷ codes "run --workers 01 --"
         ∷ []) }
     ensures most_workers { EachServes 8 16384 2 (codes "run --workers 8" ∷ codes "run --workers=8" ∷ []) }

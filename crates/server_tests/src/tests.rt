@@ -5,10 +5,10 @@ mod faults;
 mod growths;
 mod scripts;
 
-use crate::{Config, ServeFault, Summary, serve, stinger};
 use std::io;
 use std::io::{ErrorKind, Read, Write};
 use std::process::Abort;
+use stinger_server::Config;
 
 const FIRST: &str = "\
 i,knows,ann,bob,5,10

@@ -1,10 +1,10 @@
 // Readers and writers that fail.
 
 use super::{FIRST, FIRST_TEXT, FakeWriter, REFUSED, REFUSED_TEXT, TornReader, is_cut, two_seats};
-use crate::{ServeFault, serve};
 use std::process::Abort;
 use std::sync::Wait;
 use std::thread::Threads;
+use stinger_server::{ServeFault, serve};
 
 // A run of the script into a writer of each smaller size writes that many bytes of the text and tells `Write`, and
 // calls the writer no more.

@@ -3,10 +3,10 @@
 use super::{
     ANALYSES, ANALYSES_TEXT, FIRST, FIRST_TEXT, FakeWriter, REFUSED, REFUSED_TEXT, two_seats,
 };
-use crate::{Config, Summary, law_one_text, serve, stinger};
 use std::process::Abort;
 use std::sync::Wait;
 use std::thread::Threads;
+use stinger_server::{Config, Summary, law_one_text, serve, stinger};
 
 #[test]
 fn takes_a_script_to_its_lines(rt: HostRuntime) {

@@ -1,11 +1,10 @@
 // What the program does at its arguments.
 
 use super::{FakeWriter, begins};
-use crate::program::{law_arguments, law_options};
-use crate::{refuse_arguments, stinger};
 use std::process::Abort;
 use std::sync::Wait;
 use std::thread::Threads;
+use stinger_server::{law_arguments, law_options, refuse_arguments, stinger};
 
 // The program at the arguments, over a script of one bad record, ends with the status: these are the beginnings of
 // what stands on its output and on its faults, and where there is none, nothing stands there.

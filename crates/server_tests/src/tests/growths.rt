@@ -5,7 +5,7 @@ use super::{
     FIRST, FIRST_ENDS, FIRST_TEXT, FakeWriter, TABLES, TABLES_ENDS, TABLES_TEXT, begins, is_cut,
     is_cut_of, two_seats,
 };
-use crate::{ServeFault, serve, stinger};
+use stinger_server::{ServeFault, serve, stinger};
 
 // Whether a run of `FIRST` was ended by a refused growth.
 fn is_cut_by_memory(output: &[u8]) -> bool {
