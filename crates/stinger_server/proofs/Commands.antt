@@ -8,7 +8,6 @@ use Rattle.stream_store.specs.Seats.{SessionView, held_version}
 use Rattle.stinger_server.specs.Lines.{close_line, open_line}
 use Rattle.stinger_server.specs.Slots.{held_number}
 use Rattle.stinger_server.specs.States.{IsDone, State, version_in}
-use Rattle.stinger_server.specs.declared.words.Word.{Word}
 use Rattle.stinger_server.specs.declared.words.Word.TheVariants.{AlreadyOpen, NotOpen}
 
 not_open : (held : Option (Option ℕ)) → version_in held ≡ Err NotOpen → held ≡ Some None

@@ -1,26 +1,23 @@
 -- A desk that shows a state: what batches, collections and counts come to.
 use Rattle.std.proofs.Common.{◌≡◌, ◌≢◌, ℕ, zero, suc, ◌+◌, ◌-◌, ◌<◌, ◌≤◌, Bool, true, false, cond, ◌&&◌, List, [], ◌∷◌, ◌++◌}
-use Rattle.std.proofs.Common.{length, map}
-use Rattle.std.proofs.Common.{count_by, filter, replicate, refl, sym, ap, subst, ◌∙◌, arith}
-use Rattle.std.specs.Prelude.{Option, None, Some, Ok, Err, nat_le, nat_lt, if◌then◌else◌}
+use Rattle.std.proofs.Common.{length}
+use Rattle.std.proofs.Common.{count_by, filter, replicate, refl, sym, ap, ◌∙◌, arith}
+use Rattle.std.specs.Prelude.{None, Some, Ok, Err, nat_le, nat_lt, if◌then◌else◌}
 use Rattle.std.specs.FinMap.{len}
 use Rattle.std.proofs.lemmas.Bool.Decides.{nat_tests}
 use Rattle.std.proofs.lemmas.List.{length-append}
-use Rattle.std.proofs.lemmas.List.Sums.{length-filter}
 use Rattle.batch_apply.proofs.Kept.{count_append}
 use Rattle.block_layout.specs.Batches.{dropped_by, layout_after, taken_by}
 use Rattle.block_pool.specs.Pools.{Status, Free, Used, Retired, is_free, is_past, is_retired, is_used}
 use Rattle.block_pool.proofs.Tallies.{count_more, count_true}
 use Rattle.feed_csv.specs.declared.command.Command.TheVariants.{Collect, Commit, Stat}
-use Rattle.graph_model.specs.Graph.{Graph}
-use Rattle.graph_model.specs.GraphLimits.{MeetsKindLimit, MeetsNameLimit}
 use Rattle.graph_model.specs.Limits.{batch_limit, kind_limit, name_limit}
 use Rattle.graph_model.specs.Step.{after_all, left_by, outcomes}
 use Rattle.graph_model.specs.declared.batches.NamedOp.{NamedOp}
 use Rattle.graph_model.specs.declared.batches.Outcome.{Outcome}
 use Rattle.graph_version.specs.Kept.{edge_total}
 use Rattle.graph_version.specs.Versions.{content, layout_of}
-use Rattle.store_journal.specs.Desks.{DeskView, IsAccepted, IsCollected, AcceptedCounts, CollectedCounts, is_retired_by}
+use Rattle.store_journal.specs.Desks.{DeskView, IsCollected, AcceptedCounts, CollectedCounts, is_retired_by}
 use Rattle.store_journal.specs.Opening.{opened_desk}
 use Rattle.store_journal.specs.Steps.{Accepts}
 use Rattle.store_journal.proofs.StatusCounts.{accepted_counts, collected_counts}

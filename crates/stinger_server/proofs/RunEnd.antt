@@ -1,7 +1,7 @@
 -- Why a run ends as it does.
-use Rattle.std.proofs.Common.{◌≡◌, ℕ, ◌+◌, ◌-◌, List, length, ◌∙◌, ap, subst, sym, arith, inl}
+use Rattle.std.proofs.Common.{◌≡◌, ℕ, ◌+◌, List, length, ◌∙◌, ap, subst, sym, arith, inl}
 use Rattle.std.specs.Prelude.{Bool, false, Option, Some, Result, Ok, Err, IfErr, IfOk, is_err}
-use Rattle.feed_csv.specs.Script.{NextStep, Script, TakesRow}
+use Rattle.feed_csv.specs.Script.{NextStep, Script}
 use Rattle.feed_csv.specs.declared.command.Command.{Command}
 use Rattle.stinger_server.specs.declared.script.Run.{Run}
 use Rattle.stinger_server.specs.declared.script.ServeFault.{ServeFault}

@@ -1,5 +1,5 @@
 -- Slots: each has a seat, or a session on a version that the desk lent.
-use Rattle.std.specs.Prelude.{◌≡◌, ℕ, ◌<◌, ◌≤◌, List, length, map, take, slice_get, slice_index_or, slice_set, Option, None, Some}
+use Rattle.std.specs.Prelude.{◌≡◌, ℕ, ◌<◌, ◌≤◌, List, length, map, take, slice_index_or, Option, None, Some}
 use Rattle.std.specs.Option.{option_map}
 use Rattle.graph_version.specs.Versions.{VersionView, IsVersion}
 use Rattle.seat_board.specs.Board.{BoardState, pin_at}

@@ -1,5 +1,4 @@
-use Rattle.std.proofs.Common.{rules, ◌≡◌, arith, inl}
-use Rattle.std.specs.Prelude.{Err}
+use Rattle.std.proofs.Common.{rules, arith, inl}
 use Rattle.std.proofs.lemmas.Grind.{common_steps}
 use Rattle.stinger_server.proofs.RunEnd.{turn_broken}
 use Rattle.stinger_server.proofs.OneRecord.{breaks_refused, fault_row, refused}

@@ -1,5 +1,4 @@
 use Rattle.std.proofs.Common.{rules, ◌≡◌, length}
-use Rattle.seat_board.specs.Board.{IsLeast}
 use Rattle.stinger_server.proofs.SlotLaws.{floor_is}
 use Rattle.stinger_server.proofs.slots.Slots.floor.Goals as goal
 
