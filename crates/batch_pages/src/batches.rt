@@ -69,10 +69,19 @@ impl BatchPage {
 }
 
 /// Batches in order, in pages of 256 that copies share.
-#[derive(Drop)]
 pub struct BatchList {
     len: usize,
     pages: Vec<Arc<BatchPage>>,
+}
+
+// Written by hand: who lets one go rests on this function, and not on how each part is let go.
+impl Drop for BatchList {
+    fn drop(self) {
+        let BatchList {
+            len: _len,
+            pages: _pages,
+        } = self;
+    }
 }
 
 impl Model for BatchList {

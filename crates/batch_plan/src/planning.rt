@@ -40,6 +40,8 @@ pub fn plan(
     let mut kinds = version.kinds().share()?;
     let ops = resolve_batch(alloc, &mut names, &mut kinds, batch.ops())?;
     let shards = shards_for(alloc, workers, ops.as_slice())?;
+    // (a book is within its limit)
+    let _within = (names.len(), kinds.len());
     Ok(Plan {
         names,
         kinds,

@@ -17,12 +17,23 @@ use std::sync::Arc;
 use thiserror::Error;
 
 /// A pool of blocks, seen as one status for each number: free, used (granted, or in a version), or retired.
-#[derive(Debug, Drop)]
+#[derive(Debug)]
 pub struct Pool {
     alloc: Global,
     numbers: Numbers,
     /// The blocks that stand in the pool; `None` where one was granted, or was given up and is made anew at a grant.
     bodies: Vec<Option<Arc<Block>>>,
+}
+
+// Written by hand: who lets one go rests on this function, and not on how each part is let go.
+impl Drop for Pool {
+    fn drop(self) {
+        let Pool {
+            alloc: _alloc,
+            numbers: _numbers,
+            bodies: _bodies,
+        } = self;
+    }
 }
 
 impl Model for Pool {

@@ -113,9 +113,16 @@ pub enum PushError {
 }
 
 /// A list of at most 4,096 valid operations, which stand for themselves one after another in order.
-#[derive(Debug, Drop)]
+#[derive(Debug)]
 pub struct Batch {
     ops: Vec<NamedOp>,
+}
+
+// Written by hand: who lets one go rests on this function, and not on how each part is let go.
+impl Drop for Batch {
+    fn drop(self) {
+        let Batch { ops: _ops } = self;
+    }
 }
 
 impl Model for Batch {

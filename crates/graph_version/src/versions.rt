@@ -31,13 +31,25 @@ const KINDS: u32 = 64;
 ///
 /// A version's rows, batches and names are shared with the versions before and after it but where a batch changed
 /// them. It is dropped in time linear in what it alone holds.
-#[derive(Drop)]
 pub struct Version {
     pub(crate) names: NameBook,
     pub(crate) kinds: NameBook,
     pub(crate) batches: BatchList,
     pub(crate) rows: Rows,
     pub(crate) edges: u64,
+}
+
+// Written by hand: who lets one go rests on this function, and not on how each part is let go.
+impl Drop for Version {
+    fn drop(self) {
+        let Version {
+            names: _names,
+            kinds: _kinds,
+            batches: _batches,
+            rows: _rows,
+            edges: _edges,
+        } = self;
+    }
 }
 
 impl Model for Version {

@@ -17,9 +17,15 @@ use std::sync::Arc;
 const PAGE: usize = 64;
 
 /// The rows of all sources, in pages that versions share. They never change; a change makes new ones.
-#[derive(Drop)]
 pub struct Rows {
     pages: Vec<Arc<Page>>,
+}
+
+// Written by hand: who lets one go rests on this function, and not on how each part is let go.
+impl Drop for Rows {
+    fn drop(self) {
+        let Rows { pages: _pages } = self;
+    }
 }
 
 impl Model for Rows {

@@ -30,7 +30,6 @@ use std::thread::Threads;
 use version_shelf::ShelfWriter;
 
 /// The desk of a store: the last version, the pool, the journal, and the shelf's writer.
-#[derive(Drop)]
 pub struct Desk {
     alloc: Global,
     workers: usize,
@@ -38,6 +37,20 @@ pub struct Desk {
     pool: Pool,
     journal: Vec<JournalEntry>,
     shelf: ShelfWriter,
+}
+
+// Written by hand: who lets one go rests on this function, and not on how each part is let go.
+impl Drop for Desk {
+    fn drop(self) {
+        let Desk {
+            alloc: _alloc,
+            workers: _workers,
+            last: _last,
+            pool: _pool,
+            journal: _journal,
+            shelf: _shelf,
+        } = self;
+    }
 }
 
 impl Model for Desk {
@@ -190,7 +203,14 @@ impl Desk {
     pub fn close<R: Wait>(self, rt: &R) -> Arc<Version>
         ensures { arc_value {X = Version} result ≡ self.desk.last }
     {
-        let Desk { last, shelf, .. } = self;
+        let Desk {
+            alloc: _alloc,
+            workers: _workers,
+            last,
+            pool: _pool,
+            journal: _journal,
+            shelf,
+        } = self;
         let _shown = shelf.close(rt);
         last
     }

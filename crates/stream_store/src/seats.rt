@@ -23,10 +23,19 @@ use version_answers::{NumberedReply, answer, answer_in_numbers};
 use version_shelf::ShelfReader;
 
 /// One reader's place, without a session: its number on the board, and its reader of the shelf.
-#[derive(Drop)]
 pub struct Seat {
     number: SeatNo,
     reader: ShelfReader,
+}
+
+// Written by hand: who lets one go rests on this function, and not on how each part is let go.
+impl Drop for Seat {
+    fn drop(self) {
+        let Seat {
+            number: _number,
+            reader: _reader,
+        } = self;
+    }
 }
 
 impl Model for Seat {
@@ -42,10 +51,19 @@ impl Model for Seat {
 }
 
 /// A seat of a store whose pin is set, and which hasn't entered a version since. Where it is dropped, the pin stays.
-#[derive(Drop)]
 pub struct PinnedSeat {
     number: SeatNo,
     reader: ShelfReader,
+}
+
+// Written by hand: who lets one go rests on this function, and not on how each part is let go.
+impl Drop for PinnedSeat {
+    fn drop(self) {
+        let PinnedSeat {
+            number: _number,
+            reader: _reader,
+        } = self;
+    }
 }
 
 impl Model for PinnedSeat {
@@ -61,12 +79,22 @@ impl Model for PinnedSeat {
 }
 
 /// A seat that holds a version. Where it is dropped, the seat's pin stays.
-#[derive(Drop)]
 pub struct Session {
     number: SeatNo,
     reader: ShelfReader,
     /// The version, where the desk lent it; else it is the newest that the reader saw.
     lent: Option<Arc<Version>>,
+}
+
+// Written by hand: who lets one go rests on this function, and not on how each part is let go.
+impl Drop for Session {
+    fn drop(self) {
+        let Session {
+            number: _number,
+            reader: _reader,
+            lent: _lent,
+        } = self;
+    }
 }
 
 impl Model for Session {

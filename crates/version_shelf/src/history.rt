@@ -57,16 +57,31 @@ impl Plain<Batch, Batch, u64> for AddBatch {
 }
 
 /// The length of the history, which its writer owns.
-#[derive(Drop)]
 pub struct HistoryEnd {
     pub(crate) word: Word<Batch, u64, HistoryRule>,
 }
 
+// Written by hand: who lets one go rests on this function, and not on how each part is let go.
+impl Drop for HistoryEnd {
+    fn drop(self) {
+        let HistoryEnd { word: _word } = self;
+    }
+}
+
 /// A beginning of the history. Contracts see it as its batches, and which history it is.
-#[derive(Drop)]
 pub struct History {
     count: u64,
     seen: Seen<Batch, u64, HistoryRule>,
+}
+
+// Written by hand: who lets one go rests on this function, and not on how each part is let go.
+impl Drop for History {
+    fn drop(self) {
+        let History {
+            count: _count,
+            seen: _seen,
+        } = self;
+    }
 }
 
 impl Model for History {

@@ -16,11 +16,21 @@ use std::sync::Arc;
 
 /// A reader of the shelf. It keeps the newest version that it entered or learnt, at first the one at the opening, and
 /// contracts see it as what was told of that version.
-#[derive(Drop)]
 pub struct ShelfReader {
     pub(crate) alloc: Global,
     pub(crate) place: ReaderPlace,
     pub(crate) newest: Told,
+}
+
+// Written by hand: who lets one go rests on this function, and not on how each part is let go.
+impl Drop for ShelfReader {
+    fn drop(self) {
+        let ShelfReader {
+            alloc: _alloc,
+            place: _place,
+            newest: _newest,
+        } = self;
+    }
 }
 
 impl Model for ShelfReader {

@@ -46,7 +46,6 @@ impl<T: Drop> From<AllocFailed<T>> for AddError {
 ///
 /// A look-up takes no memory: one hash, one probe, and one comparison of texts. A new name takes one copy of its text,
 /// and after a `share` a copy of the last 256 texts at most and of one part in 64 of the index.
-#[derive(Drop)]
 pub struct NameBook {
     limit: u32,
     alloc: Global,
@@ -68,6 +67,20 @@ impl Model for NameBook {
 
     ghost invariant = { λ book. IsBook (record { limit = book.limit; names = book.texts })
         × IsIndexed book.texts book.index book.others.items };
+}
+
+// Written by hand: who lets one go rests on this function, and not on how each part is let go.
+impl Drop for NameBook {
+    fn drop(self) {
+        let NameBook {
+            limit: _limit,
+            alloc: _alloc,
+            texts: _texts,
+            index: _index,
+            others: _others,
+            last: _last,
+        } = self;
+    }
 }
 
 impl NameBook {
