@@ -212,6 +212,3 @@ impl<'a> Iterator for BatchIter<'a> {
         Some(batch)
     }
 }
-
-#[cfg(test)]
-mod tests;

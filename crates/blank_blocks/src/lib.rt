@@ -57,6 +57,3 @@ pub fn fresh_blocks(alloc: Global, version: &Version, count: usize) -> Option<Ve
     };
     Some(blocks)
 }
-
-#[cfg(test)]
-mod tests;

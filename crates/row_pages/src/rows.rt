@@ -129,6 +129,3 @@ fn put_row(
     add_pages(alloc, pages, source / PAGE + 1)?;
     Arc::make_mut(&mut pages[source / PAGE])?.put(source % PAGE, row)
 }
-
-#[cfg(test)]
-mod tests;

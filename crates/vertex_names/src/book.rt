@@ -222,6 +222,3 @@ fn enter(
         }
     }
 }
-
-#[cfg(test)]
-mod tests;

@@ -1,6 +1,12 @@
-use super::*;
+// Rows of sources.
+
+use edge_block::Block;
+use graph_model::VertexId;
+use row_pages::Rows;
+use std::alloc::{AllocError, Global};
 use std::io::Print;
 use std::process::Abort;
+use std::sync::Arc;
 use std::test::Fail;
 
 // So many blank blocks, numbered from the first.
@@ -13,8 +19,13 @@ fn blocks_from(alloc: Global, first: u32, count: u32) -> Result<Vec<Arc<Block>>,
 }
 
 // The same rows, but for the row of a source, which has so many blocks, numbered from the first.
-fn replaced(rows: &Rows, source: u32, first: u32, count: u32) -> Result<Rows, AllocError> {
-    let alloc = *rows.pages.allocator();
+fn replaced(
+    alloc: Global,
+    rows: &Rows,
+    source: u32,
+    first: u32,
+    count: u32,
+) -> Result<Rows, AllocError> {
     let shared = rows.share()?;
     shared.replace_row(VertexId(source), blocks_from(alloc, first, count)?)
 }
@@ -43,20 +54,20 @@ fn check_change(rt: &impl Abort, before: &Rows, after: &Rows, source: u32) {
     );
 }
 
-fn check_source(rt: &impl Abort, before: &Rows, source: u32) -> Result<(), Fail> {
+fn check_source(rt: &impl Abort, alloc: Global, before: &Rows, source: u32) -> Result<(), Fail> {
     check_change(
         rt,
         before,
-        &replaced(before, source.saturating_add(1), 6, 2)?,
+        &replaced(alloc, before, source.saturating_add(1), 6, 2)?,
         source,
     );
     Ok(())
 }
 
 // A row can be replaced again, and by an empty one.
-fn check_again(rt: &impl Abort, before: &Rows) -> Result<(), Fail> {
-    assert_row(rt, &replaced(before, 7, 9, 3)?, 7, 9, 3);
-    assert_row(rt, &replaced(before, 7, 9, 0)?, 7, 9, 0);
+fn check_again(rt: &impl Abort, alloc: Global, before: &Rows) -> Result<(), Fail> {
+    assert_row(rt, &replaced(alloc, before, 7, 9, 3)?, 7, 9, 3);
+    assert_row(rt, &replaced(alloc, before, 7, 9, 0)?, 7, 9, 0);
     assert_row(rt, before, 7, 5, 1);
     Ok(())
 }
@@ -66,7 +77,8 @@ fn changes_one_row_at_the_ends_of_parts_and_pages(rt: HostRuntime) -> Result<(),
     for source in [0, 7, 8, 63, 64, 65, 4096] {
         check_source(
             &rt,
-            &replaced(&Rows::new(rt.alloc()), source, 5, 1)?,
+            rt.alloc(),
+            &replaced(rt.alloc(), &Rows::new(rt.alloc()), source, 5, 1)?,
             source,
         )?;
     }
@@ -75,22 +87,26 @@ fn changes_one_row_at_the_ends_of_parts_and_pages(rt: HostRuntime) -> Result<(),
 
 #[test]
 fn replaces_a_row_again(rt: HostRuntime) -> Result<(), Fail> {
-    check_again(&rt, &replaced(&Rows::new(rt.alloc()), 7, 5, 1)?)
+    check_again(
+        &rt,
+        rt.alloc(),
+        &replaced(rt.alloc(), &Rows::new(rt.alloc()), 7, 5, 1)?,
+    )
 }
 
 // Where a growth is refused, the rows that were shared before are as they were.
 #[test]
 fn refused_changes_leave_other_rows(rt: HostRuntime) {
-    let Ok(before) = replaced(&Rows::new(rt.alloc()), 64, 5, 1) else {
+    let Ok(before) = replaced(rt.alloc(), &Rows::new(rt.alloc()), 64, 5, 1) else {
         let _ = println!(rt; "refused");
         return;
     };
-    let mut after = replaced(&before, 65, 6, 2);
+    let mut after = replaced(rt.alloc(), &before, 65, 6, 2);
     if after.is_err() {
         let _ = println!(rt; "refused");
         assert_row(&rt, &before, 64, 5, 1);
         assert_row(&rt, &before, 65, 0, 0);
-        after = replaced(&before, 65, 6, 2);
+        after = replaced(rt.alloc(), &before, 65, 6, 2);
     }
     match after {
         Ok(after) => check_change(&rt, &before, &after, 64),

@@ -1,7 +1,11 @@
-use super::*;
+// Books of names.
+
 use graph_model::is_name;
+use std::alloc::Global;
+use std::io::Print;
 use std::process::Abort;
 use std::test::Fail;
+use vertex_names::{AddError, NameBook};
 
 // What `add` answers, at a text that is a name.
 fn add(rt: &impl Abort, book: &mut NameBook, name: &str) -> Result<u32, AddError> {

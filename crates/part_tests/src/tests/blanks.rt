@@ -1,4 +1,6 @@
-use crate::fresh_blocks;
+// Blank blocks for a version.
+
+use blank_blocks::fresh_blocks;
 use graph_version::Version;
 
 /// Over a version without blocks they are numbered from 0, and empty; or memory was refused.

@@ -1,7 +1,11 @@
-use super::*;
-use graph_model::{Name, NamedOp};
+// Lists of batches.
+
+use batch_pages::BatchList;
+use graph_model::{Batch, Name, NamedOp};
+use std::alloc::{AllocError, Global};
 use std::io::Print;
 use std::process::Abort;
+use std::sync::Arc;
 use std::test::Fail;
 
 fn name(alloc: Global, text: &str) -> Result<Name, AllocError> {
@@ -31,8 +35,7 @@ fn batch(alloc: Global, time: u64) -> Result<Arc<Batch>, AllocError> {
 }
 
 // Adds batches of the times up to this one.
-fn fill(list: &mut BatchList, times: u64) -> Result<(), AllocError> {
-    let alloc = *list.pages.allocator();
+fn fill(alloc: Global, list: &mut BatchList, times: u64) -> Result<(), AllocError> {
     for time in 0..times {
         if list.len() < 1000 {
             list.push(batch(alloc, time)?)?;
@@ -67,9 +70,8 @@ fn check_list(rt: &impl Abort, list: &BatchList, times: usize) {
 }
 
 // One batch more in a list that shares the pages; the list before is as it was.
-fn check_next(rt: &impl Abort, list: &BatchList, times: usize) -> Result<(), Fail> {
+fn check_next(rt: &impl Abort, alloc: Global, list: &BatchList, times: usize) -> Result<(), Fail> {
     let mut next = list.share()?;
-    let alloc = *list.pages.allocator();
     if next.len() < 1000 {
         next.push(batch(alloc, times as u64)?)?;
     }
@@ -81,8 +83,8 @@ fn check_next(rt: &impl Abort, list: &BatchList, times: usize) -> Result<(), Fai
 
 fn check_size(rt: &impl Abort, alloc: Global, times: u64) -> Result<(), Fail> {
     let mut list = BatchList::new(alloc);
-    fill(&mut list, times)?;
-    check_next(rt, &list, times as usize)
+    fill(alloc, &mut list, times)?;
+    check_next(rt, alloc, &list, times as usize)
 }
 
 #[test]
@@ -103,7 +105,7 @@ fn is_added(list: &mut BatchList, batch: Arc<Batch>) -> bool {
 #[test]
 fn refused_pushes_leave_the_list(rt: HostRuntime) {
     let mut list = BatchList::new(rt.alloc());
-    let (Ok(()), Ok(added)) = (fill(&mut list, 2), batch(rt.alloc(), 2)) else {
+    let (Ok(()), Ok(added)) = (fill(rt.alloc(), &mut list, 2), batch(rt.alloc(), 2)) else {
         let _ = println!(rt; "refused");
         return;
     };

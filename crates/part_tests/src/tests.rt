@@ -1,0 +1,7 @@
+// A module for each crate whose calls are tested.
+
+mod batches;
+mod blanks;
+mod names;
+mod rows;
+mod seats;
