@@ -28,11 +28,11 @@ pub(super) struct Tables {
     degrees: &'static [(u32, u32, i64)],
 }
 
-/// A batch, and tables of what it leaves of the version without batches.
+// A batch, and tables of what it leaves of the version without batches.
 #[derive(Clone, Copy)]
-pub(super) struct Case {
-    pub(super) line: &'static str,
-    pub(super) tables: Tables,
+struct Case {
+    line: &'static str,
+    tables: Tables,
 }
 
 // Whether the levels are those; nothing where memory is refused.
@@ -112,8 +112,8 @@ fn has_plain_tables(alloc: Global, content: &Content, wanted: &Tables) -> Option
     )
 }
 
-/// The version after a line of operations, by two workers.
-pub(super) fn after<R: Threads + Sync + Abort>(
+// The version after a line of operations, by two workers.
+fn after<R: Threads + Sync + Abort>(
     rt: &R,
     alloc: Global,
     version: &Version,
@@ -123,6 +123,11 @@ pub(super) fn after<R: Threads + Sync + Abort>(
     applied(rt, alloc, 2, version, batch)
         .expect(rt, "the next version")
         .version
+}
+
+/// As `after`, of the version without batches.
+pub(super) fn first<R: Threads + Sync + Abort>(rt: &R, alloc: Global, line: &str) -> Version {
+    after(rt, alloc, &Version::empty(alloc), line)
 }
 
 /// The content that a line of operations leaves of the one without names and edges.
@@ -135,14 +140,13 @@ pub(super) fn content_after(rt: &impl Abort, alloc: Global, line: &str) -> Conte
     content
 }
 
+fn check_tables(rt: &impl Abort, alloc: Global, version: &Version, wanted: &Tables, line: &str) {
+    assert_eq!(rt; has_tables(alloc, version, wanted), Some(true), "{line}");
+}
+
 fn check_case<R: Threads + Sync + Abort>(rt: &R, alloc: Global, case: &Case) {
-    let version = after(rt, alloc, &Version::empty(alloc), case.line);
-    assert_eq!(rt;
-        has_tables(alloc, &version, &case.tables),
-        Some(true),
-        "{}",
-        case.line
-    );
+    let version = first(rt, alloc, case.line);
+    check_tables(rt, alloc, &version, &case.tables, case.line);
 }
 
 fn check_plain_case(rt: &impl Abort, alloc: Global, case: &Case) {
@@ -166,16 +170,20 @@ const TRIANGLE: &str = "i,k,a,b,1,1 i,k,b,c,1,1 i,k,c,a,1,1 i,k,c,d,1,1";
 
 const TWO_KINDS: &str = "i,k,a,a,1,1 i,k,a,b,1,1 i,m,a,b,1,1";
 
-pub(super) const PATH: Case = Case {
-    line: "i,k,a,b,5,10 i,k,b,c,2,11",
-    tables: Tables {
-        view: EVERY,
-        source: VertexId(0),
-        levels: &[Some(0), Some(1), Some(2)],
-        labels: &[0, 0, 0],
-        cores: &[1, 1, 1],
-        degrees: &[(1, 0, 5), (1, 1, 2), (0, 1, 0)],
-    },
+pub(super) const PATH_LINE: &str = "i,k,a,b,5,10 i,k,b,c,2,11";
+
+pub(super) const PATH_TABLES: Tables = Tables {
+    view: EVERY,
+    source: VertexId(0),
+    levels: &[Some(0), Some(1), Some(2)],
+    labels: &[0, 0, 0],
+    cores: &[1, 1, 1],
+    degrees: &[(1, 0, 5), (1, 1, 2), (0, 1, 0)],
+};
+
+const PATH: Case = Case {
+    line: PATH_LINE,
+    tables: PATH_TABLES,
 };
 
 // From the end of the tail no edge leads on; labels and core numbers don't ask for the direction.
@@ -277,10 +285,14 @@ fn plain_tables_are_the_same(rt: HostRuntime) {
     }
 }
 
+fn refusal(alloc: Global, version: &Version, source: VertexId) -> Option<LevelError> {
+    levels(alloc, version, source, &EVERY).err()
+}
+
 #[test]
 fn no_levels_from_a_number_that_is_no_vertex(rt: HostRuntime) {
-    let version = after(&rt, rt.alloc(), &Version::empty(rt.alloc()), PATH.line);
-    let past = levels(rt.alloc(), &version, VertexId(3), &EVERY).err();
+    let version = first(&rt, rt.alloc(), PATH_LINE);
+    let past = refusal(rt.alloc(), &version, VertexId(3));
     assert_eq!(rt; past, Some(LevelError::NoVertex));
 }
 
@@ -294,10 +306,16 @@ const CUT: Tables = Tables {
     degrees: &[(1, 0, 5), (0, 1, 0), (0, 0, 0)],
 };
 
+// Cuts the path in a later version than this.
+fn check_cut<R: Threads + Sync + Abort>(rt: &R, alloc: Global, first: &Version) {
+    let cut = "r,k,b,c";
+    let second = after(rt, alloc, first, cut);
+    check_tables(rt, alloc, &second, &CUT, cut);
+    check_tables(rt, alloc, first, &PATH_TABLES, PATH_LINE);
+}
+
 #[test]
 fn an_earlier_version_answers_as_before(rt: HostRuntime) {
-    let first = after(&rt, rt.alloc(), &Version::empty(rt.alloc()), PATH.line);
-    let second = after(&rt, rt.alloc(), &first, "r,k,b,c");
-    assert_eq!(rt; has_tables(rt.alloc(), &second, &CUT), Some(true));
-    assert_eq!(rt; has_tables(rt.alloc(), &first, &PATH.tables), Some(true));
+    let first = first(&rt, rt.alloc(), PATH_LINE);
+    check_cut(&rt, rt.alloc(), &first);
 }

@@ -2,7 +2,7 @@
 
 ghost use Rattle.graph_model.specs.Graph.{IsContent};
 
-use super::analyses::{after, content_after};
+use super::analyses::{content_after, first};
 use super::ops::batch_of;
 use super::requests::{numbered_text, reply_text, request_of};
 use super::steps::{empty, next};
@@ -52,31 +52,53 @@ fn plainly_told(rt: &impl Abort, alloc: Global, content: &Content, text: &str) -
     answer_text(alloc, plain_reply(alloc, content, &request)).expect(rt, "an answer's text")
 }
 
-// Each line is a request and its answer, over what a batch leaves of the version without batches.
-fn check_answers<R: Threads + Sync + Abort>(rt: &R, alloc: Global, batch: &str, lines: &str) {
-    let version = after(rt, alloc, &Version::empty(alloc), batch);
-    let content = content_after(rt, alloc, batch);
+// A line is a request and its answer.
+fn check_answer(rt: &impl Abort, alloc: Global, version: &Version, line: &str) {
+    let (text, wanted) = line.split_once(" => ").expect(rt, "a request");
+    assert_eq!(rt; told(rt, alloc, version, text).as_str(), wanted, "{line}");
+}
+
+fn check_plain_answer(rt: &impl Abort, alloc: Global, content: &Content, line: &str)
+    requires { IsContent content.now }
+{
+    let (text, wanted) = line.split_once(" => ").expect(rt, "a request");
+    assert_eq!(rt;
+        plainly_told(rt, alloc, content, text).as_str(),
+        wanted,
+        "{line}"
+    );
+}
+
+fn check_each(rt: &impl Abort, alloc: Global, version: &Version, content: &Content, lines: &str)
+    requires { IsContent content.now }
+{
     for line in lines.lines() {
-        let (text, wanted) = line.split_once(" => ").expect(rt, "a request");
-        assert_eq!(rt; told(rt, alloc, &version, text).as_str(), wanted, "{line}");
-        assert_eq!(rt;
-            plainly_told(rt, alloc, &content, text).as_str(),
-            wanted,
-            "{line}"
-        );
+        check_answer(rt, alloc, version, line);
+        check_plain_answer(rt, alloc, content, line);
     }
+}
+
+// The answers of the lines, over what a batch leaves of the version without batches.
+fn check_answers<R: Threads + Sync + Abort>(rt: &R, alloc: Global, batch: &str, lines: &str) {
+    let version = first(rt, alloc, batch);
+    let content = content_after(rt, alloc, batch);
+    check_each(rt, alloc, &version, &content, lines);
+}
+
+fn check_in_numbers(rt: &impl Abort, alloc: Global, version: &Version, line: &str) {
+    let (text, wanted) = line.split_once(" => ").expect(rt, "a request");
+    assert_eq!(rt;
+        told_in_numbers(rt, alloc, version, text).as_str(),
+        wanted,
+        "{line}"
+    );
 }
 
 // The same of answers in numbers.
 fn check_numbers<R: Threads + Sync + Abort>(rt: &R, alloc: Global, batch: &str, lines: &str) {
-    let version = after(rt, alloc, &Version::empty(alloc), batch);
+    let version = first(rt, alloc, batch);
     for line in lines.lines() {
-        let (text, wanted) = line.split_once(" => ").expect(rt, "a request");
-        assert_eq!(rt;
-            told_in_numbers(rt, alloc, &version, text).as_str(),
-            wanted,
-            "{line}"
-        );
+        check_in_numbers(rt, alloc, &version, line);
     }
 }
 

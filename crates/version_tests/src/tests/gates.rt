@@ -3,9 +3,8 @@
 ghost use Rattle.std.specs.Prelude.{◌<◌};
 
 use super::ops::batch_of;
-use super::steps::applied_past;
+use super::steps::first_past;
 use batch_apply::{Applied, Gate};
-use graph_version::Version;
 use std::alloc::Global;
 use std::process::Abort;
 use std::sync::atomic::{AtomicBool, AtomicUsize, Ordering};
@@ -22,8 +21,7 @@ fn passed<R: Threads + Sync + Abort, G: Gate + Sync>(
     requires workers { 0 < workers }
 {
     let batch = batch_of(alloc, line).expect(rt, "operations");
-    let version = Version::empty(alloc);
-    applied_past(rt, alloc, gate, workers, &version, batch).expect(rt, "the next version")
+    first_past(rt, alloc, gate, workers, batch).expect(rt, "the next version")
 }
 
 // How often a worker looks whether the others have come.

@@ -4,13 +4,14 @@ ghost use Rattle.graph_model.specs.Graph.{IsContent};
 
 use super::ops::{LineError, insertion, removal};
 use super::sames::check_same;
-use super::steps::{empty, next};
+use super::steps::{empty, first};
 use batch_plan::{PlanError, plan};
 use graph_model::{Batch, Content};
 use graph_version::Version;
 use plain_graph::{PlainError, plain_apply};
 use std::alloc::Global;
 use std::process::Abort;
+use std::thread::Threads;
 
 // A removal of a kind that is unknown, and an edge of each of so many kinds.
 fn kinds(alloc: Global, count: u32) -> Result<Batch, LineError> {
@@ -51,14 +52,34 @@ fn check_refused(
     check_same(rt, version, content);
 }
 
+// Before any batch.
+fn check_refused_first(rt: &impl Abort, alloc: Global, content: &mut Content, many: &Batch)
+    requires { IsContent content.old }
+    ensures { IsContent content.new }
+{
+    check_refused(rt, alloc, &Version::empty(alloc), content, many);
+}
+
+// After a batch of 64 kinds.
+fn check_refused_next<R: Threads + Sync + Abort>(
+    rt: &R,
+    alloc: Global,
+    content: &mut Content,
+    many: &Batch,
+)
+    requires { IsContent content.old }
+    ensures { IsContent content.new }
+{
+    let batch = kinds(alloc, 64).expect(rt, "kinds");
+    let first = first(rt, alloc, 2, content, batch);
+    assert_eq!(rt; first.version.kinds().len(), 64);
+    check_refused(rt, alloc, &first.version, content, many);
+}
+
 #[test]
 fn refuses_a_kind_too_many(rt: HostRuntime) {
-    let alloc = rt.alloc();
-    let mut content = empty(alloc);
-    let many = kinds(alloc, 66).expect(&rt, "kinds");
-    check_refused(&rt, alloc, &Version::empty(alloc), &mut content, &many);
-    let batch = kinds(alloc, 64).expect(&rt, "kinds");
-    let first = next(&rt, alloc, 2, &Version::empty(alloc), &mut content, batch);
-    assert_eq!(rt; first.version.kinds().len(), 64);
-    check_refused(&rt, alloc, &first.version, &mut content, &many);
+    let mut content = empty(rt.alloc());
+    let many = kinds(rt.alloc(), 66).expect(&rt, "kinds");
+    check_refused_first(&rt, rt.alloc(), &mut content, &many);
+    check_refused_next(&rt, rt.alloc(), &mut content, &many);
 }

@@ -1,11 +1,14 @@
 // A row of 35 blocks under a batch with many operations on it, whose outcomes and blocks are worked by hand. Vertex 1 and
 // vertex 1025 have the same lowest bits.
 
+ghost use Rattle.graph_model.specs.Graph.{IsContent};
+
 use super::ops::batch_of;
 use super::sames::row_text;
-use super::sizes::{grown, star};
+use super::sizes::{first_grown, grown, star};
 use super::steps::{empty, letters, next};
-use graph_model::VertexId;
+use batch_apply::Applied;
+use graph_model::{Content, VertexId};
 use graph_version::Version;
 use std::alloc::Global;
 use std::process::Abort;
@@ -16,31 +19,45 @@ const MIXED: &str =
     i,m,a,v50,1,8 i,k,a,v40,7,11 r,m,a,v50 r,k,a,v100 i,k,a,w1,1,8 a,k,a,w2,4,8 r,k,a,none i,k,a,v1099,1,8 r,m,a,v40 \
     i,m,a,w0,1,8 a,k,a,v0,1,12 r,k,a,v1024 i,k,a,v7,2,8 a,k,a,v1024,2,9";
 
-// The version with one edge from vertex 0 to each of 1,100 others, and then what the operations leave of it.
-fn check_mixed<R: Threads + Sync + Abort>(rt: &R, alloc: Global, workers: usize) {
-    let mut content = empty(alloc);
-    let batch = star(alloc, 1100).expect(rt, "a star");
-    let first = grown(
-        rt,
-        alloc,
-        workers,
-        &Version::empty(alloc),
-        &mut content,
-        batch,
-        (35, 0, 1065),
-    );
-    let batch = batch_of(alloc, MIXED).expect(rt, "operations");
-    let next = next(rt, alloc, workers, &first, &mut content, batch);
+fn check_outcomes(rt: &impl Abort, alloc: Global, next: &Applied) {
     let told = letters(alloc, &next.outcomes).expect(rt, "letters");
     assert_eq!(rt; told.as_str(), "riiuuraiiirriiauriurui");
     assert_eq!(rt;
         (next.taken.len(), next.dropped.len(), next.unused.len()),
         (6, 5, 16)
     );
-    let row = row_text(alloc, &next.version, VertexId(0)).expect(rt, "a row");
+}
+
+fn check_row(rt: &impl Abort, alloc: Global, version: &Version) {
+    let row = row_text(alloc, version, VertexId(0)).expect(rt, "a row");
     assert!(rt; row.as_str().starts_with(" 0:1101,2,3,"));
     assert!(rt; row.as_str().contains(",100,1102,102,"));
     assert!(rt; row.as_str().ends_with(",1100,1,1103, 1:1101,"));
+}
+
+// What the operations leave of a version.
+fn check_operations<R: Threads + Sync + Abort>(
+    rt: &R,
+    alloc: Global,
+    workers: usize,
+    first: &Version,
+    content: &mut Content,
+)
+    requires { IsContent content.old }
+    ensures { IsContent content.new }
+{
+    let batch = batch_of(alloc, MIXED).expect(rt, "operations");
+    let next = next(rt, alloc, workers, first, content, batch);
+    check_outcomes(rt, alloc, &next);
+    check_row(rt, alloc, &next.version);
+}
+
+// The version with one edge from vertex 0 to each of 1,100 others, and then what the operations leave of it.
+fn check_mixed<R: Threads + Sync + Abort>(rt: &R, alloc: Global, workers: usize) {
+    let mut content = empty(alloc);
+    let batch = star(alloc, 1100).expect(rt, "a star");
+    let first = first_grown(rt, alloc, workers, &mut content, batch, (35, 0, 1065));
+    check_operations(rt, alloc, workers, &first, &mut content);
 }
 
 #[test]
@@ -49,22 +66,26 @@ fn works_long_rows_under_many_operations(rt: HostRuntime) {
     check_mixed(&rt, rt.alloc(), 2);
 }
 
+// 300 edges, of which a version has the first 140.
+fn check_larger<R: Threads + Sync + Abort>(
+    rt: &R,
+    alloc: Global,
+    first: &Version,
+    content: &mut Content,
+)
+    requires { IsContent content.old }
+    ensures { IsContent content.new }
+{
+    let batch = star(alloc, 300).expect(rt, "a larger star");
+    let second = grown(rt, alloc, 2, first, content, batch, (10, 5, 290));
+    assert_eq!(rt; second.edge_count(), 300);
+}
+
 // 140 edges of five blocks are written anew, and 160 others come behind them.
 #[test]
 fn works_a_long_row_under_300_operations(rt: HostRuntime) {
-    let alloc = rt.alloc();
-    let mut content = empty(alloc);
-    let batch = star(alloc, 140).expect(&rt, "a star");
-    let first = grown(
-        &rt,
-        alloc,
-        2,
-        &Version::empty(alloc),
-        &mut content,
-        batch,
-        (5, 0, 135),
-    );
-    let batch = star(alloc, 300).expect(&rt, "a larger star");
-    let second = grown(&rt, alloc, 2, &first, &mut content, batch, (10, 5, 290));
-    assert_eq!(rt; second.edge_count(), 300);
+    let mut content = empty(rt.alloc());
+    let batch = star(rt.alloc(), 140).expect(&rt, "a star");
+    let first = first_grown(&rt, rt.alloc(), 2, &mut content, batch, (5, 0, 135));
+    check_larger(&rt, rt.alloc(), &first, &mut content);
 }

@@ -57,22 +57,31 @@ fn check_next(rt: &(impl Abort + Print), next: Option<Applied>) {
     }
 }
 
+// What two edges leave of the version without batches.
+fn first<R: Threads + Sync + Abort>(rt: &R, alloc: Global) -> Option<Applied> {
+    let line = "i,k,a,b,1,1 i,k,b,a,1,1";
+    applied_line(rt, alloc, &Version::empty(alloc), line)
+}
+
+// The version of the two edges is as it was.
+fn check_first(rt: &impl Abort, version: &Version) {
+    assert_eq!(rt; told(version), (1, 2, 1, 2, Some(1)));
+}
+
+fn check_apply<R: Threads + Sync + Abort + Print>(rt: &R, alloc: Global, version: &Version) {
+    let line = "a,k,a,b,2,2 r,k,b,a i,m,b,c,1,1";
+    check_next(rt, applied_line(rt, alloc, version, line));
+    check_first(rt, version);
+}
+
 #[test]
 fn refused_apply_leaves_the_version(rt: HostRuntime) {
-    let alloc = rt.alloc();
-    let first = applied_line(
-        &rt,
-        alloc,
-        &Version::empty(alloc),
-        "i,k,a,b,1,1 i,k,b,a,1,1",
-    );
-    let Some(first) = first else {
-        let _ = println!(&rt; "refused");
-        return;
-    };
-    let line = "a,k,a,b,2,2 r,k,b,a i,m,b,c,1,1";
-    check_next(&rt, applied_line(&rt, alloc, &first.version, line));
-    assert_eq!(rt; told(&first.version), (1, 2, 1, 2, Some(1)));
+    match first(&rt, rt.alloc()) {
+        Some(first) => check_apply(&rt, rt.alloc(), &first.version),
+        None => {
+            let _ = println!(&rt; "refused");
+        }
+    }
 }
 
 // A version's answer as a text; nothing where memory is refused.
@@ -109,27 +118,26 @@ fn check_asked(
     }
 }
 
+const ANSWERS: &str = "bfs,a,k,0,9 => a 0,b 1,
+comp,k,0,9 => a a,b a,
+core,k,0,9 => a 1,b 1,
+deg,k,0,9 => a 1 1 1,b 1 1 1,
+edge,k,a,b => 1 1 1";
+
+fn check_answers(rt: &(impl Abort + Print), alloc: Global, version: &Version) {
+    for line in ANSWERS.lines() {
+        let (text, wanted) = line.split_once(" => ").expect(rt, "a request");
+        check_asked(rt, alloc, version, text, wanted);
+        check_first(rt, version);
+    }
+}
+
 #[test]
 fn refused_answer_leaves_the_version(rt: HostRuntime) {
-    let alloc = rt.alloc();
-    let first = applied_line(
-        &rt,
-        alloc,
-        &Version::empty(alloc),
-        "i,k,a,b,1,1 i,k,b,a,1,1",
-    );
-    let Some(first) = first else {
-        let _ = println!(&rt; "refused");
-        return;
-    };
-    for (text, wanted) in [
-        ("bfs,a,k,0,9", "a 0,b 1,"),
-        ("comp,k,0,9", "a a,b a,"),
-        ("core,k,0,9", "a 1,b 1,"),
-        ("deg,k,0,9", "a 1 1 1,b 1 1 1,"),
-        ("edge,k,a,b", "1 1 1"),
-    ] {
-        check_asked(&rt, alloc, &first.version, text, wanted);
-        assert_eq!(rt; told(&first.version), (1, 2, 1, 2, Some(1)));
+    match first(&rt, rt.alloc()) {
+        Some(first) => check_answers(&rt, rt.alloc(), &first.version),
+        None => {
+            let _ = println!(&rt; "refused");
+        }
     }
 }

@@ -4,7 +4,7 @@ ghost use Rattle.graph_model.specs.Graph.{IsContent};
 
 use super::ops::{LineError, insertion, removal};
 use super::sames::row_text;
-use super::steps::{empty, next};
+use super::steps::{empty, first, next};
 use graph_model::{Batch, Content, NamedOp, VertexId};
 use graph_version::Version;
 use std::alloc::{AllocError, Global};
@@ -54,24 +54,55 @@ pub(super) fn grown<R: Threads + Sync + Abort>(
     next.version
 }
 
-// A chain of so many links, and then one link more in a version that shares what it can.
-fn check_chain<R: Threads + Sync + Abort>(rt: &R, alloc: Global, workers: usize, links: u32) {
-    let mut content = empty(alloc);
-    let length = links as usize;
-    let batch = chain(alloc, 0, links).expect(rt, "a chain");
-    let first = grown(
+/// As `grown`, of the version without batches.
+pub(super) fn first_grown<R: Threads + Sync + Abort>(
+    rt: &R,
+    alloc: Global,
+    workers: usize,
+    content: &mut Content,
+    batch: Batch,
+    blocks: (usize, usize, usize),
+) -> Version
+    requires { IsContent content.old }
+    ensures { IsContent content.new }
+{
+    grown(
         rt,
         alloc,
         workers,
         &Version::empty(alloc),
-        &mut content,
+        content,
         batch,
-        (length, 0, 0),
-    );
+        blocks,
+    )
+}
+
+// One link more than so many, in a version that shares what it can.
+fn check_link<R: Threads + Sync + Abort>(
+    rt: &R,
+    alloc: Global,
+    workers: usize,
+    first: &Version,
+    content: &mut Content,
+    links: u32,
+)
+    requires { IsContent content.old }
+    ensures { IsContent content.new }
+{
+    let length = links as usize;
     let batch = chain(alloc, links, links.saturating_add(1)).expect(rt, "a link");
-    let second = grown(rt, alloc, workers, &first, &mut content, batch, (1, 0, 0));
+    let second = grown(rt, alloc, workers, first, content, batch, (1, 0, 0));
     assert_eq!(rt; second.names().len(), length.saturating_add(2));
     assert_eq!(rt; first.names().len(), length.saturating_add(1));
+}
+
+// A chain of so many links, and then one link more.
+fn check_chain<R: Threads + Sync + Abort>(rt: &R, alloc: Global, workers: usize, links: u32) {
+    let mut content = empty(alloc);
+    let batch = chain(alloc, 0, links).expect(rt, "a chain");
+    let blocks = (links as usize, 0, 0);
+    let first = first_grown(rt, alloc, workers, &mut content, batch, blocks);
+    check_link(rt, alloc, workers, &first, &mut content, links);
 }
 
 #[test]
@@ -105,24 +136,32 @@ fn exchange(alloc: Global) -> Result<Batch, LineError> {
     Ok(batch)
 }
 
+fn check_exchanged(rt: &impl Abort, alloc: Global, version: &Version) {
+    let row = row_text(alloc, version, VertexId(0)).expect(rt, "a row");
+    assert!(rt; row.as_str().starts_with(" 0:34,2,3,") && row.as_str().ends_with(",32, 0:33,"));
+}
+
+// The exchange in a version of 33 edges.
+fn check_exchange<R: Threads + Sync + Abort>(
+    rt: &R,
+    alloc: Global,
+    first: &Version,
+    content: &mut Content,
+)
+    requires { IsContent content.old }
+    ensures { IsContent content.new }
+{
+    let batch = exchange(alloc).expect(rt, "an exchange");
+    let second = grown(rt, alloc, 4, first, content, batch, (1, 1, 1));
+    check_exchanged(rt, alloc, &second);
+}
+
 #[test]
 fn touches_the_first_block_with_room_alone(rt: HostRuntime) {
-    let alloc = rt.alloc();
-    let mut content = empty(alloc);
-    let batch = star(alloc, 33).expect(&rt, "a star");
-    let first = grown(
-        &rt,
-        alloc,
-        4,
-        &Version::empty(alloc),
-        &mut content,
-        batch,
-        (2, 0, 31),
-    );
-    let batch = exchange(alloc).expect(&rt, "an exchange");
-    let second = grown(&rt, alloc, 4, &first, &mut content, batch, (1, 1, 1));
-    let row = row_text(alloc, &second, VertexId(0)).expect(&rt, "a row");
-    assert!(rt; row.as_str().starts_with(" 0:34,2,3,") && row.as_str().ends_with(",32, 0:33,"));
+    let mut content = empty(rt.alloc());
+    let batch = star(rt.alloc(), 33).expect(&rt, "a star");
+    let first = first_grown(&rt, rt.alloc(), 4, &mut content, batch, (2, 0, 31));
+    check_exchange(&rt, rt.alloc(), &first, &mut content);
 }
 
 // An edge is put, and the next time taken away.
@@ -145,6 +184,18 @@ fn batches_lent(version: &Version) -> u64 {
     batches
 }
 
+// A version before the turn of this number.
+fn check_before(rt: &impl Abort, version: &Version, number: u64) {
+    assert_eq!(rt; version.number(), number);
+    assert_eq!(rt; batches_lent(version), number);
+    assert_eq!(rt; version.edge_count(), number % 2);
+}
+
+// The version that the last turn left.
+fn check_last(rt: &impl Abort, version: &Version) {
+    assert!(rt; version.last_batch().is_some_and(|batch| batch.len() == 1));
+}
+
 // The version after one turn more.
 fn turned<R: Threads + Sync + Abort>(
     rt: &R,
@@ -158,14 +209,8 @@ fn turned<R: Threads + Sync + Abort>(
 {
     let batch = turn(alloc, number).expect(rt, "a turn");
     let next = next(rt, alloc, 1, version, content, batch);
-    assert_eq!(rt; version.number(), number);
-    assert_eq!(rt; batches_lent(version), number);
-    assert_eq!(rt; version.edge_count(), number % 2);
-    assert!(rt;
-        next.version
-            .last_batch()
-            .is_some_and(|batch| batch.len() == 1)
-    );
+    check_before(rt, version, number);
+    check_last(rt, &next.version);
     next.version
 }
 
@@ -206,15 +251,8 @@ fn cut(alloc: Global, number: u32) -> Result<NamedOp, AllocError> {
 fn check_batch<R: Threads + Sync + Abort>(rt: &R, alloc: Global, workers: usize, operations: u32) {
     let mut content = empty(alloc);
     let batch = links_and_cuts(alloc, operations).expect(rt, "a batch");
-    let next = next(
-        rt,
-        alloc,
-        workers,
-        &Version::empty(alloc),
-        &mut content,
-        batch,
-    );
-    assert_eq!(rt; next.outcomes.len(), operations as usize);
+    let first = first(rt, alloc, workers, &mut content, batch);
+    assert_eq!(rt; first.outcomes.len(), operations as usize);
 }
 
 #[test]

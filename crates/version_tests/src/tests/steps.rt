@@ -52,6 +52,19 @@ pub(super) fn applied_past<R: Threads + Sync, G: Gate + Sync>(
     apply(rt, alloc, gate, version, plan, batch, blocks).ok()
 }
 
+/// As `applied_past`, of the version without batches.
+pub(super) fn first_past<R: Threads + Sync, G: Gate + Sync>(
+    rt: &R,
+    alloc: Global,
+    gate: &G,
+    workers: usize,
+    batch: Batch,
+) -> Option<Applied>
+    requires workers { 0 < workers }
+{
+    applied_past(rt, alloc, gate, workers, &Version::empty(alloc), batch)
+}
+
 /// As `applied_past`, by the gate that does nothing.
 pub(super) fn applied<R: Threads + Sync>(
     rt: &R,
@@ -85,6 +98,20 @@ pub(super) fn next<R: Threads + Sync + Abort>(
     next
 }
 
+/// As `next`, of the version without batches.
+pub(super) fn first<R: Threads + Sync + Abort>(
+    rt: &R,
+    alloc: Global,
+    workers: usize,
+    content: &mut Content,
+    batch: Batch,
+) -> Applied
+    requires { IsContent content.old }
+    ensures { IsContent content.new }
+{
+    next(rt, alloc, workers, &Version::empty(alloc), content, batch)
+}
+
 // The first letters of outcomes.
 fn letter(outcome: Outcome) -> char {
     match outcome {
@@ -114,6 +141,11 @@ fn told(alloc: Global, next: &Applied) -> Result<String, AllocError> {
     Ok(text)
 }
 
+fn check_told(rt: &impl Abort, alloc: Global, next: &Applied, wanted: &str, line: &str) {
+    let told = told(alloc, next).expect(rt, "what it tells");
+    assert_eq!(rt; told.as_str(), wanted, "{line}");
+}
+
 // A line: operations, and what is told of them.
 fn check_line<R: Threads + Sync + Abort>(
     rt: &R,
@@ -129,8 +161,7 @@ fn check_line<R: Threads + Sync + Abort>(
     let (ops, wanted) = line.split_once(" => ").expect(rt, "a batch");
     let batch = batch_of(alloc, ops).expect(rt, "operations");
     let next = next(rt, alloc, workers, version, content, batch);
-    let told = told(alloc, &next).expect(rt, "what it tells");
-    assert_eq!(rt; told.as_str(), wanted, "{line}");
+    check_told(rt, alloc, &next, wanted, line);
     next.version
 }
 
