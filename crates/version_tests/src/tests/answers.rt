@@ -189,14 +189,29 @@ fn check_same_answers(rt: &impl Abort, alloc: Global, version: &Version, content
     }
 }
 
+// The version after a line more, which answers as the plain application does.
+fn fed<R: Threads + Sync + Abort>(
+    rt: &R,
+    alloc: Global,
+    version: &Version,
+    content: &mut Content,
+    line: &str,
+) -> Version
+    requires { IsContent content.old }
+    ensures { IsContent content.new }
+{
+    let batch = batch_of(alloc, line).expect(rt, "operations");
+    let next = next(rt, alloc, 2, version, content, batch);
+    check_same_answers(rt, alloc, &next.version, content);
+    next.version
+}
+
 fn check_feed<R: Threads + Sync + Abort>(rt: &R, alloc: Global, lines: &str) {
     let mut version = Version::empty(alloc);
     let mut content = empty(alloc);
     check_same_answers(rt, alloc, &version, &content);
     for line in lines.lines() {
-        let batch = batch_of(alloc, line).expect(rt, "operations");
-        version = next(rt, alloc, 2, &version, &mut content, batch).version;
-        check_same_answers(rt, alloc, &version, &content);
+        version = fed(rt, alloc, &version, &mut content, line);
     }
 }
 

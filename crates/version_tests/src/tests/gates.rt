@@ -47,6 +47,11 @@ impl Gate for Meeting {
     }
 }
 
+fn check_met(rt: &impl Abort, meeting: &Meeting) {
+    assert!(rt; !meeting.in_vain.load(Ordering::SeqCst));
+    assert_eq!(rt; meeting.arrived.load(Ordering::SeqCst), 2);
+}
+
 // Each of two workers has an operation, and none goes on before both have come.
 #[test]
 fn workers_work_at_once(rt: HostRuntime) {
@@ -55,8 +60,7 @@ fn workers_work_at_once(rt: HostRuntime) {
         in_vain: AtomicBool::new(false),
     };
     let next = passed(&rt, rt.alloc(), &meeting, 2, "i,k,a,b,1,1 i,k,b,a,1,1");
-    assert!(rt; !meeting.in_vain.load(Ordering::SeqCst));
-    assert_eq!(rt; meeting.arrived.load(Ordering::SeqCst), 2);
+    check_met(&rt, &meeting);
     assert_eq!(rt; next.version.edge_count(), 2);
 }
 
@@ -100,12 +104,7 @@ impl Gate for Arrivals {
     }
 }
 
-// So many workers arrive once each, and no other, for these operations.
-fn check_arrivals<R: Threads + Sync + Abort>(rt: &R, alloc: Global, workers: usize, line: &str)
-    requires workers { 0 < workers }
-{
-    let arrivals = Arrivals::of(workers);
-    let _next = passed(rt, alloc, &arrivals, workers, line);
+fn check_counts(rt: &impl Abort, arrivals: &Arrivals, workers: usize, line: &str) {
     for worker in 0..4 {
         let wanted = if worker < workers { 1 } else { 0 };
         assert_eq!(rt;
@@ -115,6 +114,15 @@ fn check_arrivals<R: Threads + Sync + Abort>(rt: &R, alloc: Global, workers: usi
         );
     }
     assert_eq!(rt; arrivals.others.load(Ordering::SeqCst), 0);
+}
+
+// So many workers arrive once each, and no other, for these operations.
+fn check_arrivals<R: Threads + Sync + Abort>(rt: &R, alloc: Global, workers: usize, line: &str)
+    requires workers { 0 < workers }
+{
+    let arrivals = Arrivals::of(workers);
+    let _next = passed(rt, alloc, &arrivals, workers, line);
+    check_counts(rt, &arrivals, workers, line);
 }
 
 // Also those without operations.

@@ -60,6 +60,21 @@ fn check_refused_first(rt: &impl Abort, alloc: Global, content: &mut Content, ma
     check_refused(rt, alloc, &Version::empty(alloc), content, many);
 }
 
+// In a version of 64 kinds.
+fn check_full(
+    rt: &impl Abort,
+    alloc: Global,
+    version: &Version,
+    content: &mut Content,
+    many: &Batch,
+)
+    requires { IsContent content.old }
+    ensures { IsContent content.new }
+{
+    assert_eq!(rt; version.kinds().len(), 64);
+    check_refused(rt, alloc, version, content, many);
+}
+
 // After a batch of 64 kinds.
 fn check_refused_next<R: Threads + Sync + Abort>(
     rt: &R,
@@ -72,14 +87,13 @@ fn check_refused_next<R: Threads + Sync + Abort>(
 {
     let batch = kinds(alloc, 64).expect(rt, "kinds");
     let first = first(rt, alloc, 2, content, batch);
-    assert_eq!(rt; first.version.kinds().len(), 64);
-    check_refused(rt, alloc, &first.version, content, many);
+    check_full(rt, alloc, &first.version, content, many);
 }
 
 #[test]
 fn refuses_a_kind_too_many(rt: HostRuntime) {
-    let mut content = empty(rt.alloc());
     let many = kinds(rt.alloc(), 66).expect(&rt, "kinds");
+    let mut content = empty(rt.alloc());
     check_refused_first(&rt, rt.alloc(), &mut content, &many);
     check_refused_next(&rt, rt.alloc(), &mut content, &many);
 }

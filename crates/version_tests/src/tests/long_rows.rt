@@ -54,8 +54,8 @@ fn check_operations<R: Threads + Sync + Abort>(
 
 // The version with one edge from vertex 0 to each of 1,100 others, and then what the operations leave of it.
 fn check_mixed<R: Threads + Sync + Abort>(rt: &R, alloc: Global, workers: usize) {
-    let mut content = empty(alloc);
     let batch = star(alloc, 1100).expect(rt, "a star");
+    let mut content = empty(alloc);
     let first = first_grown(rt, alloc, workers, &mut content, batch, (35, 0, 1065));
     check_operations(rt, alloc, workers, &first, &mut content);
 }
@@ -84,8 +84,8 @@ fn check_larger<R: Threads + Sync + Abort>(
 // 140 edges of five blocks are written anew, and 160 others come behind them.
 #[test]
 fn works_a_long_row_under_300_operations(rt: HostRuntime) {
-    let mut content = empty(rt.alloc());
     let batch = star(rt.alloc(), 140).expect(&rt, "a star");
+    let mut content = empty(rt.alloc());
     let first = first_grown(&rt, rt.alloc(), 2, &mut content, batch, (5, 0, 135));
     check_larger(&rt, rt.alloc(), &first, &mut content);
 }

@@ -86,22 +86,56 @@ pub(super) fn removal(
     })
 }
 
+/// A field, and what is behind its comma.
+pub(super) fn field(text: &str) -> Result<(&str, &str), LineError> {
+    text.split_once(',').ok_or(LineError::Wrong)
+}
+
+/// The field of a text without commas.
+pub(super) fn last_field(text: &str) -> Result<&str, LineError> {
+    match text.split_once(',') {
+        Some(_) => Err(LineError::Wrong),
+        None => Ok(text),
+    }
+}
+
+fn numbers(text: &str) -> Result<(i64, u64), LineError> {
+    let (amount, time) = field(text)?;
+    Ok((amount.parse()?, time.parse()?))
+}
+
+fn insertion_of(alloc: Global, text: &str) -> Result<NamedOp, LineError> {
+    let (kind, text) = field(text)?;
+    let (source, text) = field(text)?;
+    let (target, text) = field(text)?;
+    let (weight, time) = numbers(text)?;
+    Ok(insertion(alloc, kind, source, target, weight, time)?)
+}
+
+fn increment_of(alloc: Global, text: &str) -> Result<NamedOp, LineError> {
+    let (kind, text) = field(text)?;
+    let (source, text) = field(text)?;
+    let (target, text) = field(text)?;
+    let (amount, time) = numbers(text)?;
+    Ok(increment(alloc, kind, source, target, amount, time)?)
+}
+
+fn removal_of(alloc: Global, text: &str) -> Result<NamedOp, LineError> {
+    let (kind, text) = field(text)?;
+    let (source, text) = field(text)?;
+    let target = last_field(text)?;
+    Ok(removal(alloc, kind, source, target)?)
+}
+
 // `i,kind,source,target,weight,time`, `a,kind,source,target,amount,time` or `r,kind,source,target`.
 fn op(alloc: Global, text: &str) -> Result<NamedOp, LineError> {
-    let fields: Vec<&str> = text.split(',').collect(alloc)?;
-    let op = match *fields.as_slice() {
-        ["i", kind, source, target, weight, time] => {
-            let (weight, time) = (weight.parse()?, time.parse()?);
-            insertion(alloc, kind, source, target, weight, time)?
-        }
-        ["a", kind, source, target, amount, time] => {
-            let (amount, time) = (amount.parse()?, time.parse()?);
-            increment(alloc, kind, source, target, amount, time)?
-        }
-        ["r", kind, source, target] => removal(alloc, kind, source, target)?,
-        _ => return Err(LineError::Wrong),
-    };
-    Ok(op)
+    let (letter, text) = field(text)?;
+    match letter {
+        "i" => insertion_of(alloc, text),
+        "a" => increment_of(alloc, text),
+        "r" => removal_of(alloc, text),
+        _ => Err(LineError::Wrong),
+    }
 }
 
 /// The batch of operations with a blank between them.

@@ -4,7 +4,7 @@ use super::ops::{LineError, batch_of};
 use super::requests::{reply_text, request_of};
 use super::steps::applied;
 use batch_apply::Applied;
-use graph_model::{AskError, KindId, Outcome, VertexId};
+use graph_model::{AskError, KindId, Outcome, Request, VertexId};
 use graph_version::Version;
 use std::alloc::Global;
 use std::io::Print;
@@ -41,15 +41,19 @@ fn told(version: &Version) -> (u64, usize, usize, u64, Option<i64>) {
     )
 }
 
+fn check_second(rt: &impl Abort, next: &Applied) {
+    assert_eq!(rt; told(&next.version), (2, 3, 2, 2, Some(3)));
+    assert_eq!(rt;
+        next.outcomes.as_slice(),
+        [Outcome::Updated, Outcome::Removed, Outcome::Inserted].as_slice()
+    );
+}
+
 // The next version has what the second line leaves, or memory was refused.
 fn check_next(rt: &(impl Abort + Print), next: Option<Applied>) {
     match next {
         Some(next) => {
-            assert_eq!(rt; told(&next.version), (2, 3, 2, 2, Some(3)));
-            assert_eq!(rt;
-                next.outcomes.as_slice(),
-                [Outcome::Updated, Outcome::Removed, Outcome::Inserted].as_slice()
-            );
+            check_second(rt, &next);
         }
         None => {
             let _ = println!(rt; "refused");
@@ -86,14 +90,22 @@ fn refused_apply_leaves_the_version(rt: HostRuntime) {
 
 // A version's answer as a text; nothing where memory is refused.
 fn asked(rt: &impl Abort, alloc: Global, version: &Version, text: &str) -> Option<String> {
-    let request = match request_of(alloc, text) {
-        Ok(request) => request,
+    match request_of(alloc, text) {
+        Ok(request) => answered(rt, alloc, version, &request),
         Err(error) => {
             assert!(rt; matches!(error, LineError::OutOfMemory));
-            return None;
+            None
         }
-    };
-    match answer(alloc, version, &request) {
+    }
+}
+
+fn answered(
+    rt: &impl Abort,
+    alloc: Global,
+    version: &Version,
+    request: &Request,
+) -> Option<String> {
+    match answer(alloc, version, request) {
         Ok(reply) => reply_text(alloc, &reply).ok(),
         Err(error) => {
             assert_eq!(rt; error, AskError::OutOfMemory);

@@ -1,12 +1,14 @@
 // Requests from text, and replies as text.
 
-use super::ops::{LineError, name};
+use super::ops::{LineError, field, last_field, name};
 use graph_model::{Degree, Name, NamedFilter, Reply, Request, VertexId};
 use std::alloc::{AllocError, Global};
 use version_answers::NumberedReply;
 
-// The kind `*` is any.
-fn filter(alloc: Global, kind: &str, lo: &str, hi: &str) -> Result<NamedFilter, LineError> {
+// `kind,lo,hi`, where the kind `*` is any.
+fn filter(alloc: Global, text: &str) -> Result<NamedFilter, LineError> {
+    let (kind, window) = field(text)?;
+    let (lo, hi) = field(window)?;
     let (lo, hi) = (lo.parse()?, hi.parse()?);
     let kind = match kind {
         "*" => None,
@@ -15,32 +17,56 @@ fn filter(alloc: Global, kind: &str, lo: &str, hi: &str) -> Result<NamedFilter, 
     Ok(NamedFilter { kind, lo, hi })
 }
 
+fn levels_of(alloc: Global, text: &str) -> Result<Request, LineError> {
+    let (source, text) = field(text)?;
+    let source = name(alloc, source)?;
+    Ok(Request::Levels {
+        source,
+        filter: filter(alloc, text)?,
+    })
+}
+
+fn labels_of(alloc: Global, text: &str) -> Result<Request, LineError> {
+    Ok(Request::Labels {
+        filter: filter(alloc, text)?,
+    })
+}
+
+fn cores_of(alloc: Global, text: &str) -> Result<Request, LineError> {
+    Ok(Request::Cores {
+        filter: filter(alloc, text)?,
+    })
+}
+
+fn degrees_of(alloc: Global, text: &str) -> Result<Request, LineError> {
+    Ok(Request::Degrees {
+        filter: filter(alloc, text)?,
+    })
+}
+
+fn edge_of(alloc: Global, text: &str) -> Result<Request, LineError> {
+    let (kind, text) = field(text)?;
+    let (source, text) = field(text)?;
+    let target = last_field(text)?;
+    Ok(Request::OneEdge {
+        kind: name(alloc, kind)?,
+        source: name(alloc, source)?,
+        target: name(alloc, target)?,
+    })
+}
+
 /// The request of `bfs,source,kind,lo,hi`, `comp,kind,lo,hi`, `core,kind,lo,hi`, `deg,kind,lo,hi` or
 /// `edge,kind,source,target`.
 pub(super) fn request_of(alloc: Global, text: &str) -> Result<Request, LineError> {
-    let fields: Vec<&str> = text.split(',').collect(alloc)?;
-    let request = match *fields.as_slice() {
-        ["bfs", source, kind, lo, hi] => Request::Levels {
-            source: name(alloc, source)?,
-            filter: filter(alloc, kind, lo, hi)?,
-        },
-        ["comp", kind, lo, hi] => Request::Labels {
-            filter: filter(alloc, kind, lo, hi)?,
-        },
-        ["core", kind, lo, hi] => Request::Cores {
-            filter: filter(alloc, kind, lo, hi)?,
-        },
-        ["deg", kind, lo, hi] => Request::Degrees {
-            filter: filter(alloc, kind, lo, hi)?,
-        },
-        ["edge", kind, source, target] => Request::OneEdge {
-            kind: name(alloc, kind)?,
-            source: name(alloc, source)?,
-            target: name(alloc, target)?,
-        },
-        _ => return Err(LineError::Wrong),
-    };
-    Ok(request)
+    let (word, text) = field(text)?;
+    match word {
+        "bfs" => levels_of(alloc, text),
+        "comp" => labels_of(alloc, text),
+        "core" => cores_of(alloc, text),
+        "deg" => degrees_of(alloc, text),
+        "edge" => edge_of(alloc, text),
+        _ => Err(LineError::Wrong),
+    }
 }
 
 fn named_numbers(alloc: Global, rows: &[(Name, u32)]) -> Result<String, AllocError> {

@@ -77,6 +77,11 @@ pub(super) fn first_grown<R: Threads + Sync + Abort>(
     )
 }
 
+fn check_lengths(rt: &impl Abort, first: &Version, second: &Version, links: usize) {
+    assert_eq!(rt; second.names().len(), links.saturating_add(2));
+    assert_eq!(rt; first.names().len(), links.saturating_add(1));
+}
+
 // One link more than so many, in a version that shares what it can.
 fn check_link<R: Threads + Sync + Abort>(
     rt: &R,
@@ -89,17 +94,15 @@ fn check_link<R: Threads + Sync + Abort>(
     requires { IsContent content.old }
     ensures { IsContent content.new }
 {
-    let length = links as usize;
     let batch = chain(alloc, links, links.saturating_add(1)).expect(rt, "a link");
     let second = grown(rt, alloc, workers, first, content, batch, (1, 0, 0));
-    assert_eq!(rt; second.names().len(), length.saturating_add(2));
-    assert_eq!(rt; first.names().len(), length.saturating_add(1));
+    check_lengths(rt, first, &second, links as usize);
 }
 
 // A chain of so many links, and then one link more.
 fn check_chain<R: Threads + Sync + Abort>(rt: &R, alloc: Global, workers: usize, links: u32) {
-    let mut content = empty(alloc);
     let batch = chain(alloc, 0, links).expect(rt, "a chain");
+    let mut content = empty(alloc);
     let blocks = (links as usize, 0, 0);
     let first = first_grown(rt, alloc, workers, &mut content, batch, blocks);
     check_link(rt, alloc, workers, &first, &mut content, links);
@@ -158,8 +161,8 @@ fn check_exchange<R: Threads + Sync + Abort>(
 
 #[test]
 fn touches_the_first_block_with_room_alone(rt: HostRuntime) {
-    let mut content = empty(rt.alloc());
     let batch = star(rt.alloc(), 33).expect(&rt, "a star");
+    let mut content = empty(rt.alloc());
     let first = first_grown(&rt, rt.alloc(), 4, &mut content, batch, (2, 0, 31));
     check_exchange(&rt, rt.alloc(), &first, &mut content);
 }
@@ -249,8 +252,8 @@ fn cut(alloc: Global, number: u32) -> Result<NamedOp, AllocError> {
 
 // A batch of so many operations, by so many workers.
 fn check_batch<R: Threads + Sync + Abort>(rt: &R, alloc: Global, workers: usize, operations: u32) {
-    let mut content = empty(alloc);
     let batch = links_and_cuts(alloc, operations).expect(rt, "a batch");
+    let mut content = empty(alloc);
     let first = first(rt, alloc, workers, &mut content, batch);
     assert_eq!(rt; first.outcomes.len(), operations as usize);
 }
