@@ -52,9 +52,7 @@ fn check_second(rt: &impl Abort, next: &Applied) {
 // The next version has what the second line leaves, or memory was refused.
 fn check_next(rt: &(impl Abort + Print), next: Option<Applied>) {
     match next {
-        Some(next) => {
-            check_second(rt, &next);
-        }
+        Some(next) => check_second(rt, &next),
         None => {
             let _ = println!(rt; "refused");
         }

@@ -5,16 +5,28 @@ use graph_model::{Degree, Name, NamedFilter, Reply, Request, VertexId};
 use std::alloc::{AllocError, Global};
 use version_answers::NumberedReply;
 
-// `kind,lo,hi`, where the kind `*` is any.
+fn window(text: &str) -> Result<(u64, u64), LineError> {
+    let (lo, hi) = field(text)?;
+    Ok((lo.parse()?, hi.parse()?))
+}
+
+// The kind `*` is any.
+fn kind_of(alloc: Global, text: &str) -> Result<Option<Name>, AllocError> {
+    match text {
+        "*" => Ok(None),
+        _ => Ok(Some(name(alloc, text)?)),
+    }
+}
+
+// `kind,lo,hi`.
 fn filter(alloc: Global, text: &str) -> Result<NamedFilter, LineError> {
-    let (kind, window) = field(text)?;
-    let (lo, hi) = field(window)?;
-    let (lo, hi) = (lo.parse()?, hi.parse()?);
-    let kind = match kind {
-        "*" => None,
-        _ => Some(name(alloc, kind)?),
-    };
-    Ok(NamedFilter { kind, lo, hi })
+    let (kind, text) = field(text)?;
+    let (lo, hi) = window(text)?;
+    Ok(NamedFilter {
+        kind: kind_of(alloc, kind)?,
+        lo,
+        hi,
+    })
 }
 
 fn levels_of(alloc: Global, text: &str) -> Result<Request, LineError> {
