@@ -15,13 +15,12 @@ use Rattle.block_layout.specs.Batches.{IsLayoutOf, IsWithin, layout_after}
 use Rattle.block_layout.proofs.GraphLaws.{batch_layout}
 use Rattle.row_pages.specs.Rows.{row_of, numbers_of}
 use Rattle.graph_model.specs.declared.batches.NamedOp.{NamedOp}
-use Rattle.vertex_names.specs.Book.{Book}
 use Rattle.graph_version.specs.Versions.{VersionView, IsBlockOf, AreRowsOf, content, empty_version}
 use Rattle.graph_version.specs.Kept.{vertex_book, kind_book}
 use Rattle.graph_version.specs.Drafts.{DraftView, drafted_over, with_batch, ReplacesRow, IsWhole}
 use Rattle.graph_version.proofs.Totals.{same_blocks, at_source, elsewhere}
 use Rattle.graph_version.proofs.Empty.{no_row}
-use Rattle.layer_tests.specs.OneEdge.{one_insert, one_edge_block}
+use Rattle.layer_tests.specs.OneEdge.{one_insert, one_edge_block, named_over}
 
 no_edges_within : IsWithin empty_graph
 no_edges_within k is = absurd (true≢false (sym is ∙ ap is_some (get-empty key_cmp k)))
@@ -100,15 +99,10 @@ one_edge_whole n drafted put pushed is replaced last =
     })
 
 -- the same from what the steps of its making say
-pub one_edge_made : (n : ℕ) (before : VersionView) (ops : List NamedOp) (names kinds : Book) (shared drafted put pushed : DraftView)
-    (row : List BlockView) → before ≡ empty_version → ops ≡ one_insert → names ≡ vertex_book (after_all ops (content before)).names
-    → kinds ≡ kind_book (after_all ops (content before)).kinds → shared ≡ drafted_over before
-    → drafted ≡ record shared { names = names; kinds = kinds } → row ≡ one_edge_block n ∷ []
-    → ReplacesRow 0 row drafted put → pushed ≡ with_batch put ops → IsWhole pushed
-one_edge_made n before ops names kinds shared drafted put pushed row first are named sorted was begun one replaced last =
-    let start : drafted ≡ record (drafted_over empty_version) {
-      names = vertex_book (after_all one_insert empty_graph).names;
-      kinds = kind_book (after_all one_insert empty_graph).kinds;
-    } = begun ∙ rw (was, named, sorted, first, are) refl in
-    one_edge_whole n drafted put pushed start (subst (λ (l : List BlockView). ReplacesRow 0 l drafted put) one replaced)
+pub one_edge_made : (n : ℕ) (before : VersionView) (ops : List NamedOp) (put pushed : DraftView) → before ≡ empty_version
+    → ops ≡ one_insert → ReplacesRow 0 (one_edge_block n ∷ []) (named_over ops before) put → pushed ≡ with_batch put ops
+    → IsWhole pushed
+one_edge_made n before ops put pushed first are replaced last =
+    one_edge_whole n (named_over ops before) put pushed
+    (ap (λ (b : VersionView). named_over ops b) first ∙ ap (λ (l : List NamedOp). named_over l empty_version) are) replaced
     (last ∙ ap (λ (l : List NamedOp). with_batch put l) are)

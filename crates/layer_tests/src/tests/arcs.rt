@@ -6,12 +6,22 @@ use std::alloc::{AllocError, Global};
 use std::test::Fail;
 use view_edges::{ListedArcs, VersionEdges, ViewEdges};
 
+/// Puts the targets in place of another.
+fn put_targets<E: ViewEdges>(
+    edges: &E,
+    source: u32,
+    targets: &mut Vec<u32>,
+) -> Result<(), AllocError> {
+    targets.push(7)?;
+    edges.list_targets(source, targets)
+}
+
 /// Whether these are the targets that are put in place of another, in this order; nothing where memory is refused.
 fn lists<E: ViewEdges>(alloc: Global, edges: &E, source: u32, wanted: &[u32]) -> Option<bool> {
     let mut targets = Vec::new(alloc);
-    targets.push(7).ok()?;
-    edges.list_targets(source, &mut targets).ok()?;
-    Some(targets.as_slice() == wanted)
+    let are_put = put_targets(edges, source, &mut targets).is_ok();
+    let are_wanted = targets.as_slice() == wanted;
+    if are_put { Some(are_wanted) } else { None }
 }
 
 /// Three vertices: an arc twice, one back, one to no vertex, and a loop.

@@ -202,12 +202,17 @@ const ALL: Filter = Filter {
     hi: u64::MAX,
 };
 
-/// How many core numbers a version without batches has; nothing where memory is refused.
-fn count_at_the_opening(alloc: Global) -> Option<usize> {
-    match cores(alloc, &Version::empty(alloc), &ALL) {
+/// How many core numbers a version has; nothing where memory is refused.
+fn count_of(alloc: Global, version: &Version) -> Option<usize> {
+    match cores(alloc, version, &ALL) {
         Ok(numbers) => Some(numbers.len()),
         Err(AllocError) => None,
     }
+}
+
+/// The same of a version without batches.
+fn count_at_the_opening(alloc: Global) -> Option<usize> {
+    count_of(alloc, &Version::empty(alloc))
 }
 
 #[test]

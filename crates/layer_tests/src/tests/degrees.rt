@@ -12,12 +12,17 @@ const ALL: Filter = Filter {
     hi: u64::MAX,
 };
 
-/// How many degrees a version without batches has; nothing where memory is refused.
-fn count_at_the_opening(alloc: Global) -> Option<usize> {
-    match degrees(alloc, &Version::empty(alloc), &ALL) {
+/// How many degrees a version has; nothing where memory is refused.
+fn count_of(alloc: Global, version: &Version) -> Option<usize> {
+    match degrees(alloc, version, &ALL) {
         Ok(table) => Some(table.len()),
         Err(AllocError) => None,
     }
+}
+
+/// The same of a version without batches.
+fn count_at_the_opening(alloc: Global) -> Option<usize> {
+    count_of(alloc, &Version::empty(alloc))
 }
 
 #[test]

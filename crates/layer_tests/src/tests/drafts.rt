@@ -1,10 +1,10 @@
-ghost use Rattle.std.specs.Prelude.{◌≡◌, [], IfOk};
+ghost use Rattle.std.specs.Prelude.{◌≡◌, [], ◌∷◌, IfOk};
 ghost use Rattle.row_pages.specs.Sharing.{block_values};
 ghost use Rattle.graph_version.specs.Drafts.{ReplacesRow, IsWhole, drafted_over, with_batch};
 ghost use Rattle.graph_version.specs.Versions.{empty_version};
 ghost use Rattle.layer_tests.specs.OneEdge as edge;
 
-use batch_plan::{Plan, plan};
+use batch_plan::plan;
 use block_pool::Pool;
 use edge_block::Block;
 use graph_model::{Batch, KindId, Name, NamedOp, VertexId};
@@ -14,6 +14,7 @@ use std::io::Print;
 use std::process::Abort;
 use std::sync::Arc;
 use std::test::Fail;
+use vertex_names::NameBook;
 
 // Tells `tools/refuse-each-growth` that a growth was refused.
 fn tell_refused(rt: &impl Print) {
@@ -30,13 +31,23 @@ fn assert_bare(rt: &impl Abort, version: &Version, number: u64) {
     assert_edgeless(rt, version);
 }
 
+// Whether no edge leads out of the vertex.
+fn has_no_edge_out(version: &Version, source: u32) -> bool {
+    version.row(VertexId(source)).next().is_none()
+}
+
+// Whether the version has no block.
+fn has_no_block(version: &Version) -> bool {
+    version.blocks().next().is_none()
+}
+
 // The version has no edge or block.
 fn assert_edgeless(rt: &impl Abort, version: &Version) {
     assert_eq!(rt; version.edge_count(), 0);
     assert!(rt; version.edge(KindId(0), VertexId(0), VertexId(1)).is_none());
-    assert!(rt; version.row(VertexId(0)).next().is_none());
+    assert!(rt; has_no_edge_out(version, 0));
     assert!(rt; version.row_blocks(VertexId(0)).is_empty());
-    assert!(rt; version.blocks().next().is_none());
+    assert!(rt; has_no_block(version));
 }
 
 // A granted block for source 0 and kind 0 with an edge of weight 5 to target 1.
@@ -49,10 +60,14 @@ fn filled(number: u32) -> Block
     block
 }
 
-// A row of one block.
-fn one_row(alloc: Global) -> Result<Vec<Arc<Block>>, AllocError> {
-    let block = Arc::new(alloc, filled(7))?;
-    Ok(Vec::from_array(alloc, [block])?)
+// A row of one block with this number.
+fn one_row(alloc: Global, number: u32) -> Result<Vec<Arc<Block>>, AllocError>
+    ensures { IfOk result (λ row. block_values row.items ≡ edge.one_edge_block number ∷ []) }
+{
+    let block = Arc::new(alloc, filled(number))?;
+    let mut row = Vec::new(alloc);
+    row.push(block)?;
+    Ok(row)
 }
 
 // The draft over a version in which this is the row of the first source.
@@ -84,7 +99,7 @@ fn finished(alloc: Global, draft: VersionDraft) -> Result<Version, AllocError>
 fn put_and_taken_back(alloc: Global, before: &Version) -> Result<Version, AllocError>
     requires { before.now ≡ empty_version }
 {
-    let put = with_row(before, one_row(alloc)?)?;
+    let put = with_row(before, one_row(alloc, 7)?)?;
     let taken = without_row(alloc, put)?;
     finished(alloc, taken)
 }
@@ -99,19 +114,31 @@ fn leaves_the_version_before(rt: HostRuntime) -> Result<(), Fail> {
     Ok(())
 }
 
+// The version was made, and the one before it is as it was.
+fn assert_made(rt: &impl Abort, before: &Version, after: &Version) {
+    assert_bare(rt, before, 0);
+    assert_bare(rt, after, 1);
+}
+
+// The version is made where no growth is refused any more.
+fn assert_made_again(rt: &impl Abort, alloc: Global, before: &Version)
+    requires { before.now ≡ empty_version }
+{
+    let after = put_and_taken_back(alloc, before).expect(rt, "one growth alone is refused");
+    assert_made(rt, before, &after);
+}
+
 #[test]
 fn refused_drafts_leave_the_version(rt: HostRuntime) {
     let before = Version::empty(rt.alloc());
-    let after = match put_and_taken_back(rt.alloc(), &before) {
-        Ok(after) => after,
+    match put_and_taken_back(rt.alloc(), &before) {
+        Ok(after) => assert_made(&rt, &before, &after),
         Err(_) => {
             tell_refused(&rt);
             assert_bare(&rt, &before, 0);
-            put_and_taken_back(rt.alloc(), &before).expect(&rt, "one growth alone is refused")
+            assert_made_again(&rt, rt.alloc(), &before);
         }
-    };
-    assert_bare(&rt, &before, 0);
-    assert_bare(&rt, &after, 1);
+    }
 }
 
 // A name of this text.
@@ -139,26 +166,76 @@ fn one_insert(alloc: Global) -> Result<Batch, AllocError>
     }
 }
 
+// The draft over a version, with these books of names.
+fn with_books(
+    before: &Version,
+    names: NameBook,
+    kinds: NameBook,
+) -> Result<VersionDraft, AllocError>
+    ensures { IfOk result (λ draft. draft ≡ record (drafted_over before.now) { names = names; kinds = kinds }) }
+{
+    match VersionDraft::over(before) {
+        Ok(shared) => Ok(shared.set_names(names, kinds)),
+        Err(error) => Err(error),
+    }
+}
+
+// The draft over a version, with the names that the batch leaves.
+fn with_names(alloc: Global, before: &Version, batch: &Batch) -> Result<VersionDraft, AllocError>
+    ensures { IfOk result (λ draft. draft ≡ edge.named_over batch.now before.now) }
+{
+    match plan(alloc, before, batch, 1) {
+        Ok(planned) => with_books(before, planned.names, planned.kinds),
+        Err(_) => Err(AllocError),
+    }
+}
+
+// The same draft, with a row of one block with this number as that of the first source.
+fn with_one_row(
+    alloc: Global,
+    before: &Version,
+    batch: &Batch,
+    number: u32,
+) -> Result<VersionDraft, AllocError>
+    ensures { IfOk result (λ put. ReplacesRow 0 (edge.one_edge_block number ∷ []) (edge.named_over batch.now before.now) put) }
+{
+    let row = one_row(alloc, number)?;
+    match with_names(alloc, before, batch) {
+        Ok(drafted) => drafted.replace_row(VertexId(0), row),
+        Err(error) => Err(error),
+    }
+}
+
+// The draft with the batch.
+fn entered(alloc: Global, draft: VersionDraft, batch: Batch) -> Result<VersionDraft, AllocError>
+    requires { draft.version.batches ≡ [] }
+    ensures { IfOk result (λ next. next ≡ with_batch draft batch) }
+{
+    match Arc::new(alloc, batch) {
+        Ok(batch) => draft.push_batch(batch),
+        Err(_) => Err(AllocError),
+    }
+}
+
 // The version of one edge, made by hand: its names, its row of one block with this number, and its batch.
 fn of_one_edge(alloc: Global, before: &Version, number: u32) -> Result<Version, AllocError>
     requires { before.now ≡ empty_version }
 {
     let batch = one_insert(alloc)?;
-    let Ok(planned) = plan(alloc, before, &batch, 1) else {
-        return Err(AllocError);
-    };
-    let Plan {
-        names,
-        kinds,
-        shards: _shards,
-    } = planned;
-    let mut row = Vec::new(alloc);
-    row.push(Arc::new(alloc, filled(number))?)?;
-    let shared = VersionDraft::over(before)?;
-    let drafted = shared.set_names(names, kinds);
-    let put = drafted.replace_row(VertexId(0), row)?;
-    let entered = Arc::new(alloc, batch)?;
-    put.push_batch(entered)?.finish()
+    let put = with_one_row(alloc, before, &batch, number)?;
+    entered(alloc, put, batch)?.finish()
+}
+
+// The numbers of the first block and of the second.
+fn first_blocks(version: &Version) -> (Option<u32>, Option<u32>) {
+    let mut blocks = version.blocks();
+    (blocks.next(), blocks.next())
+}
+
+// Whether a first edge leads out of the vertex, and whether a second does.
+fn first_edges(version: &Version, source: u32) -> (bool, bool) {
+    let mut row = version.row(VertexId(source));
+    (row.next().is_some(), row.next().is_some())
 }
 
 // The version has the edge from a to b, in the block with this number.
@@ -167,11 +244,9 @@ fn assert_one_edge(rt: &impl Abort, version: &Version, number: u32) {
     assert_eq!(rt; version.edge_count(), 1);
     assert_eq!(rt; version.names().number("b"), Some(1));
     assert_eq!(rt; version.kinds().number("k"), Some(0));
-    let mut blocks = version.blocks();
-    assert_eq!(rt; (blocks.next(), blocks.next()), (Some(number), None));
-    let mut row = version.row(VertexId(0));
-    assert_eq!(rt; (row.next().is_some(), row.next().is_some()), (true, false));
-    assert!(rt; version.row(VertexId(1)).next().is_none());
+    assert_eq!(rt; first_blocks(version), (Some(number), None));
+    assert_eq!(rt; first_edges(version, 0), (true, false));
+    assert!(rt; has_no_edge_out(version, 1));
 }
 
 // The number of a block that a new pool of 16 grants.

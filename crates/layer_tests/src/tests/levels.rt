@@ -184,20 +184,30 @@ const ALL: Filter = Filter {
     hi: u64::MAX,
 };
 
-/// How many levels a version without batches has from the first vertex.
-fn levels_at_the_opening(alloc: Global) -> Result<usize, LevelError> {
-    match levels(alloc, &Version::empty(alloc), VertexId(0), &ALL) {
+/// How many levels a version has from the first vertex.
+fn level_count(alloc: Global, version: &Version) -> Result<usize, LevelError> {
+    match levels(alloc, version, VertexId(0), &ALL) {
         Ok(table) => Ok(table.len()),
         Err(error) => Err(error),
     }
 }
 
-/// How many labels it has; nothing where memory is refused.
-fn labels_at_the_opening(alloc: Global) -> Option<usize> {
-    match labels(alloc, &Version::empty(alloc), &ALL) {
+/// The same of a version without batches.
+fn levels_at_the_opening(alloc: Global) -> Result<usize, LevelError> {
+    level_count(alloc, &Version::empty(alloc))
+}
+
+/// How many labels a version has; nothing where memory is refused.
+fn label_count(alloc: Global, version: &Version) -> Option<usize> {
+    match labels(alloc, version, &ALL) {
         Ok(table) => Some(table.len()),
         Err(AllocError) => None,
     }
+}
+
+/// The same of a version without batches.
+fn labels_at_the_opening(alloc: Global) -> Option<usize> {
+    label_count(alloc, &Version::empty(alloc))
 }
 
 #[test]

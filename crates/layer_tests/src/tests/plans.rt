@@ -1,9 +1,9 @@
 ghost use Rattle.std.specs.Prelude.{◌<◌, ◌≤◌};
 
 use batch_plan::{Plan, PlanError, law_sources_within, plan, resolve_batch};
-use graph_model::{Batch, Name, NamedOp, PushError};
+use graph_model::{Batch, Name, NamedOp, PushError, VertexId};
 use graph_version::Version;
-use shard_work::Shard;
+use shard_work::{Shard, Step};
 use std::alloc::{AllocError, Global};
 use std::io::Print;
 use std::process::Abort;
@@ -81,7 +81,21 @@ fn batch_of_kinds(alloc: Global, kinds: u32) -> Result<Batch, PushError> {
     Ok(batch)
 }
 
-/// The plan of a batch, if it was built, over a version.
+/// The plan of a batch over a version, where there are workers.
+fn plan_for(
+    alloc: Global,
+    version: &Version,
+    batch: &Batch,
+    workers: usize,
+) -> Result<Plan, PlanError> {
+    if workers > 0 {
+        plan(alloc, version, batch, workers)
+    } else {
+        Err(PlanError::OutOfMemory)
+    }
+}
+
+/// The same of a batch if it was built.
 fn planned(
     alloc: Global,
     version: &Version,
@@ -89,28 +103,52 @@ fn planned(
     workers: usize,
 ) -> Result<Plan, PlanError> {
     match batch {
-        Ok(batch) if workers > 0 => plan(alloc, version, &batch, workers),
-        _ => Err(PlanError::OutOfMemory),
+        Ok(batch) => plan_for(alloc, version, &batch, workers),
+        Err(_) => Err(PlanError::OutOfMemory),
     }
 }
 
-/// Each operation's place in the batch and its source's place in the shard, `-` where a name is unknown; then the
-/// sources.
+/// Adds an operation's place in the batch and its source's place in the shard, `-` where a name is unknown.
+fn push_step(alloc: Global, text: &mut String, step: &Step) -> Result<(), AllocError> {
+    let op = step.op;
+    let word = match step.place {
+        Some(place) => format!(in alloc; "{op}@{} ", place.row)?,
+        None => format!(in alloc; "{op}@- ")?,
+    };
+    text.push_str(word.as_str())
+}
+
+fn push_steps(alloc: Global, text: &mut String, steps: &[Step]) -> Result<(), AllocError> {
+    for step in steps {
+        push_step(alloc, text, step)?;
+    }
+    Ok(())
+}
+
+fn push_source(alloc: Global, text: &mut String, source: u32) -> Result<(), AllocError> {
+    text.push_str(format!(in alloc; " {source}")?.as_str())
+}
+
+fn push_sources(alloc: Global, text: &mut String, sources: &[VertexId]) -> Result<(), AllocError> {
+    text.push_str("of")?;
+    for source in sources {
+        push_source(alloc, text, source.0)?;
+    }
+    Ok(())
+}
+
+fn push_shard(alloc: Global, text: &mut String, shard: &Shard) -> Result<(), AllocError> {
+    push_steps(alloc, text, shard.steps.as_slice())?;
+    push_sources(alloc, text, shard.sources.as_slice())
+}
+
+/// The shard's operations, and then its sources.
 fn shard_text(alloc: Global, shard: &Shard) -> Result<String, AllocError> {
     let mut text = String::new(alloc);
-    for step in &shard.steps {
-        let op = step.op;
-        let word = match step.place {
-            Some(place) => format!(in alloc; "{op}@{} ", place.row)?,
-            None => format!(in alloc; "{op}@- ")?,
-        };
-        text.push_str(word.as_str())?;
+    match push_shard(alloc, &mut text, shard) {
+        Ok(()) => Ok(text),
+        Err(error) => Err(error),
     }
-    text.push_str("of")?;
-    for source in &shard.sources {
-        text.push_str(format!(in alloc; " {}", source.0)?.as_str())?;
-    }
-    Ok(text)
 }
 
 /// These are the plan's shards, a line each; each has no fresh block.
@@ -188,16 +226,26 @@ fn plans_the_names(rt: HostRuntime) {
     law_sources_within();
 }
 
-/// How many operations are resolved, on empty books of these limits.
+/// How many operations of the batch are resolved, on empty books of these limits.
+fn resolved_of(alloc: Global, batch: &Batch, names: u32, kinds: u32) -> Result<usize, PlanError>
+    requires { kinds ≤ 64 }
+{
+    let mut names = NameBook::new(alloc, names);
+    let mut kinds = NameBook::new(alloc, kinds);
+    match resolve_batch(alloc, &mut names, &mut kinds, batch.ops()) {
+        Ok(ops) => Ok(ops.len()),
+        Err(error) => Err(error),
+    }
+}
+
+/// The same of the batch of five operations.
 fn resolved(alloc: Global, names: u32, kinds: u32) -> Result<usize, PlanError>
     requires { kinds ≤ 64 }
 {
-    let Ok(batch) = batch(alloc) else {
-        return Err(PlanError::OutOfMemory);
-    };
-    let mut names = NameBook::new(alloc, names);
-    let mut kinds = NameBook::new(alloc, kinds);
-    Ok(resolve_batch(alloc, &mut names, &mut kinds, batch.ops())?.len())
+    match batch(alloc) {
+        Ok(batch) => resolved_of(alloc, &batch, names, kinds),
+        Err(_) => Err(PlanError::OutOfMemory),
+    }
 }
 
 /// Three names and one kind against books that are too small for them: the names come first.

@@ -1,5 +1,6 @@
-ghost use Rattle.std.specs.Prelude.{◌≡◌, IfOk, ◌≤◌, length};
+ghost use Rattle.std.specs.Prelude.{◌≡◌, IfOk, length};
 ghost use Rattle.shard_work.specs.Shards.{AreSteps};
+ghost use Rattle.batch_apply.specs.Jobs.{IsShard};
 ghost use Rattle.graph_model.specs.Changes.{IsChange};
 
 use edge_block::Block;
@@ -35,17 +36,39 @@ fn change_by(letter: u8, number: i8) -> EdgeChange
     }
 }
 
-/// The shard of one source, of a table of letters, targets and numbers.
-fn shard_of(alloc: Global, table: &[(u8, u32, i8)]) -> Result<Shard, AllocError>
-    ensures fresh { IfOk result (λ s. length s.steps.items ≤ length s.fresh.items) }
-    ensures steps { IfOk result (λ s. AreSteps 1 s.steps.items) }
-    ensures sources { IfOk result (λ s. length s.sources.items ≡ 1) }
+/// A fresh block for each operation.
+fn fresh_for(alloc: Global, steps: &[Step]) -> Result<Vec<Arc<Block>>, AllocError>
+    ensures { IfOk result (λ fresh. length fresh.items ≡ length steps.now) }
+{
+    let mut fresh = Vec::new(alloc);
+    for step in steps {
+        fresh.push(Arc::new(alloc, Block::blank(step.op))?)?;
+    }
+    Ok(fresh)
+}
+
+/// The shard of one source, with these operations.
+pub(super) fn shard_with(alloc: Global, source: u32, steps: Vec<Step>) -> Result<Shard, AllocError>
+    requires { AreSteps 1 steps.items }
+    ensures { IfOk result IsShard }
+{
+    let fresh = fresh_for(alloc, steps.as_slice())?;
+    let mut sources = Vec::new(alloc);
+    sources.push(VertexId(source))?;
+    Ok(Shard {
+        sources,
+        steps,
+        fresh,
+    })
+}
+
+/// The operations of one source, of a table of letters, targets and numbers.
+fn steps_of(alloc: Global, table: &[(u8, u32, i8)]) -> Result<Vec<Step>, AllocError>
+    ensures { IfOk result (λ steps. AreSteps 1 steps.items) }
 {
     let mut steps = Vec::new(alloc);
-    let mut fresh = Vec::new(alloc);
     let mut op = 0;
     for (letter, target, number) in table {
-        fresh.push(Arc::new(alloc, Block::blank(op))?)?;
         steps.push(Step {
             op,
             place: Some(Place {
@@ -57,13 +80,14 @@ fn shard_of(alloc: Global, table: &[(u8, u32, i8)]) -> Result<Shard, AllocError>
         })?;
         op = op.wrapping_add(1);
     }
-    let mut sources = Vec::new(alloc);
-    sources.push(VertexId(7))?;
-    Ok(Shard {
-        sources,
-        steps,
-        fresh,
-    })
+    Ok(steps)
+}
+
+/// The shard of one source, of such a table.
+fn shard_of(alloc: Global, table: &[(u8, u32, i8)]) -> Result<Shard, AllocError>
+    ensures { IfOk result IsShard }
+{
+    shard_with(alloc, 7, steps_of(alloc, table)?)
 }
 
 /// What the work on a table leaves of an empty graph.
@@ -87,17 +111,28 @@ fn work_on_inserts(alloc: Global, count: u32) -> Result<ShardDone, AllocError> {
     work(alloc, table.as_slice())
 }
 
-// Two blocks are taken, the first of which is full.
-fn check_overflow(rt: &impl Abort, done: &ShardDone) {
-    assert_eq!(rt; done.left.taken.len(), 2);
-    assert_eq!(rt; done.left.unused.len(), 31);
-    assert_eq!(rt; done.left.dropped.len(), 0);
-    assert_eq!(rt; done.rows.len(), 1);
-    assert_eq!(rt; done.rows[0].0, VertexId(7));
-    let row = done.rows[0].1.as_slice();
+// The row has two blocks, the first of which is full.
+fn check_overflowed(rt: &impl Abort, row: &[Arc<Block>]) {
     assert_eq!(rt; row.len(), 2);
     assert_eq!(rt; (row[0].len(), row[1].len()), (32, 1));
     assert!(rt; row[1].find(32).is_some());
+}
+
+// How many blocks are taken, unused and dropped.
+pub(super) fn blocks_left(done: &ShardDone) -> (usize, usize, usize) {
+    (
+        done.left.taken.len(),
+        done.left.unused.len(),
+        done.left.dropped.len(),
+    )
+}
+
+// Two blocks are taken, the first of which is full.
+fn check_overflow(rt: &impl Abort, done: &ShardDone) {
+    assert_eq!(rt; blocks_left(done), (2, 31, 0));
+    assert_eq!(rt; done.rows.len(), 1);
+    assert_eq!(rt; done.rows[0].0, VertexId(7));
+    check_overflowed(rt, done.rows[0].1.as_slice());
 }
 
 #[test]
@@ -106,37 +141,49 @@ fn fills_a_block_and_appends_a_second(rt: HostRuntime) -> Result<(), Fail> {
     Ok(())
 }
 
-/// Tables of one source's operations from an empty graph: the outcomes, the blocks taken, and the targets' weights.
+/// One source's operations from an empty graph.
+const OPERATIONS: [(u8, u32, i8); 6] = [
+    (b'i', 5, 1),
+    (b'+', 5, 2),
+    (b'm', 6, 0),
+    (b'+', 6, 1),
+    (b'-', 5, 0),
+    (b'-', 5, 0),
+];
+
+/// Their outcomes, each with its operation's place in the batch.
+const OUTCOMES: [(u32, Outcome); 6] = [
+    (0, Outcome::Inserted),
+    (1, Outcome::Updated),
+    (2, Outcome::Inserted),
+    (3, Outcome::Overflow),
+    (4, Outcome::Removed),
+    (5, Outcome::Absent),
+];
+
+// The work has these outcomes, and takes one of six blocks.
+fn check_outcomes(rt: &impl Abort, done: &ShardDone) {
+    assert_eq!(rt; done.outcomes.as_slice(), OUTCOMES.as_slice());
+    assert_eq!(rt; (done.left.taken.len(), done.left.unused.len()), (1, 5));
+}
+
 #[test]
 fn works_by_the_operation_rule(rt: HostRuntime) -> Result<(), Fail> {
-    let all = [
-        (b'i', 5, 1),
-        (b'+', 5, 2),
-        (b'm', 6, 0),
-        (b'+', 6, 1),
-        (b'-', 5, 0),
-        (b'-', 5, 0),
-    ];
-    let done = work(rt.alloc(), &all)?;
-    let mut outcomes = done.outcomes.as_slice().iter().map(|entry| entry.1);
-    assert_eq!(rt; outcomes.next(), Some(Outcome::Inserted));
-    assert_eq!(rt; outcomes.next(), Some(Outcome::Updated));
-    assert_eq!(rt; outcomes.next(), Some(Outcome::Inserted));
-    assert_eq!(rt; outcomes.next(), Some(Outcome::Overflow));
-    assert_eq!(rt; outcomes.next(), Some(Outcome::Removed));
-    assert_eq!(rt; outcomes.next(), Some(Outcome::Absent));
-    assert_eq!(rt; outcomes.next(), None);
-    assert_eq!(rt; (done.left.taken.len(), done.left.unused.len()), (1, 5));
+    check_outcomes(&rt, &work(rt.alloc(), OPERATIONS.as_slice())?);
     Ok(())
+}
+
+// No block is taken, and the row has none.
+fn check_emptied(rt: &impl Abort, done: &ShardDone) {
+    assert_eq!(rt; (done.left.taken.len(), done.left.unused.len()), (0, 2));
+    assert_eq!(rt; done.rows.len(), 1);
+    assert_eq!(rt; done.rows[0].1.len(), 0);
 }
 
 /// A block that the batch fills and empties again is in no row, and is handed back.
 #[test]
 fn leaves_an_emptied_block_out(rt: HostRuntime) -> Result<(), Fail> {
-    let done = work(rt.alloc(), &[(b'i', 5, 1), (b'-', 5, 0)])?;
-    assert_eq!(rt; (done.left.taken.len(), done.left.unused.len()), (0, 2));
-    assert_eq!(rt; done.rows.len(), 1);
-    assert_eq!(rt; done.rows[0].1.len(), 0);
+    check_emptied(&rt, &work(rt.alloc(), &[(b'i', 5, 1), (b'-', 5, 0)])?);
     Ok(())
 }
 

@@ -1,27 +1,25 @@
 ghost use Rattle.std.specs.Prelude.{IfOk, All};
 ghost use Rattle.batch_apply.specs.Jobs.{IsShard};
+ghost use Rattle.shard_work.specs.Shards.{AreSteps};
 
+use super::shards::{blocks_left, shard_with};
 use batch_apply::{Job, PassAll, do_all};
-use edge_block::Block;
 use graph_model::{EdgeChange, KindId, Outcome, VertexId};
 use graph_version::Version;
 use shard_work::{Place, Shard, ShardDone, Step};
 use std::alloc::{AllocError, Global};
 use std::io::Print;
-use std::sync::Arc;
+use std::process::Abort;
 use std::test::Fail;
 use std::thread::Threads;
 
-/// A shard of one source: an insertion to each of these targets, in order, at most 32 of them; the last operation is a
-/// removal whose source is unknown.
-fn shard_of(alloc: Global, source: u32, targets: &[u32]) -> Result<Shard, AllocError>
-    ensures { IfOk result IsShard }
+/// An insertion to each of these targets, in order; the last operation is a removal whose source is unknown.
+fn steps_to(alloc: Global, targets: &[u32]) -> Result<Vec<Step>, AllocError>
+    ensures { IfOk result (λ steps. AreSteps 1 steps.items) }
 {
     let mut steps = Vec::new(alloc);
-    let mut fresh = Vec::new(alloc);
     let mut op = 0;
     for target in targets {
-        fresh.push(Arc::new(alloc, Block::blank(op))?)?;
         steps.push(Step {
             op,
             place: Some(Place {
@@ -33,19 +31,19 @@ fn shard_of(alloc: Global, source: u32, targets: &[u32]) -> Result<Shard, AllocE
         })?;
         op = op.wrapping_add(1);
     }
-    fresh.push(Arc::new(alloc, Block::blank(op))?)?;
     steps.push(Step {
         op,
         place: None,
         change: EdgeChange::Remove,
     })?;
-    let mut sources = Vec::new(alloc);
-    sources.push(VertexId(source))?;
-    Ok(Shard {
-        sources,
-        steps,
-        fresh,
-    })
+    Ok(steps)
+}
+
+/// A shard of one source, with these operations; at most 32 targets.
+fn shard_of(alloc: Global, source: u32, targets: &[u32]) -> Result<Shard, AllocError>
+    ensures { IfOk result IsShard }
+{
+    shard_with(alloc, source, steps_to(alloc, targets)?)
 }
 
 /// A job for each worker, on the source of its number: an insertion, the same again, and a removal.
@@ -79,30 +77,36 @@ fn work<R: Threads + Sync>(
     )
 }
 
+/// The outcomes of a job, each with its operation's place in the batch.
+const OUTCOMES: [(u32, Outcome); 3] = [
+    (0, Outcome::Inserted),
+    (1, Outcome::Updated),
+    (2, Outcome::Absent),
+];
+
+// What the work on the job of this source leaves.
+fn check_done(rt: &impl Abort, done: &ShardDone, source: u32) {
+    assert_eq!(rt; done.rows.len(), 1);
+    assert_eq!(rt; done.rows[0].0, VertexId(source));
+    assert_eq!(rt; done.outcomes.as_slice(), OUTCOMES.as_slice());
+    assert_eq!(rt; blocks_left(done), (1, 2, 0));
+}
+
+// What the work leaves is that of so many jobs, in their order.
+fn check_each(rt: &impl Abort, all: &[ShardDone], workers: u32) {
+    let mut source = 0;
+    for done in all {
+        check_done(rt, done, source);
+        source = source.wrapping_add(1);
+    }
+    assert_eq!(rt; source, workers);
+}
+
 /// Each worker's source, outcomes and blocks, in the order of the jobs.
 #[test]
 fn works_on_each_shard_in_order(rt: HostRuntime) -> Result<(), Fail> {
     for workers in 0..4 {
-        let mut source = 0;
-        for done in work(&rt, rt.alloc(), workers)?.as_slice() {
-            assert_eq!(rt; done.rows.len(), 1);
-            assert_eq!(rt; done.rows[0].0, VertexId(source));
-            let mut outcomes = done.outcomes.as_slice().iter();
-            assert_eq!(rt; outcomes.next(), Some(&(0, Outcome::Inserted)));
-            assert_eq!(rt; outcomes.next(), Some(&(1, Outcome::Updated)));
-            assert_eq!(rt; outcomes.next(), Some(&(2, Outcome::Absent)));
-            assert_eq!(rt; outcomes.next(), None);
-            assert_eq!(rt;
-                (
-                    done.left.taken.len(),
-                    done.left.unused.len(),
-                    done.left.dropped.len()
-                ),
-                (1, 2, 0)
-            );
-            source = source.wrapping_add(1);
-        }
-        assert_eq!(rt; source, workers);
+        check_each(&rt, work(&rt, rt.alloc(), workers)?.as_slice(), workers);
     }
     Ok(())
 }
