@@ -1,6 +1,6 @@
 // What sessions on lent versions answer.
 
-use super::batches::{Op, batch_of, name, tell_refused};
+use super::batches::{Op, batch_of, ends_of, name, tell_refused};
 use super::desks::is_applied;
 use super::opened::{Opened, new_store};
 use super::seats::{lent, let_go};
@@ -19,11 +19,15 @@ pub(super) type Edge = Option<(i64, u64, u64)>;
 type Answers = (Edge, bool);
 
 fn edge_request(alloc: Global) -> Result<Request, AllocError> {
-    Ok(Request::OneEdge {
-        kind: name(alloc, "k")?,
-        source: name(alloc, "a")?,
-        target: name(alloc, "b")?,
-    })
+    let kind = name(alloc, "k")?;
+    match ends_of(alloc, "a", "b") {
+        Ok((source, target)) => Ok(Request::OneEdge {
+            kind,
+            source,
+            target,
+        }),
+        Err(error) => Err(error),
+    }
 }
 
 fn cores_request() -> Request {
@@ -36,18 +40,33 @@ fn cores_request() -> Request {
     }
 }
 
-/// What the session answers of the edge from `a` to `b`.
-pub(super) fn edge_told(alloc: Global, session: &Session) -> Result<Edge, AskError> {
-    match session.ask(&edge_request(alloc)?)? {
-        Reply::OneEdge(edge) => Ok(edge),
+fn edge_of(reply: &Reply) -> Result<Edge, AskError> {
+    match reply {
+        Reply::OneEdge(edge) => Ok(*edge),
         _ => Err(AskError::NoKind),
     }
 }
 
+/// What the session answers of the edge from `a` to `b`.
+pub(super) fn edge_told(alloc: Global, session: &Session) -> Result<Edge, AskError> {
+    let request = edge_request(alloc)?;
+    match session.ask(&request) {
+        Ok(reply) => edge_of(&reply),
+        Err(error) => Err(error),
+    }
+}
+
+fn are_cores(reply: &NumberedReply, wanted: &[u32]) -> bool {
+    match reply {
+        NumberedReply::Cores(numbers) => numbers.as_slice() == wanted,
+        _ => false,
+    }
+}
+
 fn tells_cores(session: &Session, wanted: &[u32]) -> Result<bool, AskError> {
-    match session.ask_in_numbers(&cores_request())? {
-        NumberedReply::Cores(numbers) => Ok(numbers.as_slice() == wanted),
-        _ => Ok(false),
+    match session.ask_in_numbers(&cores_request()) {
+        Ok(reply) => Ok(are_cores(&reply, wanted)),
+        Err(error) => Err(error),
     }
 }
 
@@ -63,7 +82,19 @@ const FIRST: [Op; 1] = [("i", "a", "b", 1, 1)];
 /// It goes, and one from b to c comes.
 pub(super) const SECOND: [Op; 2] = [("r", "a", "b", 0, 0), ("i", "b", "c", 1, 1)];
 
-/// The answers of a session that holds the desk's last version while a batch takes the edge away, and its seat.
+/// The answers of a session while a batch takes the edge away; nothing where the batch is refused.
+fn told_over_a_batch<R: Threads + Wait + Sync>(
+    rt: &R,
+    alloc: Global,
+    desk: &mut Desk,
+    session: &Session,
+) -> Option<Answers> {
+    let second = is_applied(rt, desk, batch_of(alloc, SECOND.as_slice()));
+    let answers = told(alloc, session, &[1, 1]);
+    if second { answers } else { None }
+}
+
+/// The answers of a session that holds the desk's last version meanwhile, and its seat.
 fn held_over_a_batch<R: Threads + Wait + Sync>(
     rt: &R,
     alloc: Global,
@@ -73,10 +104,8 @@ fn held_over_a_batch<R: Threads + Wait + Sync>(
 ) -> (Seat, Option<Answers>) {
     match lent(desk, board, seat) {
         Ok(session) => {
-            let second = is_applied(rt, desk, batch_of(alloc, SECOND.as_slice()));
-            let answers = told(alloc, &session, &[1, 1]);
-            let seat = let_go(session, board);
-            (seat, if second { answers } else { None })
+            let answers = told_over_a_batch(rt, alloc, desk, &session);
+            (let_go(session, board), answers)
         }
         Err(seat) => (seat, None),
     }

@@ -16,39 +16,48 @@ pub(super) fn name(alloc: Global, text: &str) -> Result<Name, AllocError> {
     Ok(Name::of(String::from_str(alloc, text)?))
 }
 
-fn insertion(alloc: Global, op: Op) -> Result<NamedOp, AllocError> {
-    Ok(NamedOp::Insert {
-        kind: name(alloc, "k")?,
-        source: name(alloc, op.1)?,
-        target: name(alloc, op.2)?,
-        weight: op.3,
-        time: op.4,
-    })
+/// The names of a source and a target.
+pub(super) fn ends_of(
+    alloc: Global,
+    source: &str,
+    target: &str,
+) -> Result<(Name, Name), AllocError> {
+    let source = name(alloc, source)?;
+    match name(alloc, target) {
+        Ok(target) => Ok((source, target)),
+        Err(error) => Err(error),
+    }
 }
 
-fn increment(alloc: Global, op: Op) -> Result<NamedOp, AllocError> {
-    Ok(NamedOp::Incr {
-        kind: name(alloc, "k")?,
-        source: name(alloc, op.1)?,
-        target: name(alloc, op.2)?,
-        amount: op.3,
-        time: op.4,
-    })
-}
-
-fn removal(alloc: Global, op: Op) -> Result<NamedOp, AllocError> {
-    Ok(NamedOp::Remove {
-        kind: name(alloc, "k")?,
-        source: name(alloc, op.1)?,
-        target: name(alloc, op.2)?,
-    })
+fn named_operation(op: Op, kind: Name, source: Name, target: Name) -> NamedOp {
+    match op.0 {
+        "i" => NamedOp::Insert {
+            kind,
+            source,
+            target,
+            weight: op.3,
+            time: op.4,
+        },
+        "a" => NamedOp::Incr {
+            kind,
+            source,
+            target,
+            amount: op.3,
+            time: op.4,
+        },
+        _ => NamedOp::Remove {
+            kind,
+            source,
+            target,
+        },
+    }
 }
 
 fn operation(alloc: Global, op: Op) -> Result<NamedOp, AllocError> {
-    match op.0 {
-        "i" => insertion(alloc, op),
-        "a" => increment(alloc, op),
-        _ => removal(alloc, op),
+    let kind = name(alloc, "k")?;
+    match ends_of(alloc, op.1, op.2) {
+        Ok((source, target)) => Ok(named_operation(op, kind, source, target)),
+        Err(error) => Err(error),
     }
 }
 
@@ -88,9 +97,19 @@ fn push_pairs(
     targets: &[&'static str],
 ) -> Result<(), AllocError> {
     for source in sources {
-        for target in targets {
-            push(batch, insertion(alloc, ("i", *source, *target, 1, 1)))?;
-        }
+        push_from(alloc, batch, *source, targets)?;
+    }
+    Ok(())
+}
+
+fn push_from(
+    alloc: Global,
+    batch: &mut Batch,
+    source: &'static str,
+    targets: &[&'static str],
+) -> Result<(), AllocError> {
+    for target in targets {
+        push(batch, operation(alloc, ("i", source, *target, 1, 1)))?;
     }
     Ok(())
 }

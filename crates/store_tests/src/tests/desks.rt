@@ -121,22 +121,26 @@ fn applies_a_batch(rt: HostRuntime) -> Result<(), Fail> {
     Ok(())
 }
 
-/// The error of a batch of 17 insertions of one source over 16 blocks, the counts after it, and those after four
-/// operations that follow it.
+/// The error of a batch of 17 insertions of one source, the counts after it, and those after four operations that follow it.
+fn too_many_on<R: Threads + Wait + Sync>(
+    rt: &R,
+    alloc: Global,
+    desk: &mut Desk,
+) -> (Option<ApplyError>, Stat, Stat) {
+    let batch = all_pairs(alloc, 1, &LETTERS[..1], &LETTERS[..17]);
+    let refused = apply_to(rt, desk, batch).err();
+    let stat = desk.stat();
+    let _told = applies_four(rt, alloc, desk);
+    (refused, stat, desk.stat())
+}
+
+/// The same over a new desk of 16 blocks.
 fn too_many<R: Threads + Wait + Sync>(
     rt: &R,
     alloc: Global,
 ) -> Result<(Option<ApplyError>, Stat, Stat), AllocError> {
     let mut desk = new_desk(rt, alloc, 4, 16)?;
-    let refused = apply_to(
-        rt,
-        &mut desk,
-        all_pairs(alloc, 1, &LETTERS[..1], &LETTERS[..17]),
-    )
-    .err();
-    let stat = desk.stat();
-    let _told = applies_four(rt, alloc, &mut desk);
-    Ok((refused, stat, desk.stat()))
+    Ok(too_many_on(rt, alloc, &mut desk))
 }
 
 #[test]
@@ -181,32 +185,42 @@ fn applies_a_batch_by_several_workers(rt: HostRuntime) -> Result<(), Fail> {
     Ok(())
 }
 
-/// A desk of 16 blocks after the edges a to b and a to c were inserted by two batches.
-fn after_two<R: Threads + Wait + Sync>(rt: &R, alloc: Global) -> Result<Desk, AllocError> {
-    let mut desk = new_desk(rt, alloc, 1, 16)?;
-    let first = is_applied(rt, &mut desk, batch_of(alloc, &[("i", "a", "b", 1, 1)]));
-    let second = is_applied(rt, &mut desk, batch_of(alloc, &[("i", "a", "c", 1, 1)]));
-    if first && second {
-        Ok(desk)
-    } else {
-        Err(AllocError)
-    }
+/// Applies a batch that inserts an edge from a.
+pub(super) fn applies_an_edge<R: Threads + Wait + Sync>(
+    rt: &R,
+    alloc: Global,
+    desk: &mut Desk,
+    target: &'static str,
+) -> bool {
+    is_applied(rt, desk, batch_of(alloc, &[("i", "a", target, 1, 1)]))
 }
 
-/// What two collections answer after two batches, at floors 1 and 2, the counts before and after them, and the number of
-/// entries.
+/// What two collections answer at floors 1 and 2, the counts before and after them, and the number of entries; nothing where
+/// there weren't two batches.
+fn collected_after_two(desk: &mut Desk) -> Option<(Stat, Collected, Collected, Stat, usize)> {
+    let before = desk.stat();
+    if before.number != 2 {
+        return None;
+    }
+    let low = desk.collect(1);
+    let high = desk.collect(2);
+    Some((before, low, high, desk.stat(), desk.journal().len()))
+}
+
+/// The same over a desk of 16 blocks, after the edges a to b and a to c were inserted by two batches.
 fn collected<R: Threads + Wait + Sync>(
     rt: &R,
     alloc: Global,
 ) -> Result<(Stat, Collected, Collected, Stat, usize), AllocError> {
-    let mut desk = after_two(rt, alloc)?;
-    let before = desk.stat();
-    if before.number != 2 {
-        return Err(AllocError);
+    let mut desk = new_desk(rt, alloc, 1, 16)?;
+    let first = applies_an_edge(rt, alloc, &mut desk, "b");
+    let second = applies_an_edge(rt, alloc, &mut desk, "c");
+    let told = collected_after_two(&mut desk);
+    if first && second {
+        told.ok_or(AllocError)
+    } else {
+        Err(AllocError)
     }
-    let low = desk.collect(1);
-    let high = desk.collect(2);
-    Ok((before, low, high, desk.stat(), desk.journal().len()))
 }
 
 /// The block that the second batch replaced is retired with number 2.
@@ -240,17 +254,26 @@ fn collects_what_a_batch_dropped(rt: HostRuntime) -> Result<(), Fail> {
 }
 
 /// The error of four operations where they are refused, the counts after them, and those after they are tried again.
+fn tried_on<R: Threads + Wait + Sync>(
+    rt: &R,
+    alloc: Global,
+    desk: &mut Desk,
+) -> (Option<ApplyError>, Stat, Stat) {
+    let refused = apply_to(rt, desk, batch_of(alloc, FOUR.as_slice())).err();
+    let stat = desk.stat();
+    if refused.is_some() {
+        let _told = applies_four(rt, alloc, desk);
+    }
+    (refused, stat, desk.stat())
+}
+
+/// The same over a new desk.
 fn tried_twice<R: Threads + Wait + Sync>(
     rt: &R,
     alloc: Global,
 ) -> Result<(Option<ApplyError>, Stat, Stat), AllocError> {
     let mut desk = new_desk(rt, alloc, 4, 16)?;
-    let refused = apply_to(rt, &mut desk, batch_of(alloc, FOUR.as_slice())).err();
-    let stat = desk.stat();
-    if refused.is_some() {
-        let _told = applies_four(rt, alloc, &mut desk);
-    }
-    Ok((refused, stat, desk.stat()))
+    Ok(tried_on(rt, alloc, &mut desk))
 }
 
 #[test]

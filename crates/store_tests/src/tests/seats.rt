@@ -3,7 +3,7 @@
 ghost use Rattle.std.specs.Prelude.{◌≡◌};
 
 use super::batches::{batch_of, tell_refused};
-use super::desks::is_applied;
+use super::desks::applies_an_edge;
 use super::opened::{Opened, new_store};
 use batch_apply::PassAll;
 use graph_model::Batch;
@@ -59,6 +59,20 @@ fn learns_of<R: Threads + Wait + Sync>(
     }
 }
 
+/// A session of a seat that was refused one, and the seat's pin before it.
+fn held_again(
+    desk: &Desk,
+    board: &mut Board,
+    seat: Seat,
+    number: SeatNo,
+) -> Option<(Session, bool, Option<Pin>)> {
+    let left = board.pin_of(number);
+    match lent(desk, board, seat) {
+        Ok(session) => Some((session, true, left)),
+        Err(_) => None,
+    }
+}
+
 /// A session of the seat of that number, whether it was refused at first, and the seat's pin then. Where it is refused, it is
 /// tried once more.
 fn held(
@@ -70,29 +84,37 @@ fn held(
     let before = board.pin_of(number);
     match lent(desk, board, seat) {
         Ok(session) => Some((session, false, before)),
-        Err(seat) => {
-            let left = board.pin_of(number);
-            match lent(desk, board, seat) {
-                Ok(session) => Some((session, true, left)),
-                Err(_) => None,
-            }
-        }
+        Err(seat) => held_again(desk, board, seat, number),
     }
 }
 
-/// A session of the seat of that number, which lets its version go again.
-fn held_and_released(desk: &Desk, board: &mut Board, seat: Seat, number: SeatNo) -> Option<Sights> {
-    let (session, refused, before) = held(desk, board, seat, number)?;
+/// What is seen of a session of the seat of that number, which lets its version go again.
+fn sights_of(
+    board: &mut Board,
+    session: Session,
+    number: SeatNo,
+    refused: bool,
+    before: Option<Pin>,
+) -> Sights {
     let entered = number_held(&session);
     let held = board.pin_of(number);
     let _seat = let_go(session, board);
-    Some(Sights {
+    Sights {
         refused,
         before,
         number: entered,
         held,
         after: board.pin_of(number),
-    })
+    }
+}
+
+fn held_and_released(desk: &Desk, board: &mut Board, seat: Seat, number: SeatNo) -> Option<Sights> {
+    match held(desk, board, seat, number) {
+        Some((session, refused, before)) => {
+            Some(sights_of(board, session, number, refused, before))
+        }
+        None => None,
+    }
 }
 
 /// A session of the second of two seats over a new store, after one batch that the seat learnt of.
@@ -142,18 +164,26 @@ fn refused_sessions_set_no_pin(rt: HostRuntime) {
     }
 }
 
-/// Applies a batch that inserts an edge from a.
-fn applies_an_edge<R: Threads + Wait + Sync>(
+/// The number of a session's version after one batch; the floor raised to 1, and to 2 after a second batch. Nothing where that is
+/// refused.
+fn floors_while_held<R: Threads + Wait + Sync>(
     rt: &R,
     alloc: Global,
     desk: &mut Desk,
-    target: &'static str,
-) -> bool {
-    is_applied(rt, desk, batch_of(alloc, &[("i", "a", target, 1, 1)]))
+    board: &mut Board,
+    session: &Session,
+) -> Option<[u64; 3]> {
+    let low = board.raise(1);
+    let second = applies_an_edge(rt, alloc, desk, "c");
+    let held = board.raise(2);
+    if second {
+        Some([number_held(session), low, held])
+    } else {
+        None
+    }
 }
 
-/// The number of a session's version after one batch; the floor raised to 1, and to 2 after a second batch, and then again once
-/// the session let its version go. Nothing where it is refused.
+/// The same, and the floor raised to 2 again once the session let its version go.
 fn floors_beside<R: Threads + Wait + Sync>(
     rt: &R,
     alloc: Global,
@@ -163,16 +193,10 @@ fn floors_beside<R: Threads + Wait + Sync>(
 ) -> Option<[u64; 4]> {
     match lent(desk, board, seat) {
         Ok(session) => {
-            let low = board.raise(1);
-            let second = applies_an_edge(rt, alloc, desk, "c");
-            let held = board.raise(2);
-            let number = number_held(&session);
+            let told = floors_while_held(rt, alloc, desk, board, &session);
             let _seat = let_go(session, board);
-            if second {
-                Some([number, low, held, board.raise(2)])
-            } else {
-                None
-            }
+            let [number, low, held] = told?;
+            Some([number, low, held, board.raise(2)])
         }
         Err(_) => None,
     }

@@ -253,30 +253,56 @@ enum Told {
     Learnt(Learning, u64),
 }
 
-fn told_of<J: Naming, R: Threads + Wait + Sync>(
+fn held_told<J: Naming, R: Threads + Wait + Sync>(
     rt: &R,
     alloc: Global,
     store: &Store<J>,
     mut seat: Seat,
+) -> Told
+    requires { IsOfOpening J.book seat.seen }
+{
+    let learning = learns_of(rt, store, &mut seat, batch_of(alloc, CHAIN.as_slice()));
+    Told::Held(learning, while_held(rt, alloc, store, seat))
+}
+
+fn learnt_told<J: Naming, R: Threads + Wait + Sync>(
+    rt: &R,
+    alloc: Global,
+    store: &Store<J>,
+    mut seat: Seat,
+) -> Told
+    requires { IsOfOpening J.book seat.seen }
+{
+    let learning = learns_of(rt, store, &mut seat, batch_of(alloc, CHAIN.as_slice()));
+    Told::Learnt(learning, number_entered(rt, store, seat))
+}
+
+fn twice_told<J: Naming, R: Threads + Wait + Sync>(
+    rt: &R,
+    alloc: Global,
+    store: &Store<J>,
+) -> Told {
+    Told::Twice(
+        answered(rt, store, batch_of(alloc, &CHAIN[..1])),
+        answered(rt, store, batch_of(alloc, &CHAIN[..1])),
+    )
+}
+
+fn told_of<J: Naming, R: Threads + Wait + Sync>(
+    rt: &R,
+    alloc: Global,
+    store: &Store<J>,
+    seat: Seat,
     tale: Tale,
 ) -> Told
     requires { IsOfOpening J.book seat.seen }
 {
     match tale {
-        Tale::Twice => Told::Twice(
-            answered(rt, store, batch_of(alloc, &CHAIN[..1])),
-            answered(rt, store, batch_of(alloc, &CHAIN[..1])),
-        ),
-        Tale::Held => {
-            let learning = learns_of(rt, store, &mut seat, batch_of(alloc, CHAIN.as_slice()));
-            Told::Held(learning, while_held(rt, alloc, store, seat))
-        }
+        Tale::Twice => twice_told(rt, alloc, store),
+        Tale::Held => held_told(rt, alloc, store, seat),
         Tale::Pinned => Told::Pinned(while_pinned(rt, alloc, store, seat)),
         Tale::Tried => Told::Tried(try_twice(rt, alloc, store)),
-        Tale::Learnt => {
-            let learning = learns_of(rt, store, &mut seat, batch_of(alloc, CHAIN.as_slice()));
-            Told::Learnt(learning, number_entered(rt, store, seat))
-        }
+        Tale::Learnt => learnt_told(rt, alloc, store, seat),
     }
 }
 
