@@ -1,8 +1,8 @@
 //! Levels, labels, core numbers and degrees of versions of R-MAT graphs with 2^10 to 2^16 vertices and four times as many
 //! insertions, and of one path of 65,536 vertices.
 
-use crate::desks::{grow, opened, refused};
-use crate::edges::{Edges, Shape};
+use crate::desks::{grown, refused};
+use crate::edges::Shape;
 use graph_cores::cores;
 use graph_degrees::degrees;
 use graph_levels::{labels, levels};
@@ -45,13 +45,21 @@ fn measure_graph<R: Threads + Wait + Sync + CpuClock + Print + AllocGlobal>(
     insertions: u32,
     rounds: u32,
 ) -> io::Result<()> {
-    let mut desk = opened(rt, 1)?;
-    grow(rt, &mut desk, &mut Edges::new(shape), insertions)?;
+    let desk = grown(rt, shape, insertions)?;
+    measure_version(rt, name, desk.last(), rounds)
+}
+
+fn measure_version<R: CpuClock + Print + AllocGlobal>(
+    rt: &R,
+    name: &str,
+    version: &Version,
+    rounds: u32,
+) -> io::Result<()> {
     for _ in 0..rounds {
-        measure_levels(rt, name, desk.last())?;
-        measure_labels(rt, name, desk.last())?;
-        measure_cores(rt, name, desk.last())?;
-        measure_degrees(rt, name, desk.last())?;
+        measure_levels(rt, name, version)?;
+        measure_labels(rt, name, version)?;
+        measure_cores(rt, name, version)?;
+        measure_degrees(rt, name, version)?;
     }
     Ok(())
 }

@@ -44,8 +44,19 @@ fn measure_graph<R: Threads + Wait + Sync + Clock + CpuClock + Print + AllocGlob
     let mut desk = opened(rt, workers)?;
     let mut edges = Edges::new(shape);
     grow(rt, &mut desk, &mut edges, 65_536)?;
+    measure_sizes(rt, graph, &mut desk, &mut edges, workers, rounds)
+}
+
+fn measure_sizes<R: Threads + Wait + Sync + Clock + CpuClock + Print + AllocGlobal>(
+    rt: &R,
+    graph: &str,
+    desk: &mut Desk,
+    edges: &mut Edges,
+    workers: usize,
+    rounds: u32,
+) -> io::Result<()> {
     for size in [1, 8, 64, 512, 1024, 2048, 4096] {
-        measure_size(rt, graph, &mut desk, &mut edges, size, workers, rounds)?;
+        measure_size(rt, graph, desk, edges, size, workers, rounds)?;
     }
     Ok(())
 }
@@ -77,7 +88,7 @@ fn tell<R: Print>(
     edges: u64,
 ) -> io::Result<()> {
     let (call, graph) = what;
-    let (processor, elapsed) = (spent.processor, spent.elapsed);
+    let (processor, elapsed) = (spent.processor.as_nanos(), spent.elapsed.as_nanos());
     println!(rt; "{call} {graph} {size} {workers} {processor} {elapsed} {edges}")
 }
 
@@ -136,9 +147,9 @@ fn desk_all<R: Threads + Wait + Sync + Clock + CpuClock + AllocGlobal>(
     let mut spent = Times::NONE;
     for _ in 0..OPERATIONS.checked_div(size).unwrap_or(0) {
         let batch = insertions(rt.alloc(), edges, size)?;
-        let before = Times::now(rt)?;
+        let before = Times::now(rt);
         apply_to(rt, desk, batch)?;
-        spent.add_since(rt, before)?;
+        spent.add_since(rt, before?)?;
     }
     Ok(spent)
 }

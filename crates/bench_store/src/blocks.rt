@@ -79,21 +79,23 @@ fn scan_block(block: &Block, view: &Filter) -> i64 {
 /// Prints a line for each measurement: its name, how many edges a block has, nanoseconds for all calls, and the sum.
 pub(crate) fn measure<R: CpuClock + Print + AllocGlobal>(rt: &R, rounds: u32) -> io::Result<()> {
     for edges in [1, 2, 8, 32] {
-        let blocks = blocks_of(rt.alloc(), edges)?;
-        measure_find(rt, "find_hit", &blocks, 0, edges, rounds)?;
-        measure_find(rt, "find_miss", &blocks, 1000, edges, rounds)?;
-        measure_select(rt, "select_all", &blocks, 0, edges, rounds)?;
-        measure_select(
-            rt,
-            "select_half",
-            &blocks,
-            10 + u64::from(edges / 2),
-            edges,
-            rounds,
-        )?;
-        measure_select(rt, "select_none", &blocks, 1000, edges, rounds)?;
+        measure_blocks(rt, &blocks_of(rt.alloc(), edges)?, edges, rounds)?;
     }
     Ok(())
+}
+
+fn measure_blocks<R: CpuClock + Print>(
+    rt: &R,
+    blocks: &Vec<Block>,
+    edges: u32,
+    rounds: u32,
+) -> io::Result<()> {
+    let half = 10 + u64::from(edges / 2);
+    measure_find(rt, "find_hit", blocks, 0, edges, rounds)?;
+    measure_find(rt, "find_miss", blocks, 1000, edges, rounds)?;
+    measure_select(rt, "select_all", blocks, 0, edges, rounds)?;
+    measure_select(rt, "select_half", blocks, half, edges, rounds)?;
+    measure_select(rt, "select_none", blocks, 1000, edges, rounds)
 }
 
 fn measure_find<R: CpuClock + Print>(

@@ -1,6 +1,6 @@
 //! Desks whose versions have edges of these graphs.
 
-use crate::edges::Edges;
+use crate::edges::{Edges, Shape};
 use batch_apply::PassAll;
 use graph_model::{Batch, Name, NamedOp};
 use std::alloc::{AllocError, Global};
@@ -39,14 +39,24 @@ fn insertion(alloc: Global, edge: (u32, u32)) -> Result<NamedOp, AllocError> {
     })
 }
 
+fn push(batch: &mut Batch, op: NamedOp) -> io::Result<()> {
+    match batch.push(op) {
+        Ok(()) => Ok(()),
+        Err(_) => Err(refused()),
+    }
+}
+
+fn push_all(alloc: Global, batch: &mut Batch, edges: &mut Edges, count: u32) -> io::Result<()> {
+    for _ in 0..count {
+        push(batch, insertion(alloc, edges.next_edge())?)?;
+    }
+    Ok(())
+}
+
 /// The insertions of the next edges, at most 4,096.
 pub(crate) fn insertions(alloc: Global, edges: &mut Edges, count: u32) -> io::Result<Batch> {
     let mut batch = Batch::new(alloc);
-    for _ in 0..count {
-        if batch.push(insertion(alloc, edges.next_edge())?).is_err() {
-            return Err(refused());
-        }
-    }
+    push_all(alloc, &mut batch, edges, count)?;
     Ok(batch)
 }
 
@@ -90,4 +100,15 @@ pub(crate) fn grow<R: Threads + Wait + Sync + AllocGlobal>(
         apply_to(rt, desk, insertions(rt.alloc(), edges, 4096)?)?;
     }
     apply_to(rt, desk, insertions(rt.alloc(), edges, count % 4096)?)
+}
+
+/// A new desk for one worker, whose last version has so many edges of the graph.
+pub(crate) fn grown<R: Threads + Wait + Sync + AllocGlobal>(
+    rt: &R,
+    shape: Shape,
+    count: u32,
+) -> io::Result<Desk> {
+    let mut desk = opened(rt, 1)?;
+    grow(rt, &mut desk, &mut Edges::new(shape), count)?;
+    Ok(desk)
 }

@@ -20,12 +20,20 @@ use std::{env, io};
 fn main(rt: HostRuntime) -> io::Result<()> {
     let mut words = env::args(&rt)?.skip(1);
     while let Some(word) = words.next() {
-        let rounds = words.next();
-        if let Some(rounds) = rounds {
-            measure(&rt, word.as_str(), rounds.as_str())?;
-        }
+        measure_word(&rt, &word, &words.next())?;
     }
     Ok(())
+}
+
+fn measure_word<R: Threads + Wait + Sync + Clock + CpuClock + Print + AllocGlobal>(
+    rt: &R,
+    word: &String,
+    rounds: &Option<String>,
+) -> io::Result<()> {
+    match rounds {
+        Some(rounds) => measure(rt, word.as_str(), rounds.as_str()),
+        None => Ok(()),
+    }
 }
 
 /// Runs the measurement of a word; another word, or rounds that are no number, does nothing.
@@ -34,12 +42,15 @@ fn measure<R: Threads + Wait + Sync + Clock + CpuClock + Print + AllocGlobal>(
     word: &str,
     rounds: &str,
 ) -> io::Result<()> {
-    match (word, rounds.parse::<u32>()) {
-        ("blocks", Ok(rounds)) => blocks::measure(rt, rounds),
-        ("analyses", Ok(rounds)) => analyses::measure(rt, rounds),
-        ("batches", Ok(rounds)) => batches::measure(rt, rounds),
-        ("versions", Ok(rounds)) => versions::measure(rt, rounds),
-        ("stores", Ok(rounds)) => stores::measure(rt, rounds),
+    let Ok(rounds) = rounds.parse::<u32>() else {
+        return Ok(());
+    };
+    match word {
+        "blocks" => blocks::measure(rt, rounds),
+        "analyses" => analyses::measure(rt, rounds),
+        "batches" => batches::measure(rt, rounds),
+        "versions" => versions::measure(rt, rounds),
+        "stores" => stores::measure(rt, rounds),
         _ => Ok(()),
     }
 }

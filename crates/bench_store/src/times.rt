@@ -1,25 +1,25 @@
 //! Processor time of all threads together, and time that elapsed.
 
 use std::io;
-use std::time::{Clock, CpuClock};
+use std::time::{Clock, CpuClock, Duration};
 
-/// Both times in nanoseconds: since the clocks began, or of what was measured.
+/// Both times: since the clocks began, or of what was measured.
 #[derive(Clone, Copy)]
 pub(crate) struct Times {
-    pub(crate) processor: u128,
-    pub(crate) elapsed: u128,
+    pub(crate) processor: Duration,
+    pub(crate) elapsed: Duration,
 }
 
 impl Times {
     pub(crate) const NONE: Times = Times {
-        processor: 0,
-        elapsed: 0,
+        processor: Duration::ZERO,
+        elapsed: Duration::ZERO,
     };
 
     pub(crate) fn now<R: Clock + CpuClock>(rt: &R) -> io::Result<Times> {
         Ok(Times {
-            processor: rt.process_cpu_time()?.as_nanos(),
-            elapsed: rt.monotonic()?.as_nanos(),
+            processor: rt.process_cpu_time()?,
+            elapsed: rt.monotonic()?,
         })
     }
 

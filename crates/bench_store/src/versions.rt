@@ -1,7 +1,7 @@
 //! What versions cost: batches of 4,096 changes of different rows over versions of 1,000, 10,000 and 60,000 rows, grants of
 //! 4,096 blocks, collections of as many, versions that are let go, and shares of a book of 65,536 names.
 
-use crate::desks::{apply_alone, apply_to, collect_all, grow, insertions, opened, refused};
+use crate::desks::{apply_alone, apply_to, collect_all, grown, insertions, refused};
 use crate::edges::{Edges, Shape};
 use crate::times::Times;
 use block_pool::Pool;
@@ -26,17 +26,25 @@ pub(crate) fn measure<R: Threads + Wait + Sync + Clock + CpuClock + Print + Allo
         measure_grants(rt)?;
     }
     measure_lettings(rt, 50_000, rounds)?;
-    let mut desk = opened(rt, 1)?;
-    grow(rt, &mut desk, &mut Edges::new(Shape::Path), 65_535)?;
-    for _ in 0..rounds {
-        measure_share(rt, desk.last().names())?;
-    }
-    Ok(())
+    let desk = grown(rt, Shape::Path, 65_535)?;
+    measure_shares(rt, desk.last().names(), rounds)
 }
 
 fn tell<R: Print>(rt: &R, what: &str, count: usize, spent: Times) -> io::Result<()> {
-    let (processor, elapsed) = (spent.processor, spent.elapsed);
+    let (processor, elapsed) = (spent.processor.as_nanos(), spent.elapsed.as_nanos());
     println!(rt; "{what} {count} {processor} {elapsed}")
+}
+
+/// Tells what went by since the clocks were at `before`.
+fn tell_since<R: Clock + CpuClock + Print>(
+    rt: &R,
+    what: &str,
+    count: usize,
+    before: Times,
+) -> io::Result<()> {
+    let mut spent = Times::NONE;
+    spent.add_since(rt, before)?;
+    tell(rt, what, count, spent)
 }
 
 fn measure_rows<R: Threads + Wait + Sync + Clock + CpuClock + Print + AllocGlobal>(
@@ -44,11 +52,20 @@ fn measure_rows<R: Threads + Wait + Sync + Clock + CpuClock + Print + AllocGloba
     rows: u32,
     rounds: u32,
 ) -> io::Result<()> {
-    let mut desk = opened(rt, 1)?;
-    grow(rt, &mut desk, &mut Edges::new(Shape::Path), rows)?;
+    let mut desk = grown(rt, Shape::Path, rows)?;
     let mut edges = Edges::new(Shape::Turns { vertices: rows });
+    measure_batches(rt, &mut desk, &mut edges, rows, rounds)
+}
+
+fn measure_batches<R: Threads + Wait + Sync + Clock + CpuClock + Print + AllocGlobal>(
+    rt: &R,
+    desk: &mut Desk,
+    edges: &mut Edges,
+    rows: u32,
+    rounds: u32,
+) -> io::Result<()> {
     for _ in 0..rounds {
-        measure_batch(rt, &mut desk, &mut edges, rows)?;
+        measure_batch(rt, desk, edges, rows)?;
     }
     Ok(())
 }
@@ -61,11 +78,9 @@ fn measure_batch<R: Threads + Wait + Sync + Clock + CpuClock + Print + AllocGlob
     rows: u32,
 ) -> io::Result<()> {
     let batch = insertions(rt.alloc(), edges, 4096)?;
-    let mut spent = Times::NONE;
-    let before = Times::now(rt)?;
+    let before = Times::now(rt);
     apply_to(rt, desk, batch)?;
-    spent.add_since(rt, before)?;
-    tell(rt, "batch", rows as usize, spent)
+    tell_since(rt, "batch", rows as usize, before?)
 }
 
 fn measure_lettings<R: Threads + Wait + Sync + Clock + CpuClock + Print + AllocGlobal>(
@@ -73,11 +88,20 @@ fn measure_lettings<R: Threads + Wait + Sync + Clock + CpuClock + Print + AllocG
     rows: u32,
     rounds: u32,
 ) -> io::Result<()> {
-    let mut desk = opened(rt, 1)?;
-    grow(rt, &mut desk, &mut Edges::new(Shape::Path), rows)?;
+    let mut desk = grown(rt, Shape::Path, rows)?;
     let mut edges = Edges::new(Shape::Turns { vertices: rows });
+    measure_lettings_go(rt, &mut desk, &mut edges, rows, rounds)
+}
+
+fn measure_lettings_go<R: Threads + Wait + Sync + Clock + CpuClock + Print + AllocGlobal>(
+    rt: &R,
+    desk: &mut Desk,
+    edges: &mut Edges,
+    rows: u32,
+    rounds: u32,
+) -> io::Result<()> {
     for _ in 0..rounds {
-        measure_letting_go(rt, &mut desk, &mut edges, rows)?;
+        measure_letting_go(rt, desk, edges, rows)?;
     }
     Ok(())
 }
@@ -90,23 +114,32 @@ fn measure_letting_go<R: Threads + Wait + Sync + Clock + CpuClock + Print + Allo
     edges: &mut Edges,
     rows: u32,
 ) -> io::Result<()> {
-    apply_alone(rt, desk, insertions(rt.alloc(), edges, 4096)?)?;
+    apply_batches(rt, desk, edges, 1)?;
     measure_collection(rt, desk)?;
     let held = Arc::try_clone(desk.last())?;
-    for _ in 0..2 {
-        apply_alone(rt, desk, insertions(rt.alloc(), edges, 4096)?)?;
-    }
+    apply_batches(rt, desk, edges, 2)?;
     measure_drop(rt, held, rows as usize)?;
     let _recycled = collect_all(desk);
     Ok(())
 }
 
+/// Applies so many batches of 4,096 changes.
+fn apply_batches<R: Threads + Wait + Sync + AllocGlobal>(
+    rt: &R,
+    desk: &mut Desk,
+    edges: &mut Edges,
+    batches: u32,
+) -> io::Result<()> {
+    for _ in 0..batches {
+        apply_alone(rt, desk, insertions(rt.alloc(), edges, 4096)?)?;
+    }
+    Ok(())
+}
+
 fn measure_collection<R: Clock + CpuClock + Print>(rt: &R, desk: &mut Desk) -> io::Result<()> {
-    let mut spent = Times::NONE;
     let before = Times::now(rt)?;
     let recycled = collect_all(desk);
-    spent.add_since(rt, before)?;
-    tell(rt, "collect", recycled as usize, spent)
+    tell_since(rt, "collect", recycled as usize, before)
 }
 
 fn measure_drop<R: Clock + CpuClock + Print>(
@@ -114,29 +147,38 @@ fn measure_drop<R: Clock + CpuClock + Print>(
     version: Arc<Version>,
     rows: usize,
 ) -> io::Result<()> {
-    let mut spent = Times::NONE;
-    let before = Times::now(rt)?;
+    let before = Times::now(rt);
     drop(version);
-    spent.add_since(rt, before)?;
-    tell(rt, "drop", rows, spent)
+    tell_since(rt, "drop", rows, before?)
 }
 
 /// A grant of 4,096 blocks of a new pool.
 fn measure_grants<R: Clock + CpuClock + Print + AllocGlobal>(rt: &R) -> io::Result<()> {
     let mut pool = Pool::new(rt.alloc(), 65_536)?;
-    let mut spent = Times::NONE;
+    measure_grant(rt, &mut pool)
+}
+
+fn measure_grant<R: Clock + CpuClock + Print>(rt: &R, pool: &mut Pool) -> io::Result<()> {
     let before = Times::now(rt)?;
-    let Ok(_grant) = pool.grant(4096) else {
-        return Err(refused());
-    };
-    spent.add_since(rt, before)?;
-    tell(rt, "grant", 4096, spent)
+    match pool.grant(4096) {
+        Ok(_grant) => tell_since(rt, "grant", 4096, before),
+        Err(_) => Err(refused()),
+    }
+}
+
+fn measure_shares<R: Clock + CpuClock + Print>(
+    rt: &R,
+    names: &NameBook,
+    rounds: u32,
+) -> io::Result<()> {
+    for _ in 0..rounds {
+        measure_share(rt, names)?;
+    }
+    Ok(())
 }
 
 fn measure_share<R: Clock + CpuClock + Print>(rt: &R, names: &NameBook) -> io::Result<()> {
-    let mut spent = Times::NONE;
     let before = Times::now(rt)?;
     let _copy = names.share()?;
-    spent.add_since(rt, before)?;
-    tell(rt, "share", names.len(), spent)
+    tell_since(rt, "share", names.len(), before)
 }
