@@ -67,10 +67,10 @@ fn are_done(rt: &impl Abort, alloc: Global, core: &mut Core, table: &str) -> boo
 
 #[test]
 fn refused_start(rt: HostRuntime) -> Result<(), Fail> {
-    let Ok(core) = Core::new(rt.alloc(), 2, 3) else {
-        return refused(&rt);
-    };
-    assert_eq!(rt; shown(&core), (0, None, None, 0));
+    match Core::new(rt.alloc(), 2, 3) {
+        Ok(core) => assert_eq!(rt; shown(&core), (0, None, None, 0)),
+        Err(_) => return refused(&rt),
+    }
     Ok(())
 }
 
@@ -80,36 +80,47 @@ post i,k,a,b,1,1 | 0
 pin 0
 enter 0";
 
+fn check_posting(rt: &(impl Abort + Print), alloc: Global, core: &mut Core) -> Result<(), Fail>
+    requires { 0 < length core.old.world.sessions }
+{
+    if !are_done(rt, alloc, core, POSTING) {
+        return refused(rt);
+    }
+    assert_eq!(rt; shown(core), (0, Some(1), Some(0), 0));
+    Ok(())
+}
+
 #[test]
 fn refused_post(rt: HostRuntime) -> Result<(), Fail> {
     let alloc = rt.alloc();
-    let Ok(mut core) = Core::new(alloc, 1, 1) else {
-        return refused(&rt);
-    };
-    if !are_done(&rt, alloc, &mut core, POSTING) {
-        return refused(&rt);
+    match Core::new(alloc, 1, 1) {
+        Ok(mut core) => check_posting(&rt, alloc, &mut core),
+        Err(_) => refused(&rt),
     }
-    assert_eq!(rt; shown(&core), (0, Some(1), Some(0), 0));
-    Ok(())
 }
 
 const REPLYING: &str = "ask 0 edge k a b
 read 0
 reply 0";
 
-#[test]
-fn refused_reply(rt: HostRuntime) -> Result<(), Fail> {
-    let alloc = rt.alloc();
-    let Ok(mut core) = Core::new(alloc, 1, 1) else {
-        return refused(&rt);
-    };
-    let is_replied = are_done(&rt, alloc, &mut core, POSTING)
-        && are_done(&rt, alloc, &mut core, REPLYING);
+fn check_replying(rt: &(impl Abort + Print), alloc: Global, core: &mut Core) -> Result<(), Fail>
+    requires { 0 < length core.old.world.sessions }
+{
+    let is_replied = are_done(rt, alloc, core, POSTING) && are_done(rt, alloc, core, REPLYING);
     if !is_replied {
-        return refused(&rt);
+        return refused(rt);
     }
     assert!(rt; matches!(core.replies(0), [Ok(Reply::OneEdge(Some((1, 1, 1))))]));
     Ok(())
+}
+
+#[test]
+fn refused_reply(rt: HostRuntime) -> Result<(), Fail> {
+    let alloc = rt.alloc();
+    match Core::new(alloc, 1, 1) {
+        Ok(mut core) => check_replying(&rt, alloc, &mut core),
+        Err(_) => refused(&rt),
+    }
 }
 
 /// A session pins, a version with one edge is posted, and the session holds it.
@@ -121,15 +132,21 @@ fn entering(alloc: Global) -> Result<Vec<Event>, LineError> {
     Ok(events)
 }
 
+/// What is seen of a new machine after the events.
+fn shown_after(alloc: Global, events: &[Event]) -> Result<Shown, Fail> {
+    let mut core = Core::new(alloc, 1, 1)?;
+    run(&mut core, events)?;
+    Ok(shown(&core))
+}
+
 /// What is seen is what is seen after some of the events, from the first one on.
 fn is_after_some(alloc: Global, core: &Core, events: &[Event]) -> Result<bool, Fail>
     requires { 0 < length core.now.world.sessions }
 {
     let mut is_after = false;
     for count in 0..events.len() {
-        let mut other = Core::new(alloc, 1, 1)?;
-        run(&mut other, &events[..count])?;
-        is_after = is_after || shown(core) == shown(&other);
+        let after = shown_after(alloc, &events[..count])?;
+        is_after = is_after || shown(core) == after;
     }
     Ok(is_after)
 }

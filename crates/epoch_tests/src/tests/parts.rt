@@ -50,9 +50,8 @@ fn numbers(alloc: Global, text: &str) -> Result<Vec<usize>, LineError> {
 }
 
 // `kind,source,target,weight,first,recent`, by numbers.
-fn edge(alloc: Global, text: &str) -> Result<Edge, LineError> {
-    let fields: Vec<&str> = text.split(',').collect(alloc)?;
-    match *fields.as_slice() {
+fn edge_of(fields: &[&str]) -> Result<Edge, LineError> {
+    match *fields {
         [kind, source, target, weight, first, recent] => Ok(Edge {
             kind: KindId(kind.parse()?),
             source: VertexId(source.parse()?),
@@ -65,6 +64,11 @@ fn edge(alloc: Global, text: &str) -> Result<Edge, LineError> {
     }
 }
 
+fn edge(alloc: Global, text: &str) -> Result<Edge, LineError> {
+    let fields: Vec<&str> = text.split(',').collect(alloc)?;
+    edge_of(fields.as_slice())
+}
+
 fn edges(alloc: Global, text: &str) -> Result<Vec<Edge>, LineError> {
     let mut list = Vec::new(alloc);
     for word in text.split_whitespace() {
@@ -73,11 +77,10 @@ fn edges(alloc: Global, text: &str) -> Result<Vec<Edge>, LineError> {
     Ok(list)
 }
 
-// `i,kind,source,target,weight,time`, `a,kind,source,target,amount,time` or `r,kind,source,target`.
-fn op(alloc: Global, text: &str) -> Result<NamedOp, LineError> {
-    let fields: Vec<&str> = text.split(',').collect(alloc)?;
-    match *fields.as_slice() {
-        ["i", kind, source, target, weight, time] => {
+// `kind,source,target,weight,time`
+fn insertion(alloc: Global, fields: &[&str]) -> Result<NamedOp, LineError> {
+    match *fields {
+        [kind, source, target, weight, time] => {
             let (weight, time) = (weight.parse()?, time.parse()?);
             Ok(NamedOp::Insert {
                 kind: name(alloc, kind)?,
@@ -87,7 +90,14 @@ fn op(alloc: Global, text: &str) -> Result<NamedOp, LineError> {
                 time,
             })
         }
-        ["a", kind, source, target, amount, time] => {
+        _ => Err(LineError::Wrong),
+    }
+}
+
+// `kind,source,target,amount,time`
+fn increment(alloc: Global, fields: &[&str]) -> Result<NamedOp, LineError> {
+    match *fields {
+        [kind, source, target, amount, time] => {
             let (amount, time) = (amount.parse()?, time.parse()?);
             Ok(NamedOp::Incr {
                 kind: name(alloc, kind)?,
@@ -97,13 +107,36 @@ fn op(alloc: Global, text: &str) -> Result<NamedOp, LineError> {
                 time,
             })
         }
-        ["r", kind, source, target] => Ok(NamedOp::Remove {
+        _ => Err(LineError::Wrong),
+    }
+}
+
+// `kind,source,target`
+fn removal(alloc: Global, fields: &[&str]) -> Result<NamedOp, LineError> {
+    match *fields {
+        [kind, source, target] => Ok(NamedOp::Remove {
             kind: name(alloc, kind)?,
             source: name(alloc, source)?,
             target: name(alloc, target)?,
         }),
         _ => Err(LineError::Wrong),
     }
+}
+
+fn op_of(alloc: Global, letter: &str, fields: &[&str]) -> Result<NamedOp, LineError> {
+    match letter {
+        "i" => insertion(alloc, fields),
+        "a" => increment(alloc, fields),
+        "r" => removal(alloc, fields),
+        _ => Err(LineError::Wrong),
+    }
+}
+
+// `i,kind,source,target,weight,time`, `a,kind,source,target,amount,time` or `r,kind,source,target`.
+fn op(alloc: Global, text: &str) -> Result<NamedOp, LineError> {
+    let (letter, rest) = text.split_once(',').ok_or(LineError::Wrong)?;
+    let fields: Vec<&str> = rest.split(',').collect(alloc)?;
+    op_of(alloc, letter, fields.as_slice())
 }
 
 fn refused(refusal: PushError) -> LineError {
@@ -113,12 +146,17 @@ fn refused(refusal: PushError) -> LineError {
     }
 }
 
+fn push_op(batch: &mut Batch, op: NamedOp) -> Result<(), LineError> {
+    match batch.push(op) {
+        Ok(()) => Ok(()),
+        Err(refusal) => Err(refused(refusal)),
+    }
+}
+
 fn batch(alloc: Global, text: &str) -> Result<Batch, LineError> {
     let mut batch = Batch::new(alloc);
     for word in text.split_whitespace() {
-        if let Err(refusal) = batch.push(op(alloc, word)?) {
-            return Err(refused(refusal));
-        }
+        push_op(&mut batch, op(alloc, word)?)?;
     }
     Ok(batch)
 }
@@ -137,45 +175,88 @@ fn fill(alloc: Global, text: &str) -> Result<Event, LineError> {
     Ok(Event::Fill(block, List::of(edges(alloc, listed)?)))
 }
 
+// The name of a kind, and none for `*`.
+fn kind_name(alloc: Global, text: &str) -> Result<Option<Name>, AllocError> {
+    if text == "*" {
+        return Ok(None);
+    }
+    Ok(Some(name(alloc, text)?))
+}
+
 // The view of a kind, `*` for any, and a window.
 fn view(alloc: Global, kind: &str, lo: &str, hi: &str) -> Result<NamedFilter, LineError> {
     let (lo, hi) = (lo.parse()?, hi.parse()?);
-    let kind = match kind {
-        "*" => None,
-        text => Some(name(alloc, text)?),
-    };
+    let kind = kind_name(alloc, kind)?;
     Ok(NamedFilter { kind, lo, hi })
 }
 
-// `edge KIND SOURCE TARGET`; `bfs SOURCE KIND LO HI`; `comp`, `core` or `deg`, and KIND LO HI.
-fn request(alloc: Global, words: &[&str]) -> Result<Request, LineError> {
+fn one_edge(alloc: Global, words: &[&str]) -> Result<Request, LineError> {
     match *words {
-        ["edge", kind, source, target] => Ok(Request::OneEdge {
+        [kind, source, target] => Ok(Request::OneEdge {
             kind: name(alloc, kind)?,
             source: name(alloc, source)?,
             target: name(alloc, target)?,
         }),
-        ["bfs", source, kind, lo, hi] => Ok(Request::Levels {
+        _ => Err(LineError::Wrong),
+    }
+}
+
+fn levels(alloc: Global, words: &[&str]) -> Result<Request, LineError> {
+    match *words {
+        [source, kind, lo, hi] => Ok(Request::Levels {
             source: name(alloc, source)?,
-            filter: view(alloc, kind, lo, hi)?,
-        }),
-        ["comp", kind, lo, hi] => Ok(Request::Labels {
-            filter: view(alloc, kind, lo, hi)?,
-        }),
-        ["core", kind, lo, hi] => Ok(Request::Cores {
-            filter: view(alloc, kind, lo, hi)?,
-        }),
-        ["deg", kind, lo, hi] => Ok(Request::Degrees {
             filter: view(alloc, kind, lo, hi)?,
         }),
         _ => Err(LineError::Wrong),
     }
 }
 
+// The request of a verb for all of a view.
+fn of_view(verb: &str, filter: NamedFilter) -> Result<Request, LineError> {
+    match verb {
+        "comp" => Ok(Request::Labels { filter }),
+        "core" => Ok(Request::Cores { filter }),
+        "deg" => Ok(Request::Degrees { filter }),
+        _ => Err(LineError::Wrong),
+    }
+}
+
+fn request_of(alloc: Global, verb: &str, words: &[&str]) -> Result<Request, LineError> {
+    match verb {
+        "edge" => one_edge(alloc, words),
+        "bfs" => levels(alloc, words),
+        _ => match *words {
+            [kind, lo, hi] => of_view(verb, view(alloc, kind, lo, hi)?),
+            _ => Err(LineError::Wrong),
+        },
+    }
+}
+
+// `edge KIND SOURCE TARGET`; `bfs SOURCE KIND LO HI`; `comp`, `core` or `deg`, and KIND LO HI.
+fn request(alloc: Global, text: &str) -> Result<Request, LineError> {
+    let (verb, rest) = text.split_once(' ').ok_or(LineError::Wrong)?;
+    let words: Vec<&str> = rest.split_whitespace().collect(alloc)?;
+    request_of(alloc, verb, words.as_slice())
+}
+
+// A session, and a request.
 fn ask(alloc: Global, text: &str) -> Result<Event, LineError> {
-    let words: Vec<&str> = text.split_whitespace().collect(alloc)?;
-    match words.as_slice() {
-        [session, asked @ ..] => Ok(Event::Ask(session.parse()?, request(alloc, asked)?)),
+    let (session, asked) = text.split_once(' ').ok_or(LineError::Wrong)?;
+    let session = session.parse()?;
+    Ok(Event::Ask(session, request(alloc, asked)?))
+}
+
+// The event of a verb and a number: that of a block or a session.
+fn numbered(verb: &str, number: usize) -> Result<Event, LineError> {
+    match verb {
+        "take" => Ok(Event::Take(number)),
+        "recycle" => Ok(Event::Recycle(number)),
+        "pin" => Ok(Event::Pin(number)),
+        "enter" => Ok(Event::Enter(number)),
+        "settle" => Ok(Event::Settle(number)),
+        "read" => Ok(Event::Read(number)),
+        "reply" => Ok(Event::Reply(number)),
+        "release" => Ok(Event::Release(number)),
         _ => Err(LineError::Wrong),
     }
 }
@@ -184,48 +265,51 @@ fn ask(alloc: Global, text: &str) -> Result<Event, LineError> {
 pub(super) fn event(alloc: Global, line: &str) -> Result<Event, LineError> {
     let (verb, rest) = line.split_once(' ').unwrap_or((line, ""));
     match verb {
-        "take" => Ok(Event::Take(rest.parse()?)),
         "fill" => fill(alloc, rest),
         "post" => post(alloc, rest),
-        "floor" => Ok(Event::Floor),
-        "recycle" => Ok(Event::Recycle(rest.parse()?)),
-        "pin" => Ok(Event::Pin(rest.parse()?)),
-        "enter" => Ok(Event::Enter(rest.parse()?)),
-        "settle" => Ok(Event::Settle(rest.parse()?)),
         "ask" => ask(alloc, rest),
-        "read" => Ok(Event::Read(rest.parse()?)),
-        "reply" => Ok(Event::Reply(rest.parse()?)),
-        "release" => Ok(Event::Release(rest.parse()?)),
-        _ => Err(LineError::Wrong),
+        "floor" => Ok(Event::Floor),
+        _ => numbered(verb, rest.parse()?),
     }
 }
 
 // A number, and `-` where there is none.
-fn number_text(alloc: Global, number: Option<u64>) -> Result<String, AllocError> {
+fn write_number(text: &mut String, number: Option<u64>) -> Result<(), AllocError> {
     match number {
-        Some(n) => format!(in alloc; "{n}"),
-        None => String::from_str(alloc, "-"),
+        Some(number) => write!(text, " {number}"),
+        None => text.push_str(" -"),
     }
+}
+
+fn write_seen(text: &mut String, core: &Core, session: usize) -> Result<(), AllocError>
+    requires { session < length core.now.world.sessions }
+{
+    let replies = core.replies(session).len();
+    write!(text, "{}", core.floor())?;
+    write_number(text, core.pin_of(session))?;
+    write_number(text, core.held(session))?;
+    write!(text, " {replies}")
 }
 
 /// The floor, and of a session its pin, the number of the version that it holds, and how many replies it has.
 pub(super) fn seen(alloc: Global, core: &Core, session: usize) -> Result<String, AllocError>
     requires { session < length core.now.world.sessions }
 {
-    let pin = number_text(alloc, core.pin_of(session))?;
-    let held = number_text(alloc, core.held(session))?;
-    let (floor, replies) = (core.floor(), core.replies(session).len());
-    format!(in alloc; "{floor} {pin} {held} {replies}")
+    let mut text = String::new(alloc);
+    write_seen(&mut text, core, session)?;
+    Ok(text)
+}
+
+fn write_degree(text: &mut String, name: &Name, degree: &Degree) -> Result<(), AllocError> {
+    let (outgoing, incoming, weight) = (degree.outgoing, degree.incoming, degree.out_weight);
+    write!(text, " {} {outgoing} {incoming} {weight}", name.as_str())
 }
 
 // Each vertex with its degrees out and in, and its weight out.
 fn table_text(alloc: Global, rows: &[(Name, Degree)]) -> Result<String, AllocError> {
     let mut text = String::from_str(alloc, "deg")?;
     for (name, degree) in rows {
-        let (outgoing, incoming, weight) = (degree.outgoing, degree.incoming, degree.out_weight);
-        let name = name.as_str();
-        let row = format!(in alloc; " {name} {outgoing} {incoming} {weight}")?;
-        text.push_str(row.as_str())?;
+        write_degree(&mut text, name, degree)?;
     }
     Ok(text)
 }
@@ -234,8 +318,7 @@ fn table_text(alloc: Global, rows: &[(Name, Degree)]) -> Result<String, AllocErr
 fn numbers_text(alloc: Global, word: &str, rows: &[(Name, u32)]) -> Result<String, AllocError> {
     let mut text = String::from_str(alloc, word)?;
     for (name, number) in rows {
-        let name = name.as_str();
-        text.push_str(format!(in alloc; " {name} {number}")?.as_str())?;
+        write!(text, " {} {number}", name.as_str())?;
     }
     Ok(text)
 }
@@ -244,8 +327,7 @@ fn numbers_text(alloc: Global, word: &str, rows: &[(Name, u32)]) -> Result<Strin
 fn labels_text(alloc: Global, rows: &[(Name, Name)]) -> Result<String, AllocError> {
     let mut text = String::from_str(alloc, "comp")?;
     for (name, label) in rows {
-        let (name, label) = (name.as_str(), label.as_str());
-        text.push_str(format!(in alloc; " {name} {label}")?.as_str())?;
+        write!(text, " {} {}", name.as_str(), label.as_str())?;
     }
     Ok(text)
 }
