@@ -116,11 +116,11 @@ fn applies(alloc: Global, content: &mut Content, rows: &[Row], outcomes: &[Outco
 
 fn are_called(names: &List<Name>, texts: &[&str]) -> bool {
     let names = names.as_slice();
-    names.len() == texts.len()
-        && names
-            .iter()
-            .zip(texts)
-            .all(|(name, text)| name.as_str() == *text)
+    let mut are_called = names.len() == texts.len();
+    for (name, text) in names.iter().zip(texts) {
+        are_called = are_called && name.as_str() == *text;
+    }
+    are_called
 }
 
 /// How many names, kinds and edges the content has.

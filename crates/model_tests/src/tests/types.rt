@@ -101,12 +101,11 @@ fn is_row(op: &NamedOp, row: &Row) -> bool {
 
 /// Whether the batch has the operations of the rows, in their order.
 fn are_rows(batch: &Batch, rows: &[Row]) -> bool {
-    batch.len() == rows.len()
-        && batch
-            .ops()
-            .iter()
-            .zip(rows)
-            .all(|(op, row)| is_row(op, row))
+    let mut are_rows = batch.len() == rows.len();
+    for (op, row) in batch.ops().iter().zip(rows) {
+        are_rows = are_rows && is_row(op, row);
+    }
+    are_rows
 }
 
 /// Whether the batch can be copied and the copy has the operations of the rows; nothing where memory is refused.
@@ -286,35 +285,45 @@ fn a_batch_keeps_its_operations_in_order(rt: HostRuntime) -> Result<(), Fail> {
     Ok(())
 }
 
+/// The batch refuses the operation.
+fn check_refused(rt: &(impl Abort + AllocGlobal), batch: &mut Batch, row: Row, refusal: PushError) {
+    assert_eq!(rt; push_row(rt.alloc(), batch, &row), Err(refusal));
+}
+
+// Past the limit of weights, and of times.
+const PAST: i64 = 1_099_511_627_777;
+
+const LATE: u64 = 9_223_372_036_854_775_808;
+
+const BAD_OPERATIONS: [(Row, PushError); 6] = [
+    (
+        Row(Insert, "*", "ann", "bob", PAST, LATE),
+        PushError::BadName,
+    ),
+    (Row(Remove, "knows", "", "bob", 0, 0), PushError::BadName),
+    (
+        Row(Insert, "knows", "ann", "bob", PAST, LATE),
+        PushError::BadWeight,
+    ),
+    (
+        Row(Incr, "knows", "ann", "bob", -1_099_511_627_777, 0),
+        PushError::BadWeight,
+    ),
+    (
+        Row(Insert, "knows", "ann", "bob", 0, LATE),
+        PushError::BadTime,
+    ),
+    (
+        Row(Incr, "knows", "ann", "bob", 0, LATE),
+        PushError::BadTime,
+    ),
+];
+
 #[test]
 fn a_batch_refuses_bad_operations_in_order(rt: HostRuntime) {
-    let past = 1_099_511_627_777;
-    let late = 9_223_372_036_854_775_808;
     let mut batch = Batch::new(rt.alloc());
-    for (row, refusal) in [
-        (
-            Row(Insert, "*", "ann", "bob", past, late),
-            PushError::BadName,
-        ),
-        (Row(Remove, "knows", "", "bob", 0, 0), PushError::BadName),
-        (
-            Row(Insert, "knows", "ann", "bob", past, late),
-            PushError::BadWeight,
-        ),
-        (
-            Row(Incr, "knows", "ann", "bob", -past, 0),
-            PushError::BadWeight,
-        ),
-        (
-            Row(Insert, "knows", "ann", "bob", 0, late),
-            PushError::BadTime,
-        ),
-        (
-            Row(Incr, "knows", "ann", "bob", 0, late),
-            PushError::BadTime,
-        ),
-    ] {
-        assert_eq!(rt; push_row(rt.alloc(), &mut batch, &row), Err(refusal));
+    for (row, refusal) in &BAD_OPERATIONS {
+        check_refused(&rt, &mut batch, *row, *refusal);
     }
     assert_eq!(rt; batch.len(), 0);
 }
@@ -326,15 +335,10 @@ fn a_batch_has_at_most_4096_operations(rt: HostRuntime) {
         let row = Row(Insert, "knows", "ann", "bob", 1, time);
         assert_eq!(rt; push_row(rt.alloc(), &mut batch, &row), Ok(()));
     }
-    for (row, refusal) in [
-        (
-            Row(Remove, "knows", "ann", "bob", 0, 0),
-            PushError::BatchFull,
-        ),
-        (Row(Remove, "knows", "", "bob", 0, 0), PushError::BadName),
-    ] {
-        assert_eq!(rt; push_row(rt.alloc(), &mut batch, &row), Err(refusal));
-    }
+    let nameless = Row(Remove, "knows", "", "bob", 0, 0);
+    let removal = Row(Remove, "knows", "ann", "bob", 0, 0);
+    check_refused(&rt, &mut batch, removal, PushError::BatchFull);
+    check_refused(&rt, &mut batch, nameless, PushError::BadName);
     assert_eq!(rt; batch.len(), 4096);
 }
 
@@ -378,22 +382,31 @@ const LOOSE_EDGE: Edge = Edge {
     recent: 3,
 };
 
+/// The names of these texts.
+fn names(alloc: Global, texts: &[&str]) -> Result<List<Name>, AllocError> {
+    let mut names = Vec::new(alloc);
+    for text in texts {
+        names.push(name(alloc, text)?)?;
+    }
+    Ok(List::of(names))
+}
+
 /// Vertices ann and bob, the kind knows, and one edge.
 fn small_content(alloc: Global) -> Result<Content, AllocError> {
     Ok(Content {
-        names: List::of(vec![in alloc; name(alloc, "ann")?, name(alloc, "bob")?]?),
-        kinds: List::of(vec![in alloc; name(alloc, "knows")?]?),
+        names: names(alloc, &["ann", "bob"])?,
+        kinds: names(alloc, &["knows"])?,
         edges: List::of(vec![in alloc; LOOSE_EDGE]?),
     })
 }
 
 fn are_called(names: &List<Name>, texts: &[&str]) -> bool {
     let names = names.as_slice();
-    names.len() == texts.len()
-        && names
-            .iter()
-            .zip(texts)
-            .all(|(name, text)| name.as_str() == *text)
+    let mut are_called = names.len() == texts.len();
+    for (name, text) in names.iter().zip(texts) {
+        are_called = are_called && name.as_str() == *text;
+    }
+    are_called
 }
 
 fn is_small_content(content: &Content) -> bool {
@@ -424,6 +437,15 @@ fn refused_push_leaves_the_batch(rt: HostRuntime) -> Result<(), Fail> {
     Ok(())
 }
 
+/// A copy is right, or memory was refused.
+fn check_copied(rt: &(impl Abort + Print), copied: Option<bool>) -> Result<(), Fail> {
+    match copied {
+        Some(right) => assert!(rt; right),
+        None => return refused(rt),
+    }
+    Ok(())
+}
+
 #[test]
 fn refused_copies_leave_the_batch(rt: HostRuntime) -> Result<(), Fail> {
     let Ok(batch) = batch_of(rt.alloc(), &ONE_OF_EACH) else {
@@ -431,11 +453,7 @@ fn refused_copies_leave_the_batch(rt: HostRuntime) -> Result<(), Fail> {
     };
     let copied = is_copied(&batch, &ONE_OF_EACH);
     assert!(rt; are_rows(&batch, &ONE_OF_EACH));
-    match copied {
-        Some(right) => assert!(rt; right),
-        None => return refused(&rt),
-    }
-    Ok(())
+    check_copied(&rt, copied)
 }
 
 #[test]
@@ -445,11 +463,7 @@ fn refused_copies_leave_the_request(rt: HostRuntime) -> Result<(), Fail> {
     };
     let copied = is_request_copied(&request);
     assert!(rt; is_request(&request));
-    match copied {
-        Some(right) => assert!(rt; right),
-        None => return refused(&rt),
-    }
-    Ok(())
+    check_copied(&rt, copied)
 }
 
 #[test]
@@ -459,11 +473,7 @@ fn refused_copies_leave_the_content(rt: HostRuntime) -> Result<(), Fail> {
     };
     let copied = is_content_copied(&content);
     assert!(rt; is_small_content(&content));
-    match copied {
-        Some(right) => assert!(rt; right),
-        None => return refused(&rt),
-    }
-    Ok(())
+    check_copied(&rt, copied)
 }
 
 #[test]

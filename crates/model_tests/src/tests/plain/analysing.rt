@@ -9,6 +9,7 @@ use crate::tests::plain::{Row, content_of, filter, name, refused, sizes};
 use graph_model::{AskError, Content, Name, Reply, Request};
 use plain_graph::plain_reply;
 use std::alloc::{AllocError, Global};
+use std::process::Abort;
 use std::test::Fail;
 
 /// A request: the source, if levels are asked for; the kind, where `*` is any; and the window.
@@ -35,15 +36,19 @@ fn request(alloc: Global, question: Question) -> Result<Request, AllocError> {
 }
 
 fn are_numbers(rows: &[(Name, u32)], wanted: &[(&'static str, u32)]) -> bool {
-    rows.len() == wanted.len()
-        && rows.iter().zip(wanted).all(|(row, wanted)| row.0.as_str() == wanted.0
-            && row.1 == wanted.1)
+    let mut are_numbers = rows.len() == wanted.len();
+    for (row, wanted) in rows.iter().zip(wanted) {
+        are_numbers = are_numbers && row.0.as_str() == wanted.0 && row.1 == wanted.1;
+    }
+    are_numbers
 }
 
 fn are_labels(rows: &[(Name, Name)], wanted: &[(&'static str, &'static str)]) -> bool {
-    rows.len() == wanted.len()
-        && rows.iter().zip(wanted).all(|(row, wanted)| row.0.as_str() == wanted.0
-            && row.1.as_str() == wanted.1)
+    let mut are_labels = rows.len() == wanted.len();
+    for (row, wanted) in rows.iter().zip(wanted) {
+        are_labels = are_labels && row.0.as_str() == wanted.0 && row.1.as_str() == wanted.1;
+    }
+    are_labels
 }
 
 /// The answer.
@@ -91,7 +96,7 @@ fn has_numbers(
     wanted: &[(&'static str, u32)],
 ) -> bool {
     match content_of(alloc, rows) {
-        Some(content) => answers_numbers(alloc, &content, question, wanted) == Ok(true),
+        Some(content) => matches!(answers_numbers(alloc, &content, question, wanted), Ok(true)),
         None => false,
     }
 }
@@ -104,7 +109,7 @@ fn has_labels(
     wanted: &[(&'static str, &'static str)],
 ) -> bool {
     match content_of(alloc, rows) {
-        Some(content) => answers_labels(alloc, &content, question, wanted) == Ok(true),
+        Some(content) => matches!(answers_labels(alloc, &content, question, wanted), Ok(true)),
         None => false,
     }
 }
@@ -116,23 +121,25 @@ const TRIANGLE: [Row; 4] = [
     Row(Insert, "k", "c", "d", 1, 1),
 ];
 
+const NUMBERS_OF_THE_TRIANGLE: [(Question, [(&'static str, u32); 4]); 3] = [
+    (
+        Question::Cores("*", 0, 9),
+        [("a", 2), ("b", 2), ("c", 2), ("d", 1)],
+    ),
+    (
+        Question::Levels("a", "*", 0, 9),
+        [("a", 0), ("b", 1), ("c", 2), ("d", 3)],
+    ),
+    (
+        Question::Levels("b", "k", 0, 9),
+        [("a", 2), ("b", 0), ("c", 1), ("d", 2)],
+    ),
+];
+
 #[test]
 fn a_triangle_with_a_tail(rt: HostRuntime) {
-    for (question, wanted) in [
-        (
-            Question::Cores("*", 0, 9),
-            [("a", 2), ("b", 2), ("c", 2), ("d", 1)],
-        ),
-        (
-            Question::Levels("a", "*", 0, 9),
-            [("a", 0), ("b", 1), ("c", 2), ("d", 3)],
-        ),
-        (
-            Question::Levels("b", "k", 0, 9),
-            [("a", 2), ("b", 0), ("c", 1), ("d", 2)],
-        ),
-    ] {
-        assert!(rt; has_numbers(rt.alloc(), &TRIANGLE, question, &wanted));
+    for (question, wanted) in &NUMBERS_OF_THE_TRIANGLE {
+        assert!(rt; has_numbers(rt.alloc(), &TRIANGLE, *question, wanted));
     }
     let question = Question::Levels("d", "*", 0, 9);
     assert!(rt; has_numbers(rt.alloc(), &TRIANGLE, question, &[("d", 0)]));
@@ -184,43 +191,47 @@ fn a_window_and_a_kind_cut_levels(rt: HostRuntime) {
     }
 }
 
+const PARTS_OF_WINDOWS: [(Question, [(&'static str, &'static str); 4]); 3] = [
+    (
+        Question::Labels("*", 0, 5),
+        [("a", "a"), ("b", "a"), ("c", "a"), ("d", "a")],
+    ),
+    (
+        Question::Labels("*", 2, 5),
+        [("a", "a"), ("b", "b"), ("c", "b"), ("d", "b")],
+    ),
+    (
+        Question::Labels("k", 0, 5),
+        [("a", "a"), ("b", "a"), ("c", "c"), ("d", "c")],
+    ),
+];
+
 #[test]
 fn a_window_and_a_kind_cut_parts(rt: HostRuntime) {
-    for (question, wanted) in [
-        (
-            Question::Labels("*", 0, 5),
-            [("a", "a"), ("b", "a"), ("c", "a"), ("d", "a")],
-        ),
-        (
-            Question::Labels("*", 2, 5),
-            [("a", "a"), ("b", "b"), ("c", "b"), ("d", "b")],
-        ),
-        (
-            Question::Labels("k", 0, 5),
-            [("a", "a"), ("b", "a"), ("c", "c"), ("d", "c")],
-        ),
-    ] {
-        assert!(rt; has_labels(rt.alloc(), &TWO_TIMES, question, &wanted));
+    for (question, wanted) in &PARTS_OF_WINDOWS {
+        assert!(rt; has_labels(rt.alloc(), &TWO_TIMES, *question, wanted));
     }
 }
 
+const CORES_OF_WINDOWS: [(Question, [(&'static str, u32); 4]); 3] = [
+    (
+        Question::Cores("*", 0, 4),
+        [("a", 1), ("b", 1), ("c", 0), ("d", 0)],
+    ),
+    (
+        Question::Cores("*", 5, 9),
+        [("a", 0), ("b", 1), ("c", 1), ("d", 1)],
+    ),
+    (
+        Question::Cores("*", 6, 9),
+        [("a", 0), ("b", 0), ("c", 0), ("d", 0)],
+    ),
+];
+
 #[test]
 fn a_window_cuts_cores(rt: HostRuntime) {
-    for (question, wanted) in [
-        (
-            Question::Cores("*", 0, 4),
-            [("a", 1), ("b", 1), ("c", 0), ("d", 0)],
-        ),
-        (
-            Question::Cores("*", 5, 9),
-            [("a", 0), ("b", 1), ("c", 1), ("d", 1)],
-        ),
-        (
-            Question::Cores("*", 6, 9),
-            [("a", 0), ("b", 0), ("c", 0), ("d", 0)],
-        ),
-    ] {
-        assert!(rt; has_numbers(rt.alloc(), &TWO_TIMES, question, &wanted));
+    for (question, wanted) in &CORES_OF_WINDOWS {
+        assert!(rt; has_numbers(rt.alloc(), &TWO_TIMES, *question, wanted));
     }
 }
 
@@ -354,44 +365,68 @@ fn ten_of_the_karate_club_are_in_its_core(rt: HostRuntime) {
     assert!(rt; has_numbers(rt.alloc(), &KARATE_CLUB, question, &THEIR_CORES));
 }
 
+const REFUSALS: [(Question, AskError); 7] = [
+    (Question::Levels("z", "q", 5, 4), AskError::BadWindow),
+    (Question::Levels("z", "q", 0, 9), AskError::NoKind),
+    (Question::Levels("z", "k", 0, 9), AskError::NoVertex),
+    (Question::Labels("q", 5, 4), AskError::BadWindow),
+    (Question::Labels("q", 0, 9), AskError::NoKind),
+    (Question::Cores("q", 5, 4), AskError::BadWindow),
+    (Question::Cores("q", 0, 9), AskError::NoKind),
+];
+
+/// What the question is refused for, if it is.
+fn refusal_of(alloc: Global, content: &Content, question: Question) -> Option<AskError>
+    requires { IsContent content.now }
+{
+    answer(alloc, content, question).err()
+}
+
+fn check_refusals(rt: &(impl Abort + Print + AllocGlobal), content: &Content) -> Result<(), Fail>
+    requires { IsContent content.now }
+{
+    for (question, refusal) in &REFUSALS {
+        let told = refusal_of(rt.alloc(), content, *question);
+        if matches!(told, Some(AskError::OutOfMemory)) {
+            return refused(rt);
+        }
+        assert!(rt; told == Some(*refusal));
+    }
+    Ok(())
+}
+
 #[test]
 fn refused_analyses_come_in_order(rt: HostRuntime) -> Result<(), Fail> {
-    let Some(content) = content_of(rt.alloc(), &TRIANGLE) else {
-        return refused(&rt);
-    };
-    for (question, refusal) in [
-        (Question::Levels("z", "q", 5, 4), AskError::BadWindow),
-        (Question::Levels("z", "q", 0, 9), AskError::NoKind),
-        (Question::Levels("z", "k", 0, 9), AskError::NoVertex),
-        (Question::Labels("q", 5, 4), AskError::BadWindow),
-        (Question::Labels("q", 0, 9), AskError::NoKind),
-        (Question::Cores("q", 5, 4), AskError::BadWindow),
-        (Question::Cores("q", 0, 9), AskError::NoKind),
-    ] {
-        match answer(rt.alloc(), &content, question) {
-            Err(AskError::OutOfMemory) => return refused(&rt),
-            told => assert!(rt; told.err() == Some(refusal)),
+    match content_of(rt.alloc(), &TRIANGLE) {
+        Some(content) => check_refusals(&rt, &content),
+        None => refused(&rt),
+    }
+}
+
+const ANALYSES: [Question; 3] = [
+    Question::Levels("a", "*", 0, 9),
+    Question::Labels("*", 0, 9),
+    Question::Cores("*", 0, 9),
+];
+
+fn check_analyses(rt: &(impl Abort + Print + AllocGlobal), content: &Content) -> Result<(), Fail>
+    requires { IsContent content.now }
+{
+    for question in &ANALYSES {
+        let told = refusal_of(rt.alloc(), content, *question);
+        assert_eq!(rt; sizes(content), (4, 1, 4));
+        if matches!(told, Some(AskError::OutOfMemory)) {
+            return refused(rt);
         }
+        assert!(rt; told.is_none());
     }
     Ok(())
 }
 
 #[test]
 fn refused_analyses_leave_the_content(rt: HostRuntime) -> Result<(), Fail> {
-    let Some(content) = content_of(rt.alloc(), &TRIANGLE) else {
-        return refused(&rt);
-    };
-    for question in [
-        Question::Levels("a", "*", 0, 9),
-        Question::Labels("*", 0, 9),
-        Question::Cores("*", 0, 9),
-    ] {
-        let told = answer(rt.alloc(), &content, question);
-        assert_eq!(rt; sizes(&content), (4, 1, 4));
-        if matches!(told, Err(AskError::OutOfMemory)) {
-            return refused(&rt);
-        }
-        assert!(rt; told.is_ok());
+    match content_of(rt.alloc(), &TRIANGLE) {
+        Some(content) => check_analyses(&rt, &content),
+        None => refused(&rt),
     }
-    Ok(())
 }

@@ -28,10 +28,12 @@ fn edge(wanted: &Wanted) -> Edge {
 
 /// Whether these are the edges, in any order; none is wanted twice.
 fn are_edges(edges: &List<Edge>, wanted: &[Wanted]) -> bool {
-    edges.as_slice().len() == wanted.len()
-        && wanted
-            .iter()
-            .all(|wanted| edges.as_slice().contains(&edge(wanted)))
+    let edges = edges.as_slice();
+    let mut are_edges = edges.len() == wanted.len();
+    for wanted in wanted {
+        are_edges = are_edges && edges.contains(&edge(wanted));
+    }
+    are_edges
 }
 
 /// Whether the operations, as the first batch, have these outcomes and leave these edges.

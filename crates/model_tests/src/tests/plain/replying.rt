@@ -7,6 +7,7 @@ use crate::tests::plain::{Row, content_of, filter, name, refused, sizes};
 use graph_model::{AskError, Content, Degree, Name, Reply, Request};
 use plain_graph::plain_reply;
 use std::alloc::{AllocError, Global};
+use std::process::Abort;
 use std::test::Fail;
 
 /// A vertex's name, its degrees out and in, and its weight out.
@@ -33,11 +34,11 @@ fn is_row(row: &(Name, Degree), wanted: &DegreeRow) -> bool {
 }
 
 fn are_rows(rows: &[(Name, Degree)], wanted: &[DegreeRow]) -> bool {
-    rows.len() == wanted.len()
-        && rows
-            .iter()
-            .zip(wanted)
-            .all(|(row, wanted)| is_row(row, wanted))
+    let mut are_rows = rows.len() == wanted.len();
+    for (row, wanted) in rows.iter().zip(wanted) {
+        are_rows = are_rows && is_row(row, wanted);
+    }
+    are_rows
 }
 
 /// The answer: whether it has these rows.
@@ -69,6 +70,20 @@ fn answers_edge(
     }
 }
 
+/// Whether the degrees over the content are these.
+fn degrees_are(
+    alloc: Global,
+    content: &Content,
+    kind: &str,
+    lo: u64,
+    hi: u64,
+    wanted: &[DegreeRow],
+) -> Result<bool, AskError>
+    requires { IsContent content.now }
+{
+    answers_rows(alloc, content, &degrees(alloc, kind, lo, hi)?, wanted)
+}
+
 /// Whether the degrees over the content that the operations leave are these.
 fn has_degrees(
     alloc: Global,
@@ -78,12 +93,23 @@ fn has_degrees(
     hi: u64,
     wanted: &[DegreeRow],
 ) -> bool {
-    match (content_of(alloc, rows), degrees(alloc, kind, lo, hi)) {
-        (Some(content), Ok(request)) => {
-            answers_rows(alloc, &content, &request, wanted) == Ok(true)
-        }
-        _ => false,
+    match content_of(alloc, rows) {
+        Some(content) => matches!(degrees_are(alloc, &content, kind, lo, hi, wanted), Ok(true)),
+        None => false,
     }
+}
+
+/// Weight and times of an edge of the content.
+fn edge_in(
+    alloc: Global,
+    content: &Content,
+    kind: &str,
+    source: &str,
+    target: &str,
+) -> Result<Option<(i64, u64, u64)>, AskError>
+    requires { IsContent content.now }
+{
+    answers_edge(alloc, content, &one_edge(alloc, kind, source, target)?)
 }
 
 /// Weight and times of an edge of the content that the operations leave.
@@ -94,12 +120,9 @@ fn edge_of(
     source: &str,
     target: &str,
 ) -> Result<Option<(i64, u64, u64)>, AskError> {
-    match (
-        content_of(alloc, rows),
-        one_edge(alloc, kind, source, target),
-    ) {
-        (Some(content), Ok(request)) => answers_edge(alloc, &content, &request),
-        _ => Err(AskError::OutOfMemory),
+    match content_of(alloc, rows) {
+        Some(content) => edge_in(alloc, &content, kind, source, target),
+        None => Err(AskError::OutOfMemory),
     }
 }
 
@@ -178,25 +201,33 @@ fn one_edge_has_a_weight_and_two_times(rt: HostRuntime) {
     );
 }
 
-#[test]
-fn refused_requests_for_degrees(rt: HostRuntime) -> Result<(), Fail> {
-    let Some(content) = content_of(rt.alloc(), &ACQUAINTANCES) else {
-        return refused(&rt);
-    };
-    for (kind, lo, hi, refusal) in [
-        ("*", 5, 4, AskError::BadWindow),
-        ("likes", 5, 4, AskError::BadWindow),
-        ("likes", 0, 9, AskError::NoKind),
-    ] {
-        let Ok(request) = degrees(rt.alloc(), kind, lo, hi) else {
-            return refused(&rt);
+const REFUSALS: [(&'static str, u64, u64, AskError); 3] = [
+    ("*", 5, 4, AskError::BadWindow),
+    ("likes", 5, 4, AskError::BadWindow),
+    ("likes", 0, 9, AskError::NoKind),
+];
+
+fn check_refusals(rt: &(impl Abort + Print + AllocGlobal), content: &Content) -> Result<(), Fail>
+    requires { IsContent content.now }
+{
+    for (kind, lo, hi, refusal) in &REFUSALS {
+        let Ok(request) = degrees(rt.alloc(), kind, *lo, *hi) else {
+            return refused(rt);
         };
         assert_eq!(rt;
-            answers_rows(rt.alloc(), &content, &request, &[]),
-            Err(refusal)
+            answers_rows(rt.alloc(), content, &request, &[]),
+            Err(*refusal)
         );
     }
     Ok(())
+}
+
+#[test]
+fn refused_requests_for_degrees(rt: HostRuntime) -> Result<(), Fail> {
+    match content_of(rt.alloc(), &ACQUAINTANCES) {
+        Some(content) => check_refusals(&rt, &content),
+        None => refused(&rt),
+    }
 }
 
 #[test]
