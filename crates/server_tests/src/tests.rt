@@ -8,7 +8,9 @@ mod scripts;
 use std::io;
 use std::io::{ErrorKind, Read, Write};
 use std::process::Abort;
-use stinger_server::Config;
+use std::sync::Wait;
+use std::thread::Threads;
+use stinger_server::{Config, ServeFault, Summary, serve, stinger};
 
 const FIRST: &str = "\
 i,knows,ann,bob,5,10
@@ -115,6 +117,39 @@ c 0
 
 fn two_seats(rt: &impl Abort) -> Config {
     Config::new(4, 16, 2).expect(rt, "within the limits")
+}
+
+// A run of the script over a store of two seats.
+fn served(
+    rt: &(impl Abort + AllocGlobal + Threads + Wait + Sync),
+    script: &str,
+    writer: &mut impl Write,
+) -> Result<Summary, ServeFault> {
+    serve(rt, two_seats(rt), script.as_bytes(), writer)
+}
+
+// A run of `FIRST` over such a store, from a reader that fails after so many reads.
+fn served_torn(
+    rt: &(impl Abort + AllocGlobal + Threads + Wait + Sync),
+    reads: usize,
+    writer: &mut FakeWriter,
+) -> Result<Summary, ServeFault> {
+    let reader = TornReader {
+        bytes: FIRST.as_bytes(),
+        reads,
+    };
+    serve(rt, two_seats(rt), reader, writer)
+}
+
+// The status of the program at the arguments, over the script.
+fn status_of(
+    rt: &(impl Abort + AllocGlobal + Threads + Wait + Sync),
+    arguments: &[&str],
+    script: &str,
+    output: &mut impl Write,
+    faults: &mut impl Write,
+) -> u8 {
+    stinger(rt, arguments, script.as_bytes(), output, faults)
 }
 
 // The bytes begin with the text, and are none where it is empty.

@@ -1,10 +1,10 @@
 // What the program does at its arguments.
 
-use super::{FakeWriter, begins};
+use super::{FakeWriter, begins, status_of};
 use std::process::Abort;
 use std::sync::Wait;
 use std::thread::Threads;
-use stinger_server::{law_arguments, law_options, refuse_arguments, stinger};
+use stinger_server::{law_arguments, law_options, refuse_arguments};
 
 // The program at the arguments, over a script of one bad record, ends with the status: these are the beginnings of
 // what stands on its output and on its faults, and where there is none, nothing stands there.
@@ -17,13 +17,7 @@ fn tells(
 ) {
     let mut output = Vec::new(rt.alloc());
     let mut faults = Vec::new(rt.alloc());
-    let end = stinger(
-        rt,
-        arguments,
-        b"hello\n".as_slice(),
-        &mut output,
-        &mut faults,
-    );
+    let end = status_of(rt, arguments, "hello\n", &mut output, &mut faults);
     assert_eq!(rt; end, status, "{text}{complaint}");
     assert!(rt; begins(output.as_slice(), text), "{text}{complaint}");
     assert!(rt; begins(faults.as_slice(), complaint), "{text}{complaint}");
@@ -79,10 +73,10 @@ fn opens(
     let [first, second, third] = *words;
     let mut output = Vec::new(rt.alloc());
     let mut faults = Vec::new(rt.alloc());
-    let end = stinger(
+    let end = status_of(
         rt,
         &["run", first, second, third],
-        script.as_bytes(),
+        script,
         &mut output,
         &mut faults,
     );
@@ -219,13 +213,7 @@ fn complains(
 ) {
     let mut output = Vec::new(rt.alloc());
     let mut faults = Vec::new(rt.alloc());
-    let status = stinger(
-        rt,
-        arguments,
-        b"hello\n".as_slice(),
-        &mut output,
-        &mut faults,
-    );
+    let status = status_of(rt, arguments, "hello\n", &mut output, &mut faults);
     assert_eq!(rt; faults.as_slice(), text.as_bytes(), "{text}");
     assert_eq!(rt; status, 2, "{text}");
     assert!(rt; output.is_empty(), "{text}");
@@ -252,13 +240,7 @@ fn breaks_off(
 ) {
     let mut writer = FakeWriter::new(rt, room, true);
     let mut faults = FakeWriter::new(rt, fault_room, true);
-    let status = stinger(
-        rt,
-        &[argument],
-        b"hello\n".as_slice(),
-        &mut writer,
-        &mut faults,
-    );
+    let status = status_of(rt, &[argument], "hello\n", &mut writer, &mut faults);
     assert_eq!(rt; status, 1, "{argument} {room} {fault_room}");
     assert_eq!(rt;
         writer.held.as_slice(),
@@ -288,13 +270,7 @@ fn says_that_the_output_was_not_flushed(rt: HostRuntime) {
     let mut writer = FakeWriter::new(&rt, 1_000, true);
     writer.flush_fails = true;
     let mut faults = Vec::new(rt.alloc());
-    let status = stinger(
-        &rt,
-        &["run"],
-        b"hello\n".as_slice(),
-        &mut writer,
-        &mut faults,
-    );
+    let status = status_of(&rt, &["run"], "hello\n", &mut writer, &mut faults);
     assert_eq!(rt; status, 1);
     assert_eq!(rt; writer.held.as_slice(), b"error 1 BadCommand\n".as_slice());
     assert_eq!(rt; faults.as_slice(), UNWRITTEN);

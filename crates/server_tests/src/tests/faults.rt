@@ -1,10 +1,10 @@
 // Readers and writers that fail.
 
-use super::{FIRST, FIRST_TEXT, FakeWriter, REFUSED, REFUSED_TEXT, TornReader, is_cut, two_seats};
+use super::{FIRST, FIRST_TEXT, FakeWriter, REFUSED, REFUSED_TEXT, is_cut, served, served_torn};
 use std::process::Abort;
 use std::sync::Wait;
 use std::thread::Threads;
-use stinger_server::{ServeFault, serve};
+use stinger_server::ServeFault;
 
 // A run of the script into a writer of each smaller size writes that many bytes of the text and tells `Write`, and
 // calls the writer no more.
@@ -16,7 +16,7 @@ fn fills_each_writer(
 ) {
     for room in 0..text.len() {
         let mut writer = FakeWriter::new(rt, room, fails);
-        let answer = serve(rt, two_seats(rt), script.as_bytes(), &mut writer);
+        let answer = served(rt, script, &mut writer);
         assert_eq!(rt; answer, Err(ServeFault::Write), "{room} {fails}");
         assert_eq!(rt;
             writer.held.as_slice(),
@@ -40,7 +40,7 @@ fn writes_to_a_writer_that_takes_a_byte_a_call(rt: HostRuntime) {
     for (script, text) in [(FIRST, FIRST_TEXT), (REFUSED, REFUSED_TEXT)] {
         let mut writer = FakeWriter::new(&rt, text.len(), true);
         writer.piece = 1;
-        let answer = serve(&rt, two_seats(&rt), script.as_bytes(), &mut writer);
+        let answer = served(&rt, script, &mut writer);
         assert!(rt; answer.is_ok(), "{script}");
         assert_eq!(rt; writer.held.as_slice(), text.as_bytes(), "{script}");
     }
@@ -54,11 +54,7 @@ fn tells_a_failed_flush(
 ) {
     let mut writer = FakeWriter::new(rt, usize::MAX, true);
     writer.flush_fails = true;
-    let reader = TornReader {
-        bytes: FIRST.as_bytes(),
-        reads,
-    };
-    let answer = serve(rt, two_seats(rt), reader, &mut writer);
+    let answer = served_torn(rt, reads, &mut writer);
     assert_eq!(rt; answer, Err(ServeFault::Write), "{reads}");
     assert_eq!(rt; writer.held.as_slice(), text.as_bytes(), "{reads}");
 }
@@ -69,19 +65,21 @@ fn tells_failed_flushes(rt: HostRuntime) {
     tells_a_failed_flush(&rt, 0, "error 1 Read\n");
 }
 
+// How many lines end in the bytes.
+fn lines_in(bytes: &[u8]) -> usize {
+    let mut lines: usize = 0;
+    for byte in bytes {
+        lines = lines.saturating_add(usize::from(*byte == b'\n'));
+    }
+    lines
+}
+
 #[test]
 fn tells_the_record_that_a_reader_failed_at(rt: HostRuntime) {
     for reads in 0..=FIRST.len() {
         let mut writer = FakeWriter::new(&rt, usize::MAX, true);
-        let reader = TornReader {
-            bytes: FIRST.as_bytes(),
-            reads,
-        };
-        let answer = serve(&rt, two_seats(&rt), reader, &mut writer);
-        let given = FIRST.as_bytes()[..reads]
-            .iter()
-            .filter(|byte| **byte == b'\n')
-            .count();
+        let answer = served_torn(&rt, reads, &mut writer);
+        let given = lines_in(&FIRST.as_bytes()[..reads]);
         assert_eq!(rt; answer, Err(ServeFault::Read), "{reads}");
         assert!(rt; is_cut(writer.held.as_slice(), given, "Read"), "{reads}");
         assert!(rt; writer.flushed, "{reads}");

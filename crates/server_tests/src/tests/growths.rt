@@ -3,13 +3,18 @@
 use super::arguments::{HELP, UNKNOWN};
 use super::{
     FIRST, FIRST_ENDS, FIRST_TEXT, FakeWriter, TABLES, TABLES_ENDS, TABLES_TEXT, begins, is_cut,
-    is_cut_of, two_seats,
+    is_cut_of, served, status_of,
 };
-use stinger_server::{ServeFault, serve, stinger};
+use stinger_server::ServeFault;
 
 // Whether a run of `FIRST` was ended by a refused growth.
 fn is_cut_by_memory(output: &[u8]) -> bool {
-    (0..FIRST_ENDS.len()).any(|given| is_cut(output, given, "Memory"))
+    for given in 0..FIRST_ENDS.len() {
+        if is_cut(output, given, "Memory") {
+            return true;
+        }
+    }
+    false
 }
 
 // Tells `tools/refuse-each-growth` that a growth was refused, which the test accepted.
@@ -22,7 +27,7 @@ fn refused_growth_ends_a_run_at_its_record(rt: HostRuntime) {
     let Ok(mut output) = Vec::with_capacity(rt.alloc(), 1_024) else {
         return refused(&rt);
     };
-    match serve(&rt, two_seats(&rt), FIRST.as_bytes(), &mut output) {
+    match served(&rt, FIRST, &mut output) {
         Ok(_) => assert_eq!(rt; output.as_slice(), FIRST_TEXT.as_bytes()),
         Err(ServeFault::Start) => {
             assert!(rt; output.is_empty());
@@ -39,7 +44,12 @@ fn refused_growth_ends_a_run_at_its_record(rt: HostRuntime) {
 // Whether a run of `TABLES` was ended by a refused growth.
 fn is_analysis_cut_by_memory(output: &[u8]) -> bool {
     let ends = TABLES_ENDS.as_slice();
-    (0..ends.len()).any(|given| is_cut_of(TABLES_TEXT, ends, output, given, "Memory"))
+    for given in 0..ends.len() {
+        if is_cut_of(TABLES_TEXT, ends, output, given, "Memory") {
+            return true;
+        }
+    }
+    false
 }
 
 #[test]
@@ -47,7 +57,7 @@ fn refused_growth_leaves_no_line_of_an_analysis(rt: HostRuntime) {
     let Ok(mut output) = Vec::with_capacity(rt.alloc(), 1_024) else {
         return refused(&rt);
     };
-    match serve(&rt, two_seats(&rt), TABLES.as_bytes(), &mut output) {
+    match served(&rt, TABLES, &mut output) {
         Ok(_) => assert_eq!(rt; output.as_slice(), TABLES_TEXT.as_bytes()),
         Err(ServeFault::Start) => {
             assert!(rt; output.is_empty());
@@ -69,7 +79,7 @@ fn refused_growth_into_a_full_writer_tells_the_writer(rt: HostRuntime) {
     };
     let mut writer = FakeWriter::new(&rt, 5, true);
     writer.held = held;
-    let answer = serve(&rt, two_seats(&rt), FIRST.as_bytes(), &mut writer);
+    let answer = served(&rt, FIRST, &mut writer);
     if answer == Err(ServeFault::Start) {
         assert!(rt; writer.held.is_empty());
         return refused(&rt);
@@ -89,7 +99,7 @@ fn refused_growth_gives_the_program_status_1(rt: HostRuntime) {
         return refused(&rt);
     };
     let mut faults = Vec::new(rt.alloc());
-    let status = stinger(&rt, &["run"], FIRST.as_bytes(), &mut output, &mut faults);
+    let status = status_of(&rt, &["run"], FIRST, &mut output, &mut faults);
     if status == 0 {
         assert_eq!(rt; output.as_slice(), FIRST_TEXT.as_bytes());
     } else {
@@ -109,7 +119,7 @@ fn refused_growth_leaves_the_arguments_untold(rt: HostRuntime) {
         let Ok(mut faults) = Vec::with_capacity(rt.alloc(), 1_024) else {
             return refused(&rt);
         };
-        let status = stinger(&rt, &[argument], b"".as_slice(), &mut output, &mut faults);
+        let status = status_of(&rt, &[argument], "", &mut output, &mut faults);
         if status == 1 {
             assert!(rt; output.is_empty() && faults.is_empty(), "{argument}");
             refused(&rt);

@@ -1,19 +1,20 @@
 // Scripts whose lines, counts and seats are told.
 
 use super::{
-    ANALYSES, ANALYSES_TEXT, FIRST, FIRST_TEXT, FakeWriter, REFUSED, REFUSED_TEXT, two_seats,
+    ANALYSES, ANALYSES_TEXT, FIRST, FIRST_TEXT, FakeWriter, REFUSED, REFUSED_TEXT, served,
+    status_of,
 };
 use std::process::Abort;
 use std::sync::Wait;
 use std::thread::Threads;
-use stinger_server::{Config, Summary, law_one_text, serve, stinger};
+use stinger_server::{Config, Summary, law_one_text, serve};
 
 #[test]
 fn takes_a_script_to_its_lines(rt: HostRuntime) {
     law_one_text();
     let mut output = Vec::new(rt.alloc());
     let mut faults = Vec::new(rt.alloc());
-    let end = stinger(&rt, &["run"], FIRST.as_bytes(), &mut output, &mut faults);
+    let end = status_of(&rt, &["run"], FIRST, &mut output, &mut faults);
     assert_eq!(rt; output.as_slice(), FIRST_TEXT.as_bytes());
     assert_eq!(rt; end, 0);
     assert!(rt; faults.is_empty());
@@ -22,7 +23,7 @@ fn takes_a_script_to_its_lines(rt: HostRuntime) {
 #[test]
 fn counts_records_errors_and_pending_operations(rt: HostRuntime) {
     let mut writer = FakeWriter::new(&rt, usize::MAX, true);
-    let summary = serve(&rt, two_seats(&rt), REFUSED.as_bytes(), &mut writer);
+    let summary = served(&rt, REFUSED, &mut writer);
     let counted = Summary {
         records: 3,
         errors: 2,
@@ -37,7 +38,7 @@ fn counts_records_errors_and_pending_operations(rt: HostRuntime) {
 #[test]
 fn answers_levels_labels_and_core_numbers(rt: HostRuntime) {
     let mut output = Vec::new(rt.alloc());
-    let summary = serve(&rt, two_seats(&rt), ANALYSES.as_bytes(), &mut output);
+    let summary = served(&rt, ANALYSES, &mut output);
     let counted = Summary {
         records: 14,
         errors: 7,
