@@ -1,3 +1,4 @@
+use Rattle.std.proofs.Common.{rules}
 use Rattle.std.proofs.Common.{◌≡◌, true, subst, w64}
 use Rattle.std.proofs.lemmas.Int.{to_z-of_z}
 use Rattle.edge_block.specs.Slots.{has_room_for}
@@ -15,3 +16,6 @@ pub set_edge-requires-clause-room : goal.set_edge-requires-clause-room
 set_edge-requires-clause-room c =
     subst (λ b. has_room_for c.args.target b.slots ≡ true) c.deref.ensures
     (room_found c.args.target c.deref.result.now.slots _ c.in-Some.ensures.edge.stands)
+
+pub returns-in-Absent : goal.returns-in-Absent
+returns-in-Absent c = search rules
