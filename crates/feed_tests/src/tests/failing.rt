@@ -4,7 +4,7 @@ use super::readers::{Pieces, Repeating, in_pieces};
 use super::texts::gives;
 use feed_csv::{Command, Feed, FeedFault, FeedWord};
 use graph_model::{Name, NamedFilter, NamedOp, Request};
-use std::alloc::Global;
+use std::alloc::{AllocError, Global};
 use std::io;
 use std::process::Abort;
 use std::test::Fail;
@@ -83,31 +83,42 @@ fn stops_where_a_read_fails(rt: HostRuntime) {
     }
 }
 
-// A million records are given, `commit` and a blank line and then 999 of no command again and again, and no more,
-// whether or not there are more.
-fn check_limit(rt: &impl Abort, alloc: Global, rounds: u64) -> Result<(), Fail> {
-    let mut lines = Vec::new(alloc);
+// `commit` and a blank line, and then 999 lines of no command.
+fn push_lines(lines: &mut Vec<u8>) -> Result<(), AllocError> {
     lines.extend_from_slice(b"commit\n\n")?;
     for _ in 1..1000 {
         lines.extend_from_slice(b"x\n")?;
     }
+    Ok(())
+}
+
+// Whether the record of this number, among such lines again and again, gave this.
+fn is_of_lines(outcome: &Result<Option<Command>, FeedFault>, record: u64) -> bool {
+    match outcome {
+        Ok(Some(Command::Commit)) => record % 1000 == 1,
+        _ => record % 1000 != 1 && is_fault(outcome, record, FeedWord::BadCommand),
+    }
+}
+
+// A million records are given, and no more, whether or not there are more.
+fn check_million(rt: &impl Abort, feed: &mut Feed<Repeating<'_>>) {
+    for record in 1..1_000_001 {
+        assert!(rt; is_of_lines(&feed.next(), record), "record {record}");
+    }
+    for _ in 0..3 {
+        assert!(rt; is_fault(&feed.next(), 1_000_001, FeedWord::Read));
+    }
+}
+
+fn check_limit(rt: &impl Abort, alloc: Global, rounds: u64) -> Result<(), Fail> {
+    let mut lines = Vec::new(alloc);
+    push_lines(&mut lines)?;
     let reader = Repeating {
         lines: lines.as_slice(),
         at: 0,
         rounds,
     };
-    let mut feed = Feed::over(alloc, reader);
-    for record in 1..1_000_001 {
-        let outcome = feed.next();
-        let given = match outcome {
-            Ok(Some(Command::Commit)) => record % 1000 == 1,
-            _ => record % 1000 != 1 && is_fault(&outcome, record, FeedWord::BadCommand),
-        };
-        assert!(rt; given, "record {record}");
-    }
-    for _ in 0..3 {
-        assert!(rt; is_fault(&feed.next(), 1_000_001, FeedWord::Read));
-    }
+    check_million(rt, &mut Feed::over(alloc, reader));
     Ok(())
 }
 

@@ -3,7 +3,7 @@
 use super::readers::in_pieces;
 use super::texts::gives;
 use feed_csv::{Feed, FeedFault, FeedWord};
-use std::alloc::Global;
+use std::alloc::{AllocError, Global};
 use std::process::Abort;
 use std::test::Fail;
 
@@ -200,32 +200,37 @@ fn takes_names(rt: HostRuntime) -> Result<(), Fail> {
     check(&rt, rt.alloc(), NAMES)
 }
 
+const WORDS: [FeedWord; 8] = [
+    FeedWord::Read,
+    FeedWord::BadCommand,
+    FeedWord::BadFields,
+    FeedWord::BadName,
+    FeedWord::BadWeight,
+    FeedWord::BadTime,
+    FeedWord::BadSlot,
+    FeedWord::Memory,
+];
+
+fn write_words(text: &mut String) -> Result<(), AllocError> {
+    for word in &WORDS {
+        write!(text, "{} ", word.word())?;
+    }
+    Ok(())
+}
+
 #[test]
 fn tells_its_words(rt: HostRuntime) -> Result<(), Fail> {
-    let words = [
-        FeedWord::Read,
-        FeedWord::BadCommand,
-        FeedWord::BadFields,
-        FeedWord::BadName,
-        FeedWord::BadWeight,
-        FeedWord::BadTime,
-        FeedWord::BadSlot,
-        FeedWord::Memory,
-    ];
-    let mut text = String::new(rt.alloc());
-    for word in words {
-        text.push_str(word.word())?;
-        text.push_str(" ")?;
-    }
-    assert_eq!(rt;
-        text.as_str(),
-        "Read BadCommand BadFields BadName BadWeight BadTime BadSlot Memory "
-    );
     let fault = FeedFault {
         at: 7,
         word: FeedWord::BadCommand,
     };
-    let text = format!(in rt.alloc(); "{fault}")?;
-    assert_eq!(rt; text.as_str(), "record 7: the first field is no command");
+    let mut text = String::new(rt.alloc());
+    write_words(&mut text)?;
+    write!(text, "{fault}")?;
+    assert_eq!(rt;
+        text.as_str(),
+        "Read BadCommand BadFields BadName BadWeight BadTime BadSlot Memory \
+        record 7: the first field is no command"
+    );
     Ok(())
 }

@@ -5,18 +5,18 @@ use feed_csv::{Command, Feed, FeedFault};
 use graph_model::{Name, NamedFilter, NamedOp, Request};
 use std::alloc::{AllocError, Global};
 
-fn edge_text(
-    alloc: Global,
+fn write_edge(
+    text: &mut String,
     word: &str,
     kind: &Name,
     source: &Name,
     target: &Name,
-) -> Result<String, AllocError> {
+) -> Result<(), AllocError> {
     let (kind, source, target) = (kind.as_str(), source.as_str(), target.as_str());
-    format!(in alloc; "{word} {kind} {source} {target}")
+    write!(text, "{word} {kind} {source} {target}")
 }
 
-fn op_text(alloc: Global, op: &NamedOp) -> Result<String, AllocError> {
+fn write_op(text: &mut String, op: &NamedOp) -> Result<(), AllocError> {
     match op {
         NamedOp::Insert {
             kind,
@@ -25,8 +25,8 @@ fn op_text(alloc: Global, op: &NamedOp) -> Result<String, AllocError> {
             weight,
             time,
         } => {
-            let edge = edge_text(alloc, "i", kind, source, target)?;
-            format!(in alloc; "{edge} {weight} {time}")
+            write_edge(text, "i", kind, source, target)?;
+            write!(text, " {weight} {time}")
         }
         NamedOp::Incr {
             kind,
@@ -35,91 +35,80 @@ fn op_text(alloc: Global, op: &NamedOp) -> Result<String, AllocError> {
             amount,
             time,
         } => {
-            let edge = edge_text(alloc, "a", kind, source, target)?;
-            format!(in alloc; "{edge} {amount} {time}")
+            write_edge(text, "a", kind, source, target)?;
+            write!(text, " {amount} {time}")
         }
         NamedOp::Remove {
             kind,
             source,
             target,
-        } => edge_text(alloc, "r", kind, source, target),
+        } => write_edge(text, "r", kind, source, target),
     }
 }
 
-fn view_text(
-    alloc: Global,
+fn write_view(
+    text: &mut String,
     word: &str,
     slot: u8,
     filter: &NamedFilter,
-) -> Result<String, AllocError> {
+) -> Result<(), AllocError> {
     let (lo, hi) = (filter.lo, filter.hi);
     match &filter.kind {
-        Some(kind) => {
-            let kind = kind.as_str();
-            format!(in alloc; "{word} {slot} {kind} {lo} {hi}")
-        }
-        None => format!(in alloc; "{word} {slot} any {lo} {hi}"),
+        Some(kind) => write!(text, "{word} {slot} {} {lo} {hi}", kind.as_str()),
+        None => write!(text, "{word} {slot} any {lo} {hi}"),
     }
 }
 
-fn levels_text(
-    alloc: Global,
-    slot: u8,
-    source: &Name,
-    filter: &NamedFilter,
-) -> Result<String, AllocError> {
-    let source = source.as_str();
-    let word = format!(in alloc; "bfs {source}")?;
-    view_text(alloc, word.as_str(), slot, filter)
-}
-
-fn request_text(alloc: Global, slot: u8, request: &Request) -> Result<String, AllocError> {
+fn write_request(text: &mut String, slot: u8, request: &Request) -> Result<(), AllocError> {
     match request {
-        Request::Levels { source, filter } => levels_text(alloc, slot, source, filter),
-        Request::Labels { filter } => view_text(alloc, "comp", slot, filter),
-        Request::Cores { filter } => view_text(alloc, "core", slot, filter),
-        Request::Degrees { filter } => view_text(alloc, "deg", slot, filter),
+        Request::Levels { source, filter } => {
+            text.push_str("bfs ")?;
+            write_view(text, source.as_str(), slot, filter)
+        }
+        Request::Labels { filter } => write_view(text, "comp", slot, filter),
+        Request::Cores { filter } => write_view(text, "core", slot, filter),
+        Request::Degrees { filter } => write_view(text, "deg", slot, filter),
         Request::OneEdge {
             kind,
             source,
             target,
         } => {
-            let edge = edge_text(alloc, "edge", kind, source, target)?;
-            format!(in alloc; "{edge} {slot}")
+            write_edge(text, "edge", kind, source, target)?;
+            write!(text, " {slot}")
         }
     }
 }
 
-fn outcome_text(
-    alloc: Global,
+fn write_command(text: &mut String, command: &Command) -> Result<(), AllocError> {
+    match command {
+        Command::Op(op) => write_op(text, op),
+        Command::Commit => text.push_str("commit"),
+        Command::OpenSlot(slot) => write!(text, "open {slot}"),
+        Command::CloseSlot(slot) => write!(text, "close {slot}"),
+        Command::Query(slot, request) => write_request(text, *slot, request),
+        Command::Stat => text.push_str("stat"),
+        Command::Collect => text.push_str("collect"),
+    }
+}
+
+fn write_outcome(
+    text: &mut String,
     outcome: &Result<Option<Command>, FeedFault>,
-) -> Result<String, AllocError> {
+) -> Result<(), AllocError> {
     match outcome {
-        Ok(None) => String::from_str(alloc, "end"),
-        Ok(Some(Command::Op(op))) => op_text(alloc, op),
-        Ok(Some(Command::Commit)) => String::from_str(alloc, "commit"),
-        Ok(Some(Command::OpenSlot(slot))) => format!(in alloc; "open {slot}"),
-        Ok(Some(Command::CloseSlot(slot))) => format!(in alloc; "close {slot}"),
-        Ok(Some(Command::Query(slot, request))) => request_text(alloc, *slot, request),
-        Ok(Some(Command::Stat)) => String::from_str(alloc, "stat"),
-        Ok(Some(Command::Collect)) => String::from_str(alloc, "collect"),
-        Err(fault) => {
-            let word = fault.word.word();
-            let at = fault.at;
-            format!(in alloc; "{word} {at}")
-        }
+        Ok(None) => text.push_str("end"),
+        Ok(Some(command)) => write_command(text, command),
+        Err(fault) => write!(text, "{} {}", fault.word.word(), fault.at),
     }
 }
 
-fn is_text(text: &Result<String, AllocError>, want: &str) -> bool {
-    match text {
-        Ok(text) => text.as_str() == want,
-        Err(_) => false,
-    }
+/// Whether the outcome is this text; it is not where memory is refused.
+fn is_text(alloc: Global, outcome: &Result<Option<Command>, FeedFault>, want: &str) -> bool {
+    let mut text = String::new(alloc);
+    write_outcome(&mut text, outcome).is_ok() && text.as_str() == want
 }
 
 /// Whether the next call gives this.
 pub(crate) fn gives(alloc: Global, feed: &mut Feed<Pieces<'_>>, want: &str) -> bool {
-    let outcome = feed.next();
-    is_text(&outcome_text(alloc, &outcome), want)
+    is_text(alloc, &feed.next(), want)
 }
