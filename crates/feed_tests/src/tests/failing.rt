@@ -94,10 +94,10 @@ fn push_lines(lines: &mut Vec<u8>) -> Result<(), AllocError> {
 
 // Whether the record of this number, among such lines again and again, gave this.
 fn is_of_lines(outcome: &Result<Option<Command>, FeedFault>, record: u64) -> bool {
-    match outcome {
-        Ok(Some(Command::Commit)) => record % 1000 == 1,
-        _ => record % 1000 != 1 && is_fault(outcome, record, FeedWord::BadCommand),
+    if record % 1000 == 1 {
+        return matches!(outcome, Ok(Some(Command::Commit)));
     }
+    is_fault(outcome, record, FeedWord::BadCommand)
 }
 
 // A million records are given, and no more, whether or not there are more.
@@ -211,19 +211,29 @@ fn is_given(call: u64, outcome: &Result<Option<Command>, FeedFault>) -> bool {
     }
 }
 
+// Whether the call of this number was refused a growth; if not, it gave what `SCRIPT` says.
+fn is_refused(rt: &impl Abort, feed: &mut Feed<&[u8]>, call: u64) -> bool {
+    let outcome = feed.next();
+    let is_refused = is_fault(&outcome, call, FeedWord::Memory);
+    assert!(rt; is_refused || is_given(call, &outcome), "call {call}");
+    is_refused
+}
+
+fn check_ended(rt: &impl Abort, feed: &mut Feed<&[u8]>, call: u64) {
+    for _ in 0..3 {
+        assert!(rt; is_fault(&feed.next(), call, FeedWord::Read));
+    }
+}
+
 #[test]
 fn refused_next(rt: HostRuntime) {
     let mut feed = Feed::over(rt.alloc(), SCRIPT.as_bytes());
     for call in 1..16 {
-        let outcome = feed.next();
-        if is_fault(&outcome, call, FeedWord::Memory) {
-            for _ in 0..3 {
-                assert!(rt; is_fault(&feed.next(), call, FeedWord::Read));
-            }
+        if is_refused(&rt, &mut feed, call) {
+            check_ended(&rt, &mut feed, call);
             // Tells `tools/refuse-each-growth` that a growth was refused.
             let _ = println!(rt; "refused");
             return;
         }
-        assert!(rt; is_given(call, &outcome), "call {call}");
     }
 }
