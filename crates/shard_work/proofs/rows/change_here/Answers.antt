@@ -1,5 +1,4 @@
-use Rattle.std.proofs.Common.{rules}
-use Rattle.std.proofs.Common.{◌≡◌, true, subst, w64}
+use Rattle.std.proofs.Common.{rules, ◌≡◌, true, subst, w64}
 use Rattle.std.proofs.lemmas.Int.{to_z-of_z}
 use Rattle.edge_block.specs.Slots.{has_room_for}
 use Rattle.shard_work.proofs.RowSteps.{stamped_at, weight_fits}
