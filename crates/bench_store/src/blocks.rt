@@ -37,7 +37,7 @@ fn blocks_of(alloc: Global, edges: u32) -> Result<Vec<Block>, AllocError> {
 }
 
 /// Looks for the targets of edges from..from + edges in each block, in each round; the sum of the times found.
-fn search(blocks: &Vec<Block>, from: u32, edges: u32, rounds: u32) -> u64 {
+fn search(blocks: &[Block], from: u32, edges: u32, rounds: u32) -> u64 {
     let mut times = 0u64;
     for _ in 0..rounds {
         for block in blocks {
@@ -58,7 +58,7 @@ fn search_block(block: &Block, from: u32, edges: u32) -> u64 {
 }
 
 /// Goes over the edges of a view in each block, in each round; the sum of their weights.
-fn scan(blocks: &Vec<Block>, view: &Filter, rounds: u32) -> i64 {
+fn scan(blocks: &[Block], view: &Filter, rounds: u32) -> i64 {
     let mut weights = 0i64;
     for _ in 0..rounds {
         for block in blocks {
@@ -79,14 +79,14 @@ fn scan_block(block: &Block, view: &Filter) -> i64 {
 /// Prints a line for each measurement: its name, how many edges a block has, nanoseconds for all calls, and the sum.
 pub(crate) fn measure<R: CpuClock + Print + AllocGlobal>(rt: &R, rounds: u32) -> io::Result<()> {
     for edges in [1, 2, 8, 32] {
-        measure_blocks(rt, &blocks_of(rt.alloc(), edges)?, edges, rounds)?;
+        measure_blocks(rt, blocks_of(rt.alloc(), edges)?.as_slice(), edges, rounds)?;
     }
     Ok(())
 }
 
 fn measure_blocks<R: CpuClock + Print>(
     rt: &R,
-    blocks: &Vec<Block>,
+    blocks: &[Block],
     edges: u32,
     rounds: u32,
 ) -> io::Result<()> {
@@ -101,7 +101,7 @@ fn measure_blocks<R: CpuClock + Print>(
 fn measure_find<R: CpuClock + Print>(
     rt: &R,
     name: &str,
-    blocks: &Vec<Block>,
+    blocks: &[Block],
     from: u32,
     edges: u32,
     rounds: u32,
@@ -115,7 +115,7 @@ fn measure_find<R: CpuClock + Print>(
 fn measure_select<R: CpuClock + Print>(
     rt: &R,
     name: &str,
-    blocks: &Vec<Block>,
+    blocks: &[Block],
     lo: u64,
     edges: u32,
     rounds: u32,

@@ -20,18 +20,18 @@ use std::{env, io};
 fn main(rt: HostRuntime) -> io::Result<()> {
     let mut words = env::args(&rt)?.skip(1);
     while let Some(word) = words.next() {
-        measure_word(&rt, &word, &words.next())?;
+        measure_word(&rt, word.as_str(), words.next().as_deref())?;
     }
     Ok(())
 }
 
 fn measure_word<R: Threads + Wait + Sync + Clock + CpuClock + Print + AllocGlobal>(
     rt: &R,
-    word: &String,
-    rounds: &Option<String>,
+    word: &str,
+    rounds: Option<&str>,
 ) -> io::Result<()> {
     match rounds {
-        Some(rounds) => measure(rt, word.as_str(), rounds.as_str()),
+        Some(rounds) => measure(rt, word, rounds),
         None => Ok(()),
     }
 }

@@ -90,10 +90,10 @@ fn measure_lettings<R: Threads + Wait + Sync + Clock + CpuClock + Print + AllocG
 ) -> io::Result<()> {
     let mut desk = grown(rt, Shape::Path, rows)?;
     let mut edges = Edges::new(Shape::Turns { vertices: rows });
-    measure_lettings_go(rt, &mut desk, &mut edges, rows, rounds)
+    measure_rounds(rt, &mut desk, &mut edges, rows, rounds)
 }
 
-fn measure_lettings_go<R: Threads + Wait + Sync + Clock + CpuClock + Print + AllocGlobal>(
+fn measure_rounds<R: Threads + Wait + Sync + Clock + CpuClock + Print + AllocGlobal>(
     rt: &R,
     desk: &mut Desk,
     edges: &mut Edges,

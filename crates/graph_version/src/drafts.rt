@@ -92,12 +92,12 @@ impl VersionDraft {
 
     /// The version, once its rows have what its batches leave, each block with its row's source and with an edge, no
     /// two edges of one key and no two blocks of one number, and its books have the names. Its edges are counted.
-    pub fn finish(self) -> Result<Version, AllocError>
+    pub fn finish(self) -> Version
         requires { IsWhole self }
-        ensures { IfOk result (λ version. version ≡ self.version) }
+        ensures { result ≡ self.version }
     {
         let edges = edges_in_rows(&self.rows);
-        Ok(self.finish_counted(edges))
+        self.finish_counted(edges)
     }
 
     /// As `finish`, where it is known how many edges there are, modulo 2^64: no block is read.

@@ -71,15 +71,9 @@ impl Part {
 }
 
 /// From hashes to numbers, in parts that copies share.
+#[derive(Drop)]
 pub(crate) struct HashIndex {
     parts: Vec<Arc<Part>>,
-}
-
-// Written by hand: who lets one go rests on this function, and not on how each part is let go.
-impl Drop for HashIndex {
-    fn drop(self) {
-        let HashIndex { parts: _parts } = self;
-    }
 }
 
 impl Model for HashIndex {

@@ -62,19 +62,10 @@ impl Chunk {
 }
 
 /// Names in order, in chunks of 256 that copies share.
+#[derive(Drop)]
 pub(crate) struct Texts {
     len: usize,
     chunks: Vec<Arc<Chunk>>,
-}
-
-// Written by hand: who lets one go rests on this function, and not on how each part is let go.
-impl Drop for Texts {
-    fn drop(self) {
-        let Texts {
-            len: _len,
-            chunks: _chunks,
-        } = self;
-    }
 }
 
 impl Model for Texts {

@@ -90,7 +90,7 @@ fn finished(alloc: Global, draft: VersionDraft) -> Result<Version, AllocError>
     requires whole { IsWhole (with_batch draft []) }
 {
     match Arc::new(alloc, Batch::new(alloc)) {
-        Ok(batch) => draft.push_batch(batch)?.finish(),
+        Ok(batch) => Ok(draft.push_batch(batch)?.finish()),
         Err(_) => Err(AllocError),
     }
 }
@@ -223,7 +223,7 @@ fn of_one_edge(alloc: Global, before: &Version, number: u32) -> Result<Version, 
 {
     let batch = one_insert(alloc)?;
     let put = with_one_row(alloc, before, &batch, number)?;
-    entered(alloc, put, batch)?.finish()
+    Ok(entered(alloc, put, batch)?.finish())
 }
 
 // The numbers of the first block and of the second.

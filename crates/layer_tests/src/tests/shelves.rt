@@ -41,7 +41,7 @@ fn with_a_batch(alloc: Global, draft: VersionDraft) -> Result<VersionDraft, Allo
 fn made_of_one(alloc: Global) -> Result<Version, AllocError>
     ensures { IfOk result (λ v. v ≡ record empty_version { batches = [] ∷ [] }) }
 {
-    with_a_batch(alloc, drafted(alloc)?)?.finish()
+    Ok(with_a_batch(alloc, drafted(alloc)?)?.finish())
 }
 
 // The same to be shared.
