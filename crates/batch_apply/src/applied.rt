@@ -180,8 +180,20 @@ fn add(all: &mut Gathered, done: ShardDone) -> Result<(), AllocError>
     write_outcomes(&mut all.outcomes, outcomes);
     all.rows.append(&mut rows)?;
     all.left.taken.append(&mut left.taken)?;
-    all.left.dropped.append(&mut left.dropped)?;
-    all.left.unused.append(&mut left.unused)?;
+    add_blocks(&mut all.left, &mut left)?;
+    Ok(())
+}
+
+/// Adds the blocks that a shard has dropped and those that it did not use.
+fn add_blocks(all: &mut Leavings, left: &mut Leavings) -> Result<(), AllocError>
+    ensures taken { OnOk result (all.new.taken ≡ all.old.taken) }
+    ensures dropped { OnOk result (blocks_of all.new.dropped.items ≡ blocks_of all.old.dropped.items
+        ++ blocks_of left.old.dropped.items) }
+    ensures unused { OnOk result (numbers_of all.new.unused.items ≡ numbers_of all.old.unused.items
+        ++ numbers_of left.old.unused.items) }
+{
+    all.dropped.append(&mut left.dropped)?;
+    all.unused.append(&mut left.unused)?;
     Ok(())
 }
 

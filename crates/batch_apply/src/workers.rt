@@ -1,6 +1,6 @@
 //! Shards that workers do at once.
 
-ghost use Rattle.std.specs.Prelude.{◌≡◌, ◌+◌, ◌<◌, ◌≤◌, map, IfOk, IfSome, vec_len, length, All, List, ℕ};
+ghost use Rattle.std.specs.Prelude.{◌≡◌, ◌+◌, ◌++◌, ◌<◌, ◌≤◌, map, IfOk, IfSome, vec_len, length, All, List, ℕ};
 ghost use Rattle.std.specs.Thread.{IsSync};
 ghost use Rattle.row_pages.specs.Rows.{row_of};
 ghost use Rattle.batch_apply.specs.Jobs.{IsShard, AreDone};
@@ -96,8 +96,21 @@ fn do_busy<R: Threads + Sync, G: Gate + Sync>(
         ensures { IfOk result (λ v. AreDone (row_of version.entry.now.rows) low.items v.items) }
     { do_busy(rt, alloc, gate, version, of, low) };
     let (b, a) = join(rt, back, front);
-    let mut all = a?;
-    let mut rest = b?;
+    let all = a?;
+    let rest = b?;
+    let done = one_after_another(all, rest)?;
+    Ok(done)
+}
+
+/// What the jobs of the first half leave, and then what those of the second leave.
+fn one_after_another(
+    first: Vec<ShardDone>,
+    second: Vec<ShardDone>,
+) -> Result<Vec<ShardDone>, AllocError>
+    ensures { IfOk result (λ v. v.items ≡ first.items ++ second.items) }
+{
+    let mut all = first;
+    let mut rest = second;
     all.append(&mut rest)?;
     Ok(all)
 }

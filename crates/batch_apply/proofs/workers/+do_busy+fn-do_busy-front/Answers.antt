@@ -12,6 +12,6 @@ returns g t c =
     let cut = c.in_ok-high.ensures in
     let rows = row_of c.args.version.now.rows in
     zip_halves (λ (j : Job) (d : ShardDone). IsShardDone rows j.shard d) _ _ _ _ _ _ _ cut.items cut.tail
-    c.in_ok-append.ensures.items
+    c.in_ok-done.ensures
     (IfOk-at_ok (λ v. AreDone rows c.split_off.new.self.items v.items) c.in_ok-all.was c.join-b.ensures.second)
     (IfOk-at_ok (λ v. AreDone rows c.in_ok-high.high.items v.items) c.in_ok-rest.was c.join-b.ensures.first)

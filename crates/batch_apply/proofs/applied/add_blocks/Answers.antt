@@ -1,0 +1,17 @@
+use Rattle.std.proofs.Common.{ap, ◌∙◌}
+use Rattle.std.proofs.lemmas.List.{map-append}
+use Rattle.std.specs.declared.sync.Arc.{Arc}
+use Rattle.std.specs.declared.alloc.Global.{Global}
+use Rattle.edge_block.specs.declared.blocks.Block.{Block}
+use Rattle.shard_work.specs.RowBlocks.{block_of, blocks_of, numbers_of}
+use Rattle.batch_apply.proofs.applied.add_blocks.Goals as goal
+
+pub returns-clause-dropped : goal.returns-clause-dropped
+returns-clause-dropped c =
+    ap blocks_of c.in_ok-append.ensures.items
+    ∙ map-append block_of c.args.all.now.dropped.items c.args.left.now.dropped.items
+
+pub returns-clause-unused : goal.returns-clause-unused
+returns-clause-unused c =
+    ap numbers_of c.in_ok-append-2.ensures.items
+    ∙ map-append (λ (b : Arc Block Global). (block_of b).number) c.args.all.now.unused.items c.args.left.now.unused.items
