@@ -11,6 +11,9 @@ use std::alloc::{AllocError, Global};
 use std::marker::Model;
 use thiserror::Error;
 
+// A batch has no more operations than these.
+const OPERATION_LIMIT: usize = 4096;
+
 /// One operation on one edge, with names as texts (STINGER's insertion, increment and removal, HPEC 2012).
 #[derive(Debug, Drop)]
 pub enum NamedOp {
@@ -188,7 +191,7 @@ impl Batch {
         if !has_time(&op) {
             return Err(PushError::BadTime);
         }
-        if self.ops.len() >= 4096 {
+        if self.ops.len() >= OPERATION_LIMIT {
             return Err(PushError::BatchFull);
         }
         match self.ops.push(op) {
