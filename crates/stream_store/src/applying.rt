@@ -4,6 +4,7 @@
 ghost use Rattle.std.specs.Prelude.{◌≡◌, ◌≢◌, ◌+◌, ◌<◌, ◌≤◌, ◌^◌, ◌++◌, ◌∷◌, [], ℕ, length, IfOk, IfErr, OnOk, OnErr, AllPairs};
 ghost use Rattle.std.specs.Prelude.{All, false, count_by, vec_capacity, vec_len};
 ghost use Rattle.std.specs.Arc.{arc_value};
+ghost use Rattle.graph_model.specs.Limits.{batch_limit};
 ghost use Rattle.row_pages.specs.Rows as rows;
 ghost use Rattle.shard_work.specs.RowBlocks.{numbers_of};
 ghost use Rattle.graph_version.specs.declared.versions.Version.{Version};
@@ -13,7 +14,7 @@ ghost use Rattle.version_shelf.specs.Shelves.{IsNext};
 ghost use Rattle.stream_store.specs.Applying.{IsPrepared};
 ghost use Rattle.stream_store.specs.Refusals.{Refuses, RefusesGrant, IsAdmitted};
 
-use crate::entries::JournalEntry;
+use crate::entries::{JournalEntry, enter};
 use crate::receipts::ApplyError;
 use batch_apply::{Applied, Gate};
 use batch_plan::{Plan, PlanError, plan};
@@ -71,6 +72,14 @@ pub(crate) fn grant_blocks(pool: &mut Pool, count: usize) -> Result<Grant, Apply
         Err(GrantError::PoolEmpty { needed, free }) => Err(ApplyError::PoolEmpty { needed, free }),
         Err(GrantError::OutOfMemory) => Err(ApplyError::OutOfMemory),
     }
+}
+
+/// The number of the version after this one.
+pub(crate) fn next_number(last: &Version) -> u64
+    requires { length last.now.batches < batch_limit }
+    ensures { result ≡ length last.now.batches + 1 }
+{
+    last.number() + 1
 }
 
 /// What is made of a batch before anything of the desk changes.
@@ -139,6 +148,23 @@ pub(crate) fn prepare<R: Threads + Sync, G: Gate + Sync>(
     })
 }
 
+/// Takes the version as the last, and appends its entry, for which there is room. It takes no memory.
+fn accept(
+    last: &mut Arc<Version>,
+    journal: &mut Vec<JournalEntry>,
+    version: Arc<Version>,
+    entry: JournalEntry,
+)
+    requires { vec_len journal.old < vec_capacity journal.old }
+    ensures last { arc_value {X = Version} last.new ≡ arc_value {X = Version} version }
+    ensures entered { journal.new.items ≡ journal.old.items ++ entry ∷ [] }
+    ensures len { vec_len journal.new ≡ vec_len journal.old + 1 }
+    ensures capacity { vec_capacity journal.old ≤ vec_capacity journal.new }
+{
+    enter(journal, entry);
+    *last = version;
+}
+
 /// Posts the version and enters it in the journal, with room for so many entries more; or changes nothing.
 pub(crate) fn publish<R: Wait>(
     rt: &R,
@@ -164,9 +190,6 @@ pub(crate) fn publish<R: Wait>(
     journal.reserve(room + 1)?;
     let shown = Arc::try_clone(&version)?;
     let told = shelf.post(rt, shown)?;
-    let Ok(()) = journal.push(entry) else {
-        unreachable!()
-    };
-    *last = version;
+    accept(last, journal, version, entry);
     Ok(told)
 }

@@ -15,8 +15,8 @@ ghost use Rattle.stream_store.specs.Applying.{IsReceipt};
 ghost use Rattle.stream_store.specs.Refusals.{Refuses, IsWithin};
 ghost use Rattle.stream_store.specs.Kept.{entry_of};
 
-use crate::applying::{Prepared, grant_blocks, plan_next, prepare, publish};
-use crate::entries::JournalEntry;
+use crate::applying::{Prepared, grant_blocks, next_number, plan_next, prepare, publish};
+use crate::entries::{JournalEntry, enter};
 use crate::moves::{give_back_numbers, move_blocks};
 use crate::receipts::{ApplyError, Receipt};
 use batch_apply::Gate;
@@ -135,7 +135,7 @@ impl Desk {
         ensures unchanged { OnErr result (self.new ≡ self.old) }
     {
         let plan = plan_next(self.alloc, &self.last, &batch, self.workers)?;
-        let number = self.last.number() + 1;
+        let number = next_number(&self.last);
         let Grant { numbers, blocks } = grant_blocks(&mut self.pool, batch.len())?;
         let Ok(prepared) = prepare(rt, self.alloc, gate, &self.last, plan, batch, blocks) else {
             give_back_numbers(&mut self.pool, numbers);
@@ -257,8 +257,6 @@ fn enter_collection(journal: &mut Vec<JournalEntry>, floor: u64, recycled: u32)
     ensures capacity { vec_capacity journal.old ≤ vec_capacity journal.new }
 {
     if recycled > 0 {
-        let Ok(()) = journal.push(JournalEntry::Collected { floor, recycled }) else {
-            unreachable!()
-        };
+        enter(journal, JournalEntry::Collected { floor, recycled });
     }
 }

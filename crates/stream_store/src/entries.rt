@@ -1,5 +1,7 @@
 //! The journal's entries.
 
+ghost use Rattle.std.specs.Prelude.{◌≡◌, ◌+◌, ◌<◌, ◌≤◌, ◌++◌, ◌∷◌, [], vec_capacity, vec_len};
+
 use graph_model::{Batch, List};
 use std::sync::Arc;
 
@@ -17,4 +19,16 @@ pub enum JournalEntry {
         floor: u64,
         recycled: u32,
     },
+}
+
+/// Appends an entry, for which there is room. It takes no memory.
+pub(crate) fn enter(journal: &mut Vec<JournalEntry>, entry: JournalEntry)
+    requires { vec_len journal.old < vec_capacity journal.old }
+    ensures entered { journal.new.items ≡ journal.old.items ++ entry ∷ [] }
+    ensures len { vec_len journal.new ≡ vec_len journal.old + 1 }
+    ensures capacity { vec_capacity journal.old ≤ vec_capacity journal.new }
+{
+    let Ok(()) = journal.push(entry) else {
+        unreachable!()
+    };
 }

@@ -88,9 +88,9 @@ move_blocks-requires-clause-unused g c =
     c.in_ok-numbers.field-0.numbers.items _ c.in-Ok.prepared c.grant_blocks.new.pool c.deref-3.result.now c.self.invariant.desk
     c.in_ok-numbers.ensures.numbers.0 c.in_ok-numbers.ensures.blocks last c.in-Ok.ensures c.in_ok-numbers.ensures.used in
     let lent : c.deref-2.result.now ≡ arc_value {X = Version} c.self.inside.last = search rules in
-    let number : c.number-number.result + 1 ≡ length (arc_value {X = Version} c.self.inside.last).batches + 1 =
-    ap (λ n. n + 1) (c.number-number.ensures.number ∙ ap (λ (v : VersionView). length v.batches) lent) in
-    unused_once h (c.number-number.result + 1) number
+    let number : c.next_number-number.result ≡ length (arc_value {X = Version} c.self.inside.last).batches + 1 =
+    c.next_number-number.ensures ∙ ap (λ (v : VersionView). length v.batches + 1) lent in
+    unused_once h c.next_number-number.result number
 
 pub invariant_of-self-2 : goal.invariant_of-self-2
 invariant_of-self-2 g c =
@@ -100,10 +100,10 @@ invariant_of-self-2 g c =
     c.in_ok-numbers.field-0.numbers.items _ c.in-Ok.prepared c.grant_blocks.new.pool c.deref-3.result.now c.self.invariant.desk
     c.in_ok-numbers.ensures.numbers.0 c.in_ok-numbers.ensures.blocks last c.in-Ok.ensures c.in_ok-numbers.ensures.used in
     let lent : c.deref-2.result.now ≡ arc_value {X = Version} c.self.inside.last = search rules in
-    let number : c.number-number.result + 1 ≡ length (arc_value {X = Version} c.self.inside.last).batches + 1 =
-    ap (λ n. n + 1) (c.number-number.ensures.number ∙ ap (λ (v : VersionView). length v.batches) lent) in
+    let number : c.next_number-number.result ≡ length (arc_value {X = Version} c.self.inside.last).batches + 1 =
+    c.next_number-number.ensures ∙ ap (λ (v : VersionView). length v.batches + 1) lent in
     let p = c.in-Ok-publish.ensures in
-    let pool = end_pool h (c.number-number.result + 1) c.move_blocks.new.pool number c.move_blocks.ensures in
+    let pool = end_pool h c.next_number-number.result c.move_blocks.new.pool number c.move_blocks.ensures in
     let end = end_desk h (arc_value {X = Version} c.publish.new.last) c.publish.new.journal.items c.self.inside.journal.items
     c.move_blocks.new.pool refl p.last p.entered pool in
     let room = end_room h c.move_blocks.new.pool pool in
@@ -120,10 +120,10 @@ returns-clause-accepted g c =
     c.in_ok-numbers.field-0.numbers.items _ c.in-Ok.prepared c.grant_blocks.new.pool c.deref-3.result.now c.self.invariant.desk
     c.in_ok-numbers.ensures.numbers.0 c.in_ok-numbers.ensures.blocks last c.in-Ok.ensures c.in_ok-numbers.ensures.used in
     let lent : c.deref-2.result.now ≡ arc_value {X = Version} c.self.inside.last = search rules in
-    let number : c.number-number.result + 1 ≡ length (arc_value {X = Version} c.self.inside.last).batches + 1 =
-    ap (λ n. n + 1) (c.number-number.ensures.number ∙ ap (λ (v : VersionView). length v.batches) lent) in
+    let number : c.next_number-number.result ≡ length (arc_value {X = Version} c.self.inside.last).batches + 1 =
+    c.next_number-number.ensures ∙ ap (λ (v : VersionView). length v.batches + 1) lent in
     let p = c.in-Ok-publish.ensures in
-    let pool = end_pool h (c.number-number.result + 1) c.move_blocks.new.pool number c.move_blocks.ensures in
+    let pool = end_pool h c.next_number-number.result c.move_blocks.new.pool number c.move_blocks.ensures in
     let end = end_desk h (arc_value {X = Version} c.publish.new.last) c.publish.new.journal.items c.self.inside.journal.items
     c.move_blocks.new.pool refl p.last p.entered pool in
     subst (λ (s : DeskState). Accepts s.desk c.args.batch
@@ -137,8 +137,8 @@ pub returns-clause-receipt : goal.returns-clause-receipt
 returns-clause-receipt g c =
     let last : c.deref-3.result.now ≡ arc_value {X = Version} c.self.inside.last = search rules in
     let lent : c.deref-2.result.now ≡ arc_value {X = Version} c.self.inside.last = search rules in
-    let number : c.number-number.result + 1 ≡ length (arc_value {X = Version} c.self.inside.last).batches + 1 =
-    ap (λ n. n + 1) (c.number-number.ensures.number ∙ ap (λ (v : VersionView). length v.batches) lent) in
+    let number : c.next_number-number.result ≡ length (arc_value {X = Version} c.self.inside.last).batches + 1 =
+    c.next_number-number.ensures ∙ ap (λ (v : VersionView). length v.batches + 1) lent in
     let p = c.in-Ok-publish.ensures in
     let made = c.in-Ok.ensures in
     record {

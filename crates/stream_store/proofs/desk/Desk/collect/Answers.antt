@@ -2,7 +2,7 @@ use Rattle.std.proofs.Common.{◌≡◌, ◌≤◌, ◌++◌, length, sym, ap, s
 use Rattle.std.specs.Arc.{arc_value}
 use Rattle.graph_version.specs.declared.versions.Version.{Version}
 use Rattle.block_pool.specs.Pools.{is_past, is_retired}
-use Rattle.store_journal.specs.Desks.{collections}
+use Rattle.store_journal.specs.Desks.{IsCollected, collections}
 use Rattle.store_journal.specs.Steps.{TakesAt, recycling}
 use Rattle.store_journal.proofs.Collecting.{collected_takes}
 use Rattle.store_journal.proofs.CollectedDesk.{past_and_left, is_collected}
@@ -59,3 +59,22 @@ returns-clause-steps c =
     λ i. record { last = old.desk.last; journal = entries i; pool = c.recycle-recycled.ensures.pool i } in
     subst (λ (d : DeskState). TakesAt c.args.floor d.desk (recycling c.args.floor d.desk.pool) new.desk) c.self.view_is
     (collected_takes old.desk new.desk c.args.floor (is_collected old.desk new.desk c.args.floor is))
+
+pub returns-clause-collected : goal.returns-clause-collected
+returns-clause-collected c =
+    let old : DeskState = state_of c.self.inside.shelf.book (arc_value {X = Version} c.self.inside.last)
+    c.self.inside.journal.items c.self.inside.pool in
+    let new : DeskState = state_of c.self.inside.shelf.book (arc_value {X = Version} c.self.inside.last)
+    c.enter_collection.new.journal.items c.recycle-recycled.new.self in
+    let count = c.recycle-recycled.ensures.count in
+    let entries : map entry_of c.enter_collection.new.journal.items ≡ map entry_of c.self.inside.journal.items
+    ++ collections c.args.floor (count_by (is_past c.args.floor) c.self.inside.pool) =
+    c.enter_collection.ensures.entries ∙ ap (λ n. map entry_of c.self.inside.journal.items ++ collections c.args.floor n) count in
+    let is : new.desk ≡ (state_collected old c.args.floor).desk =
+    λ i. record { last = old.desk.last; journal = entries i; pool = c.recycle-recycled.ensures.pool i } in
+    subst (λ (d : DeskState). IsCollected d.desk c.args.floor new.desk) c.self.view_is
+    (is_collected old.desk new.desk c.args.floor is)
+
+pub returns-clause-recycled : goal.returns-clause-recycled
+returns-clause-recycled c =
+    c.recycle-recycled.ensures.count ∙ ap (λ (d : DeskState). count_by (is_past c.args.floor) d.desk.pool) c.self.view_is

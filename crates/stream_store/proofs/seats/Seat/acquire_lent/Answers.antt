@@ -1,4 +1,4 @@
-use Rattle.std.proofs.Common.{◌≡◌, length, max, Some, true, ap, ◌∙◌, rules}
+use Rattle.std.proofs.Common.{◌≡◌, length, max, Some, true, refl, ap, ◌∙◌, rules}
 use Rattle.std.specs.Prelude.{option_map}
 use Rattle.seat_board.specs.Board.{with_pin, settled}
 use Rattle.stream_store.proofs.Seated.{pin_twice}
@@ -18,3 +18,6 @@ returns-in-Ok-clause-pinned c =
     ∙ ap (λ s. with_pin c.args.board.now s.number
     (Some (record { number = max c.args.board.now.floor (length c.args.desk.now.desk.last.batches); is_settled = true })))
     c.self.view_is
+
+pub returns-in-Err-clause-unchanged : goal.returns-in-Err-clause-unchanged
+returns-in-Err-clause-unchanged c = refl
