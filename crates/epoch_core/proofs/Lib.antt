@@ -1,5 +1,3 @@
-pub mod Lists
-pub mod Edges
 pub mod PostRule
 pub mod Changes
 pub mod Keeping

@@ -5,10 +5,9 @@ use Rattle.std.specs.Option.{option_and_then}
 use Rattle.std.specs.declared.option.Option.{Option}
 use Rattle.std.specs.declared.option.Option.TheVariants.{None, Some}
 use Rattle.std.proofs.lemmas.List.{set-get_or}
-use Rattle.epoch_core.specs.Blocks.{changed_at, put}
-use Rattle.epoch_core.specs.Runs.{Stepped}
-use Rattle.epoch_core.specs.declared.events.Step.{Step}
-use Rattle.epoch_core.proofs.Lists.{at_from_within}
+use Rattle.epoch_posts.specs.Blocks.{changed_at, put, Stepped}
+use Rattle.epoch_posts.specs.declared.steps.Step.{Step}
+use Rattle.epoch_posts.proofs.Lists.{at_from_within}
 
 put_at : {A : Type 0} (o : Option A) (xs : List A) (i : ℕ) (d : A) (outcome : Step) (new : A)
     → Stepped o outcome (get_or xs i d) new → Stepped (put xs i o) outcome xs (set xs i new)

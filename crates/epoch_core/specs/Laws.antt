@@ -5,7 +5,7 @@ use Rattle.graph_model.specs.declared.batches.NamedOp.{NamedOp}
 use Rattle.epoch_core.specs.declared.events.Event.{Event}
 use Rattle.epoch_core.specs.declared.events.Event.TheVariants.{Post}
 use Rattle.epoch_core.specs.Worlds.{World, State, IsStart, replies_of}
-use Rattle.epoch_core.specs.Posting.{MayPost}
+use Rattle.epoch_core.specs.Posts.{MayPost}
 use Rattle.epoch_core.specs.Machine.{Answers}
 use Rattle.epoch_core.specs.Runs.{run, Runs, is_done}
 use Rattle.epoch_core.specs.Holdings.{holdings, Agree, questions}

@@ -1,6 +1,5 @@
-pub mod Blocks
 pub mod Worlds
-pub mod Posting
+pub mod Posts
 pub mod Machine
 pub mod Runs
 pub mod Holdings

@@ -1,13 +1,12 @@
 -- Steps and whole runs of the machine, over the state.
 use Rattle.std.specs.Prelude.{◌≡◌, ℕ, Bool, List, [], ◌∷◌, ◌+◌, if◌then◌else◌, is_some}
 use Rattle.std.specs.Option.{unwrap_or}
-use Rattle.std.specs.declared.option.Option.{Option}
-use Rattle.std.specs.declared.option.Option.TheVariants.{None, Some}
 use Rattle.epoch_core.specs.declared.events.Event.{Event}
-use Rattle.epoch_core.specs.declared.events.Step.{Step}
-use Rattle.epoch_core.specs.declared.events.Step.TheVariants.{Done, Skipped}
+use Rattle.epoch_posts.specs.declared.steps.Step.{Step}
+use Rattle.epoch_posts.specs.declared.steps.Step.TheVariants.{Done, Skipped}
 use Rattle.epoch_core.specs.Worlds.{Answer, World, State}
 use Rattle.epoch_core.specs.Machine.{step, Replies}
+use Rattle.epoch_posts.specs.Blocks.{Stepped}
 
 -- whether an event is done in this world
 abbrev pub is_done : World → Event → Bool
@@ -30,11 +29,6 @@ done_in (e ∷ es) w = (if is_done w e then 1 else 0) + done_in es (next_world w
 abbrev pub count_of : Step → ℕ
 count_of Done = 1
 count_of Skipped = 0
-
--- a change that is done, or skipped with nothing changed
-abbrev pub Stepped : {A : Type 0} → Option A → Step → A → A → Type 0
-Stepped None step old new = (step ≡ Skipped) × (new ≡ old)
-Stepped (Some after) step old new = (step ≡ Done) × (new ≡ after)
 
 -- one step of the machine
 pub record Steps (old : State) (e : Event) (outcome : Step) (new : State) : Type 0 where

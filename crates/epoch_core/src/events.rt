@@ -1,4 +1,4 @@
-//! The events of the machine, and what one comes to.
+//! The events of the machine.
 
 use graph_model::{Batch, Edge, List, Request};
 
@@ -29,13 +29,4 @@ pub enum Event {
     Reply(usize),
     /// A session lets go of its version and its pin.
     Release(usize),
-}
-
-/// What an event came to.
-#[derive(Clone, Copy, Debug, PartialEq, Eq)]
-pub enum Step {
-    /// Its condition held, and it took effect.
-    Done,
-    /// Its condition failed, or it names a session or a block out of range: nothing changed.
-    Skipped,
 }

@@ -4,23 +4,20 @@
 //! each asks and does, `specs/Runs.antt` what a list of them does, and `specs/Holdings.antt` what befalls a
 //! session in it. [`Core`] takes exactly these steps. [`law_isolation`] and [`law_epoch`] are the two laws about
 //! them: snapshot isolation, and that no block is filled again while a session may read it; [`law_post`] is the
-//! rule of a Post.
+//! rule of a Post. What a Post asks and sets, and what becomes of blocks, is `epoch_posts`.
 //! The store that it models is STINGER's (Ediger, McColl, Riedy, Bader; IEEE HPEC 2012) with held snapshots as
 //! Aspen has them (Dhulipala, Blelloch, Shun; PLDI 2019).
 #![tactic(auto)]
 
-mod blocks;
-mod contents;
 mod events;
 mod laws;
 mod machine;
-mod posting;
 mod replying;
 mod sessions;
 mod states;
-mod versions;
 
-pub use events::{Event, Step};
+pub use epoch_posts::Step;
+pub use events::Event;
 pub use laws::{law_epoch, law_examples, law_isolation, law_post};
 pub use machine::{Core, run};
 use std::alloc::AllocError;

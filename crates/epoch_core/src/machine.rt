@@ -8,17 +8,16 @@ ghost use Rattle.epoch_core.specs.Machine.{takes_memory};
 ghost use Rattle.epoch_core.specs.Runs.{Steps, Runs, done_in, count_of};
 ghost use Rattle.epoch_core.specs.Sound.{IsCore};
 ghost use Rattle.epoch_core.specs.Cores.{state_of};
-ghost use Rattle.epoch_core.specs.declared.states.Status.TheVariants.{Free};
+ghost use Rattle.epoch_posts.specs.declared.states.Status.TheVariants.{Free};
 ghost use Rattle.epoch_core.specs.declared.states.SessionState.TheVariants.{Idle};
 
-use crate::blocks::{fill_block, recycle_block, take_block};
-use crate::posting::plan_post;
 use crate::replying::{replies_at, reply};
 use crate::sessions::{
     ask, enter, held_in, least_pin, pin, pin_in, read, release, settle, state_at,
 };
-use crate::states::{Opening, Parts, SessionState, Status};
-use crate::{Event, OutOfMemory, Step};
+use crate::states::{Parts, SessionState};
+use crate::{Event, OutOfMemory};
+use epoch_posts::{Opening, Status, Step, fill_block, plan_post, recycle_block, take_block};
 use graph_model::{AskError, Batch, Content, Edge, List, Reply};
 use std::alloc::{AllocError, Global};
 use std::marker::Model;

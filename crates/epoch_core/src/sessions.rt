@@ -1,16 +1,13 @@
 //! The moves of sessions. A move that can't be made leaves the session as it is.
 
-ghost use Rattle.std.specs.Prelude.{◌≡◌, ◌<◌, IfOk, OnErr, length, slice_index_or};
-ghost use Rattle.epoch_core.specs.Blocks.{changed_at};
+ghost use Rattle.std.specs.Prelude.{◌≡◌, ◌<◌, ◌++◌, IfOk, OnErr, length, slice_index_or};
 ghost use Rattle.epoch_core.specs.Machine as machine;
 ghost use Rattle.epoch_core.specs.Worlds as worlds;
-ghost use Rattle.epoch_core.specs.Runs.{Stepped};
+ghost use Rattle.epoch_posts.specs.Blocks.{Stepped, changed_at};
 ghost use Rattle.epoch_core.specs.declared.states.SessionState.TheVariants.{Idle};
 
-use crate::Step;
-use crate::contents::{edges_at, joined};
-use crate::states::{Hold, Inquiry, Opening, SessionState, Version};
-use crate::versions::blocks_at;
+use crate::states::{Hold, Inquiry, SessionState};
+use epoch_posts::{Opening, Step, Version, blocks_at, edges_at};
 use graph_model::{Edge, List, Request};
 use std::alloc::{AllocError, Global};
 
@@ -154,6 +151,15 @@ pub(crate) fn ask(
         }
         _ => Ok(Step::Skipped),
     }
+}
+
+/// Both lists of edges, one after the other.
+fn joined(alloc: Global, first: &[Edge], second: &[Edge]) -> Result<Vec<Edge>, AllocError>
+    ensures { IfOk result (λ v. v.items ≡ first.now ++ second.now) }
+{
+    let mut edges = Vec::from_slice(alloc, first)?;
+    edges.extend_from_slice(second)?;
+    Ok(edges)
 }
 
 /// The next block is read, if there is one.

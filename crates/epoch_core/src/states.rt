@@ -1,32 +1,11 @@
 //! The parts of the machine's state.
 
-use graph_model::{AskError, Batch, Content, Edge, List, Name, Reply, Request};
+use epoch_posts::{Opening, Status, Version};
+use graph_model::{AskError, Edge, List, Reply, Request};
 use std::alloc::Global;
 
 /// A reply, or the refusal that stands in its place.
 pub(crate) type Answer = Result<Reply, AskError>;
-
-/// What a block is to the machine. Collection by the floor reads no birth; a collection by intervals will.
-#[derive(Clone, Copy, Debug, PartialEq, Eq)]
-pub(crate) enum Status {
-    /// It may be taken.
-    Free,
-    /// It was taken and may be filled.
-    Fresh,
-    /// The last version lists it, as each version from number `birth` on does.
-    Used { birth: u64 },
-    /// The versions from number `birth` on listed it, up to the one before number `since`.
-    Retired { birth: u64, since: u64 },
-}
-
-/// A version after version 0: the batch that made it, the blocks that have its edges, its names and its kinds.
-#[derive(Debug, Drop)]
-pub(crate) struct Version {
-    pub(crate) batch: Batch,
-    pub(crate) blocks: List<usize>,
-    pub(crate) names: List<Name>,
-    pub(crate) kinds: List<Name>,
-}
 
 /// What a session that holds a version has: its pin, and the number of the version.
 #[derive(Clone, Copy, Debug, PartialEq, Eq)]
@@ -58,13 +37,6 @@ pub(crate) enum SessionState {
     Holding(Hold),
     /// It holds a version and has asked a request of it.
     Asking(Hold, Inquiry),
-}
-
-/// What stands before the first batch: a content, and the blocks that have its edges.
-#[derive(Debug, Drop)]
-pub(crate) struct Opening {
-    pub(crate) content: Content,
-    pub(crate) blocks: List<usize>,
 }
 
 /// The fields of the machine.

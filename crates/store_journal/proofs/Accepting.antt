@@ -14,8 +14,8 @@ use Rattle.row_pages.specs.Rows.{blocks_of, numbers_of}
 use Rattle.graph_version.specs.Versions.{VersionView, is_in}
 use Rattle.block_pool.specs.Pools.{Status, Free, Used, Retired, is_free, is_used, passes, retired, is_free_at, is_used_at}
 use Rattle.block_pool.specs.Pools.{is_born_at, marked, changed, AreFree}
-use Rattle.epoch_core.specs.Blocks.{all_differ}
-use Rattle.epoch_core.proofs.Lists.{all_listed}
+use Rattle.epoch_posts.specs.Blocks.{all_differ}
+use Rattle.epoch_posts.proofs.Lists.{all_listed}
 use Rattle.store_journal.specs.Journal.{Entry, Applied, Ledger, empty_ledger, is_legal, after_entry, entered, exchanged, replay}
 use Rattle.store_journal.specs.Desks.{DeskView, IsDesk, IsAppliedTo, IsAccepted, desk_after, last_numbers, ledger_of}
 use Rattle.store_journal.proofs.NumberLists.{all_from, all_by, differ_from, number_in}

@@ -7,7 +7,7 @@ use Rattle.edge_block.specs.Slots.{BlockView}
 use Rattle.row_pages.specs.Rows.{numbers_of}
 use Rattle.graph_version.specs.Versions.{VersionView, is_in}
 use Rattle.block_pool.specs.Pools.{Free, Used, retired, is_free_at, is_born_at, marked, changed}
-use Rattle.epoch_core.proofs.Lists.{all_listed}
+use Rattle.epoch_posts.proofs.Lists.{all_listed}
 use Rattle.store_journal.specs.Journal.{Entry, Applied, Ledger, is_legal, after_entry, entered}
 use Rattle.store_journal.specs.Desks.{DeskView, IsDesk, IsAppliedTo, IsAccepted, desk_after}
 use Rattle.store_journal.specs.Steps.{Takes, posting}

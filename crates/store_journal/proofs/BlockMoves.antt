@@ -4,8 +4,8 @@ use Rattle.std.specs.List.{list_all}
 use Rattle.std.proofs.lemmas.Bool.{eq-eqb, true≢false}
 use Rattle.block_pool.specs.Pools.{Status, is_used, passes, is_used_at}
 use Rattle.graph_version.specs.Versions.{is_in}
-use Rattle.epoch_core.specs.Blocks.{all_differ}
-use Rattle.epoch_core.proofs.Lists.{set_else, and_left, and_right, or_false}
+use Rattle.epoch_posts.specs.Blocks.{all_differ}
+use Rattle.epoch_posts.proofs.Lists.{set_else, and_left, and_right, or_false}
 use Rattle.store_journal.proofs.NumberLists.{differ_head, differ_tail}
 
 -- numbers that may be given back, or retired, one after another: all are used, none stands twice

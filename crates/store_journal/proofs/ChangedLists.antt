@@ -9,7 +9,7 @@ use Rattle.std.proofs.lemmas.List.{length-set}
 use Rattle.std.proofs.lemmas.Bool.{eq-eqb, eqb-true, true≢false}
 use Rattle.graph_version.specs.Versions.{is_in}
 use Rattle.block_pool.specs.Pools.{Status, Used, marked, changed}
-use Rattle.epoch_core.specs.Blocks.{all_differ}
+use Rattle.epoch_posts.specs.Blocks.{all_differ}
 use Rattle.store_journal.proofs.NumberLists.{apart_test, differ_head, differ_tail}
 
 suc_test : (m n : ℕ) → (suc m == suc n) ≡ (m == n)

@@ -10,7 +10,7 @@ use Rattle.std.proofs.lemmas.Bool.{eq-eqb}
 use Rattle.std.proofs.lemmas.Bool.Decides.{nat_tests}
 use Rattle.block_pool.specs.Pools.{Status, Free, Used, Retired, is_retired, is_past, is_used, passes, recycled}
 use Rattle.block_pool.proofs.Tallies.{count_more}
-use Rattle.epoch_core.proofs.Lists.{get_map}
+use Rattle.epoch_posts.proofs.Lists.{get_map}
 use Rattle.store_journal.specs.Journal.{Collected, Ledger, empty_ledger, is_legal, after_entry, entered, replay}
 use Rattle.store_journal.specs.Desks.{DeskView, IsDesk, IsCollected, ledger_of, collections}
 use Rattle.store_journal.proofs.NumberLists.{apart_test}

@@ -10,13 +10,13 @@ use Rattle.std.proofs.lemmas.Bool.{eq-eqb, true≢false, or_right}
 use Rattle.graph_version.specs.Versions.{is_in}
 use Rattle.block_pool.specs.Pools.{Status as PoolStatus, Free as PoolFree, Used as PoolUsed, Retired as PoolRetired, is_past}
 use Rattle.block_pool.specs.Pools.{recycled as pool_recycled, passes, marked}
-use Rattle.epoch_core.specs.declared.states.Status.{Status}
-use Rattle.epoch_core.specs.declared.states.Status.TheVariants.{Free, Fresh, Used, Retired}
+use Rattle.epoch_posts.specs.declared.states.Status.{Status}
+use Rattle.epoch_posts.specs.declared.states.Status.TheVariants.{Free, Fresh, Used, Retired}
 use Rattle.epoch_core.specs.declared.events.Event.TheVariants.{Recycle}
-use Rattle.epoch_core.specs.Blocks.{recycled, put, all_differ}
+use Rattle.epoch_posts.specs.Blocks.{recycled, put, all_differ}
 use Rattle.epoch_core.specs.Worlds.{World}
 use Rattle.epoch_core.specs.Machine.{step, with_status}
-use Rattle.epoch_core.proofs.Lists.{set_else, get_map}
+use Rattle.epoch_posts.proofs.Lists.{set_else, get_map}
 use Rattle.store_journal.specs.Desks.{DeskView, IsCollected}
 use Rattle.store_journal.specs.Shown.{SameStatus, Shows}
 use Rattle.store_journal.specs.Steps.{all_done, past_numbers, recycling, TakesAt}

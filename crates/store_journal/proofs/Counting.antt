@@ -13,8 +13,8 @@ use Rattle.edge_block.specs.Slots.{BlockView, Slot}
 use Rattle.row_pages.specs.Rows.{numbers_of}
 use Rattle.graph_version.specs.Versions.{is_in}
 use Rattle.block_pool.proofs.Tallies.{count_more}
-use Rattle.epoch_core.specs.Blocks.{all_differ}
-use Rattle.epoch_core.specs.Posting.{same_stamp}
+use Rattle.epoch_posts.specs.Blocks.{all_differ}
+use Rattle.epoch_posts.specs.Posting.{same_stamp}
 use Rattle.store_journal.proofs.NumberLists.{differ_head, differ_tail}
 
 -- how often a number stands in a list

@@ -5,7 +5,8 @@ use Rattle.std.proofs.lemmas.Bool.{true≢false}
 use Rattle.std.proofs.lemmas.List.Elements.{All-cons}
 use Rattle.graph_version.specs.Edges.{edges_in_block}
 use Rattle.epoch_core.specs.declared.states.SessionState.TheVariants.{Idle}
-use Rattle.epoch_core.specs.Worlds.{session_of, edges_at}
+use Rattle.epoch_core.specs.Worlds.{session_of}
+use Rattle.epoch_posts.specs.Versions.{edges_at}
 use Rattle.seat_board.specs.Board.{pin_at, no_pins, with_pin, unsettled}
 use Rattle.seat_board.specs.declared.board.Pin.{Pin as SeatPin}
 use Rattle.epoch_core.specs.declared.events.Event.TheVariants.{Pin}

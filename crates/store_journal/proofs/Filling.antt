@@ -14,14 +14,15 @@ use Rattle.row_pages.specs.Rows.{numbers_of}
 use Rattle.graph_version.specs.Versions.{is_in}
 use Rattle.graph_version.specs.Edges.{edges_in_block, edges_in_blocks}
 use Rattle.block_pool.specs.Pools.{marked}
-use Rattle.epoch_core.specs.declared.states.Status.{Status}
-use Rattle.epoch_core.specs.declared.states.Status.TheVariants.{Free, Fresh}
+use Rattle.epoch_posts.specs.declared.states.Status.{Status}
+use Rattle.epoch_posts.specs.declared.states.Status.TheVariants.{Free, Fresh}
 use Rattle.epoch_core.specs.declared.events.Event.{Event}
 use Rattle.epoch_core.specs.declared.events.Event.TheVariants.{Take, Fill}
-use Rattle.epoch_core.specs.Blocks.{taken, is_fresh, put, all_differ}
-use Rattle.epoch_core.specs.Worlds.{World, edges_at, edges_of}
+use Rattle.epoch_posts.specs.Blocks.{taken, is_fresh, put, all_differ}
+use Rattle.epoch_core.specs.Worlds.{World}
+use Rattle.epoch_posts.specs.Versions.{edges_at, edges_of}
 use Rattle.epoch_core.specs.Machine.{step, with_status, with_heap}
-use Rattle.epoch_core.proofs.Lists.{set_same, set_else, or_false}
+use Rattle.epoch_posts.proofs.Lists.{set_same, set_else, or_false}
 use Rattle.store_journal.specs.Steps.{all_done, filling}
 use Rattle.store_journal.proofs.NumberLists.{differ_head, differ_tail}
 

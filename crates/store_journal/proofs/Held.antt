@@ -11,12 +11,12 @@ use Rattle.block_pool.specs.Pools.{is_past, passes}
 use Rattle.epoch_core.specs.declared.states.Hold.{Hold}
 use Rattle.epoch_core.specs.declared.states.SessionState.{SessionState}
 use Rattle.epoch_core.specs.declared.states.SessionState.TheVariants.{Idle, Pinned, Holding, Asking}
-use Rattle.epoch_core.specs.declared.states.Status.{Status}
-use Rattle.epoch_core.specs.declared.states.Status.TheVariants.{Free, Fresh, Used, Retired}
-use Rattle.epoch_core.specs.Blocks.{is_listed}
+use Rattle.epoch_posts.specs.declared.states.Status.{Status}
+use Rattle.epoch_posts.specs.declared.states.Status.TheVariants.{Free, Fresh, Used, Retired}
+use Rattle.epoch_posts.specs.Blocks.{is_listed}
 use Rattle.epoch_core.specs.Sound.{IsSound, IsSessionSound, IsHeld, IsKeptAt}
-use Rattle.epoch_core.specs.Worlds.{World, Shows as ShowsGraph, start, opening_graph, blocks_at, edges_of, graph_at, session_of}
-use Rattle.epoch_core.specs.Worlds.{held_in}
+use Rattle.epoch_core.specs.Worlds.{World, start, session_of, held_in}
+use Rattle.epoch_posts.specs.Versions.{Shows as ShowsGraph, opening_graph, blocks_at, edges_of, graph_at}
 use Rattle.epoch_core.proofs.Steps.{always_sound, start_is_start}
 use Rattle.store_journal.specs.Desks.{DeskView}
 use Rattle.store_journal.specs.Shown.{SameStatus, Shows}

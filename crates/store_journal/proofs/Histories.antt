@@ -6,13 +6,14 @@ use Rattle.std.specs.declared.option.Option.{Option}
 use Rattle.std.specs.declared.option.Option.TheVariants.{None, Some}
 use Rattle.std.proofs.lemmas.Bool.{cases_eq}
 use Rattle.graph_model.specs.declared.requests.Request.{Request}
-use Rattle.epoch_core.specs.declared.states.Version.{Version}
-use Rattle.epoch_core.specs.declared.states.Opening.{Opening}
+use Rattle.epoch_posts.specs.declared.states.Version.{Version}
+use Rattle.epoch_posts.specs.declared.states.Opening.{Opening}
 use Rattle.epoch_core.specs.declared.states.Hold.{Hold}
 use Rattle.epoch_core.specs.declared.states.Inquiry.{Inquiry}
 use Rattle.epoch_core.specs.declared.states.SessionState.{SessionState}
 use Rattle.epoch_core.specs.declared.states.SessionState.TheVariants.{Idle, Pinned, Holding, Asking}
-use Rattle.epoch_core.specs.Worlds.{World, session_of, blocks_at, last_number}
+use Rattle.epoch_core.specs.Worlds.{World, session_of, last_number}
+use Rattle.epoch_posts.specs.Versions.{blocks_at}
 use Rattle.epoch_core.specs.Machine.{step, read_on, is_all_read, to_enter, to_ask, to_read, to_reply}
 use Rattle.epoch_core.specs.Runs.{run}
 use Rattle.epoch_core.proofs.Moves.{Moved, moved, session_after, session_else}

@@ -8,7 +8,7 @@ use Rattle.std.proofs.lemmas.Bool.{eq-eqb, eqb-true, true≢false, or_right}
 use Rattle.edge_block.specs.Slots.{BlockView}
 use Rattle.row_pages.specs.Rows.{numbers_of}
 use Rattle.graph_version.specs.Versions.{is_in}
-use Rattle.epoch_core.specs.Blocks.{all_differ}
+use Rattle.epoch_posts.specs.Blocks.{all_differ}
 
 -- the test of two numbers that differ
 pub apart_test : (m n : ℕ) → m ≢ n → (m == n) ≡ false

@@ -4,7 +4,7 @@ use Rattle.std.specs.Prelude.{slice_get, Some, None}
 use Rattle.std.proofs.lemmas.List.{length-replicate}
 use Rattle.graph_version.proofs.Empty.{is_empty_version}
 use Rattle.block_pool.specs.Pools.{Free as PoolFree, is_used, passes}
-use Rattle.epoch_core.specs.declared.states.Status.TheVariants.{Free}
+use Rattle.epoch_posts.specs.declared.states.Status.TheVariants.{Free}
 use Rattle.epoch_core.proofs.Steps.{all_idle}
 use Rattle.seat_board.specs.Board.{pin_at}
 use Rattle.store_journal.specs.Journal.{empty_ledger}

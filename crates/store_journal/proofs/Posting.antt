@@ -19,14 +19,16 @@ use Rattle.graph_version.specs.Versions.{content, is_in}
 use Rattle.graph_version.specs.Edges.{edges_in_block, edges_in_blocks, AreEachOnce}
 use Rattle.graph_version.proofs.Shown.{rows_each_once}
 use Rattle.block_pool.specs.Pools.{Status as PoolStatus, is_used, passes, is_free_at, is_born_at}
-use Rattle.epoch_core.specs.declared.states.Status.TheVariants.{Free, Fresh}
-use Rattle.epoch_core.specs.declared.states.Version.{Version}
+use Rattle.epoch_posts.specs.declared.states.Status.TheVariants.{Free, Fresh}
+use Rattle.epoch_posts.specs.declared.states.Version.{Version}
 use Rattle.epoch_core.specs.declared.events.Event.TheVariants.{Post}
-use Rattle.epoch_core.specs.Blocks.{is_at, is_fresh, is_listed, all_differ, after_post}
-use Rattle.epoch_core.specs.Worlds.{World, Shows as ShowsGraph, opening_graph, edges_at, edges_of, last_blocks}
-use Rattle.epoch_core.specs.Posting.{is_listable, version_by, posted, can_post, graph_after, are_edges_of}
-use Rattle.epoch_core.proofs.Edges.{Decides-edges}
-use Rattle.epoch_core.proofs.Lists.{within, and_left, and_right, all_listed, length_enumerated}
+use Rattle.epoch_posts.specs.Blocks.{is_at, is_fresh, is_listed, all_differ, after_post}
+use Rattle.epoch_core.specs.Worlds.{World, last_blocks}
+use Rattle.epoch_posts.specs.Versions.{Shows as ShowsGraph, opening_graph, edges_at, edges_of}
+use Rattle.epoch_posts.specs.Posting.{is_listable, version_by, can_post, graph_after, are_edges_of}
+use Rattle.epoch_core.specs.Posts.{posted}
+use Rattle.epoch_posts.proofs.Edges.{Decides-edges}
+use Rattle.epoch_posts.proofs.Lists.{within, and_left, and_right, all_listed, length_enumerated}
 use Rattle.epoch_core.proofs.Changes.{version_next, batches_all}
 use Rattle.epoch_core.proofs.Posted.{status_at}
 use Rattle.store_journal.specs.Journal.{Applied, Ledger, is_legal}

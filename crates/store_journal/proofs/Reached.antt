@@ -10,12 +10,12 @@ use Rattle.epoch_core.specs.declared.events.Event.{Event}
 use Rattle.epoch_core.specs.declared.events.Event.TheVariants.{Floor, Pin, Enter, Settle, Ask, Read, Reply, Release}
 use Rattle.epoch_core.specs.declared.states.SessionState.{SessionState}
 use Rattle.epoch_core.specs.declared.states.SessionState.TheVariants.{Idle, Pinned, Holding, Asking}
-use Rattle.epoch_core.specs.Blocks.{put}
+use Rattle.epoch_posts.specs.Blocks.{put}
 use Rattle.epoch_core.specs.Epochs.{PinsInOrder}
 use Rattle.epoch_core.specs.Worlds.{World, start, start_world, last_number, session_of, held_in}
 use Rattle.epoch_core.specs.Machine.{step, move, least_pin, to_pin, to_enter, to_settle, with_sessions}
 use Rattle.epoch_core.specs.Runs.{run, next_world, is_done}
-use Rattle.epoch_core.proofs.Lists.{at_from_within}
+use Rattle.epoch_posts.proofs.Lists.{at_from_within}
 use Rattle.epoch_core.proofs.Moves.{Moved, moved, session_after}
 use Rattle.epoch_core.proofs.Steps.{always_sound, start_is_start}
 use Rattle.epoch_core.proofs.Sizes.{size_run}

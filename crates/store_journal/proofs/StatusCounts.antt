@@ -13,8 +13,8 @@ use Rattle.graph_version.specs.Versions.{is_in}
 use Rattle.block_pool.specs.Pools.{Status, Free, Used, Retired, is_free, is_retired, is_past, recycled, retired, is_free_at}
 use Rattle.block_pool.specs.Pools.{is_used_at, marked, changed}
 use Rattle.block_pool.proofs.Tallies.{count_more}
-use Rattle.epoch_core.specs.Blocks.{all_differ}
-use Rattle.epoch_core.proofs.Lists.{set_else, get_at, all_listed}
+use Rattle.epoch_posts.specs.Blocks.{all_differ}
+use Rattle.epoch_posts.proofs.Lists.{set_else, get_at, all_listed}
 use Rattle.store_journal.specs.Desks.{DeskView, IsAccepted, IsCollected, AcceptedCounts, CollectedCounts, is_retired_by}
 use Rattle.store_journal.specs.Desks.{ledger_of}
 use Rattle.store_journal.proofs.NumberLists.{differ_head, differ_tail}

@@ -4,7 +4,7 @@ use Rattle.std.specs.Prelude.{◌≡◌, pos, ℕ, List, [], ◌∷◌, ◌++◌
 use Rattle.graph_model.specs.Step.{empty_graph}
 use Rattle.edge_block.specs.Slots.{BlockView, edge_slot}
 use Rattle.block_pool.specs.Pools.{Status as PoolStatus, Free as PoolFree, Used as PoolUsed, Retired as PoolRetired}
-use Rattle.epoch_core.specs.declared.states.Status.TheVariants.{Free, Fresh, Used, Retired}
+use Rattle.epoch_posts.specs.declared.states.Status.TheVariants.{Free, Fresh, Used, Retired}
 use Rattle.epoch_core.specs.declared.states.SessionState.TheVariants.{Idle, Pinned, Holding}
 use Rattle.epoch_core.specs.declared.events.Event.TheVariants.{Take, Fill, Post, Recycle, Pin, Enter}
 use Rattle.epoch_core.specs.Examples.{name_a, name_b, kind_k, put_edge, edge_of}

@@ -3,8 +3,9 @@ use Rattle.std.specs.Prelude.{◌≡◌, ℕ, ◌≤◌, false, List, length, ta
 use Rattle.graph_model.specs.Step.{left_by}
 use Rattle.block_pool.specs.Pools.{is_free, is_past, passes}
 use Rattle.epoch_core.specs.declared.events.Event.{Event}
-use Rattle.epoch_core.specs.Blocks.{is_listed}
-use Rattle.epoch_core.specs.Worlds.{World, Shows as ShowsGraph, blocks_at, edges_of, session_of, held_in}
+use Rattle.epoch_posts.specs.Blocks.{is_listed}
+use Rattle.epoch_core.specs.Worlds.{World, session_of, held_in}
+use Rattle.epoch_posts.specs.Versions.{Shows as ShowsGraph, blocks_at, edges_of}
 use Rattle.seat_board.specs.Board.{BoardState}
 use Rattle.store_journal.specs.Desks.{DeskView}
 use Rattle.store_journal.specs.Reached.{world_by, IsReached}

@@ -6,7 +6,7 @@ use Rattle.std.specs.Option.{option_and_then}
 use Rattle.std.specs.declared.option.Option.{Option}
 use Rattle.std.specs.declared.option.Option.TheVariants.{None, Some}
 use Rattle.graph_model.specs.declared.batches.NamedOp.{NamedOp}
-use Rattle.epoch_core.specs.Blocks.{all_differ}
+use Rattle.epoch_posts.specs.Blocks.{all_differ}
 use Rattle.block_pool.specs.Pools.{Status, Free, Used, is_free_at, is_born_at, is_past, recycled, retired, marked, changed}
 
 -- an accepted batch with the numbers of the blocks that it took and dropped, or a collection with its floor and how

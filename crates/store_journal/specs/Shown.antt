@@ -5,9 +5,10 @@ use Rattle.std.specs.declared.option.Option.TheVariants.{None, Some}
 use Rattle.row_pages.specs.Rows.{blocks_of}
 use Rattle.graph_version.specs.Edges.{edges_in_block}
 use Rattle.block_pool.specs.Pools.{Status as PoolStatus, Free as PoolFree, Used as PoolUsed, Retired as PoolRetired}
-use Rattle.epoch_core.specs.declared.states.Status.{Status}
-use Rattle.epoch_core.specs.declared.states.Status.TheVariants.{Free, Fresh, Used, Retired}
-use Rattle.epoch_core.specs.Worlds.{World, last_blocks, edges_at, opening_graph}
+use Rattle.epoch_posts.specs.declared.states.Status.{Status}
+use Rattle.epoch_posts.specs.declared.states.Status.TheVariants.{Free, Fresh, Used, Retired}
+use Rattle.epoch_core.specs.Worlds.{World, last_blocks}
+use Rattle.epoch_posts.specs.Versions.{edges_at, opening_graph}
 use Rattle.store_journal.specs.Desks.{DeskView, last_numbers}
 
 -- what the pool says of a block is what the machine says; the pool knows no births

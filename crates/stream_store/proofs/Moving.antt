@@ -11,7 +11,7 @@ use Rattle.shard_work.specs.RowBlocks.{block_of, numbers_of}
 use Rattle.graph_version.specs.Versions.{is_in}
 use Rattle.block_pool.specs.Pools.{Status, is_used_at, marked}
 use Rattle.block_pool.proofs.Tallies.{count_more}
-use Rattle.epoch_core.proofs.Lists.{all_listed}
+use Rattle.epoch_posts.proofs.Lists.{all_listed}
 use Rattle.store_journal.proofs.NumberLists.{all_by}
 use Rattle.store_journal.proofs.ChangedLists.{marked_at, same_list}
 use Rattle.store_journal.proofs.Counting.{times, is_some_times, in_times, once_at_most, apart_if}

@@ -1,7 +1,7 @@
 -- Blocks that are moved between the pool's sets.
 use Rattle.std.specs.Prelude.{◌≡◌, ℕ, List, true}
 use Rattle.std.specs.List.{list_all}
-use Rattle.epoch_core.specs.Blocks.{all_differ}
+use Rattle.epoch_posts.specs.Blocks.{all_differ}
 use Rattle.block_pool.specs.Pools.{Status, is_used_at}
 
 -- each of the numbers is used, and none stands twice

@@ -4,8 +4,8 @@ ghost use Rattle.std.specs.Prelude.{◌≡◌, ◌≢◌, IfOk, MatchResult, len
 ghost use Rattle.std.specs.Option.{option_map};
 ghost use Rattle.std.specs.declared.option.Option.TheVariants.{None};
 ghost use Rattle.graph_model.specs.Graph.{graph_of, IsContent};
-ghost use Rattle.epoch_core.specs.Worlds as worlds;
-ghost use Rattle.epoch_core.specs.Posting as posting;
+ghost use Rattle.epoch_posts.specs.Versions.{graph_at};
+ghost use Rattle.epoch_posts.specs.Posting as posting;
 
 use crate::blocks::{all_differ, all_listable, status_after};
 use crate::contents::{are_edges_of, edges_of};
@@ -61,8 +61,9 @@ fn applied(
 
 /// What posting the batch on these blocks would set, each block's status and the new version; `None` where it
 /// is skipped: there are 65,536 batches, a block is neither fresh nor of the last version or stands twice, the
-/// batch meets a limit, or the blocks' edges aren't each once what the batch leaves.
-pub(crate) fn plan_post(
+/// batch meets a limit, or the blocks' edges aren't each once what the batch leaves. The edges of the last version are
+/// read from its blocks, which must show what the batches left. Want of memory is the only error.
+pub fn plan_post(
     alloc: Global,
     opening: &Opening,
     heap: &[List<Edge>],
@@ -73,7 +74,7 @@ pub(crate) fn plan_post(
 ) -> Result<Option<(Vec<Status>, Version)>, AllocError>
     requires content { IsContent (posting.last_content opening.now heap.now versions.now) }
     requires graph { graph_of (posting.last_content opening.now heap.now versions.now)
-        ≡ worlds.graph_at opening.now versions.now (length versions.now) }
+        ≡ graph_at opening.now versions.now (length versions.now) }
     ensures { IfOk result (λ plan. posting.IsPlanOf opening.now heap.now status.now versions.now batch.now blocks.now
         (option_map (λ p. (p.0.items, p.1)) plan)) }
 {

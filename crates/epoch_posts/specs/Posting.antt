@@ -1,6 +1,6 @@
--- Post: what its rule asks, the test that decides it, and what it makes.
-use Rattle.std.specs.Prelude.{◌≡◌, ◌≢◌, ◌⊎◌, ℕ, ◌<◌, Bool, true, false, not, ◌&&◌, ◌||◌, ◌==◌, nat_lt, List, [], ◌∷◌, ◌++◌}
-use Rattle.std.specs.Prelude.{length, ◌+◌, slice_get, All, AllPairs, IsTrue, IsFalse}
+-- Post: the test that decides it, and what it makes.
+use Rattle.std.specs.Prelude.{◌≡◌, ℕ, Bool, true, false, not, ◌&&◌, ◌||◌, ◌==◌, nat_lt, List, [], ◌∷◌, length, ◌+◌, slice_get}
+use Rattle.std.specs.Prelude.{IsTrue, IsFalse}
 use Rattle.std.specs.List.{list_any, list_all}
 use Rattle.std.specs.Ordering.{int_eq}
 use Rattle.std.specs.FinMap.{get, len}
@@ -9,37 +9,19 @@ use Rattle.std.specs.declared.option.Option.TheVariants.{None, Some}
 use Rattle.graph_model.specs.Graph.{Graph, Key, Stamp, key_of, stamp_of, graph_of, IsContent}
 use Rattle.graph_model.specs.Step.{after_all}
 use Rattle.graph_model.specs.Limits.{batch_limit}
-use Rattle.graph_model.specs.GraphLimits.{MeetsNameLimit, MeetsKindLimit, is_within_limits}
+use Rattle.graph_model.specs.GraphLimits.{is_within_limits}
 use Rattle.graph_model.specs.declared.ids.Edge.{Edge}
 use Rattle.graph_model.specs.declared.batches.NamedOp.{NamedOp}
 use Rattle.graph_model.specs.declared.contents.Content.{Content}
-use Rattle.epoch_core.specs.declared.states.Status.{Status}
-use Rattle.epoch_core.specs.declared.states.Status.TheVariants.{Fresh}
-use Rattle.epoch_core.specs.declared.states.Version.{Version}
-use Rattle.epoch_core.specs.Blocks.{is_at, is_fresh, is_listed, all_differ, status_after}
-use Rattle.epoch_core.specs.declared.states.Opening.{Opening}
-use Rattle.epoch_core.specs.Worlds.{World, graph_at, version_at, blocks_at, last_number, last_blocks, last_graph, edges_of}
-use Rattle.epoch_core.specs.Worlds.{content_with, Shows, IsContentGraph}
+use Rattle.epoch_posts.specs.declared.states.Status.{Status}
+use Rattle.epoch_posts.specs.declared.states.Version.{Version}
+use Rattle.epoch_posts.specs.Blocks.{is_at, is_fresh, is_listed, all_differ, status_after}
+use Rattle.epoch_posts.specs.declared.states.Opening.{Opening}
+use Rattle.epoch_posts.specs.Versions.{graph_at, version_at, blocks_at, edges_of, content_with, IsContentGraph}
 
 -- what the batch leaves of the last version
 abbrev pub graph_after : Opening → List Version → List NamedOp → Graph
 graph_after opening versions batch = after_all batch (graph_at opening versions (length versions))
-
--- The rule
-
--- a Post is done only where all this holds
-pub record MayPost (w : World) (batch : List NamedOp) (blocks : List ℕ) : Type 0 where
-  -- there are fewer batches than the limit
-  pub few : last_number w < batch_limit
-  -- each block is fresh or of the last version
-  pub listable : All (λ b. (slice_get w.status b ≡ Some Fresh) ⊎ IsTrue (is_listed b (last_blocks w))) blocks
-  -- none is listed twice
-  pub different : AllPairs ◌≢◌ blocks
-  -- the batch meets no limit on names or kinds
-  pub names : MeetsNameLimit batch (last_graph w) → ⊥
-  pub kinds : MeetsKindLimit batch (last_graph w) → ⊥
-  -- the edges in the blocks, taken together, are each once the edges that the batch leaves of the last version
-  pub shown : Shows (edges_of w.heap blocks) (graph_after w.opening w.versions batch)
 
 -- The test
 
@@ -89,13 +71,6 @@ version_by opening versions batch blocks =
       blocks = blocks;
       names = (graph_after opening versions batch).names;
       kinds = (graph_after opening versions batch).kinds;
-    }
-
-abbrev pub posted : World → List NamedOp → List ℕ → World
-posted w batch blocks =
-    record w {
-      status = status_after (last_number w + 1) blocks w.status;
-      versions = w.versions ++ version_by w.opening w.versions batch blocks ∷ [];
     }
 
 -- the content of the last version, as its blocks show it

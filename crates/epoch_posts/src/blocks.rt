@@ -2,17 +2,18 @@
 
 ghost use Rattle.std.specs.Prelude.{◌≡◌, ◌+◌, IfOk, OnErr, map, length, slice_get};
 ghost use Rattle.std.specs.List.{enumerate_from};
-ghost use Rattle.epoch_core.specs.Blocks as specs;
-ghost use Rattle.epoch_core.specs.Posting as posting;
-ghost use Rattle.epoch_core.specs.Runs.{Stepped};
+ghost use Rattle.epoch_posts.specs.Blocks as specs;
+ghost use Rattle.epoch_posts.specs.Blocks.{Stepped};
+ghost use Rattle.epoch_posts.specs.Posting as posting;
 
-use crate::Step;
 use crate::states::Status;
+use crate::steps::Step;
 use graph_model::{Edge, List};
 use std::alloc::{AllocError, Global};
 
-/// Makes a free block fresh. It takes no memory.
-pub(crate) fn take_block(status: &mut Vec<Status>, block: usize) -> Step
+/// Makes a free block fresh. `Skipped`, with nothing changed, where there is no block of this number or it isn't free.
+/// It takes no memory.
+pub fn take_block(status: &mut Vec<Status>, block: usize) -> Step
     ensures { Stepped (specs.changed_at specs.taken status.old.items block) result status.old.items status.new.items }
 {
     let before = status.get(block).copied();
@@ -25,8 +26,9 @@ pub(crate) fn take_block(status: &mut Vec<Status>, block: usize) -> Step
     }
 }
 
-/// Frees a block that was retired with a number at most the floor. It takes no memory.
-pub(crate) fn recycle_block(status: &mut Vec<Status>, floor: u64, block: usize) -> Step
+/// Frees a block that was retired with a number at most the floor. `Skipped`, with nothing changed, where there is no
+/// such block. It takes no memory.
+pub fn recycle_block(status: &mut Vec<Status>, floor: u64, block: usize) -> Step
     ensures { Stepped (specs.changed_at (specs.recycled floor) status.old.items block) result status.old.items status.new.items }
 {
     let before = status.get(block).copied();
@@ -39,8 +41,10 @@ pub(crate) fn recycle_block(status: &mut Vec<Status>, floor: u64, block: usize) 
     }
 }
 
-/// Puts edges into a fresh block in state of those that it has.
-pub(crate) fn fill_block(
+/// Puts edges into a fresh block in place of those that it has; the heap has a list of edges for each block that has a
+/// status. `Skipped`, with nothing changed, where there is no block of this number or it isn't fresh. Want of memory is
+/// the only error, and leaves the heap as it was.
+pub fn fill_block(
     alloc: Global,
     status: &[Status],
     heap: &mut Vec<List<Edge>>,

@@ -12,9 +12,9 @@ use Rattle.graph_model.specs.declared.ids.Edge.{Edge}
 use Rattle.graph_model.proofs.Keys.{keys_total, exact_keys, is_key_of, is_key_of-true, is_key_of-false, HasKeysOnce, once_none}
 use Rattle.graph_model.proofs.Keys.{once_head, once_tail, once_cons, get_listed, len_once}
 use Rattle.graph_model.proofs.EdgeLookup.{Decides-has_key}
-use Rattle.epoch_core.proofs.Lists.{neither}
-use Rattle.epoch_core.specs.Worlds.{Shows}
-use Rattle.epoch_core.specs.Posting.{are_edges_of, bears, keys_differ, same_key, same_stamp}
+use Rattle.epoch_posts.proofs.Lists.{neither}
+use Rattle.epoch_posts.specs.Versions.{Shows}
+use Rattle.epoch_posts.specs.Posting.{are_edges_of, bears, keys_differ, same_key, same_stamp}
 
 Decides-same_stamp : (a b : Stamp) → Decides (same_stamp a b) (a ≡ b)
 Decides-same_stamp a b =

@@ -3,10 +3,10 @@ use Rattle.std.specs.List.{list_all}
 use Rattle.std.specs.FinMap.{get}
 use Rattle.graph_model.specs.Graph.{graph_of, key_of, stamp_of, map_of}
 use Rattle.graph_model.specs.declared.ids.Edge.{Edge}
-use Rattle.epoch_core.specs.Posting as posting
+use Rattle.epoch_posts.specs.Posting as posting
 use Rattle.graph_model.proofs.Keys.{len_once}
-use Rattle.epoch_core.proofs.Edges.{Decides-edges}
-use Rattle.epoch_core.proofs.contents.are_edges_of.Goals as goal
+use Rattle.epoch_posts.proofs.Edges.{Decides-edges}
+use Rattle.epoch_posts.proofs.contents.are_edges_of.Goals as goal
 
 abbrev counted : List Edge → List Edge → Bool
 counted es listed = posting.keys_differ es && list_all (λ e. posting.bears (get (map_of listed) (key_of e)) (stamp_of e)) es

@@ -2,8 +2,8 @@ use Rattle.std.proofs.Common.{ap, sym, ◌∙◌}
 use Rattle.std.specs.Option.{option_map}
 use Rattle.graph_model.specs.Graph.{key_of, stamp_of}
 use Rattle.graph_model.proofs.EdgeLookup.{get-map_of}
-use Rattle.epoch_core.specs.Posting as posting
-use Rattle.epoch_core.proofs.contents.bears.Goals as goal
+use Rattle.epoch_posts.specs.Posting as posting
+use Rattle.epoch_posts.proofs.contents.bears.Goals as goal
 
 pub returns-in-Some : goal.returns-in-Some
 returns-in-Some c = c.same_stamp.ensures ∙ ap (λ o. posting.bears (option_map stamp_of o)

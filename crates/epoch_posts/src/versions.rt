@@ -3,7 +3,7 @@
 ghost use Rattle.std.specs.Prelude.{◌≡◌, IfOk};
 ghost use Rattle.std.specs.Option.{option_copied, unwrap_or};
 ghost use Rattle.graph_model.specs.Graph as graph;
-ghost use Rattle.epoch_core.specs.Worlds as worlds;
+ghost use Rattle.epoch_posts.specs.Versions as specs;
 
 use crate::states::{Opening, Version};
 use graph_model::{Content, Edge, List, Name};
@@ -11,7 +11,7 @@ use std::alloc::{AllocError, Global};
 
 /// The version of this number; `None` for version 0, and for a number past the last. It takes no memory.
 pub(crate) fn posted_at(versions: &[Version], number: u64) -> Option<&Version>
-    ensures { option_copied result ≡ worlds.posted_at versions.now number }
+    ensures { option_copied result ≡ specs.posted_at versions.now number }
 {
     if number == 0 {
         return None;
@@ -19,13 +19,10 @@ pub(crate) fn posted_at(versions: &[Version], number: u64) -> Option<&Version>
     versions.get((number - 1) as usize)
 }
 
-/// The blocks of the version of this number. It takes no memory.
-pub(crate) fn blocks_at<'a>(
-    opening: &'a Opening,
-    versions: &'a [Version],
-    number: u64,
-) -> &'a [usize]
-    ensures { result.now ≡ worlds.blocks_at opening.now versions.now number }
+/// The blocks of the version of this number: the opening's for version 0, and for a number past the last. It takes no
+/// memory.
+pub fn blocks_at<'a>(opening: &'a Opening, versions: &'a [Version], number: u64) -> &'a [usize]
+    ensures { result.now ≡ specs.blocks_at opening.now versions.now number }
 {
     match posted_at(versions, number) {
         Some(version) => version.blocks.as_slice(),
@@ -60,16 +57,17 @@ fn content_of(
     })
 }
 
-/// The content of the names and kinds of the version of this number, and of these edges.
-pub(crate) fn content_with(
+/// The content of the names and kinds of the version of this number, the opening's for version 0 and for a number past
+/// the last, and of these edges. Want of memory is the only error.
+pub fn content_with(
     alloc: Global,
     opening: &Opening,
     versions: &[Version],
     number: u64,
     edges: Vec<Edge>,
 ) -> Result<Content, AllocError>
-    ensures { IfOk result (λ content. content ≡ worlds.content_with
-        (worlds.version_at opening.now versions.now number) edges.items) }
+    ensures { IfOk result (λ content. content ≡ specs.content_with
+        (specs.version_at opening.now versions.now number) edges.items) }
 {
     match posted_at(versions, number) {
         Some(version) => content_of(

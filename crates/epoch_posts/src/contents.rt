@@ -1,38 +1,25 @@
 //! Edges of blocks, and whether they are the edges of a content.
 
-ghost use Rattle.std.specs.Prelude.{◌≡◌, ◌≢◌, ◌++◌, ◌↔◌, ◌&&◌, ◌==◌, length, find, IfOk, IsTrue, AllPairs};
+ghost use Rattle.std.specs.Prelude.{◌≡◌, ◌≢◌, ◌↔◌, ◌&&◌, ◌==◌, length, find, IfOk, IsTrue, AllPairs};
 ghost use Rattle.std.specs.List.{list_any, list_all};
 ghost use Rattle.std.specs.Option.{option_copied};
 ghost use Rattle.std.specs.FinMap.{get};
 ghost use Rattle.graph_model.specs.Graph.{graph_of, key_of, stamp_of, map_of};
-ghost use Rattle.epoch_core.specs.Worlds as worlds;
-ghost use Rattle.epoch_core.specs.Posting as posting;
-ghost use Rattle.epoch_core.specs.Worlds.{Shows};
+ghost use Rattle.epoch_posts.specs.Versions as specs;
+ghost use Rattle.epoch_posts.specs.Posting as posting;
+ghost use Rattle.epoch_posts.specs.Versions.{Shows};
 
 use graph_model::{Content, Edge, List};
 use std::alloc::{AllocError, Global};
 
 /// The edges in a block, none for a number that is out of range. It takes no memory.
-pub(crate) fn edges_at(heap: &[List<Edge>], block: usize) -> &[Edge]
-    ensures { result.now ≡ worlds.edges_at heap.now block }
+pub fn edges_at(heap: &[List<Edge>], block: usize) -> &[Edge]
+    ensures { result.now ≡ specs.edges_at heap.now block }
 {
     match heap.get(block) {
         Some(edges) => edges.as_slice(),
         None => &[],
     }
-}
-
-/// Both lists of edges, one after the other.
-pub(crate) fn joined(
-    alloc: Global,
-    first: &[Edge],
-    second: &[Edge],
-) -> Result<Vec<Edge>, AllocError>
-    ensures { IfOk result (λ v. v.items ≡ first.now ++ second.now) }
-{
-    let mut edges = Vec::from_slice(alloc, first)?;
-    edges.extend_from_slice(second)?;
-    Ok(edges)
 }
 
 /// The edges in several blocks, one block after the other.
@@ -41,7 +28,7 @@ pub(crate) fn edges_of(
     heap: &[List<Edge>],
     blocks: &[usize],
 ) -> Result<Vec<Edge>, AllocError>
-    ensures { IfOk result (λ v. v.items ≡ worlds.edges_of heap.now blocks.now) }
+    ensures { IfOk result (λ v. v.items ≡ specs.edges_of heap.now blocks.now) }
 {
     let mut edges = Vec::new(alloc);
     for block in blocks {

@@ -1,13 +1,15 @@
--- What blocks are: free, fresh, used or retired; and what is listed.
-use Rattle.std.specs.Prelude.{ℕ, Bool, true, false, not, ◌&&◌, ◌==◌, nat_le, List, [], ◌∷◌, map, if◌then◌else◌, slice_get}
+-- What blocks are: free, fresh, used or retired; what is listed; and a change of one element of a list.
+use Rattle.std.specs.Prelude.{◌≡◌, ℕ, Bool, true, false, not, ◌&&◌, ◌==◌, nat_le, List, [], ◌∷◌, map, if◌then◌else◌, slice_get}
 use Rattle.std.specs.Prelude.{slice_set}
 use Rattle.std.specs.List.{list_any, enumerate_from}
 use Rattle.std.specs.Option.{option_and_then}
 use Rattle.std.specs.declared.option.Option.{Option}
 use Rattle.std.specs.declared.option.Option.TheVariants.{None, Some}
 use Rattle.graph_model.specs.declared.ids.Edge.{Edge}
-use Rattle.epoch_core.specs.declared.states.Status.{Status}
-use Rattle.epoch_core.specs.declared.states.Status.TheVariants.{Free, Fresh, Used, Retired}
+use Rattle.epoch_posts.specs.declared.states.Status.{Status}
+use Rattle.epoch_posts.specs.declared.states.Status.TheVariants.{Free, Fresh, Used, Retired}
+use Rattle.epoch_posts.specs.declared.steps.Step.{Step}
+use Rattle.epoch_posts.specs.declared.steps.Step.TheVariants.{Done, Skipped}
 
 abbrev pub is_free : Status → Bool
 is_free Free = true
@@ -53,6 +55,11 @@ put xs i (Some x) = Some (slice_set xs i x)
 
 abbrev pub changed_at : {A : Type 0} → (A → Option A) → List A → ℕ → Option (List A)
 changed_at change xs i = put xs i (option_and_then change (slice_get xs i))
+
+-- a change that is done, or skipped with nothing changed
+abbrev pub Stepped : {A : Type 0} → Option A → Step → A → A → Type 0
+Stepped None step old new = (step ≡ Skipped) × (new ≡ old)
+Stepped (Some after) step old new = (step ≡ Done) × (new ≡ after)
 
 -- a free block is fresh once it is taken
 abbrev pub taken : Status → Option Status

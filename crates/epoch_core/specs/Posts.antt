@@ -1,0 +1,33 @@
+-- Post in a world: what its rule asks, and the world that it makes.
+use Rattle.std.specs.Prelude.{◌≡◌, ◌≢◌, ◌⊎◌, ℕ, ◌<◌, List, [], ◌∷◌, ◌++◌, ◌+◌, slice_get, All, AllPairs, IsTrue}
+use Rattle.std.specs.declared.option.Option.TheVariants.{Some}
+use Rattle.graph_model.specs.Limits.{batch_limit}
+use Rattle.graph_model.specs.GraphLimits.{MeetsNameLimit, MeetsKindLimit}
+use Rattle.graph_model.specs.declared.batches.NamedOp.{NamedOp}
+use Rattle.epoch_posts.specs.declared.states.Status.TheVariants.{Fresh}
+use Rattle.epoch_posts.specs.Blocks.{is_listed, status_after}
+use Rattle.epoch_posts.specs.Versions.{Shows, edges_of}
+use Rattle.epoch_posts.specs.Posting.{graph_after, version_by}
+use Rattle.epoch_core.specs.Worlds.{World, last_number, last_blocks, last_graph}
+
+-- a Post is done only where all this holds
+pub record MayPost (w : World) (batch : List NamedOp) (blocks : List ℕ) : Type 0 where
+  -- there are fewer batches than the limit
+  pub few : last_number w < batch_limit
+  -- each block is fresh or of the last version
+  pub listable : All (λ b. (slice_get w.status b ≡ Some Fresh) ⊎ IsTrue (is_listed b (last_blocks w))) blocks
+  -- none is listed twice
+  pub different : AllPairs ◌≢◌ blocks
+  -- the batch meets no limit on names or kinds
+  pub names : MeetsNameLimit batch (last_graph w) → ⊥
+  pub kinds : MeetsKindLimit batch (last_graph w) → ⊥
+  -- the edges in the blocks, taken together, are each once the edges that the batch leaves of the last version
+  pub shown : Shows (edges_of w.heap blocks) (graph_after w.opening w.versions batch)
+
+-- the world once a Post is done
+abbrev pub posted : World → List NamedOp → List ℕ → World
+posted w batch blocks =
+    record w {
+      status = status_after (last_number w + 1) blocks w.status;
+      versions = w.versions ++ version_by w.opening w.versions batch blocks ∷ [];
+    }
