@@ -1,8 +1,10 @@
 // Each test is a text: lines of events, each with what it comes to.
 
+mod blocks;
 mod growths;
 mod limits;
 mod lines;
 mod parts;
+mod plans;
 mod rows;
 mod runs;

@@ -11,7 +11,7 @@ use std::process::Abort;
 use std::test::Fail;
 
 /// Tells `tools/refuse-each-growth` that a growth was refused, which the test accepted.
-fn refused(rt: &impl Print) -> Result<(), Fail> {
+pub(super) fn refused(rt: &impl Print) -> Result<(), Fail> {
     println!(rt; "refused")?;
     Ok(())
 }

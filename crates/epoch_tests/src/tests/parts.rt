@@ -40,8 +40,25 @@ fn name(alloc: Global, text: &str) -> Result<Name, AllocError> {
     Ok(Name::of(String::from_str(alloc, text)?))
 }
 
-// Words with a blank between them.
-fn numbers(alloc: Global, text: &str) -> Result<Vec<usize>, LineError> {
+/// Names with a blank between them.
+pub(super) fn names(alloc: Global, text: &str) -> Result<List<Name>, AllocError> {
+    let mut list = Vec::new(alloc);
+    for word in text.split_whitespace() {
+        push(&mut list, name(alloc, word)?)?;
+    }
+    Ok(List::of(list))
+}
+
+/// Each name behind a blank.
+pub(super) fn write_names(text: &mut String, names: &[Name]) -> Result<(), AllocError> {
+    for name in names {
+        write!(text, " {}", name.as_str())?;
+    }
+    Ok(())
+}
+
+/// Numbers with a blank between them.
+pub(super) fn numbers(alloc: Global, text: &str) -> Result<Vec<usize>, LineError> {
     let mut list = Vec::new(alloc);
     for word in text.split_whitespace() {
         push(&mut list, word.parse()?)?;
@@ -69,7 +86,8 @@ fn edge(alloc: Global, text: &str) -> Result<Edge, LineError> {
     edge_of(fields.as_slice())
 }
 
-fn edges(alloc: Global, text: &str) -> Result<Vec<Edge>, LineError> {
+/// Edges with a blank between them.
+pub(super) fn edges(alloc: Global, text: &str) -> Result<Vec<Edge>, LineError> {
     let mut list = Vec::new(alloc);
     for word in text.split_whitespace() {
         push(&mut list, edge(alloc, word)?)?;
