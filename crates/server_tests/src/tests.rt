@@ -10,7 +10,8 @@ use std::io::{ErrorKind, Read, Write};
 use std::process::Abort;
 use std::sync::Wait;
 use std::thread::Threads;
-use stinger_server::{Config, ServeFault, Summary, serve, stinger};
+use stinger_program::stinger;
+use stinger_server::{Config, ServeFault, Summary, serve};
 
 const FIRST: &str = "\
 i,knows,ann,bob,5,10

@@ -7,7 +7,7 @@ use std::io::{ErrorKind, Read, Write};
 use std::process::ExitCode;
 use std::sync::Wait;
 use std::thread::Threads;
-use stinger_server::{refuse_arguments, stinger};
+use stinger_program::{refuse_arguments, stinger};
 
 fn main(rt: HostRuntime) -> ExitCode {
     let mut writer = rt.stdout();

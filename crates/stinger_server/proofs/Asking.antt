@@ -10,11 +10,12 @@ use Rattle.graph_version.specs.Versions.{VersionView}
 use Rattle.stream_store.specs.Seats.{SeatView, SessionView, held_graph, held_version}
 use Rattle.version_answers.specs.Numbered.{IsNumberedAnswer, named}
 use Rattle.version_answers.specs.declared.numbered.NumberedReply.{NumberedReply}
-use Rattle.stinger_server.specs.Servers.{IsServer, Shows, shown_lines}
+use Rattle.script_lines.specs.Lines.{shown_lines}
+use Rattle.stinger_server.specs.Servers.{IsServer, Shows}
 use Rattle.stinger_server.specs.Slots.{IsEarlier, IsSlot}
 use Rattle.stinger_server.specs.States.{IsReplied, State, ask_word, version, version_in}
 use Rattle.stinger_server.specs.declared.server.Server.{Server}
-use Rattle.stinger_server.specs.declared.words.Word.{Word}
+use Rattle.script_lines.specs.declared.words.Word.{Word}
 use Rattle.stinger_server.proofs.Commands.{held_there}
 use Rattle.stinger_server.proofs.Replies.{IsAsked, asked_version, replied_err, replied_ok}
 

@@ -5,10 +5,10 @@ use Rattle.std.specs.Option.{option_map}
 use Rattle.std.proofs.lemmas.Option.{slice_get-map}
 use Rattle.feed_csv.specs.declared.command.Command.TheVariants.{CloseSlot, OpenSlot}
 use Rattle.stream_store.specs.Seats.{SessionView, held_version}
-use Rattle.stinger_server.specs.Lines.{close_line, open_line}
+use Rattle.script_lines.specs.Lines.{close_line, open_line}
 use Rattle.stinger_server.specs.Slots.{held_number}
 use Rattle.stinger_server.specs.States.{IsDone, State, version_in}
-use Rattle.stinger_server.specs.declared.words.Word.TheVariants.{AlreadyOpen, NotOpen}
+use Rattle.script_lines.specs.declared.words.Word.TheVariants.{AlreadyOpen, NotOpen}
 
 not_open : (held : Option (Option ℕ)) → version_in held ≡ Err NotOpen → held ≡ Some None
 not_open None not = cc

@@ -25,11 +25,11 @@ use Rattle.stream_store.specs.Configs.{ConfigView}
 use Rattle.stream_store.specs.Refusals.{IsWithin, Refuses}
 use Rattle.stream_store.specs.declared.receipts.ApplyError.{ApplyError}
 use Rattle.stream_store.specs.declared.receipts.ApplyError.TheVariants as refused
-use Rattle.stinger_server.specs.Lines.{collect_line, commit_line, stat_line}
+use Rattle.script_lines.specs.Lines.{collect_line, commit_line, stat_line}
 use Rattle.stinger_server.specs.Servers.{ShowsDesk, batch_word}
 use Rattle.stinger_server.specs.States.{IsDone, State, after_collect, after_commit, beginning, commit_refusal, dropped, floor_of}
 use Rattle.stinger_server.specs.States.{last_version, left_by_pending, recycled, set_up, taken}
-use Rattle.stinger_server.specs.declared.words.Word.TheVariants.{BatchLimit, KindsFull, NamesFull, PoolEmpty}
+use Rattle.script_lines.specs.declared.words.Word.TheVariants.{BatchLimit, KindsFull, NamesFull, PoolEmpty}
 
 -- Counts
 

@@ -1,4 +1,5 @@
 pub mod Writing
+pub mod TwoParts
 pub mod EndLine
 pub mod SlotLaws
 pub mod DeskLaws
@@ -7,14 +8,8 @@ pub mod Commands
 pub mod Edges
 pub mod OwnLabels
 pub mod Replies
-pub mod TableRows
 pub mod Asking
 pub mod OneRecord
 pub mod RunSoFar
 pub mod RunEnd
 pub mod OneText
-pub mod Options
-pub mod OneFault
-pub mod Asked
-pub mod Served
-pub mod HelpText

@@ -10,8 +10,8 @@ use Rattle.feed_csv.specs.declared.command.FeedWord.TheVariants.{BadSlot, Memory
 use Rattle.stinger_server.specs.declared.script.Run.{Run}
 use Rattle.stinger_server.specs.declared.server.Response.{Response}
 use Rattle.stinger_server.specs.declared.server.Response.TheVariants.{Lines, Refused}
-use Rattle.stinger_server.specs.declared.words.Word.TheVariants.{Feed}
-use Rattle.stinger_server.specs.Lines.{error_line}
+use Rattle.script_lines.specs.declared.words.Word.TheVariants.{Feed}
+use Rattle.script_lines.specs.Lines.{error_line}
 use Rattle.stinger_server.specs.Runs.{BreaksOff, CountsRecord, Done, refusals}
 use Rattle.stinger_server.specs.Servers.{IsServer, Obeys, result_of}
 use Rattle.stinger_server.specs.States.{error_count, printed}

@@ -8,8 +8,8 @@ use Rattle.feed_csv.specs.declared.command.Command.TheVariants.{Op, Commit, Open
 use Rattle.feed_csv.specs.declared.command.FeedWord.{FeedWord}
 use Rattle.graph_model.proofs.OneAnswer.{one_answer}
 use Rattle.graph_model.specs.declared.requests.Request.{Request}
-use Rattle.stinger_server.specs.declared.words.Word.{Word}
-use Rattle.stinger_server.specs.Lines.{end_line}
+use Rattle.script_lines.specs.declared.words.Word.{Word}
+use Rattle.script_lines.specs.Lines.{end_line}
 use Rattle.stinger_server.specs.States.{IsRecordResult, IsReplied, Progress, RecordResult, Setup, State, after_record}
 use Rattle.stinger_server.specs.States.{answer_result, beginning, printed, version, version_in}
 use Rattle.stinger_server.specs.Texts.{IsRun, IsWhole}

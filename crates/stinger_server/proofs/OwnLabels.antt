@@ -17,7 +17,7 @@ use Rattle.graph_model.specs.Step.{with_name}
 use Rattle.graph_model.specs.declared.ids.Filter.{Filter}
 use Rattle.graph_model.proofs.NameLists.{appears-with_name, stays-with_name}
 use Rattle.graph_model.proofs.Walks.{joined}
-use Rattle.stinger_server.specs.Lines.{count_different}
+use Rattle.script_lines.specs.Lines.{count_different}
 
 -- every label is that of itself, and no vertex has a greater one; vertices have different names
 record AreOwn (total : ℕ) (label : ℕ → ℕ) (name : ℕ → List ℕ) : Type 0 where

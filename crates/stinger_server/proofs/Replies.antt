@@ -18,10 +18,10 @@ use Rattle.version_answers.specs.declared.numbered.NumberedReply.{NumberedReply}
 use Rattle.stinger_server.proofs.Edges.{edges_in_view}
 use Rattle.stinger_server.proofs.NamesApart.{apart_names}
 use Rattle.stinger_server.proofs.OwnLabels.{own_labels}
-use Rattle.stinger_server.specs.Lines.{degree_lines, label_lines}
-use Rattle.stinger_server.specs.Servers.{shown_lines}
+use Rattle.script_lines.specs.Lines.{degree_lines, label_lines}
+use Rattle.script_lines.specs.Lines.{shown_lines}
 use Rattle.stinger_server.specs.States.{IsReplied, State, ask_word, reply_lines, version, version_in}
-use Rattle.stinger_server.specs.declared.words.Word.{Word}
+use Rattle.script_lines.specs.declared.words.Word.{Word}
 
 -- a graph whose names differ, and whose edges join its vertices
 pub record IsAsked (g : Graph) : Type 0 where

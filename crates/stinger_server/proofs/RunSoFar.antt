@@ -11,9 +11,9 @@ use Rattle.stinger_server.specs.declared.script.Run.{Run}
 use Rattle.stinger_server.specs.declared.script.ServeFault.{ServeFault}
 use Rattle.stinger_server.specs.declared.script.ServeFault.TheVariants.{Read, Memory, Start, Write}
 use Rattle.stinger_server.specs.declared.script.Summary.{Summary}
-use Rattle.stinger_server.specs.declared.words.Word.{Word}
-use Rattle.stinger_server.specs.declared.words.Word.TheVariants.{Feed}
-use Rattle.stinger_server.specs.Lines.{end_line, error_line}
+use Rattle.script_lines.specs.declared.words.Word.{Word}
+use Rattle.script_lines.specs.declared.words.Word.TheVariants.{Feed}
+use Rattle.script_lines.specs.Lines.{end_line, error_line}
 use Rattle.stinger_server.specs.Runs.{BreaksOff, IsFresh, IsReady, ShowsRun, Starts, Turns, records_done}
 use Rattle.stinger_server.specs.States.{IsRecordResult, Progress, RecordResult, Setup, after_record, beginning, printed}
 use Rattle.stinger_server.specs.Texts.{IsCut, IsRun, IsStart, IsText, IsWanted, IsWhole}

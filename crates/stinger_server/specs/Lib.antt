@@ -1,9 +1,7 @@
-pub mod Lines
 pub mod States
 pub mod Texts
 pub mod Writes
 pub mod Slots
 pub mod Servers
 pub mod Runs
-pub mod Program
 pub mod Laws

@@ -15,8 +15,8 @@ use Rattle.stinger_server.specs.declared.script.ServeFault.TheVariants.{Read, Me
 use Rattle.stinger_server.specs.declared.script.Summary.{Summary}
 use Rattle.stinger_server.specs.declared.server.Response.{Response}
 use Rattle.stinger_server.specs.declared.server.Response.TheVariants.{Lines, Refused}
-use Rattle.stinger_server.specs.declared.words.Word.TheVariants.{Feed}
-use Rattle.stinger_server.specs.Lines.{error_line}
+use Rattle.script_lines.specs.declared.words.Word.TheVariants.{Feed}
+use Rattle.script_lines.specs.Lines.{error_line}
 use Rattle.stinger_server.specs.Servers.{IsServer, Shows}
 use Rattle.stinger_server.specs.States.{IsRecordResult, RecordResult, Progress, Setup, after_record, beginning, printed}
 use Rattle.stinger_server.specs.Writes.{AppendsPart}

@@ -1,18 +1,15 @@
 -- A server's fields, and the states that they show.
-use Rattle.std.specs.Prelude.{◌≡◌, ℕ, List, bytes_eq, length, count_by, sum_by, Ok, Err, Bool}
+use Rattle.std.specs.Prelude.{◌≡◌, ℕ, List, length, count_by, Ok, Err, Bool}
 use Rattle.graph_model.specs.Step.{empty_graph}
 use Rattle.graph_version.specs.Versions.{layout_of}
 use Rattle.block_pool.specs.Pools.{is_free}
 use Rattle.store_journal.specs.Desks.{DeskView, is_retired_by}
-use Rattle.graph_model.specs.declared.requests.Reply.{Reply}
-use Rattle.graph_model.specs.declared.requests.Reply.TheVariants.{Cores, Degrees, Labels, Levels, OneEdge}
 use Rattle.feed_csv.specs.declared.command.Command.{Command}
 use Rattle.feed_csv.specs.declared.command.FeedWord.TheVariants as feed
 use Rattle.stream_store.specs.declared.receipts.ApplyError.{ApplyError}
 use Rattle.stream_store.specs.declared.receipts.ApplyError.TheVariants as refused
-use Rattle.stinger_server.specs.declared.words.Word.{Word}
-use Rattle.stinger_server.specs.declared.words.Word.TheVariants.{Feed, BatchLimit, NamesFull, KindsFull, PoolEmpty}
-use Rattle.stinger_server.specs.Lines.{core_lines, degree_lines, edge_line, label_lines, level_lines}
+use Rattle.script_lines.specs.declared.words.Word.{Word}
+use Rattle.script_lines.specs.declared.words.Word.TheVariants.{Feed, BatchLimit, NamesFull, KindsFull, PoolEmpty}
 use Rattle.stinger_server.specs.Slots.{IsKept, held_numbers}
 use Rattle.stinger_server.specs.States.{IsDone, RecordResult, State, after_command}
 use Rattle.stinger_server.specs.declared.server.Server.{Server}
@@ -57,12 +54,3 @@ batch_word refused.NamesFull = NamesFull
 batch_word refused.KindsFull = KindsFull
 batch_word (refused.PoolEmpty needed free) = PoolEmpty
 batch_word refused.OutOfMemory = Feed feed.Memory
-
--- a reply's lines, read off the reply alone: of the vertices with one label, one is that label itself, and each edge of the
--- view leaves one vertex
-abbrev pub shown_lines : ℕ → Reply → List ℕ
-shown_lines slot (Levels entries) = level_lines slot entries
-shown_lines slot (Labels entries) = label_lines slot (count_by (λ entry. bytes_eq entry.0 entry.1) entries) entries
-shown_lines slot (Cores entries) = core_lines slot entries
-shown_lines slot (Degrees entries) = degree_lines slot (sum_by (λ entry. entry.1.outgoing) entries) entries
-shown_lines slot (OneEdge shown) = edge_line slot shown

@@ -24,11 +24,11 @@ use Rattle.feed_csv.specs.declared.command.Command.TheVariants.{Op, Commit, Open
 use Rattle.feed_csv.specs.declared.command.FeedWord.{FeedWord}
 use Rattle.feed_csv.specs.declared.command.FeedWord.TheVariants as feed
 use Rattle.stream_store.specs.Configs.{ConfigView}
-use Rattle.stinger_server.specs.declared.words.Word.{Word}
-use Rattle.stinger_server.specs.declared.words.Word.TheVariants.{Feed, NotOpen, AlreadyOpen, BadWindow, NoKind, NoVertex}
-use Rattle.stinger_server.specs.declared.words.Word.TheVariants.{BatchFull, BatchLimit, NamesFull, KindsFull, PoolEmpty}
-use Rattle.stinger_server.specs.Lines.{close_line, collect_line, commit_line, core_lines, count_different, degree_lines}
-use Rattle.stinger_server.specs.Lines.{edge_line, error_line, label_lines, level_lines, open_line, stat_line}
+use Rattle.script_lines.specs.declared.words.Word.{Word}
+use Rattle.script_lines.specs.declared.words.Word.TheVariants.{Feed, NotOpen, AlreadyOpen, BadWindow, NoKind, NoVertex}
+use Rattle.script_lines.specs.declared.words.Word.TheVariants.{BatchFull, BatchLimit, NamesFull, KindsFull, PoolEmpty}
+use Rattle.script_lines.specs.Lines.{close_line, collect_line, commit_line, core_lines, count_different, degree_lines}
+use Rattle.script_lines.specs.Lines.{edge_line, error_line, label_lines, level_lines, open_line, stat_line}
 
 -- how a run is set up: the graph that it opens with, and how many blocks and seats there are
 pub record Setup : Type 0 where

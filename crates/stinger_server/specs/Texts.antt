@@ -6,9 +6,9 @@ use Rattle.feed_csv.specs.declared.command.FeedWord.TheVariants as feed
 use Rattle.stinger_server.specs.declared.script.ServeFault.{ServeFault}
 use Rattle.stinger_server.specs.declared.script.ServeFault.TheVariants.{Read, Memory, Start, Write}
 use Rattle.stinger_server.specs.declared.script.Summary.{Summary}
-use Rattle.stinger_server.specs.declared.words.Word.{Word}
-use Rattle.stinger_server.specs.declared.words.Word.TheVariants.{Feed}
-use Rattle.stinger_server.specs.Lines.{end_line, error_line}
+use Rattle.script_lines.specs.declared.words.Word.{Word}
+use Rattle.script_lines.specs.declared.words.Word.TheVariants.{Feed}
+use Rattle.script_lines.specs.Lines.{end_line, error_line}
 use Rattle.stinger_server.specs.States.{IsRecordResult, RecordResult, Progress, Setup, after_record, beginning, printed}
 
 -- the records, one after another, print this text and bring a run from here to there

@@ -3,17 +3,14 @@
 #![tactic(auto)]
 
 mod laws;
-mod lines;
 mod output;
-mod program;
 mod script;
 mod server;
 mod sink;
 mod slots;
-mod tables;
-mod words;
 
 pub use laws::law_one_text;
-pub use program::{law_arguments, law_options, refuse_arguments, stinger};
+pub use output::write_text;
 pub use script::{ServeFault, Summary, serve};
+pub use sink::Unwritten;
 pub use stream_store::{BadConfig, Config};

@@ -3,13 +3,13 @@
 
 ghost use Rattle.std.specs.Prelude.{◌≡◌, false, true, is_err, OnOk, OnErr};
 ghost use Rattle.std.specs.Io.KnownBytes.{Appends};
-ghost use Rattle.stinger_server.specs.Lines as lines_of;
+ghost use Rattle.script_lines.specs.Lines as lines_of;
 ghost use Rattle.stinger_server.specs.Writes.{AppendsPart, held};
 
 use crate::sink::{Sink, Unwritten};
-use crate::words::Word;
 use arrayvec::ArrayString;
 use itoa::Buffer;
+use script_lines::Word;
 use std::io::Write;
 
 // Room for a line that is built on the stack: the longest has 39 bytes.
@@ -29,6 +29,29 @@ pub(crate) fn put<W: Write>(sink: &mut Sink<'_, W>, text: &str) -> Result<(), Un
         at += sink.write(&bytes[at..])?;
     }
     Ok(())
+}
+
+/// Writes a text and then its end, and flushes.
+///
+/// `Unwritten` where a write failed or took nothing, or the flush failed: then a first part of the two stands in the writer, and
+/// nothing more is written.
+pub fn write_text<W: Write>(writer: &mut W, text: &str, end: &str) -> Result<(), Unwritten>
+    ensures whole { OnOk result (Appends (W.contents writer.old) (W.contents writer.new) (text.now ++ end.now)) }
+    ensures part { OnErr result (AppendsPart (W.contents writer.old) (W.contents writer.new) (text.now ++ end.now)) }
+{
+    put_both(&mut Sink::over(writer), text, end)
+}
+
+/// The same over a sink.
+fn put_both<W: Write>(sink: &mut Sink<'_, W>, text: &str, end: &str) -> Result<(), Unwritten>
+    requires working { sink.old.failed ≡ false }
+    ensures same_writer { sink.new.writer.ghost_name ≡ sink.old.writer.ghost_name }
+    ensures whole { OnOk result (Appends (held W.contents sink.old) (held W.contents sink.new) (text.now ++ end.now)) }
+    ensures part { OnErr result (AppendsPart (held W.contents sink.old) (held W.contents sink.new) (text.now ++ end.now)) }
+{
+    put(sink, text)?;
+    put(sink, end)?;
+    sink.flush()
 }
 
 /// Writes an error line, by one write where the writer takes it whole.

@@ -4,7 +4,7 @@ ghost use Rattle.std.specs.Prelude.{◌≡◌, ℕ, ◌+◌, ◌<◌, ◌≤◌,
 ghost use Rattle.std.specs.Prelude.{OnOk, OnErr};
 ghost use Rattle.std.specs.Io.KnownBytes.{Appends};
 ghost use Rattle.feed_csv.specs.Records.{record_limit, records_of};
-ghost use Rattle.stinger_server.specs.Lines.{end_line};
+ghost use Rattle.script_lines.specs.Lines.{end_line};
 ghost use Rattle.std.specs.Prelude.{map};
 ghost use Rattle.std.specs.List.{range_with_len};
 ghost use Rattle.seat_board.specs.Board.{no_pins};
@@ -22,8 +22,8 @@ ghost use Rattle.stinger_server.specs.Writes.{AppendsPart, AppendsSome, held};
 use crate::output;
 use crate::server::{Response, Server};
 use crate::sink::{Sink, Unwritten};
-use crate::words::Word;
 use feed_csv::{Command, Feed, FeedWord};
+use script_lines::Word;
 use seat_board::Board;
 use std::alloc::{AllocError, Global};
 use std::io::{Read, Write};

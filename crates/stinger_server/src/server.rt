@@ -11,11 +11,12 @@ ghost use Rattle.stinger_server.specs.Servers.{IsServer, Obeys, Shows, batch_wor
 ghost use Rattle.stinger_server.specs.States as states;
 
 use crate::slots::Slots;
-use crate::words::Word;
-use crate::{lines, tables};
 use batch_apply::PassAll;
 use feed_csv::{Command, FeedWord};
 use graph_model::{AskError, Batch, NamedOp, PushError, Request};
+use script_lines::{
+    Word, close_line, collect_line, commit_line, open_line, reply_lines, stat_line,
+};
 use seat_board::Board;
 use std::alloc::{AllocError, Global};
 use std::mem;
@@ -122,7 +123,7 @@ impl Server {
         let batch = mem::replace(&mut self.pending, Batch::new(self.alloc));
         match self.desk.apply(rt, &PassAll, batch) {
             Ok(receipt) => {
-                lines::commit(lines, receipt.number, receipt.outcomes.as_slice())?;
+                commit_line(lines, receipt.number, receipt.outcomes.as_slice())?;
                 Ok(Response::Lines)
             }
             Err(error) => {
@@ -142,7 +143,7 @@ impl Server {
     {
         match self.slots.session(slot) {
             Err(Word::NotOpen) => {
-                lines::open(lines, slot, self.desk.last().number())?;
+                open_line(lines, slot, self.desk.last().number())?;
                 self.slots.acquire(slot, &self.desk)?;
                 Ok(Response::Lines)
             }
@@ -161,7 +162,7 @@ impl Server {
     {
         match self.slots.session(slot) {
             Ok(_) => {
-                lines::close(lines, slot)?;
+                close_line(lines, slot)?;
                 self.slots.release(slot);
                 Ok(Response::Lines)
             }
@@ -182,7 +183,7 @@ impl Server {
         };
         match session.ask_in_numbers(request) {
             Ok(reply) => {
-                tables::reply(lines, slot, session.version().names(), &reply)?;
+                reply_lines(lines, slot, session.version().names(), &reply)?;
                 Ok(Response::Lines)
             }
             Err(error) => {
@@ -201,7 +202,7 @@ impl Server {
     {
         let floor = self.slots.floor(&self.desk);
         let collected = self.desk.collect(floor);
-        lines::collect(lines, collected)?;
+        collect_line(lines, collected)?;
         Ok(Response::Lines)
     }
 
@@ -211,7 +212,7 @@ impl Server {
         requires empty { string_bytes lines.old ≡ [] }
         ensures obeys { IfOk result (λ response. Obeys Command.Stat self.now response (string_bytes lines.new) self.now) }
     {
-        lines::stat(lines, self.desk.stat())?;
+        stat_line(lines, self.desk.stat())?;
         Ok(Response::Lines)
     }
 }

@@ -72,6 +72,6 @@ impl<'w, W: Write> Sink<'w, W> {
     }
 }
 
-/// A call of the writer failed: the sink is marked.
+/// A call of the writer failed, and it takes no other.
 #[derive(Clone, Copy, Debug, PartialEq, Eq)]
-pub(crate) struct Unwritten;
+pub struct Unwritten;

@@ -9,8 +9,8 @@ ghost use Rattle.stream_store.specs.Seats.{SeatView, SessionView};
 ghost use Rattle.stinger_server.specs.Slots.{IsKept, held_numbers};
 ghost use Rattle.stinger_server.specs.States as states;
 
-use crate::words::Word;
 use feed_csv::FeedWord;
+use script_lines::Word;
 use seat_board::Board;
 use std::alloc::{AllocError, Global};
 use stream_store::{Desk, Seat, Session};

@@ -4,7 +4,7 @@ use super::{FakeWriter, begins, status_of};
 use std::process::Abort;
 use std::sync::Wait;
 use std::thread::Threads;
-use stinger_server::{law_arguments, law_options, refuse_arguments};
+use stinger_program::{law_arguments, law_options, refuse_arguments};
 
 // The program at the arguments, over a script of one bad record, ends with the status: these are the beginnings of
 // what stands on its output and on its faults, and where there is none, nothing stands there.

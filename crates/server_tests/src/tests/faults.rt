@@ -4,7 +4,7 @@ use super::{FIRST, FIRST_TEXT, FakeWriter, REFUSED, REFUSED_TEXT, is_cut, served
 use std::process::Abort;
 use std::sync::Wait;
 use std::thread::Threads;
-use stinger_server::ServeFault;
+use stinger_server::{ServeFault, Unwritten, write_text};
 
 // A run of the script into a writer of each smaller size writes that many bytes of the text and tells `Write`, and
 // calls the writer no more.
@@ -84,4 +84,25 @@ fn tells_the_record_that_a_reader_failed_at(rt: HostRuntime) {
         assert!(rt; is_cut(writer.held.as_slice(), given, "Read"), "{reads}");
         assert!(rt; writer.flushed, "{reads}");
     }
+}
+
+// A text and its end into a writer with so much room come to this, and leave it holding that.
+fn writes_both(
+    rt: &(impl Abort + AllocGlobal),
+    room: usize,
+    written: Result<(), Unwritten>,
+    held: &str,
+) {
+    let mut writer = FakeWriter::new(rt, room, true);
+    let answer = write_text(&mut writer, "ann ", "bob\n");
+    assert_eq!(rt; answer, written, "{room}");
+    assert_eq!(rt; writer.held.as_slice(), held.as_bytes(), "{room}");
+    assert_eq!(rt; writer.flushed, written.is_ok(), "{room}");
+}
+
+#[test]
+fn writes_a_text_and_its_end(rt: HostRuntime) {
+    writes_both(&rt, 8, Ok(()), "ann bob\n");
+    writes_both(&rt, 7, Err(Unwritten), "ann bob");
+    writes_both(&rt, 3, Err(Unwritten), "ann");
 }

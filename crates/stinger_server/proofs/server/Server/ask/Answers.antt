@@ -3,7 +3,7 @@ use Rattle.graph_version.specs.Versions.{content}
 use Rattle.stream_store.specs.Seats.{held_graph}
 use Rattle.version_answers.specs.Numbered.{named}
 use Rattle.vertex_names.specs.Book.{Book}
-use Rattle.stinger_server.specs.Servers.{shown_lines}
+use Rattle.script_lines.specs.Lines.{shown_lines}
 use Rattle.stinger_server.proofs.Asking.{replied_err_at, replied_ok_at}
 use Rattle.stinger_server.proofs.server.Server.ask.Goals as goal
 

@@ -1,0 +1,164 @@
+//! Expected lines were worked out by hand from the rules.
+
+use feed_csv::FeedWord;
+use graph_model::{Degree, List, Outcome, VertexId, is_name};
+use script_lines::{
+    Word, close_line, collect_line, commit_line, open_line, reply_lines, stat_line,
+};
+use std::alloc::AllocError;
+use std::process::Abort;
+use std::test::Fail;
+use stream_store::{Collected, Stat};
+use version_answers::NumberedReply;
+use vertex_names::NameBook;
+
+#[test]
+fn words_have_their_texts(rt: HostRuntime) {
+    assert_eq!(rt; Word::Feed(FeedWord::BadName).text(), "BadName");
+    assert_eq!(rt; Word::NotOpen.text(), "NotOpen");
+    assert_eq!(rt; Word::AlreadyOpen.text(), "AlreadyOpen");
+    assert_eq!(rt; Word::BadWindow.text(), "BadWindow");
+    assert_eq!(rt; Word::NoKind.text(), "NoKind");
+    assert_eq!(rt; Word::NoVertex.text(), "NoVertex");
+    assert_eq!(rt; Word::BatchFull.text(), "BatchFull");
+    assert_eq!(rt; Word::NamesFull.text(), "NamesFull");
+    assert_eq!(rt; Word::KindsFull.text(), "KindsFull");
+    assert_eq!(rt; Word::BatchLimit.text(), "BatchLimit");
+    assert_eq!(rt; Word::PoolEmpty.text(), "PoolEmpty");
+}
+
+// A buffer that lines were appended to holds this text.
+fn holds(rt: &impl Abort, appended: Result<(), AllocError>, lines: &str, text: &str) {
+    assert_eq!(rt; appended, Ok(()), "{text}");
+    assert_eq!(rt; lines, text);
+}
+
+// A line of each kind that is no answer, one behind another.
+fn append_each(lines: &mut String) -> Result<(), AllocError> {
+    let outcomes = [
+        Outcome::Overflow,
+        Outcome::Updated,
+        Outcome::Removed,
+        Outcome::Updated,
+        Outcome::Absent,
+        Outcome::Absent,
+        Outcome::Absent,
+        Outcome::Inserted,
+    ];
+    commit_line(lines, 65_536, outcomes.as_slice())?;
+    open_line(lines, 15, 12)?;
+    close_line(lines, 15)?;
+    let collected = Collected {
+        floor: 3,
+        recycled: 40,
+        retired: 500,
+    };
+    collect_line(lines, collected)?;
+    let stat = Stat {
+        number: 9,
+        names: 80,
+        edges: 700,
+        free: 6_000,
+        retired: 50_000,
+        used: 4,
+    };
+    stat_line(lines, stat)
+}
+
+#[test]
+fn appends_a_line_for_each_record(rt: HostRuntime) {
+    let mut lines = String::new(rt.alloc());
+    let appended = append_each(&mut lines);
+    holds(
+        &rt,
+        appended,
+        lines.as_str(),
+        "commit v=65536 ins=1 upd=2 rem=1 abs=3 ovf=1\nopen 15 v=12\nclose 15\n\
+         collect floor=3 recycled=40 retired=500\n\
+         stat v=9 names=80 edges=700 free=6000 retired=50000 used=4\n",
+    );
+}
+
+// Adds a text that is a name to a book.
+fn add(rt: &impl Abort, book: &mut NameBook, name: &str) {
+    assert!(rt; is_name(name));
+    assert!(rt; book.add(name).is_ok());
+}
+
+// The lines of a reply about three vertices, in slot 1.
+fn replies(rt: &(impl Abort + AllocGlobal), reply: &NumberedReply, text: &str) {
+    let mut book = NameBook::new(rt.alloc(), 3);
+    add(rt, &mut book, "ann");
+    add(rt, &mut book, "bob");
+    add(rt, &mut book, "cat");
+    let mut lines = String::new(rt.alloc());
+    let appended = reply_lines(&mut lines, 1, &book, reply);
+    holds(rt, appended, lines.as_str(), text);
+}
+
+#[test]
+fn tells_levels(rt: HostRuntime) -> Result<(), Fail> {
+    let levels = List::of(vec![in rt.alloc(); Some(1), None, Some(0)]?);
+    replies(
+        &rt,
+        &NumberedReply::Levels(levels),
+        "bfs 1 reached=2\nann 1\ncat 0\n",
+    );
+    Ok(())
+}
+
+#[test]
+fn tells_labels(rt: HostRuntime) -> Result<(), Fail> {
+    let labels = List::of(vec![in rt.alloc(); VertexId(0), VertexId(1), VertexId(0)]?);
+    replies(
+        &rt,
+        &NumberedReply::Labels(labels),
+        "comp 1 parts=2\nann ann\nbob bob\ncat ann\n",
+    );
+    Ok(())
+}
+
+#[test]
+fn tells_core_numbers(rt: HostRuntime) -> Result<(), Fail> {
+    let numbers = List::of(vec![in rt.alloc(); 1, 3, 2]?);
+    replies(
+        &rt,
+        &NumberedReply::Cores(numbers),
+        "core 1 max=3\nann 1\nbob 3\ncat 2\n",
+    );
+    Ok(())
+}
+
+// What a vertex has.
+fn degree(outgoing: u32, incoming: u32, out_weight: i64) -> Degree {
+    Degree {
+        outgoing,
+        incoming,
+        out_weight,
+    }
+}
+
+#[test]
+fn tells_degrees(rt: HostRuntime) -> Result<(), Fail> {
+    let degrees = List::of(vec![in rt.alloc();
+        degree(2, 0, -7),
+        degree(0, 1, 0),
+        degree(1, 2, 12),
+    ]?);
+    replies(
+        &rt,
+        &NumberedReply::Degrees(degrees),
+        "deg 1 edges=3\nann 2 0 -7\nbob 0 1 0\ncat 1 2 12\n",
+    );
+    Ok(())
+}
+
+#[test]
+fn tells_one_edge_and_none(rt: HostRuntime) {
+    replies(
+        &rt,
+        &NumberedReply::OneEdge(Some((-5, 10, 20))),
+        "edge 1 -5 10 20\n",
+    );
+    replies(&rt, &NumberedReply::OneEdge(None), "edge 1 none\n");
+}

@@ -1,0 +1,26 @@
+use mir.Val.{bool_byte}
+use Rattle.std.proofs.Common.{◌+◌, ◌<◌, ◌≤◌, ◌∙◌, length, ap, arith}
+use Rattle.std.specs.List.{filter_map}
+use Rattle.graph_model.specs.Answer.{level_row}
+use Rattle.script_lines.proofs.TableRows.{at_most_one, reached_more}
+use Rattle.version_answers.proofs.NamedRows.{rows_all}
+use Rattle.script_lines.proofs.tables.count_reached.Goals as goal
+
+pub loop-vertex-preserved : goal.loop-vertex-preserved
+loop-vertex-preserved c =
+    let names = c.args.names.now.names in
+    let levels = c.args.levels.now in
+    let k = c.loop-vertex.vertex in
+    let left : k < length names = omega (arith, c.loop-vertex-test.true, c.min-count.ensures, c.len.ensures.value) in
+    let right : k < length levels = omega (arith, c.loop-vertex-test.true, c.min-count.ensures) in
+    let one : c.from-reached.result ≤ 1 = rw c.from-reached.ensures (at_most_one c.is_some.result) in (
+      ap (λ n. c.loop-vertex.reached + n) (c.from-reached.ensures ∙ ap bool_byte c.is_some.ensures)
+          ∙ reached_more names levels c.loop-vertex.reached k _ c.loop-vertex.invariant.0 left right,
+      omega (arith, one, c.loop-vertex.invariant.1),
+    )
+
+pub returns : goal.returns
+returns c =
+    c.loop-vertex.invariant.0 ∙ ap (λ rows. length (filter_map level_row rows))
+    (rows_all c.args.names.now.names c.args.levels.now c.loop-vertex.vertex
+    (omega (arith, c.loop-vertex.auto.vertex-end, c.loop-vertex-test.false, c.min-count.ensures, c.len.ensures.value)))

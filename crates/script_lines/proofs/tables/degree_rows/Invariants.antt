@@ -1,0 +1,9 @@
+use Rattle.std.proofs.Common.{◌≡◌, ◌++◌, take, string_bytes}
+use Rattle.std.specs.Prelude.{zip}
+use Rattle.std.specs.List.{flat_map}
+use Rattle.script_lines.specs.Lines.{degree_line}
+use Rattle.script_lines.proofs.tables.degree_rows.Given as goal
+
+abbrev pub invariant-loop-vertex : goal.invariant-loop-vertex
+invariant-loop-vertex l = string_bytes l.lines
+    ≡ string_bytes l.initial.lines ++ flat_map degree_line (take l.vertex (zip l.names.names l.degrees))

@@ -1,0 +1,12 @@
+use Rattle.std.proofs.Common.{◌≡◌, ◌++◌, take, string_bytes}
+use Rattle.std.specs.Prelude.{zip}
+use Rattle.std.specs.List.{flat_map}
+use Rattle.graph_levels.specs.Vertices.{numbers_of}
+use Rattle.graph_model.specs.Answer.{names_of}
+use Rattle.script_lines.specs.Lines.{label_line}
+use Rattle.script_lines.proofs.tables.label_rows.Given as goal
+
+abbrev pub invariant-loop-vertex : goal.invariant-loop-vertex
+invariant-loop-vertex l = string_bytes l.lines
+    ≡ string_bytes l.initial.lines
+    ++ flat_map label_line (take l.vertex (zip l.names.names (names_of l.names.names (numbers_of l.labels))))

@@ -1,0 +1,10 @@
+use Rattle.std.proofs.Common.{◌≡◌, ◌++◌, take, string_bytes}
+use Rattle.std.specs.Prelude.{zip}
+use Rattle.std.specs.List.{filter_map, flat_map}
+use Rattle.graph_model.specs.Answer.{level_row}
+use Rattle.script_lines.specs.Lines.{number_line}
+use Rattle.script_lines.proofs.tables.level_rows.Given as goal
+
+abbrev pub invariant-loop-vertex : goal.invariant-loop-vertex
+invariant-loop-vertex l = string_bytes l.lines
+    ≡ string_bytes l.initial.lines ++ flat_map number_line (filter_map level_row (take l.vertex (zip l.names.names l.levels)))

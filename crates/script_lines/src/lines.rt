@@ -1,0 +1,92 @@
+//! A record's line, appended to a buffer. `AllocError` where the buffer could not grow: what it held before stands, and behind it
+//! there may be a part of the line.
+
+ghost use Rattle.std.specs.Prelude.{◌≡◌, ◌++◌, OnOk, count_by, string_bytes};
+ghost use Rattle.script_lines.specs.Lines as lines_of;
+
+use graph_model::Outcome;
+use std::alloc::AllocError;
+use stream_store::{Collected, Stat};
+
+/// Appends the line of a batch that made this version: how many of its operations had each outcome.
+pub fn commit_line(lines: &mut String, version: u64, outcomes: &[Outcome]) -> Result<(), AllocError>
+    ensures { OnOk result (string_bytes lines.new ≡ string_bytes lines.old ++ lines_of.commit_line version outcomes.now) }
+{
+    let inserted = count_of(outcomes, Outcome::Inserted);
+    let updated = count_of(outcomes, Outcome::Updated);
+    let removed = count_of(outcomes, Outcome::Removed);
+    let absent = count_of(outcomes, Outcome::Absent);
+    let overflow = count_of(outcomes, Outcome::Overflow);
+    write!(
+        lines,
+        "commit v={version} ins={inserted} upd={updated} rem={removed} abs={absent} ovf={overflow}\n"
+    )
+}
+
+fn count_of(outcomes: &[Outcome], wanted: Outcome) -> usize
+    ensures { result ≡ count_by (lines_of.is_outcome wanted) outcomes.now }
+{
+    outcomes
+        .iter()
+        .filter(|outcome| **outcome == wanted)
+        .count()
+}
+
+/// Appends the line of a slot that holds this version from now on.
+pub fn open_line(lines: &mut String, slot: u8, version: u64) -> Result<(), AllocError>
+    ensures { OnOk result (string_bytes lines.new ≡ string_bytes lines.old ++ lines_of.open_line slot version) }
+{
+    write!(lines, "open {slot} v={version}\n")
+}
+
+/// Appends the line of a slot that was released.
+pub fn close_line(lines: &mut String, slot: u8) -> Result<(), AllocError>
+    ensures { OnOk result (string_bytes lines.new ≡ string_bytes lines.old ++ lines_of.close_line slot) }
+{
+    write!(lines, "close {slot}\n")
+}
+
+/// Appends the line of a collection.
+pub fn collect_line(lines: &mut String, collected: Collected) -> Result<(), AllocError>
+    ensures { OnOk result (string_bytes lines.new ≡ string_bytes lines.old
+        ++ lines_of.collect_line collected.floor collected.recycled collected.retired) }
+{
+    let floor = collected.floor;
+    let recycled = collected.recycled;
+    let retired = collected.retired;
+    write!(
+        lines,
+        "collect floor={floor} recycled={recycled} retired={retired}\n"
+    )
+}
+
+/// Appends the line of the store's numbers.
+pub fn stat_line(lines: &mut String, stat: Stat) -> Result<(), AllocError>
+    ensures { OnOk result (string_bytes lines.new ≡ string_bytes lines.old
+        ++ lines_of.stat_line stat.number stat.names stat.edges stat.free stat.retired stat.used) }
+{
+    let number = stat.number;
+    let names = stat.names;
+    let edges = stat.edges;
+    let free = stat.free;
+    let retired = stat.retired;
+    let used = stat.used;
+    write!(
+        lines,
+        "stat v={number} names={names} edges={edges} free={free} retired={retired} used={used}\n"
+    )
+}
+
+/// Appends the line of one edge: its weight, first and recent time; and of none.
+pub(crate) fn edge_line(
+    lines: &mut String,
+    slot: u8,
+    shown: Option<(i64, u64, u64)>,
+) -> Result<(), AllocError>
+    ensures { OnOk result (string_bytes lines.new ≡ string_bytes lines.old ++ lines_of.edge_line slot shown) }
+{
+    match shown {
+        None => write!(lines, "edge {slot} none\n"),
+        Some((weight, first, recent)) => write!(lines, "edge {slot} {weight} {first} {recent}\n"),
+    }
+}

@@ -1,0 +1,5 @@
+pub mod Options
+pub mod OneFault
+pub mod Asked
+pub mod Served
+pub mod HelpText

@@ -1,0 +1,22 @@
+use Rattle.std.proofs.Common.{refl}
+use Rattle.clap.proofs.OnLiterals.{clap_on_literals}
+use Rattle.stinger_program.proofs.program.law_options.Goals as goal
+
+pub returns : goal.returns
+unfolding clap_on_literals
+returns c = record {
+  workers = (refl, (refl, (refl, tt)));
+  most_workers = (refl, (refl, tt));
+  blocks = (refl, (refl, tt));
+  most_blocks = (refl, (refl, tt));
+  seats = (refl, (refl, tt));
+  most_seats = (refl, (refl, tt));
+  all = (refl, (refl, (refl, (refl, (refl, (refl, tt))))));
+  workers_past = (refl, (refl, (refl, (refl, (refl, (refl, (refl, tt)))))));
+  blocks_past = (refl, (refl, (refl, (refl, (refl, tt)))));
+  seats_past = (refl, (refl, (refl, (refl, tt))));
+  twice = (refl, (refl, (refl, tt)));
+  without_value = (refl, (refl, (refl, (refl, tt))));
+  elsewhere = (refl, (refl, (refl, (refl, (refl, (refl, (refl, tt)))))));
+  help = (refl, (refl, tt));
+}

@@ -1,0 +1,238 @@
+-- The program over its arguments: what they ask for, and what is done and told.
+use Rattle.std.specs.Prelude.{◌≡◌, ◌⊎◌, ◌==◌, ◌++◌, ◌&&◌, ◌||◌, ℕ, Bool, true, false, codes, List, [], ◌∷◌, slice_get}
+use Rattle.std.specs.Prelude.{if◌then◌else◌, map, IfSome, Option, None, Some, Result, Ok, Err, option_and_then}
+use Rattle.std.specs.Str.{bytes_eq, chars}
+use Rattle.std.specs.Str.Parse.{digits_value, without_leading_plus}
+use Rattle.std.specs.Option.{option_map_or}
+use Rattle.clap.specs.Faults.{fault_of}
+use Rattle.clap.specs.Kinds.{Kinds}
+use Rattle.clap.specs.Lexer.{long_of, short_of}
+use Rattle.clap.specs.Simple.{App, new_app, new_rule, new_shape, subcommand_of, with_rule, with_subcommand}
+use Rattle.clap.specs.Walk.{Row, Rule, one_of}
+use Rattle.clap.specs.ValueTests.{is_unsigned_in}
+use Rattle.clap.specs.declared.builder.value_parser.ValueParser.TheVariants.{Unsigned}
+use Rattle.clap.specs.declared.error.kind.ErrorKind.{ErrorKind}
+use Rattle.clap.specs.declared.error.kind.ErrorKind.TheVariants.{DisplayHelp}
+use Rattle.feed_csv.specs.Records.{records_of}
+use Rattle.stream_store.specs.Configs.{ConfigView, IsWithinLimits}
+use Rattle.stream_store.specs.declared.config.BadConfig.{BadConfig}
+use Rattle.stinger_program.specs.declared.program.Sizes.{Sizes}
+use Rattle.stinger_program.specs.declared.program.Order.{Order}
+use Rattle.stinger_program.specs.declared.program.Order.TheVariants as order
+use Rattle.stinger_server.specs.declared.script.ServeFault.{ServeFault}
+use Rattle.stinger_server.specs.declared.script.Summary.{Summary}
+use Rattle.stinger_server.specs.Runs.{is_write}
+use Rattle.stinger_server.specs.States.{set_up}
+use Rattle.stinger_server.specs.Texts.{IsText}
+use Rattle.stinger_server.specs.Writes.{AppendsPart, AppendsSome}
+
+-- 4 workers, 16,384 blocks and 2 seats
+abbrev pub default_sizes : ConfigView
+default_sizes = record { workers = 4; blocks = 16384; seats = 2 }
+
+-- what arguments may ask for: a script served, help, the version, or nothing that there is
+pub data Asked : Type 0 where
+  Serve : ConfigView → Asked
+  Help : Asked
+  Version : Asked
+  Usage : Asked
+
+-- ---- the command line
+
+-- an option whose value is a whole number from `least` to `most`
+abbrev pub size_rule : List ℕ → ℕ → ℕ → List ℕ → Rule
+size_rule name least most default = record (new_rule name) {
+  long = Some name;
+  value_names = 1;
+  parser = Some (Unsigned least most);
+  defaults = default ∷ [];
+}
+
+-- the subcommand `run`, with its three options
+abbrev pub run_app : App
+run_app = with_rule
+    (with_rule (with_rule (new_app (codes "run")) (size_rule (codes "workers") 1 8 (codes "4")))
+    (size_rule (codes "blocks") 16 65536 (codes "16384")))
+    (size_rule (codes "seats") 1 16 (codes "2"))
+
+-- the command `stinger`, with its subcommand `run`
+abbrev pub program : App
+program =
+    let top = record (new_shape (codes "stinger")) {
+      no_binary_name = true;
+      disable_help_subcommand = true;
+      subcommand_required = true;
+    } in
+    with_subcommand (record { top = top; subs = [] }) run_app.top
+
+-- `help`, whatever follows it, stands for `--help`
+abbrev pub without_help : List (List ℕ) → List (List ℕ)
+without_help [] = []
+without_help (argument ∷ rest) = if bytes_eq (codes "help") argument then codes "--help" ∷ [] else argument ∷ rest
+
+-- ---- what arguments ask for
+
+-- the number from `least` to `most` that an option's text stands for
+abbrev pub number_within : ℕ → ℕ → Option (List ℕ) → Option ℕ
+number_within least most text = option_and_then
+    (λ t. if is_unsigned_in least most t then Some (digits_value 10 (without_leading_plus t)) else None) text
+
+-- the sizes that the options of `run` stand for
+abbrev pub sizes_of : List Row → Option ConfigView
+sizes_of options =
+    option_and_then (λ workers. option_and_then (λ blocks. option_and_then
+    (λ seats. Some (record { workers = workers; blocks = blocks; seats = seats }))
+    (number_within 1 16 (one_of (codes "seats") options)))
+    (number_within 16 65536 (one_of (codes "blocks") options)))
+    (number_within 1 8 (one_of (codes "workers") options))
+
+-- an error of the command line is a wish for help, or a mistake
+abbrev pub is_wish_for_help : ErrorKind → Bool
+is_wish_for_help DisplayHelp = true
+is_wish_for_help _ = false
+
+abbrev pub asked_by_kind : ErrorKind → Asked
+asked_by_kind kind = if is_wish_for_help kind then Help else Usage
+
+-- a command line without an error has a script served
+abbrev pub asked_by : Kinds → Option ConfigView → Asked
+asked_by [] (Some sizes) = Serve sizes
+asked_by [] None = Usage
+asked_by (kind ∷ more) sizes = asked_by_kind kind
+
+-- what the arguments ask of the command `stinger`, as `clap` reads a command line
+abbrev pub asked_of_command : List (List ℕ) → Asked
+asked_of_command arguments =
+    asked_by (fault_of program (without_help arguments))
+    (option_and_then (λ run. sizes_of run.1) (subcommand_of program (without_help arguments)))
+
+-- `--version` comes first
+abbrev pub is_version : List (List ℕ) → Bool
+is_version [] = false
+is_version (argument ∷ rest) = bytes_eq (codes "--version") argument
+
+-- what the arguments after the program's name ask for
+abbrev pub asked : List (List ℕ) → Asked
+asked arguments = if is_version arguments then Version else asked_of_command arguments
+
+-- what the sizes of a run, a configuration and an order of the program stand for
+abbrev pub sizes_in : Sizes → ConfigView
+sizes_in sizes = record { workers = sizes.workers; blocks = sizes.blocks; seats = sizes.seats }
+
+abbrev pub sizes_given : Result ConfigView BadConfig → Option ConfigView
+sizes_given (Ok config) = Some config
+sizes_given (Err fault) = None
+
+abbrev pub asked_for : Order → Asked
+asked_for (order.Serve sizes) = Serve (sizes_in sizes)
+asked_for (order.Help text) = Help
+asked_for order.Version = Version
+asked_for (order.Usage text) = Usage
+
+-- ---- the same without options, in words of our own
+
+-- the first letter after one hyphen is an h
+abbrev pub begins_with_h : List ℕ → Bool
+begins_with_h flags = option_map_or (λ c. 104 == c) (slice_get (chars flags) 0) false
+
+-- `--help`, or `-h`, behind which more letters mean nothing
+abbrev pub is_help_flag : Option (List ℕ × Option (List ℕ)) → Option (List ℕ) → Bool
+is_help_flag (Some (name, None)) flags = bytes_eq (codes "help") name
+is_help_flag (Some (name, Some value)) flags = false
+is_help_flag None (Some flags) = begins_with_h flags
+is_help_flag None None = false
+
+abbrev pub asks_for_help : List ℕ → Bool
+asks_for_help argument = is_help_flag (long_of argument) (short_of argument)
+
+-- behind `run`: nothing, or `--` alone, or a flag for help
+abbrev pub plainly_asked_of_run : List (List ℕ) → Asked
+plainly_asked_of_run [] = Serve default_sizes
+plainly_asked_of_run (argument ∷ []) =
+    if bytes_eq argument (codes "--") then Serve default_sizes
+    else (if asks_for_help argument then Help else Usage)
+plainly_asked_of_run (argument ∷ next ∷ rest) = if asks_for_help argument then Help else Usage
+
+-- what the arguments ask of the command `stinger`, where `run` has no options
+abbrev pub plainly_asked_of_command : List (List ℕ) → Asked
+plainly_asked_of_command [] = Usage
+plainly_asked_of_command (argument ∷ rest) =
+    if bytes_eq (codes "run") argument then plainly_asked_of_run rest
+    else (if bytes_eq (codes "help") argument then Help else (if asks_for_help argument then Help else Usage))
+
+abbrev pub plainly_asked : List (List ℕ) → Asked
+plainly_asked arguments = if is_version arguments then Version else plainly_asked_of_command arguments
+
+-- the argument is `--workers`, `--blocks` or `--seats`, with a value behind `=` or without
+abbrev pub is_option : List ℕ → Bool
+is_option argument = option_map_or
+    (λ option. bytes_eq (codes "workers") option.0
+    || (bytes_eq (codes "blocks") option.0 || bytes_eq (codes "seats") option.0))
+    (long_of argument) false
+
+-- an option comes first behind `run`
+abbrev pub begins_with_option : List (List ℕ) → Bool
+begins_with_option (command ∷ argument ∷ rest) = bytes_eq (codes "run") command && is_option argument
+begins_with_option arguments = false
+
+-- all other arguments are read as if there were no options
+abbrev pub ReadsPlainly : Type 0
+ReadsPlainly = (arguments : List (List ℕ)) → begins_with_option arguments ≡ false → asked arguments ≡ plainly_asked arguments
+
+-- a script is served with sizes within their limits alone
+abbrev pub ServesWithinLimits : Type 0
+ServesWithinLimits = (arguments : List (List ℕ)) → (sizes : ConfigView) → asked arguments ≡ Serve sizes
+    → IsWithinLimits sizes.workers sizes.blocks sizes.seats
+
+-- the arguments of a line, which single blanks part
+abbrev pub arguments_from : List ℕ → List ℕ → List (List ℕ)
+arguments_from argument [] = argument ∷ []
+arguments_from argument (byte ∷ rest) =
+    if byte == 32 then argument ∷ arguments_from [] rest else arguments_from (argument ++ byte ∷ []) rest
+
+abbrev pub arguments_of : List ℕ → List (List ℕ)
+arguments_of line = arguments_from [] line
+
+-- each of these lists of arguments asks for that
+abbrev pub EachAsks : Asked → List (List (List ℕ)) → Type 0
+EachAsks wanted [] = Unit {0}
+EachAsks wanted (arguments ∷ more) = (asked arguments ≡ wanted) × EachAsks wanted more
+
+-- the arguments of each of these lines ask for a script served with so many workers, blocks and seats
+abbrev pub EachServes : ℕ → ℕ → ℕ → List (List ℕ) → Type 0
+EachServes workers blocks seats lines =
+    EachAsks (Serve (record { workers = workers; blocks = blocks; seats = seats })) (map arguments_of lines)
+
+-- the arguments of each of these lines ask for nothing that there is
+abbrev pub EachIsRefused : List (List ℕ) → Type 0
+EachIsRefused lines = EachAsks Usage (map arguments_of lines)
+
+-- ---- what is done and told
+
+-- the status of a run: 0 where it came to the end of the script without an error line
+abbrev pub status_of : Result Summary ServeFault → ℕ
+status_of (Ok summary) = if summary.errors == 0 then 0 else 1
+status_of (Err fault) = 1
+
+-- standard error is as it was; or, where the output could not be written, it grew by a first part of the line that says so
+abbrev pub IsNoted : {F : Type 0} → (F → Option (List ℕ)) → List ℕ → Bool → F → F → Type 0
+IsNoted contents line false old new = new ≡ old
+IsNoted contents line true old new = AppendsPart (contents old) (contents new) line
+
+-- the bytes that were to be read were served, in a run of these sizes: the run came to this, with its status, its text, and
+-- its line on standard error
+pub record IsServed {F : Type 0} (sizes : ConfigView) (remaining : Option (List ℕ)) (status : ℕ) (old new : Option (List ℕ))
+    (contents : F → Option (List ℕ)) (line : List ℕ) (faults faults' : F) : Type 0 where
+  pub outcome : Result Summary ServeFault
+  pub ends : status ≡ status_of outcome
+  pub text : IfSome remaining (λ bytes. (done : ℕ) × AppendsSome old new (IsText (set_up sizes) (records_of bytes) done outcome))
+  pub noted : IsNoted contents line (is_write outcome) faults faults'
+
+abbrev pub EndsWith : List ℕ → List ℕ → Type 0
+EndsWith end text = (front : List ℕ) × (text ≡ front ++ end)
+
+-- such a text was told, with the status for it; or a part of one, with status 1
+abbrev pub IsTold : (List ℕ → Type 0) → ℕ → ℕ → Option (List ℕ) → Option (List ℕ) → Type 0
+IsTold IsSaid told status old new =
+    ((status ≡ told) × AppendsSome old new IsSaid)
+    ⊎ ((status ≡ 1) × ((text : List ℕ) × IsSaid text × AppendsPart old new text))

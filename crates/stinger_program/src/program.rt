@@ -1,0 +1,413 @@
+//! The program over its arguments.
+
+ghost use Rattle.std.specs.Prelude.{◌≡◌, ◌≢◌, ◌⊎◌, ◌++◌, ◌∷◌, [], codes, false, IfOk, map, OnOk, OnErr};
+ghost use Rattle.std.specs.Prelude.{option_and_then};
+ghost use Rattle.clap.specs.Words.{app_of, kind_of, rule_of, subcommand_rows_of};
+ghost use Rattle.stinger_program.specs.Program.{Asked, EachAsks, EachIsRefused, EachServes, EndsWith, IsServed, IsTold};
+ghost use Rattle.stinger_program.specs.Program.{ReadsPlainly, ServesWithinLimits, arguments_of};
+ghost use Rattle.stream_store.specs.Configs.{ConfigView};
+ghost use Rattle.stinger_program.specs.Program.{asked, asked_by_kind, asked_for, asked_of_command, default_sizes};
+ghost use Rattle.stinger_program.specs.Program.{is_version, program, size_rule, sizes_given, sizes_in, sizes_of, without_help};
+ghost use Rattle.stinger_server.specs.Writes.{AppendsPart};
+
+use clap::builder::ValueParser;
+use clap::error::ErrorKind;
+use clap::{Arg, ArgMatches, Command, Error};
+use std::alloc::AllocError;
+use std::io::{Read, Write};
+use std::sync::Wait;
+use std::thread::Threads;
+use stinger_server::{BadConfig, Config, ServeFault, Unwritten, serve, write_text};
+
+// The whole input was read and no record was refused, or the text that was asked for was written.
+const DONE: u8 = 0;
+
+// Some record was refused, or the run broke off.
+const FAULTY: u8 = 1;
+
+// The arguments are wrong.
+const USAGE: u8 = 2;
+
+const ABOUT: &str =
+    "A store of a directed graph that changes by batches, with held snapshots (STINGER, HPEC 2012).";
+
+const WORKERS: &str = "How many workers apply a batch, from 1 to 8";
+
+const BLOCKS: &str = "How many blocks hold edges, from 16 to 65536";
+
+const SEATS: &str = "How many slots there are, from 1 to 16";
+
+const VERSION: &str = "stinger 0.1.0\n";
+
+// What stands on standard error where the output could not be written.
+const UNWRITTEN: &str = "error: the output can't be written\n";
+
+const NOT_TEXT: &str = "error: an argument is not UTF-8\n";
+
+// What stands at the end of each help.
+const FORMATS: &str = "
+A script is comma-separated records (RFC 4180), one a line, without a header. A field may
+be quoted, and nothing is trimmed. Each record, and below it what it prints:
+
+  i,<kind>,<source>,<target>,<weight>,<time>   inserts an edge into the pending batch, or sets
+                                               the weight of the one that is there
+  a,<kind>,<source>,<target>,<amount>,<time>   adds to an edge's weight, or inserts the edge
+  r,<kind>,<source>,<target>                   removes an edge
+  commit                                       applies the pending batch, also an empty one
+      commit v=<version> ins=<n> upd=<n> rem=<n> abs=<n> ovf=<n>
+  open,<slot>                                  holds the last version in a slot
+      open <slot> v=<version>
+  close,<slot>                                 releases it
+      close <slot>
+  bfs,<slot>,<source>,<kind or *>,<lo>,<hi>    levels from the source, over the edges with a recent time in
+                                               lo to hi: the least numbers of edges on a walk from it
+      bfs <slot> reached=<n>, and then a line for each vertex that was reached: <name> <level>
+  comp,<slot>,<kind or *>,<lo>,<hi>            labels, over the edges of such a time in either direction: the
+                                               first vertex of those that a walk joins
+      comp <slot> parts=<n>, and then a line for each vertex: <name> <name of its label>
+  core,<slot>,<kind or *>,<lo>,<hi>            core numbers, over them: the greatest k so that the vertex is in a
+                                               set of which each has k neighbors in the set
+      core <slot> max=<n>, and then a line for each vertex: <name> <core number>
+  deg,<slot>,<kind or *>,<lo>,<hi>             degrees over the edges with a recent time in lo to hi
+      deg <slot> edges=<n>, and then a line for each vertex: <name> <out> <in> <weight out>
+  edge,<slot>,<kind>,<source>,<target>         one edge: its weight, first and recent time
+      edge <slot> <weight> <first> <recent>, or edge <slot> none
+  the end of the input
+      end pending=<n>, where operations are pending
+
+A batch inserts, updates and removes edges in its order: a removal may find none (abs), and
+an edge whose weight would leave its limits stays as it was (ovf).
+
+Limits: a name has 1 to 64 bytes from ! to ~, and a kind is not *. A weight or an amount
+is from -1099511627776 to 1099511627776. A time is from 0 to 9223372036854775807. A slot is
+a whole number below that of the seats, which `--seats` gives (2 without it). A batch has at
+most 4,096 operations, a graph 65,536 names and 64 kinds. A script has fewer than 1,000,000
+records.
+
+A session, with what each record prints beside it:
+
+  i,knows,ann,bob,5,10
+  commit                           commit v=1 ins=1 upd=0 rem=0 abs=0 ovf=0
+  open,0                           open 0 v=1
+  edge,0,knows,ann,bob             edge 0 5 10 10
+
+A refused record prints `error <record> <Word>`, where the first record is 1 and blank lines
+aren't counted, and the run goes on. It changes nothing, but a refused commit gives its batch up. The words:
+BadCommand, BadFields, BadName, BadWeight, BadTime, BadSlot, NotOpen, AlreadyOpen,
+BadWindow, NoKind, NoVertex, BatchFull, NamesFull, KindsFull. Two more end the run: Read,
+where the input can't be read or has a record too many, and Memory.
+
+Status: 0 where the script was read to its end without an error line, 1 with an error line
+or where the run broke off, 2 for wrong arguments. `stinger help` is `stinger --help`, and
+`stinger --version` tells the version.
+";
+
+// What stands at the end of what is said of wrong arguments.
+const HINT: &str = "\
+`stinger run` reads a script on standard input. `stinger --help` says what a script is.
+";
+
+static HELP_FLAG: [&str; 1] = ["--help"];
+
+/// How many workers, blocks and seats a run has.
+#[derive(Clone, Copy, Debug, PartialEq, Eq)]
+pub(crate) struct Sizes {
+    workers: usize,
+    blocks: u32,
+    seats: usize,
+}
+
+/// What the arguments ask for, with the text that clap has for it.
+#[derive(Debug, Drop)]
+pub(crate) enum Order {
+    Serve(Sizes),
+    Help(String),
+    Version,
+    Usage(String),
+}
+
+/// The whole program over the arguments after its name, with `faults` as its standard error: `run` serves `reader`
+/// into `writer`; its options `--workers`, `--blocks` and `--seats`, each at most once, have a whole number from 1 to 8,
+/// from 16 to 65,536 and from 1 to 16, and 4, 16,384 and 2 where they are left out; `--help`, `-h`, `help` and
+/// `run --help` write a text to `writer` which ends with the formats of records; `--version` writes the version.
+///
+/// The answer is the exit status: 0 where the script was read to its end without an error line, or the whole text
+/// was written; 1 where there was an error line or the run broke off, and where memory or a writer failed outside
+/// the run; and 2, with a text on `faults` alone, where the arguments are none of these. Where `writer` failed, a
+/// line on `faults` says so. That a write, a flush or a growth failed is told by the writers and the memory, so no
+/// clause says when 1 comes in place of 0 or 2.
+pub fn stinger<'a, A: AllocGlobal + Threads + Wait + Sync, R: Read + Drop, W: Write, F: Write>(
+    rt: &A,
+    arguments: &'a [&'a str],
+    reader: R,
+    writer: &mut W,
+    faults: &mut F,
+) -> u8
+    ensures served { (sizes : ConfigView) → asked (map (λ argument. argument.now) arguments.now) ≡ Asked.Serve sizes
+        → ((result ≡ 1) × (writer.new ≡ writer.old) × (faults.new ≡ faults.old))
+        ⊎ IsServed sizes (R.remaining reader) result (W.contents writer.old) (W.contents writer.new)
+        F.contents UNWRITTEN.now faults.old faults.new }
+    ensures helped { asked (map (λ argument. argument.now) arguments.now) ≡ Asked.Help
+        → IsTold (EndsWith FORMATS.now) 0 result (W.contents writer.old) (W.contents writer.new) }
+    ensures version { asked (map (λ argument. argument.now) arguments.now) ≡ Asked.Version
+        → IsTold (λ text. text ≡ VERSION.now) 0 result (W.contents writer.old) (W.contents writer.new) }
+    ensures noted { (asked (map (λ argument. argument.now) arguments.now) ≡ Asked.Help)
+        ⊎ (asked (map (λ argument. argument.now) arguments.now) ≡ Asked.Version)
+        → (faults.new ≡ faults.old)
+        ⊎ ((result ≡ 1) × AppendsPart (F.contents faults.old) (F.contents faults.new) UNWRITTEN.now) }
+    ensures refused { asked (map (λ argument. argument.now) arguments.now) ≡ Asked.Usage
+        → (writer.new ≡ writer.old) × IsTold (EndsWith HINT.now) 2 result (F.contents faults.old) (F.contents faults.new) }
+{
+    match read_arguments(rt, arguments) {
+        Ok(Order::Serve(sizes)) => run_sizes(rt, sizes, reader, writer, faults),
+        Ok(Order::Help(text)) => show(writer, faults, text.as_str(), FORMATS),
+        Ok(Order::Version) => show(writer, faults, "", VERSION),
+        Ok(Order::Usage(text)) => tell(faults, text.as_str(), HINT, USAGE),
+        Err(_) => FAULTY,
+    }
+}
+
+/// Says on `faults` that an argument is not UTF-8, and answers the status for wrong arguments, 2; or 1, where that
+/// could not be written.
+pub fn refuse_arguments<F: Write>(faults: &mut F) -> u8
+    ensures { IsTold (λ text. text ≡ NOT_TEXT.now ++ HINT.now) 2 result (F.contents faults.old) (F.contents faults.new) }
+{
+    tell(faults, NOT_TEXT, HINT, USAGE)
+}
+
+/// What arguments ask for, at lists that are written out; that without options it is what our own words say; and that a
+/// script is served with sizes within their limits alone.
+pub fn law_arguments()
+    ensures serve { EachAsks (Asked.Serve default_sizes) ((codes "run" ∷ []) ∷ (codes "run" ∷ codes "--" ∷ []) ∷ []) }
+    ensures help { EachAsks Asked.Help ((codes "--help" ∷ []) ∷ (codes "-h" ∷ []) ∷ (codes "help" ∷ [])
+        ∷ (codes "help" ∷ codes "run" ∷ []) ∷ (codes "run" ∷ codes "--help" ∷ []) ∷ (codes "run" ∷ codes "-h" ∷ []) ∷ []) }
+    ensures version { EachAsks Asked.Version ((codes "--version" ∷ []) ∷ (codes "--version" ∷ codes "run" ∷ []) ∷ []) }
+    ensures usage { EachAsks Asked.Usage ([] ∷ (codes "fly" ∷ []) ∷ (codes "run" ∷ codes "now" ∷ [])
+        ∷ (codes "run" ∷ codes "run" ∷ []) ∷ (codes "--" ∷ codes "run" ∷ []) ∷ (codes "--help=run" ∷ []) ∷ (codes "-w" ∷ [])
+        ∷ (codes "" ∷ []) ∷ (codes "run" ∷ codes "--version" ∷ []) ∷ []) }
+    ensures plain { ReadsPlainly }
+    ensures limits { ServesWithinLimits }
+{}
+
+/// What the options of `run` ask for: each by itself, in both its forms and at both its limits, all three in any order,
+/// and the mistakes: a number past a limit, no number, no value, an option twice, a value too many.
+pub fn law_options()
+    ensures workers { EachServes 1 16384 2 (codes "run --workers 1" ∷ codes "run --workers=1" ∷ codes "run --workers 01 --"
+        ∷ []) }
+    ensures most_workers { EachServes 8 16384 2 (codes "run --workers 8" ∷ codes "run --workers=8" ∷ []) }
+    ensures blocks { EachServes 4 16 2 (codes "run --blocks 16" ∷ codes "run --blocks=16" ∷ []) }
+    ensures most_blocks { EachServes 4 65536 2 (codes "run --blocks 65536" ∷ codes "run --blocks=65536" ∷ []) }
+    ensures seats { EachServes 4 16384 1 (codes "run --seats 1" ∷ codes "run --seats=1" ∷ []) }
+    ensures most_seats { EachServes 4 16384 16 (codes "run --seats 16" ∷ codes "run --seats=16" ∷ []) }
+    ensures all { EachServes 2 64 3 (codes "run --workers 2 --blocks 64 --seats 3" ∷ codes "run --workers=2 --seats=3 --blocks=64"
+        ∷ codes "run --blocks 64 --workers 2 --seats 3" ∷ codes "run --blocks=64 --seats 3 --workers 2"
+        ∷ codes "run --seats 3 --workers=2 --blocks 64" ∷ codes "run --seats 3 --blocks 64 --workers 2" ∷ []) }
+    ensures workers_past { EachIsRefused (codes "run --workers 0" ∷ codes "run --workers 9" ∷ codes "run --workers=256"
+        ∷ codes "run --workers -1" ∷ codes "run --workers x" ∷ codes "run --workers " ∷ codes "run --workers=" ∷ []) }
+    ensures blocks_past { EachIsRefused (codes "run --blocks 15" ∷ codes "run --blocks 65537" ∷ codes "run --blocks 4294967312"
+        ∷ codes "run --blocks 1e3" ∷ codes "run --blocks " ∷ []) }
+    ensures seats_past { EachIsRefused (codes "run --seats 0" ∷ codes "run --seats 17" ∷ codes "run --seats 2.0"
+        ∷ codes "run --seats=" ∷ []) }
+    ensures twice { EachIsRefused (codes "run --workers 2 --workers 2" ∷ codes "run --blocks=64 --blocks 64"
+        ∷ codes "run --seats 1 --blocks 64 --seats 1" ∷ []) }
+    ensures without_value { EachIsRefused (codes "run --workers" ∷ codes "run --seats 3 --blocks" ∷ codes "run --seats"
+        ∷ codes "run --workers --seats 2" ∷ []) }
+    ensures elsewhere { EachIsRefused (codes "--workers 2 run" ∷ codes "--seats=1" ∷ codes "run 2" ∷ codes "run --workers 2 3"
+        ∷ codes "run -- --workers 2" ∷ codes "run --worker 2" ∷ codes "run -w 2" ∷ []) }
+    ensures help { EachAsks Asked.Help (arguments_of (codes "run --workers 2 --help") ∷ arguments_of (codes "run --seats=1 -h")
+        ∷ []) }
+{}
+
+/// Serves the reader in a run of these sizes; sizes past their limits are none that a run has.
+fn run_sizes<A: AllocGlobal + Threads + Wait + Sync, R: Read + Drop, W: Write, F: Write>(
+    rt: &A,
+    sizes: Sizes,
+    reader: R,
+    writer: &mut W,
+    faults: &mut F,
+) -> u8
+    ensures { ((result ≡ 1) × (writer.new ≡ writer.old) × (faults.new ≡ faults.old))
+        ⊎ IsServed (sizes_in sizes) (R.remaining reader) result (W.contents writer.old) (W.contents writer.new)
+        F.contents UNWRITTEN.now faults.old faults.new }
+{
+    match Config::new(sizes.workers, sizes.blocks, sizes.seats) {
+        Ok(config) => run(rt, config, reader, writer, faults),
+        Err(_) => FAULTY,
+    }
+}
+
+/// The sizes of a configuration.
+fn sizes_of_config(config: Config) -> Sizes
+    ensures { sizes_in result ≡ config }
+{
+    Sizes {
+        workers: config.workers(),
+        blocks: config.blocks(),
+        seats: config.seats(),
+    }
+}
+
+/// Serves the reader.
+fn run<A: AllocGlobal + Threads + Wait + Sync, R: Read + Drop, W: Write, F: Write>(
+    rt: &A,
+    config: Config,
+    reader: R,
+    writer: &mut W,
+    faults: &mut F,
+) -> u8
+    ensures { IsServed config (R.remaining reader) result (W.contents writer.old) (W.contents writer.new)
+        F.contents UNWRITTEN.now faults.old faults.new }
+{
+    match serve(rt, config, reader, writer) {
+        Ok(summary) if summary.errors == 0 => DONE,
+        Err(ServeFault::Write) => {
+            note(faults);
+            FAULTY
+        }
+        _ => FAULTY,
+    }
+}
+
+/// What the arguments ask for.
+fn read_arguments<'a, A: AllocGlobal>(rt: &A, arguments: &'a [&'a str]) -> Result<Order, AllocError>
+    ensures { IfOk result (λ order. asked_for order ≡ asked (map (λ argument. argument.now) arguments.now)) }
+{
+    if is_version(arguments) {
+        return Ok(Order::Version);
+    }
+    read_command(rt, arguments)
+}
+
+/// Whether `--version` comes first.
+fn is_version(arguments: &[&str]) -> bool
+    ensures { result ≡ is_version (map (λ argument. argument.now) arguments.now) }
+{
+    match arguments.first() {
+        Some(first) => "--version" == *first,
+        None => false,
+    }
+}
+
+/// What clap makes of the arguments.
+fn read_command<'a, A: AllocGlobal>(rt: &A, arguments: &'a [&'a str]) -> Result<Order, AllocError>
+    ensures { IfOk result (λ order. asked_for order ≡ asked_of_command (map (λ argument. argument.now) arguments.now)) }
+{
+    match command(rt)?.try_get_matches_from(without_help(arguments)) {
+        Ok(matches) => match configure(&matches) {
+            Ok(config) => Ok(Order::Serve(sizes_of_config(config))),
+            Err(error) => Ok(Order::Usage(format!(in rt.alloc(); "error: {error}\n")?)),
+        },
+        Err(error) => explain(rt, &error),
+    }
+}
+
+/// The configuration that the options of a run stand for.
+fn configure(matches: &ArgMatches<'_>) -> Result<Config, BadConfig>
+    ensures { sizes_given result ≡ option_and_then (λ run. sizes_of run.1) (subcommand_rows_of matches.now) }
+{
+    let (_, options) = matches.subcommand().ok_or(BadConfig)?;
+    let workers: usize = options.get_one("workers").ok_or(BadConfig)?;
+    let blocks: u32 = options.get_one("blocks").ok_or(BadConfig)?;
+    let seats: usize = options.get_one("seats").ok_or(BadConfig)?;
+    Config::new(workers, blocks, seats)
+}
+
+/// What an error of the command line asks for.
+fn explain<A: AllocGlobal>(rt: &A, error: &Error) -> Result<Order, AllocError>
+    ensures known { OnOk result (kind_of error.now ≢ ErrorKind.OutOfMemory) }
+    ensures order { IfOk result (λ order. asked_for order ≡ asked_by_kind (kind_of error.now)) }
+{
+    let kind = error.kind();
+    if kind == ErrorKind::OutOfMemory {
+        return Err(AllocError);
+    }
+    let text = error.to_string(rt.alloc())?;
+    match kind {
+        ErrorKind::DisplayHelp => Ok(Order::Help(text)),
+        _ => Ok(Order::Usage(text)),
+    }
+}
+
+/// `help` asks for what `--help` does, whatever follows it.
+fn without_help<'a>(arguments: &'a [&'a str]) -> &'a [&'a str]
+    ensures { map (λ argument. argument.now) result.now ≡ without_help (map (λ argument. argument.now) arguments.now) }
+{
+    match arguments.first() {
+        Some(&"help") => HELP_FLAG.as_slice(),
+        _ => arguments,
+    }
+}
+
+/// The command line, as clap sees it.
+fn command<'a, A: AllocGlobal>(rt: &A) -> Result<Command<'a>, AllocError>
+    ensures { IfOk result (λ command. app_of command ≡ program) }
+{
+    let workers = size(rt, "workers", 1, 8, "4", WORKERS);
+    let blocks = size(rt, "blocks", 16, 65_536, "16384", BLOCKS);
+    let seats = size(rt, "seats", 1, 16, "2", SEATS);
+    let run = Command::new(rt.alloc(), "run")
+        .about("Reads a script on standard input, and writes its lines on standard output")
+        .override_usage("stinger run [OPTIONS] < script")
+        .arg(workers)?
+        .arg(blocks)?
+        .arg(seats)?;
+    Command::new(rt.alloc(), "stinger")
+        .about(ABOUT)
+        .no_binary_name(true)
+        .disable_help_subcommand(true)
+        .subcommand_required(true)
+        .subcommand(run)
+}
+
+/// An option whose value is a whole number from `least` to `most`.
+fn size<'a, A: AllocGlobal>(
+    rt: &A,
+    name: &'a str,
+    least: u64,
+    most: u64,
+    default: &'a str,
+    help: &'a str,
+) -> Arg<'a>
+    ensures rule { rule_of result ≡ size_rule name.now least most default.now }
+    ensures local { result.global ≡ false }
+{
+    Arg::new(rt.alloc(), name)
+        .long(name)
+        .value_name("N")
+        .value_parser(ValueParser::unsigned(least, most))
+        .default_value(default)
+        .help(help)
+}
+
+/// Writes a text that was asked for, and then its end: the status is 0; or 1 where a write failed, and then a line on
+/// `faults` says so.
+fn show<W: Write, F: Write>(writer: &mut W, faults: &mut F, text: &str, end: &str) -> u8
+    ensures told { IsTold (λ told. told ≡ text.now ++ end.now) 0 result (W.contents writer.old) (W.contents writer.new) }
+    ensures noted { (faults.new ≡ faults.old)
+        ⊎ ((result ≡ 1) × AppendsPart (F.contents faults.old) (F.contents faults.new) UNWRITTEN.now) }
+{
+    match write_text(writer, text, end) {
+        Ok(()) => DONE,
+        Err(Unwritten) => {
+            note(faults);
+            FAULTY
+        }
+    }
+}
+
+/// Writes a text and then its end: the status is this one, or 1 where a write failed.
+fn tell<W: Write>(writer: &mut W, text: &str, end: &str, status: u8) -> u8
+    ensures { IsTold (λ told. told ≡ text.now ++ end.now) status result (W.contents writer.old) (W.contents writer.new) }
+{
+    match write_text(writer, text, end) {
+        Ok(()) => status,
+        Err(Unwritten) => FAULTY,
+    }
+}
+
+/// Says that the output could not be written, as far as that can be written.
+fn note<F: Write>(faults: &mut F)
+    ensures { AppendsPart (F.contents faults.old) (F.contents faults.new) UNWRITTEN.now }
+{
+    let _ = write_text(faults, "", UNWRITTEN);
+}

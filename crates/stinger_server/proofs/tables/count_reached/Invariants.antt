@@ -1,9 +1,0 @@
-use Rattle.std.proofs.Common.{◌≡◌, ◌≤◌, length, take}
-use Rattle.std.specs.Prelude.{zip}
-use Rattle.std.specs.List.{filter_map}
-use Rattle.graph_model.specs.Answer.{level_row}
-use Rattle.stinger_server.proofs.tables.count_reached.Given as goal
-
-abbrev pub invariant-loop-vertex : goal.invariant-loop-vertex
-invariant-loop-vertex l =
-    (l.reached ≡ length (filter_map level_row (take l.vertex (zip l.names.names l.levels)))) × (l.reached ≤ l.vertex)

@@ -1,7 +1,0 @@
-use Rattle.std.proofs.Common.{◌≡◌, take}
-use Rattle.std.specs.Prelude.{zip}
-use Rattle.stinger_server.specs.Lines.{greatest}
-use Rattle.stinger_server.proofs.tables.greatest.Given as goal
-
-abbrev pub invariant-loop-vertex : goal.invariant-loop-vertex
-invariant-loop-vertex l = l.most ≡ greatest (take l.vertex (zip l.names.names l.numbers))
