@@ -1,7 +1,7 @@
 //! Texts to the writer. A call here gives up exactly where the sink has failed, and then the sink takes no other. No
 //! memory is taken here.
 
-ghost use Rattle.std.specs.Prelude.{◌≡◌, false, true, is_err, OnOk, OnErr};
+ghost use Rattle.std.specs.Prelude.{◌≡◌, ◌++◌, false, true, is_err, OnOk, OnErr};
 ghost use Rattle.std.specs.Io.KnownBytes.{Appends};
 ghost use Rattle.script_lines.specs.Lines as lines_of;
 ghost use Rattle.stinger_server.specs.Writes.{AppendsPart, held};

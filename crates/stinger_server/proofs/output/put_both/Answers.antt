@@ -1,6 +1,6 @@
 use Rattle.stinger_server.proofs.TwoParts.{both_parts}
 use Rattle.stinger_server.proofs.Writing.{on_err, part_longer, part_then}
-use Rattle.stinger_server.proofs.program.put_both.Goals as goal
+use Rattle.stinger_server.proofs.output.put_both.Goals as goal
 
 pub returns-in_err-put-clause-part : goal.returns-in_err-put-clause-part
 returns-in_err-put-clause-part g c = on_err _ _ (part_longer _ _ c.args.text.now _ c.in_err-put.ensures.part)

@@ -10,7 +10,7 @@ returns-clause-obeys c = λ s shows.
       collect_done s c.args.self.now.desk.desk c.collect-collected.new.self.desk c.floor-floor.result
           c.collect-collected.result.recycled c.collect-collected.result.retired _ shows.desk
           c.collect-collected.ensures.collected floor c.collect-collected.ensures.recycled c.collect-collected.ensures.retired
-          (rw (c.requires.empty, c.collect-collected.ensures.floor) at c.in_ok-collect.ensures),
+          (rw (c.requires.empty, c.collect-collected.ensures.floor) at c.in_ok-collect_line.ensures),
       record {
         pending = shows.pending;
         desk = shows_collected s c.args.self.now.desk.desk c.collect-collected.new.self.desk c.floor-floor.result shows.desk
