@@ -5,3 +5,7 @@ use Rattle.version_shelf.proofs.readers.ShelfReader.look.Goals as goal
 
 pub returns-else-is_below : goal.returns-else-is_below
 returns-else-is_below c = subst (λ (x : ToldView). Begins c.args.self.now x) (sym c.self.view_is) (begins_self c.args.self.now)
+
+-- Its search is long where it fails.
+pub returns-then-is_below : goal.returns-then-is_below
+returns-then-is_below c = subst (λ (x : ToldView). Begins x c.in-Some.told) c.self.view_is c.if-is_below.ensures

@@ -1,4 +1,4 @@
-use Rattle.std.proofs.Common.{◌≡◌, ◌++◌, ◌∷◌, [], sym, ap, ◌∙◌}
+use Rattle.std.proofs.Common.{◌≡◌, ◌++◌, ◌∷◌, [], inl, inr, sym, ap, ◌∙◌}
 use Rattle.graph_version.specs.Versions.{VersionView}
 use Rattle.version_shelf.specs.Histories.{HistoryView, end_of}
 use Rattle.version_shelf.specs.Shelves.{ToldView, ShelfView, Begins}
@@ -34,3 +34,45 @@ invariant_of-self g c =
           (ap (λ (h : HistoryView). h.batches) same ∙ (batches ∙ sym more)) c.show_in.ensures.shown,
       c.show_in.ensures.view,
     )
+
+-- The searches of these two goals are long where they fail.
+
+pub returns-clause-posted : goal.returns-clause-posted
+returns-clause-posted g c =
+    let before : HistoryView = c.self.inside.history in
+    let batch = c.in-Some.batch.now in
+    let book : c.push.new.self.book ≡ before.book = c.push.ensures.book
+    ∙ ap (λ (h : HistoryView). h.book) c.again-history.ensures in
+    let batches : c.push.new.self.batches ≡ before.batches ++ batch ∷ [] = c.if-not-push.ensures.batches
+    ∙ ap (λ (h : HistoryView). h.batches ++ batch ∷ []) c.again-history.ensures in
+    let next : c.args.version.value.batches ≡ before.batches ++ c.requires.next.1.0 ∷ [] =
+    c.requires.next.1.1 ∙ ap (λ (s : ShelfView). s.posted ++ c.requires.next.1.0 ∷ []) (sym c.self.view_is) in
+    let ends : c.args.version.value.batches ≡ before.batches ++ batch ∷ [] =
+    ends_with_last c.args.version.value.batches before.batches c.in-Some.ensures.0 c.requires.next.1.0 batch next
+    (ap (λ (v : VersionView). v.batches) (sym c.deref-2.ensures) ∙ c.in-Some.ensures.1) in (
+      ap (λ (h : HistoryView). h.batches) c.again.ensures ∙ (batches ∙ sym ends),
+      λ i. record {
+        book = (book ∙ ap (λ (s : ShelfView). s.book) c.self.view_is) i;
+        version = c.args.version.value;
+      },
+    )
+
+pub returns-clause-shown : goal.returns-clause-shown
+returns-clause-shown g c =
+    let before : HistoryView = c.self.inside.history in
+    let batch = c.in-Some.batch.now in
+    let batches : c.push.new.self.batches ≡ before.batches ++ batch ∷ [] = c.if-not-push.ensures.batches
+    ∙ ap (λ (h : HistoryView). h.batches ++ batch ∷ []) c.again-history.ensures in
+    let next : c.args.version.value.batches ≡ before.batches ++ c.requires.next.1.0 ∷ [] =
+    c.requires.next.1.1 ∙ ap (λ (s : ShelfView). s.posted ++ c.requires.next.1.0 ∷ []) (sym c.self.view_is) in
+    let ends : c.args.version.value.batches ≡ before.batches ++ batch ∷ [] =
+    ends_with_last c.args.version.value.batches before.batches c.in-Some.ensures.0 c.requires.next.1.0 batch next
+    (ap (λ (v : VersionView). v.batches) (sym c.deref-2.ensures) ∙ c.in-Some.ensures.1) in
+    let more : c.in_ok-copy.copy.value.batches ≡ before.batches ++ batch ∷ [] =
+    ap (λ (v : VersionView). v.batches) c.in_ok-copy.ensures ∙ ends in
+    let kept : c.again.result.batches ≡ before.batches ++ batch ∷ [] =
+    ap (λ (h : HistoryView). h.batches) c.again.ensures ∙ batches in
+    elim c.show_in.ensures.shown [
+      | inl same ↦ inl (ap (λ (t : ToldView). t.version.batches) same ∙ ap (λ (s : ShelfView). s.shown) c.self.view_is)
+      | inr same ↦ inr (ap (λ (t : ToldView). t.version.batches) same ∙ more ∙ sym kept)
+    ]
