@@ -67,7 +67,6 @@ impl Drop for ShelfWriter {
 }
 
 /// A shelf that shows a version without batches, and its readers, 1 to 16. It waits for nobody.
-#[tactic(auto, using(crate::proofs::Openings::all_same_more))]
 pub fn shelf<R: Wait>(
     rt: &R,
     alloc: Global,
@@ -92,12 +91,30 @@ pub fn shelf<R: Wait>(
         end,
         history,
     };
+    let places = readers_of(&mut writer, alloc, &told, readers)?;
+    Ok((writer, places))
+}
+
+/// So many readers, each of which has learnt what was told.
+#[tactic(auto, using(crate::proofs::Openings::all_same_more))]
+fn readers_of(
+    writer: &mut ShelfWriter,
+    alloc: Global,
+    told: &Told,
+    readers: usize,
+) -> Result<Vec<ShelfReader>, ShelfError>
+    requires book { told.now.book ≡ writer.old.book }
+    requires opening { told.now.version.opening ≡ writer.old.opening }
+    ensures count { IfOk result (λ v. vec_len v ≡ readers) }
+    ensures readers { IfOk result (λ v. All (λ (x : ToldView). x ≡ told.now) v.items) }
+    ensures writer { writer.new ≡ writer.old }
+{
     let mut places = Vec::new(alloc);
     for _ in 0..readers {
-        let reader = writer.reader(alloc, &told)?;
+        let reader = writer.reader(alloc, told)?;
         places.push(reader).map_err(|_| ShelfError::OutOfMemory)?;
     }
-    Ok((writer, places))
+    Ok(places)
 }
 
 /// A writer's place that has seen what it shows.

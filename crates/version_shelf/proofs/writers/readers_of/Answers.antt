@@ -1,18 +1,12 @@
 use Rattle.std.proofs.Common.{◌≡◌, List, All, refl, sym, subst}
-use Rattle.std.specs.Arc.{arc_value}
 use Rattle.std.proofs.lemmas.List.Elements.{All-nil}
-use Rattle.graph_version.specs.declared.versions.Version.{Version}
 use Rattle.version_shelf.specs.Shelves.{ToldView}
-use Rattle.version_shelf.proofs.writers.shelf.Goals as goal
+use Rattle.version_shelf.proofs.writers.readers_of.Goals as goal
 
 -- Its search is long where it fails.
 pub loop-init : goal.loop-init
-loop-init g c =
-    let IsTold = λ (x : ToldView). x ≡ record {
-      book = c.again.result.book;
-      version =
-          arc_value {X = Version} c.in_ok-version.version;
-    } in (
+loop-init c =
+    let IsTold = λ (x : ToldView). x ≡ c.args.told.now in (
       c.new-places.ensures.len,
       subst (λ (xs : List ToldView). All IsTold xs) (sym c.new-places.ensures.items) (All-nil IsTold),
       refl,
