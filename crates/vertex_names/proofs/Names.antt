@@ -44,7 +44,8 @@ differs names name new k d in_range same =
     true≢false (sym (list_any_at (bytes_eq name) names k d in_range ((bytes_eq-Decides name (get_or names k d)).1 (sym same)))
     ∙ new)
 
-with_new : (names : List (List ℕ)) (name : List ℕ) → is_listed names name ≡ false → names ++ name ∷ [] ≡ with_name names name
+-- a name that is not listed goes last
+pub with_new : (names : List (List ℕ)) (name : List ℕ) → is_listed names name ≡ false → names ++ name ∷ [] ≡ with_name names name
 with_new names name new = ap (λ listed. if listed then names else names ++ name ∷ []) (sym new)
 
 -- a new name within the limit leaves a book

@@ -1,7 +1,8 @@
-use Rattle.std.proofs.Common.{◌≡◌, ◌∙◌, ◌++◌, ◌∷◌, ◌<◌, [], ℕ, List, length, false, sym, ap, subst, arith}
+use Rattle.std.proofs.Common.{◌≡◌, ◌∙◌, ◌++◌, ◌∷◌, ◌<◌, ◌+◌, [], ℕ, List, length, length-append, false, sym, ap, subst, arith}
 use Rattle.graph_model.specs.Answer.{is_listed}
+use Rattle.vertex_names.specs.Book.{Book}
 use Rattle.vertex_names.specs.Index.{text_hash, Stands}
-use Rattle.vertex_names.proofs.Names.{number_of-new, not_listed, IsBook-pushed, IsIndexed-kept, IsIndexed-pushed}
+use Rattle.vertex_names.proofs.Names.{number_of-new, not_listed, with_new, IsBook-pushed, IsIndexed-kept, IsIndexed-pushed}
 use Rattle.vertex_names.proofs.book.NameBook.add.Goals as goal
 
 pub invariant_of-self-in_err-enter : goal.invariant_of-self-in_err-enter
@@ -35,3 +36,22 @@ returns-clause-number c =
     let new : is_listed c.self.inside.texts c.args.name.now ≡ false =
     not_listed _ _ c.args.name.now c.self.view_is c.in_default-number_at.ensures in
     rw (← c.self.view_is) (c.len-number.ensures ∙ sym (number_of-new _ _ new))
+
+pub returns-clause-added : goal.returns-clause-added
+returns-clause-added c =
+    let names : List (List ℕ) = c.self.inside.texts in
+    let new : is_listed names c.args.name.now ≡ false =
+    not_listed _ _ c.args.name.now c.self.view_is c.in_default-number_at.ensures in
+    let pushed : c.push.new.self ≡ names ++ c.args.name.now ∷ [] =
+    c.in_ok-push.ensures.pushed ∙ ap (λ (n : List ℕ). names ++ n ∷ []) c.in_ok-text.ensures.ok in
+    rw (← c.self.view_is)
+    (ap (λ (all : List (List ℕ)). let b : Book = record { limit = c.self.inside.limit; names = all } in b)
+    (pushed ∙ with_new names c.args.name.now new))
+
+pub returns-clause-within : goal.returns-clause-within
+returns-clause-within c =
+    let names : List (List ℕ) = c.self.inside.texts in
+    let room : length names < c.self.inside.limit = omega (arith, c.len-number.ensures) in
+    let long : length c.push.new.self ≡ length names + 1 =
+    ap length c.in_ok-push.ensures.pushed ∙ length-append names _ in
+    omega (arith, room, long)
