@@ -1,6 +1,9 @@
-use Rattle.std.proofs.Common.{◌≡◌, ◌∙◌, ◌-◌, ◌++◌, ◌∷◌, [], ℕ, None, length, get_or, sym, ap, subst, arith}
-use Rattle.std.proofs.lemmas.Grind.{common_steps}
-use Rattle.std.proofs.lemmas.List.{get_or_read, length-map}
+use Rattle.std.proofs.Common.{◌≡◌, ◌∙◌, ◌-◌, ◌++◌, ◌∷◌, [], ℕ, None, length, get_or, map, sym, ap, subst, arith}
+use Rattle.std.proofs.lemmas.List.{get_or_read, length-map, map-append}
+use Rattle.std.specs.Arc.{arc_value}
+use Rattle.std.specs.declared.sync.Arc.{Arc}
+use Rattle.std.specs.declared.alloc.Global.{Global}
+use Rattle.edge_block.specs.declared.blocks.Block.{Block}
 use Rattle.block_pool.specs.Pools.{is_free}
 use Rattle.block_pool.specs.Kept.{statuses, status_from, popped}
 use Rattle.block_pool.specs.Bodies.{AreBodies}
@@ -8,6 +11,9 @@ use Rattle.block_pool.proofs.Tallies.{listed_at}
 use Rattle.block_pool.proofs.Grants.{popped_last}
 use Rattle.block_pool.proofs.BodyLaws.{bodies_set}
 use Rattle.block_pool.proofs.pool.gather.Goals as goal
+
+abbrev number_of : Arc Block Global → ℕ
+number_of b = (arc_value {X = Block} b).number
 
 pub body_of-requires-clause-within : goal.body_of-requires-clause-within
 body_of-requires-clause-within c =
@@ -38,5 +44,9 @@ loop-i-preserved c =
       granted = c.in_ok-push-2.ensures.items ∙ ap (λ ns. ns ++ c.index-number.result.now ∷ []) c.loop-i.invariant.granted
           ∙ ap (λ j. popped n.free.items n.free_len c.loop-i.i ++ j ∷ []) same
           ∙ sym (popped_last n.free.items n.free_len c.loop-i.i (omega (arith, c.loop-i-test.true, c.requires.enough)));
-      blocks = grind (arith, common_steps);
+      blocks = ap (map number_of) c.in_ok-push.ensures.items
+          ∙ map-append number_of c.loop-i.blocks.items (c.in_ok-body.body ∷ [])
+          ∙ ap (λ ns. ns ++ number_of c.in_ok-body.body ∷ []) c.loop-i.invariant.blocks
+          ∙ ap (λ j. c.loop-i.granted.items ++ j ∷ []) c.in_ok-body.ensures.number
+          ∙ sym c.in_ok-push-2.ensures.items;
     }
