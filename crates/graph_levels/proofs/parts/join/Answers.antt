@@ -2,7 +2,7 @@ use Rattle.std.proofs.Common.{◌<◌, arith, length, ◌∙◌, sym, ℕ}
 use Rattle.graph_model.specs.Graph.{Graph}
 use Rattle.graph_model.specs.Analyses.{Connects, Joins}
 use Rattle.graph_model.specs.declared.ids.Filter.{Filter}
-use Rattle.graph_levels.proofs.Trees.{respects_linked, linked_same, sound_set}
+use Rattle.graph_levels.proofs.Trees.{forest_set, respects_linked, linked_same, sound_set}
 use Rattle.graph_levels.proofs.Walks.{then, one_step, backward}
 use Rattle.graph_levels.proofs.parts.join.Goals as goal
 
@@ -47,3 +47,15 @@ returns-else-first-second-clause-sound c = λ f g sound j.
     let one = c.find-first.ensures.sound f g sound in
     let two = c.find-second.ensures.sound f g one.0 in
     sound_set f g ps r c.find-second.result lt (backward f g _ _ (around f g _ _ _ _ one.1 two.1 j)) two.0
+
+pub returns-then-first-second-clause-forest : goal.returns-then-first-second-clause-forest
+returns-then-first-second-clause-forest c =
+    let ps = c.find-second.new.parents in
+    let lt : c.find-second.result < length ps = omega arith in
+    forest_set ps c.find-second.result c.find-first.result lt (omega arith) c.find-second.ensures.forest
+
+pub returns-else-first-second-clause-forest : goal.returns-else-first-second-clause-forest
+returns-else-first-second-clause-forest c =
+    let ps = c.find-second.new.parents in
+    let lt : c.find-first.result < length ps = omega arith in
+    forest_set ps c.find-first.result c.find-second.result lt (omega arith) c.find-second.ensures.forest
