@@ -1,0 +1,5 @@
+use Rattle.std.proofs.Common.{rules}
+use Rattle.graph_version.proofs.lending.BlockNumbers.over.Goals as goal
+
+pub returns : goal.returns
+returns c = search rules
