@@ -28,3 +28,6 @@ returns-in_err-obey-in-Ok-Some-clause-turns g c =
     c.obey.new.self _ _ _ c.requires.ready c.in-Ok-Some.field-0-is c.in-Ok-Some.ensures.step
     c.in_err-obey-in-Ok-Some.ensures.does in
     first_of (search (rules, broken), grind (arith, common_steps, broken))
+
+pub returns-in_ok-last_line-in-Read-clause-turns : goal.returns-in_ok-last_line-in-Read-clause-turns
+returns-in_ok-last_line-in-Read-clause-turns g c = search rules
