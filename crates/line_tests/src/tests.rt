@@ -5,7 +5,7 @@ use graph_model::{Degree, List, Outcome, VertexId, is_name};
 use script_lines::{
     Word, close_line, collect_line, commit_line, open_line, reply_lines, stat_line,
 };
-use std::alloc::AllocError;
+use std::alloc::{AllocError, Global};
 use std::process::Abort;
 use std::test::Fail;
 use stream_store::{Collected, Stat};
@@ -34,6 +34,15 @@ fn holds(rt: &impl Abort, appended: Result<(), AllocError>, lines: &str, text: &
 }
 
 // A line of each kind that is no answer, one behind another.
+const EACH_LINE: &str = "commit v=65536 ins=1 upd=2 rem=1 abs=3 ovf=1\nopen 15 v=12\nclose 15\n\
+     collect floor=3 recycled=40 retired=500\n\
+     stat v=9 names=80 edges=700 free=6000 retired=50000 used=4\n";
+
+const LEVEL_LINES: &str = "bfs 1 reached=2\nann 1\ncat 0\n";
+
+const LABEL_LINES: &str = "comp 1 parts=2\nann ann\nbob bob\ncat ann\n";
+
+// Appends these lines.
 fn append_each(lines: &mut String) -> Result<(), AllocError> {
     let outcomes = [
         Outcome::Overflow,
@@ -69,14 +78,7 @@ fn append_each(lines: &mut String) -> Result<(), AllocError> {
 fn appends_a_line_for_each_record(rt: HostRuntime) {
     let mut lines = String::new(rt.alloc());
     let appended = append_each(&mut lines);
-    holds(
-        &rt,
-        appended,
-        lines.as_str(),
-        "commit v=65536 ins=1 upd=2 rem=1 abs=3 ovf=1\nopen 15 v=12\nclose 15\n\
-         collect floor=3 recycled=40 retired=500\n\
-         stat v=9 names=80 edges=700 free=6000 retired=50000 used=4\n",
-    );
+    holds(&rt, appended, lines.as_str(), EACH_LINE);
 }
 
 // Adds a text that is a name to a book.
@@ -99,22 +101,14 @@ fn replies(rt: &(impl Abort + AllocGlobal), reply: &NumberedReply, text: &str) {
 #[test]
 fn tells_levels(rt: HostRuntime) -> Result<(), Fail> {
     let levels = List::of(vec![in rt.alloc(); Some(1), None, Some(0)]?);
-    replies(
-        &rt,
-        &NumberedReply::Levels(levels),
-        "bfs 1 reached=2\nann 1\ncat 0\n",
-    );
+    replies(&rt, &NumberedReply::Levels(levels), LEVEL_LINES);
     Ok(())
 }
 
 #[test]
 fn tells_labels(rt: HostRuntime) -> Result<(), Fail> {
     let labels = List::of(vec![in rt.alloc(); VertexId(0), VertexId(1), VertexId(0)]?);
-    replies(
-        &rt,
-        &NumberedReply::Labels(labels),
-        "comp 1 parts=2\nann ann\nbob bob\ncat ann\n",
-    );
+    replies(&rt, &NumberedReply::Labels(labels), LABEL_LINES);
     Ok(())
 }
 
@@ -161,4 +155,87 @@ fn tells_one_edge_and_none(rt: HostRuntime) {
         "edge 1 -5 10 20\n",
     );
     replies(&rt, &NumberedReply::OneEdge(None), "edge 1 none\n");
+}
+
+// Tells `tools/refuse-each-growth` that a growth was refused, which the test accepted.
+fn tell_refused(rt: &impl Print) {
+    let _ = println!(rt; "refused");
+}
+
+// A text was appended whole to lines that stood, or a growth was refused; either way those that stood are still the first.
+fn appended_or_refused(
+    rt: &(impl Abort + Print),
+    appended: Result<(), AllocError>,
+    lines: &str,
+    before: &str,
+    text: &str,
+) {
+    match appended {
+        Ok(()) => assert_eq!(rt; lines.strip_prefix(before), Some(text)),
+        Err(_) => {
+            assert!(rt; lines.starts_with(before));
+            tell_refused(rt);
+        }
+    }
+}
+
+#[test]
+fn refused_lines_leave_those_before(rt: HostRuntime) {
+    let mut lines = String::new(rt.alloc());
+    match lines.push_str("close 3\n") {
+        Err(_) => tell_refused(&rt),
+        Ok(()) => {
+            let appended = append_each(&mut lines);
+            appended_or_refused(&rt, appended, lines.as_str(), "close 3\n", EACH_LINE);
+        }
+    }
+}
+
+// A book of three names, where there is memory for it.
+fn three_names(alloc: Global) -> Option<NameBook> {
+    let mut book = NameBook::new(alloc, 3);
+    for name in ["ann", "bob", "cat"] {
+        if !is_name(name) || book.add(name).is_err() {
+            return None;
+        }
+    }
+    Some(book)
+}
+
+// The lines of levels behind a line that stood, where there is memory for what comes before.
+fn append_levels(alloc: Global, book: &NameBook, lines: &mut String) -> Result<(), AllocError> {
+    let levels = List::of(vec![in alloc; Some(1), None, Some(0)]?);
+    reply_lines(lines, 1, book, &NumberedReply::Levels(levels))
+}
+
+// The same of labels.
+fn append_labels(alloc: Global, book: &NameBook, lines: &mut String) -> Result<(), AllocError> {
+    let labels = List::of(vec![in alloc; VertexId(0), VertexId(1), VertexId(0)]?);
+    reply_lines(lines, 1, book, &NumberedReply::Labels(labels))
+}
+
+#[test]
+fn refused_levels_leave_the_lines_and_the_names(rt: HostRuntime) {
+    let mut lines = String::new(rt.alloc());
+    match three_names(rt.alloc()) {
+        None => tell_refused(&rt),
+        Some(book) => {
+            let appended = append_levels(rt.alloc(), &book, &mut lines);
+            appended_or_refused(&rt, appended, lines.as_str(), "", LEVEL_LINES);
+            assert_eq!(rt; book.name(2), Some("cat"));
+        }
+    }
+}
+
+#[test]
+fn refused_labels_leave_the_lines_and_the_names(rt: HostRuntime) {
+    let mut lines = String::new(rt.alloc());
+    match three_names(rt.alloc()) {
+        None => tell_refused(&rt),
+        Some(book) => {
+            let appended = append_labels(rt.alloc(), &book, &mut lines);
+            appended_or_refused(&rt, appended, lines.as_str(), "", LABEL_LINES);
+            assert_eq!(rt; book.name(2), Some("cat"));
+        }
+    }
 }
