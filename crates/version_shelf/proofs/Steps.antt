@@ -71,28 +71,14 @@ pub next_begins : (x next op : ToldView) (before pending : List ToldView) → ne
 next_begins x next op before pending is all up =
     subst (λ z. Begins x z) (sym (is ∙ (ap (fold (λ (_ y : ToldView). y) x) all ∙ fold_last x before op))) up
 
--- a version of the history that has one batch more begins with what is shown
-pub posted_begins : (shown told : ToldView) (before : HistoryView) (batch : List NamedOp) → IsShowing before shown
-    → told.book ≡ before.book
-    → told.version.opening ≡ shown.version.opening → told.version.batches ≡ before.batches ++ batch ∷ [] → Begins shown told
-posted_begins shown told before batch is book opening more = (
-  is.0 ∙ sym book,
-  (
-    sym opening,
-    prefix_trans shown.version.batches before.batches told.version.batches is.1
-        (batch ∷ [], sym more),
-  ),
-)
-
 -- what is shown, as before or what was posted, is a version of the history with that version
-pub still_showing : (old shown told : ToldView) (after : HistoryView) → Begins old told → after.book ≡ told.book
-    → after.batches ≡ told.version.batches
+pub still_showing : (old shown told : ToldView) (after : HistoryView) → IsShowing after old → told.book ≡ after.book
+    → told.version.batches ≡ after.batches
     → (shown ≡ old) ⊎ (shown ≡ told) → IsShowing after shown
-still_showing old shown told after up book batches is =
-    ⊎_elim (λ (e : shown ≡ old). subst (λ x. IsShowing after x) (sym e)
-    (up.0 ∙ sym book, subst (λ b. IsPrefix old.version.batches b) (sym batches) up.1.1))
+still_showing old shown told after is book batches which =
+    ⊎_elim (λ (e : shown ≡ old). subst (λ x. IsShowing after x) (sym e) is)
     (λ (e : shown ≡ told). subst (λ x. IsShowing after x) (sym e)
-    (sym book, subst (λ b. IsPrefix told.version.batches b) (sym batches) (prefix_self told.version.batches))) is
+    (book, subst (λ b. IsPrefix told.version.batches b) batches (prefix_self told.version.batches))) which
 
 -- of two versions of one shelf, the one whose history begins the other's begins the other
 pub begins_by : (x y : ToldView) (h k : HistoryView) → x.version.batches ≡ h.batches → y.version.batches ≡ k.batches

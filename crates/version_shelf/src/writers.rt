@@ -1,6 +1,6 @@
 //! The writer of the shelf, and its opening.
 
-ghost use Rattle.std.specs.Prelude.{◌≡◌, ◌<◌, ◌≤◌, ◌⊎◌, [], IfOk, MatchResult, All, vec_len, Some};
+ghost use Rattle.std.specs.Prelude.{◌≡◌, ◌<◌, ◌≤◌, ◌⊎◌, ◌^◌, ◌++◌, ◌∷◌, [], length, IfOk, MatchBool, MatchResult, All, vec_len, Some};
 ghost use Rattle.std.specs.Arc.{arc_value};
 ghost use Rattle.left_right.specs.Sides.{view};
 ghost use Rattle.graph_version.specs.declared.versions.Version.{Version};
@@ -11,6 +11,7 @@ use crate::readers::ShelfReader;
 use crate::rules::{Look, Notes, WriterPlace};
 use crate::told::Told;
 use core::mem::replace_with;
+use graph_model::Batch;
 use graph_version::Version;
 use left_right::writer::Writer;
 use std::alloc::{AllocError, Global};
@@ -111,8 +112,7 @@ fn readers_of(
 {
     let mut places = Vec::new(alloc);
     for _ in 0..readers {
-        let reader = writer.reader(alloc, told)?;
-        places.push(reader).map_err(|_| ShelfError::OutOfMemory)?;
+        writer.add_reader(alloc, told, &mut places)?;
     }
     Ok(places)
 }
@@ -192,17 +192,32 @@ impl ShelfWriter {
         let Some(batch) = version.last_batch() else {
             unreachable!()
         };
-        let mut history = self.history.again();
-        if !history.push(&self.end, batch) {
+        if !self.enter_batch(batch) {
             return Err(AllocError);
         }
-        self.history = history.again();
         let shown = Told {
             version: copy,
-            history: history.again(),
+            history: self.history.again(),
         };
         show_in(rt, &mut self.place, shown);
-        Ok(Told { version, history })
+        Ok(Told {
+            version,
+            history: self.history.again(),
+        })
+    }
+
+    /// Enters a batch in the history, and says whether it did. Readers find it once it is shown.
+    fn enter_batch(&mut self, batch: &Batch) -> bool
+        requires room { length self.old.posted < 2 ^ 62 }
+        ensures posted { MatchBool result (self.new.posted ≡ self.old.posted ++ batch.now ∷ []) (self.new.posted ≡ self.old.posted) }
+        ensures same { self.new ≡ (record self.old { posted = self.new.posted }) }
+    {
+        let mut history = self.history.again();
+        if !history.push(&self.end, batch) {
+            return false;
+        }
+        self.history = history;
+        true
     }
 
     /// Ends the shelf: what it showed last comes back, and all else that it kept is given back. Its readers keep what they have
@@ -220,11 +235,16 @@ impl ShelfWriter {
         Box::into_inner(place.take(rt))
     }
 
-    /// A reader that has learnt what was told.
-    fn reader(&mut self, alloc: Global, told: &Told) -> Result<ShelfReader, ShelfError>
+    /// One reader more, which has learnt what was told.
+    fn add_reader(
+        &mut self,
+        alloc: Global,
+        told: &Told,
+        readers: &mut Vec<ShelfReader>,
+    ) -> Result<(), ShelfError>
         requires book { told.now.book ≡ self.old.book }
         requires opening { told.now.version.opening ≡ self.old.opening }
-        ensures reader { IfOk result (λ r. r ≡ told.now) }
+        ensures readers { IfOk result (λ _. readers.new.items ≡ readers.old.items ++ told.now ∷ []) }
         ensures writer { self.new ≡ self.old }
     {
         let mut place = self
@@ -234,10 +254,12 @@ impl ShelfWriter {
             .map_err(|_| ShelfError::NoReader)?;
         place.learn::<Notes>(self.place.tell::<Notes>());
         let newest = told.share().map_err(|_| ShelfError::OutOfMemory)?;
-        Ok(ShelfReader {
-            alloc,
-            place,
-            newest,
-        })
+        readers
+            .push(ShelfReader {
+                alloc,
+                place,
+                newest,
+            })
+            .map_err(|_| ShelfError::OutOfMemory)
     }
 }

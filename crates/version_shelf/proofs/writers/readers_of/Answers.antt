@@ -1,4 +1,4 @@
-use Rattle.std.proofs.Common.{◌≡◌, List, All, refl, sym, subst}
+use Rattle.std.proofs.Common.{arith, ◌≡◌, List, All, refl, sym, subst}
 use Rattle.std.proofs.lemmas.List.Elements.{All-nil}
 use Rattle.version_shelf.specs.Shelves.{ToldView}
 use Rattle.version_shelf.proofs.writers.readers_of.Goals as goal
@@ -11,3 +11,6 @@ loop-init c =
       subst (λ (xs : List ToldView). All IsTold xs) (sym c.new-places.ensures.items) (All-nil IsTold),
       refl,
     )
+
+pub returns-clause-count : goal.returns-clause-count
+returns-clause-count c = omega (arith, c.loop.invariant.0)

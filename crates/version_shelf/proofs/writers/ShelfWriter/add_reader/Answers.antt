@@ -1,5 +1,5 @@
 use Rattle.version_shelf.proofs.Steps.{admits, forks, merges}
-use Rattle.version_shelf.proofs.writers.ShelfWriter.reader.Goals as goal
+use Rattle.version_shelf.proofs.writers.ShelfWriter.add_reader.Goals as goal
 
 pub reader-requires : goal.reader-requires
 reader-requires c = admits
