@@ -107,6 +107,19 @@ impl<R: Read> Feed<R> {
         }
     }
 
+    // The record that was read is no command: it counts, and the feed goes on behind it.
+    fn refuse(&mut self, word: FeedWord) -> FeedFault
+        requires room { self.old.given < record_limit }
+        ensures fault { result ≡ record { at = self.old.given + 1; word = word } }
+        ensures counted { self.new ≡ record self.old { given = self.old.given + 1 } }
+    {
+        self.given += 1;
+        FeedFault {
+            at: self.given,
+            word,
+        }
+    }
+
     // Reads a record.
     #[tactic(auto, using(crate::proofs::Refusals::refused_step))]
     fn take(&mut self) -> Result<Option<Command>, FeedFault>
@@ -135,13 +148,7 @@ impl<R: Read> Feed<R> {
             }
             Err(word) => match word {
                 FeedWord::Memory => Err(self.stop(FeedWord::Memory)),
-                _ => {
-                    self.given += 1;
-                    Err(FeedFault {
-                        at: self.given,
-                        word,
-                    })
-                }
+                _ => Err(self.refuse(word)),
             },
         }
     }
