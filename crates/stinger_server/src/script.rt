@@ -4,7 +4,7 @@ ghost use Rattle.std.specs.Prelude.{◌≡◌, ℕ, ◌+◌, ◌<◌, ◌≤◌,
 ghost use Rattle.std.specs.Prelude.{OnOk, OnErr};
 ghost use Rattle.std.specs.Io.KnownBytes.{Appends};
 ghost use Rattle.feed_csv.specs.Records.{record_limit, records_of};
-ghost use Rattle.script_lines.specs.Lines.{end_line};
+ghost use Rattle.script_lines.specs.Lines.{end_line, error_line};
 ghost use Rattle.std.specs.Prelude.{map};
 ghost use Rattle.std.specs.List.{range_with_len};
 ghost use Rattle.seat_board.specs.Board.{no_pins};
@@ -178,10 +178,36 @@ impl Run {
                 Err(_) => Err(ServeFault::Write),
             },
             Err(_) => {
-                output::last_line(sink, self.records + 1, Word::Feed(FeedWord::Memory))?;
+                self.refuse_growth(sink)?;
                 Err(ServeFault::Memory)
             }
         }
+    }
+
+    /// Writes the error line of a record for which there was no memory, and nothing of its lines, and flushes.
+    fn refuse_growth<W: Write>(&self, sink: &mut Sink<'_, W>) -> Result<(), Unwritten>
+        requires room { self.now.records < record_limit }
+        requires working { sink.old.failed ≡ false }
+        ensures same_writer { sink.new.writer.ghost_name ≡ sink.old.writer.ghost_name }
+        ensures failed { sink.new.failed ≡ is_err result }
+        ensures flushed { OnOk result (sink.new.flushed ≡ true) }
+        ensures whole { OnOk result (Appends (held W.contents sink.old) (held W.contents sink.new)
+            (error_line (self.now.records + 1) (Word.Feed FeedWord.Memory))) }
+        ensures part { OnErr result (AppendsPart (held W.contents sink.old) (held W.contents sink.new)
+            (error_line (self.now.records + 1) (Word.Feed FeedWord.Memory))) }
+    {
+        output::last_line(sink, self.records + 1, Word::Feed(FeedWord::Memory))
+    }
+
+    /// Writes the lines of the record that was done last.
+    fn put_lines<W: Write>(&self, sink: &mut Sink<'_, W>) -> Result<(), Unwritten>
+        requires working { sink.old.failed ≡ false }
+        ensures same_writer { sink.new.writer.ghost_name ≡ sink.old.writer.ghost_name }
+        ensures failed { sink.new.failed ≡ is_err result }
+        ensures whole { OnOk result (Appends (held W.contents sink.old) (held W.contents sink.new) (string_bytes self.now.lines)) }
+        ensures part { OnErr result (AppendsPart (held W.contents sink.old) (held W.contents sink.new) (string_bytes self.now.lines)) }
+    {
+        output::put(sink, self.lines.as_str())
     }
 
     /// Writes what a record came to, and counts it.
@@ -202,7 +228,7 @@ impl Run {
         ensures counted { OnOk result (CountsRecord self.old response self.new) }
     {
         match response {
-            Response::Lines => output::put(sink, self.lines.as_str())?,
+            Response::Lines => self.put_lines(sink)?,
             Response::Refused(word) => {
                 output::error_line(sink, self.records + 1, word)?;
                 self.errors += 1;
