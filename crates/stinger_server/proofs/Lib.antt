@@ -1,5 +1,5 @@
 pub mod Writing
-pub mod TwoParts
+pub mod Flushed
 pub mod EndLine
 pub mod SlotLaws
 pub mod DeskLaws

@@ -50,7 +50,19 @@ fn put_both<W: Write>(sink: &mut Sink<'_, W>, text: &str, end: &str) -> Result<(
     ensures part { OnErr result (AppendsPart (held W.contents sink.old) (held W.contents sink.new) (text.now ++ end.now)) }
 {
     put(sink, text)?;
-    put(sink, end)?;
+    put_flushed(sink, end)
+}
+
+/// Writes a text, by as many writes as it takes, and flushes.
+fn put_flushed<W: Write>(sink: &mut Sink<'_, W>, text: &str) -> Result<(), Unwritten>
+    requires working { sink.old.failed ≡ false }
+    ensures same_writer { sink.new.writer.ghost_name ≡ sink.old.writer.ghost_name }
+    ensures failed { sink.new.failed ≡ is_err result }
+    ensures flushed { OnOk result (sink.new.flushed ≡ true) }
+    ensures whole { OnOk result (Appends (held W.contents sink.old) (held W.contents sink.new) text.now) }
+    ensures part { OnErr result (AppendsPart (held W.contents sink.old) (held W.contents sink.new) text.now) }
+{
+    put(sink, text)?;
     sink.flush()
 }
 
@@ -71,17 +83,18 @@ pub(crate) fn error_line<W: Write>(
     put(sink, error_text(number, word).as_str())
 }
 
-/// Writes the line on pending operations, if there are any, by one write where the writer takes it whole.
+/// Writes the line on pending operations, if there are any, by one write where the writer takes it whole, and flushes.
 pub(crate) fn end_line<W: Write>(sink: &mut Sink<'_, W>, pending: usize) -> Result<(), Unwritten>
     requires working { sink.old.failed ≡ false }
     ensures same_writer { sink.new.writer.ghost_name ≡ sink.old.writer.ghost_name }
     ensures failed { sink.new.failed ≡ is_err result }
+    ensures flushed { OnOk result (sink.new.flushed ≡ true) }
     ensures whole { OnOk result (Appends (held W.contents sink.old) (held W.contents sink.new)
         (lines_of.end_line pending)) }
     ensures part { OnErr result (AppendsPart (held W.contents sink.old) (held W.contents sink.new)
         (lines_of.end_line pending)) }
 {
-    put(sink, end_text(pending).as_str())
+    put_flushed(sink, end_text(pending).as_str())
 }
 
 /// Writes the error line that ends a run, and flushes.
@@ -99,8 +112,7 @@ pub(crate) fn last_line<W: Write>(
     ensures part { OnErr result (AppendsPart (held W.contents sink.old) (held W.contents sink.new)
         (lines_of.error_line number word)) }
 {
-    error_line(sink, number, word)?;
-    sink.flush()
+    put_flushed(sink, error_text(number, word).as_str())
 }
 
 /// The error line of a record.

@@ -257,7 +257,6 @@ impl Run {
     {
         let pending = self.server.pending();
         output::end_line(sink, pending)?;
-        sink.flush()?;
         Ok(Summary {
             records: self.records,
             errors: self.errors,
