@@ -199,17 +199,6 @@ impl Run {
         output::last_line(sink, self.records + 1, Word::Feed(FeedWord::Memory))
     }
 
-    /// Writes the lines of the record that was done last.
-    fn put_lines<W: Write>(&self, sink: &mut Sink<'_, W>) -> Result<(), Unwritten>
-        requires working { sink.old.failed ≡ false }
-        ensures same_writer { sink.new.writer.ghost_name ≡ sink.old.writer.ghost_name }
-        ensures failed { sink.new.failed ≡ is_err result }
-        ensures whole { OnOk result (Appends (held W.contents sink.old) (held W.contents sink.new) (string_bytes self.now.lines)) }
-        ensures part { OnErr result (AppendsPart (held W.contents sink.old) (held W.contents sink.new) (string_bytes self.now.lines)) }
-    {
-        output::put(sink, self.lines.as_str())
-    }
-
     /// Writes what a record came to, and counts it.
     fn print<W: Write>(
         &mut self,
@@ -228,7 +217,7 @@ impl Run {
         ensures counted { OnOk result (CountsRecord self.old response self.new) }
     {
         match response {
-            Response::Lines => self.put_lines(sink)?,
+            Response::Lines => output::put(sink, self.lines.as_str())?,
             Response::Refused(word) => {
                 output::error_line(sink, self.records + 1, word)?;
                 self.errors += 1;
