@@ -12,19 +12,24 @@ use stream_store::{Collected, Stat};
 use version_answers::NumberedReply;
 use vertex_names::NameBook;
 
+// A word has this text.
+fn has_text(rt: &impl Abort, word: Word, text: &str) {
+    assert_eq!(rt; word.text(), text);
+}
+
 #[test]
 fn words_have_their_texts(rt: HostRuntime) {
-    assert_eq!(rt; Word::Feed(FeedWord::BadName).text(), "BadName");
-    assert_eq!(rt; Word::NotOpen.text(), "NotOpen");
-    assert_eq!(rt; Word::AlreadyOpen.text(), "AlreadyOpen");
-    assert_eq!(rt; Word::BadWindow.text(), "BadWindow");
-    assert_eq!(rt; Word::NoKind.text(), "NoKind");
-    assert_eq!(rt; Word::NoVertex.text(), "NoVertex");
-    assert_eq!(rt; Word::BatchFull.text(), "BatchFull");
-    assert_eq!(rt; Word::NamesFull.text(), "NamesFull");
-    assert_eq!(rt; Word::KindsFull.text(), "KindsFull");
-    assert_eq!(rt; Word::BatchLimit.text(), "BatchLimit");
-    assert_eq!(rt; Word::PoolEmpty.text(), "PoolEmpty");
+    has_text(&rt, Word::Feed(FeedWord::BadName), "BadName");
+    has_text(&rt, Word::NotOpen, "NotOpen");
+    has_text(&rt, Word::AlreadyOpen, "AlreadyOpen");
+    has_text(&rt, Word::BadWindow, "BadWindow");
+    has_text(&rt, Word::NoKind, "NoKind");
+    has_text(&rt, Word::NoVertex, "NoVertex");
+    has_text(&rt, Word::BatchFull, "BatchFull");
+    has_text(&rt, Word::NamesFull, "NamesFull");
+    has_text(&rt, Word::KindsFull, "KindsFull");
+    has_text(&rt, Word::BatchLimit, "BatchLimit");
+    has_text(&rt, Word::PoolEmpty, "PoolEmpty");
 }
 
 // A buffer that lines were appended to holds this text.

@@ -13,6 +13,11 @@ fn add(rt: &impl Abort, book: &mut NameBook, name: &str) -> Result<u32, AddError
     book.add(name)
 }
 
+// Adding the text, which is a name, answers this.
+fn added(rt: &impl Abort, book: &mut NameBook, name: &str, answer: Result<u32, AddError>) {
+    assert_eq!(rt; add(rt, book, name), answer);
+}
+
 // The name has this number.
 fn assert_numbered(rt: &impl Abort, book: &NameBook, name: &str, number: u32) {
     assert_eq!(rt; book.number(name), Some(number));
@@ -47,10 +52,10 @@ fn add_new(rt: &(impl Abort + Print), book: &mut NameBook, name: &str, number: u
 fn numbers_names_by_first_appearance(rt: HostRuntime) -> Result<(), Fail> {
     let mut book = NameBook::new(rt.alloc(), 2);
     assert!(rt; book.is_empty());
-    assert_eq!(rt; add(&rt, &mut book, "a"), Ok(0));
-    assert_eq!(rt; add(&rt, &mut book, "b"), Ok(1));
-    assert_eq!(rt; add(&rt, &mut book, "a"), Ok(0));
-    assert_eq!(rt; add(&rt, &mut book, "c"), Err(AddError::NamesFull));
+    added(&rt, &mut book, "a", Ok(0));
+    added(&rt, &mut book, "b", Ok(1));
+    added(&rt, &mut book, "a", Ok(0));
+    added(&rt, &mut book, "c", Err(AddError::NamesFull));
     assert!(rt; !book.is_empty());
     assert_absent(&rt, &book, "c", 2);
     assert_numbered(&rt, &book, "b", 1);
@@ -76,9 +81,9 @@ fn takes_as_many_names_as_a_graph_may_have(rt: HostRuntime) -> Result<(), Fail> 
     let mut book = NameBook::new(rt.alloc(), 65_536);
     for number in 0..65_536u32 {
         let name = format!(in rt.alloc(); "v{number}")?;
-        assert_eq!(rt; add(&rt, &mut book, name.as_str()), Ok(number));
+        added(&rt, &mut book, name.as_str(), Ok(number));
     }
-    assert_eq!(rt; add(&rt, &mut book, "v65536"), Err(AddError::NamesFull));
+    added(&rt, &mut book, "v65536", Err(AddError::NamesFull));
     assert_absent(&rt, &book, "v65536", 65_536);
     assert_numbered(&rt, &book, "v40000", 40_000);
     let shared = book.share()?;
@@ -89,7 +94,7 @@ fn takes_as_many_names_as_a_graph_may_have(rt: HostRuntime) -> Result<(), Fail> 
 /// Adds the name of that number in the book of v0, v1 ..
 fn add_plain(rt: &impl Abort, alloc: Global, book: &mut NameBook, number: u32) {
     let name = format!(in alloc; "v{number}").expect(rt, "memory for a name");
-    assert_eq!(rt; add(rt, book, name.as_str()), Ok(number));
+    added(rt, book, name.as_str(), Ok(number));
 }
 
 /// The book has the names v0, v1 .. in this order, so many of them, and no other.

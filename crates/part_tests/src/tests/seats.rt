@@ -1,24 +1,39 @@
 // The board of seats.
 
 use seat_board::{Board, Pin, SeatNo};
+use std::process::Abort;
 use std::test::Fail;
+
+// Raising the floor to a version gives this floor.
+fn raised(rt: &impl Abort, board: &mut Board, version: u64, floor: u64) {
+    assert_eq!(rt; board.raise(version), floor);
+}
+
+// A new pin of the seat has this number.
+fn pinned(rt: &impl Abort, board: &mut Board, seat: SeatNo, number: u64) {
+    assert_eq!(rt; board.pin(seat), number);
+}
+
+fn has_pin(rt: &impl Abort, board: &Board, seat: SeatNo, pin: Option<Pin>) {
+    assert_eq!(rt; board.pin_of(seat), pin);
+}
 
 #[test]
 fn keeps_the_floor_below_each_pin(rt: HostRuntime) -> Result<(), Fail> {
     let first = SeatNo::new(0).ok_or("seat 0")?;
     let second = SeatNo::new(1).ok_or("seat 1")?;
     let mut board = Board::new();
-    assert_eq!(rt; board.pin(first), 0);
-    assert_eq!(rt; board.raise(5), 0);
+    pinned(&rt, &mut board, first, 0);
+    raised(&rt, &mut board, 5, 0);
     board.settle(first, 4);
-    assert_eq!(rt; board.raise(5), 4);
-    assert_eq!(rt; board.pin(second), 4);
+    raised(&rt, &mut board, 5, 4);
+    pinned(&rt, &mut board, second, 4);
     board.unpin(first);
-    assert_eq!(rt; board.raise(6), 4);
+    raised(&rt, &mut board, 6, 4);
     board.settle(second, 6);
-    assert_eq!(rt; board.raise(6), 6);
+    raised(&rt, &mut board, 6, 6);
     board.unpin(second);
-    assert_eq!(rt; board.raise(7), 7);
+    raised(&rt, &mut board, 7, 7);
     assert_eq!(rt; board.floor(), 7);
     Ok(())
 }
@@ -29,20 +44,20 @@ fn shows_the_pin_of_a_seat(rt: HostRuntime) -> Result<(), Fail> {
     assert_eq!(rt; seat.number(), 15);
     let mut board = Board::new();
     board.settle(seat, 3);
-    assert_eq!(rt; board.pin_of(seat), None);
-    assert_eq!(rt; board.raise(2), 2);
-    assert_eq!(rt; board.pin(seat), 2);
+    has_pin(&rt, &board, seat, None);
+    raised(&rt, &mut board, 2, 2);
+    pinned(&rt, &mut board, seat, 2);
     let unsettled = Pin {
         number: 2,
         is_settled: false,
     };
-    assert_eq!(rt; board.pin_of(seat), Some(unsettled));
+    has_pin(&rt, &board, seat, Some(unsettled));
     board.settle(seat, 1);
     let settled = Pin {
         number: 2,
         is_settled: true,
     };
-    assert_eq!(rt; board.pin_of(seat), Some(settled));
+    has_pin(&rt, &board, seat, Some(settled));
     Ok(())
 }
 
