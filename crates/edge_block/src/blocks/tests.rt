@@ -24,8 +24,43 @@ fn put(rt: &impl Abort, block: &mut Block, target: u32, recent: u64)
     block.put(target, 1, 3, recent);
 }
 
+fn take(rt: &impl Abort, block: &mut Block, target: u32, was_there: bool) {
+    assert_eq!(rt; block.take(target), was_there);
+}
+
 fn any_within(lo: u64, hi: u64) -> Filter {
     Filter { kind: None, lo, hi }
+}
+
+fn leads_to(rt: &impl Abort, edge: Option<EdgeRef<'_>>, target: Option<u32>) {
+    assert_eq!(rt; edge.map(|edge| *edge.target), target);
+}
+
+/// The block has this number, so many edges, and these time bounds.
+fn has(rt: &impl Abort, block: &Block, number: u32, len: usize, bounds: Option<(u64, u64)>) {
+    assert_eq!(rt;
+        (block.number(), block.len(), block.time_bounds()),
+        (number, len, bounds)
+    );
+}
+
+fn is_full(rt: &impl Abort, block: &Block, wanted: bool) {
+    assert_eq!(rt; block.is_full(), wanted);
+}
+
+fn is_of(rt: &impl Abort, block: &Block, source: u32, kind: u8) {
+    assert_eq!(rt;
+        (block.source(), block.kind()),
+        (VertexId(source), KindId(kind))
+    );
+}
+
+fn selects(rt: &impl Abort, block: &Block, filter: &Filter, count: usize) {
+    assert_eq!(rt; block.select(filter).count(), count);
+}
+
+fn same_targets(rt: &impl Abort, left: &Block, right: &Block, wanted: bool) {
+    assert_eq!(rt; left.same_targets(right), wanted);
 }
 
 #[test]
@@ -35,49 +70,51 @@ fn keeps_its_slots_through_puts_and_takes(rt: HostRuntime) {
     put(&rt, &mut block, 7, 10);
     put(&rt, &mut block, 8, 20);
     put(&rt, &mut block, 9, 30);
-    assert!(rt; block.take(8));
+    take(&rt, &mut block, 8, true);
     put(&rt, &mut block, 5, 15);
 
     let mut slots = block.select(&ALL);
-    assert_eq!(rt; slots.next().map(|edge| *edge.target), Some(7));
-    assert_eq!(rt; slots.next().map(|edge| *edge.target), Some(5));
-    assert_eq!(rt; slots.next().map(|edge| *edge.target), Some(9));
-    assert!(rt; slots.next().is_none());
-
-    assert_eq!(rt; block.number(), 4);
-    assert_eq!(rt; block.len(), 3);
-    assert_eq!(rt; block.time_bounds(), Some((10, 30)));
+    leads_to(&rt, slots.next(), Some(7));
+    leads_to(&rt, slots.next(), Some(5));
+    leads_to(&rt, slots.next(), Some(9));
+    leads_to(&rt, slots.next(), None);
+    has(&rt, &block, 4, 3, Some((10, 30)));
 
     let mut within = block.select(&any_within(10, 20));
-    assert_eq!(rt; within.next().map(|edge| *edge.target), Some(7));
-    assert_eq!(rt; within.next().map(|edge| *edge.target), Some(5));
-    assert!(rt; within.next().is_none());
+    leads_to(&rt, within.next(), Some(7));
+    leads_to(&rt, within.next(), Some(5));
+    leads_to(&rt, within.next(), None);
 
-    assert!(rt; !block.take(8));
-    assert!(rt; block.find(8).is_none());
+    take(&rt, &mut block, 8, false);
+    leads_to(&rt, block.find(8), None);
 }
 
 #[test]
 fn fills_the_lowest_free_slot(rt: HostRuntime) {
     let mut block = Block::blank(0);
     for target in 0..32 {
-        assert!(rt; !block.is_full());
+        is_full(&rt, &block, false);
         put(&rt, &mut block, target, 1);
     }
-    assert!(rt; block.is_full());
-    assert_eq!(rt; block.len(), 32);
+    is_full(&rt, &block, true);
+    has(&rt, &block, 0, 32, Some((1, 1)));
 
     // over the slot of a target that is there
     put(&rt, &mut block, 31, 6);
-    assert_eq!(rt; block.len(), 32);
+    has(&rt, &block, 0, 32, Some((1, 6)));
     assert_eq!(rt; block.find(31).map(|edge| *edge.recent), Some(6));
 
-    assert!(rt; block.take(30));
-    assert!(rt; block.take(2));
+    take(&rt, &mut block, 30, true);
+    take(&rt, &mut block, 2, true);
     put(&rt, &mut block, 99, 1);
-    let third = block.select(&ALL).nth(2);
-    assert_eq!(rt; third.map(|edge| *edge.target), Some(99));
-    assert!(rt; !block.is_full());
+    leads_to(&rt, block.select(&ALL).nth(2), Some(99));
+    is_full(&rt, &block, false);
+}
+
+/// The edge of kind 3, weight -40, first time 50 and recent time 20.
+fn is_edge(rt: &impl Abort, edge: Option<EdgeRef<'_>>) {
+    let stamp = edge.map(|edge| (edge.kind, *edge.weight, *edge.first, *edge.recent));
+    assert_eq!(rt; stamp, Some((KindId(3), -40, 50, 20)));
 }
 
 #[test]
@@ -87,18 +124,12 @@ fn lends_what_was_put(rt: HostRuntime) {
     assert!(rt; block.find(7).is_none());
     assert!(rt; !block.is_full());
     block.put(7, -40, 50, 20);
-    assert_eq!(rt; block.source(), VertexId(12));
-    assert_eq!(rt; block.kind(), KindId(3));
-    assert_eq!(rt; block.time_bounds(), Some((20, 20)));
-
-    let found = block.find(7);
-    assert_eq!(rt; found.map(|edge| edge.kind), Some(KindId(3)));
-    assert_eq!(rt; found.map(|edge| *edge.weight), Some(-40));
-    assert_eq!(rt; found.map(|edge| *edge.first), Some(50));
-    assert_eq!(rt; found.map(|edge| *edge.recent), Some(20));
+    is_of(&rt, &block, 12, 3);
+    has(&rt, &block, 1, 1, Some((20, 20)));
+    is_edge(&rt, block.find(7));
 
     // 0 is a target like any other, and an empty slot has none
-    assert!(rt; block.find(0).is_none());
+    leads_to(&rt, block.find(0), None);
 }
 
 #[test]
@@ -112,38 +143,31 @@ fn selects_by_kind_and_window(rt: HostRuntime) {
         lo: 0,
         hi: 99,
     };
-    assert_eq!(rt; block.select(&of_kind(1)).count(), 2);
-    assert_eq!(rt; block.select(&of_kind(0)).count(), 0);
-    assert_eq!(rt; block.select(&any_within(10, 10)).count(), 1);
-    assert_eq!(rt; block.select(&any_within(11, 20)).count(), 1);
-    assert_eq!(rt; block.select(&any_within(11, 19)).count(), 0);
-    assert_eq!(rt; block.select(&any_within(20, 10)).count(), 0);
-    assert!(rt; block.take(8));
-    assert_eq!(rt; block.select(&any_within(20, 20)).count(), 0);
+    selects(&rt, &block, &of_kind(1), 2);
+    selects(&rt, &block, &of_kind(0), 0);
+    selects(&rt, &block, &any_within(10, 10), 1);
+    selects(&rt, &block, &any_within(11, 20), 1);
+    selects(&rt, &block, &any_within(11, 19), 0);
+    selects(&rt, &block, &any_within(20, 10), 0);
+    take(&rt, &mut block, 8, true);
+    selects(&rt, &block, &any_within(20, 20), 0);
 }
 
 #[test]
 fn copies_all_but_the_number(rt: HostRuntime) {
-    let mut block = Block::blank(4);
-    block.clear_for(VertexId(2), KindId(5));
-    put(&rt, &mut block, 7, 10);
-    put(&rt, &mut block, 8, 20);
+    let block = two_edges(&rt);
     let mut copy = Block::blank(6);
     put(&rt, &mut copy, 1, 1);
-    assert!(rt; !copy.same_targets(&block));
+    same_targets(&rt, &copy, &block, false);
     copy.copy_from(&block);
-    assert_eq!(rt; copy.number(), 6);
-    assert_eq!(rt; copy.source(), VertexId(2));
-    assert_eq!(rt; copy.kind(), KindId(5));
-    assert_eq!(rt; copy.time_bounds(), Some((10, 20)));
-    assert!(rt; copy.same_targets(&block));
+    is_of(&rt, &copy, 2, 5);
+    has(&rt, &copy, 6, 2, Some((10, 20)));
+    same_targets(&rt, &copy, &block, true);
     assert!(rt; !copy.is_empty());
 
     copy.clear_for(VertexId(3), KindId(0));
     assert!(rt; copy.is_empty());
-    assert_eq!(rt; copy.len(), 0);
-    assert_eq!(rt; copy.time_bounds(), None);
-    assert_eq!(rt; copy.number(), 6);
+    has(&rt, &copy, 6, 0, None);
 }
 
 #[test]
@@ -151,15 +175,15 @@ fn compares_the_targets_of_live_slots(rt: HostRuntime) {
     let mut left = Block::blank(0);
     put(&rt, &mut left, 7, 10);
     put(&rt, &mut left, 8, 20);
-    assert!(rt; left.take(8));
+    take(&rt, &mut left, 8, true);
     let mut right = Block::blank(1);
     put(&rt, &mut right, 7, 99);
-    assert!(rt; left.same_targets(&right));
+    same_targets(&rt, &left, &right, true);
 
     // target 0 in a live slot is no empty slot
     put(&rt, &mut right, 0, 1);
-    assert!(rt; !left.same_targets(&right));
-    assert!(rt; !right.same_targets(&left));
+    same_targets(&rt, &left, &right, false);
+    same_targets(&rt, &right, &left, false);
 }
 
 /// A block of number 4 with the edges to 7 and 8.
@@ -182,16 +206,10 @@ fn cloned(block: &Block) -> Result<Block, AllocError>
 fn clones_the_number_too(rt: HostRuntime) -> Result<(), Fail> {
     let block = two_edges(&rt);
     let mut copy = cloned(&block)?;
-    assert!(rt; copy.take(7));
-    assert_eq!(rt;
-        (copy.number(), copy.len(), copy.time_bounds()),
-        (4, 1, Some((20, 20)))
-    );
-    assert_eq!(rt; (copy.source(), copy.kind()), (VertexId(2), KindId(5)));
-    assert_eq!(rt;
-        (block.number(), block.len(), block.time_bounds()),
-        (4, 2, Some((10, 20)))
-    );
+    take(&rt, &mut copy, 7, true);
+    has(&rt, &copy, 4, 1, Some((20, 20)));
+    is_of(&rt, &copy, 2, 5);
+    has(&rt, &block, 4, 2, Some((10, 20)));
     Ok(())
 }
 
