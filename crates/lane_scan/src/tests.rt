@@ -2,90 +2,65 @@ ghost use Rattle.std.specs.Prelude.{◌≡◌, ◌≤◌, length, All};
 ghost use Rattle.lane_scan.specs.Masks.{IsWeight};
 
 use super::*;
-use std::process::Abort;
 
 const INPUTS: usize = 64;
 
-fn same_place(rt: &impl Abort, found: Option<usize>, wanted: Option<usize>) {
-    assert_eq!(rt; found, wanted);
-}
-
-fn same_mask(rt: &impl Abort, found: u32, wanted: u32) {
-    assert_eq!(rt; found, wanted);
-}
-
-fn same_sum(rt: &impl Abort, found: i64, wanted: i64) {
-    assert_eq!(rt; found, wanted);
-}
-
-fn same_bounds(rt: &impl Abort, found: Option<(u64, u64)>, wanted: Option<(u64, u64)>) {
-    assert_eq!(rt; found, wanted);
-}
-
-fn same_verdict(rt: &impl Abort, found: bool, wanted: bool) {
-    assert_eq!(rt; found, wanted);
-}
-
 #[test]
 fn finds_the_least_live_place(rt: HostRuntime) {
-    same_place(&rt, find_target(&[7, 9, 7], 6, 7), Some(2));
-    same_place(&rt, find_target(&[7, 9, 7], 5, 7), Some(0));
-    same_place(&rt, find_target(&[7, 9, 7], 2, 7), None);
-    same_place(&rt, find_target(&[7; 32], 1 << 31, 7), Some(31));
-    same_place(&rt, find_target(&[], u32::MAX, 7), None);
+    assert_eq!(rt; find_target(&[7, 9, 7], 6, 7), Some(2));
+    assert_eq!(rt; find_target(&[7, 9, 7], 5, 7), Some(0));
+    assert_eq!(rt; find_target(&[7, 9, 7], 2, 7), None);
+    assert_eq!(rt; find_target(&[7; 32], 1 << 31, 7), Some(31));
+    assert_eq!(rt; find_target(&[], u32::MAX, 7), None);
 }
 
 #[test]
 fn window_has_both_its_ends(rt: HostRuntime) {
     let times = [9, 10, 20, 21];
-    same_mask(&rt, window_mask(&times, 15, 10, 20), 6);
-    same_mask(&rt, window_mask(&times, 13, 10, 20), 4);
-    same_mask(&rt, window_mask(&times, 15, 20, 10), 0);
-    same_mask(&rt, window_mask(&[1], u32::MAX, 0, 5), 1);
-    same_mask(&rt, window_mask(&[], u32::MAX, 0, u64::MAX), 0);
+    assert_eq!(rt; window_mask(&times, 15, 10, 20), 6);
+    assert_eq!(rt; window_mask(&times, 13, 10, 20), 4);
+    assert_eq!(rt; window_mask(&times, 15, 20, 10), 0);
+    assert_eq!(rt; window_mask(&[1], u32::MAX, 0, 5), 1);
+    assert_eq!(rt; window_mask(&[], u32::MAX, 0, u64::MAX), 0);
 
     let mut rising = [0; 32];
     for (place, time) in rising.iter_mut().enumerate() {
         *time = place as u64;
     }
-    same_mask(&rt, window_mask(&rising, u32::MAX, 8, 15), 65280);
+    assert_eq!(rt; window_mask(&rising, u32::MAX, 8, 15), 65280);
 }
 
 #[test]
 fn sums_the_masked_weights_alone(rt: HostRuntime) {
-    same_sum(&rt, masked_sum(&[5, -2, 7], 5), 12);
-    same_sum(&rt, masked_sum(&[5, -2, 7], 2), -2);
-    same_sum(
-        &rt,
-        masked_sum(&[1 << 40; 32], u32::MAX),
-        35_184_372_088_832,
-    );
-    same_sum(&rt, masked_sum(&[], u32::MAX), 0);
+    assert_eq!(rt; masked_sum(&[5, -2, 7], 5), 12);
+    assert_eq!(rt; masked_sum(&[5, -2, 7], 2), -2);
+    assert_eq!(rt; masked_sum(&[1 << 40; 32], u32::MAX), 35_184_372_088_832);
+    assert_eq!(rt; masked_sum(&[], u32::MAX), 0);
 }
 
 #[test]
 fn bounds_the_masked_values_alone(rt: HostRuntime) {
-    same_bounds(&rt, bounds(&[9, 4, 30], 3), Some((4, 9)));
-    same_bounds(&rt, bounds(&[9, 4, 30], 7), Some((4, 30)));
-    same_bounds(&rt, bounds(&[9, 4, 30], 0), None);
-    same_bounds(&rt, bounds(&[9, 4, 30], 8), None);
-    same_bounds(&rt, bounds(&[], u32::MAX), None);
+    assert_eq!(rt; bounds(&[9, 4, 30], 3), Some((4, 9)));
+    assert_eq!(rt; bounds(&[9, 4, 30], 7), Some((4, 30)));
+    assert_eq!(rt; bounds(&[9, 4, 30], 0), None);
+    assert_eq!(rt; bounds(&[9, 4, 30], 8), None);
+    assert_eq!(rt; bounds(&[], u32::MAX), None);
 }
 
 #[test]
 fn widens_by_one_value(rt: HostRuntime) {
-    same_bounds(&rt, Some(widened(None, 7)), Some((7, 7)));
-    same_bounds(&rt, Some(widened(Some((4, 9)), 30)), Some((4, 30)));
-    same_bounds(&rt, Some(widened(Some((4, 9)), 2)), Some((2, 9)));
-    same_bounds(&rt, Some(widened(Some((4, 9)), 5)), Some((4, 9)));
+    assert_eq!(rt; widened(None, 7), (7, 7));
+    assert_eq!(rt; widened(Some((4, 9)), 30), (4, 30));
+    assert_eq!(rt; widened(Some((4, 9)), 2), (2, 9));
+    assert_eq!(rt; widened(Some((4, 9)), 5), (4, 9));
 }
 
 #[test]
 fn compares_whole_columns(rt: HostRuntime) {
-    same_verdict(&rt, equal_columns(&[1, 2], &[1, 3]), false);
-    same_verdict(&rt, equal_columns(&[1, 2], &[1, 2]), true);
-    same_verdict(&rt, equal_columns(&[3; 32], &[3; 32]), true);
-    same_verdict(&rt, equal_columns(&[], &[]), true);
+    assert_eq!(rt; equal_columns(&[1, 2], &[1, 3]), false);
+    assert_eq!(rt; equal_columns(&[1, 2], &[1, 2]), true);
+    assert_eq!(rt; equal_columns(&[3; 32], &[3; 32]), true);
+    assert_eq!(rt; equal_columns(&[], &[]), true);
 }
 
 /// The next word of a linear congruential generator (Knuth's multiplier for 64 bits).

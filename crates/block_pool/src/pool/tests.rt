@@ -22,14 +22,6 @@ fn counts(pool: &Pool) -> (u32, u32, u32) {
     (pool.free(), pool.used(), pool.retired())
 }
 
-fn has(rt: &impl Abort, pool: &Pool, wanted: (u32, u32, u32)) {
-    assert_eq!(rt; counts(pool), wanted);
-}
-
-fn recycled(rt: &impl Abort, pool: &mut Pool, floor: u64, freed: u32) {
-    assert_eq!(rt; pool.recycle(floor), freed, "at {floor}");
-}
-
 fn give_back(rt: &impl Abort, pool: &mut Pool, block: Option<Arc<Block>>) {
     let block = block.expect(rt, "a block to give back");
     assert!(rt; is_used(pool, block.number()));
@@ -64,14 +56,14 @@ fn counts_through_the_life_of_two_blocks(rt: HostRuntime) -> Result<(), Fail> {
         numbers: _,
         mut blocks,
     } = pool.grant(2)?;
-    has(&rt, &pool, (14, 2, 0));
+    assert_eq!(rt; counts(&pool), (14, 2, 0));
     retire(&rt, &mut pool, blocks.pop(), 3);
-    has(&rt, &pool, (14, 1, 1));
-    recycled(&rt, &mut pool, 2, 0);
-    recycled(&rt, &mut pool, 3, 1);
-    has(&rt, &pool, (15, 1, 0));
+    assert_eq!(rt; counts(&pool), (14, 1, 1));
+    assert_eq!(rt; pool.recycle(2), 0);
+    assert_eq!(rt; pool.recycle(3), 1);
+    assert_eq!(rt; counts(&pool), (15, 1, 0));
     give_back(&rt, &mut pool, blocks.pop());
-    has(&rt, &pool, (16, 0, 0));
+    assert_eq!(rt; counts(&pool), (16, 0, 0));
     Ok(())
 }
 
@@ -86,9 +78,9 @@ fn recycles_up_to_the_floor(rt: HostRuntime) -> Result<(), Fail> {
         retire(&rt, &mut pool, blocks.pop(), version);
     }
     for (floor, freed) in [(2, 0), (3, 2), (4, 0), (8, 1), (8, 0), (u64::MAX, 1)] {
-        recycled(&rt, &mut pool, floor, freed);
+        assert_eq!(rt; pool.recycle(floor), freed, "at {floor}");
     }
-    has(&rt, &pool, (16, 0, 0));
+    assert_eq!(rt; counts(&pool), (16, 0, 0));
     Ok(())
 }
 
@@ -105,7 +97,7 @@ fn grants_first_what_was_given_back_last(rt: HostRuntime) -> Result<(), Fail> {
     let Grant { numbers, blocks } = pool.grant(1)?;
     assert_eq!(rt; numbers.first().copied(), last);
     assert_eq!(rt; blocks.first().map(|block| block.number()), last);
-    has(&rt, &pool, (15, 1, 0));
+    assert_eq!(rt; counts(&pool), (15, 1, 0));
     Ok(())
 }
 
@@ -149,7 +141,7 @@ fn refused_new(rt: HostRuntime) -> Result<(), Fail> {
             Pool::new(rt.alloc(), 16)?
         }
     };
-    has(&rt, &pool, (16, 0, 0));
+    assert_eq!(rt; counts(&pool), (16, 0, 0));
     Ok(())
 }
 
@@ -165,12 +157,12 @@ fn refused_grant(rt: HostRuntime) -> Result<(), Fail> {
     let mut grant = pool.grant(4);
     if grant.is_err() {
         tell_refused(&rt);
-        has(&rt, &pool, (16, 0, 0));
+        assert_eq!(rt; counts(&pool), (16, 0, 0));
         grant = pool.grant(4);
     }
     let Grant { numbers, blocks } = grant?;
     assert_eq!(rt; numbers.len(), 4);
     assert_eq!(rt; blocks.len(), 4);
-    has(&rt, &pool, (12, 4, 0));
+    assert_eq!(rt; counts(&pool), (12, 4, 0));
     Ok(())
 }

@@ -1,6 +1,6 @@
 // Scripts and what their records give: RFC 4180, and what it leaves open.
 
-use super::readers::{Pieces, in_pieces};
+use super::readers::in_pieces;
 use super::texts::gives;
 use feed_csv::Feed;
 use std::alloc::Global;
@@ -45,11 +45,6 @@ const BYTE_ORDER_MARKS: &str = "\u{feff}commit\n\u{feff}commit => commit; BadCom
     \n\u{feff}commit => BadCommand 1; end ~~ \
     \u{feff} => end";
 
-// The next call gives this part of what is wanted.
-fn check_call(rt: &impl Abort, alloc: Global, feed: &mut Feed<Pieces<'_>>, part: &str, want: &str) {
-    assert!(rt; gives(alloc, feed, part), "{want}");
-}
-
 // The script, in pieces of at most so many bytes, gives these outcomes, which `; ` parts, and the end from then on. The
 // read of the number `stops_at` gives nothing; where it is 0 none does.
 fn check_calls(
@@ -62,10 +57,10 @@ fn check_calls(
 ) {
     let mut feed = Feed::over(alloc, in_pieces(script, most, stops_at, None));
     for part in want.split("; ") {
-        check_call(rt, alloc, &mut feed, part, want);
+        assert!(rt; gives(alloc, &mut feed, part), "{want}");
     }
-    check_call(rt, alloc, &mut feed, "end", want);
-    check_call(rt, alloc, &mut feed, "end", want);
+    assert!(rt; gives(alloc, &mut feed, "end"), "{want}");
+    assert!(rt; gives(alloc, &mut feed, "end"), "{want}");
 }
 
 // Each row of a table, which ` ~~ ` parts, is a script, and behind ` => ` what it gives, whole and in pieces of a byte.
