@@ -1,5 +1,5 @@
-//! Tests of stinger_server and stinger_program by their public calls: scripts with the text that they print, readers and writers
-//! that fail, the program's arguments, in a crate above them: a crate with tests of its own is proved once more for these.
+//! Tests of feed_csv, script_lines, stinger_server and stinger_program by their public calls, in a crate above them: what no
+//! script of the program shows. Readers and writers that fail, refused growths, counts and texts that a script doesn't print.
 #![tactic(auto)]
 
 #[cfg(test)]

@@ -1,8 +1,11 @@
-//! Expected lines were worked out by hand from the rules. Plain scripts stand in `examples/`.
+//! Expected lines were worked out by hand from the rules. Plain scripts, and what the program says of its arguments, stand in
+//! `examples/`.
 
 mod arguments;
 mod faults;
+mod feeds;
 mod growths;
+mod lines;
 mod scripts;
 
 use std::io;
@@ -75,47 +78,6 @@ b 1
 // How many bytes of `TABLES_TEXT` stand before each record of `TABLES`, and at its end.
 const TABLES_ENDS: [usize; 7] = [0, 0, 41, 52, 76, 99, 120];
 
-// A script of levels, labels and core numbers, with the refusals of each in their order, and what it prints.
-const ANALYSES: &str = "\
-i,k,a,b,1,1
-i,k,c,c,1,2
-commit
-open,0
-bfs,0,z,m,5,4
-bfs,0,z,m,0,9
-bfs,0,z,k,0,9
-comp,0,m,5,4
-comp,0,m,0,9
-core,0,m,5,4
-core,0,m,0,9
-bfs,0,a,*,0,9
-comp,0,*,0,9
-core,0,k,0,9
-";
-
-const ANALYSES_TEXT: &str = "\
-commit v=1 ins=2 upd=0 rem=0 abs=0 ovf=0
-open 0 v=1
-error 5 BadWindow
-error 6 NoKind
-error 7 NoVertex
-error 8 BadWindow
-error 9 NoKind
-error 10 BadWindow
-error 11 NoKind
-bfs 0 reached=2
-a 0
-b 1
-comp 0 parts=2
-a a
-b a
-c c
-core 0 max=1
-a 1
-b 1
-c 0
-";
-
 fn two_seats(rt: &impl Abort) -> Config {
     Config::new(4, 16, 2).expect(rt, "within the limits")
 }
@@ -129,17 +91,19 @@ fn served(
     serve(rt, two_seats(rt), script.as_bytes(), writer)
 }
 
-// A run of `FIRST` over such a store, from a reader that fails after so many reads.
+// A run of the script over such a store, from a reader that gives a byte a read and fails after so many reads.
 fn served_torn(
     rt: &(impl Abort + AllocGlobal + Threads + Wait + Sync),
+    script: &[u8],
     reads: usize,
-    writer: &mut FakeWriter,
+    writer: &mut impl Write,
 ) -> Result<Summary, ServeFault> {
-    let reader = TornReader {
-        bytes: FIRST.as_bytes(),
-        reads,
-    };
-    serve(rt, two_seats(rt), reader, writer)
+    serve(
+        rt,
+        two_seats(rt),
+        torn(script, reads, Some(ErrorKind::Other)),
+        writer,
+    )
 }
 
 // The status of the program at the arguments, over the script.
@@ -228,22 +192,26 @@ impl Write for FakeWriter {
     }
 }
 
-// Gives one byte a read, and fails once: after so many reads.
+// Gives one byte a read; once, after so many reads, it fails with the kind, or gives nothing where there is none.
 #[derive(Drop)]
 struct TornReader<'a> {
     bytes: &'a [u8],
     reads: usize,
+    kind: Option<ErrorKind>,
+}
+
+fn torn(bytes: &[u8], reads: usize, kind: Option<ErrorKind>) -> TornReader<'_> {
+    TornReader { bytes, reads, kind }
 }
 
 impl Read for TornReader<'_> {
-    ghost use Rattle.std.specs.Prelude.{Some};
-
-    ghost remaining = { λ r. Some r.bytes.now };
-
     fn read(&mut self, buf: &mut [u8]) -> io::Result<usize> {
         if self.reads == 0 {
             self.reads = usize::MAX;
-            return Err(io::Error::from(ErrorKind::Other));
+            return match self.kind {
+                Some(kind) => Err(io::Error::from(kind)),
+                None => Ok(0),
+            };
         }
         self.reads -= 1;
         let n = buf.len().min(self.bytes.len()).min(1);
@@ -252,6 +220,20 @@ impl Read for TornReader<'_> {
         self.bytes = rest;
         Ok(n)
     }
+}
+
+// How many lines end in the bytes.
+fn lines_in(bytes: &[u8]) -> usize {
+    let mut lines: usize = 0;
+    for byte in bytes {
+        lines = lines.saturating_add(usize::from(*byte == b'\n'));
+    }
+    lines
+}
+
+// Tells `tools/refuse-each-growth` that a growth was refused, which the test accepted.
+fn tell_refused(rt: &impl Print) {
+    let _ = println!(rt; "refused");
 }
 
 // Whether these are the lines of the first records of `FIRST`, so many, and then the error line of the next.

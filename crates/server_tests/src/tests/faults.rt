@@ -1,6 +1,8 @@
 // Readers and writers that fail.
 
-use super::{FIRST, FIRST_TEXT, FakeWriter, REFUSED, REFUSED_TEXT, is_cut, served, served_torn};
+use super::{
+    FIRST, FIRST_TEXT, FakeWriter, REFUSED, REFUSED_TEXT, is_cut, lines_in, served, served_torn,
+};
 use std::process::Abort;
 use std::sync::Wait;
 use std::thread::Threads;
@@ -54,7 +56,7 @@ fn tells_a_failed_flush(
 ) {
     let mut writer = FakeWriter::new(rt, usize::MAX, true);
     writer.flush_fails = true;
-    let answer = served_torn(rt, reads, &mut writer);
+    let answer = served_torn(rt, FIRST.as_bytes(), reads, &mut writer);
     assert_eq!(rt; answer, Err(ServeFault::Write), "{reads}");
     assert_eq!(rt; writer.held.as_slice(), text.as_bytes(), "{reads}");
 }
@@ -65,20 +67,11 @@ fn tells_failed_flushes(rt: HostRuntime) {
     tells_a_failed_flush(&rt, 0, "error 1 Read\n");
 }
 
-// How many lines end in the bytes.
-fn lines_in(bytes: &[u8]) -> usize {
-    let mut lines: usize = 0;
-    for byte in bytes {
-        lines = lines.saturating_add(usize::from(*byte == b'\n'));
-    }
-    lines
-}
-
 #[test]
 fn tells_the_record_that_a_reader_failed_at(rt: HostRuntime) {
     for reads in 0..=FIRST.len() {
         let mut writer = FakeWriter::new(&rt, usize::MAX, true);
-        let answer = served_torn(&rt, reads, &mut writer);
+        let answer = served_torn(&rt, FIRST.as_bytes(), reads, &mut writer);
         let given = lines_in(&FIRST.as_bytes()[..reads]);
         assert_eq!(rt; answer, Err(ServeFault::Read), "{reads}");
         assert!(rt; is_cut(writer.held.as_slice(), given, "Read"), "{reads}");

@@ -3,7 +3,7 @@
 use super::arguments::{HELP, UNKNOWN};
 use super::{
     FIRST, FIRST_ENDS, FIRST_TEXT, FakeWriter, TABLES, TABLES_ENDS, TABLES_TEXT, begins, is_cut,
-    is_cut_of, served, status_of,
+    is_cut_of, served, status_of, tell_refused,
 };
 use stinger_server::ServeFault;
 
@@ -17,26 +17,21 @@ fn is_cut_by_memory(output: &[u8]) -> bool {
     false
 }
 
-// Tells `tools/refuse-each-growth` that a growth was refused, which the test accepted.
-fn refused(rt: &impl Print) {
-    let _ = println!(rt; "refused");
-}
-
 #[test]
 fn refused_growth_ends_a_run_at_its_record(rt: HostRuntime) {
     let Ok(mut output) = Vec::with_capacity(rt.alloc(), 1_024) else {
-        return refused(&rt);
+        return tell_refused(&rt);
     };
     match served(&rt, FIRST, &mut output) {
         Ok(_) => assert_eq!(rt; output.as_slice(), FIRST_TEXT.as_bytes()),
         Err(ServeFault::Start) => {
             assert!(rt; output.is_empty());
-            refused(&rt);
+            tell_refused(&rt);
         }
         Err(fault) => {
             assert_eq!(rt; fault, ServeFault::Memory);
             assert!(rt; is_cut_by_memory(output.as_slice()));
-            refused(&rt);
+            tell_refused(&rt);
         }
     }
 }
@@ -55,18 +50,18 @@ fn is_analysis_cut_by_memory(output: &[u8]) -> bool {
 #[test]
 fn refused_growth_leaves_no_line_of_an_analysis(rt: HostRuntime) {
     let Ok(mut output) = Vec::with_capacity(rt.alloc(), 1_024) else {
-        return refused(&rt);
+        return tell_refused(&rt);
     };
     match served(&rt, TABLES, &mut output) {
         Ok(_) => assert_eq!(rt; output.as_slice(), TABLES_TEXT.as_bytes()),
         Err(ServeFault::Start) => {
             assert!(rt; output.is_empty());
-            refused(&rt);
+            tell_refused(&rt);
         }
         Err(fault) => {
             assert_eq!(rt; fault, ServeFault::Memory);
             assert!(rt; is_analysis_cut_by_memory(output.as_slice()));
-            refused(&rt);
+            tell_refused(&rt);
         }
     }
 }
@@ -75,19 +70,19 @@ fn refused_growth_leaves_no_line_of_an_analysis(rt: HostRuntime) {
 #[test]
 fn refused_growth_into_a_full_writer_tells_the_writer(rt: HostRuntime) {
     let Ok(held) = Vec::with_capacity(rt.alloc(), 16) else {
-        return refused(&rt);
+        return tell_refused(&rt);
     };
     let mut writer = FakeWriter::new(&rt, 5, true);
     writer.held = held;
     let answer = served(&rt, FIRST, &mut writer);
     if answer == Err(ServeFault::Start) {
         assert!(rt; writer.held.is_empty());
-        return refused(&rt);
+        return tell_refused(&rt);
     }
     assert_eq!(rt; answer, Err(ServeFault::Write));
     assert_eq!(rt; writer.refusals, 1);
     if writer.held.as_slice() == b"error".as_slice() {
-        refused(&rt);
+        tell_refused(&rt);
     } else {
         assert_eq!(rt; writer.held.as_slice(), b"commi".as_slice());
     }
@@ -96,7 +91,7 @@ fn refused_growth_into_a_full_writer_tells_the_writer(rt: HostRuntime) {
 #[test]
 fn refused_growth_gives_the_program_status_1(rt: HostRuntime) {
     let Ok(mut output) = Vec::with_capacity(rt.alloc(), 1_024) else {
-        return refused(&rt);
+        return tell_refused(&rt);
     };
     let mut faults = Vec::new(rt.alloc());
     let status = status_of(&rt, &["run"], FIRST, &mut output, &mut faults);
@@ -105,7 +100,7 @@ fn refused_growth_gives_the_program_status_1(rt: HostRuntime) {
     } else {
         assert_eq!(rt; status, 1);
         assert!(rt; output.is_empty() || is_cut_by_memory(output.as_slice()));
-        refused(&rt);
+        tell_refused(&rt);
     }
     assert!(rt; faults.is_empty());
 }
@@ -114,15 +109,15 @@ fn refused_growth_gives_the_program_status_1(rt: HostRuntime) {
 fn refused_growth_leaves_the_arguments_untold(rt: HostRuntime) {
     for (argument, told, text, complaint) in [("--help", 0, HELP, ""), ("fly", 2, "", UNKNOWN)] {
         let Ok(mut output) = Vec::with_capacity(rt.alloc(), 8_192) else {
-            return refused(&rt);
+            return tell_refused(&rt);
         };
         let Ok(mut faults) = Vec::with_capacity(rt.alloc(), 1_024) else {
-            return refused(&rt);
+            return tell_refused(&rt);
         };
         let status = status_of(&rt, &[argument], "", &mut output, &mut faults);
         if status == 1 {
             assert!(rt; output.is_empty() && faults.is_empty(), "{argument}");
-            refused(&rt);
+            tell_refused(&rt);
         } else {
             assert_eq!(rt; status, told, "{argument}");
             assert!(rt; begins(output.as_slice(), text), "{argument}");

@@ -1,7 +1,8 @@
-//! Expected lines were worked out by hand from the rules.
+// The lines of records by themselves: a call of each kind, and growths that are refused.
 
+use super::tell_refused;
 use feed_csv::FeedWord;
-use graph_model::{Degree, List, Outcome, VertexId, is_name};
+use graph_model::{List, Outcome, VertexId, is_name};
 use script_lines::{
     Word, close_line, collect_line, commit_line, open_line, reply_lines, stat_line,
 };
@@ -21,15 +22,6 @@ fn has_text(rt: &impl Abort, word: Word, text: &str) {
 fn words_have_their_texts(rt: HostRuntime) {
     has_text(&rt, Word::Feed(FeedWord::BadName), "BadName");
     has_text(&rt, Word::NotOpen, "NotOpen");
-    has_text(&rt, Word::AlreadyOpen, "AlreadyOpen");
-    has_text(&rt, Word::BadWindow, "BadWindow");
-    has_text(&rt, Word::NoKind, "NoKind");
-    has_text(&rt, Word::NoVertex, "NoVertex");
-    has_text(&rt, Word::BatchFull, "BatchFull");
-    has_text(&rt, Word::NamesFull, "NamesFull");
-    has_text(&rt, Word::KindsFull, "KindsFull");
-    has_text(&rt, Word::BatchLimit, "BatchLimit");
-    has_text(&rt, Word::PoolEmpty, "PoolEmpty");
 }
 
 // A buffer that lines were appended to holds this text.
@@ -108,63 +100,6 @@ fn tells_levels(rt: HostRuntime) -> Result<(), Fail> {
     let levels = List::of(vec![in rt.alloc(); Some(1), None, Some(0)]?);
     replies(&rt, &NumberedReply::Levels(levels), LEVEL_LINES);
     Ok(())
-}
-
-#[test]
-fn tells_labels(rt: HostRuntime) -> Result<(), Fail> {
-    let labels = List::of(vec![in rt.alloc(); VertexId(0), VertexId(1), VertexId(0)]?);
-    replies(&rt, &NumberedReply::Labels(labels), LABEL_LINES);
-    Ok(())
-}
-
-#[test]
-fn tells_core_numbers(rt: HostRuntime) -> Result<(), Fail> {
-    let numbers = List::of(vec![in rt.alloc(); 1, 3, 2]?);
-    replies(
-        &rt,
-        &NumberedReply::Cores(numbers),
-        "core 1 max=3\nann 1\nbob 3\ncat 2\n",
-    );
-    Ok(())
-}
-
-// What a vertex has.
-fn degree(outgoing: u32, incoming: u32, out_weight: i64) -> Degree {
-    Degree {
-        outgoing,
-        incoming,
-        out_weight,
-    }
-}
-
-#[test]
-fn tells_degrees(rt: HostRuntime) -> Result<(), Fail> {
-    let degrees = List::of(vec![in rt.alloc();
-        degree(2, 0, -7),
-        degree(0, 1, 0),
-        degree(1, 2, 12),
-    ]?);
-    replies(
-        &rt,
-        &NumberedReply::Degrees(degrees),
-        "deg 1 edges=3\nann 2 0 -7\nbob 0 1 0\ncat 1 2 12\n",
-    );
-    Ok(())
-}
-
-#[test]
-fn tells_one_edge_and_none(rt: HostRuntime) {
-    replies(
-        &rt,
-        &NumberedReply::OneEdge(Some((-5, 10, 20))),
-        "edge 1 -5 10 20\n",
-    );
-    replies(&rt, &NumberedReply::OneEdge(None), "edge 1 none\n");
-}
-
-// Tells `tools/refuse-each-growth` that a growth was refused, which the test accepted.
-fn tell_refused(rt: &impl Print) {
-    let _ = println!(rt; "refused");
 }
 
 // A text was appended whole to lines that stood, or a growth was refused; either way those that stood are still the first.

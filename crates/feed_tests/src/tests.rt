@@ -1,5 +1,0 @@
-mod failing;
-mod readers;
-mod records;
-mod tables;
-mod texts;
