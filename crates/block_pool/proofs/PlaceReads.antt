@@ -1,12 +1,9 @@
 -- What the code reads of a number.
-use Rattle.std.proofs.Common.{◌≡◌, List, map, ℕ, ◌<◌, length, get_or, sym, ap, ◌∙◌, arith, true}
+use Rattle.std.proofs.Common.{◌≡◌, ℕ, ◌<◌, length, get_or, sym, ap, ◌∙◌, arith, true}
 use Rattle.std.proofs.lemmas.List.{get_or_read, get_or-map, length-map}
-use Rattle.std.specs.Prelude.{slice_get}
-use Rattle.std.specs.Option.{option_map}
-use Rattle.std.proofs.lemmas.Option.{slice_get-map}
 use Rattle.block_pool.specs.declared.numbers.Place.{Place}
 use Rattle.block_pool.specs.declared.numbers.Numbers.{Numbers}
-use Rattle.block_pool.specs.Pools.{Used, is_used, is_retired, passes}
+use Rattle.block_pool.specs.Pools.{Used, is_retired}
 use Rattle.block_pool.specs.Kept.{statuses, status_from, status_of, IsKept}
 use Rattle.block_pool.proofs.Tallies.{listed_at}
 
@@ -31,7 +28,3 @@ status_read n k at r p lt e f =
     ap (status_of (statuses n)) (sym same) ∙ get_or-map status_from n.places.items r p Used (number_within n k at r lt e)
     ∙ ap status_from (sym f) in
     (here, sym (ap is_retired here) ∙ a.1)
-
-pub used_place : (places : List Place) (k : ℕ)
-    → passes is_used (slice_get (map status_from places) k) ≡ passes is_used (option_map status_from (slice_get places k))
-used_place places k = ap (passes is_used) (slice_get-map status_from places k)

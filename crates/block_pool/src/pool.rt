@@ -223,6 +223,3 @@ fn body_of(
         None => Ok(Arc::new(alloc, Block::blank(number))?),
     }
 }
-
-#[cfg(test)]
-mod tests;

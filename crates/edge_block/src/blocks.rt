@@ -14,9 +14,6 @@ use graph_model::{Filter, KindId, VertexId};
 use lane_scan::{equal_columns, find_target, widened};
 use std::marker::Model;
 
-#[cfg(test)]
-mod tests;
-
 /// A block: a number, a source and a kind, and 32 slots, each empty or an edge.
 ///
 /// What a search reads lies together and first: a header of the live places, the kind, the source, the number and the

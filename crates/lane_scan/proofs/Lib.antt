@@ -1,5 +1,4 @@
 pub mod Selected
-pub mod Weights
 pub mod Windows
 pub mod UsedParts
 pub mod Lanes

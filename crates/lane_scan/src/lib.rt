@@ -13,9 +13,6 @@ ghost use Rattle.lane_scan.specs.Masks.{selected};
 
 use std::simd::prelude::*;
 
-#[cfg(test)]
-mod tests;
-
 /// The least live place that holds the target.
 pub fn find_target(targets: &[u32], live: u32, target: u32) -> Option<usize>
     requires { length targets.now ≤ 32 }

@@ -2,6 +2,9 @@
 
 mod batches;
 mod blanks;
+mod blocks;
+mod lanes;
 mod names;
+mod pools;
 mod rows;
 mod seats;

@@ -3,7 +3,7 @@ use Rattle.std.proofs.lemmas.Int.{ints}
 use Rattle.std.proofs.lemmas.List.{length-set}
 use Rattle.std.proofs.lemmas.List.Elements.{AllWithin-more_set}
 use Rattle.lane_scan.specs.Masks.{IsWeight}
-use Rattle.lane_scan.proofs.tests.small_weights.Goals as goal
+use Rattle.part_tests.proofs.tests.lanes.small_weights.Goals as goal
 
 pub loop-weight-preserved : goal.loop-weight-preserved
 loop-weight-preserved c = (

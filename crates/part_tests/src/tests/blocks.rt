@@ -1,7 +1,10 @@
-ghost use Rattle.std.specs.Prelude.{◌≡◌, ◌<◌, ◌^◌, IfOk};
+// Edge blocks.
+
+ghost use Rattle.std.specs.Prelude.{◌≡◌, IfOk};
 ghost use Rattle.graph_model.specs.Graph.{IsTime};
 
-use super::*;
+use edge_block::{Block, EdgeRef};
+use graph_model::{Filter, KindId, VertexId};
 use std::alloc::AllocError;
 use std::process::Abort;
 use std::sync::Arc;
@@ -14,7 +17,7 @@ const ALL: Filter = Filter {
 };
 
 /// Puts an edge of weight 1 into a block that has room for it.
-#[tactic(auto, using(crate::proofs::Room::room_found, crate::proofs::Room::room_free))]
+#[tactic(auto, using(edge_block::proofs::Room::room_found, edge_block::proofs::Room::room_free))]
 fn put(rt: &impl Abort, block: &mut Block, target: u32, recent: u64)
     requires { IsTime recent }
 {
