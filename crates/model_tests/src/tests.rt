@@ -1,4 +1,6 @@
-// The types, and the slow functions over them.
+// The types, and the slow functions over them, from text and as text.
 
+mod parts;
 mod plain;
+mod texts;
 mod types;

@@ -1,76 +1,19 @@
-//! What the tests build with: operations, batches and contents.
+//! What the tests build with, and how they ask: contents by operations, requests and their answers as text.
 
-ghost use Rattle.std.specs.Prelude.{IfSome};
+ghost use Rattle.std.specs.Prelude.{IfOk};
 ghost use Rattle.graph_model.specs.Graph.{IsContent};
 
 mod analysing;
 mod applying;
 mod replying;
 
-use crate::tests::plain::Act::{Incr, Insert, Remove};
-use graph_model::{Batch, Content, List, Name, NamedFilter, NamedOp, Outcome, PushError};
-use plain_graph::{law_names_before_kinds, plain_apply};
-use std::alloc::{AllocError, Global};
+use super::parts::{LineError, batch, only_refused, refused, request};
+use super::texts::reply_text;
+use graph_model::{Content, List, Request};
+use plain_graph::{law_names_before_kinds, plain_apply, plain_reply};
+use std::alloc::Global;
+use std::process::Abort;
 use std::test::Fail;
-
-#[derive(Clone, Copy, PartialEq, Eq)]
-enum Act {
-    Insert,
-    Incr,
-    Remove,
-}
-
-/// An operation: kind, source, target, weight or amount, and time; a removal has neither of the last two.
-#[derive(Clone, Copy)]
-struct Row(Act, &'static str, &'static str, &'static str, i64, u64);
-
-fn name(alloc: Global, text: &str) -> Result<Name, AllocError> {
-    Ok(Name::of(String::from_str(alloc, text)?))
-}
-
-fn operation(alloc: Global, row: &Row) -> Result<NamedOp, AllocError> {
-    let kind = name(alloc, row.1)?;
-    let source = name(alloc, row.2)?;
-    let target = name(alloc, row.3)?;
-    Ok(match row.0 {
-        Insert => NamedOp::Insert {
-            kind,
-            source,
-            target,
-            weight: row.4,
-            time: row.5,
-        },
-        Incr => NamedOp::Incr {
-            kind,
-            source,
-            target,
-            amount: row.4,
-            time: row.5,
-        },
-        Remove => NamedOp::Remove {
-            kind,
-            source,
-            target,
-        },
-    })
-}
-
-/// Appends the operations to the batch.
-fn push_rows(alloc: Global, batch: &mut Batch, rows: &[Row]) -> Result<(), PushError> {
-    for row in rows {
-        match operation(alloc, row) {
-            Ok(op) => batch.push(op)?,
-            Err(AllocError) => return Err(PushError::OutOfMemory),
-        }
-    }
-    Ok(())
-}
-
-fn batch_of(alloc: Global, rows: &[Row]) -> Result<Batch, PushError> {
-    let mut batch = Batch::new(alloc);
-    push_rows(alloc, &mut batch, rows)?;
-    Ok(batch)
-}
 
 fn empty(alloc: Global) -> Content
     ensures { IsContent result }
@@ -82,45 +25,25 @@ fn empty(alloc: Global) -> Content
     }
 }
 
-/// The content that these operations leave, where memory allows it.
-fn content_of(alloc: Global, rows: &[Row]) -> Option<Content>
-    ensures { IfSome result IsContent }
-{
-    let batch = batch_of(alloc, rows).ok()?;
-    let mut content = empty(alloc);
-    plain_apply(alloc, &mut content, &batch).ok()?;
-    Some(content)
-}
-
-/// A filter; the kind `*` is any.
-fn filter(alloc: Global, kind: &str, lo: u64, hi: u64) -> Result<NamedFilter, AllocError> {
-    let kind = if kind == "*" {
-        None
-    } else {
-        Some(name(alloc, kind)?)
-    };
-    Ok(NamedFilter { kind, lo, hi })
-}
-
-/// Applies the operations as one batch: whether they have these outcomes. Nothing where memory is refused.
-fn applies(alloc: Global, content: &mut Content, rows: &[Row], outcomes: &[Outcome]) -> Option<bool>
+fn apply(alloc: Global, content: &mut Content, ops: &str) -> Result<(), LineError>
     requires { IsContent content.old }
     ensures { IsContent content.new }
 {
-    let batch = batch_of(alloc, rows).ok()?;
-    match plain_apply(alloc, content, &batch) {
-        Ok(told) => Some(told.as_slice() == outcomes),
-        Err(_) => None,
+    match plain_apply(alloc, content, &batch(alloc, ops)?) {
+        Ok(_) => Ok(()),
+        Err(error) => Err(error)?,
     }
 }
 
-fn are_called(names: &List<Name>, texts: &[&str]) -> bool {
-    let names = names.as_slice();
-    let mut are_called = names.len() == texts.len();
-    for (name, text) in names.iter().zip(texts) {
-        are_called = are_called && name.as_str() == *text;
+/// The content that these operations leave.
+fn content_of(alloc: Global, ops: &str) -> Result<Content, LineError>
+    ensures { IfOk result IsContent }
+{
+    let mut content = empty(alloc);
+    match apply(alloc, &mut content, ops) {
+        Ok(()) => Ok(content),
+        Err(error) => Err(error),
     }
-    are_called
 }
 
 /// How many names, kinds and edges the content has.
@@ -132,10 +55,81 @@ fn sizes(content: &Content) -> (usize, usize, usize) {
     )
 }
 
-/// Tells `tools/refuse-each-growth` that a growth was refused, which the test accepted.
-fn refused(rt: &impl Print) -> Result<(), Fail> {
-    println!(rt; "refused")?;
+fn answer(alloc: Global, content: &Content, request: &Request) -> Result<String, LineError>
+    requires { IsContent content.now }
+{
+    reply_text(alloc, &plain_reply(alloc, content, request))
+}
+
+fn asked(alloc: Global, content: &Content, text: &str) -> Result<String, LineError>
+    requires { IsContent content.now }
+{
+    answer(alloc, content, &request(alloc, text)?)
+}
+
+/// Asks what stands before the arrow. Tells whether a growth was refused; else the answer is what stands behind it.
+fn is_refused(rt: &impl Abort, alloc: Global, content: &Content, row: &str) -> Result<bool, Fail>
+    requires { IsContent content.now }
+{
+    let (text, wanted) = row.split_once(" => ").ok_or("no answer")?;
+    match asked(alloc, content, text) {
+        Ok(text) => {
+            assert_eq!(rt; text.as_str(), wanted, "{row}");
+            Ok(false)
+        }
+        Err(LineError::OutOfMemory) => Ok(true),
+        Err(error) => Err(error)?,
+    }
+}
+
+fn check_rows(rt: &impl Abort, alloc: Global, content: &Content, table: &str) -> Result<(), Fail>
+    requires { IsContent content.now }
+{
+    for row in table.lines() {
+        if is_refused(rt, alloc, content, row)? {
+            return Err("out of memory")?;
+        }
+    }
     Ok(())
+}
+
+/// The content that the operations leave answers so.
+fn check(rt: &impl Abort, alloc: Global, ops: &str, table: &str) -> Result<(), Fail> {
+    check_rows(rt, alloc, &content_of(alloc, ops)?, table)
+}
+
+/// The content, of these sizes before and after each answer, answers so up to a growth that was refused.
+fn check_growths(
+    rt: &(impl Abort + Print),
+    alloc: Global,
+    content: &Content,
+    table: &str,
+    wanted: (usize, usize, usize),
+) -> Result<(), Fail>
+    requires { IsContent content.now }
+{
+    for row in table.lines() {
+        let is_refused = is_refused(rt, alloc, content, row)?;
+        assert_eq!(rt; sizes(content), wanted);
+        if is_refused {
+            return refused(rt);
+        }
+    }
+    Ok(())
+}
+
+/// The content that the operations leave, with these sizes, answers so, unless a growth is refused.
+fn check_refused(
+    rt: &(impl Abort + Print),
+    alloc: Global,
+    ops: &str,
+    table: &str,
+    wanted: (usize, usize, usize),
+) -> Result<(), Fail> {
+    match content_of(alloc, ops) {
+        Ok(content) => check_growths(rt, alloc, &content, table, wanted),
+        Err(error) => only_refused(rt, error),
+    }
 }
 
 #[test]

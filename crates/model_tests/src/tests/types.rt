@@ -3,149 +3,71 @@
 ghost use Rattle.std.specs.Prelude.{◌≡◌, IfSome};
 ghost use Rattle.graph_model.specs.Changes.{AreMarks, IsChange};
 
-use crate::tests::types::Act::{Incr, Insert, Remove};
+use super::parts::{LineError, batch, name, names, only_refused, push_op, refused, request};
 use graph_model::{
-    Batch, Content, Edge, EdgeChange, EdgeMarks, KindId, List, Name, NamedFilter, NamedOp, Outcome,
-    PushError, Request, VertexId, change_edge, is_kind_name, is_name, law_edge_order,
-    law_first_time_stays, law_names_stay_names, law_one_answer, law_one_table, law_some_answer,
-    law_some_table, law_within_limits,
+    Batch, Content, Edge, EdgeChange, EdgeMarks, KindId, List, Outcome, PushError, VertexId,
+    change_edge, is_kind_name, is_name, law_edge_order, law_first_time_stays, law_names_stay_names,
+    law_one_answer, law_one_table, law_some_answer, law_some_table, law_within_limits,
 };
 use std::alloc::{AllocError, Global};
+use std::fmt::Debug;
 use std::process::Abort;
 use std::test::Fail;
 
-#[derive(Clone, Copy, Debug, PartialEq, Eq)]
-enum Act {
-    Insert,
-    Incr,
-    Remove,
-}
-
-/// An operation: kind, source, target, weight or amount, and time; a removal has neither of the last two.
-#[derive(Clone, Copy)]
-struct Row(Act, &'static str, &'static str, &'static str, i64, u64);
-
-fn name(alloc: Global, text: &str) -> Result<Name, AllocError> {
-    Ok(Name::of(String::from_str(alloc, text)?))
-}
-
-fn operation(alloc: Global, row: &Row) -> Result<NamedOp, AllocError> {
-    let kind = name(alloc, row.1)?;
-    let source = name(alloc, row.2)?;
-    let target = name(alloc, row.3)?;
-    Ok(match row.0 {
-        Insert => NamedOp::Insert {
-            kind,
-            source,
-            target,
-            weight: row.4,
-            time: row.5,
-        },
-        Incr => NamedOp::Incr {
-            kind,
-            source,
-            target,
-            amount: row.4,
-            time: row.5,
-        },
-        Remove => NamedOp::Remove {
-            kind,
-            source,
-            target,
-        },
-    })
-}
-
-/// Appends an operation to the batch.
-fn push_row(alloc: Global, batch: &mut Batch, row: &Row) -> Result<(), PushError> {
-    match operation(alloc, row) {
-        Ok(op) => batch.push(op),
-        Err(AllocError) => Err(PushError::OutOfMemory),
-    }
-}
-
-fn batch_of(alloc: Global, rows: &[Row]) -> Result<Batch, PushError> {
-    let mut batch = Batch::new(alloc);
-    for row in rows {
-        push_row(alloc, &mut batch, row)?;
-    }
-    Ok(batch)
-}
-
-/// Tells `tools/refuse-each-growth` that a growth was refused, which the test accepted.
-fn refused(rt: &impl Print) -> Result<(), Fail> {
-    println!(rt; "refused")?;
-    Ok(())
-}
-
-/// What an operation does, its weight or amount, and its time.
-fn numbers_of(op: &NamedOp) -> (Act, i64, u64) {
-    match op {
-        NamedOp::Insert { weight, time, .. } => (Insert, *weight, *time),
-        NamedOp::Incr { amount, time, .. } => (Incr, *amount, *time),
-        NamedOp::Remove { .. } => (Remove, 0, 0),
-    }
-}
-
-fn source_of(op: &NamedOp) -> &str {
-    match op {
-        NamedOp::Insert { source, .. } => source.as_str(),
-        NamedOp::Incr { source, .. } => source.as_str(),
-        NamedOp::Remove { source, .. } => source.as_str(),
-    }
-}
-
-fn is_row(op: &NamedOp, row: &Row) -> bool {
-    numbers_of(op) == (row.0, row.4, row.5) && source_of(op) == row.2
-}
-
-/// Whether the batch has the operations of the rows, in their order.
-fn are_rows(batch: &Batch, rows: &[Row]) -> bool {
-    let mut are_rows = batch.len() == rows.len();
-    for (op, row) in batch.ops().iter().zip(rows) {
-        are_rows = are_rows && is_row(op, row);
-    }
-    are_rows
-}
-
-/// Whether the batch can be copied and the copy has the operations of the rows; nothing where memory is refused.
-fn is_copied(batch: &Batch, rows: &[Row]) -> Option<bool> {
-    let copy: Result<Batch, AllocError> = batch.clone();
-    match copy {
-        Ok(copy) => Some(are_rows(&copy, rows)),
-        Err(AllocError) => None,
-    }
-}
+// A text, whether it is a name, and whether it is that of a kind. The two before the last five have 64 and 65 bytes.
+const TEXTS: [(&str, bool, bool); 14] = [
+    ("ann", true, true),
+    ("!", true, true),
+    ("~", true, true),
+    ("*", true, false),
+    ("**", true, true),
+    ("knows", true, true),
+    ("a,b\"c", true, true),
+    (
+        "0123456789012345678901234567890123456789012345678901234567890123",
+        true,
+        true,
+    ),
+    (
+        "01234567890123456789012345678901234567890123456789012345678901234",
+        false,
+        false,
+    ),
+    ("", false, false),
+    ("two words", false, false),
+    ("tab\t", false, false),
+    ("\u{7f}", false, false),
+    ("\u{e9}", false, false),
+];
 
 #[test]
-fn names_are_short_printable_texts(rt: HostRuntime) -> Result<(), Fail> {
-    let longest = "0123456789012345678901234567890123456789012345678901234567890123";
-    let too_long = "01234567890123456789012345678901234567890123456789012345678901234";
-    for text in ["ann", "!", "~", "*", "**", "knows", "a,b\"c", longest] {
-        assert!(rt; is_name(text), "{text}");
-        assert_eq!(rt; is_kind_name(text), text != "*", "{text}");
+fn names_are_short_printable_texts(rt: HostRuntime) {
+    for (text, is_a_name, is_a_kind) in TEXTS {
+        assert_eq!(rt;
+            (is_name(text), is_kind_name(text)),
+            (is_a_name, is_a_kind),
+            "{text}"
+        );
     }
-    for text in [too_long, "", "two words", "tab\t", "\u{7f}", "\u{e9}"] {
-        assert!(rt; !is_name(text), "{text}");
-        assert!(rt; !is_kind_name(text), "{text}");
-    }
-    Ok(())
 }
 
 #[test]
 fn a_name_shows_its_text(rt: HostRuntime) -> Result<(), Fail> {
-    let ann = name(rt.alloc(), "ann")?;
-    assert_eq!(rt; ann.as_str(), "ann");
-    assert_eq!(rt; ann.into_string().as_str(), "ann");
-    assert_eq!(rt; name(rt.alloc(), "bob")?.clone()?.as_str(), "bob");
+    let alloc = rt.alloc();
+    assert_eq!(rt; name(alloc, "ann")?.as_str(), "ann");
+    assert_eq!(rt; name(alloc, "ann")?.into_string().as_str(), "ann");
+    assert_eq!(rt; name(alloc, "bob")?.clone()?.as_str(), "bob");
     Ok(())
+}
+
+fn list(alloc: Global) -> Result<List<i32>, AllocError> {
+    Ok(List::of(vec![in alloc; 4, 9]?))
 }
 
 #[test]
 fn a_list_shows_its_items(rt: HostRuntime) -> Result<(), Fail> {
-    let list = List::of(vec![in rt.alloc(); 4, 9]?);
-    assert_eq!(rt; list.as_slice(), [4, 9].as_slice());
-    assert_eq!(rt; list.into_vec().as_slice(), [4, 9].as_slice());
+    assert_eq!(rt; list(rt.alloc())?.as_slice(), [4, 9].as_slice());
+    assert_eq!(rt; list(rt.alloc())?.into_vec().as_slice(), [4, 9].as_slice());
     Ok(())
 }
 
@@ -262,114 +184,155 @@ fn increments_follow_the_rule(rt: HostRuntime) {
     );
 }
 
-const ONE_OF_EACH: [Row; 3] = [
-    Row(
-        Insert,
-        "knows",
-        "ann",
-        "bob",
-        -1_099_511_627_776,
-        9_223_372_036_854_775_807,
-    ),
-    Row(Incr, "knows", "ann", "bob", 1_099_511_627_776, 0),
-    Row(Remove, "knows", "cat", "bob", 0, 0),
-];
+const ONE_OF_EACH: &str = "i,knows,ann,bob,-1099511627776,9223372036854775807
+a,knows,ann,bob,1099511627776,0
+r,knows,cat,bob";
+
+const SHOWN: &str = "Batch { ops: [\
+    Insert { kind: Name { text: \"knows\" }, source: Name { text: \"ann\" }, target: Name { text: \"bob\" }, \
+    weight: -1099511627776, time: 9223372036854775807 }, \
+    Incr { kind: Name { text: \"knows\" }, source: Name { text: \"ann\" }, target: Name { text: \"bob\" }, \
+    amount: 1099511627776, time: 0 }, \
+    Remove { kind: Name { text: \"knows\" }, source: Name { text: \"cat\" }, target: Name { text: \"bob\" } }] }";
+
+// The copy, and right behind it what it is a copy of.
+fn twice<T: Clone + Debug + Drop>(alloc: Global, item: &T) -> Result<String, AllocError> {
+    let copy = item.clone()?;
+    format!(in alloc; "{copy:?}{item:?}")
+}
+
+fn check_kept(rt: &impl Abort, alloc: Global, batch: &Batch) -> Result<(), Fail> {
+    assert_eq!(rt;
+        (batch.is_empty(), batch.len(), batch.ops().len()),
+        (false, 3, 3)
+    );
+    assert_eq!(rt; twice(alloc, batch)?.strip_prefix(SHOWN), Some(SHOWN));
+    Ok(())
+}
 
 #[test]
 fn a_batch_keeps_its_operations_in_order(rt: HostRuntime) -> Result<(), Fail> {
     assert!(rt; Batch::new(rt.alloc()).is_empty());
-    let batch = batch_of(rt.alloc(), &ONE_OF_EACH)?;
-    assert!(rt; !batch.is_empty());
-    assert!(rt; are_rows(&batch, &ONE_OF_EACH));
-    assert_eq!(rt; is_copied(&batch, &ONE_OF_EACH), Some(true));
-    Ok(())
+    check_kept(&rt, rt.alloc(), &batch(rt.alloc(), ONE_OF_EACH)?)
 }
 
 /// The batch refuses the operation.
-fn check_refused(rt: &(impl Abort + AllocGlobal), batch: &mut Batch, row: Row, refusal: PushError) {
-    assert_eq!(rt; push_row(rt.alloc(), batch, &row), Err(refusal));
+fn check_refused(rt: &impl Abort, alloc: Global, batch: &mut Batch, op: &str, refusal: PushError) {
+    assert_eq!(rt;
+        push_op(alloc, batch, op),
+        Err(LineError::Refused(refusal)),
+        "{op}"
+    );
 }
 
-// Past the limit of weights, and of times.
-const PAST: i64 = 1_099_511_627_777;
-
-const LATE: u64 = 9_223_372_036_854_775_808;
-
-const BAD_OPERATIONS: [(Row, PushError); 6] = [
+// Weights and times past their limits, of which the first refusal is told.
+const BAD_OPERATIONS: [(&str, PushError); 6] = [
     (
-        Row(Insert, "*", "ann", "bob", PAST, LATE),
+        "i,*,ann,bob,1099511627777,9223372036854775808",
         PushError::BadName,
     ),
-    (Row(Remove, "knows", "", "bob", 0, 0), PushError::BadName),
+    ("r,knows,,bob", PushError::BadName),
     (
-        Row(Insert, "knows", "ann", "bob", PAST, LATE),
+        "i,knows,ann,bob,1099511627777,9223372036854775808",
         PushError::BadWeight,
     ),
-    (
-        Row(Incr, "knows", "ann", "bob", -1_099_511_627_777, 0),
-        PushError::BadWeight,
-    ),
-    (
-        Row(Insert, "knows", "ann", "bob", 0, LATE),
-        PushError::BadTime,
-    ),
-    (
-        Row(Incr, "knows", "ann", "bob", 0, LATE),
-        PushError::BadTime,
-    ),
+    ("a,knows,ann,bob,-1099511627777,0", PushError::BadWeight),
+    ("i,knows,ann,bob,0,9223372036854775808", PushError::BadTime),
+    ("a,knows,ann,bob,0,9223372036854775808", PushError::BadTime),
 ];
 
 #[test]
 fn a_batch_refuses_bad_operations_in_order(rt: HostRuntime) {
     let mut batch = Batch::new(rt.alloc());
-    for (row, refusal) in &BAD_OPERATIONS {
-        check_refused(&rt, &mut batch, *row, *refusal);
+    for (op, refusal) in BAD_OPERATIONS {
+        check_refused(&rt, rt.alloc(), &mut batch, op, refusal);
     }
     assert_eq!(rt; batch.len(), 0);
 }
 
-#[test]
-fn a_batch_has_at_most_4096_operations(rt: HostRuntime) {
-    let mut batch = Batch::new(rt.alloc());
-    for time in 0..4096 {
-        let row = Row(Insert, "knows", "ann", "bob", 1, time);
-        assert_eq!(rt; push_row(rt.alloc(), &mut batch, &row), Ok(()));
+fn fill(alloc: Global, batch: &mut Batch) -> Result<(), LineError> {
+    for time in 0..4096u64 {
+        push_op(
+            alloc,
+            batch,
+            format!(in alloc; "i,knows,ann,bob,1,{time}")?.as_str(),
+        )?;
     }
-    let nameless = Row(Remove, "knows", "", "bob", 0, 0);
-    let removal = Row(Remove, "knows", "ann", "bob", 0, 0);
-    check_refused(&rt, &mut batch, removal, PushError::BatchFull);
-    check_refused(&rt, &mut batch, nameless, PushError::BadName);
+    Ok(())
+}
+
+fn check_full(rt: &impl Abort, alloc: Global, batch: &mut Batch) -> Result<(), Fail> {
+    fill(alloc, batch)?;
+    check_refused(rt, alloc, batch, "r,knows,ann,bob", PushError::BatchFull);
+    check_refused(rt, alloc, batch, "r,knows,,bob", PushError::BadName);
     assert_eq!(rt; batch.len(), 4096);
+    Ok(())
 }
 
-/// A request for degrees of a kind, from 3 to 7.
-fn request(alloc: Global) -> Result<Request, AllocError> {
-    Ok(Request::Degrees {
-        filter: NamedFilter {
-            kind: Some(name(alloc, "knows")?),
-            lo: 3,
-            hi: 7,
-        },
-    })
+#[test]
+fn a_batch_has_at_most_4096_operations(rt: HostRuntime) -> Result<(), Fail> {
+    let mut batch = Batch::new(rt.alloc());
+    check_full(&rt, rt.alloc(), &mut batch)
 }
 
-/// Whether it is that request.
-fn is_request(request: &Request) -> bool {
-    match request {
-        Request::Degrees { filter } => match &filter.kind {
-            Some(kind) => kind.as_str() == "knows" && filter.lo == 3 && filter.hi == 7,
-            None => false,
-        },
-        _ => false,
+fn check_push(rt: &(impl Abort + Print), alloc: Global, batch: &mut Batch) -> Result<(), Fail> {
+    match push_op(
+        alloc,
+        batch,
+        "i,knows,ann,bob,-1099511627776,9223372036854775807",
+    ) {
+        Ok(()) => {
+            assert_eq!(rt; batch.len(), 1);
+            Ok(())
+        }
+        Err(error) => {
+            assert_eq!(rt; (error, batch.len()), (LineError::OutOfMemory, 0));
+            refused(rt)
+        }
     }
 }
 
-/// Whether the request can be copied and the copy is that request; nothing where memory is refused.
-fn is_request_copied(request: &Request) -> Option<bool> {
-    let copy: Result<Request, AllocError> = request.clone();
-    match copy {
-        Ok(copy) => Some(is_request(&copy)),
-        Err(AllocError) => None,
+#[test]
+fn refused_push_leaves_the_batch(rt: HostRuntime) -> Result<(), Fail> {
+    let mut batch = Batch::new(rt.alloc());
+    check_push(&rt, rt.alloc(), &mut batch)
+}
+
+// Where the copy's growth was refused, the item stands, and a copy that is made then is whole.
+fn check_copies<T: Clone + Debug + Drop>(
+    rt: &(impl Abort + Print),
+    alloc: Global,
+    item: &T,
+    shown: &str,
+) -> Result<(), Fail> {
+    match twice(alloc, item) {
+        Ok(text) => {
+            assert_eq!(rt; text.strip_prefix(shown), Some(shown));
+            Ok(())
+        }
+        Err(AllocError) => {
+            assert_eq!(rt; twice(alloc, item)?.strip_prefix(shown), Some(shown));
+            refused(rt)
+        }
+    }
+}
+
+#[test]
+fn refused_copies_leave_the_batch(rt: HostRuntime) -> Result<(), Fail> {
+    match batch(rt.alloc(), ONE_OF_EACH) {
+        Ok(batch) => check_copies(&rt, rt.alloc(), &batch, SHOWN),
+        Err(error) => only_refused(&rt, error),
+    }
+}
+
+const REQUEST: &str =
+    "Degrees { filter: NamedFilter { kind: Some(Name { text: \"knows\" }), lo: 3, hi: 7 } }";
+
+#[test]
+fn refused_copies_leave_the_request(rt: HostRuntime) -> Result<(), Fail> {
+    match request(rt.alloc(), "deg knows 3 7") {
+        Ok(request) => check_copies(&rt, rt.alloc(), &request, REQUEST),
+        Err(error) => only_refused(&rt, error),
     }
 }
 
@@ -382,111 +345,33 @@ const LOOSE_EDGE: Edge = Edge {
     recent: 3,
 };
 
-/// The names of these texts.
-fn names(alloc: Global, texts: &[&str]) -> Result<List<Name>, AllocError> {
-    let mut names = Vec::new(alloc);
-    for text in texts {
-        names.push(name(alloc, text)?)?;
-    }
-    Ok(List::of(names))
-}
-
 /// Vertices ann and bob, the kind knows, and one edge.
 fn small_content(alloc: Global) -> Result<Content, AllocError> {
     Ok(Content {
-        names: names(alloc, &["ann", "bob"])?,
-        kinds: names(alloc, &["knows"])?,
+        names: names(alloc, "ann bob")?,
+        kinds: names(alloc, "knows")?,
         edges: List::of(vec![in alloc; LOOSE_EDGE]?),
     })
 }
 
-fn are_called(names: &List<Name>, texts: &[&str]) -> bool {
-    let names = names.as_slice();
-    let mut are_called = names.len() == texts.len();
-    for (name, text) in names.iter().zip(texts) {
-        are_called = are_called && name.as_str() == *text;
-    }
-    are_called
-}
-
-fn is_small_content(content: &Content) -> bool {
-    are_called(&content.names, &["ann", "bob"])
-        && are_called(&content.kinds, &["knows"])
-        && content.edges.as_slice() == [LOOSE_EDGE].as_slice()
-}
-
-/// Whether the content can be copied and the copy is that content; nothing where memory is refused.
-fn is_content_copied(content: &Content) -> Option<bool> {
-    let copy: Result<Content, AllocError> = content.clone();
-    match copy {
-        Ok(copy) => Some(is_small_content(&copy)),
-        Err(AllocError) => None,
-    }
-}
-
-#[test]
-fn refused_push_leaves_the_batch(rt: HostRuntime) -> Result<(), Fail> {
-    let mut batch = Batch::new(rt.alloc());
-    match push_row(rt.alloc(), &mut batch, &ONE_OF_EACH[0]) {
-        Ok(()) => assert_eq!(rt; batch.len(), 1),
-        Err(refusal) => {
-            assert_eq!(rt; (refusal, batch.len()), (PushError::OutOfMemory, 0));
-            return refused(&rt);
-        }
-    }
-    Ok(())
-}
-
-/// A copy is right, or memory was refused.
-fn check_copied(rt: &(impl Abort + Print), copied: Option<bool>) -> Result<(), Fail> {
-    match copied {
-        Some(right) => assert!(rt; right),
-        None => return refused(rt),
-    }
-    Ok(())
-}
-
-#[test]
-fn refused_copies_leave_the_batch(rt: HostRuntime) -> Result<(), Fail> {
-    let Ok(batch) = batch_of(rt.alloc(), &ONE_OF_EACH) else {
-        return refused(&rt);
-    };
-    let copied = is_copied(&batch, &ONE_OF_EACH);
-    assert!(rt; are_rows(&batch, &ONE_OF_EACH));
-    check_copied(&rt, copied)
-}
-
-#[test]
-fn refused_copies_leave_the_request(rt: HostRuntime) -> Result<(), Fail> {
-    let Ok(request) = request(rt.alloc()) else {
-        return refused(&rt);
-    };
-    let copied = is_request_copied(&request);
-    assert!(rt; is_request(&request));
-    check_copied(&rt, copied)
-}
+const CONTENT: &str =
+    "Content { names: List { items: [Name { text: \"ann\" }, Name { text: \"bob\" }] }, \
+    kinds: List { items: [Name { text: \"knows\" }] }, \
+    edges: List { items: [Edge { kind: KindId(0), source: VertexId(1), target: VertexId(0), \
+    weight: -2, first: 4, recent: 3 }] } }";
 
 #[test]
 fn refused_copies_leave_the_content(rt: HostRuntime) -> Result<(), Fail> {
-    let Ok(content) = small_content(rt.alloc()) else {
-        return refused(&rt);
-    };
-    let copied = is_content_copied(&content);
-    assert!(rt; is_small_content(&content));
-    check_copied(&rt, copied)
+    match small_content(rt.alloc()) {
+        Ok(content) => check_copies(&rt, rt.alloc(), &content, CONTENT),
+        Err(_) => refused(&rt),
+    }
 }
 
 #[test]
 fn refused_copies_leave_the_list(rt: HostRuntime) -> Result<(), Fail> {
-    let Ok(items) = vec![in rt.alloc(); 4, 9] else {
-        return refused(&rt);
-    };
-    let list = List::of(items);
-    let copy: Result<List<i32>, AllocError> = list.clone();
-    assert_eq!(rt; list.as_slice(), [4, 9].as_slice());
-    match copy {
-        Ok(copy) => assert_eq!(rt; copy.as_slice(), [4, 9].as_slice()),
-        Err(AllocError) => return refused(&rt),
+    match list(rt.alloc()) {
+        Ok(list) => check_copies(&rt, rt.alloc(), &list, "List { items: [4, 9] }"),
+        Err(_) => refused(&rt),
     }
-    Ok(())
 }

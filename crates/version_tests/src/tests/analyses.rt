@@ -3,113 +3,152 @@
 
 ghost use Rattle.graph_model.specs.Graph.{IsContent};
 
-use super::ops::batch_of;
-use super::steps::{applied, empty};
+use super::requests::{write_degrees, write_labels, write_levels, write_numbers};
+use super::steps::{applied, empty, plain};
 use graph_cores::cores;
 use graph_degrees::degrees;
 use graph_levels::{LevelError, labels, levels};
 use graph_model::{Content, Filter, KindId, VertexId};
 use graph_version::Version;
 use plain_analyses::{plain_cores, plain_labels, plain_levels};
-use plain_graph::plain_apply;
 use std::alloc::Global;
 use std::process::Abort;
 use std::thread::Threads;
 
-/// The tables of a view: levels from the source, labels, core numbers, and degrees out and in with the sum of the weights
-/// out.
+/// What is asked of a version: the tables of a view, with levels from a source.
 #[derive(Clone, Copy)]
-pub(super) struct Tables {
-    view: Filter,
-    source: VertexId,
-    levels: &'static [Option<u32>],
-    labels: &'static [u32],
-    cores: &'static [u32],
-    degrees: &'static [(u32, u32, i64)],
+pub(super) struct Asked {
+    pub view: Filter,
+    pub source: VertexId,
 }
 
-// A batch, and tables of what it leaves of the version without batches.
-#[derive(Clone, Copy)]
-struct Case {
-    line: &'static str,
-    tables: Tables,
+/// Edges of this kind, or of any, in this window, with levels from this source.
+pub(super) fn asking(kind: Option<KindId>, lo: u64, hi: u64, source: u32) -> Asked {
+    Asked {
+        view: Filter { kind, lo, hi },
+        source: VertexId(source),
+    }
 }
 
-// Whether the levels are those; nothing where memory is refused.
-fn are_levels(alloc: Global, version: &Version, wanted: &Tables) -> Option<bool> {
-    let table = levels(alloc, version, wanted.source, &wanted.view).ok()?;
-    Some(table.as_slice() == wanted.levels)
+fn add_levels(alloc: Global, text: &mut String, version: &Version, asked: &Asked) -> Option<()> {
+    let table = levels(alloc, version, asked.source, &asked.view).ok()?;
+    write_levels(text, table.as_slice()).ok()
 }
 
-fn are_labels(alloc: Global, version: &Version, wanted: &Tables) -> Option<bool> {
-    let table = labels(alloc, version, &wanted.view).ok()?;
-    Some(
-        table.len() == wanted.labels.len()
-            && table
-                .iter()
-                .zip(wanted.labels)
-                .all(|(label, wanted)| label.0 == *wanted),
-    )
+fn add_labels(alloc: Global, text: &mut String, version: &Version, asked: &Asked) -> Option<()> {
+    let table = labels(alloc, version, &asked.view).ok()?;
+    write_labels(text, table.as_slice()).ok()
 }
 
-fn are_cores(alloc: Global, version: &Version, wanted: &Tables) -> Option<bool> {
-    let table = cores(alloc, version, &wanted.view).ok()?;
-    Some(table.as_slice() == wanted.cores)
+fn add_cores(alloc: Global, text: &mut String, version: &Version, asked: &Asked) -> Option<()> {
+    let table = cores(alloc, version, &asked.view).ok()?;
+    write_numbers(text, table.as_slice()).ok()
 }
 
-fn are_degrees(alloc: Global, version: &Version, wanted: &Tables) -> Option<bool> {
-    let table = degrees(alloc, version, &wanted.view).ok()?;
-    Some(
-        table.len() == wanted.degrees.len()
-            && table.iter().zip(wanted.degrees).all(|(degree, wanted)| {
-                (degree.outgoing, degree.incoming, degree.out_weight) == *wanted
-            }),
-    )
+fn add_degrees(alloc: Global, text: &mut String, version: &Version, asked: &Asked) -> Option<()> {
+    let table = degrees(alloc, version, &asked.view).ok()?;
+    write_degrees(text, table.as_slice()).ok()
 }
 
-// Whether a version has these tables; nothing where memory is refused.
-pub(super) fn has_tables(alloc: Global, version: &Version, wanted: &Tables) -> Option<bool> {
-    Some(
-        are_levels(alloc, version, wanted)?
-            && are_labels(alloc, version, wanted)?
-            && are_cores(alloc, version, wanted)?
-            && are_degrees(alloc, version, wanted)?,
-    )
+fn add_tables(alloc: Global, text: &mut String, version: &Version, asked: &Asked) -> Option<()> {
+    add_levels(alloc, text, version, asked)?;
+    text.push(';').ok()?;
+    add_labels(alloc, text, version, asked)?;
+    text.push(';').ok()?;
+    add_cores(alloc, text, version, asked)
+}
+
+/// The levels from the source, the labels and the core numbers of a version; nothing where memory is refused.
+fn tables(alloc: Global, version: &Version, asked: &Asked) -> Option<String> {
+    let mut text = String::new(alloc);
+    add_tables(alloc, &mut text, version, asked)?;
+    Some(text)
+}
+
+/// The degrees out and in of a version, with the sum of the weights out; nothing where memory is refused.
+fn degrees_told(alloc: Global, version: &Version, asked: &Asked) -> Option<String> {
+    let mut text = String::new(alloc);
+    add_degrees(alloc, &mut text, version, asked)?;
+    Some(text)
+}
+
+fn are_tables(alloc: Global, version: &Version, asked: &Asked, wanted: &str) -> Option<bool> {
+    let told = tables(alloc, version, asked)?;
+    Some(told.as_str() == wanted)
+}
+
+fn are_degrees(alloc: Global, version: &Version, asked: &Asked, wanted: &str) -> Option<bool> {
+    let told = degrees_told(alloc, version, asked)?;
+    Some(told.as_str() == wanted)
+}
+
+/// Whether a version has these tables: levels, labels and core numbers, and degrees. Nothing where memory is refused.
+pub(super) fn has_tables(
+    alloc: Global,
+    version: &Version,
+    asked: &Asked,
+    tables: &str,
+    degrees: &str,
+) -> Option<bool> {
+    Some(are_tables(alloc, version, asked, tables)? && are_degrees(alloc, version, asked, degrees)?)
 }
 
 // The same of a content, by the plain analyses.
-fn are_plain_levels(alloc: Global, content: &Content, wanted: &Tables) -> Option<bool>
+fn add_plain_levels(
+    alloc: Global,
+    text: &mut String,
+    content: &Content,
+    asked: &Asked,
+) -> Option<()>
     requires { IsContent content.now }
 {
-    if wanted.source.0 as usize >= content.names.as_slice().len() {
-        return Some(false);
+    if asked.source.0 as usize >= content.names.as_slice().len() {
+        return None;
     }
-    let table = plain_levels(alloc, content, wanted.view, wanted.source).ok()?;
-    Some(table.as_slice() == wanted.levels)
+    let table = plain_levels(alloc, content, asked.view, asked.source).ok()?;
+    write_levels(text, table.as_slice()).ok()
 }
 
-fn are_plain_labels(alloc: Global, content: &Content, wanted: &Tables) -> Option<bool>
+fn add_plain_labels(
+    alloc: Global,
+    text: &mut String,
+    content: &Content,
+    asked: &Asked,
+) -> Option<()>
     requires { IsContent content.now }
 {
-    let table = plain_labels(alloc, content, wanted.view).ok()?;
-    Some(table.as_slice() == wanted.labels)
+    let table = plain_labels(alloc, content, asked.view).ok()?;
+    write_numbers(text, table.as_slice()).ok()
 }
 
-fn are_plain_cores(alloc: Global, content: &Content, wanted: &Tables) -> Option<bool>
+fn add_plain_cores(alloc: Global, text: &mut String, content: &Content, asked: &Asked) -> Option<()>
     requires { IsContent content.now }
 {
-    let table = plain_cores(alloc, content, wanted.view).ok()?;
-    Some(table.as_slice() == wanted.cores)
+    let table = plain_cores(alloc, content, asked.view).ok()?;
+    write_numbers(text, table.as_slice()).ok()
 }
 
-fn has_plain_tables(alloc: Global, content: &Content, wanted: &Tables) -> Option<bool>
+fn add_plain_tables(
+    alloc: Global,
+    text: &mut String,
+    content: &Content,
+    asked: &Asked,
+) -> Option<()>
     requires { IsContent content.now }
 {
-    Some(
-        are_plain_levels(alloc, content, wanted)?
-            && are_plain_labels(alloc, content, wanted)?
-            && are_plain_cores(alloc, content, wanted)?,
-    )
+    add_plain_levels(alloc, text, content, asked)?;
+    text.push(';').ok()?;
+    add_plain_labels(alloc, text, content, asked)?;
+    text.push(';').ok()?;
+    add_plain_cores(alloc, text, content, asked)
+}
+
+fn plain_tables(alloc: Global, content: &Content, asked: &Asked) -> Option<String>
+    requires { IsContent content.now }
+{
+    let mut text = String::new(alloc);
+    add_plain_tables(alloc, &mut text, content, asked)?;
+    Some(text)
 }
 
 // The version after a line of operations, by two workers.
@@ -119,8 +158,7 @@ fn after<R: Threads + Sync + Abort>(
     version: &Version,
     line: &str,
 ) -> Version {
-    let batch = batch_of(alloc, line).expect(rt, "operations");
-    applied(rt, alloc, 2, version, batch)
+    applied(rt, alloc, 2, version, line)
         .expect(rt, "the next version")
         .version
 }
@@ -135,190 +173,136 @@ pub(super) fn content_after(rt: &impl Abort, alloc: Global, line: &str) -> Conte
     ensures { IsContent result }
 {
     let mut content = empty(alloc);
-    let batch = batch_of(alloc, line).expect(rt, "operations");
-    let _outcomes = plain_apply(alloc, &mut content, &batch).expect(rt, "the plain application");
+    let outcomes = plain(alloc, &mut content, line);
+    assert!(rt; outcomes.is_some());
     content
 }
 
-fn check_tables(rt: &impl Abort, alloc: Global, version: &Version, wanted: &Tables, line: &str) {
-    assert_eq!(rt; has_tables(alloc, version, wanted), Some(true), "{line}");
+fn check_tables(
+    rt: &impl Abort,
+    alloc: Global,
+    version: &Version,
+    asked: &Asked,
+    wanted: &str,
+    degrees: &str,
+) {
+    let is_so = has_tables(alloc, version, asked, wanted, degrees);
+    assert_eq!(rt; is_so, Some(true), "{wanted} {degrees}");
 }
 
-fn check_case<R: Threads + Sync + Abort>(rt: &R, alloc: Global, case: &Case) {
-    let version = first(rt, alloc, case.line);
-    check_tables(rt, alloc, &version, &case.tables, case.line);
+fn check_plain_tables(
+    rt: &impl Abort,
+    alloc: Global,
+    content: &Content,
+    asked: &Asked,
+    wanted: &str,
+)
+    requires { IsContent content.now }
+{
+    let told = plain_tables(alloc, content, asked).expect(rt, "plain tables");
+    assert_eq!(rt; told.as_str(), wanted);
 }
 
-fn check_plain_case(rt: &impl Abort, alloc: Global, case: &Case) {
-    let content = content_after(rt, alloc, case.line);
-    assert_eq!(rt;
-        has_plain_tables(alloc, &content, &case.tables),
-        Some(true),
-        "{}",
-        case.line
-    );
+// The tables of what a batch leaves of the version without batches, and of what it leaves by the plain application.
+fn check_case<R: Threads + Sync + Abort>(
+    rt: &R,
+    alloc: Global,
+    batch: &str,
+    asked: &Asked,
+    tables: &str,
+    degrees: &str,
+) {
+    check_tables(rt, alloc, &first(rt, alloc, batch), asked, tables, degrees);
+    check_plain_tables(rt, alloc, &content_after(rt, alloc, batch), asked, tables);
 }
-
-// Edges of any kind, and of any time.
-const EVERY: Filter = Filter {
-    kind: None,
-    lo: 0,
-    hi: u64::MAX,
-};
 
 const TRIANGLE: &str = "i,k,a,b,1,1 i,k,b,c,1,1 i,k,c,a,1,1 i,k,c,d,1,1";
 
 const TWO_KINDS: &str = "i,k,a,a,1,1 i,k,a,b,1,1 i,m,a,b,1,1";
 
-pub(super) const PATH_LINE: &str = "i,k,a,b,5,10 i,k,b,c,2,11";
+const FOUR_TIMES: &str = "i,k,a,b,1,9 i,k,a,c,2,10 i,k,a,d,3,20 i,k,a,e,4,21";
 
-pub(super) const PATH_TABLES: Tables = Tables {
-    view: EVERY,
-    source: VertexId(0),
-    levels: &[Some(0), Some(1), Some(2)],
-    labels: &[0, 0, 0],
-    cores: &[1, 1, 1],
-    degrees: &[(1, 0, 5), (1, 1, 2), (0, 1, 0)],
-};
+pub(super) const PATH: &str = "i,k,a,b,5,10 i,k,b,c,2,11";
 
-const PATH: Case = Case {
-    line: PATH_LINE,
-    tables: PATH_TABLES,
-};
+pub(super) const PATH_TABLES: &str = "0,1,2,;0,0,0,;1,1,1,";
+
+pub(super) const PATH_DEGREES: &str = "1 0 5,1 1 2,0 1 0,";
+
+/// Edges of any kind, and of any time, with levels from this source.
+pub(super) fn every(source: u32) -> Asked {
+    asking(None, 0, u64::MAX, source)
+}
+
+#[test]
+fn tables_of_a_path(rt: HostRuntime) {
+    check_case(&rt, rt.alloc(), PATH, &every(0), PATH_TABLES, PATH_DEGREES);
+}
 
 // From the end of the tail no edge leads on; labels and core numbers don't ask for the direction.
-const TRIANGLE_WITH_A_TAIL: Case = Case {
-    line: TRIANGLE,
-    tables: Tables {
-        view: EVERY,
-        source: VertexId(3),
-        levels: &[None, None, None, Some(0)],
-        labels: &[0, 0, 0, 0],
-        cores: &[2, 2, 2, 1],
-        degrees: &[(1, 1, 1), (1, 1, 1), (2, 1, 2), (0, 1, 0)],
-    },
-};
+#[test]
+fn tables_of_a_triangle_with_a_tail(rt: HostRuntime) {
+    let (tables, degrees) = ("-,-,-,0,;0,0,0,0,;2,2,2,1,", "1 1 1,1 1 1,2 1 2,0 1 0,");
+    check_case(&rt, rt.alloc(), TRIANGLE, &every(3), tables, degrees);
+}
 
 // A loop counts once in each degree, and edges of two kinds count apart, but the neighbor is one.
-const LOOP_AND_TWO_KINDS: Case = Case {
-    line: TWO_KINDS,
-    tables: Tables {
-        view: EVERY,
-        source: VertexId(0),
-        levels: &[Some(0), Some(1)],
-        labels: &[0, 0],
-        cores: &[1, 1],
-        degrees: &[(3, 1, 3), (0, 2, 0)],
-    },
-};
+#[test]
+fn tables_of_a_loop_and_two_kinds(rt: HostRuntime) {
+    let (tables, degrees) = ("0,1,;0,0,;1,1,", "3 1 3,0 2 0,");
+    check_case(&rt, rt.alloc(), TWO_KINDS, &every(0), tables, degrees);
+}
 
-const ONE_KIND: Case = Case {
-    line: TWO_KINDS,
-    tables: Tables {
-        view: Filter {
-            kind: Some(KindId(1)),
-            lo: 1,
-            hi: 1,
-        },
-        source: VertexId(0),
-        levels: &[Some(0), Some(1)],
-        labels: &[0, 0],
-        cores: &[1, 1],
-        degrees: &[(1, 0, 1), (0, 1, 0)],
-    },
-};
+#[test]
+fn tables_of_one_kind(rt: HostRuntime) {
+    let asked = asking(Some(KindId(1)), 1, 1, 0);
+    let (tables, degrees) = ("0,1,;0,0,;1,1,", "1 0 1,0 1 0,");
+    check_case(&rt, rt.alloc(), TWO_KINDS, &asked, tables, degrees);
+}
 
 // Both ends of a window are in it.
-const WINDOW: Case = Case {
-    line: "i,k,a,b,1,9 i,k,a,c,2,10 i,k,a,d,3,20 i,k,a,e,4,21",
-    tables: Tables {
-        view: Filter {
-            kind: None,
-            lo: 10,
-            hi: 20,
-        },
-        source: VertexId(0),
-        levels: &[Some(0), None, Some(1), Some(1), None],
-        labels: &[0, 1, 0, 0, 4],
-        cores: &[1, 0, 1, 1, 0],
-        degrees: &[(2, 0, 5), (0, 0, 0), (0, 1, 0), (0, 1, 0), (0, 0, 0)],
-    },
-};
+#[test]
+fn tables_of_a_window(rt: HostRuntime) {
+    let asked = asking(None, 10, 20, 0);
+    let (tables, degrees) = (
+        "0,-,1,1,-,;0,1,0,0,4,;1,0,1,1,0,",
+        "2 0 5,0 0 0,0 1 0,0 1 0,0 0 0,",
+    );
+    check_case(&rt, rt.alloc(), FOUR_TIMES, &asked, tables, degrees);
+}
 
 // A window that ends before it begins.
-const EMPTY_WINDOW: Case = Case {
-    line: TRIANGLE,
-    tables: Tables {
-        view: Filter {
-            kind: None,
-            lo: 1,
-            hi: 0,
-        },
-        source: VertexId(2),
-        levels: &[None, None, Some(0), None],
-        labels: &[0, 1, 2, 3],
-        cores: &[0, 0, 0, 0],
-        degrees: &[(0, 0, 0), (0, 0, 0), (0, 0, 0), (0, 0, 0)],
-    },
-};
-
-const CASES: [Case; 6] = [
-    PATH,
-    TRIANGLE_WITH_A_TAIL,
-    LOOP_AND_TWO_KINDS,
-    ONE_KIND,
-    WINDOW,
-    EMPTY_WINDOW,
-];
-
 #[test]
-fn tables_of_versions_with_edges(rt: HostRuntime) {
-    for case in &CASES {
-        check_case(&rt, rt.alloc(), case);
-    }
+fn tables_of_an_empty_window(rt: HostRuntime) {
+    let asked = asking(None, 1, 0, 2);
+    let (tables, degrees) = ("-,-,0,-,;0,1,2,3,;0,0,0,0,", "0 0 0,0 0 0,0 0 0,0 0 0,");
+    check_case(&rt, rt.alloc(), TRIANGLE, &asked, tables, degrees);
 }
 
-#[test]
-fn plain_tables_are_the_same(rt: HostRuntime) {
-    for case in &CASES {
-        check_plain_case(&rt, rt.alloc(), case);
-    }
-}
-
-fn refusal(alloc: Global, version: &Version, source: VertexId) -> Option<LevelError> {
-    levels(alloc, version, source, &EVERY).err()
+fn refusal(alloc: Global, version: &Version, asked: &Asked) -> Option<LevelError> {
+    levels(alloc, version, asked.source, &asked.view).err()
 }
 
 #[test]
 fn no_levels_from_a_number_that_is_no_vertex(rt: HostRuntime) {
-    let version = first(&rt, rt.alloc(), PATH_LINE);
-    let past = refusal(rt.alloc(), &version, VertexId(3));
+    let version = first(&rt, rt.alloc(), PATH);
+    let past = refusal(rt.alloc(), &version, &every(3));
     assert_eq!(rt; past, Some(LevelError::NoVertex));
 }
 
-// The path with its second edge removed.
-const CUT: Tables = Tables {
-    view: EVERY,
-    source: VertexId(0),
-    levels: &[Some(0), Some(1), None],
-    labels: &[0, 0, 2],
-    cores: &[1, 1, 0],
-    degrees: &[(1, 0, 5), (0, 1, 0), (0, 0, 0)],
-};
-
+// The path with its second edge removed, and as it was.
 fn check_both(rt: &impl Abort, alloc: Global, first: &Version, second: &Version) {
-    check_tables(rt, alloc, second, &CUT, "the path cut");
-    check_tables(rt, alloc, first, &PATH_TABLES, "the path as before");
+    let asked = every(0);
+    let (cut, cut_degrees) = ("0,1,-,;0,0,2,;1,1,0,", "1 0 5,0 1 0,0 0 0,");
+    check_tables(rt, alloc, second, &asked, cut, cut_degrees);
+    check_tables(rt, alloc, first, &asked, PATH_TABLES, PATH_DEGREES);
 }
 
 // Cuts the path in a later version than this.
 fn check_cut<R: Threads + Sync + Abort>(rt: &R, alloc: Global, first: &Version) {
-    let second = after(rt, alloc, first, "r,k,b,c");
-    check_both(rt, alloc, first, &second);
+    check_both(rt, alloc, first, &after(rt, alloc, first, "r,k,b,c"));
 }
 
 #[test]
 fn an_earlier_version_answers_as_before(rt: HostRuntime) {
-    let first = first(&rt, rt.alloc(), PATH_LINE);
-    check_cut(&rt, rt.alloc(), &first);
+    check_cut(&rt, rt.alloc(), &first(&rt, rt.alloc(), PATH));
 }

@@ -3,7 +3,6 @@
 ghost use Rattle.graph_model.specs.Graph.{IsContent};
 
 use super::analyses::{content_after, first};
-use super::ops::batch_of;
 use super::requests::{numbered_text, reply_text, request_of};
 use super::steps::{empty, next};
 use graph_model::{AskError, Content, Reply};
@@ -104,48 +103,48 @@ fn check_numbers<R: Threads + Sync + Abort>(rt: &R, alloc: Global, batch: &str, 
 
 const TRIANGLE: &str = "i,k,a,b,1,1 i,k,b,c,1,1 i,k,c,a,1,1 i,k,c,d,1,1";
 
-const OF_THE_TRIANGLE: &str = "core,*,0,9 => a 2,b 2,c 2,d 1,
-comp,*,0,9 => a a,b a,c a,d a,
-comp,k,2,9 => a a,b b,c c,d d,
-bfs,a,k,0,9 => a 0,b 1,c 2,d 3,
-bfs,c,*,1,1 => a 1,b 2,c 0,d 1,
-bfs,d,*,0,9 => d 0,
-deg,k,0,9 => a 1 1 1,b 1 1 1,c 2 1 2,d 0 1 0,
-edge,k,c,d => 1 1 1
-edge,k,d,c => none";
+const OF_THE_TRIANGLE: &str = "core,0,*,0,9 => a 2,b 2,c 2,d 1,
+comp,0,*,0,9 => a a,b a,c a,d a,
+comp,0,k,2,9 => a a,b b,c c,d d,
+bfs,0,a,k,0,9 => a 0,b 1,c 2,d 3,
+bfs,0,c,*,1,1 => a 1,b 2,c 0,d 1,
+bfs,0,d,*,0,9 => d 0,
+deg,0,k,0,9 => a 1 1 1,b 1 1 1,c 2 1 2,d 0 1 0,
+edge,0,k,c,d => 1 1 1
+edge,0,k,d,c => none";
 
-const IN_NUMBERS: &str = "core,*,0,9 => 2,2,2,1,
-comp,*,0,9 => 0,0,0,0,
-comp,k,2,9 => 0,1,2,3,
-bfs,c,*,1,1 => 1,2,0,1,
-bfs,d,*,0,9 => -,-,-,0,
-deg,k,0,9 => 1 1 1,1 1 1,2 1 2,0 1 0,
-edge,k,c,d => 1 1 1
-edge,k,d,c => none
-bfs,z,m,0,9 => NoKind";
+const IN_NUMBERS: &str = "core,0,*,0,9 => 2,2,2,1,
+comp,0,*,0,9 => 0,0,0,0,
+comp,0,k,2,9 => 0,1,2,3,
+bfs,0,c,*,1,1 => 1,2,0,1,
+bfs,0,d,*,0,9 => -,-,-,0,
+deg,0,k,0,9 => 1 1 1,1 1 1,2 1 2,0 1 0,
+edge,0,k,c,d => 1 1 1
+edge,0,k,d,c => none
+bfs,0,z,m,0,9 => NoKind";
 
 const TWO_KINDS: &str = "i,k,a,a,1,1 i,k,a,b,1,1 i,m,a,b,1,1";
 
-const OF_TWO_KINDS: &str = "deg,*,0,9 => a 3 1 3,b 0 2 0,
-deg,k,0,9 => a 2 1 2,b 0 1 0,
-deg,m,1,1 => a 1 0 1,b 0 1 0,
-core,*,0,9 => a 1,b 1,";
+const OF_TWO_KINDS: &str = "deg,0,*,0,9 => a 3 1 3,b 0 2 0,
+deg,0,k,0,9 => a 2 1 2,b 0 1 0,
+deg,0,m,1,1 => a 1 0 1,b 0 1 0,
+core,0,*,0,9 => a 1,b 1,";
 
 // The window before the kind, and the kind before the vertices.
-const REFUSALS: &str = "bfs,z,x,9,8 => BadWindow
-bfs,z,x,8,9 => NoKind
-bfs,z,k,8,8 => NoVertex
-bfs,a,x,8,7 => BadWindow
-comp,x,9,8 => BadWindow
-comp,x,8,8 => NoKind
-core,x,9,8 => BadWindow
-core,x,8,8 => NoKind
-deg,*,9,8 => BadWindow
-deg,x,8,8 => NoKind
-edge,x,y,z => NoKind
-edge,k,y,z => NoVertex
-edge,k,a,z => NoVertex
-edge,k,z,a => NoVertex";
+const REFUSALS: &str = "bfs,0,z,x,9,8 => BadWindow
+bfs,0,z,x,8,9 => NoKind
+bfs,0,z,k,8,8 => NoVertex
+bfs,0,a,x,8,7 => BadWindow
+comp,0,x,9,8 => BadWindow
+comp,0,x,8,8 => NoKind
+core,0,x,9,8 => BadWindow
+core,0,x,8,8 => NoKind
+deg,0,*,9,8 => BadWindow
+deg,0,x,8,8 => NoKind
+edge,0,x,y,z => NoKind
+edge,0,k,y,z => NoVertex
+edge,0,k,a,z => NoVertex
+edge,0,k,z,a => NoVertex";
 
 #[test]
 fn answers_each_request(rt: HostRuntime) {
@@ -164,17 +163,17 @@ const FEED: &str = "i,k,a,b,5,10 i,k,b,c,2,11 i,m,c,a,1,12
 r,k,b,c i,k,d,a,4,13 a,m,c,a,7,14 i,m,d,c,2,10
 i,k,a,a,1,20 i,n,d,e,2,3 r,m,c,a i,k,b,a,3,9";
 
-const REQUESTS: &str = "bfs,a,*,0,99
-bfs,d,k,10,13
-comp,*,0,99
-comp,m,0,11
-core,*,0,99
-core,k,0,99
-deg,*,0,99
-deg,m,10,14
-edge,k,b,c
-edge,m,c,a
-edge,n,d,e";
+const REQUESTS: &str = "bfs,0,a,*,0,99
+bfs,0,d,k,10,13
+comp,0,*,0,99
+comp,0,m,0,11
+core,0,*,0,99
+core,0,k,0,99
+deg,0,*,0,99
+deg,0,m,10,14
+edge,0,k,b,c
+edge,0,m,c,a
+edge,0,n,d,e";
 
 // The version answers as the plain application does.
 fn check_same_answers(rt: &impl Abort, alloc: Global, version: &Version, content: &Content)
@@ -200,8 +199,7 @@ fn fed<R: Threads + Sync + Abort>(
     requires { IsContent content.old }
     ensures { IsContent content.new }
 {
-    let batch = batch_of(alloc, line).expect(rt, "operations");
-    let next = next(rt, alloc, 2, version, content, batch);
+    let next = next(rt, alloc, 2, version, content, line);
     check_same_answers(rt, alloc, &next.version, content);
     next.version
 }

@@ -2,7 +2,6 @@
 
 ghost use Rattle.std.specs.Prelude.{◌<◌};
 
-use super::ops::batch_of;
 use super::steps::first_past;
 use batch_apply::{Applied, Gate};
 use std::alloc::Global;
@@ -20,8 +19,7 @@ fn passed<R: Threads + Sync + Abort, G: Gate + Sync>(
 ) -> Applied
     requires workers { 0 < workers }
 {
-    let batch = batch_of(alloc, line).expect(rt, "operations");
-    first_past(rt, alloc, gate, workers, batch).expect(rt, "the next version")
+    first_past(rt, alloc, gate, workers, line).expect(rt, "the next version")
 }
 
 // How often a worker looks whether the others have come.

@@ -2,32 +2,24 @@
 
 ghost use Rattle.graph_model.specs.Graph.{IsContent};
 
-use super::ops::{LineError, insertion, removal};
+use super::ops::batch_of;
 use super::sames::check_same;
 use super::steps::{empty, first};
 use batch_plan::{PlanError, plan};
 use graph_model::{Batch, Content};
 use graph_version::Version;
 use plain_graph::{PlainError, plain_apply};
-use std::alloc::Global;
+use std::alloc::{AllocError, Global};
 use std::process::Abort;
 use std::thread::Threads;
 
 // A removal of a kind that is unknown, and an edge of each of so many kinds.
-fn kinds(alloc: Global, count: u32) -> Result<Batch, LineError> {
-    let mut batch = Batch::new(alloc);
-    batch.push(removal(alloc, "none", "a", "b")?)?;
+fn kinds(alloc: Global, count: u32) -> Result<String, AllocError> {
+    let mut text = String::from_str(alloc, "r,none,a,b ")?;
     for number in 0..count {
-        batch.push(insertion(
-            alloc,
-            format!(in alloc; "k{number}")?.as_str(),
-            "a",
-            "b",
-            1,
-            1,
-        )?)?;
+        write!(text, "i,k{number},a,b,1,1 ")?;
     }
-    Ok(batch)
+    Ok(text)
 }
 
 // The batch is refused for its kinds, by the plan as by the plain application, and nothing has changed.
@@ -85,14 +77,19 @@ fn check_refused_next<R: Threads + Sync + Abort>(
     requires { IsContent content.old }
     ensures { IsContent content.new }
 {
-    let batch = kinds(alloc, 64).expect(rt, "kinds");
-    let first = first(rt, alloc, 2, content, batch);
+    let ops = kinds(alloc, 64).expect(rt, "kinds");
+    let first = first(rt, alloc, 2, content, ops.as_str());
     check_full(rt, alloc, &first.version, content, many);
+}
+
+fn many(rt: &impl Abort, alloc: Global) -> Batch {
+    let ops = kinds(alloc, 66).expect(rt, "kinds");
+    batch_of(alloc, ops.as_str()).expect(rt, "a batch")
 }
 
 #[test]
 fn refuses_a_kind_too_many(rt: HostRuntime) {
-    let many = kinds(rt.alloc(), 66).expect(&rt, "kinds");
+    let many = many(&rt, rt.alloc());
     let mut content = empty(rt.alloc());
     check_refused_first(&rt, rt.alloc(), &mut content, &many);
     check_refused_next(&rt, rt.alloc(), &mut content, &many);

@@ -1,9 +1,9 @@
 // A row of 35 blocks under a batch with many operations on it, whose outcomes and blocks are worked by hand. Vertex 1 and
 // vertex 1025 have the same lowest bits.
 
+ghost use Rattle.std.specs.Prelude.{◌<◌};
 ghost use Rattle.graph_model.specs.Graph.{IsContent};
 
-use super::ops::batch_of;
 use super::sames::row_text;
 use super::sizes::{first_grown, grown, star};
 use super::steps::{empty, letters, next};
@@ -43,20 +43,29 @@ fn check_operations<R: Threads + Sync + Abort>(
     first: &Version,
     content: &mut Content,
 )
-    requires { IsContent content.old }
+    requires workers { 0 < workers }
+    requires content { IsContent content.old }
     ensures { IsContent content.new }
 {
-    let batch = batch_of(alloc, MIXED).expect(rt, "operations");
-    let next = next(rt, alloc, workers, first, content, batch);
+    let next = next(rt, alloc, workers, first, content, MIXED);
     check_outcomes(rt, alloc, &next);
     check_row(rt, alloc, &next.version);
 }
 
 // The version with one edge from vertex 0 to each of 1,100 others, and then what the operations leave of it.
-fn check_mixed<R: Threads + Sync + Abort>(rt: &R, alloc: Global, workers: usize) {
-    let batch = star(alloc, 1100).expect(rt, "a star");
+fn check_mixed<R: Threads + Sync + Abort>(rt: &R, alloc: Global, workers: usize)
+    requires { 0 < workers }
+{
+    let ops = star(alloc, 1100).expect(rt, "a star");
     let mut content = empty(alloc);
-    let first = first_grown(rt, alloc, workers, &mut content, batch, (35, 0, 1065));
+    let first = first_grown(
+        rt,
+        alloc,
+        workers,
+        &mut content,
+        ops.as_str(),
+        (35, 0, 1065),
+    );
     check_operations(rt, alloc, workers, &first, &mut content);
 }
 
@@ -76,16 +85,16 @@ fn check_larger<R: Threads + Sync + Abort>(
     requires { IsContent content.old }
     ensures { IsContent content.new }
 {
-    let batch = star(alloc, 300).expect(rt, "a larger star");
-    let second = grown(rt, alloc, 2, first, content, batch, (10, 5, 290));
+    let ops = star(alloc, 300).expect(rt, "a larger star");
+    let second = grown(rt, alloc, 2, first, content, ops.as_str(), (10, 5, 290));
     assert_eq!(rt; second.edge_count(), 300);
 }
 
 // 140 edges of five blocks are written anew, and 160 others come behind them.
 #[test]
 fn works_a_long_row_under_300_operations(rt: HostRuntime) {
-    let batch = star(rt.alloc(), 140).expect(&rt, "a star");
+    let ops = star(rt.alloc(), 140).expect(&rt, "a star");
     let mut content = empty(rt.alloc());
-    let first = first_grown(&rt, rt.alloc(), 2, &mut content, batch, (5, 0, 135));
+    let first = first_grown(&rt, rt.alloc(), 2, &mut content, ops.as_str(), (5, 0, 135));
     check_larger(&rt, rt.alloc(), &first, &mut content);
 }

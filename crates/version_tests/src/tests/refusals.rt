@@ -1,9 +1,10 @@
 // Want of memory: a version stays as it is where the next one isn't made, and where it has no answer.
 
-use super::ops::{LineError, batch_of};
+use super::ops::batch_of;
 use super::requests::{reply_text, request_of};
-use super::steps::applied;
-use batch_apply::Applied;
+use super::steps::applied_batch;
+use batch_apply::{Applied, PassAll};
+use feed_csv::FeedWord;
 use graph_model::{AskError, KindId, Outcome, Request, VertexId};
 use graph_version::Version;
 use std::alloc::Global;
@@ -12,7 +13,7 @@ use std::process::Abort;
 use std::thread::Threads;
 use version_answers::answer;
 
-// What a line of operations leaves of a version, by two workers; nothing where memory is refused.
+// What operations leave of a version, by two workers; nothing where memory is refused.
 fn applied_line<R: Threads + Sync + Abort>(
     rt: &R,
     alloc: Global,
@@ -20,9 +21,9 @@ fn applied_line<R: Threads + Sync + Abort>(
     line: &str,
 ) -> Option<Applied> {
     match batch_of(alloc, line) {
-        Ok(batch) => applied(rt, alloc, 2, version, batch),
+        Ok(batch) => applied_batch(rt, alloc, &PassAll, 2, version, batch),
         Err(error) => {
-            assert!(rt; matches!(error, LineError::OutOfMemory));
+            assert!(rt; matches!(error, FeedWord::Memory));
             None
         }
     }
@@ -91,7 +92,7 @@ fn asked(rt: &impl Abort, alloc: Global, version: &Version, text: &str) -> Optio
     match request_of(alloc, text) {
         Ok(request) => answered(rt, alloc, version, &request),
         Err(error) => {
-            assert!(rt; matches!(error, LineError::OutOfMemory));
+            assert!(rt; matches!(error, FeedWord::Memory));
             None
         }
     }
@@ -128,11 +129,11 @@ fn check_asked(
     }
 }
 
-const ANSWERS: &str = "bfs,a,k,0,9 => a 0,b 1,
-comp,k,0,9 => a a,b a,
-core,k,0,9 => a 1,b 1,
-deg,k,0,9 => a 1 1 1,b 1 1 1,
-edge,k,a,b => 1 1 1";
+const ANSWERS: &str = "bfs,0,a,k,0,9 => a 0,b 1,
+comp,0,k,0,9 => a a,b a,
+core,0,k,0,9 => a 1,b 1,
+deg,0,k,0,9 => a 1 1 1,b 1 1 1,
+edge,0,k,a,b => 1 1 1";
 
 fn check_answers(rt: &(impl Abort + Print), alloc: Global, version: &Version) {
     for line in ANSWERS.lines() {

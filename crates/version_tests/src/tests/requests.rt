@@ -1,83 +1,16 @@
 // Requests from text, and replies as text.
 
-use super::ops::{LineError, field, last_field, name};
-use graph_model::{Degree, Name, NamedFilter, Reply, Request, VertexId};
+use super::ops::command_of;
+use feed_csv::{Command, FeedWord};
+use graph_model::{Degree, Name, Reply, Request, VertexId};
 use std::alloc::{AllocError, Global};
 use version_answers::NumberedReply;
 
-fn window(text: &str) -> Result<(u64, u64), LineError> {
-    let (lo, hi) = field(text)?;
-    Ok((lo.parse()?, hi.parse()?))
-}
-
-// The kind `*` is any.
-fn kind_of(alloc: Global, text: &str) -> Result<Option<Name>, AllocError> {
-    match text {
-        "*" => Ok(None),
-        _ => Ok(Some(name(alloc, text)?)),
-    }
-}
-
-// `kind,lo,hi`.
-fn filter(alloc: Global, text: &str) -> Result<NamedFilter, LineError> {
-    let (kind, text) = field(text)?;
-    let (lo, hi) = window(text)?;
-    Ok(NamedFilter {
-        kind: kind_of(alloc, kind)?,
-        lo,
-        hi,
-    })
-}
-
-fn levels_of(alloc: Global, text: &str) -> Result<Request, LineError> {
-    let (source, text) = field(text)?;
-    let source = name(alloc, source)?;
-    Ok(Request::Levels {
-        source,
-        filter: filter(alloc, text)?,
-    })
-}
-
-fn labels_of(alloc: Global, text: &str) -> Result<Request, LineError> {
-    Ok(Request::Labels {
-        filter: filter(alloc, text)?,
-    })
-}
-
-fn cores_of(alloc: Global, text: &str) -> Result<Request, LineError> {
-    Ok(Request::Cores {
-        filter: filter(alloc, text)?,
-    })
-}
-
-fn degrees_of(alloc: Global, text: &str) -> Result<Request, LineError> {
-    Ok(Request::Degrees {
-        filter: filter(alloc, text)?,
-    })
-}
-
-fn edge_of(alloc: Global, text: &str) -> Result<Request, LineError> {
-    let (kind, text) = field(text)?;
-    let (source, text) = field(text)?;
-    let target = last_field(text)?;
-    Ok(Request::OneEdge {
-        kind: name(alloc, kind)?,
-        source: name(alloc, source)?,
-        target: name(alloc, target)?,
-    })
-}
-
-/// The request of `bfs,source,kind,lo,hi`, `comp,kind,lo,hi`, `core,kind,lo,hi`, `deg,kind,lo,hi` or
-/// `edge,kind,source,target`.
-pub(super) fn request_of(alloc: Global, text: &str) -> Result<Request, LineError> {
-    let (word, text) = field(text)?;
-    match word {
-        "bfs" => levels_of(alloc, text),
-        "comp" => labels_of(alloc, text),
-        "core" => cores_of(alloc, text),
-        "deg" => degrees_of(alloc, text),
-        "edge" => edge_of(alloc, text),
-        _ => Err(LineError::Wrong),
+/// The request of a record of a script, to any slot.
+pub(super) fn request_of(alloc: Global, record: &str) -> Result<Request, FeedWord> {
+    match command_of(alloc, record)? {
+        Command::Query(_, request) => Ok(request),
+        _ => Err(FeedWord::BadCommand),
     }
 }
 
@@ -132,38 +65,59 @@ pub(super) fn reply_text(alloc: Global, reply: &Reply) -> Result<String, AllocEr
     }
 }
 
-fn levels_text(alloc: Global, levels: &[Option<u32>]) -> Result<String, AllocError> {
-    let mut text = String::new(alloc);
+/// Levels; a vertex without one is `-`.
+pub(super) fn write_levels(text: &mut String, levels: &[Option<u32>]) -> Result<(), AllocError> {
     for level in levels {
         match level {
             Some(level) => write!(text, "{level},")?,
             None => text.push_str("-,")?,
         }
     }
+    Ok(())
+}
+
+pub(super) fn write_labels(text: &mut String, labels: &[VertexId]) -> Result<(), AllocError> {
+    for label in labels {
+        write!(text, "{},", label.0)?;
+    }
+    Ok(())
+}
+
+pub(super) fn write_numbers(text: &mut String, numbers: &[u32]) -> Result<(), AllocError> {
+    for number in numbers {
+        write!(text, "{number},")?;
+    }
+    Ok(())
+}
+
+pub(super) fn write_degrees(text: &mut String, degrees: &[Degree]) -> Result<(), AllocError> {
+    for degree in degrees {
+        write_degree(text, degree)?;
+    }
+    Ok(())
+}
+
+fn levels_text(alloc: Global, levels: &[Option<u32>]) -> Result<String, AllocError> {
+    let mut text = String::new(alloc);
+    write_levels(&mut text, levels)?;
     Ok(text)
 }
 
 fn labels_text(alloc: Global, labels: &[VertexId]) -> Result<String, AllocError> {
     let mut text = String::new(alloc);
-    for label in labels {
-        write!(text, "{},", label.0)?;
-    }
+    write_labels(&mut text, labels)?;
     Ok(text)
 }
 
 fn cores_text(alloc: Global, numbers: &[u32]) -> Result<String, AllocError> {
     let mut text = String::new(alloc);
-    for number in numbers {
-        write!(text, "{number},")?;
-    }
+    write_numbers(&mut text, numbers)?;
     Ok(text)
 }
 
 fn degrees_text(alloc: Global, degrees: &[Degree]) -> Result<String, AllocError> {
     let mut text = String::new(alloc);
-    for degree in degrees {
-        write_degree(&mut text, degree)?;
-    }
+    write_degrees(&mut text, degrees)?;
     Ok(text)
 }
 

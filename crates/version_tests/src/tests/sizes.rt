@@ -1,52 +1,46 @@
 // Versions at the ends of the pieces that they share: of 256 names, of 64 rows, of 256 batches, and of 32 edges.
 
+ghost use Rattle.std.specs.Prelude.{◌<◌};
 ghost use Rattle.graph_model.specs.Graph.{IsContent};
 
-use super::ops::{LineError, insertion, removal};
 use super::sames::row_text;
 use super::steps::{empty, first, next};
-use graph_model::{Batch, Content, NamedOp, VertexId};
+use graph_model::{Content, VertexId};
 use graph_version::Version;
 use std::alloc::{AllocError, Global};
 use std::process::Abort;
 use std::thread::Threads;
 
 // The edge from the vertex of a number to the next one.
-fn link(alloc: Global, number: u32) -> Result<NamedOp, AllocError> {
+fn write_link(text: &mut String, number: u32) -> Result<(), AllocError> {
     let target = number.saturating_add(1);
-    insertion(
-        alloc,
-        "k",
-        format!(in alloc; "v{number}")?.as_str(),
-        format!(in alloc; "v{target}")?.as_str(),
-        1,
-        7,
-    )
+    write!(text, "i,k,v{number},v{target},1,7 ")
 }
 
 // Links from these vertices.
-fn chain(alloc: Global, first: u32, end: u32) -> Result<Batch, LineError> {
-    let mut batch = Batch::new(alloc);
+fn chain(alloc: Global, first: u32, end: u32) -> Result<String, AllocError> {
+    let mut text = String::new(alloc);
     for number in first..end {
-        batch.push(link(alloc, number)?)?;
+        write_link(&mut text, number)?;
     }
-    Ok(batch)
+    Ok(text)
 }
 
-/// The version after a batch that takes, drops and leaves unused so many blocks.
+/// The version after operations that take, drop and leave unused so many blocks.
 pub(super) fn grown<R: Threads + Sync + Abort>(
     rt: &R,
     alloc: Global,
     workers: usize,
     version: &Version,
     content: &mut Content,
-    batch: Batch,
+    ops: &str,
     blocks: (usize, usize, usize),
 ) -> Version
-    requires { IsContent content.old }
+    requires workers { 0 < workers }
+    requires content { IsContent content.old }
     ensures { IsContent content.new }
 {
-    let next = next(rt, alloc, workers, version, content, batch);
+    let next = next(rt, alloc, workers, version, content, ops);
     assert_eq!(rt;
         (next.taken.len(), next.dropped.len(), next.unused.len()),
         blocks
@@ -60,10 +54,11 @@ pub(super) fn first_grown<R: Threads + Sync + Abort>(
     alloc: Global,
     workers: usize,
     content: &mut Content,
-    batch: Batch,
+    ops: &str,
     blocks: (usize, usize, usize),
 ) -> Version
-    requires { IsContent content.old }
+    requires workers { 0 < workers }
+    requires content { IsContent content.old }
     ensures { IsContent content.new }
 {
     grown(
@@ -72,7 +67,7 @@ pub(super) fn first_grown<R: Threads + Sync + Abort>(
         workers,
         &Version::empty(alloc),
         content,
-        batch,
+        ops,
         blocks,
     )
 }
@@ -91,20 +86,23 @@ fn check_link<R: Threads + Sync + Abort>(
     content: &mut Content,
     links: u32,
 )
-    requires { IsContent content.old }
+    requires workers { 0 < workers }
+    requires content { IsContent content.old }
     ensures { IsContent content.new }
 {
-    let batch = chain(alloc, links, links.saturating_add(1)).expect(rt, "a link");
-    let second = grown(rt, alloc, workers, first, content, batch, (1, 0, 0));
+    let ops = chain(alloc, links, links.saturating_add(1)).expect(rt, "a link");
+    let second = grown(rt, alloc, workers, first, content, ops.as_str(), (1, 0, 0));
     check_lengths(rt, first, &second, links as usize);
 }
 
 // A chain of so many links, and then one link more.
-fn check_chain<R: Threads + Sync + Abort>(rt: &R, alloc: Global, workers: usize, links: u32) {
-    let batch = chain(alloc, 0, links).expect(rt, "a chain");
+fn check_chain<R: Threads + Sync + Abort>(rt: &R, alloc: Global, workers: usize, links: u32)
+    requires { 0 < workers }
+{
+    let ops = chain(alloc, 0, links).expect(rt, "a chain");
     let mut content = empty(alloc);
     let blocks = (links as usize, 0, 0);
-    let first = first_grown(rt, alloc, workers, &mut content, batch, blocks);
+    let first = first_grown(rt, alloc, workers, &mut content, ops.as_str(), blocks);
     check_link(rt, alloc, workers, &first, &mut content, links);
 }
 
@@ -116,28 +114,16 @@ fn shares_names_and_rows_at_the_ends_of_pieces(rt: HostRuntime) {
 }
 
 /// One edge from vertex 0 to each of the others.
-pub(super) fn star(alloc: Global, targets: u32) -> Result<Batch, LineError> {
-    let mut batch = Batch::new(alloc);
+pub(super) fn star(alloc: Global, targets: u32) -> Result<String, AllocError> {
+    let mut text = String::new(alloc);
     for number in 0..targets {
-        batch.push(insertion(
-            alloc,
-            "k",
-            "a",
-            format!(in alloc; "v{number}")?.as_str(),
-            1,
-            7,
-        )?)?;
+        write!(text, "i,k,a,v{number},1,7 ")?;
     }
-    Ok(batch)
+    Ok(text)
 }
 
 // The first target's edge goes, and an edge to a new one comes.
-fn exchange(alloc: Global) -> Result<Batch, LineError> {
-    let mut batch = Batch::new(alloc);
-    batch.push(removal(alloc, "k", "a", "v0")?)?;
-    batch.push(insertion(alloc, "k", "a", "w", 1, 8)?)?;
-    Ok(batch)
-}
+const EXCHANGE: &str = "r,k,a,v0 i,k,a,w,1,8";
 
 fn check_exchanged(rt: &impl Abort, alloc: Global, version: &Version) {
     let row = row_text(alloc, version, VertexId(0)).expect(rt, "a row");
@@ -154,28 +140,25 @@ fn check_exchange<R: Threads + Sync + Abort>(
     requires { IsContent content.old }
     ensures { IsContent content.new }
 {
-    let batch = exchange(alloc).expect(rt, "an exchange");
-    let second = grown(rt, alloc, 4, first, content, batch, (1, 1, 1));
+    let second = grown(rt, alloc, 4, first, content, EXCHANGE, (1, 1, 1));
     check_exchanged(rt, alloc, &second);
 }
 
 #[test]
 fn touches_the_first_block_with_room_alone(rt: HostRuntime) {
-    let batch = star(rt.alloc(), 33).expect(&rt, "a star");
+    let ops = star(rt.alloc(), 33).expect(&rt, "a star");
     let mut content = empty(rt.alloc());
-    let first = first_grown(&rt, rt.alloc(), 4, &mut content, batch, (2, 0, 31));
+    let first = first_grown(&rt, rt.alloc(), 4, &mut content, ops.as_str(), (2, 0, 31));
     check_exchange(&rt, rt.alloc(), &first, &mut content);
 }
 
 // An edge is put, and the next time taken away.
-fn turn(alloc: Global, number: u64) -> Result<Batch, LineError> {
-    let mut batch = Batch::new(alloc);
-    batch.push(if number % 2 == 0 {
-        insertion(alloc, "k", "a", "b", 1, number)?
+fn turn(alloc: Global, number: u64) -> Result<String, AllocError> {
+    if number % 2 == 0 {
+        format!(in alloc; "i,k,a,b,1,{number}")
     } else {
-        removal(alloc, "k", "a", "b")?
-    })?;
-    Ok(batch)
+        String::from_str(alloc, "r,k,a,b")
+    }
 }
 
 // How many batches the version lends.
@@ -210,8 +193,8 @@ fn turned<R: Threads + Sync + Abort>(
     requires { IsContent content.old }
     ensures { IsContent content.new }
 {
-    let batch = turn(alloc, number).expect(rt, "a turn");
-    let next = next(rt, alloc, 1, version, content, batch);
+    let ops = turn(alloc, number).expect(rt, "a turn");
+    let next = next(rt, alloc, 1, version, content, ops.as_str());
     check_before(rt, version, number);
     check_last(rt, &next.version);
     next.version
@@ -226,41 +209,39 @@ fn shares_batches_at_the_ends_of_pieces(rt: HostRuntime) {
     }
 }
 
-// So many operations: links from one vertex after another, and in every third's place the removal of the one before it.
-fn links_and_cuts(alloc: Global, operations: u32) -> Result<Batch, LineError> {
-    let mut batch = Batch::new(alloc);
-    for number in 0..operations {
-        batch.push(if number % 3 == 2 {
-            cut(alloc, number.saturating_sub(1))?
-        } else {
-            link(alloc, number)?
-        })?;
-    }
-    Ok(batch)
+// The removal of the link before that of a number.
+fn write_cut(text: &mut String, number: u32) -> Result<(), AllocError> {
+    let source = number.saturating_sub(1);
+    write!(text, "r,k,v{source},v{number} ")
 }
 
-// The removal of a link.
-fn cut(alloc: Global, number: u32) -> Result<NamedOp, AllocError> {
-    let target = number.saturating_add(1);
-    removal(
-        alloc,
-        "k",
-        format!(in alloc; "v{number}")?.as_str(),
-        format!(in alloc; "v{target}")?.as_str(),
-    )
+// So many operations: links from one vertex after another, and in every third's place the removal of the one before it.
+fn links_and_cuts(alloc: Global, operations: u32) -> Result<String, AllocError> {
+    let mut text = String::new(alloc);
+    for number in 0..operations {
+        if number % 3 == 2 {
+            write_cut(&mut text, number)?;
+        } else {
+            write_link(&mut text, number)?;
+        }
+    }
+    Ok(text)
 }
 
 // A batch of so many operations, by so many workers.
-fn check_batch<R: Threads + Sync + Abort>(rt: &R, alloc: Global, workers: usize, operations: u32) {
-    let batch = links_and_cuts(alloc, operations).expect(rt, "a batch");
+fn check_batch<R: Threads + Sync + Abort>(rt: &R, alloc: Global, workers: usize, operations: u32)
+    requires { 0 < workers }
+{
+    let ops = links_and_cuts(alloc, operations).expect(rt, "operations");
     let mut content = empty(alloc);
-    let first = first(rt, alloc, workers, &mut content, batch);
+    let first = first(rt, alloc, workers, &mut content, ops.as_str());
     assert_eq!(rt; first.outcomes.len(), operations as usize);
 }
 
 #[test]
 fn applies_batches_about_256_operations(rt: HostRuntime) {
-    for (workers, operations) in [(1, 255), (1, 256), (1, 257), (4, 255), (4, 256), (4, 257)] {
-        check_batch(&rt, rt.alloc(), workers, operations);
+    for operations in 255..258 {
+        check_batch(&rt, rt.alloc(), 1, operations);
+        check_batch(&rt, rt.alloc(), 4, operations);
     }
 }

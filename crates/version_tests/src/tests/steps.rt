@@ -28,8 +28,8 @@ pub(super) fn empty(alloc: Global) -> Content
     }
 }
 
-/// What a batch of operations leaves of a version, planned for so many workers, which pass a gate.
-pub(super) fn applied_past<R: Threads + Sync, G: Gate + Sync>(
+/// What a batch leaves of a version, planned for so many workers, which pass a gate.
+pub(super) fn applied_batch<R: Threads + Sync, G: Gate + Sync>(
     rt: &R,
     alloc: Global,
     gate: &G,
@@ -52,17 +52,34 @@ pub(super) fn applied_past<R: Threads + Sync, G: Gate + Sync>(
     apply(rt, alloc, gate, version, plan, batch, blocks).ok()
 }
 
+/// What operations leave of a version, planned for so many workers, which pass a gate.
+pub(super) fn applied_past<R: Threads + Sync, G: Gate + Sync>(
+    rt: &R,
+    alloc: Global,
+    gate: &G,
+    workers: usize,
+    version: &Version,
+    ops: &str,
+) -> Option<Applied>
+    requires workers { 0 < workers }
+{
+    match batch_of(alloc, ops) {
+        Ok(batch) => applied_batch(rt, alloc, gate, workers, version, batch),
+        Err(_) => None,
+    }
+}
+
 /// As `applied_past`, of the version without batches.
 pub(super) fn first_past<R: Threads + Sync, G: Gate + Sync>(
     rt: &R,
     alloc: Global,
     gate: &G,
     workers: usize,
-    batch: Batch,
+    ops: &str,
 ) -> Option<Applied>
     requires workers { 0 < workers }
 {
-    applied_past(rt, alloc, gate, workers, &Version::empty(alloc), batch)
+    applied_past(rt, alloc, gate, workers, &Version::empty(alloc), ops)
 }
 
 /// As `applied_past`, by the gate that does nothing.
@@ -71,29 +88,47 @@ pub(super) fn applied<R: Threads + Sync>(
     alloc: Global,
     workers: usize,
     version: &Version,
-    batch: Batch,
+    ops: &str,
 ) -> Option<Applied>
     requires workers { 0 < workers }
 {
-    applied_past(rt, alloc, &PassAll, workers, version, batch)
+    applied_past(rt, alloc, &PassAll, workers, version, ops)
 }
 
-/// The version after a batch, which has what the plain application leaves of the content, and the same outcomes.
+/// The outcomes of operations that are applied plainly.
+pub(super) fn plain(alloc: Global, content: &mut Content, ops: &str) -> Option<Vec<Outcome>>
+    requires { IsContent content.old }
+    ensures { IsContent content.new }
+{
+    match batch_of(alloc, ops) {
+        Ok(batch) => plain_apply(alloc, content, &batch).ok(),
+        Err(_) => None,
+    }
+}
+
+fn check_plain(rt: &impl Abort, alloc: Global, content: &mut Content, ops: &str, told: &[Outcome])
+    requires { IsContent content.old }
+    ensures { IsContent content.new }
+{
+    let outcomes = plain(alloc, content, ops).expect(rt, "the plain application");
+    assert_eq!(rt; outcomes.as_slice(), told);
+}
+
+/// The version after operations, which has what the plain application leaves of the content, and the same outcomes.
 pub(super) fn next<R: Threads + Sync + Abort>(
     rt: &R,
     alloc: Global,
     workers: usize,
     version: &Version,
     content: &mut Content,
-    batch: Batch,
+    ops: &str,
 ) -> Applied
-    requires { IsContent content.old }
+    requires workers { 0 < workers }
+    requires content { IsContent content.old }
     ensures { IsContent content.new }
 {
-    let told = plain_apply(alloc, content, &batch).expect(rt, "the plain application");
-    assert!(rt; workers > 0);
-    let next = applied(rt, alloc, workers, version, batch).expect(rt, "the next version");
-    assert_eq!(rt; next.outcomes.as_slice(), told.as_slice());
+    let next = applied(rt, alloc, workers, version, ops).expect(rt, "the next version");
+    check_plain(rt, alloc, content, ops, next.outcomes.as_slice());
     check_same(rt, &next.version, content);
     next
 }
@@ -104,12 +139,13 @@ pub(super) fn first<R: Threads + Sync + Abort>(
     alloc: Global,
     workers: usize,
     content: &mut Content,
-    batch: Batch,
+    ops: &str,
 ) -> Applied
-    requires { IsContent content.old }
+    requires workers { 0 < workers }
+    requires content { IsContent content.old }
     ensures { IsContent content.new }
 {
-    next(rt, alloc, workers, &Version::empty(alloc), content, batch)
+    next(rt, alloc, workers, &Version::empty(alloc), content, ops)
 }
 
 // The first letters of outcomes.
@@ -155,12 +191,12 @@ fn check_line<R: Threads + Sync + Abort>(
     content: &mut Content,
     line: &str,
 ) -> Version
-    requires { IsContent content.old }
+    requires workers { 0 < workers }
+    requires content { IsContent content.old }
     ensures { IsContent content.new }
 {
     let (ops, wanted) = line.split_once(" => ").expect(rt, "a batch");
-    let batch = batch_of(alloc, ops).expect(rt, "operations");
-    let next = next(rt, alloc, workers, version, content, batch);
+    let next = next(rt, alloc, workers, version, content, ops);
     check_told(rt, alloc, &next, wanted, line);
     next.version
 }
@@ -171,7 +207,9 @@ pub(super) fn check_lines<R: Threads + Sync + Abort>(
     alloc: Global,
     workers: usize,
     lines: &str,
-) {
+)
+    requires { 0 < workers }
+{
     let mut version = Version::empty(alloc);
     let mut content = empty(alloc);
     for line in lines.lines() {

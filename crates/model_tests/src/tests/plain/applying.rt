@@ -2,194 +2,232 @@
 
 ghost use Rattle.graph_model.specs.Graph.{IsContent};
 
-use crate::tests::plain::Act::{Incr, Insert, Remove};
-use crate::tests::plain::{
-    Row, applies, are_called, batch_of, empty, name, push_rows, refused, sizes,
-};
-use graph_model::{Batch, Content, Edge, KindId, List, Name, NamedOp, Outcome, VertexId};
+use super::{check_rows, empty, sizes};
+use crate::tests::parts::{LineError, batch, only_refused, refused};
+use graph_model::{Batch, Content, Name};
 use plain_graph::{PlainError, plain_apply};
 use std::alloc::{AllocError, Global};
+use std::process::Abort;
 use std::test::Fail;
 
-/// An edge that is wanted: the numbers of its source and its target, its weight, its first and its recent time. Its
-/// kind is the first.
-type Wanted = (u32, u32, i64, u64, u64);
+fn push_names(text: &mut String, names: &[Name]) -> Result<(), AllocError> {
+    for name in names {
+        write!(text, " {}", name.as_str())?;
+    }
+    text.push_str(";")
+}
 
-fn edge(wanted: &Wanted) -> Edge {
-    Edge {
-        kind: KindId(0),
-        source: VertexId(wanted.0),
-        target: VertexId(wanted.1),
-        weight: wanted.2,
-        first: wanted.3,
-        recent: wanted.4,
+// What was told, the names and the kinds, and how many edges there are.
+fn content_text(alloc: Global, told: &str, content: &Content) -> Result<String, AllocError> {
+    let mut text = format!(in alloc; "{told};")?;
+    push_names(&mut text, content.names.as_slice())?;
+    push_names(&mut text, content.kinds.as_slice())?;
+    write!(text, " {}", content.edges.as_slice().len())?;
+    Ok(text)
+}
+
+fn outcomes_of(alloc: Global, content: &mut Content, ops: &str) -> Result<String, LineError>
+    requires { IsContent content.old }
+    ensures { IsContent content.new }
+{
+    match plain_apply(alloc, content, &batch(alloc, ops)?) {
+        Ok(outcomes) => Ok(format!(in alloc; "{:?}", outcomes.as_slice())?),
+        Err(error) => Err(error)?,
     }
 }
 
-/// Whether these are the edges, in any order; none is wanted twice.
-fn are_edges(edges: &List<Edge>, wanted: &[Wanted]) -> bool {
-    let edges = edges.as_slice();
-    let mut are_edges = edges.len() == wanted.len();
-    for wanted in wanted {
-        are_edges = are_edges && edges.contains(&edge(wanted));
-    }
-    are_edges
+fn applied(alloc: Global, content: &mut Content, ops: &str) -> Result<String, LineError>
+    requires { IsContent content.old }
+    ensures { IsContent content.new }
+{
+    let told = outcomes_of(alloc, content, ops)?;
+    Ok(content_text(alloc, told.as_str(), content)?)
 }
 
-/// Whether the operations, as the first batch, have these outcomes and leave these edges.
-fn leaves(alloc: Global, rows: &[Row], outcomes: &[Outcome], edges: &[Wanted]) -> bool {
+/// A batch has these outcomes and leaves these names and kinds and so many edges.
+fn check_applied(
+    rt: &impl Abort,
+    alloc: Global,
+    content: &mut Content,
+    ops: &str,
+    wanted: &str,
+) -> Result<(), Fail>
+    requires { IsContent content.old }
+    ensures { IsContent content.new }
+{
+    assert_eq!(rt; applied(alloc, content, ops)?.as_str(), wanted, "{ops}");
+    Ok(())
+}
+
+fn check_story(
+    rt: &impl Abort,
+    alloc: Global,
+    content: &mut Content,
+    ops: &str,
+    wanted: (&str, &str),
+) -> Result<(), Fail>
+    requires { IsContent content.old }
+{
+    check_applied(rt, alloc, content, ops, wanted.0)?;
+    check_rows(rt, alloc, content, wanted.1)
+}
+
+/// So does the first batch, and these are its edges.
+fn check_first(
+    rt: &impl Abort,
+    alloc: Global,
+    ops: &str,
+    wanted: &str,
+    edges: &str,
+) -> Result<(), Fail> {
     let mut content = empty(alloc);
-    applies(alloc, &mut content, rows, outcomes) == Some(true) && are_edges(&content.edges, edges)
+    check_story(rt, alloc, &mut content, ops, (wanted, edges))
 }
 
 #[test]
-fn answers_outcomes_in_order(rt: HostRuntime) {
-    let mut content = empty(rt.alloc());
-    let told = applies(
+fn answers_outcomes_in_order(rt: HostRuntime) -> Result<(), Fail> {
+    check_first(
+        &rt,
         rt.alloc(),
-        &mut content,
-        &[
-            Row(Insert, "knows", "a", "b", 1, 10),
-            Row(Incr, "knows", "b", "c", 2, 11),
-            Row(Remove, "knows", "z", "a", 0, 0),
-            Row(Insert, "knows", "a", "b", 3, 12),
-        ],
-        &[
-            Outcome::Inserted,
-            Outcome::Inserted,
-            Outcome::Absent,
-            Outcome::Updated,
-        ],
-    );
-    assert_eq!(rt; told, Some(true));
-    assert!(rt; are_edges(&content.edges, &[(0, 1, 3, 10, 12), (1, 2, 2, 11, 11)]));
-    assert!(rt; are_called(&content.names, &["a", "b", "c"]));
-    assert!(rt; are_called(&content.kinds, &["knows"]));
+        "i,knows,a,b,1,10 a,knows,b,c,2,11 r,knows,z,a i,knows,a,b,3,12",
+        "[Inserted, Inserted, Absent, Updated]; a b c; knows; 2",
+        "edge knows,a,b => edge 3 10 12\nedge knows,b,c => edge 2 11 11",
+    )
 }
 
 #[test]
-fn inserts_anew_after_a_removal(rt: HostRuntime) {
-    assert!(rt;
-        leaves(
+fn inserts_anew_after_a_removal(rt: HostRuntime) -> Result<(), Fail> {
+    check_first(
+        &rt,
+        rt.alloc(),
+        "i,knows,a,b,5,10 r,knows,a,b i,knows,a,b,7,12",
+        "[Inserted, Removed, Inserted]; a b; knows; 1",
+        "edge knows,a,b => edge 7 12 12",
+    )
+}
+
+// Operations, and the edge that they leave.
+const OVERFLOWS: [(&str, &str); 3] = [
+    (
+        "i,knows,a,b,1099511627776,10 a,knows,a,b,1,99 a,knows,a,b,-1,20",
+        "edge knows,a,b => edge 1099511627775 10 20",
+    ),
+    (
+        "i,knows,a,b,-1099511627776,10 a,knows,a,b,-1,99 a,knows,a,b,1,20",
+        "edge knows,a,b => edge -1099511627775 10 20",
+    ),
+    (
+        "i,knows,a,b,1,10 a,knows,a,b,1099511627776,99 a,knows,a,b,-1099511627776,20",
+        "edge knows,a,b => edge -1099511627775 10 20",
+    ),
+];
+
+#[test]
+fn overflow_changes_nothing(rt: HostRuntime) -> Result<(), Fail> {
+    for (ops, edge) in OVERFLOWS {
+        check_first(
+            &rt,
             rt.alloc(),
-            &[
-                Row(Insert, "knows", "a", "b", 5, 10),
-                Row(Remove, "knows", "a", "b", 0, 0),
-                Row(Insert, "knows", "a", "b", 7, 12),
-            ],
-            &[Outcome::Inserted, Outcome::Removed, Outcome::Inserted],
-            &[(0, 1, 7, 12, 12)],
-        )
-    );
-}
-
-#[test]
-fn overflow_changes_nothing(rt: HostRuntime) {
-    for (weight, amount, back, left) in [
-        (1 << 40, 1, -1, (1 << 40) - 1),
-        (-(1 << 40), -1, 1, 1 - (1 << 40)),
-        (1, 1 << 40, -(1 << 40), 1 - (1 << 40)),
-    ] {
-        assert!(rt;
-            leaves(
-                rt.alloc(),
-                &[
-                    Row(Insert, "knows", "a", "b", weight, 10),
-                    Row(Incr, "knows", "a", "b", amount, 99),
-                    Row(Incr, "knows", "a", "b", back, 20),
-                ],
-                &[Outcome::Inserted, Outcome::Overflow, Outcome::Updated],
-                &[(0, 1, left, 10, 20)],
-            )
-        );
+            ops,
+            "[Inserted, Overflow, Updated]; a b; knows; 1",
+            edge,
+        )?;
     }
+    Ok(())
+}
+
+fn check_removal(rt: &impl Abort, alloc: Global, content: &mut Content) -> Result<(), Fail>
+    requires { IsContent content.old }
+{
+    check_applied(rt, alloc, content, "r,knows,b,a", "[Absent];;; 0")?;
+    check_applied(
+        rt,
+        alloc,
+        content,
+        "i,knows,a,b,1,1",
+        "[Inserted]; a b; knows; 1",
+    )
 }
 
 #[test]
-fn removals_make_no_names(rt: HostRuntime) {
+fn removals_make_no_names(rt: HostRuntime) -> Result<(), Fail> {
     let mut content = empty(rt.alloc());
-    let removal = [Row(Remove, "knows", "b", "a", 0, 0)];
-    let insertion = [Row(Insert, "knows", "a", "b", 1, 1)];
-    assert_eq!(rt;
-        applies(rt.alloc(), &mut content, &removal, &[Outcome::Absent]),
-        Some(true)
-    );
-    assert_eq!(rt; sizes(&content), (0, 0, 0));
-    assert_eq!(rt;
-        applies(rt.alloc(), &mut content, &insertion, &[Outcome::Inserted]),
-        Some(true)
-    );
-    assert!(rt; are_called(&content.names, &["a", "b"]));
+    check_removal(&rt, rt.alloc(), &mut content)
 }
 
-/// An insertion between one pair of vertices, of a kind of its own.
-fn insert_kind(alloc: Global, kind: u64) -> Result<NamedOp, AllocError> {
-    Ok(NamedOp::Insert {
-        kind: Name::of(format!(in alloc; "kind{kind}")?),
-        source: name(alloc, "a")?,
-        target: name(alloc, "b")?,
-        weight: 1,
-        time: 1,
-    })
-}
-
-/// Insertions of 63 kinds, and then these operations.
-fn batch_of_kinds(alloc: Global, last: &[Row]) -> Result<Batch, Fail> {
-    let mut batch = Batch::new(alloc);
-    for kind in 0..63 {
-        batch.push(insert_kind(alloc, kind)?)?;
+/// Insertions between one pair of vertices, of 63 kinds, and then these operations.
+fn ops_of_kinds(alloc: Global, last: &str) -> Result<String, AllocError> {
+    let mut text = String::new(alloc);
+    for kind in 0..63u8 {
+        write!(text, "i,kind{kind},a,b,1,1 ")?;
     }
-    push_rows(alloc, &mut batch, last)?;
-    Ok(batch)
+    text.push_str(last)?;
+    Ok(text)
 }
 
 /// Applies 63 kinds and then these operations: the error, if there was one, and the content's sizes afterwards.
 fn apply_kinds(
     alloc: Global,
     content: &mut Content,
-    last: &[Row],
-) -> Result<(Option<PlainError>, (usize, usize, usize)), Fail>
+    last: &str,
+) -> Result<(Option<PlainError>, (usize, usize, usize)), LineError>
     requires { IsContent content.old }
-    ensures { IsContent content.new }
 {
-    let error = plain_apply(alloc, content, &batch_of_kinds(alloc, last)?).err();
+    let batch = batch(alloc, ops_of_kinds(alloc, last)?.as_str())?;
+    let error = plain_apply(alloc, content, &batch).err();
     Ok((error, sizes(content)))
 }
 
+// A removal makes no kind, the first insertion makes the last one that there is room for, and the second one is too many.
+const LAST_KINDS: [(&str, Option<PlainError>, (usize, usize, usize)); 2] = [
+    (
+        "r,knows,a,b i,knows,a,b,1,1 i,kind64,a,b,1,1",
+        Some(PlainError::KindsFull),
+        (0, 0, 0),
+    ),
+    ("r,knows,a,b i,knows,a,b,1,1", None, (2, 64, 64)),
+];
+
 #[test]
 fn refuses_a_kind_too_many(rt: HostRuntime) -> Result<(), Fail> {
-    let rows = [
-        Row(Remove, "knows", "a", "b", 0, 0),
-        Row(Insert, "knows", "a", "b", 1, 1),
-        Row(Insert, "kind64", "a", "b", 1, 1),
-    ];
-    for (count, error, sizes) in [
-        (3, Some(PlainError::KindsFull), (0, 0, 0)),
-        (2, None, (2, 64, 64)),
-    ] {
+    for (last, error, sizes) in LAST_KINDS {
         let mut content = empty(rt.alloc());
-        let told = apply_kinds(rt.alloc(), &mut content, &rows[..count])?;
-        assert_eq!(rt; told, (error, sizes));
+        assert_eq!(rt;
+            apply_kinds(rt.alloc(), &mut content, last)?,
+            (error, sizes)
+        );
     }
     Ok(())
+}
+
+fn check_growth(
+    rt: &(impl Abort + Print),
+    alloc: Global,
+    content: &mut Content,
+    batch: &Batch,
+) -> Result<(), Fail>
+    requires { IsContent content.old }
+{
+    match plain_apply(alloc, content, batch).err() {
+        None => {
+            assert_eq!(rt; sizes(content), (3, 1, 2));
+            Ok(())
+        }
+        Some(error) => {
+            assert_eq!(rt;
+                (error, sizes(content)),
+                (PlainError::OutOfMemory, (0, 0, 0))
+            );
+            refused(rt)
+        }
+    }
 }
 
 #[test]
 fn refused_growth_changes_nothing(rt: HostRuntime) -> Result<(), Fail> {
-    let rows = [
-        Row(Insert, "knows", "a", "b", 5, 10),
-        Row(Insert, "knows", "b", "c", 6, 11),
-    ];
-    let Ok(batch) = batch_of(rt.alloc(), &rows) else {
-        return refused(&rt);
-    };
     let mut content = empty(rt.alloc());
-    let error = plain_apply(rt.alloc(), &mut content, &batch).err();
-    if error == Some(PlainError::OutOfMemory) {
-        assert_eq!(rt; sizes(&content), (0, 0, 0));
-        return refused(&rt);
+    match batch(rt.alloc(), "i,knows,a,b,5,10 i,knows,b,c,6,11") {
+        Ok(batch) => check_growth(&rt, rt.alloc(), &mut content, &batch),
+        Err(error) => only_refused(&rt, error),
     }
-    assert_eq!(rt; error, None);
-    assert_eq!(rt; sizes(&content), (3, 1, 2));
-    Ok(())
 }

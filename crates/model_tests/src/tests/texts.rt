@@ -1,0 +1,92 @@
+// Replies as text.
+
+use super::parts::LineError;
+use graph_model::{AskError, Degree, Name, Reply};
+use std::alloc::{AllocError, Global};
+use std::fmt::Display;
+
+// An item behind a text.
+fn push_item<D: Display + Drop>(
+    text: &mut String,
+    before: &str,
+    item: D,
+) -> Result<(), AllocError> {
+    write!(text, "{before}{item}")
+}
+
+// Weight and times of an edge.
+fn push_edge(text: &mut String, edge: Option<(i64, u64, u64)>) -> Result<(), AllocError> {
+    match edge {
+        Some((weight, first, recent)) => {
+            push_item(text, "edge ", weight)?;
+            push_item(text, " ", first)?;
+            push_item(text, " ", recent)
+        }
+        None => text.push_str("edge none"),
+    }
+}
+
+// A word, and each vertex with its number.
+fn push_numbers(text: &mut String, word: &str, rows: &[(Name, u32)]) -> Result<(), AllocError> {
+    text.push_str(word)?;
+    for (name, number) in rows {
+        push_item(text, " ", name.as_str())?;
+        push_item(text, " ", *number)?;
+    }
+    Ok(())
+}
+
+// Each vertex with its label.
+fn push_labels(text: &mut String, rows: &[(Name, Name)]) -> Result<(), AllocError> {
+    text.push_str("comp")?;
+    for (name, label) in rows {
+        push_item(text, " ", name.as_str())?;
+        push_item(text, " ", label.as_str())?;
+    }
+    Ok(())
+}
+
+// Each vertex with its degrees out and in, and its weight out.
+fn push_degrees(text: &mut String, rows: &[(Name, Degree)]) -> Result<(), AllocError> {
+    text.push_str("deg")?;
+    for (name, degree) in rows {
+        push_item(text, " ", name.as_str())?;
+        push_item(text, " ", degree.outgoing)?;
+        push_item(text, " ", degree.incoming)?;
+        push_item(text, " ", degree.out_weight)?;
+    }
+    Ok(())
+}
+
+fn push_reply(text: &mut String, reply: &Reply) -> Result<(), AllocError> {
+    match reply {
+        Reply::OneEdge(edge) => push_edge(text, *edge),
+        Reply::Levels(rows) => push_numbers(text, "bfs", rows.as_slice()),
+        Reply::Labels(rows) => push_labels(text, rows.as_slice()),
+        Reply::Cores(rows) => push_numbers(text, "core", rows.as_slice()),
+        Reply::Degrees(rows) => push_degrees(text, rows.as_slice()),
+    }
+}
+
+fn refusal_text(refusal: AskError) -> &'static str {
+    match refusal {
+        AskError::BadWindow => "BadWindow",
+        AskError::NoKind => "NoKind",
+        AskError::NoVertex => "NoVertex",
+        AskError::OutOfMemory => "OutOfMemory",
+    }
+}
+
+/// A reply, or the refusal that stands in its place, unless that is want of memory.
+pub(super) fn reply_text(
+    alloc: Global,
+    reply: &Result<Reply, AskError>,
+) -> Result<String, LineError> {
+    let mut text = String::new(alloc);
+    match reply {
+        Ok(reply) => push_reply(&mut text, reply)?,
+        Err(AskError::OutOfMemory) => return Err(LineError::OutOfMemory),
+        Err(refusal) => text.push_str(refusal_text(*refusal))?,
+    }
+    Ok(text)
+}
