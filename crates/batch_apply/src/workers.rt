@@ -1,6 +1,6 @@
 //! Shards that workers do at once.
 
-ghost use Rattle.std.specs.Prelude.{◌≡◌, ◌+◌, ◌++◌, ◌<◌, ◌≤◌, map, IfOk, IfSome, vec_len, length, All, List, ℕ};
+ghost use Rattle.std.specs.Prelude.{◌≡◌, ◌+◌, ◌++◌, ◌<◌, ◌≤◌, map, IfOk, IfSome, MatchBool, vec_len, length, [], All, List, ℕ};
 ghost use Rattle.std.specs.Thread.{IsSync};
 ghost use Rattle.row_pages.specs.Rows.{row_of};
 ghost use Rattle.batch_apply.specs.Jobs.{IsShard, AreDone};
@@ -31,7 +31,10 @@ pub struct Job {
 }
 
 impl Job {
-    fn is_busy(&self) -> bool {
+    /// Whether it has operations.
+    fn is_busy(&self) -> bool
+        ensures { MatchBool result (0 < length self.now.shard.steps.items) (self.now.shard.steps.items ≡ []) }
+    {
         !self.shard.steps.is_empty()
     }
 }

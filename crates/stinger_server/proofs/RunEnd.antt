@@ -1,6 +1,7 @@
 -- Why a run ends as it does.
-use Rattle.std.proofs.Common.{◌≡◌, ℕ, ◌+◌, List, length, ◌∙◌, ap, subst, sym, arith, inl}
+use Rattle.std.proofs.Common.{◌≡◌, ℕ, ◌+◌, ◌<◌, List, length, refl, ◌∙◌, ap, subst, sym, arith, inl}
 use Rattle.std.specs.Prelude.{Bool, false, Option, Some, Result, Ok, Err, IfErr, IfOk, is_err}
+use Rattle.feed_csv.specs.Records.{record_limit}
 use Rattle.feed_csv.specs.Script.{NextStep, Script}
 use Rattle.feed_csv.specs.declared.command.Command.{Command}
 use Rattle.stinger_server.specs.declared.script.Run.{Run}
@@ -8,14 +9,16 @@ use Rattle.stinger_server.specs.declared.script.ServeFault.{ServeFault}
 use Rattle.stinger_server.specs.declared.script.ServeFault.TheVariants.{Read, Memory, Start, Write}
 use Rattle.stinger_server.specs.declared.script.Summary.{Summary}
 use Rattle.stinger_server.specs.States.{Setup}
-use Rattle.stinger_server.specs.Runs.{BreaksOff, Does, HasCause, IsFresh, IsReady, Starts, Turns, done_by, is_write}
+use Rattle.stinger_server.specs.Runs.{BreaksOff, Does, HasCause, IsFresh, IsReady, Starts, Turns, done_by, is_write, records_done}
 
 -- there was no store, or no memory for a first record
 pub cause_unstarted : (feed : Script) (setup : Setup) (before after : Option (List ℕ)) (failed : Bool) (fault : ServeFault)
     → IsFresh feed → Starts setup before (Err fault) after → failed ≡ is_write {T = Run} (Err fault)
     → HasCause feed failed (Err fault)
 cause_unstarted feed setup before after failed Read fresh ends marked = absurd ends
-cause_unstarted feed setup before after failed Memory fresh ends marked = marked
+cause_unstarted feed setup before after failed Memory fresh ends marked =
+    let none : records_done feed ≡ 0 = rw (fresh.reading, fresh.given) refl in
+    (subst (λ (n : ℕ). n < record_limit) (sym none) (omega arith), marked)
 cause_unstarted feed setup before after failed Start fresh ends marked = (fresh.reading, fresh.given, marked)
 cause_unstarted feed setup before after failed Write fresh ends marked = marked
 
@@ -24,7 +27,8 @@ pub cause_stopped : (feed feed' : Script) (run run' : Run) (now after : Option (
     → Turns feed run now (Err fault) feed' run' after → failed ≡ is_write {T = Bool} (Err fault)
     → HasCause feed' failed (Err fault)
 cause_stopped feed feed' run run' now after failed Read turned marked = (turned.0, marked)
-cause_stopped feed feed' run run' now after failed Memory turned marked = marked
+cause_stopped feed feed' run run' now after failed Memory turned marked =
+    (subst (λ (n : ℕ). n < record_limit) (sym turned.0) turned.1, marked)
 cause_stopped feed feed' run run' now after failed Start turned marked = absurd turned
 cause_stopped feed feed' run run' now after failed Write turned marked = marked
 
@@ -53,7 +57,11 @@ turn_broken command field feed feed' run run' before after Start ready is step d
 turn_broken command field feed feed' run run' before after Memory ready is step does =
     let taken : NextStep feed (Ok (Some command)) feed' = rw is at step in
     let count : feed'.given ≡ feed.given + 1 = taken.2.given in
-    (ap (λ phase. done_by phase feed'.given) taken.2.reading ∙ omega (arith, count, ready.records), does)
+    let room = taken.2.open_before.room in (
+      ap (λ phase. done_by phase feed'.given) taken.2.reading ∙ omega (arith, count, ready.records),
+      omega (arith, ready.records, room),
+      does,
+    )
 turn_broken command field feed feed' run run' before after Write ready is step does =
     let taken : NextStep feed (Ok (Some command)) feed' = rw is at step in
     inl (taken.0, taken.2, subst (λ item. BreaksOff item run before after) (sym taken.1) does)

@@ -156,8 +156,11 @@ stopped setup rows feed feed' run run' before now after Read reached turned = (
 )
 stopped setup rows feed feed' run run' before now after Memory reached turned = (
   reached.lines ++ error_line (run.records + 1) (Feed feed_word.Memory),
-  appends_then before now after reached.lines _ reached.written turned.1,
-  cut_of setup rows feed.left run before now (Feed feed_word.Memory) (records_done feed') reached turned.0,
+  appends_then before now after reached.lines _ reached.written turned.2,
+  (
+    cut_of setup rows feed.left run before now (Feed feed_word.Memory) (records_done feed') reached turned.0,
+    subst (λ (n : ℕ). n < record_limit) (sym turned.0) turned.1,
+  ),
 )
 stopped setup rows feed feed' run run' before now after Start reached turned = absurd turned
 stopped setup rows feed feed' run run' before now after Write reached turned = elim turned [
@@ -238,8 +241,11 @@ unfinished setup rows left run before now after count reached over few part =
 pub unstarted : (setup : Setup) (rows : List Row) (before after : Option (List ℕ))
     → Appends before after (error_line 1 (Feed feed_word.Memory))
     → AppendsSome before after (IsText setup rows 0 (Err Memory))
-unstarted setup rows before after written =
-    (error_line 1 (Feed feed_word.Memory), written, ([], beginning setup, ([], rows, refl, (refl, refl)), refl, refl))
+unstarted setup rows before after written = (
+  error_line 1 (Feed feed_word.Memory),
+  written,
+  (([], beginning setup, ([], rows, refl, (refl, refl)), refl, refl), omega arith),
+)
 
 pub unstarted_part : (setup : Setup) (rows : List Row) (before after : Option (List ℕ)) (count : ℕ)
     → AppendsPart before after (error_line 1 (Feed feed_word.Memory))

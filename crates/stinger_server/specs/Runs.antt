@@ -1,5 +1,5 @@
 -- One turn of a run: from the record that the feed gives to what is written of it.
-use Rattle.std.specs.Prelude.{◌≡◌, ◌≤◌, ◌⊎◌, ℕ, ◌+◌, ◌-◌, Bool, true, false, List, [], Option, Result, Ok, Err}
+use Rattle.std.specs.Prelude.{◌≡◌, ◌<◌, ◌≤◌, ◌⊎◌, ℕ, ◌+◌, ◌-◌, Bool, true, false, List, [], Option, Result, Ok, Err}
 use Rattle.std.specs.Io.KnownBytes.{Appends}
 use Rattle.feed_csv.specs.Commands.{item_of}
 use Rattle.feed_csv.specs.Records.{Row, record_limit}
@@ -107,7 +107,7 @@ Turns feed run before (Ok false) feed' run' after = MeetsEnd feed feed' × (run'
 Turns feed run before (Err Read) feed' run' after =
     HasReadFault feed' × (records_done feed' ≡ run.records) × Appends before after (error_line (run.records + 1) (Feed word.Read))
 Turns feed run before (Err Memory) feed' run' after =
-    (records_done feed' ≡ run.records) × Appends before after (error_line (run.records + 1) (Feed word.Memory))
+    (records_done feed' ≡ run.records) × (run.records < record_limit) × Appends before after (error_line (run.records + 1) (Feed word.Memory))
 Turns feed run before (Err Start) feed' run' after = ⊥
 Turns feed run before (Err Write) feed' run' after =
     ((row : Row) × TakesRow feed row feed' × BreaksOff (item_of row) run before after)
@@ -131,12 +131,12 @@ is_start (Err Start) = true
 is_start (Err Write) = false
 
 -- Why a run ends as it does, by what its feed came to and whether a call of the writer failed: at Ok the feed met the end of
--- the input, and csv's reader never failed; Read is told of the feed's fault alone, and Write of the writer's. Nothing can be
--- said of memory, except that it is no other fault; and without a store nothing was read.
+-- the input, and csv's reader never failed; Read is told of the feed's fault alone, and Write of the writer's. Of memory
+-- can be said that it is no other fault, and never told of the limit of records; and without a store nothing was read.
 abbrev pub HasCause : Script → Bool → Result Summary ServeFault → Type 0
 HasCause feed failed (Ok summary) =
     (feed.phase ≡ Ended) × (feed.failed ≡ false) × (summary.records ≡ feed.given) × (failed ≡ false)
 HasCause feed failed (Err Read) = HasReadFault feed × (failed ≡ false)
-HasCause feed failed (Err Memory) = failed ≡ false
+HasCause feed failed (Err Memory) = (records_done feed < record_limit) × (failed ≡ false)
 HasCause feed failed (Err Start) = (feed.phase ≡ Reading) × (feed.given ≡ 0) × (failed ≡ false)
 HasCause feed failed (Err Write) = failed ≡ true

@@ -48,11 +48,11 @@ abbrev pub summary_of : Progress → Summary
 summary_of p = record { records = p.records; errors = p.errors; pending = length p.state.pending }
 
 -- what a run that did so many records has written when it returns: the whole text; or the text up to a fault; or, where a write
--- failed, a first part of such a text; or nothing, where the store was not opened
+-- failed, a first part of such a text; or nothing, where the store was not opened. Memory is never told of the limit of records
 abbrev pub IsText : Setup → List Row → ℕ → Result Summary ServeFault → List ℕ → Type 0
 IsText setup rows count (Ok summary) text =
     (there : Progress) × IsWhole setup rows text there × (there.records ≡ count) × (summary ≡ summary_of there)
 IsText setup rows count (Err Read) text = IsCut setup rows (Feed feed.Read) count text
-IsText setup rows count (Err Memory) text = IsCut setup rows (Feed feed.Memory) count text
+IsText setup rows count (Err Memory) text = IsCut setup rows (Feed feed.Memory) count text × (count < record_limit)
 IsText setup rows count (Err Start) text = (text ≡ []) × (count ≡ 0)
 IsText setup rows count (Err Write) text = (full : List ℕ) × (rest : List ℕ) × IsWanted setup rows full × (full ≡ text ++ rest)

@@ -10,16 +10,16 @@ use Rattle.store_journal.proofs.OpeningShown.{opened_is_desk}
 use Rattle.stream_store.specs.Kept.{DeskState, IsKept}
 
 -- what is kept holds of equal values too
-pub kept_same : (d e : DeskState) (s t : ShelfView) (workers entries room others more : ℕ) → IsKept d s workers entries room
+pub kept_same : (d e : DeskState) (s t : ShelfView) (entries room others more : ℕ) → IsKept d s entries room
     → e ≡ d → t ≡ s → others ≡ entries → room ≤ more
-    → IsKept e t workers others more
-kept_same d e s t workers entries room others more kept same shelf len grows = record {
+    → IsKept e t others more
+kept_same d e s t entries room others more kept same shelf len grows = record {
   desk = rw same kept.desk;
   book_is = rw (same, shelf) kept.book_is;
   opening_is = rw (same, shelf) kept.opening_is;
   posted_is = rw (same, shelf) kept.posted_is;
-  workers_some = kept.workers_some;
-  workers_few = kept.workers_few;
+  workers_some = rw same kept.workers_some;
+  workers_few = rw same kept.workers_few;
   room_is = let count = ap (λ (x : DeskState). count_by is_retired x.desk.pool) same in let room = kept.room_is in omega arith;
 }
 
@@ -29,7 +29,7 @@ none_retired (suc n) = let more = none_retired n in cc
 
 -- an opened desk
 pub opened_kept : (book : Book) (blocks workers : ℕ) → 1 ≤ workers → workers ≤ 8
-    → IsKept (record { book = book; desk = opened_desk blocks }) (opened_shelf book empty_version) workers 0 0
+    → IsKept (record { book = book; workers = workers; desk = opened_desk blocks }) (opened_shelf book empty_version) 0 0
 opened_kept book blocks workers some few = record {
   desk = opened_is_desk blocks;
   book_is = refl;
@@ -42,19 +42,19 @@ opened_kept book blocks workers some few = record {
 
 -- the desk after a collection
 abbrev pub state_collected : DeskState → ℕ → DeskState
-state_collected d floor = record { book = d.book; desk = desk_collected d.desk floor }
+state_collected d floor = record { book = d.book; workers = d.workers; desk = desk_collected d.desk floor }
 
-pub collection_kept : (d e : DeskState) (floor : ℕ) (s : ShelfView) (workers entries capacity others room : ℕ)
-    → IsKept d s workers entries capacity
+pub collection_kept : (d e : DeskState) (floor : ℕ) (s : ShelfView) (entries capacity others room : ℕ)
+    → IsKept d s entries capacity
     → floor ≤ length d.desk.last.batches → e ≡ state_collected d floor → others + count_by is_retired e.desk.pool ≤ room
-    → IsKept e s workers others room
-collection_kept d e floor s workers entries capacity others room kept low is fits = record {
+    → IsKept e s others room
+collection_kept d e floor s entries capacity others room kept low is fits = record {
   desk = collected_is_desk d.desk e.desk floor kept.desk low
       (is_collected d.desk e.desk floor (ap (λ (x : DeskState). x.desk) is));
   book_is = kept.book_is ∙ sym (ap (λ (x : DeskState). x.book) is);
   opening_is = kept.opening_is ∙ sym (ap (λ (x : DeskState). x.desk.last.opening) is);
   posted_is = kept.posted_is ∙ sym (ap (λ (x : DeskState). x.desk.last.batches) is);
-  workers_some = kept.workers_some;
-  workers_few = kept.workers_few;
+  workers_some = let same = ap (λ (x : DeskState). x.workers) is in let some = kept.workers_some in omega arith;
+  workers_few = let same = ap (λ (x : DeskState). x.workers) is in let few = kept.workers_few in omega arith;
   room_is = fits;
 }

@@ -180,12 +180,12 @@ end_room h end is =
     let room = retired_room (application h) in
     omega arith
 
-pub end_kept : (h : Handing) (new : DeskState) (shelf : ShelfView) (workers entries room : ℕ)
+pub end_kept : (h : Handing) (new : DeskState) (shelf : ShelfView) (entries room : ℕ)
     → new.desk ≡ next_desk (application h)
-    → shelf.book ≡ new.book → shelf.opening ≡ h.old.last.opening → shelf.posted ≡ (version_of h).batches → 1 ≤ workers
-    → workers ≤ 8
-    → entries + count_by is_retired new.desk.pool ≤ room → IsKept new shelf workers entries room
-end_kept h new shelf workers entries room is book opening posted some few fits = record {
+    → shelf.book ≡ new.book → shelf.opening ≡ h.old.last.opening → shelf.posted ≡ (version_of h).batches → 1 ≤ new.workers
+    → new.workers ≤ 8
+    → entries + count_by is_retired new.desk.pool ≤ room → IsKept new shelf entries room
+end_kept h new shelf entries room is book opening posted some few fits = record {
   desk = subst IsDesk (sym is) (made_desk (application h));
   book_is = book;
   opening_is = opening ∙ sym h.is_prepared.opening ∙ ap (λ (d : DeskView). d.last.opening) (sym is);
@@ -202,14 +202,15 @@ next_is h shelf opening posted =
 
 -- Refusals
 
-pub grant_refused : (v : VersionView) (free : ℕ) (ops : List NamedOp) (plan : Plan) (e : ApplyError) → IsAdmitted v ops plan
+pub grant_refused : (v : VersionView) (free : ℕ) (workers : ℕ) (ops : List NamedOp) (plan : Plan) (e : ApplyError)
+    → IsAdmitted v workers ops plan
     → RefusesGrant (length ops) free e → Refuses v free ops e
-grant_refused v free ops plan BatchLimit admitted refuses = absurd refuses
-grant_refused v free ops plan NamesFull admitted refuses = absurd refuses
-grant_refused v free ops plan KindsFull admitted refuses = absurd refuses
-grant_refused v free ops plan (PoolEmpty needed left) admitted refuses =
+grant_refused v free workers ops plan BatchLimit admitted refuses = absurd refuses
+grant_refused v free workers ops plan NamesFull admitted refuses = absurd refuses
+grant_refused v free workers ops plan KindsFull admitted refuses = absurd refuses
+grant_refused v free workers ops plan (PoolEmpty needed left) admitted refuses =
     (admitted.few, admitted.limits, refuses.0, refuses.1, refuses.2)
-grant_refused v free ops plan OutOfMemory admitted refuses = refuses
+grant_refused v free workers ops plan OutOfMemory admitted refuses = refuses
 
 -- a batch handed over, by what is known of the version that was lent
 abbrev pub handing : (old : DeskView) (ops : List NamedOp) (numbers handed : List ℕ) (prepared : Prepared) (pool : List Status)

@@ -11,9 +11,10 @@ use Rattle.store_journal.specs.Desks.{DeskView, IsDesk}
 use Rattle.stream_store.specs.declared.entries.JournalEntry.{JournalEntry}
 use Rattle.stream_store.specs.declared.entries.JournalEntry.TheVariants as entries
 
--- a desk, and which history its shelf posts
+-- a desk, which history its shelf posts, and how many workers apply a batch
 pub record DeskState : Type 0 where
   pub book : Book
+  pub workers : ℕ
   pub desk : DeskView
 
 -- an entry as contracts see it
@@ -21,20 +22,21 @@ abbrev pub entry_of : JournalEntry → Entry
 entry_of (entries.Applied batch taken dropped) = Applied (arc_value {X = Batch} batch) taken dropped
 entry_of (entries.Collected floor recycled) = Collected floor recycled
 
-abbrev pub state_of : Book → VersionView → List JournalEntry → List Status → DeskState
-state_of book last journal pool = record {
+abbrev pub state_of : Book → ℕ → VersionView → List JournalEntry → List Status → DeskState
+state_of book workers last journal pool = record {
   book = book;
+  workers = workers;
   desk =
       record { last = last; journal = map entry_of journal; pool = pool };
 }
 
 -- it is a desk, the shelf has posted the last version's batches, and the journal's spare room is never below the number
 -- of retired blocks, so that a collection takes no memory
-pub record IsKept (d : DeskState) (shelf : ShelfView) (workers entries room : ℕ) : Type 0 where
+pub record IsKept (d : DeskState) (shelf : ShelfView) (entries room : ℕ) : Type 0 where
   pub desk : IsDesk d.desk
   pub book_is : shelf.book ≡ d.book
   pub opening_is : shelf.opening ≡ d.desk.last.opening
   pub posted_is : shelf.posted ≡ d.desk.last.batches
-  pub workers_some : 1 ≤ workers
-  pub workers_few : workers ≤ 8
+  pub workers_some : 1 ≤ d.workers
+  pub workers_few : d.workers ≤ 8
   pub room_is : entries + count_by is_retired d.desk.pool ≤ room

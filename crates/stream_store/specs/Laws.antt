@@ -1,4 +1,4 @@
--- Snapshot isolation, as sessions have it.
+-- What sessions that hold equal contents answer.
 use Rattle.std.specs.Prelude.{◌≡◌, Result}
 use Rattle.graph_model.specs.Answer.{IsAnswer}
 use Rattle.graph_model.specs.declared.requests.Request.{Request}

@@ -1,5 +1,5 @@
 -- When the desk refuses a batch.
-use Rattle.std.specs.Prelude.{◌≡◌, ℕ, ◌<◌, ◌≤◌, List, length}
+use Rattle.std.specs.Prelude.{◌≡◌, ℕ, ◌<◌, ◌≤◌, nat_lt, if◌then◌else◌, List, length}
 use Rattle.graph_model.specs.Limits.{batch_limit}
 use Rattle.graph_model.specs.GraphLimits.{MeetsNameLimit, MeetsKindLimit}
 use Rattle.graph_model.specs.declared.batches.NamedOp.{NamedOp}
@@ -20,11 +20,16 @@ Refuses v free ops (PoolEmpty needed left) =
     × (free < length ops)
 Refuses v free ops OutOfMemory = Unit {0}
 
--- a batch that the version's limits admit, and its plan for at least one worker
-pub record IsAdmitted (v : VersionView) (ops : List NamedOp) (plan : Plan) : Type 0 where
+-- how many of these workers a batch is shared by: a batch of fewer than 2,048 operations is one worker's
+abbrev pub workers_for : ℕ → List NamedOp → ℕ
+workers_for workers ops = if nat_lt (length ops) 2048 then 1 else workers
+
+-- a batch that the version's limits admit, and its plan for as many of these workers as share it
+pub record IsAdmitted (v : VersionView) (workers : ℕ) (ops : List NamedOp) (plan : Plan) : Type 0 where
   pub few : length v.batches < batch_limit
   pub limits : MeetsNeitherLimit ops (content v)
-  pub planned : (workers : ℕ) × (0 < workers) × IsPlan workers ops (content v) plan
+  pub some : 0 < workers_for workers ops
+  pub planned : IsPlan (workers_for workers ops) ops (content v) plan
 
 -- no refusal but want of memory holds
 pub record IsWithin (v : VersionView) (free : ℕ) (ops : List NamedOp) : Type 0 where

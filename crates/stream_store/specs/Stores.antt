@@ -1,10 +1,12 @@
 -- A store behind locks: what its calls answer, where what the locks held is not known.
-use Rattle.std.specs.Prelude.{◌≡◌, ℕ, List, [], ◌∷◌, ◌++◌, length}
+use Rattle.std.specs.Prelude.{◌≡◌, ℕ, ◌<◌, List, [], ◌∷◌, ◌++◌, length}
 use Rattle.logbook.specs.Pages.{Book}
+use Rattle.graph_model.specs.Limits.{batch_limit}
 use Rattle.graph_model.specs.Step.{outcomes, left_by, empty_graph}
 use Rattle.graph_model.specs.declared.batches.NamedOp.{NamedOp}
 use Rattle.graph_model.specs.declared.batches.Outcome.{Outcome}
-use Rattle.graph_version.specs.Versions.{VersionView}
+use Rattle.graph_version.specs.Versions.{VersionView, IsVersion}
+use Rattle.batch_plan.specs.Planned.{MeetsNeitherLimit}
 use Rattle.version_shelf.specs.Shelves.{ToldView}
 use Rattle.stream_store.specs.Refusals.{Refuses}
 use Rattle.stream_store.specs.declared.receipts.ApplyError.{ApplyError}
@@ -15,15 +17,19 @@ pub record IsOfOpening (book : Book) (x : ToldView) : Type 0 where
   pub opening_is : x.version.opening ≡ empty_graph
 
 -- a receipt tells of a version whose batches end with this one and have its number; the outcomes are those of the operation
--- rule over what the batches before left
+-- rule over what the batches before left, at which neither limit of the batch is met, nor that of their number
 pub record IsReceiptOf (ops : List NamedOp) (number : ℕ) (results : List Outcome) (told : ToldView) : Type 0 where
   pub earlier : List (List NamedOp)
   pub ends : told.version.batches ≡ earlier ++ ops ∷ []
   pub number_is : number ≡ length told.version.batches
   pub outcomes_are : results ≡ outcomes ops (left_by earlier told.version.opening)
+  pub few : length earlier < batch_limit
+  pub limits : MeetsNeitherLimit ops (left_by earlier told.version.opening)
 
--- there is a version, and a number of free blocks, at which the batch is so refused
+-- there is a version that began with the empty graph, and a number of free blocks, at which the batch is so refused
 pub record IsRefusalOf (ops : List NamedOp) (e : ApplyError) : Type 0 where
   pub last : VersionView
   pub free : ℕ
+  pub version_is : IsVersion last
+  pub opening_is : last.opening ≡ empty_graph
   pub refuses : Refuses last free ops e

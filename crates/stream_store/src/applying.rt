@@ -30,7 +30,8 @@ use version_shelf::{ShelfWriter, Told};
 /// A batch with fewer operations is one worker's: to start a thread takes as long as some hundred operations.
 const SHARED_OPERATIONS: usize = 2048;
 
-/// The plan of a batch after this version, for at most so many workers; what it leaves is the same for each number.
+/// The plan of a batch after this version, for so many workers, or for one where it is small; what it leaves is the same for
+/// each number.
 pub(crate) fn plan_next(
     alloc: Global,
     last: &Version,
@@ -38,7 +39,7 @@ pub(crate) fn plan_next(
     workers: usize,
 ) -> Result<Plan, ApplyError>
     requires workers { 0 < workers }
-    ensures admitted { IfOk result (IsAdmitted last.now batch.now) }
+    ensures admitted { IfOk result (IsAdmitted last.now workers batch.now) }
     ensures refused { IfErr result (λ e. (free : ℕ) → Refuses last.now free batch.now e) }
 {
     if last.number() >= 65_536 {
@@ -115,7 +116,7 @@ pub(crate) fn prepare<R: Threads + Sync, G: Gate + Sync>(
     batch: Batch,
     blocks: Vec<Arc<Block>>,
 ) -> Result<Prepared, AllocError>
-    requires admitted { IsAdmitted last.now batch plan }
+    requires admitted { (workers : ℕ) × IsAdmitted last.now workers batch plan }
     requires blocks { length blocks.items ≡ length batch }
     requires distinct { AllPairs ◌≢◌ (numbers_of blocks.items) }
     requires unlisted { All (λ n. is_in n (rows.numbers_of (rows.blocks_of last.now.rows)) ≡ false) (numbers_of blocks.items) }

@@ -8,7 +8,7 @@ ghost use Rattle.graph_version.specs.Versions.{content, empty_version};
 ghost use Rattle.graph_version.specs.Kept.{edge_total};
 ghost use Rattle.block_pool.specs.Pools.{Free, is_free, is_used, is_retired, is_past};
 ghost use Rattle.version_shelf.specs.Shelves.{opened_shelf};
-ghost use Rattle.store_journal.specs.Desks.{IsCollected, collections};
+ghost use Rattle.store_journal.specs.Desks.{IsDesk, IsCollected, collections};
 ghost use Rattle.store_journal.specs.Opening.{opened_desk};
 ghost use Rattle.store_journal.specs.Steps.{Accepts, TakesAt, recycling};
 ghost use Rattle.stream_store.specs.Applying.{IsReceipt};
@@ -65,10 +65,10 @@ impl Model for Desk {
 
     ghost coded = { Prim.hlevel (codes, graph_code) };
 
-    ghost view = { λ d. state_of d.shelf.book (arc_value {X = Version} d.last) d.journal.items d.pool };
+    ghost view = { λ d. state_of d.shelf.book d.workers (arc_value {X = Version} d.last) d.journal.items d.pool };
 
-    ghost invariant = { λ d. IsKept (state_of d.shelf.book (arc_value {X = Version} d.last) d.journal.items d.pool) d.shelf
-        d.workers (vec_len d.journal) (vec_capacity d.journal) };
+    ghost invariant = { λ d. IsKept (state_of d.shelf.book d.workers (arc_value {X = Version} d.last) d.journal.items d.pool) d.shelf
+        (vec_len d.journal) (vec_capacity d.journal) };
 }
 
 /// What a collection answers: its floor, how many blocks it recycled, and how many stay retired.
@@ -103,7 +103,7 @@ impl Desk {
         requires last { arc_value {X = Version} last ≡ empty_version }
         requires pool { pool ≡ replicate (length pool) Free }
         requires shelf { shelf ≡ opened_shelf shelf.book empty_version }
-        ensures { result ≡ record { book = shelf.book; desk = opened_desk (length pool) } }
+        ensures { result ≡ record { book = shelf.book; workers = workers; desk = opened_desk (length pool) } }
     {
         Desk {
             alloc,
@@ -130,6 +130,7 @@ impl Desk {
         ensures accepted { OnOk result (Accepts self.old.desk batch self.new.desk) }
         ensures receipt { IfOk result (λ r. IsReceipt self.old batch self.new r.number r.outcomes r.told) }
         ensures book { self.new.book ≡ self.old.book }
+        ensures workers { self.new.workers ≡ self.old.workers }
         ensures within { OnOk result (IsWithin self.old.desk.last (count_by is_free self.old.desk.pool) batch) }
         ensures refused { IfErr result (λ e. Refuses self.old.desk.last (count_by is_free self.old.desk.pool) batch e) }
         ensures unchanged { OnErr result (self.new ≡ self.old) }
@@ -181,6 +182,7 @@ impl Desk {
     pub fn collect(&mut self, floor: u64) -> Collected
         requires { floor ≤ length self.old.desk.last.batches }
         ensures book { self.new.book ≡ self.old.book }
+        ensures workers { self.new.workers ≡ self.old.workers }
         ensures collected { IsCollected self.old.desk floor self.new.desk }
         ensures steps { TakesAt floor self.old.desk (recycling floor self.old.desk.pool) self.new.desk }
         ensures floor { result.floor ≡ floor }
@@ -241,9 +243,10 @@ impl Desk {
         }
     }
 
-    /// What the desk did, in order.
+    /// What the desk did, in order. It replays legally, to the last version's batches and to what each block is.
     pub fn journal(&self) -> &[JournalEntry]
-        ensures { map entry_of result.now ≡ self.now.desk.journal }
+        ensures entries { map entry_of result.now ≡ self.now.desk.journal }
+        ensures replays { IsDesk self.now.desk }
     {
         self.journal.as_slice()
     }

@@ -2,8 +2,9 @@
 
 ghost use Rattle.stream_store.specs.Laws.{AnswersByContent};
 
-/// Snapshot isolation, as sessions have it: [`Session::ask`](crate::Session::ask) answers by the content of the version held
-/// alone, whatever happened in the store, and so two sessions that hold equal contents answer equal requests alike.
+/// Sessions that hold equal contents answer equal requests alike, whatever happened in their stores:
+/// [`Session::ask`](crate::Session::ask) answers by the content of the version held alone, and over one content a
+/// request has one answer.
 pub fn law_equal_answers()
     ensures { AnswersByContent }
 {}

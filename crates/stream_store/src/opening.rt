@@ -33,7 +33,7 @@ pub fn open_parts<R: Wait>(
     alloc: Global,
     config: Config,
 ) -> Result<(Desk, Board, Vec<Seat>), OpenError>
-    ensures desk { IfOk result (λ r. r.0 ≡ record { book = r.0.book; desk = opened_desk config.blocks }) }
+    ensures desk { IfOk result (λ r. r.0 ≡ record { book = r.0.book; workers = config.workers; desk = opened_desk config.blocks }) }
     ensures board { IfOk result (λ r. r.1 ≡ no_pins) }
     ensures seats { IfOk result (λ r. (length r.2.items ≡ config.seats) × All (IsNewSeat r.0.book) r.2.items) }
     ensures numbers { IfOk result (λ r. map (λ (s : SeatView). s.number) r.2.items ≡ range_with_len 0 (length r.2.items)) }

@@ -2,10 +2,10 @@
 //! Graph Streaming using Compressed Purely-Functional Trees"; Dhulipala, Blelloch, Shun; PLDI 2019).
 
 ghost use Rattle.std.specs.Prelude.{◌≡◌, ◌⊎◌, ℕ, List, max, length, IfOk, IfErr, OnOk, OnErr, MatchResult, Some, None, true};
-ghost use Rattle.std.specs.Prelude.{Err};
+ghost use Rattle.std.specs.Prelude.{Err, option_map};
 ghost use Rattle.graph_model.specs.Answer.{IsAnswer};
 ghost use Rattle.graph_model.specs.declared.requests.Request.TheVariants.{OneEdge};
-ghost use Rattle.seat_board.specs.Board.{with_pin};
+ghost use Rattle.seat_board.specs.Board.{with_pin, pin_at, unsettled, settled};
 ghost use Rattle.version_shelf.specs.Shelves.{Begins, IsOfOneShelf};
 ghost use Rattle.version_answers.specs.Numbered.{IsNumberedAnswer};
 ghost use Rattle.stream_store.specs.Seats.{held_version, held_graph, lent_to, seat_of};
@@ -137,8 +137,16 @@ impl Seat {
     pub fn pin<J: Naming, R: Wait>(self, rt: &R, store: &Store<J>) -> PinnedSeat
         ensures { result ≡ self }
     {
+        self.pin_on(&mut store.board(rt))
+    }
+
+    /// Pins the seat at the board's floor.
+    fn pin_on(self, board: &mut Board) -> PinnedSeat
+        ensures seat { result ≡ self }
+        ensures pinned { board.new ≡ with_pin board.old self.number (Some (unsettled board.old.floor)) }
+    {
         let Seat { number, reader } = self;
-        store.board(rt).pin(number);
+        let _floor = board.pin(number);
         PinnedSeat { number, reader }
     }
 
@@ -176,10 +184,28 @@ impl PinnedSeat {
         ensures held { result.lent ≡ None }
         ensures number { result.number ≡ self.number }
     {
+        self.look().settle_on(&mut store.board(rt))
+    }
+
+    /// Looks at the shelf, before any lock is taken.
+    fn look(self) -> PinnedSeat
+        ensures later { Begins self.seen result.seen }
+        ensures number { result.number ≡ self.number }
+    {
         let PinnedSeat { number, mut reader } = self;
         reader.look();
+        PinnedSeat { number, reader }
+    }
+
+    /// The session on the newest version that the seat has seen; its pin is settled at that version's number.
+    fn settle_on(self, board: &mut Board) -> Session
+        ensures session { result ≡ record { number = self.number; seen = self.seen; lent = None } }
+        ensures settled { board.new ≡ with_pin board.old self.number
+            (option_map (settled (length self.seen.version.batches)) (pin_at board.old.pins self.number)) }
+    {
+        let PinnedSeat { number, reader } = self;
         let version = reader.newest().number();
-        store.board(rt).settle(number, version);
+        board.settle(number, version);
         Session {
             number,
             reader,
@@ -203,13 +229,7 @@ impl Session {
     pub fn release<J: Naming, R: Wait>(self, rt: &R, store: &Store<J>) -> Seat
         ensures { result ≡ seat_of self }
     {
-        let Session {
-            number,
-            reader,
-            lent: _lent,
-        } = self;
-        store.board(rt).unpin(number);
-        Seat { number, reader }
+        self.release_lent(&mut store.board(rt))
     }
 
     /// Lets a version go that the desk lent, and takes the seat's pin away.

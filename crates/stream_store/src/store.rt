@@ -1,12 +1,20 @@
 //! The store that threads share: the desk and the board behind a lock each. What a lock held when it was taken is in no
 //! contract; of what a call answers the contracts say what holds whatever it held.
 
-ghost use Rattle.std.specs.Prelude.{◌≡◌, ◌≤◌, IfOk, IfErr};
+ghost use Rattle.std.specs.Prelude.{◌≡◌, IfOk, IfErr, OnOk, OnErr, count_by, length};
 ghost use Rattle.std.specs.Arc.{arc_value};
 ghost use Rattle.std.specs.Coded.{codes};
 ghost use Rattle.graph_model.specs.Coded.{graph_code};
 ghost use Rattle.graph_model.specs.Step.{empty_graph};
 ghost use Rattle.graph_version.specs.declared.versions.Version.{Version};
+ghost use Rattle.graph_version.specs.Versions.{content};
+ghost use Rattle.graph_version.specs.Kept.{edge_total};
+ghost use Rattle.block_pool.specs.Pools.{is_free, is_used, is_retired, is_past};
+ghost use Rattle.seat_board.specs.Board.{IsLeast};
+ghost use Rattle.store_journal.specs.Desks.{IsCollected};
+ghost use Rattle.store_journal.specs.Steps.{Accepts, TakesAt, recycling};
+ghost use Rattle.stream_store.specs.Applying.{IsReceipt};
+ghost use Rattle.stream_store.specs.Refusals.{Refuses, IsWithin};
 ghost use Rattle.stream_store.specs.Stores.{IsReceiptOf, IsRefusalOf, IsOfOpening};
 
 use crate::desk::{Collected, Desk, Stat};
@@ -41,24 +49,52 @@ struct NamedDesk<J: Naming> {
 }
 
 impl<J: Naming> NamedDesk<J> {
-    /// Applies a batch to the desk.
+    /// Applies a batch, as the desk does.
     fn apply<R: Threads + Wait + Sync, G: Gate + Sync>(
         &mut self,
         rt: &R,
         gate: &G,
         batch: Batch,
     ) -> Result<Receipt, ApplyError>
+        ensures accepted { OnOk result (Accepts self.old.desk.desk batch self.new.desk.desk) }
+        ensures left { IfOk result (λ r. IsReceipt self.old.desk batch self.new.desk r.number r.outcomes r.told) }
+        ensures workers { self.new.desk.workers ≡ self.old.desk.workers }
+        ensures within { OnOk result (IsWithin self.old.desk.desk.last (count_by is_free self.old.desk.desk.pool) batch) }
+        ensures refuses { IfErr result (λ e. Refuses self.old.desk.desk.last (count_by is_free self.old.desk.desk.pool) batch e) }
+        ensures unchanged { OnErr result (self.new.desk ≡ self.old.desk) }
         ensures receipt { IfOk result (λ r. IsReceiptOf batch r.number r.outcomes r.told) }
         ensures opening { IfOk result (λ r. IsOfOpening J.book r.told) }
         ensures refused { IfErr result (IsRefusalOf batch) }
     {
+        // A desk's contract says with its journal that its last version is one.
+        let _journal = self.desk.journal();
         self.desk.apply(rt, gate, batch)
     }
 
-    /// Collects at the floor of that board, which is raised first.
-    fn collect(&mut self, board: &mut Board) -> Collected {
+    /// Collects at the least of the last version's number and the board's pins, to which the board's floor is raised first.
+    fn collect(&mut self, board: &mut Board) -> Collected
+        ensures least { IsLeast (length self.old.desk.desk.last.batches) board.old.pins result.floor }
+        ensures raised { board.new ≡ record board.old { floor = result.floor } }
+        ensures collected { IsCollected self.old.desk.desk result.floor self.new.desk.desk }
+        ensures steps { TakesAt result.floor self.old.desk.desk (recycling result.floor self.old.desk.desk.pool) self.new.desk.desk }
+        ensures workers { self.new.desk.workers ≡ self.old.desk.workers }
+        ensures recycled { result.recycled ≡ count_by (is_past result.floor) self.old.desk.desk.pool }
+        ensures retired { result.retired ≡ count_by is_retired self.new.desk.desk.pool }
+    {
         let floor = board.raise(self.desk.last().number());
         self.desk.collect(floor)
+    }
+
+    /// The counts, as the desk tells them.
+    fn stat(&self) -> Stat
+        ensures number { result.number ≡ length self.now.desk.desk.last.batches }
+        ensures names { result.names ≡ length (content self.now.desk.desk.last).names }
+        ensures edges { result.edges ≡ edge_total self.now.desk.desk.last }
+        ensures free { result.free ≡ count_by is_free self.now.desk.desk.pool }
+        ensures retired { result.retired ≡ count_by is_retired self.now.desk.desk.pool }
+        ensures used { result.used ≡ count_by is_used self.now.desk.desk.pool }
+    {
+        self.desk.stat()
     }
 }
 
@@ -107,7 +143,7 @@ impl<J: Naming> Store<J> {
 
     /// The counts of the desk, under its lock.
     pub fn stat<R: Wait>(&self, rt: &R) -> Stat {
-        self.desk.lock(rt).desk.stat()
+        self.desk.lock(rt).stat()
     }
 
     /// Ends the store, as `Desk::close` ends its desk.

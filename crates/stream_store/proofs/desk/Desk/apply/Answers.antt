@@ -40,9 +40,9 @@ invariant_of-self-in_default g c =
     let same : c.give_back_numbers.new.pool ≡ c.self.inside.pool =
     back_same c.self.inside.pool c.grant_blocks.new.pool _ c.in_ok-numbers.field-0.numbers.items c.in_ok-numbers.ensures.numbers.0
     c.in_ok-numbers.ensures.used c.give_back_numbers.ensures in
-    kept_same (state_of c.self.inside.shelf.book (arc_value {X = Version} c.self.inside.last) c.self.inside.journal.items
-    c.self.inside.pool) _ c.self.inside.shelf _ c.self.inside.workers _ _ _ _ c.self.invariant
-    (ap (state_of c.self.inside.shelf.book (arc_value {X = Version} c.self.inside.last) c.self.inside.journal.items) same) refl
+    kept_same (state_of c.self.inside.shelf.book c.self.inside.workers (arc_value {X = Version} c.self.inside.last) c.self.inside.journal.items
+    c.self.inside.pool) _ c.self.inside.shelf _ _ _ _ _ c.self.invariant
+    (ap (state_of c.self.inside.shelf.book c.self.inside.workers (arc_value {X = Version} c.self.inside.last) c.self.inside.journal.items) same) refl
     refl (omega arith)
 
 pub returns-in_default-clause-unchanged : goal.returns-in_default-clause-unchanged
@@ -50,7 +50,7 @@ returns-in_default-clause-unchanged g c =
     let same : c.give_back_numbers.new.pool ≡ c.self.inside.pool =
     back_same c.self.inside.pool c.grant_blocks.new.pool _ c.in_ok-numbers.field-0.numbers.items c.in_ok-numbers.ensures.numbers.0
     c.in_ok-numbers.ensures.used c.give_back_numbers.ensures in
-    ap (state_of c.self.inside.shelf.book (arc_value {X = Version} c.self.inside.last) c.self.inside.journal.items) same
+    ap (state_of c.self.inside.shelf.book c.self.inside.workers (arc_value {X = Version} c.self.inside.last) c.self.inside.journal.items) same
     ∙ c.self.view_is
 
 pub invariant_of-self-in_default-publish : goal.invariant_of-self-in_default-publish
@@ -59,9 +59,9 @@ invariant_of-self-in_default-publish g c =
     back_same c.self.inside.pool c.grant_blocks.new.pool _ c.in_ok-numbers.field-0.numbers.items c.in_ok-numbers.ensures.numbers.0
     c.in_ok-numbers.ensures.used c.give_back_numbers-in_default-publish.ensures in
     let u = c.in_default-publish.ensures.unchanged in
-    kept_same (state_of c.self.inside.shelf.book (arc_value {X = Version} c.self.inside.last) c.self.inside.journal.items
-    c.self.inside.pool) _ c.self.inside.shelf _ c.self.inside.workers _ _ _ _ c.self.invariant
-    (λ i. state_of (u.3 i).book (arc_value {X = Version} (u.2 i)) (u.0 i) (same i)) u.3 u.1 c.in_default-publish.ensures.capacity
+    kept_same (state_of c.self.inside.shelf.book c.self.inside.workers (arc_value {X = Version} c.self.inside.last) c.self.inside.journal.items
+    c.self.inside.pool) _ c.self.inside.shelf _ _ _ _ _ c.self.invariant
+    (λ i. state_of (u.3 i).book c.self.inside.workers (arc_value {X = Version} (u.2 i)) (u.0 i) (same i)) u.3 u.1 c.in_default-publish.ensures.capacity
 
 pub returns-in_default-publish-clause-unchanged : goal.returns-in_default-publish-clause-unchanged
 returns-in_default-publish-clause-unchanged g c =
@@ -69,7 +69,7 @@ returns-in_default-publish-clause-unchanged g c =
     back_same c.self.inside.pool c.grant_blocks.new.pool _ c.in_ok-numbers.field-0.numbers.items c.in_ok-numbers.ensures.numbers.0
     c.in_ok-numbers.ensures.used c.give_back_numbers-in_default-publish.ensures in
     let u = c.in_default-publish.ensures.unchanged in
-    (λ i. state_of (u.3 i).book (arc_value {X = Version} (u.2 i)) (u.0 i) (same i)) ∙ c.self.view_is
+    (λ i. state_of (u.3 i).book c.self.inside.workers (arc_value {X = Version} (u.2 i)) (u.0 i) (same i)) ∙ c.self.view_is
 
 pub move_blocks-requires-clause-dropped : goal.move_blocks-requires-clause-dropped
 move_blocks-requires-clause-dropped g c =
@@ -108,7 +108,7 @@ invariant_of-self-2 g c =
     c.move_blocks.new.pool refl p.last p.entered pool in
     let room = end_room h c.move_blocks.new.pool pool in
     let ok = c.in-Ok.prepared.dropped.ok in
-    end_kept h _ c.publish.new.shelf c.self.inside.workers _ _ end refl (p.same.1 ∙ c.self.invariant.opening_is) p.posted
+    end_kept h _ c.publish.new.shelf _ _ end refl (p.same.1 ∙ c.self.invariant.opening_is) p.posted
     c.self.invariant.workers_some c.self.invariant.workers_few
     (omega (arith, room, p.room, c.retired.ensures.count, c.len-2.ensures, ok.0))
 

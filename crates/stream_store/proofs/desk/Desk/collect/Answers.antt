@@ -19,9 +19,9 @@ enter_collection-requires c = λ some.
 
 pub invariant_of-self : goal.invariant_of-self
 invariant_of-self c =
-    let old : DeskState = state_of c.self.inside.shelf.book (arc_value {X = Version} c.self.inside.last)
+    let old : DeskState = state_of c.self.inside.shelf.book c.self.inside.workers (arc_value {X = Version} c.self.inside.last)
     c.self.inside.journal.items c.self.inside.pool in
-    let new : DeskState = state_of c.self.inside.shelf.book (arc_value {X = Version} c.self.inside.last)
+    let new : DeskState = state_of c.self.inside.shelf.book c.self.inside.workers (arc_value {X = Version} c.self.inside.last)
     c.enter_collection.new.journal.items c.recycle-recycled.new.self in
     let count = c.recycle-recycled.ensures.count in
     let entries : map entry_of c.enter_collection.new.journal.items ≡ map entry_of c.self.inside.journal.items
@@ -32,6 +32,7 @@ invariant_of-self c =
     let is : new ≡ state_collected old c.args.floor =
     λ i. record {
       book = old.book;
+      workers = old.workers;
       desk = record {
         last = old.desk.last;
         journal = entries i;
@@ -42,14 +43,14 @@ invariant_of-self c =
     let past = past_and_left c.args.floor c.self.inside.pool in
     let left = ap (count_by is_retired) c.recycle-recycled.ensures.pool in
     let room = c.self.invariant.room_is in
-    collection_kept old new c.args.floor c.self.inside.shelf c.self.inside.workers _ _ _ _ c.self.invariant low is
+    collection_kept old new c.args.floor c.self.inside.shelf _ _ _ _ c.self.invariant low is
     (omega (arith, past, left, room, count, c.enter_collection.ensures.len, c.enter_collection.ensures.capacity))
 
 pub returns-clause-steps : goal.returns-clause-steps
 returns-clause-steps c =
-    let old : DeskState = state_of c.self.inside.shelf.book (arc_value {X = Version} c.self.inside.last)
+    let old : DeskState = state_of c.self.inside.shelf.book c.self.inside.workers (arc_value {X = Version} c.self.inside.last)
     c.self.inside.journal.items c.self.inside.pool in
-    let new : DeskState = state_of c.self.inside.shelf.book (arc_value {X = Version} c.self.inside.last)
+    let new : DeskState = state_of c.self.inside.shelf.book c.self.inside.workers (arc_value {X = Version} c.self.inside.last)
     c.enter_collection.new.journal.items c.recycle-recycled.new.self in
     let count = c.recycle-recycled.ensures.count in
     let entries : map entry_of c.enter_collection.new.journal.items ≡ map entry_of c.self.inside.journal.items
@@ -62,9 +63,9 @@ returns-clause-steps c =
 
 pub returns-clause-collected : goal.returns-clause-collected
 returns-clause-collected c =
-    let old : DeskState = state_of c.self.inside.shelf.book (arc_value {X = Version} c.self.inside.last)
+    let old : DeskState = state_of c.self.inside.shelf.book c.self.inside.workers (arc_value {X = Version} c.self.inside.last)
     c.self.inside.journal.items c.self.inside.pool in
-    let new : DeskState = state_of c.self.inside.shelf.book (arc_value {X = Version} c.self.inside.last)
+    let new : DeskState = state_of c.self.inside.shelf.book c.self.inside.workers (arc_value {X = Version} c.self.inside.last)
     c.enter_collection.new.journal.items c.recycle-recycled.new.self in
     let count = c.recycle-recycled.ensures.count in
     let entries : map entry_of c.enter_collection.new.journal.items ≡ map entry_of c.self.inside.journal.items

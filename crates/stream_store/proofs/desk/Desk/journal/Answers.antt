@@ -1,5 +1,10 @@
-use Rattle.std.proofs.Common.{rules}
+use Rattle.std.proofs.Common.{subst, rules}
+use Rattle.store_journal.specs.Desks.{IsDesk}
+use Rattle.stream_store.specs.Kept.{DeskState}
 use Rattle.stream_store.proofs.desk.Desk.journal.Goals as goal
 
-pub returns : goal.returns
-returns c = search rules
+pub returns-clause-entries : goal.returns-clause-entries
+returns-clause-entries c = search rules
+
+pub returns-clause-replays : goal.returns-clause-replays
+returns-clause-replays c = subst (λ (s : DeskState). IsDesk s.desk) c.self.view_is c.self.invariant.desk

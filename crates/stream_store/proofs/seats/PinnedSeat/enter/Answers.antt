@@ -1,7 +1,7 @@
-use Rattle.std.proofs.Common.{ap}
-use Rattle.stream_store.specs.Seats.{SeatView}
+use Rattle.std.proofs.Common.{ap, ◌∙◌}
+use Rattle.stream_store.specs.Seats.{SessionView}
 use Rattle.stream_store.proofs.seats.PinnedSeat.enter.Goals as goal
 
 -- Its search is long where it fails.
 pub returns-clause-number : goal.returns-clause-number
-returns-clause-number g c = ap (λ (s : SeatView). s.number) c.self.view_is
+returns-clause-number g c = ap (λ (s : SessionView). s.number) c.settle_on.ensures.session ∙ c.look.ensures.number

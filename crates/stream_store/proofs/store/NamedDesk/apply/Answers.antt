@@ -1,12 +1,34 @@
+use Rattle.std.proofs.Common.{ℕ}
 use Rattle.std.specs.Prelude.{count_by}
 use Rattle.std.proofs.lemmas.Result.{IfErr-weaker}
 use Rattle.block_pool.specs.Pools.{is_free}
-use Rattle.stream_store.specs.Refusals.{Refuses}
-use Rattle.stream_store.specs.Stores.{IsRefusalOf}
+use Rattle.store_journal.specs.Steps.{Accepts}
+use Rattle.stream_store.specs.Applying.{IsReceipt}
+use Rattle.stream_store.specs.Kept.{DeskState}
+use Rattle.stream_store.specs.Refusals.{Refuses, IsWithin}
+use Rattle.stream_store.specs.Stores.{IsReceiptOf, IsRefusalOf}
+use Rattle.stream_store.proofs.ReceiptLaws.{by_three, receipt_of}
 use Rattle.stream_store.proofs.store.NamedDesk.apply.Goals as goal
+
+pub returns-clause-receipt : goal.returns-clause-receipt
+returns-clause-receipt g c =
+    let old : DeskState = c.args.self.now.desk in
+    let free : ℕ = count_by is_free old.desk.pool in
+    by_three c.apply.result (λ r. IsReceipt old c.args.batch c.apply.new.self r.number r.outcomes r.told)
+    (λ r. IsReceiptOf c.args.batch r.number r.outcomes r.told) (Accepts old.desk c.args.batch c.apply.new.self.desk)
+    (IsWithin old.desk.last free c.args.batch)
+    (λ r. receipt_of old c.apply.new.self free c.args.batch r.number r.outcomes r.told) c.apply.ensures.receipt
+    c.apply.ensures.accepted c.apply.ensures.within
 
 pub returns-clause-refused : goal.returns-clause-refused
 returns-clause-refused g c =
-    let desk = c.args.self.now.desk.desk in
-    IfErr-weaker c.apply.result (Refuses desk.last (count_by is_free desk.pool) c.args.batch) (IsRefusalOf c.args.batch)
-    (λ e h. record { last = desk.last; free = count_by is_free desk.pool; refuses = h }) c.apply.ensures.refused
+    let old : DeskState = c.args.self.now.desk in
+    let free : ℕ = count_by is_free old.desk.pool in
+    IfErr-weaker c.apply.result (Refuses old.desk.last free c.args.batch) (IsRefusalOf c.args.batch)
+    (λ e h. record {
+      last = old.desk.last;
+      free = free;
+      version_is = c.journal-journal.ensures.replays.version;
+      opening_is = c.args.self.now.opening_is;
+      refuses = h;
+    }) c.apply.ensures.refused
