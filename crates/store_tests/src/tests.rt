@@ -3,8 +3,10 @@
 mod answers;
 mod batches;
 mod desks;
+mod gates;
 mod limits;
 mod opened;
+mod plays;
 mod seats;
 mod shared_answers;
 mod stores;

@@ -4,7 +4,7 @@ use super::batches::{Op, batch_of, ends_of, name, tell_refused};
 use super::desks::is_applied;
 use super::opened::{Opened, new_store};
 use super::seats::{lent, let_go};
-use graph_model::{AskError, NamedFilter, Reply, Request};
+use graph_model::{AskError, Degree, Name, NamedFilter, Reply, Request};
 use seat_board::Board;
 use std::alloc::{AllocError, Global};
 use std::sync::Wait;
@@ -27,6 +27,94 @@ fn edge_request(alloc: Global) -> Result<Request, AllocError> {
             target,
         }),
         Err(error) => Err(error),
+    }
+}
+
+fn any() -> NamedFilter {
+    NamedFilter {
+        kind: None,
+        lo: 0,
+        hi: 99,
+    }
+}
+
+/// The request of `levels SOURCE`, `labels`, `cores`, `degrees`, or else of the edge from `a` to `b`.
+fn request_of(alloc: Global, text: &str) -> Result<Request, AllocError> {
+    let (word, source) = text.split_once(' ').unwrap_or((text, ""));
+    match word {
+        "levels" => Ok(Request::Levels {
+            source: name(alloc, source)?,
+            filter: any(),
+        }),
+        "labels" => Ok(Request::Labels { filter: any() }),
+        "cores" => Ok(Request::Cores { filter: any() }),
+        "degrees" => Ok(Request::Degrees { filter: any() }),
+        _ => edge_request(alloc),
+    }
+}
+
+fn numbers_text(alloc: Global, rows: &[(Name, u32)]) -> Result<String, AllocError> {
+    let mut text = String::new(alloc);
+    for row in rows {
+        write!(text, "{} {},", row.0.as_str(), row.1)?;
+    }
+    Ok(text)
+}
+
+fn names_text(alloc: Global, rows: &[(Name, Name)]) -> Result<String, AllocError> {
+    let mut text = String::new(alloc);
+    for row in rows {
+        write!(text, "{} {},", row.0.as_str(), row.1.as_str())?;
+    }
+    Ok(text)
+}
+
+fn degrees_text(alloc: Global, rows: &[(Name, Degree)]) -> Result<String, AllocError> {
+    let mut text = String::new(alloc);
+    for row in rows {
+        let Degree {
+            outgoing,
+            incoming,
+            out_weight,
+        } = row.1;
+        write!(
+            text,
+            "{} {outgoing} {incoming} {out_weight},",
+            row.0.as_str()
+        )?;
+    }
+    Ok(text)
+}
+
+fn edge_text(alloc: Global, edge: &Edge) -> Result<String, AllocError> {
+    match edge {
+        Some((weight, first, recent)) => format!(in alloc; "{weight} {first} {recent}"),
+        None => String::from_str(alloc, "none"),
+    }
+}
+
+fn reply_text(alloc: Global, reply: &Reply) -> Result<String, AllocError> {
+    match reply {
+        Reply::Levels(rows) => numbers_text(alloc, rows.as_slice()),
+        Reply::Labels(rows) => names_text(alloc, rows.as_slice()),
+        Reply::Cores(rows) => numbers_text(alloc, rows.as_slice()),
+        Reply::Degrees(rows) => degrees_text(alloc, rows.as_slice()),
+        Reply::OneEdge(edge) => edge_text(alloc, edge),
+    }
+}
+
+fn reply_told(alloc: Global, told: Result<Reply, AskError>) -> Option<String> {
+    match told {
+        Ok(reply) => reply_text(alloc, &reply).ok(),
+        Err(error) => format!(in alloc; "{error:?}").ok(),
+    }
+}
+
+/// What the session answers a request of this text: the reply's rows, or the refusal.
+pub(super) fn answer_text(alloc: Global, session: &Session, text: &str) -> Option<String> {
+    match request_of(alloc, text) {
+        Ok(request) => reply_told(alloc, session.ask(&request)),
+        Err(AllocError) => None,
     }
 }
 

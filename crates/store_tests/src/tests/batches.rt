@@ -7,6 +7,51 @@ use std::io::Print;
 /// An operation: `i` inserts, `a` adds to the weight, `r` removes; its source and target, its weight or amount, its time.
 pub(super) type Op = (&'static str, &'static str, &'static str, i64, u64);
 
+/// The edges a to b and b to c.
+pub(super) const CHAIN: [Op; 2] = [("i", "a", "b", 5, 10), ("i", "b", "c", 2, 11)];
+
+/// One more for a to b.
+const MORE: [Op; 1] = [("a", "a", "b", 1, 20)];
+
+/// It goes.
+const CUT: [Op; 1] = [("r", "a", "b", 0, 0)];
+
+/// Four sources.
+const FOUR: [Op; 4] = [
+    ("i", "a", "b", 1, 1),
+    ("i", "b", "a", 1, 1),
+    ("i", "c", "d", 1, 1),
+    ("i", "d", "c", 1, 1),
+];
+
+const SEVENTEEN: [Op; 17] = [("i", "a", "b", 1, 1); 17];
+
+/// A triangle with a tail.
+const TAIL: [Op; 4] = [
+    ("i", "a", "b", 1, 1),
+    ("i", "b", "c", 2, 1),
+    ("i", "c", "a", 3, 1),
+    ("i", "c", "d", 7, 1),
+];
+
+/// The tail goes.
+const UNTAIL: [Op; 1] = [("r", "c", "d", 0, 0)];
+
+/// The operations of that name, and else none.
+pub(super) fn ops_of(name: &str) -> &'static [Op] {
+    match name {
+        "first" => &CHAIN[..1],
+        "chain" => &CHAIN,
+        "more" => &MORE,
+        "cut" => &CUT,
+        "four" => &FOUR,
+        "seventeen" => &SEVENTEEN,
+        "tail" => &TAIL,
+        "untail" => &UNTAIL,
+        _ => &[],
+    }
+}
+
 // Tells `tools/refuse-each-growth` that a growth was refused.
 pub(super) fn tell_refused(rt: &impl Print) {
     let _ = println!(rt; "refused");

@@ -1,0 +1,430 @@
+// Plays: what one thread does over a shared store and its four seats, a line each, and what it is told.
+
+ghost use Rattle.std.specs.Prelude.{◌≡◌};
+ghost use Rattle.graph_model.specs.Step.{empty_graph};
+
+use super::answers::answer_text;
+use super::batches::{batch_of, ops_of};
+use super::stores::apply_to;
+use batch_apply::PassAll;
+use graph_model::Outcome;
+use seat_board::{Board, SeatNo};
+use std::alloc::{AllocError, Global};
+use std::marker::Brand;
+use std::process::Abort;
+use std::sync::Wait;
+use std::thread::Threads;
+use stream_store::{
+    ApplyError, Collected, Config, Desk, Naming, PinnedSeat, Receipt, Seat, Session, Stat, Store,
+    open_parts,
+};
+
+/// Where a seat is.
+#[derive(Drop)]
+enum Place {
+    Free(Seat),
+    Pinned(PinnedSeat),
+    Held(Session),
+    Nowhere,
+}
+
+/// A free seat is pinned, a pinned one enters, and one that holds a version lets it go.
+fn moved<J: Naming, R: Wait>(rt: &R, store: &Store<J>, place: Place) -> Place {
+    match place {
+        Place::Free(seat) => Place::Pinned(seat.pin(rt, store)),
+        Place::Pinned(seat) => Place::Held(seat.enter(rt, store)),
+        Place::Held(session) => Place::Free(session.release(rt, store)),
+        Place::Nowhere => Place::Nowhere,
+    }
+}
+
+fn place_text(alloc: Global, place: &Place) -> Option<String> {
+    match place {
+        Place::Free(_) => String::from_str(alloc, "free").ok(),
+        Place::Pinned(_) => String::from_str(alloc, "pinned").ok(),
+        Place::Held(session) => { format!(in alloc; "holds {}", session.version().number()).ok() }
+        Place::Nowhere => None,
+    }
+}
+
+/// Where the seat of that number is once it moved on.
+fn seat_moved<J: Naming, R: Wait>(
+    rt: &R,
+    alloc: Global,
+    store: &Store<J>,
+    places: &mut Vec<Place>,
+    number: &str,
+) -> Option<String> {
+    let index: usize = number.parse().ok()?;
+    let place = places.get_mut(index)?;
+    *place = moved(rt, store, std::mem::replace(place, Place::Nowhere));
+    place_text(alloc, place)
+}
+
+/// What the session of the seat of that number answers; the text is the number and the request.
+fn asked(alloc: Global, places: &[Place], text: &str) -> Option<String> {
+    let (number, request) = text.split_once(' ')?;
+    let index: usize = number.parse().ok()?;
+    match places.get(index)? {
+        Place::Held(session) => answer_text(alloc, session, request),
+        _ => None,
+    }
+}
+
+/// The first letter of an outcome.
+fn letter(outcome: Outcome) -> char {
+    match outcome {
+        Outcome::Inserted => 'i',
+        Outcome::Updated => 'u',
+        Outcome::Removed => 'r',
+        Outcome::Absent => 'a',
+        Outcome::Overflow => 'o',
+    }
+}
+
+fn letters(alloc: Global, outcomes: &[Outcome]) -> Result<String, AllocError> {
+    let mut text = String::new(alloc);
+    for outcome in outcomes {
+        text.push(letter(*outcome))?;
+    }
+    Ok(text)
+}
+
+fn receipt_text(alloc: Global, receipt: &Receipt) -> Option<String> {
+    let letters = letters(alloc, receipt.outcomes.as_slice()).ok()?;
+    format!(in alloc; "{} {}", receipt.number, letters.as_str()).ok()
+}
+
+/// The number of a receipt and the first letters of its outcomes, or the refusal.
+fn receipt_told(alloc: Global, told: Result<Receipt, ApplyError>) -> Option<String> {
+    match told {
+        Ok(receipt) => receipt_text(alloc, &receipt),
+        Err(error) => format!(in alloc; "{error}").ok(),
+    }
+}
+
+/// What is told of a batch of these operations.
+fn applied<J: Naming, R: Threads + Wait + Sync>(
+    rt: &R,
+    alloc: Global,
+    store: &Store<J>,
+    name: &str,
+) -> Option<String> {
+    let batch = batch_of(alloc, ops_of(name));
+    receipt_told(alloc, apply_to(rt, store, &PassAll, batch))
+}
+
+/// The floor, how many blocks were recycled, and how many stay retired.
+fn collected_text(alloc: Global, told: Collected) -> Option<String> {
+    format!(in alloc; "{} {} {}", told.floor, told.recycled, told.retired).ok()
+}
+
+/// The number, how many names and edges there are, and how many blocks are free, retired and used.
+fn stat_text(alloc: Global, told: Stat) -> Option<String> {
+    let (names, edges) = (told.names, told.edges);
+    let (free, retired, used) = (told.free, told.retired, told.used);
+    format!(in alloc; "{} {names} {edges} {free} {retired} {used}", told.number).ok()
+}
+
+/// What is told of a line.
+fn told<J: Naming, R: Threads + Wait + Sync>(
+    rt: &R,
+    alloc: Global,
+    store: &Store<J>,
+    places: &mut Vec<Place>,
+    line: &str,
+) -> Option<String> {
+    let (word, text) = line.split_once(' ').unwrap_or((line, ""));
+    match word {
+        "apply" => applied(rt, alloc, store, text),
+        "seat" => seat_moved(rt, alloc, store, places, text),
+        "ask" => asked(alloc, places.as_slice(), text),
+        "collect" => collected_text(alloc, store.collect(rt)),
+        _ => stat_text(alloc, store.stat(rt)),
+    }
+}
+
+fn check_line<J: Naming, R: Threads + Wait + Sync + Abort>(
+    rt: &R,
+    alloc: Global,
+    store: &Store<J>,
+    places: &mut Vec<Place>,
+    line: &str,
+) {
+    let (text, wanted) = line.split_once(" => ").expect(rt, "a line");
+    let told = told(rt, alloc, store, places, text).expect(rt, "what is told");
+    assert_eq!(rt; told.as_str(), wanted, "{line}");
+}
+
+fn check_lines<J: Naming, R: Threads + Wait + Sync + Abort>(
+    rt: &R,
+    alloc: Global,
+    store: &Store<J>,
+    places: &mut Vec<Place>,
+    lines: &str,
+) {
+    for line in lines.lines() {
+        check_line(rt, alloc, store, places, line);
+    }
+}
+
+/// A session on the desk's last version.
+fn lent(desk: &Desk, board: &mut Board, place: Place) -> Place {
+    match place {
+        Place::Free(seat) => match seat.acquire_lent(desk, board) {
+            Ok(session) => Place::Held(session),
+            Err((seat, AllocError)) => Place::Free(seat),
+        },
+        place => place,
+    }
+}
+
+/// A play.
+#[derive(Clone, Copy)]
+enum Play {
+    Twice,
+    Held,
+    Pinned,
+    PinnedBefore,
+    LentBefore,
+    FourVersions,
+    Full,
+    Answers,
+}
+
+fn lines_of(play: Play) -> &'static str {
+    match play {
+        Play::Twice => TWICE,
+        Play::Held => HELD,
+        Play::Pinned => PINNED,
+        Play::PinnedBefore => PINNED_BEFORE,
+        Play::LentBefore => LENT,
+        Play::FourVersions => FOUR_VERSIONS,
+        Play::Full => FULL,
+        Play::Answers => ANSWERS,
+    }
+}
+
+/// What is done before the store is shared: the desk lends its version to seat 0, or seat 3 is pinned.
+fn done_before(desk: &Desk, board: &mut Board, places: &mut Vec<Place>, play: Play) -> Option<()> {
+    match play {
+        Play::LentBefore => {
+            let place = places.get_mut(0)?;
+            *place = lent(desk, board, std::mem::replace(place, Place::Nowhere));
+        }
+        Play::PinnedBefore => {
+            let _floor = board.pin(SeatNo::new(3)?);
+        }
+        _ => {}
+    }
+    Some(())
+}
+
+fn places_of(alloc: Global, seats: Vec<Seat>) -> Option<Vec<Place>> {
+    let mut places = Vec::new(alloc);
+    for seat in seats {
+        places.push(Place::Free(seat)).ok()?;
+    }
+    Some(places)
+}
+
+/// Plays over the store of these parts.
+fn play_over<J: Naming, R: Threads + Wait + Sync + Abort>(
+    rt: &R,
+    alloc: Global,
+    desk: Desk,
+    mut board: Board,
+    seats: Vec<Seat>,
+    play: Play,
+)
+    requires book { desk.book ≡ J.book }
+    requires opening { desk.desk.last.opening ≡ empty_graph }
+{
+    let mut places = places_of(alloc, seats).expect(rt, "places");
+    done_before(&desk, &mut board, &mut places, play).expect(rt, "what is done before");
+    check_lines(
+        rt,
+        alloc,
+        &Store::<J>::over(desk, board),
+        &mut places,
+        lines_of(play),
+    );
+}
+
+/// Plays over a new store of two workers, 16 blocks and four seats.
+fn check_play<R: Threads + Wait + Sync + Abort>(rt: &R, alloc: Global, play: Play) {
+    let config = Config::new(2, 16, 4).expect(rt, "within the limits");
+    let (desk, board, seats) = open_parts(rt, alloc, config).expect(rt, "an opening");
+    play_over::<Brand, R>(rt, alloc, desk, board, seats, play);
+}
+
+const TWICE: &str = "apply first => 1 i
+apply first => 2 u";
+
+#[test]
+fn applies_one_batch_twice(rt: HostRuntime) {
+    check_play(&rt, rt.alloc(), Play::Twice);
+}
+
+/// While version 1 is held, the floor is 1 and the block that version 2 dropped stays.
+const HELD: &str = "apply chain => 1 ii
+seat 1 => pinned
+seat 1 => holds 1
+apply more => 2 u
+collect => 1 0 1
+stat => 2 3 2 13 1 2
+ask 1 edge => 5 10 10
+seat 1 => free
+collect => 2 1 0
+stat => 2 3 2 14 0 2";
+
+#[test]
+fn collects_what_no_session_holds(rt: HostRuntime) {
+    check_play(&rt, rt.alloc(), Play::Held);
+}
+
+/// While a seat is pinned at 0, the floor stays; once it entered version 2, its pin is 2. Then the pins of seat 2 alone, and of seat
+/// 3 alone, unsettled and settled.
+const PINNED: &str = "apply chain => 1 ii
+seat 1 => pinned
+apply more => 2 u
+collect => 0 0 1
+seat 1 => holds 2
+ask 1 edge => 6 10 20
+collect => 2 1 0
+seat 2 => pinned
+seat 1 => free
+apply more => 3 u
+collect => 2 0 1
+seat 2 => holds 3
+ask 2 edge => 7 10 20
+collect => 3 1 0
+apply more => 4 u
+collect => 3 0 1
+seat 3 => pinned
+seat 2 => free
+collect => 3 0 1
+seat 3 => holds 4
+ask 3 edge => 8 10 20
+collect => 4 1 0
+apply more => 5 u
+collect => 4 0 1
+stat => 5 3 2 13 1 2
+seat 3 => free
+collect => 5 1 0";
+
+#[test]
+fn collects_what_no_pinned_seat_may_enter(rt: HostRuntime) {
+    check_play(&rt, rt.alloc(), Play::Pinned);
+}
+
+/// A pin that was set before the store was shared keeps the floor at 0, until its seat is pinned anew and enters.
+const PINNED_BEFORE: &str = "apply chain => 1 ii
+apply more => 2 u
+collect => 0 0 1
+stat => 2 3 2 13 1 2
+seat 3 => pinned
+collect => 0 0 1
+seat 3 => holds 2
+collect => 2 1 0";
+
+#[test]
+fn collects_beside_a_pin_from_before_the_sharing(rt: HostRuntime) {
+    check_play(&rt, rt.alloc(), Play::PinnedBefore);
+}
+
+/// Seat 0 was lent version 0 before the store was shared, and lets it go through the store.
+const LENT: &str = "apply chain => 1 ii
+apply more => 2 u
+collect => 0 0 1
+ask 0 edge => NoKind
+seat 0 => free
+collect => 2 1 0
+seat 0 => pinned
+seat 0 => holds 2
+ask 0 edge => 6 10 20";
+
+#[test]
+fn releases_a_lent_session_through_the_store(rt: HostRuntime) {
+    check_play(&rt, rt.alloc(), Play::LentBefore);
+}
+
+/// Each of four versions is entered by a seat of its own, which holds it to the end.
+const FOUR_VERSIONS: &str = "apply chain => 1 ii
+seat 0 => pinned
+seat 0 => holds 1
+apply more => 2 u
+seat 1 => pinned
+seat 1 => holds 2
+apply more => 3 u
+seat 2 => pinned
+seat 2 => holds 3
+apply cut => 4 r
+seat 3 => pinned
+seat 3 => holds 4
+ask 0 edge => 5 10 10
+ask 1 edge => 6 10 20
+ask 2 edge => 7 10 20
+ask 3 edge => none
+collect => 1 0 3
+stat => 4 3 1 12 3 1";
+
+#[test]
+fn shows_each_of_four_versions(rt: HostRuntime) {
+    check_play(&rt, rt.alloc(), Play::FourVersions);
+}
+
+/// A batch of four sources takes four blocks, and retires the four before. While version 1 is held nothing is recycled, so the fifth
+/// batch finds no free block; it and one that is larger than the pool leave all as it was.
+const FULL: &str = "apply seventeen => 17 blocks are needed and 16 are free
+stat => 0 0 0 16 0 0
+apply four => 1 iiii
+seat 2 => pinned
+seat 2 => holds 1
+apply four => 2 uuuu
+apply four => 3 uuuu
+apply four => 4 uuuu
+stat => 4 4 4 0 12 4
+ask 2 edge => 1 1 1
+apply four => 4 blocks are needed and 0 are free
+apply seventeen => 17 blocks are needed and 0 are free
+stat => 4 4 4 0 12 4
+ask 2 edge => 1 1 1
+collect => 1 0 12
+apply four => 4 blocks are needed and 0 are free
+seat 2 => free
+collect => 4 12 0
+apply four => 5 uuuu
+stat => 5 4 4 8 4 4";
+
+#[test]
+fn refuses_more_operations_than_free_blocks_while_a_version_is_held(rt: HostRuntime) {
+    check_play(&rt, rt.alloc(), Play::Full);
+}
+
+/// A triangle with a tail. Its session is answered of it after the tail was taken away.
+const ANSWERS: &str = "apply tail => 1 iiii
+seat 0 => pinned
+seat 0 => holds 1
+ask 0 levels a => a 0,b 1,c 2,d 3,
+ask 0 levels d => d 0,
+ask 0 labels => a a,b a,c a,d a,
+ask 0 cores => a 2,b 2,c 2,d 1,
+ask 0 degrees => a 1 1 1,b 1 1 2,c 2 1 10,d 0 1 0,
+ask 0 levels z => NoVertex
+apply untail => 2 r
+ask 0 levels a => a 0,b 1,c 2,d 3,
+ask 0 labels => a a,b a,c a,d a,
+ask 0 cores => a 2,b 2,c 2,d 1,
+ask 0 degrees => a 1 1 1,b 1 1 2,c 2 1 10,d 0 1 0,
+seat 3 => pinned
+seat 3 => holds 2
+ask 3 levels a => a 0,b 1,c 2,
+ask 3 labels => a a,b a,c a,d d,
+ask 3 cores => a 2,b 2,c 2,d 0,
+ask 3 degrees => a 1 1 1,b 1 1 2,c 1 1 3,d 0 0 0,";
+
+#[test]
+fn answers_each_request_of_the_version_held(rt: HostRuntime) {
+    check_play(&rt, rt.alloc(), Play::Answers);
+}
