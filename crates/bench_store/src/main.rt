@@ -8,6 +8,7 @@ mod batches;
 mod blocks;
 mod desks;
 mod edges;
+mod names;
 mod stores;
 mod times;
 mod versions;
@@ -51,6 +52,7 @@ fn measure<R: Threads + Wait + Sync + Clock + CpuClock + Print + AllocGlobal>(
         "batches" => batches::measure(rt, rounds),
         "versions" => versions::measure(rt, rounds),
         "stores" => stores::measure(rt, rounds),
+        "names" => names::measure(rt, rounds),
         _ => Ok(()),
     }
 }

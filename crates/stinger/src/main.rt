@@ -3,23 +3,34 @@
 
 use std::env;
 use std::env::Env;
-use std::io::{ErrorKind, Read, Write};
+use std::io::{ErrorKind, IsTerminal, Read, Write};
 use std::process::ExitCode;
 use std::sync::Wait;
 use std::thread::Threads;
-use stinger_program::{refuse_arguments, stinger};
+use stinger_program::{refuse_arguments, serves, stinger};
+
+// What stands on standard error where somebody at a terminal is to give the script.
+const AWAITED: &str = "\
+A script is awaited here, a record a line, and its end (Ctrl-D). `stinger --help` says what a record is.
+";
+
+// What stands there where there is no memory to begin.
+const NO_MEMORY: &str = "error: out of memory: the arguments can't be read\n";
 
 fn main(rt: HostRuntime) -> ExitCode {
     let mut writer = rt.stdout();
     let mut faults = rt.stderr();
     match run(&rt, rt.stdin(), &mut writer, &mut faults) {
         Ok(status) => ExitCode::from(status),
-        Err(_) => ExitCode::FAILURE,
+        Err(_) => {
+            let _ = faults.write_all(NO_MEMORY.as_bytes());
+            ExitCode::FAILURE
+        }
     }
 }
 
 /// The arguments after the program's name, over these streams.
-fn run<A, R: Read + Drop, W: Write, F: Write>(
+fn run<A, R: Read + IsTerminal + Drop, W: Write, F: Write>(
     rt: &A,
     reader: R,
     writer: &mut W,
@@ -39,6 +50,9 @@ where
     let mut arguments = Vec::new(rt.alloc());
     for argument in &given {
         arguments.push(argument.as_str())?;
+    }
+    if serves(rt, arguments.as_slice())? && reader.is_terminal() {
+        let _ = faults.write_all(AWAITED.as_bytes());
     }
     Ok(stinger(rt, arguments.as_slice(), reader, writer, faults))
 }

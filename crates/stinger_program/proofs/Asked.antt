@@ -18,7 +18,7 @@ use Rattle.clap.proofs.OnLiterals.{clap_on_literals}
 use Rattle.stream_store.specs.Configs.{ConfigView}
 use Rattle.stinger_program.specs.Program.{Asked, Help, Serve, Usage, Version, asked, asked_by, asked_of_command}
 use Rattle.stinger_program.specs.Program.{asks_for_help, begins_with_h, begins_with_option, default_sizes, is_help_flag, is_option}
-use Rattle.stinger_program.specs.Program.{is_version, is_wish_for_help, plainly_asked, plainly_asked_of_command}
+use Rattle.stinger_program.specs.Program.{help_words, is_version, is_wish_for_help, plainly_asked, plainly_asked_of_command}
 use Rattle.stinger_program.specs.Program.{plainly_asked_of_run, program, sizes_of, without_help}
 
 -- the kinds of errors that come of what the command is asked for
@@ -252,6 +252,16 @@ plain_rest : (argument : Text) (rest : List Text) → begins_with_option (argume
 plain_rest argument [] e is = tt
 plain_rest argument (next ∷ rest) e is = rw is at e
 
+-- `help` asks for help, whatever follows it
+help_kinds : (rest : List Text) → fault_of program (help_words rest) ≡ DisplayHelp ∷ []
+unfolding clap_on_literals
+help_kinds [] = refl
+help_kinds (argument ∷ rest) = go (bytes_eq (codes "run") argument)
+  where
+    go : (b : Bool) → fault_of program (if b then codes "run" ∷ codes "--help" ∷ [] else codes "--help" ∷ []) ≡ DisplayHelp ∷ []
+    go true = refl
+    go false = refl
+
 asked_kinds : (arguments : List Text) → begins_with_option arguments ≡ false
     → HasKinds (plainly_asked_of_command arguments) (fault_of program (without_help arguments))
 unfolding clap_on_literals
@@ -265,7 +275,7 @@ asked_kinds (argument ∷ rest) plain = go (bytes_eq (codes "run") argument) ref
     go true e h f d k =
         let is : codes "run" ≡ argument = (bytes_eq-Decides (codes "run") argument).0 e in
         rw (sym is) (rw (run_fault rest) (run_kinds rest (plain_rest argument rest plain e)))
-    go false e true f d k = rw (sym ((bytes_eq-Decides (codes "help") argument).0 f)) refl
+    go false e true f d k = rw (sym ((bytes_eq-Decides (codes "help") argument).0 f)) (help_kinds rest)
     go false e false f true k = rw ((bytes_eq-Decides argument (codes "--")).0 k) (dashes_kinds rest)
     go false e false f false k =
         as_asked _ _ _ (plain_asked argument rest e f)

@@ -20,8 +20,8 @@ use Rattle.stinger_program.specs.declared.program.Sizes.{Sizes}
 use Rattle.stinger_program.specs.declared.program.Order.{Order}
 use Rattle.stinger_program.specs.declared.program.Order.TheVariants as order
 use Rattle.stinger_server.specs.declared.script.ServeFault.{ServeFault}
+use Rattle.stinger_server.specs.declared.script.ServeFault.TheVariants.{Read, Memory, Start, Write}
 use Rattle.stinger_server.specs.declared.script.Summary.{Summary}
-use Rattle.stinger_server.specs.Runs.{is_write}
 use Rattle.stinger_server.specs.States.{set_up}
 use Rattle.stinger_server.specs.Texts.{IsText}
 use Rattle.stinger_server.specs.Writes.{AppendsPart, AppendsSome}
@@ -36,6 +36,13 @@ pub data Asked : Type 0 where
   Help : Asked
   Version : Asked
   Usage : Asked
+
+-- a script is to be served
+abbrev pub is_served : Asked → Bool
+is_served (Serve sizes) = true
+is_served Help = false
+is_served Version = false
+is_served Usage = false
 
 -- ---- the command line
 
@@ -65,10 +72,15 @@ program =
     } in
     with_subcommand (record { top = top; subs = [] }) run_app.top
 
--- `help`, whatever follows it, stands for `--help`
+-- `help run` stands for `run --help`, and `help` for `--help`, whatever else follows it
+abbrev pub help_words : List (List ℕ) → List (List ℕ)
+help_words [] = codes "--help" ∷ []
+help_words (argument ∷ rest) =
+    if bytes_eq (codes "run") argument then codes "run" ∷ codes "--help" ∷ [] else codes "--help" ∷ []
+
 abbrev pub without_help : List (List ℕ) → List (List ℕ)
 without_help [] = []
-without_help (argument ∷ rest) = if bytes_eq (codes "help") argument then codes "--help" ∷ [] else argument ∷ rest
+without_help (argument ∷ rest) = if bytes_eq (codes "help") argument then help_words rest else argument ∷ rest
 
 -- ---- what arguments ask for
 
@@ -106,10 +118,10 @@ asked_of_command arguments =
     asked_by (fault_of program (without_help arguments))
     (option_and_then (λ run. sizes_of run.1) (subcommand_of program (without_help arguments)))
 
--- `--version` comes first
+-- `--version` or `-V` comes first
 abbrev pub is_version : List (List ℕ) → Bool
 is_version [] = false
-is_version (argument ∷ rest) = bytes_eq (codes "--version") argument
+is_version (argument ∷ rest) = bytes_eq (codes "--version") argument || bytes_eq (codes "-V") argument
 
 -- what the arguments after the program's name ask for
 abbrev pub asked : List (List ℕ) → Asked
@@ -214,19 +226,28 @@ abbrev pub status_of : Result Summary ServeFault → ℕ
 status_of (Ok summary) = if summary.errors == 0 then 0 else 1
 status_of (Err fault) = 1
 
--- standard error is as it was; or, where the output could not be written, it grew by a first part of the line that says so
-abbrev pub IsNoted : {F : Type 0} → (F → Option (List ℕ)) → List ℕ → Bool → F → F → Type 0
-IsNoted contents line false old new = new ≡ old
-IsNoted contents line true old new = AppendsPart (contents old) (contents new) line
+-- what is said on standard error of a run that came to this: these lines where the output could not be written, where the
+-- store was not opened, and where the input could not be read or had a record too many
+abbrev pub fault_line : List ℕ → List ℕ → List ℕ → Result Summary ServeFault → Option (List ℕ)
+fault_line unwritten unopened unread (Ok summary) = None
+fault_line unwritten unopened unread (Err Read) = Some unread
+fault_line unwritten unopened unread (Err Memory) = None
+fault_line unwritten unopened unread (Err Start) = Some unopened
+fault_line unwritten unopened unread (Err Write) = Some unwritten
+
+-- standard error is as it was; or, where there is a line to say, it grew by a first part of that
+abbrev pub IsNoted : {F : Type 0} → (F → Option (List ℕ)) → Option (List ℕ) → F → F → Type 0
+IsNoted contents None old new = new ≡ old
+IsNoted contents (Some line) old new = AppendsPart (contents old) (contents new) line
 
 -- the bytes that were to be read were served, in a run of these sizes: the run came to this, with its status, its text, and
 -- its line on standard error
 pub record IsServed {F : Type 0} (sizes : ConfigView) (remaining : Option (List ℕ)) (status : ℕ) (old new : Option (List ℕ))
-    (contents : F → Option (List ℕ)) (line : List ℕ) (faults faults' : F) : Type 0 where
+    (contents : F → Option (List ℕ)) (line_of : Result Summary ServeFault → Option (List ℕ)) (faults faults' : F) : Type 0 where
   pub outcome : Result Summary ServeFault
   pub ends : status ≡ status_of outcome
   pub text : IfSome remaining (λ bytes. (done : ℕ) × AppendsSome old new (IsText (set_up sizes) (records_of bytes) done outcome))
-  pub noted : IsNoted contents line (is_write outcome) faults faults'
+  pub noted : IsNoted contents (line_of outcome) faults faults'
 
 abbrev pub EndsWith : List ℕ → List ℕ → Type 0
 EndsWith end text = (front : List ℕ) × (text ≡ front ++ end)

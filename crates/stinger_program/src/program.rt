@@ -6,8 +6,8 @@ ghost use Rattle.clap.specs.Words.{app_of, kind_of, rule_of, subcommand_rows_of}
 ghost use Rattle.stinger_program.specs.Program.{Asked, EachAsks, EachIsRefused, EachServes, EndsWith, IsServed, IsTold};
 ghost use Rattle.stinger_program.specs.Program.{ReadsPlainly, ServesWithinLimits, arguments_of};
 ghost use Rattle.stream_store.specs.Configs.{ConfigView};
-ghost use Rattle.stinger_program.specs.Program.{asked, asked_by_kind, asked_for, asked_of_command, default_sizes};
-ghost use Rattle.stinger_program.specs.Program.{is_version, program, size_rule, sizes_given, sizes_in, sizes_of, without_help};
+ghost use Rattle.stinger_program.specs.Program.{asked, asked_by_kind, asked_for, asked_of_command, default_sizes, fault_line};
+ghost use Rattle.stinger_program.specs.Program.{help_words, is_served, is_version, program, size_rule, sizes_given, sizes_in, sizes_of, without_help};
 ghost use Rattle.stinger_server.specs.Writes.{AppendsPart};
 
 use clap::builder::ValueParser;
@@ -42,6 +42,14 @@ const VERSION: &str = "stinger 0.1.0\n";
 // What stands on standard error where the output could not be written.
 const UNWRITTEN: &str = "error: the output can't be written\n";
 
+// What stands there where the store was not opened, for want of memory.
+const UNOPENED: &str =
+    "error: out of memory: the store can't be opened, and fewer blocks or seats take less\n";
+
+// What stands there behind the error line with the word Read.
+const UNREAD: &str =
+    "error: the input can't be read, or it has a record too many: a script has fewer than 1,000,000\n";
+
 const NOT_TEXT: &str = "error: an argument is not UTF-8\n";
 
 // What stands at the end of each help.
@@ -72,6 +80,11 @@ be quoted, and nothing is trimmed. Each record, and below it what it prints:
       deg <slot> edges=<n>, and then a line for each vertex: <name> <out> <in> <weight out>
   edge,<slot>,<kind>,<source>,<target>         one edge: its weight, first and recent time
       edge <slot> <weight> <first> <recent>, or edge <slot> none
+  collect                                      frees the blocks that only versions before the floor have: the least
+                                               number among the last version and those held
+      collect floor=<n> recycled=<n> retired=<n>
+  stat                                         counts of the last version, and blocks free, retired, used
+      stat v=<version> names=<n> edges=<n> free=<n> retired=<n> used=<n>
   the end of the input
       end pending=<n>, where operations are pending
 
@@ -81,8 +94,11 @@ an edge whose weight would leave its limits stays as it was (ovf).
 Limits: a name has 1 to 64 bytes from ! to ~, and a kind is not *. A weight or an amount
 is from -1099511627776 to 1099511627776. A time is from 0 to 9223372036854775807. A slot is
 a whole number below that of the seats, which `--seats` gives (2 without it). A batch has at
-most 4,096 operations, a graph 65,536 names and 64 kinds. A script has fewer than 1,000,000
-records.
+most 4,096 operations and needs as many free blocks, a graph has 65,536 names and 64 kinds. A
+run applies at most 65,536 batches. A script has fewer than 1,000,000 records.
+
+Options of `run`, each at most once: `--workers <N>` (how many threads may work on a batch: 1 to
+8, else 4), `--blocks <N>` (16 to 65536, else 16384) and `--seats <N>` (1 to 16, else 2).
 
 A session, with what each record prints beside it:
 
@@ -94,12 +110,12 @@ A session, with what each record prints beside it:
 A refused record prints `error <record> <Word>`, where the first record is 1 and blank lines
 aren't counted, and the run goes on. It changes nothing, but a refused commit gives its batch up. The words:
 BadCommand, BadFields, BadName, BadWeight, BadTime, BadSlot, NotOpen, AlreadyOpen,
-BadWindow, NoKind, NoVertex, BatchFull, NamesFull, KindsFull. Two more end the run: Read,
-where the input can't be read or has a record too many, and Memory.
+BadWindow, NoKind, NoVertex, BatchFull, BatchLimit, NamesFull, KindsFull, PoolEmpty. Two more
+end the run: Read, where the input can't be read or has a record too many, and Memory.
 
 Status: 0 where the script was read to its end without an error line, 1 with an error line
-or where the run broke off, 2 for wrong arguments. `stinger help` is `stinger --help`, and
-`stinger --version` tells the version.
+or where the run broke off, 2 for wrong arguments. `stinger help` is `stinger --help`,
+`stinger help run` is `stinger run --help`, and `stinger --version`, or `-V`, tells the version.
 ";
 
 // What stands at the end of what is said of wrong arguments.
@@ -108,6 +124,8 @@ const HINT: &str = "\
 ";
 
 static HELP_FLAG: [&str; 1] = ["--help"];
+
+static RUN_HELP: [&str; 2] = ["run", "--help"];
 
 /// How many workers, blocks and seats a run has.
 #[derive(Clone, Copy, Debug, PartialEq, Eq)]
@@ -128,14 +146,15 @@ pub(crate) enum Order {
 
 /// The whole program over the arguments after its name, with `faults` as its standard error: `run` serves `reader`
 /// into `writer`; its options `--workers`, `--blocks` and `--seats`, each at most once, have a whole number from 1 to 8,
-/// from 16 to 65,536 and from 1 to 16, and 4, 16,384 and 2 where they are left out; `--help`, `-h`, `help` and
-/// `run --help` write a text to `writer` which ends with the formats of records; `--version` writes the version.
+/// from 16 to 65,536 and from 1 to 16, and 4, 16,384 and 2 where they are left out; `--help`, `-h`, `help`,
+/// `run --help` and `help run` write a text to `writer` which ends with the formats of records; `--version` and `-V` write the
+/// version.
 ///
 /// The answer is the exit status: 0 where the script was read to its end without an error line, or the whole text
 /// was written; 1 where there was an error line or the run broke off, and where memory or a writer failed outside
-/// the run; and 2, with a text on `faults` alone, where the arguments are none of these. Where `writer` failed, a
-/// line on `faults` says so. That a write, a flush or a growth failed is told by the writers and the memory, so no
-/// clause says when 1 comes in place of 0 or 2.
+/// the run; and 2, with a text on `faults` alone, where the arguments are none of these. Where `writer` failed, where the
+/// store was not opened, and behind an error line with the word Read, a line on `faults` says so. That a write, a flush or a
+/// growth failed is told by the writers and the memory, so no clause says when 1 comes in place of 0 or 2.
 pub fn stinger<'a, A: AllocGlobal + Threads + Wait + Sync, R: Read + Drop, W: Write, F: Write>(
     rt: &A,
     arguments: &'a [&'a str],
@@ -146,7 +165,7 @@ pub fn stinger<'a, A: AllocGlobal + Threads + Wait + Sync, R: Read + Drop, W: Wr
     ensures served { (sizes : ConfigView) → asked (map (λ argument. argument.now) arguments.now) ≡ Asked.Serve sizes
         → ((result ≡ 1) × (writer.new ≡ writer.old) × (faults.new ≡ faults.old))
         ⊎ IsServed sizes (R.remaining reader) result (W.contents writer.old) (W.contents writer.new)
-        F.contents UNWRITTEN.now faults.old faults.new }
+        F.contents (fault_line UNWRITTEN.now UNOPENED.now UNREAD.now) faults.old faults.new }
     ensures helped { asked (map (λ argument. argument.now) arguments.now) ≡ Asked.Help
         → IsTold (EndsWith FORMATS.now) 0 result (W.contents writer.old) (W.contents writer.new) }
     ensures version { asked (map (λ argument. argument.now) arguments.now) ≡ Asked.Version
@@ -167,6 +186,16 @@ pub fn stinger<'a, A: AllocGlobal + Threads + Wait + Sync, R: Read + Drop, W: Wr
     }
 }
 
+/// Whether the arguments have a script served; an error where they can't be read for want of memory.
+pub fn serves<'a, A: AllocGlobal>(rt: &A, arguments: &'a [&'a str]) -> Result<bool, AllocError>
+    ensures { IfOk result (λ yes. yes ≡ is_served (asked (map (λ argument. argument.now) arguments.now))) }
+{
+    match read_arguments(rt, arguments)? {
+        Order::Serve(_) => Ok(true),
+        _ => Ok(false),
+    }
+}
+
 /// Says on `faults` that an argument is not UTF-8, and answers the status for wrong arguments, 2; or 1, where that
 /// could not be written.
 pub fn refuse_arguments<F: Write>(faults: &mut F) -> u8
@@ -181,7 +210,8 @@ pub fn law_arguments()
     ensures serve { EachAsks (Asked.Serve default_sizes) ((codes "run" ∷ []) ∷ (codes "run" ∷ codes "--" ∷ []) ∷ []) }
     ensures help { EachAsks Asked.Help ((codes "--help" ∷ []) ∷ (codes "-h" ∷ []) ∷ (codes "help" ∷ [])
         ∷ (codes "help" ∷ codes "run" ∷ []) ∷ (codes "run" ∷ codes "--help" ∷ []) ∷ (codes "run" ∷ codes "-h" ∷ []) ∷ []) }
-    ensures version { EachAsks Asked.Version ((codes "--version" ∷ []) ∷ (codes "--version" ∷ codes "run" ∷ []) ∷ []) }
+    ensures version { EachAsks Asked.Version ((codes "--version" ∷ []) ∷ (codes "--version" ∷ codes "run" ∷ [])
+        ∷ (codes "-V" ∷ []) ∷ []) }
     ensures usage { EachAsks Asked.Usage ([] ∷ (codes "fly" ∷ []) ∷ (codes "run" ∷ codes "now" ∷ [])
         ∷ (codes "run" ∷ codes "run" ∷ []) ∷ (codes "--" ∷ codes "run" ∷ []) ∷ (codes "--help=run" ∷ []) ∷ (codes "-w" ∷ [])
         ∷ (codes "" ∷ []) ∷ (codes "run" ∷ codes "--version" ∷ []) ∷ []) }
@@ -228,7 +258,7 @@ fn run_sizes<A: AllocGlobal + Threads + Wait + Sync, R: Read + Drop, W: Write, F
 ) -> u8
     ensures { ((result ≡ 1) × (writer.new ≡ writer.old) × (faults.new ≡ faults.old))
         ⊎ IsServed (sizes_in sizes) (R.remaining reader) result (W.contents writer.old) (W.contents writer.new)
-        F.contents UNWRITTEN.now faults.old faults.new }
+        F.contents (fault_line UNWRITTEN.now UNOPENED.now UNREAD.now) faults.old faults.new }
 {
     match Config::new(sizes.workers, sizes.blocks, sizes.seats) {
         Ok(config) => run(rt, config, reader, writer, faults),
@@ -256,16 +286,24 @@ fn run<A: AllocGlobal + Threads + Wait + Sync, R: Read + Drop, W: Write, F: Writ
     faults: &mut F,
 ) -> u8
     ensures { IsServed config (R.remaining reader) result (W.contents writer.old) (W.contents writer.new)
-        F.contents UNWRITTEN.now faults.old faults.new }
+        F.contents (fault_line UNWRITTEN.now UNOPENED.now UNREAD.now) faults.old faults.new }
 {
     match serve(rt, config, reader, writer) {
         Ok(summary) if summary.errors == 0 => DONE,
-        Err(ServeFault::Write) => {
-            note(faults);
-            FAULTY
-        }
+        Err(ServeFault::Write) => broke_off(faults, UNWRITTEN),
+        Err(ServeFault::Start) => broke_off(faults, UNOPENED),
+        Err(ServeFault::Read) => broke_off(faults, UNREAD),
         _ => FAULTY,
     }
+}
+
+/// Says how a run broke off, as far as that can be written; the status is 1.
+fn broke_off<F: Write>(faults: &mut F, line: &str) -> u8
+    ensures status { result ≡ 1 }
+    ensures noted { AppendsPart (F.contents faults.old) (F.contents faults.new) line.now }
+{
+    note(faults, line);
+    FAULTY
 }
 
 /// What the arguments ask for.
@@ -278,12 +316,12 @@ fn read_arguments<'a, A: AllocGlobal>(rt: &A, arguments: &'a [&'a str]) -> Resul
     read_command(rt, arguments)
 }
 
-/// Whether `--version` comes first.
+/// Whether `--version` or `-V` comes first.
 fn is_version(arguments: &[&str]) -> bool
     ensures { result ≡ is_version (map (λ argument. argument.now) arguments.now) }
 {
     match arguments.first() {
-        Some(first) => "--version" == *first,
+        Some(first) => "--version" == *first || "-V" == *first,
         None => false,
     }
 }
@@ -328,14 +366,30 @@ fn explain<A: AllocGlobal>(rt: &A, error: &Error) -> Result<Order, AllocError>
     }
 }
 
-/// `help` asks for what `--help` does, whatever follows it.
+/// `help run` asks for what `run --help` does, and `help` for what `--help` does, whatever else follows it.
 fn without_help<'a>(arguments: &'a [&'a str]) -> &'a [&'a str]
     ensures { map (λ argument. argument.now) result.now ≡ without_help (map (λ argument. argument.now) arguments.now) }
 {
-    match arguments.first() {
-        Some(&"help") => HELP_FLAG.as_slice(),
-        _ => arguments,
+    let Some((first, rest)) = arguments.split_first() else {
+        return arguments;
+    };
+    if "help" == *first {
+        return help_words(rest);
     }
+    arguments
+}
+
+/// What `help` stands for, by what follows it.
+fn help_words<'a>(rest: &'a [&'a str]) -> &'a [&'a str]
+    ensures { map (λ argument. argument.now) result.now ≡ help_words (map (λ argument. argument.now) rest.now) }
+{
+    let Some(next) = rest.first() else {
+        return HELP_FLAG.as_slice();
+    };
+    if "run" == *next {
+        return RUN_HELP.as_slice();
+    }
+    HELP_FLAG.as_slice()
 }
 
 /// The command line, as clap sees it.
@@ -389,7 +443,7 @@ fn show<W: Write, F: Write>(writer: &mut W, faults: &mut F, text: &str, end: &st
     match write_text(writer, text, end) {
         Ok(()) => DONE,
         Err(Unwritten) => {
-            note(faults);
+            note(faults, UNWRITTEN);
             FAULTY
         }
     }
@@ -405,9 +459,9 @@ fn tell<W: Write>(writer: &mut W, text: &str, end: &str, status: u8) -> u8
     }
 }
 
-/// Says that the output could not be written, as far as that can be written.
-fn note<F: Write>(faults: &mut F)
-    ensures { AppendsPart (F.contents faults.old) (F.contents faults.new) UNWRITTEN.now }
+/// Says a line, as far as that can be written.
+fn note<F: Write>(faults: &mut F, line: &str)
+    ensures { AppendsPart (F.contents faults.old) (F.contents faults.new) line.now }
 {
-    let _ = write_text(faults, "", UNWRITTEN);
+    let _ = write_text(faults, "", line);
 }

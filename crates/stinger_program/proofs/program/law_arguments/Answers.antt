@@ -9,7 +9,7 @@ unfolding clap_on_literals
 returns c = record {
   serve = (refl, (refl, tt));
   help = (refl, (refl, (refl, (refl, (refl, (refl, tt))))));
-  version = (refl, (refl, tt));
+  version = (refl, (refl, (refl, tt)));
   usage = (refl, (refl, (refl, (refl, (refl, (refl, (refl, (refl, (refl, tt)))))))));
   plain = reads_plainly;
   limits = serves_within;
