@@ -61,7 +61,8 @@ fn handed_of<J: Naming, R: Threads + Wait + Sync>(
     }
 }
 
-fn name(alloc: Global, text: &str) -> Result<Name, AllocError> {
+/// A name of this text.
+pub fn name(alloc: Global, text: &str) -> Result<Name, AllocError> {
     Ok(Name::of(String::from_str(alloc, text)?))
 }
 

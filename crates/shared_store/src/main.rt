@@ -49,13 +49,14 @@ fn told_by_all<J: Naming + Send + Sync, R: Threads + Wait + Sync>(
         || feed(rt, alloc, store, &signs),
         || -> (Option<Sight>, Option<Sight>)
             requires { IsOfOpening J.book first.seen × IsOfOpening J.book second.seen }
-        { read_both(rt, store, &signs, first, second) },
+        { read_both(rt, alloc, store, &signs, first, second) },
     )
 }
 
 /// What both readers saw, each in a thread of its own.
 fn read_both<J: Naming + Send + Sync, R: Threads + Wait + Sync>(
     rt: &R,
+    alloc: Global,
     store: &Store<J>,
     signs: &Signs<J>,
     first: Seat,
@@ -68,10 +69,10 @@ fn read_both<J: Naming + Send + Sync, R: Threads + Wait + Sync>(
         rt,
         || -> Option<Sight>
             requires { IsOfOpening J.book first.seen }
-        { read(rt, store, &signs.first, &signs.collected, first) },
+        { read(rt, alloc, store, &signs.first, &signs.collected, first) },
         || -> Option<Sight>
             requires { IsOfOpening J.book second.seen }
-        { read(rt, store, &signs.second, &signs.collected, second) },
+        { read(rt, alloc, store, &signs.second, &signs.collected, second) },
     )
 }
 
@@ -113,8 +114,8 @@ fn over_a_new_store<R: Threads + Wait + Sync>(rt: &R, alloc: Global) -> Option<R
 
 fn print_sight(rt: &impl Print, reader: u32, sight: Sight) -> io::Result<()> {
     println!(rt;
-        "reader {reader} holds version {}: {} names, {} edges",
-        sight.number, sight.names, sight.edges
+        "reader {reader} holds version {}: {} names, {} edges; ann reaches {}",
+        sight.number, sight.names, sight.edges, sight.reached
     )
 }
 
