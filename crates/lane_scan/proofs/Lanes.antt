@@ -1,14 +1,14 @@
 -- Masks of comparisons, lane by lane.
 use Rattle.std.proofs.Common.{◌≡◌, ◌↔◌, ℕ, ◌-◌, ◌%◌, ◌^◌, ◌<◌, ◌≤◌, List, Bool, true, false, cond, leb, eqb, length, get_or, map}
-use Rattle.std.proofs.Common.{take, replicate, refl, sym, ap, ◌∙◌, arith, inl, inr}
+use Rattle.std.proofs.Common.{◌+◌, ◌*◌, [], ◌∷◌, not, take, replicate, refl, sym, ap, ◌∙◌, arith, inl, inr}
 use Rattle.std.specs.Int.{bit_at, w32, w64}
 use Rattle.std.specs.Int.RustNames.{bit_and}
 use Rattle.std.specs.Simd.Lanes.{zip2, mask_l, top}
 use Rattle.std.proofs.lemmas.Simd.{length-zip2, get_or-zip2, get_or-replicate, bit_mask_l, tops_compared, mask_l-mod, mask_l-lt}
 use Rattle.std.proofs.lemmas.Simd.{length-replicate}
 use Rattle.std.proofs.Math.Pow.{pow_mono}
-use Rattle.std.proofs.lemmas.List.{length-take, get_or-take}
-use Rattle.std.proofs.lemmas.Bool.{leb-true, leb-false, eqb-true, eqb-false, cases_lt}
+use Rattle.std.proofs.lemmas.List.{length-take, get_or-take, take_all}
+use Rattle.std.proofs.lemmas.Bool.{leb-true, leb-false, eqb-true, eqb-false, eq-eqb, cases_lt}
 use Rattle.std.proofs.lemmas.Nat.Bits.{bit_at_and, bit_at_above, bit_at-lt}
 use Rattle.lane_scan.specs.Masks.{InMask, IsPlaceOf, IsPlaceWithin}
 
@@ -127,4 +127,44 @@ live_within times live lo hi held n room fits each place = (
       ),
   λ at. (in_both held live place).1
       ((each place (place_below live n place fits at.lives)).1 (at.from_lo, at.to_hi), at.lives),
+)
+
+-- whether two lanes differ
+abbrev pub differs : ℕ → ℕ → Bool
+differs a b = not (eqb a b)
+
+head_same : (x y rest : ℕ) (e : Bool) → eqb x y ≡ e → cond {A = ℕ} (not e) 1 0 + 2 * rest ≡ 0 → x ≡ y
+head_same x y rest true e none = eqb-true x y e
+head_same x y rest false e none = absurd (omega arith)
+
+rest_none : (e : Bool) (rest : ℕ) → cond {A = ℕ} e 1 0 + 2 * rest ≡ 0 → rest ≡ 0
+rest_none true rest none = absurd (omega arith)
+rest_none false rest none = omega arith
+
+-- where no lanes differ, the lists are equal, and the other way round
+same_lists : (xs ys : List ℕ) → length xs ≡ length ys → mask_l (zip2 differs xs ys) ≡ 0 → xs ≡ ys
+same_lists [] [] e none = refl
+same_lists [] (y ∷ ys) e none = absurd (omega arith)
+same_lists (x ∷ xs) [] e none = absurd (omega arith)
+same_lists (x ∷ xs) (y ∷ ys) e none =
+    ap (λ zs. x ∷ zs) (same_lists xs ys (omega arith) (rest_none (differs x y) (mask_l (zip2 differs xs ys)) none))
+    ∙ ap (λ z. z ∷ ys) (head_same x y (mask_l (zip2 differs xs ys)) (eqb x y) refl none)
+
+no_difference : (xs : List ℕ) → mask_l (zip2 differs xs xs) ≡ 0
+no_difference [] = refl
+no_difference (x ∷ xs) = rw (eq-eqb x x refl) (omega (arith, no_difference xs))
+
+-- the mask of the lanes in which two lists of 32 differ
+difference_mask : (xs ys : List ℕ) → length xs ≡ 32 → length ys ≡ 32 →
+    mask32 differs (take 32 xs) (take 32 ys) ≡ mask_l (zip2 differs xs ys)
+difference_mask xs ys p q =
+    (λ i. mask32 differs (take_all 32 xs (omega arith) i) (take_all 32 ys (omega arith) i))
+    ∙ ap (λ ms. mask_l ms % 2 ^ 64) (tops_compared w32 differs xs ys)
+    ∙ mask_l-mod (zip2 differs xs ys) 64 (omega (arith, length-zip2 differs xs ys (p ∙ sym q)))
+
+pub same_columns : (xs ys : List ℕ) → length xs ≡ 32 → length ys ≡ 32 →
+    ((mask32 differs (take 32 xs) (take 32 ys) ≡ 0) ↔ (xs ≡ ys))
+same_columns xs ys p q = (
+  λ none. same_lists xs ys (p ∙ sym q) (sym (difference_mask xs ys p q) ∙ none),
+  λ same. difference_mask xs ys p q ∙ rw (sym same) (no_difference xs),
 )

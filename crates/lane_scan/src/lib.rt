@@ -2,8 +2,9 @@
 //!
 //! Place `k` is in a mask where the mask's bit `k` is set and `k` is below the column's length: bits
 //! at or past the length are ignored. Targets and times of a column of 32 are compared all at once, or the first
-//! four targets or eight times alone where no other place counts, and so without a branch for each place; the other
-//! scans end at the highest place of their mask, so that one over few places costs few steps. No scan takes memory.
+//! four targets or eight times alone where no other place counts, and so without a branch for each place; so are two
+//! columns of 32. `bounds` ends at the highest place of its mask, so that one over few places costs few steps. No scan
+//! takes memory.
 #![tactic(auto)]
 
 ghost use Rattle.std.specs.Prelude.{◌≡◌, ℕ, ◌+◌, ◌<◌, ◌≤◌, ◌^◌, ◌↔◌, ℤ, pos, ◌+ℤ◌, List, [], ◌∷◌, ◌++◌, length, fold, All};
@@ -166,7 +167,23 @@ pub fn equal_columns(left: &[u32], right: &[u32]) -> bool
     requires equal_lengths { length left.now ≡ length right.now }
     ensures { IsTrue result ↔ (left.now ≡ right.now) }
 {
-    left == right
+    if left.len() == 32 {
+        are_equal_lanes_32(left, right)
+    } else {
+        left == right
+    }
+}
+
+/// Whether two columns of 32 places are equal.
+#[inline(always)]
+fn are_equal_lanes_32(left: &[u32], right: &[u32]) -> bool
+    requires left { length left.now ≡ 32 }
+    requires right { length right.now ≡ 32 }
+    ensures { IsTrue result ↔ (left.now ≡ right.now) }
+{
+    let column = u32x32::from_slice(left);
+    let other = u32x32::from_slice(right);
+    column.simd_ne(other).to_bitmask() == 0
 }
 
 /// The least and the greatest value where one more comes to those of known bounds.
