@@ -94,8 +94,8 @@ listed_at names j name distinct at =
     (listed, omega (arith, below, above))
 
 -- a listed name's number stands at its hash
-stands : (names : List (List ℕ)) (parts : List (List (ℕ × ℕ))) (others : List ℕ) (name : List ℕ) → IsIndexed names parts others
-    → IsTrue (is_listed names name) → Stands parts others (text_hash name) (number_of names name)
+stands : (names : List (List ℕ)) (parts : List (List (ℕ × List (ℕ × ℕ)))) (others : List ℕ) (name : List ℕ)
+    → IsIndexed names parts others → IsTrue (is_listed names name) → Stands parts others (text_hash name) (number_of names name)
 stands names parts others name indexed listed =
     let there = at_number names name listed in
     subst (λ (n : List ℕ). Stands parts others (text_hash n) (number_of names name))
@@ -109,7 +109,7 @@ Some-same : {X : Type 0} (x y : X) → Some x ≡ Some y → x ≡ y
 Some-same x y same = cc
 
 -- where nothing stands at a name's hash, it is not listed
-pub none_listed : (names : List (List ℕ)) (parts : List (List (ℕ × ℕ))) (others : List ℕ) (name : List ℕ)
+pub none_listed : (names : List (List ℕ)) (parts : List (List (ℕ × List (ℕ × ℕ)))) (others : List ℕ) (name : List ℕ)
     → IsIndexed names parts others → found_at parts (text_hash name) ≡ None → ¬ IsTrue (is_listed names name)
 none_listed names parts others name indexed none listed =
     elim (stands names parts others name indexed listed) [
@@ -118,7 +118,7 @@ none_listed names parts others name indexed none listed =
     ]
 
 -- where a name is neither at the number of its hash nor among the others, it is not listed
-pub not_among : (names : List (List ℕ)) (parts : List (List (ℕ × ℕ))) (others : List ℕ) (name : List ℕ) (first : ℕ)
+pub not_among : (names : List (List ℕ)) (parts : List (List (ℕ × List (ℕ × ℕ)))) (others : List ℕ) (name : List ℕ) (first : ℕ)
     → IsIndexed names parts others → found_at parts (text_hash name) ≡ Some first → ¬ (slice_get names first ≡ Some name)
     → All (λ number. slice_get names number ≢ Some name) others → ¬ IsTrue (is_listed names name)
 not_among names parts others name first indexed found other none listed =
@@ -132,7 +132,7 @@ not_among names parts others name first indexed found other none listed =
     ]
 
 -- what a search of the others finds is the number
-pub SomeIff-among : (names : List (List ℕ)) (parts : List (List (ℕ × ℕ))) (others : List ℕ) (name : List ℕ) (first : ℕ)
+pub SomeIff-among : (names : List (List ℕ)) (parts : List (List (ℕ × List (ℕ × ℕ)))) (others : List ℕ) (name : List ℕ) (first : ℕ)
     (result : Option ℕ) → AllPairs (λ a b. a ≢ b) names → IsIndexed names parts others
     → found_at parts (text_hash name) ≡ Some first → ¬ (slice_get names first ≡ Some name)
     → IfSome result (λ number. slice_get names number ≡ Some name)
@@ -144,7 +144,7 @@ SomeIff-among names parts others name first (Some number) distinct indexed found
     listed_at names number name distinct is_there
 
 -- another index that keeps what stands
-pub IsIndexed-kept : (names : List (List ℕ)) (parts kept : List (List (ℕ × ℕ))) (others more : List ℕ)
+pub IsIndexed-kept : (names : List (List ℕ)) (parts kept : List (List (ℕ × List (ℕ × ℕ)))) (others more : List ℕ)
     → IsIndexed names parts others → ((q i : ℕ) → Stands parts others q i → Stands kept more q i) → IsIndexed names kept more
 IsIndexed-kept names parts kept others more indexed keeps i lt = keeps (text_hash (get_or names i [])) i (indexed i lt)
 
@@ -152,7 +152,7 @@ lt_or_last : (i n : ℕ) → i < n + 1 → (i < n) ⊎ (i ≡ n)
 lt_or_last i n lt = elim (eqb_tells i n) [ inl same ↦ inr same.1 | inr other ↦ inl (omega (arith, lt, other.1)) ]
 
 -- one more name, whose number stands
-pub IsIndexed-pushed : (names : List (List ℕ)) (parts : List (List (ℕ × ℕ))) (others : List ℕ) (name : List ℕ)
+pub IsIndexed-pushed : (names : List (List ℕ)) (parts : List (List (ℕ × List (ℕ × ℕ)))) (others : List ℕ) (name : List ℕ)
     → IsIndexed names parts others → Stands parts others (text_hash name) (length names)
     → IsIndexed (names ++ name ∷ []) parts others
 IsIndexed-pushed names parts others name indexed new i lt =

@@ -4,6 +4,14 @@ use Rattle.std.specs.Arc.{arc_value}
 use Rattle.std.specs.declared.sync.Arc.{Arc}
 use Rattle.std.specs.declared.alloc.Global.{Global}
 use Rattle.vertex_names.specs.declared.texts.Chunk.{Chunk}
+use Rattle.vertex_names.specs.declared.texts.Kept.{Kept}
+use Rattle.vertex_names.specs.declared.texts.Kept.TheVariants.{Short, Long}
+use Rattle.std.specs.String.{string_bytes}
+
+-- the bytes of a name's text
+abbrev pub kept_bytes : Kept → List ℕ
+kept_bytes (Short text) = text.bytes
+kept_bytes (Long text) = string_bytes text
 
 abbrev pub names_in : Arc Chunk Global → List (List ℕ)
 names_in c = arc_value {X = Chunk} c

@@ -8,7 +8,7 @@ ghost use Rattle.vertex_names.specs.Book.{empty_book, with_entry, IsBook, MeetsL
 ghost use Rattle.vertex_names.specs.Index.{text_hash, Stands};
 
 use crate::index::{HashIndex, hash_of};
-use crate::texts::Texts;
+use crate::texts::{Entry, Texts};
 use std::alloc::{AllocError, AllocFailed, Global};
 use std::marker::Model;
 use thiserror::Error;
@@ -44,8 +44,9 @@ impl<T: Drop> From<AllocFailed<T>> for AddError {
 
 /// The names that have appeared, in order of first appearance; a name's number is its place.
 ///
-/// A look-up takes no memory: one hash, one probe, and one comparison of texts. A new name takes one copy of its text,
-/// and after a `share` a copy of the last 256 texts at most and of one part in 64 of the index.
+/// A look-up takes no memory: one hash, a search in two lists that rise, and one comparison of texts. A new name takes one
+/// copy of its text, and after a `share` copies of the last 256 texts at most, and of a list and a piece of one part in 64 of
+/// the index.
 pub struct NameBook {
     limit: u32,
     alloc: Global,
@@ -179,7 +180,7 @@ impl NameBook {
             return Err(AddError::NamesFull);
         }
         let number = number as u32;
-        let text = String::from_str(self.alloc, name)?;
+        let text = Entry::of(self.alloc, name)?;
         enter(self.alloc, &mut self.index, &mut self.others, hash, number)?;
         self.texts.push(self.alloc, text)?;
         Ok(number)

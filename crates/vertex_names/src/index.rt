@@ -1,73 +1,23 @@
 ghost use Rattle.std.specs.Prelude.{◌≡◌, ◌≤◌, ◌%◌, ◌<◌, ℕ, [], length, get_or, nat_eq, Some, IfOk, OnOk, OnErr, if◌then◌else◌};
 ghost use Rattle.vertex_names.specs.Index.{text_hash, found_at, parts_of};
 
-use indexmap::IndexMap;
+use crate::part::Part;
 use std::alloc::{AllocError, Global};
-use std::hash::{FoldHasher, Hasher};
+use std::hash::{DefaultHasher, Hasher};
 use std::marker::Model;
 use std::sync::Arc;
 
 /// How many parts there are.
 const PARTS: usize = 64;
 
-/// The hash of a text.
+/// The hash of a text. Everybody knows its keys, but two texts with one hash take some 2^32 trials to find, and each further
+/// pair more.
 pub(crate) fn hash_of(text: &str) -> u64
     ensures { result ≡ text_hash text.now }
 {
-    let mut hasher = FoldHasher::default();
+    let mut hasher = DefaultHasher::new();
     hasher.write(text.as_bytes());
     hasher.finish()
-}
-
-/// The hashes of one part, each with a number.
-#[derive(Drop)]
-pub(crate) struct Part {
-    numbers: IndexMap<u64, u32>,
-}
-
-impl Model for Part {
-    ghost use Rattle.std.specs.Prelude.{ℕ, List};
-
-    ghost Value = { List (ℕ × ℕ) };
-
-    ghost view = { λ p. p.numbers.entries };
-}
-
-impl Clone for Part {
-    ghost is_clone = { λ part copy. copy ≡ part };
-
-    fn clone(&self) -> Result<Part, AllocError> {
-        Ok(Part {
-            numbers: self.numbers.clone()?,
-        })
-    }
-}
-
-impl Part {
-    ghost use Rattle.std.specs.Map.{lookup};
-
-    fn new(alloc: Global) -> Part
-        ensures { result ≡ [] }
-    {
-        Part {
-            numbers: IndexMap::new(alloc),
-        }
-    }
-
-    fn first(&self, hash: u64) -> Option<u32>
-        ensures { result ≡ lookup (nat_eq hash) self.now }
-    {
-        self.numbers.get(&hash).copied()
-    }
-
-    fn put(&mut self, hash: u64, number: u32) -> Result<(), AllocError>
-        ensures put { OnOk result ((q : ℕ) → lookup (nat_eq q) self.new
-            ≡ (if nat_eq hash q then Some number else lookup (nat_eq q) self.old)) }
-        ensures unchanged { OnErr result (self.new ≡ self.old) }
-    {
-        self.numbers.insert(hash, number)?;
-        Ok(())
-    }
 }
 
 /// From hashes to numbers, in parts that copies share.
@@ -80,7 +30,7 @@ impl Model for HashIndex {
     ghost use Rattle.std.specs.Prelude.{ℕ, List};
     ghost use Rattle.vertex_names.specs.Index.{parts_of};
 
-    ghost Value = { List (List (ℕ × ℕ)) };
+    ghost Value = { List (List (ℕ × List (ℕ × ℕ))) };
 
     ghost view = { λ x. parts_of x.parts.items };
 }
@@ -108,7 +58,7 @@ impl HashIndex {
         ensures unchanged { OnErr result ((q : ℕ) → found_at self.new q ≡ found_at self.old q) }
     {
         make_parts(alloc, &mut self.parts)?;
-        put_in(&mut self.parts, (hash % 64) as usize, hash, number)
+        put_in(alloc, &mut self.parts, (hash % 64) as usize, hash, number)
     }
 
     /// An equal index.
@@ -135,6 +85,7 @@ fn make_parts(alloc: Global, parts: &mut Vec<Arc<Part>>) -> Result<(), AllocErro
 
 /// Puts a number into its part, into a copy of the part where others have it.
 fn put_in(
+    alloc: Global,
     parts: &mut Vec<Arc<Part>>,
     place: usize,
     hash: u64,
@@ -144,7 +95,7 @@ fn put_in(
     requires whole { 64 ≤ length parts.old.items }
     ensures put { OnOk result ((q : ℕ) → found_at (parts_of parts.new.items) q
         ≡ (if nat_eq hash q then Some number else found_at (parts_of parts.old.items) q)) }
-    ensures unchanged { OnErr result (parts_of parts.new.items ≡ parts_of parts.old.items) }
+    ensures unchanged { OnErr result ((q : ℕ) → found_at (parts_of parts.new.items) q ≡ found_at (parts_of parts.old.items) q) }
 {
-    Arc::make_mut(&mut parts[place])?.put(hash, number)
+    Arc::make_mut(&mut parts[place])?.put(alloc, hash, number)
 }

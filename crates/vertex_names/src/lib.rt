@@ -10,6 +10,8 @@
 
 mod book;
 mod index;
+mod part;
+mod piece;
 mod texts;
 
 pub use book::{AddError, NameBook};

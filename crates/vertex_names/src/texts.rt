@@ -1,7 +1,8 @@
-ghost use Rattle.std.specs.Prelude.{◌≡◌, ◌+◌, ◌<◌, ◌≤◌, ◌^◌, ◌++◌, ◌∷◌, ℕ, [], List, length, slice_get, map, string_bytes};
+ghost use Rattle.std.specs.Prelude.{◌≡◌, ◌+◌, ◌<◌, ◌≤◌, ◌^◌, ◌++◌, ◌∷◌, ℕ, [], List, length, slice_get};
 ghost use Rattle.std.specs.Prelude.{option_copied, IfOk, OnOk, OnErr, All, IfSome, IfNone, ◌≢◌, Some, ◌↔◌, IsTrue};
 ghost use Rattle.vertex_names.specs.Texts.{texts_of, AreChunks};
 
+use arrayvec::ArrayString;
 use std::alloc::{AllocError, Global};
 use std::marker::Model;
 use std::sync::Arc;
@@ -9,18 +10,84 @@ use std::sync::Arc;
 /// How many names stand in one chunk.
 const CHUNK: usize = 256;
 
+/// A name's text, in place where it is short.
+#[derive(Drop)]
+pub(crate) enum Kept {
+    Short(ArrayString<24>),
+    Long(String),
+}
+
+/// A name of a book. Most are short, and are then read where the name stands, without a further place in memory.
+#[derive(Drop)]
+pub(crate) struct Entry {
+    kept: Kept,
+}
+
+impl Model for Entry {
+    ghost use Rattle.std.specs.Prelude.{ℕ, List};
+    ghost use Rattle.vertex_names.specs.Texts.{kept_bytes};
+
+    ghost Value = { List ℕ };
+
+    ghost view = { λ e. kept_bytes e.kept };
+}
+
+impl Entry {
+    /// The name of this text. It takes memory only where the text is longer than 24 bytes.
+    pub(crate) fn of(alloc: Global, text: &str) -> Result<Entry, AllocError>
+        ensures { IfOk result (λ e. e ≡ text.now) }
+    {
+        match ArrayString::from(text) {
+            Ok(short) => Ok(Entry {
+                kept: Kept::Short(short),
+            }),
+            Err(_) => {
+                let long = String::from_str(alloc, text)?;
+                Ok(Entry {
+                    kept: Kept::Long(long),
+                })
+            }
+        }
+    }
+
+    /// The text.
+    fn as_str(&self) -> &str
+        ensures { result.now ≡ self.now }
+    {
+        match &self.kept {
+            Kept::Short(short) => short.as_str(),
+            Kept::Long(long) => long.as_str(),
+        }
+    }
+}
+
+impl Clone for Entry {
+    ghost is_clone = { λ entry copy. copy ≡ entry };
+
+    fn clone(&self) -> Result<Entry, AllocError> {
+        match &self.kept {
+            Kept::Short(short) => Ok(Entry {
+                kept: Kept::Short(*short),
+            }),
+            Kept::Long(long) => Ok(Entry {
+                kept: Kept::Long(long.clone()?),
+            }),
+        }
+    }
+}
+
 /// Names that follow one another.
 #[derive(Drop)]
 pub(crate) struct Chunk {
-    names: Vec<String>,
+    names: Vec<Entry>,
 }
 
 impl Model for Chunk {
-    ghost use Rattle.std.specs.Prelude.{ℕ, List, map, string_bytes};
+    ghost use Rattle.std.specs.Prelude.{ℕ, List};
 
     ghost Value = { List (List ℕ) };
 
-    ghost view = { λ c. map string_bytes c.names.items };
+    ghost view = { λ c. c.names.items };
 }
 
 impl Clone for Chunk {
@@ -35,8 +102,8 @@ impl Clone for Chunk {
 
 impl Chunk {
     /// The chunk of one name.
-    fn of(alloc: Global, name: String) -> Result<Chunk, AllocError>
-        ensures { IfOk result (λ c. c ≡ string_bytes name ∷ []) }
+    fn of(alloc: Global, name: Entry) -> Result<Chunk, AllocError>
+        ensures { IfOk result (λ c. c ≡ name ∷ []) }
     {
         let mut names = Vec::new(alloc);
         names.push(name)?;
@@ -52,8 +119,8 @@ impl Chunk {
     }
 
     /// One more name.
-    fn push(&mut self, name: String) -> Result<(), AllocError>
-        ensures pushed { OnOk result (self.new ≡ self.old ++ string_bytes name ∷ []) }
+    fn push(&mut self, name: Entry) -> Result<(), AllocError>
+        ensures pushed { OnOk result (self.new ≡ self.old ++ name ∷ []) }
         ensures unchanged { OnErr result (self.new ≡ self.old) }
     {
         self.names.push(name)?;
@@ -129,9 +196,9 @@ impl Texts {
     }
 
     /// One more name, the last.
-    pub(crate) fn push(&mut self, alloc: Global, name: String) -> Result<(), AllocError>
+    pub(crate) fn push(&mut self, alloc: Global, name: Entry) -> Result<(), AllocError>
         requires { length self.old < 2 ^ 32 }
-        ensures pushed { OnOk result (self.new ≡ self.old ++ string_bytes name ∷ []) }
+        ensures pushed { OnOk result (self.new ≡ self.old ++ name ∷ []) }
         ensures unchanged { OnErr result (self.new ≡ self.old) }
     {
         add_text(alloc, &mut self.chunks, self.len, name)?;
@@ -156,11 +223,11 @@ fn add_text(
     alloc: Global,
     chunks: &mut Vec<Arc<Chunk>>,
     len: usize,
-    name: String,
+    name: Entry,
 ) -> Result<(), AllocError>
     requires len { length (texts_of chunks.old.items) ≡ len }
     requires chunks { AreChunks chunks.old.items }
-    ensures added { OnOk result (texts_of chunks.new.items ≡ texts_of chunks.old.items ++ string_bytes name ∷ []) }
+    ensures added { OnOk result (texts_of chunks.new.items ≡ texts_of chunks.old.items ++ name ∷ []) }
     ensures unchanged { OnErr result (texts_of chunks.new.items ≡ texts_of chunks.old.items) }
     ensures chunks { AreChunks chunks.new.items }
 {

@@ -1,7 +1,6 @@
 use Rattle.std.proofs.Common.{◌≡◌, ◌∙◌, ◌++◌, ◌∷◌, ◌≤◌, ◌/◌, ◌%◌, ℕ, [], suc, ap, sym, inl, inr, List, length, length-append}
 use Rattle.std.proofs.Common.{get_or, set, rules, arith, ◌+◌, Result, Ok, Err}
 use Rattle.std.specs.Result.{IsOk, OnOk, OnErr}
-use Rattle.std.specs.String.{string_bytes}
 use Rattle.std.specs.declared.sync.Arc.{Arc}
 use Rattle.std.specs.declared.alloc.Global.{Global}
 use Rattle.std.proofs.lemmas.List.{append-nil}
@@ -25,7 +24,7 @@ grown_len (Err x) new old name pushed unchanged = let e = ap length unchanged in
 
 pub returns-then-len-eq0-clause-chunks : goal.returns-then-len-eq0-clause-chunks
 returns-then-len-eq0-clause-chunks c =
-    let chunk : names_in c.in_ok-chunk.chunk ≡ string_bytes c.args.name ∷ [] = c.in_ok-chunk.ensures.ok ∙ c.in_ok-of.ensures in
+    let chunk : names_in c.in_ok-chunk.chunk ≡ c.args.name ∷ [] = c.in_ok-chunk.ensures.ok ∙ c.in_ok-of.ensures in
     let one : length (names_in c.in_ok-chunk.chunk) ≡ 1 = ap length chunk in
     rw c.in_ok-push.ensures.items
     (push_piece names_in c.args.chunks.now.items c.in_ok-chunk.chunk c.requires.chunks
@@ -67,9 +66,9 @@ returns-clause-added c =
     same ∙ ap names_in c.index_mut.ensures.value in
     OnOk-then c.push-2.result
     (λ pushed. grow_last names_in c.args.chunks.now.items (c.args.len / 256) (c.make_mut.follows.lender c.push-2.new.self) h
-    (string_bytes c.args.name ∷ []) last
+    (c.args.name ∷ []) last
     (c.make_mut.follows.holds c.push-2.new.self ok ∙ pushed
-    ∙ ap (λ (l : List (List ℕ)). l ++ string_bytes c.args.name ∷ []) from))
+    ∙ ap (λ (l : List (List ℕ)). l ++ c.args.name ∷ []) from))
     c.push-2.ensures.pushed
 
 pub returns-clause-unchanged : goal.returns-clause-unchanged
@@ -94,7 +93,7 @@ returns-clause-chunks c =
     let into = ap length (c.make_mut.follows.holds c.push-2.new.self ok) in
     let part = c.if-len-eq0.false in
     let grown = grown_len c.push-2.result c.push-2.new.self c.in_ok-chunks.field-0.now
-    (string_bytes c.args.name) c.push-2.ensures.pushed c.push-2.ensures.unchanged in
+    c.args.name c.push-2.ensures.pushed c.push-2.ensures.unchanged in
     set_last names_in c.args.chunks.now.items (c.args.len / 256)
     (c.make_mut.follows.lender c.push-2.new.self) c.requires.chunks last (omega (arith, part, room, from, into, grown.0))
     (omega (arith, room, from, into, grown.1))

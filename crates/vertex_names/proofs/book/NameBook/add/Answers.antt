@@ -20,7 +20,7 @@ invariant_of-self-2 c =
     not_listed _ _ c.args.name.now c.self.view_is c.in_default-number_at.ensures in
     let room : length names < c.self.inside.limit = omega (arith, c.len-number.ensures) in
     let pushed : c.push.new.self ≡ names ++ c.args.name.now ∷ [] =
-    c.in_ok-push.ensures.pushed ∙ ap (λ (n : List ℕ). names ++ n ∷ []) c.in_ok-text.ensures.ok in
+    c.in_ok-push.ensures.pushed ∙ ap (λ (n : List ℕ). names ++ n ∷ []) c.in_ok-text.ensures in
     let stands : Stands c.enter.new.index c.enter.new.others.items (text_hash c.args.name.now) (length names) =
     subst (λ (h : ℕ). Stands c.enter.new.index c.enter.new.others.items h (length names)) c.hash_of-hash.ensures
     (subst (λ (n : ℕ). Stands c.enter.new.index c.enter.new.others.items c.hash_of-hash.result n) c.len-number.ensures
@@ -43,7 +43,7 @@ returns-clause-added c =
     let new : is_listed names c.args.name.now ≡ false =
     not_listed _ _ c.args.name.now c.self.view_is c.in_default-number_at.ensures in
     let pushed : c.push.new.self ≡ names ++ c.args.name.now ∷ [] =
-    c.in_ok-push.ensures.pushed ∙ ap (λ (n : List ℕ). names ++ n ∷ []) c.in_ok-text.ensures.ok in
+    c.in_ok-push.ensures.pushed ∙ ap (λ (n : List ℕ). names ++ n ∷ []) c.in_ok-text.ensures in
     rw (← c.self.view_is)
     (ap (λ (all : List (List ℕ)). let b : Book = record { limit = c.self.inside.limit; names = all } in b)
     (pushed ∙ with_new names c.args.name.now new))

@@ -1,7 +1,7 @@
 use Rattle.std.specs.Arc.{arc_value}
 use Rattle.std.specs.declared.sync.Arc.{Arc}
 use Rattle.std.specs.declared.alloc.Global.{Global}
-use Rattle.vertex_names.specs.declared.index.Part.{Part}
+use Rattle.vertex_names.specs.declared.part.Part.{Part}
 use Rattle.vertex_names.proofs.Pieces.{map-AllZip}
 use Rattle.vertex_names.proofs.index.HashIndex.share.Goals as goal
 

@@ -1,0 +1,12 @@
+-- Pieces of a part, each behind its lowest hash.
+use Rattle.std.specs.Prelude.{ℕ, List, map}
+use Rattle.std.specs.Arc.{arc_value}
+use Rattle.std.specs.declared.sync.Arc.{Arc}
+use Rattle.std.specs.declared.alloc.Global.{Global}
+use Rattle.vertex_names.specs.declared.piece.Piece.{Piece}
+
+abbrev pub entries_of : Arc Piece Global → List (ℕ × ℕ)
+entries_of p = arc_value {X = Piece} p
+
+abbrev pub pieces_of : List (ℕ × Arc Piece Global) → List (ℕ × List (ℕ × ℕ))
+pieces_of pieces = map (λ p. (p.0, entries_of p.1)) pieces
