@@ -17,15 +17,16 @@ use Rattle.graph_model.specs.declared.batches.Outcome.{Outcome}
 use Rattle.graph_model.specs.declared.batches.Outcome.TheVariants.{Absent}
 use Rattle.edge_block.specs.Slots.{BlockView}
 use Rattle.vertex_names.specs.Book.{Book}
-use Rattle.block_layout.specs.Rows.{shape_of, row_at, IsRow}
-use Rattle.block_layout.specs.Batches.{Resolved, resolved, outcomes_all, opened, layout_after}
+use Rattle.block_layout.specs.Rows.{Shape, shape_of, row_at, IsRow, untouched}
+use Rattle.block_layout.specs.Batches.{Resolved, resolved, outcomes_all, opened, layout_after, rows_all, sum_below}
 use Rattle.block_layout.specs.Batches.{IsWithin}
 use Rattle.block_layout.proofs.GraphLaws.{batch_layout}
 use Rattle.row_pages.specs.Rows as rows
 use Rattle.row_pages.specs.Rows.{row_of}
 use Rattle.shard_work.specs.RowBlocks.{block_of, blocks_of, numbers_of}
 use Rattle.shard_work.specs.Closing.{row_values}
-use Rattle.shard_work.specs.Done.{IsShardDone, Exchanges, sources_in}
+use Rattle.shard_work.specs.Done.{IsShardDone, Exchanges, sources_in, rows_by}
+use Rattle.shard_work.specs.Births.{births_end, births_dropped, later_births, open_row, births_after, dropped_births, CarriesBirths}
 use Rattle.shard_work.specs.declared.shard.Shard.{Shard}
 use Rattle.shard_work.specs.declared.shard.ShardDone.{ShardDone}
 use Rattle.shard_work.proofs.ShardSteps.{length-outcomes_all}
@@ -41,12 +42,64 @@ use Rattle.batch_apply.specs.declared.applied.Applied.{Applied}
 use Rattle.batch_apply.proofs.Totals.{count_more}
 use Rattle.batch_apply.proofs.Written.{all_written}
 use Rattle.batch_apply.proofs.Together.{all_once, all_within, once, quiet_layout, batch_totals}
-use Rattle.batch_apply.proofs.Together.{shard_outcomes_at, shard_layout_at}
+use Rattle.batch_apply.proofs.Together.{shard_outcomes_at, shard_layout_at, shard_births_at, quiet_row, births_sum, together_at}
 use Rattle.batch_apply.proofs.Placed.{times, sources_of, among_is}
 use Rattle.batch_apply.proofs.Kept.{count_append, count_map, pairs, exchanged_all}
 use Rattle.batch_apply.specs.Jobs.{IsDealt, AreDone}
 use Rattle.batch_apply.specs.declared.workers.Job.{Job}
 use Rattle.batch_apply.proofs.Dealt.{length-resolved, shards_in, dealt_planned, done_in, fresh_in}
+
+-- Births
+
+in_left : (m : ℕ) (xs ys : List ℕ) → is_in m xs ≡ true → is_in m (xs ++ ys) ≡ true
+in_left m [] ys is = cc
+in_left m (x ∷ xs) ys is = elim (x == m) as (λ t. (t || is_in m xs) ≡ true → (t || is_in m (xs ++ ys)) ≡ true) [
+  | true ↦ λ _. refl
+  | false ↦ λ rest. in_left m xs ys rest
+] is
+
+in_right : (m : ℕ) (xs ys : List ℕ) → is_in m ys ≡ true → is_in m (xs ++ ys) ≡ true
+in_right m [] ys is = is
+in_right m (x ∷ xs) ys is = elim (x == m) as (λ t. (t || is_in m (xs ++ ys)) ≡ true) [
+  | true ↦ refl
+  | false ↦ in_right m xs ys is
+]
+
+map_same : (h f : BlockView → ℕ) (bs : List BlockView) → All (λ b. h b ≡ f b) bs → map h bs ≡ map f bs
+map_same h f [] same = refl
+map_same h f (b ∷ bs) same = ap₂ (λ x xs. x ∷ xs) (All-head (λ b. h b ≡ f b) b bs same)
+    (map_same h f bs (All-tail (λ b. h b ≡ f b) b bs same))
+
+untouched_births : (f : BlockView → ℕ) (n : ℕ) (bs : List BlockView)
+    → births_end n (map untouched (map shape_of bs)) (map f bs) ≡ map f bs
+untouched_births f n [] = refl
+untouched_births f n (b ∷ bs) = ap (λ ls. f b ∷ ls) (untouched_births f n bs)
+
+untouched_dropped : (row : List Shape) (births : List ℕ) → births_dropped (map untouched row) births ≡ []
+untouched_dropped [] births = refl
+untouched_dropped (b ∷ row) births = untouched_dropped row (later_births births)
+
+count_births : (q : ℕ → Bool) (ops : List NamedOp) (g : Graph) (layout : ℕ → List Shape) (births : ℕ → List ℕ) (n : ℕ)
+    → count_by q (dropped_births ops g layout births n)
+    ≡ sum_below n (λ source. count_by q (births_dropped (open_row ops g layout source) (births source)))
+count_births q ops g layout births zero = refl
+count_births q ops g layout births (suc n) =
+    count_append q (births_dropped (open_row ops g layout n) (births n)) (dropped_births ops g layout births n)
+    ∙ ap (λ k. count_by q (births_dropped (open_row ops g layout n) (births n)) + k) (count_births q ops g layout births n)
+
+count_pieces : {A : Type 0} (q : ℕ → Bool) (f : BlockView → ℕ) (pieces : A → List BlockView) (xs : List A)
+    → count_by q (map f (flat_map pieces xs)) ≡ sum_by (λ x. count_by q (map f (pieces x))) xs
+count_pieces q f pieces [] = refl
+count_pieces q f pieces (x ∷ xs) =
+    ap (count_by q) (map-append f (pieces x) (flat_map pieces xs)) ∙ count_append q (map f (pieces x)) (map f (flat_map pieces xs))
+    ∙ ap (λ k. count_by q (map f (pieces x)) + k) (count_pieces q f pieces xs)
+    ∙ sym (sum_by-cons (λ x. count_by q (map f (pieces x))) x xs)
+
+count_lists : (q : ℕ → Bool) (h : ℕ → List ℕ) (xs : List ℕ) → count_by q (flat_map h xs) ≡ sum_by (λ s. count_by q (h s)) xs
+count_lists q h [] = refl
+count_lists q h (x ∷ xs) =
+    count_append q (h x) (flat_map h xs) ∙ ap (λ k. count_by q (h x) + k) (count_lists q h xs)
+    ∙ sym (sum_by-cons (λ s. count_by q (h s)) x xs)
 
 -- Numbers
 
@@ -211,6 +264,26 @@ module _ (before : ℕ → List BlockView) where
         (row_values d.rows.items) (rows_left dones)
         (shard_layout_at workers a ops g before s d p.0 z.0) (layouts_left (a + 1) k shards dones p.1 z.1)
 
+    births_left : (f h : BlockView → ℕ) (n a k : ℕ) (shards : List Shard) (dones : List ShardDone)
+        → ((b : BlockView) → is_in b.number (taken_left dones) ≡ true → h b ≡ n)
+        → AllZip (IsShardOf workers rs) (range_with_len a k) shards → AllZip (IsShardDone before) shards dones
+        → All (λ r. All (λ b. h b ≡ f b) (before r.0) → map h r.1
+        ≡ births_end n (rows_all rs (opened (λ s. map shape_of (before s))) r.0) (map f (before r.0))) (rows_left dones)
+    births_left f h n a zero [] [] each p z = All-nil (λ (r : ℕ × List BlockView). All (λ b. h b ≡ f b) (before r.0) → map h r.1
+        ≡ births_end n (rows_all rs (opened (λ s. map shape_of (before s))) r.0) (map f (before r.0)))
+    births_left f h n a k [] (d ∷ dones) each p z = absurd z
+    births_left f h n a zero (s ∷ shards) dones each p z = absurd p
+    births_left f h n a (suc k) [] dones each p z = absurd p
+    births_left f h n a k (s ∷ shards) [] each p z = absurd z
+    births_left f h n a (suc k) (s ∷ shards) (d ∷ dones) each p z =
+        All-append (λ (r : ℕ × List BlockView). All (λ b. h b ≡ f b) (before r.0) → map h r.1
+        ≡ births_end n (rows_all rs (opened (λ s. map shape_of (before s))) r.0) (map f (before r.0)))
+        (row_values d.rows.items) (rows_left dones)
+        (shard_births_at workers a ops g before s d p.0 z.0 f h n
+        (λ b is. each b (in_left b.number d.left.taken.items (taken_left dones) is)))
+        (births_left f h n (a + 1) k shards dones
+        (λ b is. each b (in_right b.number d.left.taken.items (taken_left dones) is)) p.1 z.1)
+
     outcomes_left : (a k : ℕ) (shards : List Shard) (dones : List ShardDone)
         → AllZip (IsShardOf workers rs) (range_with_len a k) shards → AllZip (IsShardDone before) shards dones
         → (xs : List Outcome) → written_from dones xs ≡ written_all workers (range_with_len a k) rs
@@ -261,6 +334,34 @@ module _ (v : VersionView) (ops : List NamedOp) (workers : ℕ) (positive : 0 < 
         (layouts_left (row_of v.rows) workers ops g 0 workers shards dones planned done)
         (λ none. sym (quiet_layout workers ops g positive shards planned (layout_of v.rows) s
         (ap (times s) (sym (sources_left (row_of v.rows) shards dones done)) ∙ none)))
+
+    pub births_next : (f h : BlockView → ℕ) (n s : ℕ)
+        → ((b : BlockView) → is_in b.number (taken_left dones) ≡ true → h b ≡ n) → All (λ b. h b ≡ f b) (row_of v.rows s)
+        → map h (row_of after s) ≡ births_after n ops g (layout_of v.rows) (λ s. map f (row_of v.rows s)) s
+    births_next f h n s each old =
+        ap (map h) (among s)
+        ∙ among_is (λ s row. All (λ b. h b ≡ f b) (row_of v.rows s)
+        → map h row ≡ births_end n (open_row ops g (layout_of v.rows) s) (map f (row_of v.rows s))) s (rows_left dones) (row_of v.rows s)
+        (births_left (row_of v.rows) workers ops g f h n 0 workers shards dones each planned done)
+        (λ none same. map_same h f (row_of v.rows s) same
+        ∙ sym (ap (λ row. births_end n row (map f (row_of v.rows s)))
+        (quiet_row workers ops g positive shards planned (layout_of v.rows) s
+        (ap (times s) (sym (sources_left (row_of v.rows) shards dones done)) ∙ none))
+        ∙ untouched_births f n (row_of v.rows s))) old
+
+    pub dropped_next : (f : BlockView → ℕ) (q : ℕ → Bool) → count_by q (map f (dropped_left dones))
+        ≡ count_by q (dropped_births ops g (layout_of v.rows) (λ s. map f (row_of v.rows s)) (length (after_all ops g).names))
+    dropped_next f q =
+        count_pieces q f (λ (d : ShardDone). blocks_of d.left.dropped.items) dones
+        ∙ together_at workers ops g (row_of v.rows) (λ s row. count_by q (births_dropped row (map f (row_of v.rows s))))
+        (λ d. count_by q (map f (blocks_of d.left.dropped.items)))
+        (λ s x is. ap (count_by q) (is.dropped_births f)
+        ∙ count_lists q (λ source. births_dropped (rows_by (row_of v.rows) s source) (map f (row_of v.rows source)))
+        (sources_in s)) 0 workers shards dones planned done
+        ∙ births_sum workers ops g positive shards planned (layout_of v.rows)
+        (λ s row. count_by q (births_dropped row (map f (row_of v.rows s))))
+        (λ m. ap (count_by q) (untouched_dropped (layout_of v.rows m) (map f (row_of v.rows m))))
+        ∙ sym (count_births q ops g (layout_of v.rows) (λ s. map f (row_of v.rows s)) (length (after_all ops g).names))
 
     blocks_next : (s : ℕ) → All (IsBlockOf s) (row_of after s)
     blocks_next s =
@@ -349,6 +450,11 @@ module _ (v : VersionView) (ops : List NamedOp) (workers : ℕ) (positive : 0 < 
                 let u = ap (count_by q) unused ∙ count_append q rest (unused_left dones) in
                 omega (arith, one, two, t, u));
             layout = λ s. ap (λ (w : VersionView). layout_of w.rows s) ver ∙ layout_next s;
+            births = record {
+              rows = λ f h n s each old. ap (λ (w : VersionView). map h (row_of w.rows s)) ver
+                  ∙ births_next f h n s (λ b is. each b (ap (is_in b.number) taken ∙ is)) old;
+              dropped_are = λ f q. ap (λ bs. count_by q (map f bs)) dropped ∙ dropped_next f q;
+            };
             taken_are = ap length taken ∙ length_flat (λ (d : ShardDone). d.left.taken.items) dones ∙ totals.0;
             dropped_are =
                 sym (length-map a.dropped.items block_of) ∙ ap length dropped

@@ -11,9 +11,11 @@ use Rattle.graph_model.specs.Graph.{Graph, Key}
 use Rattle.graph_model.specs.Step.{after_all}
 use Rattle.graph_model.specs.declared.batches.NamedOp.{NamedOp}
 use Rattle.graph_model.specs.declared.changes.EdgeChange.{EdgeChange}
-use Rattle.block_layout.specs.Rows.{Shape, OpenBlock, taken_in, dropped_in, shape_of, row_end}
+use Rattle.block_layout.specs.Rows.{Shape, OpenBlock, untouched, taken_in, dropped_in, shape_of, row_end}
 use Rattle.block_layout.specs.Batches.{Resolved, resolved, shard_ops, rows_all, opened, key_is_of, taken_by}
-use Rattle.block_layout.specs.Batches.{dropped_by, outcomes_all, layout_after}
+use Rattle.block_layout.specs.Batches.{dropped_by, outcomes_all, layout_after, sum_below}
+use Rattle.shard_work.specs.Births.{births_end}
+use Rattle.graph_version.specs.Versions.{is_in}
 use Rattle.shard_work.specs.Shards.{IsPlace, key_at, resolved_at}
 use Rattle.shard_work.specs.Done.{IsShardDone, sources_in, steps_in, rows_by, layout_by, sum_of}
 use Rattle.shard_work.specs.declared.shard.Shard.{Shard}
@@ -199,6 +201,21 @@ module _ (workers : ℕ) (ops : List NamedOp) (g : Graph) where
         ∙ unnamed_rows (shard_ops workers (m % workers) (resolved ops g.names g.kinds)) (opened layout) m unnamed)
         ∙ kept_all (layout m)
 
+    -- nor does it get other births, or drop any
+    pub quiet_row : (m : ℕ) → times m (sources_all shards) ≡ 0 → left m ≡ map untouched (layout m)
+    quiet_row m none =
+        let lt = mod-lt m positive in
+        let s = pick 0 workers (m % workers) shards planned (omega arith) (omega arith) in
+        let few = s.1.1 m in
+        let unnamed = unlisted (m % workers) m s.0 s.1.0 (omega arith) in
+        sym (shard_rows workers (m % workers) ops g.names g.kinds (opened layout) m (same_number (m % workers)))
+        ∙ unnamed_rows (shard_ops workers (m % workers) (resolved ops g.names g.kinds)) (opened layout) m unnamed
+
+    pub births_sum : (f : ℕ → List OpenBlock → ℕ) → ((m : ℕ) → f m (map untouched (layout m)) ≡ 0)
+        → sum_by (λ m. f m (left m)) (sources_all shards) ≡ sum_below n (λ m. f m (left m))
+    births_sum f none = sum_all (λ m. f m (left m)) n (sources_all shards) (λ m. all_once 0 workers m shards planned)
+        (all_within 0 workers shards planned) (λ m lt quiet_m. ap (f m) (quiet_row m quiet_m) ∙ none m)
+
     pub taken_sum : sum_by (λ m. taken_in (left m)) (sources_all shards) ≡ taken_by ops g layout n
     taken_sum = sum_all (λ m. taken_in (left m)) n (sources_all shards) (λ m. all_once 0 workers m shards planned)
         (all_within 0 workers shards planned) (λ m lt none. (quiet m none).0)
@@ -233,6 +250,28 @@ module _ (workers : ℕ) (ops : List NamedOp) (g : Graph) where
       (λ i e lt. ap f (worker_rows workers a ops g s z.0 (opened (layout_by before)) (get_or (sources_in s) i e)
       (ap (λ b. b == a) (z.0.own i e lt) ∙ same_number a))))
       (together before f count each (a + 1) k shards dones z.1 d.1)
+      ∙ sym (sum_by-append all (sources_in s) (sources_all shards))
+
+  -- the same of counts that depend on the source
+  pub together_at : (before : ℕ → List BlockView) (f : ℕ → List OpenBlock → ℕ) (count : ShardDone → ℕ)
+      → ((shard : Shard) (done : ShardDone) → IsShardDone before shard done
+      → count done ≡ sum_of (λ m. f m (rows_by before shard m)) (sources_in shard))
+      → (a k : ℕ) (shards : List Shard) (dones : List ShardDone) → Zipped a k shards → AllZip (IsShardDone before) shards dones
+      → sum_by count dones ≡ sum_by (λ m. f m (rows_all (resolved ops g.names g.kinds) (opened (layout_by before)) m))
+      (sources_all shards)
+  together_at before f count each a zero [] [] z d = refl
+  together_at before f count each a zero [] (x ∷ dones) z d = absurd d
+  together_at before f count each a zero (s ∷ shards) dones z d = absurd z
+  together_at before f count each a (suc k) [] dones z d = absurd z
+  together_at before f count each a (suc k) (s ∷ shards) [] z d = absurd d
+  together_at before f count each a (suc k) (s ∷ shards) (x ∷ dones) z d =
+      let all : ℕ → ℕ = λ m. f m (rows_all (resolved ops g.names g.kinds) (opened (layout_by before)) m) in
+      sum_by-cons count x dones
+      ∙ ap₂ (λ a b. a + b)
+      (each s x d.0 ∙ sum_same (λ m. f m (rows_by before s m)) all (sources_in s)
+      (λ i e lt. ap (f (get_or (sources_in s) i e)) (worker_rows workers a ops g s z.0 (opened (layout_by before))
+      (get_or (sources_in s) i e) (ap (λ b. b == a) (z.0.own i e lt) ∙ same_number a))))
+      (together_at before f count each (a + 1) k shards dones z.1 d.1)
       ∙ sym (sum_by-append all (sources_in s) (sources_all shards))
 
 -- all workers together take and drop as many blocks as the layout rule says of the batch, for every number of workers
@@ -275,3 +314,19 @@ module _ (workers w : ℕ) (ops : List NamedOp) (g : Graph) (before : ℕ → Li
       let own : r.0 % workers ≡ w = ap (λ s. s % workers) (sym source) ∙ planned.own k 0 within in
       is.layout k d lt ∙ ap row_end (worker_rows workers w ops g shard planned (opened (layout_by before)) r.0
       (ap (λ b. b == w) own ∙ same_number w))
+
+  -- a shard's rows have the births that the batch leaves
+  pub shard_births_at : (f h : BlockView → ℕ) (n : ℕ) → ((b : BlockView) → is_in b.number done.left.taken.items ≡ true → h b ≡ n)
+      → All (λ r. All (λ b. h b ≡ f b) (before r.0) → map h r.1
+      ≡ births_end n (rows_all (resolved ops g.names g.kinds) (opened (layout_by before)) r.0) (map f (before r.0)))
+      (row_values done.rows.items)
+  shard_births_at f h n each k d lt = λ old.
+      let r : ℕ × List BlockView = get_or (row_values done.rows.items) k d in
+      let long : length (map (λ (r : ℕ × List BlockView). r.0) (row_values done.rows.items))
+      ≡ length (row_values done.rows.items) = length-map (row_values done.rows.items) (λ (r : ℕ × List BlockView). r.0) in
+      let source : get_or (sources_in shard) k 0 ≡ r.0 = ap (λ ss. get_or ss k 0) (sym is.sources_are)
+      ∙ get_or-map (λ (r : ℕ × List BlockView). r.0) (row_values done.rows.items) k d 0 lt in
+      let within : k < length (sources_in shard) = omega (arith, ap length is.sources_are) in
+      let own : r.0 % workers ≡ w = ap (λ s. s % workers) (sym source) ∙ planned.own k 0 within in
+      is.births f h n each k d lt old ∙ ap (λ row. births_end n row (map f (before r.0)))
+      (worker_rows workers w ops g shard planned (opened (layout_by before)) r.0 (ap (λ b. b == w) own ∙ same_number w))

@@ -1,9 +1,10 @@
 -- What applying a batch to a version leaves.
-use Rattle.std.specs.Prelude.{◌≡◌, ℕ, ◌+◌, ◌==◌, List, [], ◌∷◌, ◌++◌, length, count_by, Bool, if◌then◌else◌}
+use Rattle.std.specs.Prelude.{◌≡◌, ℕ, ◌+◌, ◌==◌, List, [], ◌∷◌, ◌++◌, length, map, count_by, All, Bool, true, if◌then◌else◌}
 use Rattle.graph_model.specs.Step.{after_all, outcomes}
 use Rattle.graph_model.specs.declared.batches.NamedOp.{NamedOp}
 use Rattle.edge_block.specs.Slots.{BlockView}
 use Rattle.block_layout.specs.Batches.{layout_after, taken_by, dropped_by}
+use Rattle.shard_work.specs.Births.{CarriesBirths}
 use Rattle.row_pages.specs.Rows.{row_of, blocks_of}
 use Rattle.shard_work.specs.RowBlocks as shared
 use Rattle.shard_work.specs.Done.{Exchanges}
@@ -31,6 +32,8 @@ pub record IsApplied (v : VersionView) (ops : List NamedOp) (numbers : List ℕ)
   pub taken_are : length a.taken.items ≡ taken_by ops (content v) (layout_of v.rows) (length (after_all ops (content v)).names)
   pub dropped_are : length a.dropped.items ≡ dropped_by ops (content v) (layout_of v.rows)
       (length (after_all ops (content v)).names)
+  -- the rule of births
+  pub births : CarriesBirths v ops a.version a.taken.items (shared.blocks_of a.dropped.items)
 
 -- a source's row where these rows took the places of those before, one after another
 abbrev pub row_among : List (ℕ × List BlockView) → ℕ → List BlockView → List BlockView

@@ -30,7 +30,9 @@ use Rattle.shard_work.specs.Groups.{is_past}
 use Rattle.shard_work.specs.Progress.{AreOutcomes, AreRowsDone}
 use Rattle.shard_work.specs.declared.shard.Place.{Place}
 use Rattle.shard_work.specs.declared.shard.Step.{Step}
-use Rattle.graph_version.specs.Versions.{IsBlockOf}
+use Rattle.graph_version.specs.Versions.{IsBlockOf, is_in}
+use Rattle.shard_work.specs.Births.{births_end, births_dropped}
+use Rattle.shard_work.proofs.Dating.{all_births, all_dropped, written_births}
 use Rattle.shard_work.specs.Done.{AreBlockRows, IsShardDone, sum_of, layout_by, rows_by, sources_in}
 use Rattle.shard_work.specs.declared.shard.Shard.{Shard}
 use Rattle.shard_work.specs.declared.shard.ShardDone.{ShardDone}
@@ -312,6 +314,7 @@ none_yet rows sources steps fresh done outs closed taken dropped unused = record
       ≡ rows_all (resolved_in sources steps) (opened (layout_by rows)) r.source.0);
   own = All-nil (λ (r : OpenRow). All (IsOf r.source.0) r.blocks.items);
   had = refl;
+  had_each = All-nil (λ (r : OpenRow). had_in r.blocks.items ≡ rows r.source.0);
   numbers = λ q. omega arith;
   outcomes = subst (AreOutcomes sources steps rows 0) (sym outs) (none_written rows sources steps);
   closed = ap row_values closed;
@@ -389,6 +392,12 @@ module _ (rows : ℕ → List BlockView) (shard : Shard) (before done : ShardDon
         dropped_are = sym (length-map done.left.dropped.items block_of) ∙ ap length dropped
             ∙ sum_open dropped_here dropped_in (rows_by rows shard) length-dropped w d.layout ∙ ap
             (sum_of (λ source. dropped_in (rows_by rows shard source))) ss;
+        births = λ f g n each. subst (λ rs. All (λ r. All (λ b. g b ≡ f b) (rows r.0)
+            → map g r.1 ≡ births_end n (rows_by rows shard r.0) (map f (rows r.0))) rs) (sym closed)
+            (all_births f g n (rows_by rows shard) rows w d.layout d.had_each
+            (written_births f g n (written_all w) (λ b is. each b (ap (is_in b.number) taken ∙ is))));
+        dropped_births = λ f. ap (map f) dropped ∙ all_dropped f (rows_by rows shard) rows w d.layout d.had_each
+            ∙ ap (flat_map (λ source. births_dropped (rows_by rows shard source) (map f (rows source)))) ss;
         handed = λ q.
             let t : count_by q done.left.taken.items ≡ count_by q (map (λ b. b.number) (written_all w)) = ap (count_by q) taken in
             let u : count_by q (numbers_of done.left.unused.items) ≡ count_by q (unused_all w) + count_by q (numbers_of fresh) =

@@ -73,6 +73,8 @@ module _ (rows : ℕ → List BlockView) (sources : List ℕ) (steps : List Step
       own = All-push (λ (r : OpenRow). All (IsOf r.source.0) r.blocks.items) d.work r d.own own;
       had = one_piece (λ (r : OpenRow). had_in r.blocks.items) d.work r ∙ ap₂ (λ a b. a ++ b) d.had had
           ∙ sym (ap (flat_map rows) taken ∙ one_piece rows (take row sources) start.source.0);
+      had_each = All-push (λ (r : OpenRow). had_in r.blocks.items ≡ rows r.source.0) d.work r d.had_each
+          (had ∙ ap (λ s. rows s.0) (sym source));
       numbers = λ q.
           let all = ap (count_by q) (one_piece (λ (r : OpenRow). own_in r.blocks.items) d.work r)
           ∙ count_by-append q (own_all d.work) (own_in r.blocks.items) in

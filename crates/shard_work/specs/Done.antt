@@ -1,7 +1,8 @@
 -- What a shard must leave of a version's rows.
-use Rattle.std.specs.Prelude.{◌≡◌, ℕ, ◌+◌, List, map, flat_map, zip, length, count_by, All, Bool}
+use Rattle.std.specs.Prelude.{◌≡◌, ℕ, ◌+◌, List, map, flat_map, zip, length, count_by, All, Bool, true}
 use Rattle.edge_block.specs.Slots.{BlockView}
-use Rattle.graph_version.specs.Versions.{IsBlockOf}
+use Rattle.graph_version.specs.Versions.{IsBlockOf, is_in}
+use Rattle.shard_work.specs.Births.{births_end, births_dropped}
 use Rattle.block_layout.specs.Rows.{OpenBlock, Shape, shape_of, row_end, taken_in, dropped_in}
 use Rattle.block_layout.specs.Batches.{Resolved, rows_all, outcomes_all, opened}
 use Rattle.shard_work.specs.RowBlocks.{blocks_of, numbers_of}
@@ -55,6 +56,13 @@ pub record IsShardDone (rows : ℕ → List BlockView) (shard : Shard) (done : S
       done.left.taken.items (blocks_of done.left.dropped.items)
   pub taken_are : length done.left.taken.items ≡ sum_of (λ source. taken_in (rows_by rows shard source)) (sources_in shard)
   pub dropped_are : length done.left.dropped.items ≡ sum_of (λ source. dropped_in (rows_by rows shard source)) (sources_in shard)
+  -- whatever the birth f of a block before, and g of one after, which is n for those with taken numbers: g goes over each row
+  -- as the rule of births says, and the dropped blocks are those that it says
+  pub births : (f g : BlockView → ℕ) (n : ℕ) → ((b : BlockView) → is_in b.number done.left.taken.items ≡ true → g b ≡ n)
+      → All (λ r. All (λ b. g b ≡ f b) (rows r.0) → map g r.1 ≡ births_end n (rows_by rows shard r.0) (map f (rows r.0)))
+      (row_values done.rows.items)
+  pub dropped_births : (f : BlockView → ℕ) → map f (blocks_of done.left.dropped.items)
+      ≡ flat_map (λ source. births_dropped (rows_by rows shard source) (map f (rows source))) (sources_in shard)
   -- each number handed in is taken or handed back
   pub handed : (q : ℕ → Bool) → count_by q done.left.taken.items + count_by q (numbers_of done.left.unused.items)
       ≡ count_by q (numbers_of shard.fresh.items)

@@ -1,3 +1,4 @@
+pub mod Births
 pub mod RowBlocks
 pub mod Notes
 pub mod Room

@@ -1,12 +1,12 @@
 -- What a shard has left once the rows of its first sources are done.
-use Rattle.std.specs.Prelude.{◌≡◌, ℕ, ◌<◌, List, [], map, flat_map, take, length, get_or, false}
+use Rattle.std.specs.Prelude.{All, ◌≡◌, ℕ, ◌<◌, List, [], map, flat_map, take, length, get_or, false}
 use Rattle.std.specs.declared.sync.Arc.{Arc}
 use Rattle.std.specs.declared.alloc.Global.{Global}
 use Rattle.graph_model.specs.declared.batches.Outcome.{Outcome}
 use Rattle.edge_block.specs.declared.blocks.Block.{Block}
 use Rattle.edge_block.specs.Slots.{BlockView}
 use Rattle.block_layout.specs.Batches.{rows_all, opened}
-use Rattle.shard_work.specs.RowBlocks.{blocks_of, numbers_of, HaveSame}
+use Rattle.shard_work.specs.RowBlocks.{blocks_of, numbers_of, had_in, HaveSame}
 use Rattle.shard_work.specs.Closing.{row_values, closed_rows, written_all, dropped_all, unused_all}
 use Rattle.shard_work.specs.Shards.{AreOpen, AreOwn, resolved_in, sources_of, had_all, own_all}
 use Rattle.shard_work.specs.Groups.{is_past, IsOutcome}
@@ -30,6 +30,7 @@ pub record AreRowsDone (rows : ℕ → List BlockView) (sources : List ℕ) (ste
   pub layout : AreOpen (rows_all (resolved_in sources steps) (opened (layout_by rows))) work
   pub own : AreOwn work
   pub had : had_all work ≡ flat_map rows (take count sources)
+  pub had_each : All (λ r. had_in r.blocks.items ≡ rows r.source.0) work
   pub numbers : HaveSame (own_all work) (numbers_of fresh) handed []
   pub outcomes : AreOutcomes sources steps rows count done.outcomes.items
   pub closed : row_values done.rows.items ≡ closed_rows work
