@@ -3,6 +3,7 @@
 use crate::edges::{Edges, Shape};
 use batch_apply::PassAll;
 use graph_model::{Batch, Name, NamedOp};
+use pin_copy::PinCopy;
 use std::alloc::{AllocError, Global};
 use std::io;
 use std::sync::Wait;
@@ -75,7 +76,11 @@ pub(crate) fn apply_alone<R: Threads + Wait + Sync>(
 /// Recycles what was retired, and tells how many blocks that were.
 pub(crate) fn collect_all(desk: &mut Desk) -> u32 {
     let number = desk.stat().number;
-    desk.collect(number).recycled
+    let copy = PinCopy {
+        last: number,
+        ..PinCopy::none()
+    };
+    desk.collect(&copy).recycled
 }
 
 /// Applies a batch, and recycles what it retired.

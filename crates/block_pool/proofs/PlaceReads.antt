@@ -3,7 +3,7 @@ use Rattle.std.proofs.Common.{◌≡◌, ℕ, ◌<◌, length, get_or, sym, ap, 
 use Rattle.std.proofs.lemmas.List.{get_or_read, get_or-map, length-map}
 use Rattle.block_pool.specs.declared.numbers.Place.{Place}
 use Rattle.block_pool.specs.declared.numbers.Numbers.{Numbers}
-use Rattle.block_pool.specs.Pools.{Used, is_retired}
+use Rattle.block_pool.specs.Pools.{Granted, is_retired}
 use Rattle.block_pool.specs.Kept.{statuses, status_from, status_of, IsKept}
 use Rattle.block_pool.proofs.Tallies.{listed_at}
 
@@ -25,6 +25,6 @@ status_read n k at r p lt e f =
     let same : r ≡ get_or n.retired.items at 0 =
     get_or_read n.retired.items at r (omega (arith, k.retired_in, k.retired_room)) e 0 in
     let here : status_of (statuses n) (get_or n.retired.items at 0) ≡ status_from p =
-    ap (status_of (statuses n)) (sym same) ∙ get_or-map status_from n.places.items r p Used (number_within n k at r lt e)
+    ap (status_of (statuses n)) (sym same) ∙ get_or-map status_from n.places.items r p Granted (number_within n k at r lt e)
     ∙ ap status_from (sym f) in
     (here, sym (ap is_retired here) ∙ a.1)

@@ -8,7 +8,11 @@ use Rattle.std.specs.Prelude.{slice_get}
 use Rattle.std.proofs.lemmas.List.Sums.{sum_by-cons, sum_by-append}
 use Rattle.std.proofs.lemmas.List.{take_more, take_more_set, length-map, map-set, get_or-set_same, get_or-set_other}
 use Rattle.std.proofs.Math.ListN.{length-set}
-use Rattle.block_pool.specs.Pools.{Status, Free, Used, Retired, is_free, is_used, is_retired, is_past, recycled, passes}
+use Rattle.pin_copy.specs.declared.copies.PinCopy.{PinCopy}
+use Rattle.pin_copy.specs.Copies.{needs, reach_of}
+use Rattle.pin_copy.proofs.Least.{reach_needed}
+use Rattle.block_pool.specs.Pools.{Status, Free, Granted, Used, Retired, is_free, is_used, is_born, is_retired, is_past, recycled}
+use Rattle.block_pool.specs.Pools.{passes}
 use Rattle.block_pool.specs.Kept.{status_of, tally, Lists}
 
 pub count_more : {A : Type 0} (p : A → Bool) (x : A) (xs : List A) → count_by p (x ∷ xs) ≡ cond (p x) 1 0 + count_by p xs
@@ -84,7 +88,7 @@ module _ (p : Status → Bool) (pool : List Status) (ns : List ℕ) (are : Lists
   module _ (k : ℕ) (s : Status) (lt : k < length pool) where
     set_tally : (q : ℕ → Bool) → tally p q 0 (set pool k s) + cond (p (status_of pool k) && q k) 1 0 ≡ tally p q 0 pool
         + cond (p s && q k) 1 0
-    set_tally q = let z : 0 + k ≡ k = omega arith in rw z at (tally_set p q 0 pool k s Used lt)
+    set_tally q = let z : 0 + k ≡ k = omega arith in rw z at (tally_set p q 0 pool k s Granted lt)
 
     pub lists_more : p (status_of pool k) ≡ false → p s ≡ true → Lists p (set pool k s) (ns ++ k ∷ [])
     lists_more a b q =
@@ -111,7 +115,7 @@ module _ (p : Status → Bool) (pool : List Status) (ns : List ℕ) (are : Lists
         omega arith
 
     pub lists_room : p (status_of pool k) ≡ false → length ns < length pool
-    lists_room a = let c = count_lt p pool k Used lt a in let l = listed_count in omega arith
+    lists_room a = let c = count_lt p pool k Granted lt a in let l = listed_count in omega arith
 
 take_set_below : (m : ℕ) (ns : List ℕ) (at y : ℕ) → at < m → take m (set ns at y) ≡ set (take m ns) at y
 take_set_below zero ns at y lt = absurd (omega arith)
@@ -139,8 +143,8 @@ listed_at p pool n room are le i lt =
     let short : i < length (take n room) = omega (arith, Rattle.std.proofs.Common.length-take n room) in
     let once = count_at (λ k. k == r) (take n room) i 0 short (ap (λ k. k == r) here ∙ same_number r) in
     let same = are (λ k. k == r) in
-    let at = tally_at p r 0 pool Used (omega arith) in
-    (omega (arith, at.1), subst (λ k. p (get_or pool k Used) ≡ true) (let z : r - 0 ≡ r = omega arith in z) at.2)
+    let at = tally_at p r 0 pool Granted (omega arith) in
+    (omega (arith, at.1), subst (λ k. p (get_or pool k Granted) ≡ true) (let z : r - 0 ≡ r = omega arith in z) at.2)
 
 -- and each number whose status passes is listed
 pub at_listed : (p : Status → Bool) (pool : List Status) (n : ℕ) (room : List ℕ) → Lists p pool (take n room) → n ≤ length room
@@ -149,7 +153,7 @@ pub at_listed : (p : Status → Bool) (pool : List Status) (n : ℕ) (room : Lis
 at_listed p pool n room are le k lt e =
     let same = are (λ j. j == k) in
     let z : 0 + k ≡ k = omega arith in
-    let one : 1 ≤ tally p (λ j. j == k) 0 pool = rw z at (tally_has p k 0 pool Used lt e) in
+    let one : 1 ≤ tally p (λ j. j == k) 0 pool = rw z at (tally_has p k 0 pool Granted lt e) in
     let found = found_at k (take n room) (omega arith) in
     let short : found.0 < n = omega (arith, found.1.0, Rattle.std.proofs.Common.length-take n room) in
     (found.0, (short, sym (Rattle.std.proofs.lemmas.List.get_or-take n room found.0 0 short) ∙ found.1.1))
@@ -210,73 +214,76 @@ count_swap q ns at m le lt =
 
 pub retired_not_free : (s : Status) → is_retired s ≡ true → is_free s ≡ false
 retired_not_free Free e = absurd (false≢true e)
-retired_not_free Used e = refl
-retired_not_free (Retired v) e = refl
+retired_not_free Granted e = refl
+retired_not_free (Used birth) e = refl
+retired_not_free (Retired birth since) e = refl
 
-pub past_retired : (floor : ℕ) (s : Status) → is_retired s ≡ false → is_past floor s ≡ false
-past_retired floor Free e = refl
-past_retired floor Used e = refl
-past_retired floor (Retired v) e = absurd (true≢false e)
+pub past_retired : (copy : PinCopy) (s : Status) → is_retired s ≡ false → is_past copy s ≡ false
+past_retired copy Free e = refl
+past_retired copy Granted e = refl
+past_retired copy (Used birth) e = refl
+past_retired copy (Retired birth since) e = absurd (true≢false e)
 
 -- recycling, one number at a time
-module _ (floor : ℕ) where
-  due_free : (s : Status) → is_past floor s ≡ true → recycled floor Free ≡ recycled floor s
+module _ (copy : PinCopy) where
+  due_free : (s : Status) → is_past copy s ≡ true → recycled copy Free ≡ recycled copy s
   due_free s e = ap (λ b. cond b Free s) (sym e)
 
-  pub recycled_set : (pool : List Status) (k : ℕ) → is_past floor (status_of pool k) ≡ true
-      → map (recycled floor) (set pool k Free) ≡ map (recycled floor) pool
-  recycled_set pool k e = Rattle.std.proofs.Math.Seq.map-set_same (recycled floor) pool k Free Used
+  pub recycled_set : (pool : List Status) (k : ℕ) → is_past copy (status_of pool k) ≡ true
+      → map (recycled copy) (set pool k Free) ≡ map (recycled copy) pool
+  recycled_set pool k e = Rattle.std.proofs.Math.Seq.map-set_same (recycled copy) pool k Free Granted
       (due_free (status_of pool k) e)
 
-  pub past_set : (pool : List Status) (k : ℕ) → k < length pool → is_past floor (status_of pool k) ≡ true
-      → count_by (is_past floor) (set pool k Free) + 1 ≡ count_by (is_past floor) pool
+  pub past_set : (pool : List Status) (k : ℕ) → k < length pool → is_past copy (status_of pool k) ≡ true
+      → count_by (is_past copy) (set pool k Free) + 1 ≡ count_by (is_past copy) pool
   past_set pool k lt e =
-      let s = Rattle.std.proofs.lemmas.List.Sums.sum_by-set (λ s. cond (is_past floor s) 1 0) pool k Free Used lt in
-      let one : (let x : ℕ = cond (is_past floor (status_of pool k)) 1 0 in x) ≡ 1 = ap (λ b. cond b 1 0) e in
+      let s = Rattle.std.proofs.lemmas.List.Sums.sum_by-set (λ s. cond (is_past copy s) 1 0) pool k Free Granted lt in
+      let one : (let x : ℕ = cond (is_past copy (status_of pool k)) 1 0 in x) ≡ 1 = ap (λ b. cond b 1 0) e in
       omega arith
 
-  pub not_past_set : (pool : List Status) (r m : ℕ) → is_past floor (status_of pool m) ≡ false
-      → is_past floor (status_of (set pool r Free) m) ≡ false
+  pub not_past_set : (pool : List Status) (r m : ℕ) → is_past copy (status_of pool m) ≡ false
+      → is_past copy (status_of (set pool r Free) m) ≡ false
   not_past_set pool r m e =
-      elim (m == r) as (λ b. m == r ≡ b → is_past floor (status_of (set pool r Free) m) ≡ false) [
+      elim (m == r) as (λ b. m == r ≡ b → is_past copy (status_of (set pool r Free) m) ≡ false) [
         | true ↦ λ t. free_at pool r m (eqb-true m r t) e
-        | false ↦ λ t. ap (is_past floor) (get_or-set_other pool r m Free Used (eqb-false m r t)) ∙ e
+        | false ↦ λ t. ap (is_past copy) (get_or-set_other pool r m Free Granted (eqb-false m r t)) ∙ e
       ] refl
     where
-      free_at : (pool : List Status) (r m : ℕ) → m ≡ r → is_past floor (status_of pool m) ≡ false
-          → is_past floor (status_of (set pool r Free) m) ≡ false
+      free_at : (pool : List Status) (r m : ℕ) → m ≡ r → is_past copy (status_of pool m) ≡ false
+          → is_past copy (status_of (set pool r Free) m) ≡ false
       free_at [] r m same e = e
-      free_at (s ∷ pool) zero m same e = ap (λ k. is_past floor (get_or (Free ∷ pool) k Used)) same
+      free_at (s ∷ pool) zero m same e = ap (λ k. is_past copy (get_or (Free ∷ pool) k Granted)) same
       free_at (s ∷ pool) (suc r) zero same e = absurd (omega arith)
       free_at (s ∷ pool) (suc r) (suc m) same e = free_at pool r m (omega arith) e
 
-  pub none_past : (pool : List Status) → ((k : ℕ) → k < length pool → is_past floor (status_of pool k) ≡ false)
-      → (map (recycled floor) pool ≡ pool) × (count_by (is_past floor) pool ≡ 0)
+  pub none_past : (pool : List Status) → ((k : ℕ) → k < length pool → is_past copy (status_of pool k) ≡ false)
+      → (map (recycled copy) pool ≡ pool) × (count_by (is_past copy) pool ≡ 0)
   none_past [] none = (refl, refl)
   none_past (s ∷ pool) none =
-      let here : is_past floor s ≡ false = none 0 (omega arith) in
+      let here : is_past copy s ≡ false = none 0 (omega arith) in
       let rest = none_past pool (λ k lt. none (suc k) (omega arith)) in
-      let m = count_more (is_past floor) s pool in
-      let zero_here : (let x : ℕ = cond (is_past floor s) 1 0 in x) ≡ 0 = ap (λ b. cond b 1 0) here in
+      let m = count_more (is_past copy) s pool in
+      let zero_here : (let x : ℕ = cond (is_past copy s) 1 0 in x) ≡ 0 = ap (λ b. cond b 1 0) here in
       let c = rest.1 in
       (ap₂ (λ x xs. x ∷ xs) (ap (λ b. cond b Free s) here) rest.0, omega arith)
 
   -- where no listed number is due, none is
   pub all_checked : (pool : List Status) (n : ℕ) (room : List ℕ) → Lists is_retired pool (take n room) → n ≤ length room
-      → ((i : ℕ) → i < n → is_past floor (status_of pool (get_or room i 0)) ≡ false) → (k : ℕ) → k < length pool
-      → is_past floor (status_of pool k) ≡ false
+      → ((i : ℕ) → i < n → is_past copy (status_of pool (get_or room i 0)) ≡ false) → (k : ℕ) → k < length pool
+      → is_past copy (status_of pool k) ≡ false
   all_checked pool n room are le checked k lt =
       elim (is_retired (status_of pool k)) as (λ b. is_retired (status_of pool k) ≡ b
-      → is_past floor (status_of pool k) ≡ false) [
+      → is_past copy (status_of pool k) ≡ false) [
         | true ↦ λ t. let i = at_listed is_retired pool n room are le k lt t in
-            subst (λ j. is_past floor (status_of pool j) ≡ false) i.1.1 (checked i.0 i.1.0)
-        | false ↦ λ t. past_retired floor (status_of pool k) t
+            subst (λ j. is_past copy (status_of pool j) ≡ false) i.1.1 (checked i.0 i.1.0)
+        | false ↦ λ t. past_retired copy (status_of pool k) t
       ] refl
 
 pub free_not_retired : (s : Status) → is_free s ≡ true → is_retired s ≡ false
 free_not_retired Free e = refl
-free_not_retired Used e = absurd (false≢true e)
-free_not_retired (Retired v) e = absurd (false≢true e)
+free_not_retired Granted e = absurd (false≢true e)
+free_not_retired (Used birth) e = absurd (false≢true e)
+free_not_retired (Retired birth since) e = absurd (false≢true e)
 
 -- a number whose status passes is one of the pool's
 pub within_pool : (p : Status → Bool) (pool : List Status) (n : ℕ) → passes p (slice_get pool n) ≡ true
@@ -291,38 +298,67 @@ passes_at p [] n lt e = absurd (omega arith)
 passes_at p (s ∷ pool) zero lt e = e
 passes_at p (s ∷ pool) (suc n) lt e = passes_at p pool n (omega arith) e
 
-used_is : (s : Status) → is_used s ≡ true → s ≡ Used
-used_is Free e = absurd (false≢true e)
-used_is Used e = refl
-used_is (Retired v) e = absurd (false≢true e)
+-- a used status is neither free nor retired
+pub used_not_free : (s : Status) → is_used s ≡ true → is_free s ≡ false
+used_not_free Free e = absurd (false≢true e)
+used_not_free Granted e = refl
+used_not_free (Used birth) e = refl
+used_not_free (Retired birth since) e = absurd (false≢true e)
 
-pub used_at : (pool : List Status) (n : ℕ) → passes is_used (slice_get pool n) ≡ true
-    → (n < length pool) × (status_of pool n ≡ Used)
-used_at pool n e = let at = within_pool is_used pool n e in (at.0, used_is (status_of pool n) at.1)
+pub used_not_retired : (s : Status) → is_used s ≡ true → is_retired s ≡ false
+used_not_retired Free e = absurd (false≢true e)
+used_not_retired Granted e = refl
+used_not_retired (Used birth) e = refl
+used_not_retired (Retired birth since) e = absurd (false≢true e)
 
--- a version past the floor
-pub later : (version floor : ℕ) → floor < version → is_past floor (Retired version) ≡ false
-later version floor lt = grind (arith, nat_tests)
+pub record IsUsedAt (pool : List Status) (n : ℕ) : Type 0 where
+  pub within : n < length pool
+  pub not_free : is_free (status_of pool n) ≡ false
+  pub not_retired : is_retired (status_of pool n) ≡ false
 
-pub due : (version floor : ℕ) → version ≤ floor → is_past floor (Retired version) ≡ true
-due version floor le = grind (arith, nat_tests)
+pub used_at : (pool : List Status) (n : ℕ) → passes is_used (slice_get pool n) ≡ true → IsUsedAt pool n
+used_at pool n e = let at = within_pool is_used pool n e in record {
+  within = at.0;
+  not_free = used_not_free (status_of pool n) at.1;
+  not_retired = used_not_retired (status_of pool n) at.1;
+}
+
+born_is : (s : Status) → is_born s ≡ true → (birth : ℕ) × (s ≡ Used birth)
+born_is Free e = absurd (false≢true e)
+born_is Granted e = absurd (false≢true e)
+born_is (Used birth) e = (birth, refl)
+born_is (Retired birth since) e = absurd (false≢true e)
+
+pub born_at : (pool : List Status) (n : ℕ) → passes is_born (slice_get pool n) ≡ true
+    → (n < length pool) × ((birth : ℕ) × (status_of pool n ≡ Used birth))
+born_at pool n e = let at = within_pool is_born pool n e in (at.0, born_is (status_of pool n) at.1)
+
+-- what a copy doesn't reach, and what it needs, isn't due
+pub later : (birth since : ℕ) (copy : PinCopy) → reach_of copy < since → is_past copy (Retired birth since) ≡ false
+later birth since copy lt = ap not (reach_needed copy birth since lt)
+
+pub kept_back : (birth since : ℕ) (copy : PinCopy) → needs copy birth since ≡ true → is_past copy (Retired birth since) ≡ false
+kept_back birth since copy is = ap not is
+
+pub due : (birth since : ℕ) (copy : PinCopy) → needs copy birth since ≡ false → is_past copy (Retired birth since) ≡ true
+due birth since copy is = ap not is
 
 -- where nothing is due, a status that isn't due changes nothing of that
-pub none_set : (floor : ℕ) (pool : List Status) (k : ℕ) (s : Status) → k < length pool → is_past floor s ≡ false
-    → count_by (is_past floor) pool ≡ 0 → count_by (is_past floor) (set pool k s) ≡ 0
-none_set floor pool k s lt e none =
-    let c = Rattle.std.proofs.lemmas.List.Sums.sum_by-set (λ s. cond (is_past floor s) 1 0) pool k s Used lt in
-    let z : (let x : ℕ = cond (is_past floor s) 1 0 in x) ≡ 0 = ap (λ b. cond b 1 0) e in
+pub none_set : (copy : PinCopy) (pool : List Status) (k : ℕ) (s : Status) → k < length pool → is_past copy s ≡ false
+    → count_by (is_past copy) pool ≡ 0 → count_by (is_past copy) (set pool k s) ≡ 0
+none_set copy pool k s lt e none =
+    let c = Rattle.std.proofs.lemmas.List.Sums.sum_by-set (λ s. cond (is_past copy s) 1 0) pool k s Granted lt in
+    let z : (let x : ℕ = cond (is_past copy s) 1 0 in x) ≡ 0 = ap (λ b. cond b 1 0) e in
     omega arith
 
 -- where nothing is due, recycling changes nothing
-pub none_recycled : (floor : ℕ) (pool : List Status) → count_by (is_past floor) pool ≡ 0 → map (recycled floor) pool ≡ pool
-none_recycled floor [] none = refl
-none_recycled floor (s ∷ pool) none =
-    let m = count_more (is_past floor) s pool in
-    let rest : map (recycled floor) pool ≡ pool = none_recycled floor pool (omega arith) in
-    elim (is_past floor s) as (λ b. is_past floor s ≡ b → map (recycled floor) (s ∷ pool) ≡ s ∷ pool) [
-      | true ↦ λ t. let one : (let x : ℕ = cond (is_past floor s) 1 0 in x) ≡ 1 = ap (λ b. cond b 1 0) t in absurd (omega arith)
+pub none_recycled : (copy : PinCopy) (pool : List Status) → count_by (is_past copy) pool ≡ 0 → map (recycled copy) pool ≡ pool
+none_recycled copy [] none = refl
+none_recycled copy (s ∷ pool) none =
+    let m = count_more (is_past copy) s pool in
+    let rest : map (recycled copy) pool ≡ pool = none_recycled copy pool (omega arith) in
+    elim (is_past copy s) as (λ b. is_past copy s ≡ b → map (recycled copy) (s ∷ pool) ≡ s ∷ pool) [
+      | true ↦ λ t. let one : (let x : ℕ = cond (is_past copy s) 1 0 in x) ≡ 1 = ap (λ b. cond b 1 0) t in absurd (omega arith)
       | false ↦ λ t. ap₂ (λ x xs. x ∷ xs) (ap (λ b. cond b Free s) t) rest
     ] refl
 
@@ -339,8 +375,9 @@ all_parts (s ∷ pool) =
   where
     one_part : (s : Status) → (let x : ℕ = cond (is_free s) 1 0 in x) + cond (is_used s) 1 0 + cond (is_retired s) 1 0 ≡ 1
     one_part Free = refl
-    one_part Used = refl
-    one_part (Retired v) = refl
+    one_part Granted = refl
+    one_part (Used birth) = refl
+    one_part (Retired birth since) = refl
 
 pub tally_last : (p : Status → Bool) (q : ℕ → Bool) (i : ℕ) (pool : List Status) (s : Status)
     → tally p q i (pool ++ s ∷ []) ≡ tally p q i pool + cond (p s && q (i + length pool)) 1 0
@@ -370,9 +407,9 @@ pub none_retired : (q : ℕ → Bool) (i k : ℕ) → tally is_retired q i (repl
 none_retired q i zero = refl
 none_retired q i (suc k) = let rest = none_retired q (i + 1) k in omega arith
 
-pub none_due : (floor k : ℕ) → count_by (is_past floor) (replicate k Free) ≡ 0
-none_due floor zero = refl
-none_due floor (suc k) = let m = count_more (is_past floor) Free (replicate k Free) in let rest = none_due floor k in omega arith
+pub none_due : (copy : PinCopy) (k : ℕ) → count_by (is_past copy) (replicate k Free) ≡ 0
+none_due copy zero = refl
+none_due copy (suc k) = let m = count_more (is_past copy) Free (replicate k Free) in let rest = none_due copy k in omega arith
 
 pub all_one : {A B : Type 0} (f : A → B) (k : ℕ) (x : A) → map f (replicate k x) ≡ replicate k (f x)
 all_one f zero x = refl

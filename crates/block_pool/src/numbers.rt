@@ -2,19 +2,43 @@
 
 ghost use Rattle.std.specs.Prelude.{◌≡◌, ◌<◌, ◌≤◌, ℕ, length, map, replicate, count_by, slice_index, slice_set, ◌+◌, ◌-◌, IfOk};
 ghost use Rattle.std.specs.Prelude.{true};
-ghost use Rattle.block_pool.specs.Pools.{Free, Used, Retired, is_free, is_used, is_retired, is_past, recycled, is_used_at};
-ghost use Rattle.block_pool.specs.Pools.{is_born_at, marked};
-ghost use Rattle.block_pool.specs.Kept.{status_of, popped, Lists};
+ghost use Rattle.block_pool.specs.Pools.{Free, Granted, Used, Retired, is_free, is_used, is_retired, is_past, recycled};
+ghost use Rattle.block_pool.specs.Pools.{is_used_at, is_born_at, marked, retired};
+ghost use Rattle.block_pool.specs.Kept.{status_from, status_of, popped, Lists};
 
+use pin_copy::PinCopy;
 use std::alloc::{AllocError, Global};
 
 /// What a number is by now.
 #[derive(Clone, Copy, Debug)]
 pub(crate) enum Place {
     Free,
-    Used,
-    /// Left out by the version of this number.
-    Retired(u64),
+    /// Granted, and in no version yet.
+    Granted,
+    /// In the last version, listed since version `birth`.
+    Used { birth: u64 },
+    /// Listed from version `birth` on, and left out by version `since`.
+    Retired { birth: u64, since: u64 },
+}
+
+/// When a retired block was first listed, and when it was left out.
+#[derive(Clone, Copy)]
+struct Dates {
+    birth: u64,
+    since: u64,
+}
+
+/// A used place once it is retired.
+fn after_retiring(place: Place, version: u64) -> Place
+    ensures { status_from result ≡ retired version (status_from place) }
+{
+    match place {
+        Place::Used { birth } => Place::Retired {
+            birth,
+            since: version,
+        },
+        _ => place,
+    }
 }
 
 /// What each number is, and lists of the free and of the retired ones. The lists have their room from the start.
@@ -75,12 +99,12 @@ impl Numbers {
         self.places.len() - self.free_len - self.retired_len
     }
 
-    /// Makes the last `count` of the free numbers used.
+    /// Grants the last `count` of the free numbers.
     pub fn use_last(&mut self, count: usize)
         requires kept { IsKept self.old }
         requires enough { count ≤ self.old.free_len }
         ensures kept { IsKept self.new }
-        ensures statuses { statuses self.new ≡ marked (popped self.old.free.items self.old.free_len count) Used
+        ensures statuses { statuses self.new ≡ marked (popped self.old.free.items self.old.free_len count) Granted
             (statuses self.old) }
     {
         let mut left = count;
@@ -90,19 +114,19 @@ impl Numbers {
         }
     }
 
-    /// Makes the last of the free numbers used.
+    /// Grants the last of the free numbers.
     fn use_one(&mut self)
         requires kept { IsKept self.old }
         requires some { 0 < self.old.free_len }
         ensures kept { IsKept self.new }
         ensures statuses { statuses self.new ≡ slice_set (statuses self.old)
-            (slice_index self.old.free.items (self.old.free_len - 1)) Used }
+            (slice_index self.old.free.items (self.old.free_len - 1)) Granted }
         ensures shorter { self.new.free_len ≡ self.old.free_len - 1 }
         ensures room { self.new.free.items ≡ self.old.free.items }
     {
         self.free_len -= 1;
         let number = self.free[self.free_len];
-        self.places[number as usize] = Place::Used;
+        self.places[number as usize] = Place::Granted;
     }
 
     /// Makes a used number free.
@@ -117,57 +141,70 @@ impl Numbers {
         self.free_len += 1;
     }
 
-    /// Retires a used number with the number of a version.
+    /// Notes the version that first lists a used number.
+    pub fn born(&mut self, number: u32, version: u64)
+        requires kept { IsKept self.old }
+        requires used { is_used_at (statuses self.old) number ≡ true }
+        ensures kept { IsKept self.new }
+        ensures statuses { statuses self.new ≡ slice_set (statuses self.old) number (Used version) }
+    {
+        self.places[number as usize] = Place::Used { birth: version };
+    }
+
+    /// Retires a born number with the number of a version.
     pub fn retire(&mut self, number: u32, version: u64)
         requires kept { IsKept self.old }
         requires born { is_born_at (statuses self.old) number ≡ true }
         ensures kept { IsKept self.new }
-        ensures statuses { statuses self.new ≡ slice_set (statuses self.old) number (Retired version) }
+        ensures statuses { statuses self.new ≡ slice_set (statuses self.old) number
+            (retired version (status_of (statuses self.old) number)) }
     {
-        self.places[number as usize] = Place::Retired(version);
+        let place = self.places[number as usize];
+        self.places[number as usize] = after_retiring(place, version);
         self.retired[self.retired_len] = number;
         self.retired_len += 1;
         self.least = self.least.min(version);
     }
 
-    /// Frees each number that was retired with at most the floor, and tells how many. It goes over the retired numbers
-    /// alone, and over none where the least version that retired one is past the floor.
-    pub fn recycle(&mut self, floor: u64) -> u32
+    /// Frees each retired number that the copy doesn't need, and tells how many. It goes over the retired numbers
+    /// alone, and over none where the copy reaches no version that retired one.
+    pub fn recycle(&mut self, copy: &PinCopy) -> u32
         requires { IsKept self.old }
         ensures kept { IsKept self.new }
-        ensures statuses { statuses self.new ≡ map (recycled floor) (statuses self.old) }
-        ensures count { result ≡ count_by (is_past floor) (statuses self.old) }
+        ensures statuses { statuses self.new ≡ map (recycled copy.now) (statuses self.old) }
+        ensures count { result ≡ count_by (is_past copy.now) (statuses self.old) }
     {
-        if floor < self.least {
+        if copy.reach() < self.least {
             return 0;
         }
         let mut count = 0;
         let mut least = u64::MAX;
         let mut at = 0;
         while at < self.retired_len {
-            let version = self.version_at(at);
-            if version <= floor {
+            let dates = self.dates_at(at);
+            if copy.needs(dates.birth, dates.since) {
+                least = least.min(dates.since);
+                at += 1;
+            } else {
                 self.release(at);
                 count += 1;
-            } else {
-                least = least.min(version);
-                at += 1;
             }
         }
         self.least = least;
         count
     }
 
-    /// The version that retired the number at a place of the list of retired ones.
-    fn version_at(&self, at: usize) -> u64
+    /// The versions that first listed and that retired the number at a place of the list of retired ones.
+    fn dates_at(&self, at: usize) -> Dates
         requires kept { IsKept self.now }
         requires within { at < self.now.retired_len }
-        ensures { status_of (statuses self.now) (slice_index self.now.retired.items at) ≡ Retired result }
+        ensures { status_of (statuses self.now) (slice_index self.now.retired.items at) ≡ Retired result.birth result.since }
     {
         match self.places[self.retired[at] as usize] {
-            Place::Retired(version) => version,
+            Place::Retired { birth, since } => Dates { birth, since },
             Place::Free => unreachable!(),
-            Place::Used => unreachable!(),
+            Place::Granted => unreachable!(),
+            Place::Used { .. } => unreachable!(),
         }
     }
 

@@ -4,19 +4,20 @@ ghost use Rattle.std.specs.Prelude.{◌≡◌, ◌⊎◌, ◌<◌, ◌≤◌, �
 ghost use Rattle.std.specs.Prelude.{IfSome, None, true, vec_len, slice_index_or, slice_set};
 ghost use Rattle.std.specs.Arc.{arc_value};
 ghost use Rattle.edge_block.specs.declared.blocks.Block.{Block};
-ghost use Rattle.block_pool.specs.Pools.{Free, Used, is_free, is_used, is_retired, is_past, recycled, retired, is_used_at};
+ghost use Rattle.block_pool.specs.Pools.{Free, Granted, Used, is_free, is_used, is_retired, is_past, recycled, retired, is_used_at};
 ghost use Rattle.block_pool.specs.Pools.{is_born_at, marked, changed, AreFree};
 ghost use Rattle.block_pool.specs.Kept.{statuses, popped, IsKept};
 ghost use Rattle.block_pool.specs.Bodies.{AreBodies};
 
 use crate::numbers::Numbers;
 use edge_block::Block;
+use pin_copy::PinCopy;
 use std::alloc::{AllocError, Global};
 use std::marker::Model;
 use std::sync::Arc;
 use thiserror::Error;
 
-/// A pool of blocks, seen as one status for each number: free, used (granted, or in a version), or retired.
+/// A pool of blocks, seen as one status for each number: free, granted, used (in a version since its birth), or retired.
 #[derive(Debug)]
 pub struct Pool {
     alloc: Global,
@@ -113,7 +114,7 @@ impl Pool {
     pub fn grant(&mut self, count: u32) -> Result<Grant, GrantError>
         ensures numbers { IfOk result (λ g. AreFree self.old g.numbers.items × (length g.numbers.items ≡ count)) }
         ensures blocks { IfOk result (λ g. map (λ b. (arc_value {X = Block} b).number) g.blocks.items ≡ g.numbers.items) }
-        ensures used { IfOk result (λ g. self.new ≡ marked g.numbers.items Used self.old) }
+        ensures used { IfOk result (λ g. self.new ≡ marked g.numbers.items Granted self.old) }
         ensures refused { IfErr result (λ e. (e ≡ GrantError.OutOfMemory)
             ⊎ ((count_by is_free self.old < count) × (e ≡ GrantError.PoolEmpty count (count_by is_free self.old)))) }
         ensures exact { count_by is_free self.old < count
@@ -146,7 +147,15 @@ impl Pool {
         self.bodies[number as usize] = block;
     }
 
-    /// Retires a used block with the number of the version that left it out. It takes no memory.
+    /// Notes the number of the version that first lists a block since its grant. It takes no memory.
+    pub fn born(&mut self, number: u32, version: u64)
+        requires { is_used_at self.old number ≡ true }
+        ensures { self.new ≡ marked (number ∷ []) (Used version) self.old }
+    {
+        self.numbers.born(number, version);
+    }
+
+    /// Retires a block whose birth was noted with the number of the version that left it out. It takes no memory.
     pub fn retire(&mut self, block: Arc<Block>, version: u64)
         requires { is_born_at self.old (arc_value {X = Block} block).number ≡ true }
         ensures { self.new ≡ changed (retired version) ((arc_value {X = Block} block).number ∷ []) self.old }
@@ -156,13 +165,13 @@ impl Pool {
         self.bodies[number as usize] = Some(block);
     }
 
-    /// Frees each block that was retired with at most the floor, and tells how many. It takes no memory, goes over the
-    /// retired blocks alone, and over none where the least version that retired one is past the floor.
-    pub fn recycle(&mut self, floor: u64) -> u32
-        ensures pool { self.new ≡ map (recycled floor) self.old }
-        ensures count { result ≡ count_by (is_past floor) self.old }
+    /// Frees each retired block that the copy doesn't need, and tells how many. It takes no memory, goes over the
+    /// retired blocks alone, and over none where the copy reaches no version that retired one.
+    pub fn recycle(&mut self, copy: &PinCopy) -> u32
+        ensures pool { self.new ≡ map (recycled copy.now) self.old }
+        ensures count { result ≡ count_by (is_past copy.now) self.old }
     {
-        self.numbers.recycle(floor)
+        self.numbers.recycle(copy)
     }
 }
 

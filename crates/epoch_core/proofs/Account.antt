@@ -317,7 +317,7 @@ accounts s w (Post batch blocks) rest sound =
     (record { held = refl; graphs = graph_before w.opening w.versions (version_by w.opening w.versions batch blocks) }))
 accounts s w Floor rest sound = calm_owed s w (next_world w Floor) rest sound (record { held = refl; graphs = λ n _. refl })
 accounts s w (Recycle b) rest sound = calm_accounts s w _ rest (is_done w (Recycle b)) sound
-    (calm_status s w (changed_at (recycled w.floor) w.status b))
+    (calm_status s w (changed_at (recycled w.copy) w.status b))
 accounts s w (Pin t) rest sound = calm_accounts s w _ rest (is_done w (Pin t)) sound
     (calm_move s t w (to_pin w.floor) (same_pin w.floor))
 accounts s w (Enter t) rest sound = seen_move s t w (to_enter (last_number w)) (Entered (last_graph w) ∷ []) rest sound

@@ -1,7 +1,7 @@
 -- Each event keeps what is sound: blocks and versions.
 use Rattle.std.proofs.Common.{◌≡◌, ◌≢◌, ℕ, ◌≤◌, Bool, true, false, inl, inr, List, [], set, take, refl, sym, ap, subst, ◌∙◌}
 use Rattle.std.proofs.Common.{arith}
-use Rattle.std.specs.Prelude.{slice_get, nat_le, if◌then◌else◌}
+use Rattle.std.specs.Prelude.{slice_get, if◌then◌else◌}
 use Rattle.std.specs.declared.option.Option.{Option}
 use Rattle.std.specs.declared.option.Option.TheVariants.{None, Some}
 use Rattle.std.proofs.lemmas.Bool.{cases_eq}
@@ -12,28 +12,30 @@ use Rattle.epoch_posts.specs.declared.states.Status.TheVariants.{Free, Fresh, Us
 use Rattle.epoch_core.specs.declared.states.Hold.{Hold}
 use Rattle.epoch_core.specs.declared.states.SessionState.{SessionState}
 use Rattle.epoch_core.specs.declared.states.SessionState.TheVariants.{Idle, Pinned, Holding, Asking}
+use Rattle.pin_copy.specs.declared.copies.PinCopy.{PinCopy}
+use Rattle.pin_copy.specs.Copies.{needs}
 use Rattle.epoch_posts.specs.Blocks.{filled, is_at, is_fresh, is_listed, is_used, recycled, taken}
 use Rattle.epoch_posts.specs.Versions.{Shows, blocks_at, edges_at, edges_of, graph_at, version_at}
 use Rattle.epoch_core.specs.Worlds.{World, last_blocks, last_graph, last_number, session_of}
 use Rattle.epoch_core.specs.Machine.{with_heap, with_status}
-use Rattle.epoch_core.specs.Sound.{IsDated, IsDatedAt, IsHeld, IsKept, IsKeptAt, IsNamed, IsSessionSound, IsSound}
+use Rattle.epoch_core.specs.Sound.{IsCovered, IsDated, IsDatedAt, IsHeld, IsKept, IsKeptAt, IsNamed, IsSessionSound, IsSound}
 use Rattle.epoch_posts.proofs.Lists.{and_then_some, set_same, set_else, same_pieces, listed_take}
 
 -- what a change of the world owes to each holder
 pub record Carries (old new : World) : Type 0 where
   pub floor : new.floor ≡ old.floor
+  pub copy : new.copy ≡ old.copy
   pub last : last_number old ≤ last_number new
   pub versions : (n : ℕ) → n ≤ last_number old → version_at new.opening new.versions n ≡ version_at old.opening old.versions n
   pub graphs : (n : ℕ) → n ≤ last_number old → graph_at new.opening new.versions n ≡ graph_at old.opening old.versions n
   -- no block that a holder keeps is freed or written
-  pub kept : (b n : ℕ) → old.floor ≤ n → n ≤ last_number old → IsKeptAt n (slice_get old.status b)
+  pub kept : (b n : ℕ) → IsCovered old.copy n → n ≤ last_number old → IsKeptAt n (slice_get old.status b)
       → IsKeptAt n (slice_get new.status b)
   pub edges : (b n : ℕ) → IsKeptAt n (slice_get old.status b) → edges_at new.heap b ≡ edges_at old.heap b
 
 -- a holder is carried over such a change
 pub carry_held : (old new : World) (hold : Hold) → Carries old new → IsHeld old hold → IsHeld new hold
 carry_held old new hold c h =
-    let low : old.floor ≤ hold.version = omega (arith, h.floor_pin, h.pin_held) in
     let blocks : blocks_at new.opening new.versions hold.version ≡ blocks_at old.opening old.versions hold.version =
     ap (λ v. v.blocks) (c.versions hold.version h.held_last) in
     let pieces : edges_of new.heap (blocks_at old.opening old.versions hold.version)
@@ -44,7 +46,8 @@ carry_held old new hold c h =
       pin_held = h.pin_held;
       held_last = omega (arith, c.last, h.held_last);
       settled = h.settled;
-      kept = λ b is. c.kept b hold.version low h.held_last (h.kept b (subst (λ bs. is_listed b bs ≡ true) blocks is));
+      covered = subst (λ k. IsCovered k hold.version) (sym c.copy) h.covered;
+      kept = λ b is. c.kept b hold.version h.covered h.held_last (h.kept b (subst (λ bs. is_listed b bs ≡ true) blocks is));
       shown =
           let same : edges_of new.heap (blocks_at new.opening new.versions hold.version)
           ≡ edges_of old.heap (blocks_at old.opening old.versions hold.version) = ap (edges_of new.heap) blocks ∙ pieces in
@@ -67,41 +70,40 @@ carry old new (Asking hold inquiry) c p =
     (carry_held old new hold c p.0, p.1 ∙ sym pieces ∙ ap (λ bs. edges_of new.heap (take inquiry.next bs)) (sym blocks))
 
 -- the status of one block changes, from what no holder keeps, and neither from nor to a used block
-pub record FreesNone (floor : ℕ) (before after : Status) : Type 0 where
+pub record FreesNone (copy : PinCopy) (before after : Status) : Type 0 where
   pub unused_before : is_used before ≡ false
   pub unused_after : is_used after ≡ false
   pub dated : (last : ℕ) → IsDated last after
-  pub not_kept : (n : ℕ) → floor ≤ n → IsKept n before → ⊥
+  pub not_kept : (n : ℕ) → IsCovered copy n → IsKept n before → ⊥
 
-pub frees_taken : (floor : ℕ) (before after : Status) → taken before ≡ Some after → FreesNone floor before after
-frees_taken floor Free Free is = cc
-frees_taken floor Free Fresh is = record { unused_before = refl; unused_after = refl; dated = λ _. tt; not_kept = λ n _ k. k }
-frees_taken floor Free (Used birth) is = cc
-frees_taken floor Free (Retired birth since) is = cc
-frees_taken floor Fresh after is = cc
-frees_taken floor (Used birth) after is = cc
-frees_taken floor (Retired birth since) after is = cc
+pub frees_taken : (copy : PinCopy) (before after : Status) → taken before ≡ Some after → FreesNone copy before after
+frees_taken copy Free Free is = cc
+frees_taken copy Free Fresh is = record { unused_before = refl; unused_after = refl; dated = λ _. tt; not_kept = λ n _ k. k }
+frees_taken copy Free (Used birth) is = cc
+frees_taken copy Free (Retired birth since) is = cc
+frees_taken copy Fresh after is = cc
+frees_taken copy (Used birth) after is = cc
+frees_taken copy (Retired birth since) after is = cc
 
 abbrev freed_by : Bool → Option Status
-freed_by t = if t then Some Free else None
+freed_by t = if t then None else Some Free
 
-pub frees_recycled : (floor : ℕ) (before after : Status) → recycled floor before ≡ Some after → FreesNone floor before after
-frees_recycled floor Free after is = cc
-frees_recycled floor Fresh after is = cc
-frees_recycled floor (Used birth) after is = cc
-frees_recycled floor (Retired birth since) after is =
-    elim (nat_le since floor) as (λ t. nat_le since floor ≡ t → freed_by t ≡ Some after
-    → FreesNone floor (Retired birth since) after) [
-      | true ↦ λ e f.
+pub frees_recycled : (copy : PinCopy) (before after : Status) → recycled copy before ≡ Some after → FreesNone copy before after
+frees_recycled copy Free after is = cc
+frees_recycled copy Fresh after is = cc
+frees_recycled copy (Used birth) after is = cc
+frees_recycled copy (Retired birth since) after is =
+    elim (needs copy birth since) as (λ t. needs copy birth since ≡ t → freed_by t ≡ Some after
+    → FreesNone copy (Retired birth since) after) [
+      | true ↦ λ _ f. cc
+      | false ↦ λ e f.
           let free : after ≡ Free = cc in
-          let low : since ≤ floor = grind (arith, e) in
           record {
             unused_before = refl;
             unused_after = ap is_used free;
             dated = λ last. subst (IsDated last) (sym free) tt;
-            not_kept = λ n high k. absurd (omega (arith, low, high, k.1));
+            not_kept = λ n covered k. let needed : needs copy birth since ≡ true = covered birth since k.0 k.1 in cc;
           }
-      | false ↦ λ _ f. cc
     ] refl is
 
 named_with_status : (w : World) (status : List Status) → ((n : ℕ) → n ≤ last_number w → IsNamed w n) → (n : ℕ)
@@ -109,22 +111,24 @@ named_with_status : (w : World) (status : List Status) → ((n : ℕ) → n ≤ 
 named_with_status w status named n h = record { names = (named n h).names; kinds = (named n h).kinds }
 
 pub sound_status : (w : World) (b : ℕ) (before after : Status) → IsSound w → slice_get w.status b ≡ Some before
-    → FreesNone w.floor before after → IsSound (with_status w (set w.status b after))
+    → FreesNone w.copy before after → IsSound (with_status w (set w.status b after))
 sound_status w b before after sound found frees =
     let carries : Carries w (with_status w (set w.status b after)) = record {
       floor = refl;
+      copy = refl;
       last = omega arith;
       versions = λ n _. refl;
       graphs = λ n _. refl;
-      kept = λ c n high _ k.
+      kept = λ c n covered _ k.
           elim (cases_eq c b) [
-            | inl e ↦ absurd (frees.not_kept n high (subst (IsKeptAt n) (ap (slice_get w.status) e ∙ found) k))
+            | inl e ↦ absurd (frees.not_kept n covered (subst (IsKeptAt n) (ap (slice_get w.status) e ∙ found) k))
             | inr ne ↦ subst (IsKeptAt n) (sym (set_else w.status b c after ne)) k
           ];
       edges = λ c n _. refl;
     } in
     record {
       floor_last = sound.floor_last;
+      copy_last = sound.copy_last;
       used = λ c. elim (cases_eq c b) [
         | inl e ↦
             ap (λ k. is_at is_used (slice_get (set w.status b after) k)) e
@@ -177,6 +181,7 @@ pub sound_fill : (w : World) (b : ℕ) (edges : List Edge) → IsSound w → sli
 sound_fill w b edges sound fresh =
     let carries : Carries w (with_heap w (set w.heap b edges)) = record {
       floor = refl;
+      copy = refl;
       last = omega arith;
       versions = λ n _. refl;
       graphs = λ n _. refl;
@@ -187,6 +192,7 @@ sound_fill w b edges sound fresh =
     } in
     record {
       floor_last = sound.floor_last;
+      copy_last = sound.copy_last;
       used = sound.used;
       dated = sound.dated;
       listed_once = sound.listed_once;

@@ -4,6 +4,7 @@ pub mod Keeping
 pub mod Posted
 pub mod Moves
 pub mod Steps
+pub mod Collected
 pub mod Sizes
 pub mod Epochs
 pub mod Answering

@@ -1,6 +1,6 @@
 -- Each event keeps what is sound: the floor rises, and sessions move.
-use Rattle.std.proofs.Common.{◌≡◌, ◌≢◌, ℕ, zero, suc, ◌+◌, ◌<◌, ◌≤◌, Bool, true, false, inl, inr, List, [], ◌∷◌, ◌++◌, length}
-use Rattle.std.proofs.Common.{get_or, set, take, refl, sym, ap, subst, ◌∙◌, arith, add-one, min}
+use Rattle.std.proofs.Common.{◌≡◌, ◌≢◌, ℕ, zero, suc, ◌+◌, ◌<◌, ◌≤◌, Bool, true, false, not, inl, inr, List, [], ◌∷◌, ◌++◌}
+use Rattle.std.proofs.Common.{length, map, get_or, set, take, refl, sym, ap, subst, ◌∙◌, arith, add-one, min}
 use Rattle.std.specs.Prelude.{slice_get, if◌then◌else◌}
 use Rattle.std.specs.declared.option.Option.{Option}
 use Rattle.std.specs.declared.option.Option.TheVariants.{None, Some}
@@ -16,11 +16,14 @@ use Rattle.epoch_core.specs.declared.states.Inquiry.{Inquiry}
 use Rattle.epoch_core.specs.declared.states.SessionState.{SessionState}
 use Rattle.epoch_core.specs.declared.states.SessionState.TheVariants.{Idle, Pinned, Holding, Asking}
 use Rattle.epoch_posts.specs.Blocks.{is_at, is_listed, is_used}
-use Rattle.epoch_core.specs.Worlds.{World, last_blocks, last_number, pin_in, session_of}
+use Rattle.pin_copy.specs.Copies.{needs}
+use Rattle.pin_copy.proofs.Least.{late_needed, settled_needed, unsettled_needed}
+use Rattle.epoch_core.specs.Worlds.{World, copy_of, last_blocks, last_number, pin_if, pin_in, session_of, settled_in}
+use Rattle.epoch_core.specs.Worlds.{unsettled_in}
 use Rattle.epoch_posts.specs.Versions.{blocks_at, edges_at, edges_of}
 use Rattle.epoch_core.specs.Machine.{is_all_read, least_pin, lesser, move, read_on, settled_at, to_ask, to_enter, to_pin, to_read}
 use Rattle.epoch_core.specs.Machine.{to_release, to_reply, to_settle, with_sessions}
-use Rattle.epoch_core.specs.Sound.{IsDatedAt, IsHeld, IsKeptAt, IsNamed, IsSessionSound, IsSound}
+use Rattle.epoch_core.specs.Sound.{IsCovered, IsDatedAt, IsHeld, IsKeptAt, IsNamed, IsSessionSound, IsSound}
 use Rattle.epoch_posts.proofs.Lists.{option_map_some, ChangedAt, changed_at-some, within, get_at, take_one_more}
 use Rattle.epoch_core.proofs.Keeping.{Carries, carry}
 
@@ -43,41 +46,76 @@ least_each n (p ∷ ps) zero pin is =
     omega arith
 least_each n (p ∷ ps) (suc s) pin is = least_each (lesser n (pin_in p)) ps s pin is
 
-abbrev pub with_floor : World → ℕ → World
-with_floor w floor = record w { floor = floor }
+-- the world after a Floor
+abbrev pub floored : World → World
+floored w = record w { floor = least_pin (last_number w) w.sessions; copy = copy_of w }
 
-named_with_floor : (w : World) (floor : ℕ) → ((n : ℕ) → n ≤ last_number w → IsNamed w n) → (n : ℕ) → n ≤ last_number w
-    → IsNamed (with_floor w floor) n
-named_with_floor w floor named n h = record { names = (named n h).names; kinds = (named n h).kinds }
+named_floored : (w : World) → ((n : ℕ) → n ≤ last_number w → IsNamed w n) → (n : ℕ) → n ≤ last_number w → IsNamed (floored w) n
+named_floored w named n h = record { names = (named n h).names; kinds = (named n h).kinds }
 
-refloored : (w : World) (floor : ℕ) (hold : Hold) → floor ≤ hold.pin → IsHeld w hold → IsHeld (with_floor w floor) hold
-refloored w floor hold low h = record {
+-- a session's pin is among those of the copy
+seated_at : (pin : SessionState → Option ℕ) (sessions : List SessionState) (rest : List (Option ℕ)) (s n : ℕ)
+    → pin Idle ≡ None → pin (get_or sessions s Idle) ≡ Some n → get_or (map pin sessions ++ rest) s None ≡ Some n
+seated_at pin [] rest s n none is = absurd (cc)
+seated_at pin (state ∷ sessions) rest zero n none is = is
+seated_at pin (state ∷ sessions) rest (suc s) n none is = seated_at pin sessions rest s n none is
+
+pub settled_needs : (w : World) (s pin birth since : ℕ) → settled_in (session_of w s) ≡ Some pin → birth ≤ pin → pin < since
+    → needs (copy_of w) birth since ≡ true
+settled_needs w s pin birth since is low high =
+    settled_needed (copy_of w) birth since s pin (seated_at settled_in w.sessions _ s pin refl is) low high
+
+pub unsettled_needs : (w : World) (s pin birth since : ℕ) → unsettled_in (session_of w s) ≡ Some pin → pin < since
+    → needs (copy_of w) birth since ≡ true
+unsettled_needs w s pin birth since is high =
+    unsettled_needed (copy_of w) birth since s pin (seated_at unsettled_in w.sessions _ s pin refl is) high
+
+-- the copy of the pins as they stand needs each block that a holder keeps
+covers : (w : World) (s : ℕ) (hold : Hold) (told : Bool) → hold.settled ≡ told
+    → settled_in (session_of w s) ≡ pin_if hold.settled hold.pin
+    → unsettled_in (session_of w s) ≡ pin_if (not hold.settled) hold.pin → IsHeld w hold → IsCovered (copy_of w) hold.version
+covers w s hold true is in_settled in_unsettled h = λ birth since low high.
+    let same : hold.pin ≡ hold.version = h.settled is in
+    settled_needs w s hold.pin birth since (in_settled ∙ ap (λ t. pin_if t hold.pin) is) (omega (arith, same, low))
+    (omega (arith, same, high))
+covers w s hold false is in_settled in_unsettled h = λ birth since low high.
+    unsettled_needs w s hold.pin birth since (in_unsettled ∙ ap (λ t. pin_if (not t) hold.pin) is)
+    (omega (arith, h.pin_held, high))
+
+refloored : (w : World) (hold : Hold) → least_pin (last_number w) w.sessions ≤ hold.pin
+    → IsCovered (copy_of w) hold.version → IsHeld w hold → IsHeld (floored w) hold
+refloored w hold low covered h = record {
   floor_pin = low;
   pin_held = h.pin_held;
   held_last = h.held_last;
   settled = h.settled;
+  covered = covered;
   kept = h.kept;
   shown = h.shown;
 }
 
-session_with_floor : (w : World) (floor : ℕ) (session : SessionState)
-    → ((pin : ℕ) → pin_in session ≡ Some pin → floor ≤ pin) → IsSessionSound w session
-    → IsSessionSound (with_floor w floor) session
-session_with_floor w floor Idle low p = tt
-session_with_floor w floor (Pinned pin) low p = (low pin refl, p.1)
-session_with_floor w floor (Holding hold) low p = refloored w floor hold (low hold.pin refl) p
-session_with_floor w floor (Asking hold inquiry) low p = (refloored w floor hold (low hold.pin refl) p.0, p.1)
+session_floored : (w : World) (s : ℕ) (session : SessionState) → session_of w s ≡ session
+    → ((pin : ℕ) → pin_in session ≡ Some pin → least_pin (last_number w) w.sessions ≤ pin) → IsSessionSound w session
+    → IsSessionSound (floored w) session
+session_floored w s Idle at low p = tt
+session_floored w s (Pinned pin) at low p = (low pin refl, p.1)
+session_floored w s (Holding hold) at low p =
+    refloored w hold (low hold.pin refl) (covers w s hold hold.settled refl (ap settled_in at) (ap unsettled_in at) p) p
+session_floored w s (Asking hold inquiry) at low p = (
+  refloored w hold (low hold.pin refl) (covers w s hold hold.settled refl (ap settled_in at) (ap unsettled_in at) p.0) p.0,
+  p.1,
+)
 
-pub sound_floor : (w : World) → IsSound w → IsSound (with_floor w (least_pin (last_number w) w.sessions))
+pub sound_floor : (w : World) → IsSound w → IsSound (floored w)
 sound_floor w sound = record {
   floor_last = least_first (last_number w) w.sessions;
+  copy_last = omega arith;
   used = sound.used;
   dated = sound.dated;
   listed_once = sound.listed_once;
   shown = sound.shown;
-  named = named_with_floor w (least_pin (last_number w) w.sessions) sound.named;
-  sessions = λ s. session_with_floor w (least_pin (last_number w) w.sessions) (session_of w s)
-      (least_each (last_number w) w.sessions s) (sound.sessions s);
+  named = named_floored w sound.named;
+  sessions = λ s. session_floored w s (session_of w s) refl (least_each (last_number w) w.sessions s) (sound.sessions s);
   sizes = sound.sizes;
 }
 
@@ -85,6 +123,7 @@ sound_floor w sound = record {
 carries_sessions : (w : World) (sessions : List SessionState) → Carries w (with_sessions w sessions)
 carries_sessions w sessions = record {
   floor = refl;
+  copy = refl;
   last = omega arith;
   versions = λ n _. refl;
   graphs = λ n _. refl;
@@ -137,6 +176,7 @@ sound_sessions : (w : World) (s : ℕ) (session next : SessionState) → IsSound
     → IsSessionSound w next → IsSound (with_sessions w (set w.sessions s next))
 sound_sessions w s session next sound found known = record {
   floor_last = sound.floor_last;
+  copy_last = sound.copy_last;
   used = sound.used;
   dated = sound.dated;
   listed_once = sound.listed_once;
@@ -187,6 +227,7 @@ keeps_enter w sound (Pinned pin) next p is =
       pin_held = p.1;
       held_last = omega arith;
       settled = λ t. cc;
+      covered = λ birth since _ high. late_needed w.copy birth since (omega (arith, sound.copy_last, high));
       kept = kept_last w sound;
       shown = sound.shown;
     } in
@@ -200,6 +241,7 @@ settles w hold h = record {
   pin_held = omega arith;
   held_last = h.held_last;
   settled = λ _. refl;
+  covered = h.covered;
   kept = h.kept;
   shown = h.shown;
 }

@@ -64,6 +64,7 @@ carries_posted w batch blocks =
     length_next w.versions (version_by w.opening w.versions batch blocks) in
     record {
       floor = refl;
+      copy = refl;
       last = omega (arith, next);
       versions = version_before w.opening w.versions (version_by w.opening w.versions batch blocks);
       graphs = graph_before w.opening w.versions (version_by w.opening w.versions batch blocks);
@@ -113,6 +114,7 @@ sound_posted w batch blocks sound can =
     let made : last_graph (posted w batch blocks) ≡ graph_after w.opening w.versions batch = graph_next w.opening w.versions v in
     record {
       floor_last = omega (arith, next, sound.floor_last);
+      copy_last = omega (arith, next, sound.copy_last);
       used = λ b.
           ap (is_at is_used) (status_at (last_number w + 1) blocks w.status b)
           ∙ used_after (last_number w + 1) (is_listed b blocks) (slice_get w.status b)

@@ -63,7 +63,7 @@ size_step w after (Post batch blocks) is =
     }) is
 size_step w after Floor is = let same : (w.status ≡ after.status) × (w.sessions ≡ after.sessions) =
     (cc, cc) in record { blocks = ap length (sym same.0); sessions = ap length (sym same.1) }
-size_step w after (Recycle b) is = size_changed w after b (recycled w.floor) is
+size_step w after (Recycle b) is = size_changed w after b (recycled w.copy) is
 size_step w after (Pin s) is = size_moved w after s (to_pin w.floor) is
 size_step w after (Enter s) is = size_moved w after s (to_enter (last_number w)) is
 size_step w after (Settle s) is = size_moved w after s to_settle is

@@ -19,18 +19,18 @@ use Rattle.epoch_posts.specs.Versions.{opening_graph, blocks_at, edges_of, graph
 use Rattle.epoch_core.specs.Worlds.{IsStart, World, last_blocks, last_graph, last_number, session_of, start, State}
 use Rattle.epoch_posts.specs.Posting.{can_post}
 use Rattle.epoch_core.specs.Posts.{posted}
-use Rattle.epoch_core.specs.Machine.{least_pin, step, with_heap, with_status}
+use Rattle.epoch_core.specs.Machine.{step, with_heap, with_status}
 use Rattle.epoch_core.specs.Runs.{next_world, run}
 use Rattle.epoch_core.specs.Sound.{IsDated, IsDatedAt, IsNamed, IsSessionSound, IsSound}
 use Rattle.epoch_posts.proofs.Lists.{true_or_false, below_or_past, option_map_some, ChangedAt, changed_at-some}
 use Rattle.graph_model.proofs.Keys.{once_none}
 use Rattle.epoch_core.proofs.Keeping.{FreesNone, frees_taken, frees_recycled, sound_status, Fills, fills, sound_fill}
 use Rattle.epoch_core.proofs.Posted.{sound_posted}
-use Rattle.epoch_core.proofs.Moves.{sound_floor, with_floor, sound_move, keeps_pin, keeps_enter, keeps_settle, keeps_ask}
+use Rattle.epoch_core.proofs.Moves.{sound_floor, floored, sound_move, keeps_pin, keeps_enter, keeps_settle, keeps_ask}
 use Rattle.epoch_core.proofs.Moves.{keeps_read, keeps_reply, keeps_release}
 
 sound_changed : (w after : World) (b : ℕ) (change : Status → Option Status) → IsSound w
-    → ((s t : Status) → change s ≡ Some t → FreesNone w.floor s t)
+    → ((s t : Status) → change s ≡ Some t → FreesNone w.copy s t)
     → option_map (with_status w) (changed_at change w.status b) ≡ Some after → IsSound after
 sound_changed w after b change sound frees is =
     let whole = option_map_some (with_status w) _ after is in
@@ -49,13 +49,13 @@ sound_if true w after sound is = let e : w ≡ after = cc in subst IsSound e (so
 sound_if false w after sound is = cc
 
 pub sound_step : (w after : World) (e : Event) → IsSound w → step w e ≡ Some after → IsSound after
-sound_step w after (Take b) sound is = sound_changed w after b taken sound (frees_taken w.floor) is
+sound_step w after (Take b) sound is = sound_changed w after b taken sound (frees_taken w.copy) is
 sound_step w after (Fill b edges) sound is = sound_filled w after b edges sound is
 sound_step w after (Post batch blocks) sound is = sound_if (can_post w.opening w.heap w.status w.versions batch blocks)
     (posted w batch blocks) after (sound_posted w batch blocks sound) is
-sound_step w after Floor sound is = let e : with_floor w (least_pin (last_number w) w.sessions) ≡ after =
+sound_step w after Floor sound is = let e : floored w ≡ after =
     cc in subst IsSound e (sound_floor w sound)
-sound_step w after (Recycle b) sound is = sound_changed w after b (recycled w.floor) sound (frees_recycled w.floor) is
+sound_step w after (Recycle b) sound is = sound_changed w after b (recycled w.copy) sound (frees_recycled w.copy) is
 sound_step w after (Pin s) sound is = sound_move w s _ after sound (keeps_pin w sound) is
 sound_step w after (Enter s) sound is = sound_move w s _ after sound (keeps_enter w sound) is
 sound_step w after (Settle s) sound is = sound_move w s _ after sound (keeps_settle w) is
@@ -134,6 +134,7 @@ sound_start start is =
     let graph : last_graph w ≡ opening_graph w.opening = ap (λ vs. graph_at w.opening vs (length vs)) is.alone in
     record {
       floor_last = omega (arith, is.floor);
+      copy_last = omega (arith, ap (λ c. c.last) is.copy);
       used = λ b. used_start start b is ∙ ap (is_listed b) (sym blocks);
       dated = λ b. subst (λ n. IsDatedAt n (slice_get w.status b)) (sym none) (dated_start start b is);
       listed_once = subst (AllPairs ◌≢◌) (sym blocks) is.different;
@@ -162,6 +163,7 @@ start_is_start sessions blocks = record {
   status = λ b low. let h : b < blocks = omega (arith, low, length-replicate blocks Free) in free_at blocks b h;
   heap = length-replicate blocks [] ∙ sym (length-replicate blocks Free);
   floor = refl;
+  copy = refl;
   idle = ap (λ n. replicate n Idle) (sym (length-replicate sessions Idle));
   replies = ap (λ n. replicate n []) (sym (length-replicate sessions Idle));
 }

@@ -10,6 +10,7 @@ state_of p = record {
     status = p.status.items;
     versions = p.versions.items;
     floor = p.floor;
+    copy = p.copy;
     sessions = p.sessions.items;
   };
   replies = p.replies.items;

@@ -10,6 +10,7 @@ use Rattle.epoch_core.specs.Machine.{Answers}
 use Rattle.epoch_core.specs.Runs.{run, Runs, is_done}
 use Rattle.epoch_core.specs.Holdings.{holdings, Agree, questions}
 use Rattle.epoch_core.specs.Epochs.{FillsNoHeldBlock, PinsInOrder, IsPartition}
+use Rattle.epoch_core.specs.Collections.{LeavesWhatPinsNeed, LeavesNoneUnpinned}
 
 -- in one world: the replies to a session are, one by one, the answers to the requests of its holdings, each
 -- over what the batches up to the held version leave
@@ -41,6 +42,12 @@ PinsAlwaysInOrder = Always (λ blocks w. PinsInOrder w)
 
 abbrev pub BlocksAlwaysPartitioned : Type 0
 BlocksAlwaysPartitioned = Always IsPartition
+
+abbrev pub CollectionsLeaveWhatPinsNeed : Type 0
+CollectionsLeaveWhatPinsNeed = Always (λ blocks w. LeavesWhatPinsNeed w)
+
+abbrev pub CollectionsLeaveNoneUnpinned : Type 0
+CollectionsLeaveNoneUnpinned = Always (λ blocks w. LeavesNoneUnpinned w)
 
 -- in every world a Post is done exactly where its rule holds
 abbrev pub PostsByItsRule : Type 0

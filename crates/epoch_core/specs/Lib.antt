@@ -4,6 +4,7 @@ pub mod Machine
 pub mod Runs
 pub mod Holdings
 pub mod Epochs
+pub mod Collections
 pub mod Laws
 pub mod Sound
 pub mod Cores

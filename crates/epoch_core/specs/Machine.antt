@@ -19,7 +19,7 @@ use Rattle.epoch_core.specs.declared.events.Event.TheVariants.{Take, Fill, Post,
 use Rattle.epoch_core.specs.declared.events.Event.TheVariants.{Reply, Release}
 use Rattle.epoch_posts.specs.Blocks.{changed_at, taken, recycled, filled}
 use Rattle.epoch_posts.specs.declared.states.Opening.{Opening}
-use Rattle.epoch_core.specs.Worlds.{Answer, World, last_number, graph_with, pin_in}
+use Rattle.epoch_core.specs.Worlds.{Answer, World, last_number, graph_with, pin_in, copy_of}
 use Rattle.epoch_posts.specs.Versions.{version_at, blocks_at, edges_at, content_with}
 use Rattle.epoch_posts.specs.Posting.{can_post}
 use Rattle.epoch_core.specs.Posts.{posted}
@@ -109,8 +109,8 @@ step w (Take b) = option_map (with_status w) (changed_at taken w.status b)
 step w (Fill b edges) = option_map (with_heap w) (filled w.status w.heap b edges)
 step w (Post batch blocks) = if can_post w.opening w.heap w.status w.versions batch blocks then Some
     (posted w batch blocks) else None
-step w Floor = Some (record w { floor = least_pin (last_number w) w.sessions })
-step w (Recycle b) = option_map (with_status w) (changed_at (recycled w.floor) w.status b)
+step w Floor = Some (record w { floor = least_pin (last_number w) w.sessions; copy = copy_of w })
+step w (Recycle b) = option_map (with_status w) (changed_at (recycled w.copy) w.status b)
 step w (Pin s) = move w s (to_pin w.floor)
 step w (Enter s) = move w s (to_enter (last_number w))
 step w (Settle s) = move w s to_settle

@@ -1,11 +1,13 @@
 -- What holds of the machine at every moment, and carries the laws.
-use Rattle.std.specs.Prelude.{◌≡◌, ◌≢◌, ℕ, ◌≤◌, ◌<◌, length, take, slice_get, AllPairs, MatchOption, IsTrue}
+use Rattle.std.specs.Prelude.{true, ◌≡◌, ◌≢◌, ℕ, ◌≤◌, ◌<◌, length, take, slice_get, AllPairs, MatchOption, IsTrue}
 use Rattle.std.specs.declared.option.Option.{Option}
 use Rattle.epoch_posts.specs.declared.states.Status.{Status}
 use Rattle.epoch_posts.specs.declared.states.Status.TheVariants.{Free, Fresh, Used, Retired}
 use Rattle.epoch_core.specs.declared.states.Hold.{Hold}
 use Rattle.epoch_core.specs.declared.states.SessionState.{SessionState}
 use Rattle.epoch_core.specs.declared.states.SessionState.TheVariants.{Idle, Pinned, Holding, Asking}
+use Rattle.pin_copy.specs.declared.copies.PinCopy.{PinCopy}
+use Rattle.pin_copy.specs.Copies.{needs}
 use Rattle.epoch_posts.specs.Blocks.{is_at, is_used, is_listed}
 use Rattle.epoch_core.specs.Worlds.{World, State, HasContents, last_number, last_blocks, last_graph, session_of}
 use Rattle.epoch_posts.specs.Versions.{Shows, graph_at, version_at, blocks_at, edges_of}
@@ -31,6 +33,10 @@ IsDatedAt last status = MatchOption status (Unit {0}) (IsDated last)
 abbrev pub IsKeptAt : ℕ → Option Status → Type 0
 IsKeptAt n status = MatchOption status ⊥ (IsKept n)
 
+-- the copy needs each block that is kept for the holders of version n
+abbrev pub IsCovered : PinCopy → ℕ → Type 0
+IsCovered copy n = (birth since : ℕ) → birth ≤ n → n < since → needs copy birth since ≡ true
+
 -- a holder's pin keeps the blocks of its version, and these show what the batches up to the version leave
 pub record IsHeld (w : World) (hold : Hold) : Type 0 where
   pub floor_pin : w.floor ≤ hold.pin
@@ -38,6 +44,7 @@ pub record IsHeld (w : World) (hold : Hold) : Type 0 where
   pub held_last : hold.version ≤ last_number w
   -- a pin that is settled is the number of the version
   pub settled : IsTrue hold.settled → hold.pin ≡ hold.version
+  pub covered : IsCovered w.copy hold.version
   pub kept : (b : ℕ) → IsTrue (is_listed b (blocks_at w.opening w.versions hold.version))
       → IsKeptAt hold.version (slice_get w.status b)
   pub shown : Shows (edges_of w.heap (blocks_at w.opening w.versions hold.version)) (graph_at w.opening w.versions hold.version)
@@ -56,6 +63,7 @@ pub record IsNamed (w : World) (n : ℕ) : Type 0 where
 
 pub record IsSound (w : World) : Type 0 where
   pub floor_last : w.floor ≤ last_number w
+  pub copy_last : w.copy.last ≤ last_number w
   pub used : (b : ℕ) → is_at is_used (slice_get w.status b) ≡ is_listed b (last_blocks w)
   pub dated : (b : ℕ) → IsDatedAt (last_number w) (slice_get w.status b)
   pub listed_once : AllPairs ◌≢◌ (last_blocks w)

@@ -1,8 +1,8 @@
 -- What the machine of interleavings knows at a moment: blocks of edges, versions, the floor, and where each
 -- session stands. It is STINGER's store of edge blocks (Ediger, McColl, Riedy, Bader; IEEE HPEC 2012) under
 -- sessions that hold a version while batches go on, as Aspen's readers do (Dhulipala, Blelloch, Shun; PLDI 2019).
-use Rattle.std.specs.Prelude.{◌≡◌, ◌≢◌, ℕ, ◌<◌, ◌≤◌, List, [], length, replicate, slice_get, slice_index_or, if◌then◌else◌, All}
-use Rattle.std.specs.Prelude.{AllPairs}
+use Rattle.std.specs.Prelude.{◌≡◌, ◌≢◌, ℕ, ◌<◌, ◌≤◌, ◌-◌, ◌++◌, Bool, true, false, not, List, [], length, map, replicate}
+use Rattle.std.specs.Prelude.{slice_get, slice_index_or, if◌then◌else◌, All, AllPairs}
 use Rattle.std.specs.declared.option.Option.{Option}
 use Rattle.std.specs.declared.option.Option.TheVariants.{None, Some}
 use Rattle.std.specs.declared.result.Result.{Result}
@@ -17,6 +17,9 @@ use Rattle.epoch_posts.specs.declared.states.Opening.{Opening}
 use Rattle.epoch_core.specs.declared.states.SessionState.{SessionState}
 use Rattle.epoch_core.specs.declared.states.SessionState.TheVariants.{Idle, Pinned, Holding, Asking}
 use Rattle.epoch_posts.specs.Blocks.{is_listed}
+use Rattle.pin_copy.specs.declared.copies.PinCopy.{PinCopy}
+use Rattle.pin_copy.specs.declared.copies.TheConstants.{SEATS}
+use Rattle.pin_copy.specs.Copies.{no_copy}
 use Rattle.epoch_posts.specs.Versions.{IsContentGraph, Shows, blocks_at, edges_of, graph_at, opening_graph}
 
 -- a reply, or the refusal that stands in its place
@@ -33,6 +36,8 @@ pub record World : Type 0 where
   -- the versions after version 0, in the order of their numbers
   pub versions : List Version
   pub floor : ℕ
+  -- what the last Floor saw: the last number, and the pins
+  pub copy : PinCopy
   -- for each session number where the session stands
   pub sessions : List SessionState
 
@@ -70,6 +75,36 @@ pin_in (Pinned pin) = Some pin
 pin_in (Holding hold) = Some hold.pin
 pin_in (Asking hold inquiry) = Some hold.pin
 
+-- the pin of a session that has told the number of its version, and of one that hasn't
+abbrev pub pin_if : Bool → ℕ → Option ℕ
+pin_if true pin = Some pin
+pin_if false pin = None
+
+abbrev pub settled_in : SessionState → Option ℕ
+settled_in Idle = None
+settled_in (Pinned pin) = None
+settled_in (Holding hold) = pin_if hold.settled hold.pin
+settled_in (Asking hold inquiry) = pin_if hold.settled hold.pin
+
+abbrev pub unsettled_in : SessionState → Option ℕ
+unsettled_in Idle = None
+unsettled_in (Pinned pin) = Some pin
+unsettled_in (Holding hold) = pin_if (not hold.settled) hold.pin
+unsettled_in (Asking hold inquiry) = pin_if (not hold.settled) hold.pin
+
+-- one for each session, and none for each further seat of a copy
+abbrev pub seated : (SessionState → Option ℕ) → List SessionState → List (Option ℕ)
+seated pin sessions = map pin sessions ++ replicate (SEATS - length sessions) None
+
+-- the copy of a last number and of these sessions' pins
+abbrev pub pins_of : ℕ → List SessionState → PinCopy
+pins_of last sessions =
+    record { last = last; settled = seated settled_in sessions; unsettled = seated unsettled_in sessions }
+
+-- the copy of the pins as they stand
+abbrev pub copy_of : World → PinCopy
+copy_of w = pins_of (last_number w) w.sessions
+
 abbrev pub held_in : SessionState → Option ℕ
 held_in Idle = None
 held_in (Pinned pin) = None
@@ -85,7 +120,8 @@ replies_of state s = slice_index_or state.replies s []
 -- Starts
 
 -- a state from which a run may start: there is version 0 alone, whose blocks are there, each once, and have the
--- edges of the opening graph; all other blocks are free; the floor is 0, no session has a pin, and none a reply
+-- edges of the opening graph; all other blocks are free; the floor is 0, no pin is copied, no session has
+-- a pin, and none a reply
 pub record IsStart (state : State) : Type 0 where
   pub alone : state.world.versions ≡ []
   pub within : All (λ b. b < length state.world.status) state.world.opening.blocks
@@ -95,6 +131,7 @@ pub record IsStart (state : State) : Type 0 where
       ≡ Some (if is_listed b state.world.opening.blocks then Used 0 else Free)
   pub heap : length state.world.heap ≡ length state.world.status
   pub floor : state.world.floor ≡ 0
+  pub copy : state.world.copy ≡ no_copy
   pub idle : state.world.sessions ≡ replicate (length state.world.sessions) Idle
   pub replies : state.replies ≡ replicate (length state.world.sessions) []
 
@@ -110,6 +147,7 @@ start_world sessions blocks = record {
   status = replicate blocks Free;
   versions = [];
   floor = 0;
+  copy = no_copy;
   sessions = replicate sessions Idle;
 }
 

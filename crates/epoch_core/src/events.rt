@@ -11,9 +11,9 @@ pub enum Event {
     Fill(usize, List<Edge>),
     /// The writer posts a batch as the next version, whose edges are in these blocks.
     Post(Batch, List<usize>),
-    /// The collector raises the floor to the least of the last number and all pins.
+    /// The collector raises the floor to the least of the last number and all pins, and copies them.
     Floor,
-    /// The collector frees a block that was retired with a number at most the floor.
+    /// The collector frees a retired block that the copy doesn't need.
     Recycle(usize),
     /// A session pins the floor.
     Pin(usize),

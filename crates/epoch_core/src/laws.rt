@@ -1,7 +1,8 @@
 //! The laws of the machine, as contracts of functions that do nothing.
 
 ghost use Rattle.epoch_core.specs.Laws.{RepliesAreAnswers, AgreeingRunsReplyAlike, AlwaysFillsNoHeldBlock, PinsAlwaysInOrder};
-ghost use Rattle.epoch_core.specs.Laws.{BlocksAlwaysPartitioned, PostsByItsRule};
+ghost use Rattle.epoch_core.specs.Laws.{BlocksAlwaysPartitioned, CollectionsLeaveWhatPinsNeed, CollectionsLeaveNoneUnpinned};
+ghost use Rattle.epoch_core.specs.Laws.{PostsByItsRule};
 ghost use Rattle.epoch_core.specs.Examples.{AreExamples};
 
 /// Snapshot isolation, for machines of every size, every opening graph and all lists of events from a start.
@@ -30,6 +31,17 @@ pub fn law_epoch()
     ensures fills { AlwaysFillsNoHeldBlock }
     ensures pins { PinsAlwaysInOrder }
     ensures partition { BlocksAlwaysPartitioned }
+{}
+
+/// What a whole collection leaves, at every moment of every list of events from a start: after a Floor and a Recycle of
+/// each retired block, with nothing between.
+///
+/// - `left`: the blocks still retired are exactly those that a settled pin needs, from the birth to below the
+///   retirement, or an unsettled pin below the retirement.
+/// - `none`: where no session is pinned, none is left.
+pub fn law_collection()
+    ensures left { CollectionsLeaveWhatPinsNeed }
+    ensures none { CollectionsLeaveNoneUnpinned }
 {}
 
 /// The rule of a Post: in every world it is done exactly where there are fewer than 65,536 batches, each block is

@@ -2,9 +2,10 @@
 //!
 //! Its events are single atomic steps of a writer, a collector and the sessions; `specs/Machine.antt` says what
 //! each asks and does, `specs/Runs.antt` what a list of them does, and `specs/Holdings.antt` what befalls a
-//! session in it. [`Core`] takes exactly these steps. [`law_isolation`] and [`law_epoch`] are the two laws about
-//! them: snapshot isolation, and that no block is filled again while a session may read it; [`law_post`] is the
-//! rule of a Post. What a Post asks and sets, and what becomes of blocks, is `epoch_posts`.
+//! session in it. [`Core`] takes exactly these steps. [`law_isolation`], [`law_epoch`] and [`law_collection`] are
+//! laws about them: snapshot isolation; that no block is filled again while a session may read it; and that a
+//! collection leaves no more blocks retired than pins need. [`law_post`] is the rule of a Post. What a Post asks and
+//! sets, and what becomes of blocks, is `epoch_posts`.
 //! The store that it models is STINGER's (Ediger, McColl, Riedy, Bader; IEEE HPEC 2012) with held snapshots as
 //! Aspen has them (Dhulipala, Blelloch, Shun; PLDI 2019).
 #![tactic(auto)]
@@ -18,8 +19,9 @@ mod states;
 
 pub use epoch_posts::Step;
 pub use events::Event;
-pub use laws::{law_epoch, law_examples, law_isolation, law_post};
+pub use laws::{law_collection, law_epoch, law_examples, law_isolation, law_post};
 pub use machine::{Core, run};
+pub use pin_copy::PinCopy;
 use std::alloc::AllocError;
 
 /// Want of memory.

@@ -13,16 +13,18 @@ ghost use Rattle.epoch_core.specs.declared.states.SessionState.TheVariants.{Idle
 
 use crate::replying::{replies_at, reply};
 use crate::sessions::{
-    ask, enter, held_in, least_pin, pin, pin_in, read, release, settle, state_at,
+    ask, copy_pins, enter, held_in, least_pin, pin, pin_in, read, release, settle, state_at,
 };
 use crate::states::{Parts, SessionState};
 use crate::{Event, OutOfMemory};
 use epoch_posts::{Opening, Status, Step, fill_block, plan_post, recycle_block, take_block};
 use graph_model::{AskError, Batch, Content, Edge, List, Reply};
+use pin_copy::PinCopy;
 use std::alloc::{AllocError, Global};
 use std::marker::Model;
 
-/// The machine of interleavings, as `specs/Machine.antt` defines it: blocks, versions, the floor, and sessions.
+/// The machine of interleavings, as `specs/Machine.antt` defines it: blocks, versions, the floor, a copy
+/// of the pins, and sessions.
 pub struct Core {
     parts: Parts,
 }
@@ -49,8 +51,8 @@ impl Model for Core {
 
 impl Core {
     /// The machine at its start, which will grow by this allocator: all blocks are free and without edges, there
-    /// is version 0 alone, the floor is 0, and no session has a pin. There are 1 to 16 sessions and 1 to 65,536
-    /// blocks.
+    /// is version 0 alone, the floor is 0, no session has a pin, and none is copied. There are 1 to 16 sessions and 1
+    /// to 65,536 blocks.
     pub fn new(alloc: Global, sessions: usize, blocks: usize) -> Result<Core, OutOfMemory>
         requires some_sessions { 1 ≤ sessions }
         requires few_sessions { sessions ≤ 16 }
@@ -96,6 +98,13 @@ impl Core {
         ensures { result ≡ self.now.world.floor }
     {
         self.parts.floor
+    }
+
+    /// What the last Floor saw: the last number, and the pins; number 0 and no pin before it. It takes no memory.
+    pub fn copied(&self) -> PinCopy
+        ensures { result ≡ self.now.world.copy }
+    {
+        self.parts.copy
     }
 
     /// The number of the version that a session holds, if it holds one. It takes no memory.
@@ -152,6 +161,7 @@ fn parts_at_start(alloc: Global, sessions: usize, blocks: usize) -> Result<Parts
         status: free_blocks(alloc, blocks)?,
         versions: Vec::new(alloc),
         floor: 0,
+        copy: PinCopy::none(),
         sessions: idle_sessions(alloc, sessions)?,
         replies: empty_lists(alloc, sessions)?,
     })
@@ -228,7 +238,7 @@ fn advance(parts: &mut Parts, event: &Event) -> Result<Step, AllocError>
         Event::Fill(block, edges) => fill(parts, *block, edges.as_slice()),
         Event::Post(batch, blocks) => post(parts, batch, blocks.as_slice()),
         Event::Floor => Ok(raise_floor(parts)),
-        Event::Recycle(block) => Ok(recycle_block(&mut parts.status, parts.floor, *block)),
+        Event::Recycle(block) => Ok(recycle_block(&mut parts.status, &parts.copy, *block)),
         Event::Pin(session) => Ok(pin(&mut parts.sessions, *session, parts.floor)),
         Event::Enter(session) => Ok(enter_last(parts, *session)),
         Event::Settle(session) => Ok(settle(&mut parts.sessions, *session)),
@@ -285,7 +295,9 @@ fn raise_floor(parts: &mut Parts) -> Step
     ensures steps { Steps (state_of parts.old) Event.Floor result (state_of parts.new) }
     ensures contents { HasContents parts.new.opening parts.new.versions.items }
 {
-    parts.floor = least_pin(parts.versions.len() as u64, parts.sessions.as_slice());
+    let last = parts.versions.len() as u64;
+    parts.floor = least_pin(last, parts.sessions.as_slice());
+    parts.copy = copy_pins(last, parts.sessions.as_slice());
     Step::Done
 }
 

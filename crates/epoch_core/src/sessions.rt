@@ -1,6 +1,6 @@
 //! The moves of sessions. A move that can't be made leaves the session as it is.
 
-ghost use Rattle.std.specs.Prelude.{◌≡◌, ◌<◌, ◌++◌, IfOk, OnErr, length, slice_index_or};
+ghost use Rattle.std.specs.Prelude.{◌≡◌, ◌<◌, ◌≤◌, ◌++◌, IfOk, OnErr, length, slice_index_or};
 ghost use Rattle.epoch_core.specs.Machine as machine;
 ghost use Rattle.epoch_core.specs.Worlds as worlds;
 ghost use Rattle.epoch_posts.specs.Blocks.{Stepped, changed_at};
@@ -9,6 +9,7 @@ ghost use Rattle.epoch_core.specs.declared.states.SessionState.TheVariants.{Idle
 use crate::states::{Hold, Inquiry, SessionState};
 use epoch_posts::{Opening, Step, Version, blocks_at, edges_at};
 use graph_model::{Edge, List, Request};
+use pin_copy::{PinCopy, SEATS};
 use std::alloc::{AllocError, Global};
 
 /// Where a session stands. It takes no memory.
@@ -54,6 +55,74 @@ pub(crate) fn least_pin(last: u64, sessions: &[SessionState]) -> u64
         }
     }
     least
+}
+
+/// The pin of a session in this state that has told the number of its version. It takes no memory.
+fn settled_in(state: &SessionState) -> Option<u64>
+    ensures { result ≡ worlds.settled_in state.now }
+{
+    match state {
+        SessionState::Idle => None,
+        SessionState::Pinned(_) => None,
+        SessionState::Holding(hold) => pin_if(hold.settled, hold.pin),
+        SessionState::Asking(hold, _) => pin_if(hold.settled, hold.pin),
+    }
+}
+
+/// The pin of a session in this state that hasn't told the number of its version. It takes no memory.
+fn unsettled_in(state: &SessionState) -> Option<u64>
+    ensures { result ≡ worlds.unsettled_in state.now }
+{
+    match state {
+        SessionState::Idle => None,
+        SessionState::Pinned(pin) => Some(*pin),
+        SessionState::Holding(hold) => pin_if(!hold.settled, hold.pin),
+        SessionState::Asking(hold, _) => pin_if(!hold.settled, hold.pin),
+    }
+}
+
+fn pin_if(is_in: bool, pin: u64) -> Option<u64>
+    ensures { result ≡ worlds.pin_if is_in pin }
+{
+    if is_in { Some(pin) } else { None }
+}
+
+/// The last number, and the settled and the unsettled pins. It takes no memory.
+pub(crate) fn copy_pins(last: u64, sessions: &[SessionState]) -> PinCopy
+    requires { length sessions.now ≤ 16 }
+    ensures { result ≡ worlds.pins_of last sessions.now }
+{
+    PinCopy {
+        last,
+        settled: settled_pins(sessions),
+        unsettled: unsettled_pins(sessions),
+    }
+}
+
+fn settled_pins(sessions: &[SessionState]) -> [Option<u64>; SEATS]
+    requires { length sessions.now ≤ 16 }
+    ensures { result ≡ worlds.seated worlds.settled_in sessions.now }
+{
+    let mut pins = [None; SEATS];
+    let mut seat = 0;
+    while seat < sessions.len() {
+        pins[seat] = settled_in(&sessions[seat]);
+        seat += 1;
+    }
+    pins
+}
+
+fn unsettled_pins(sessions: &[SessionState]) -> [Option<u64>; SEATS]
+    requires { length sessions.now ≤ 16 }
+    ensures { result ≡ worlds.seated worlds.unsettled_in sessions.now }
+{
+    let mut pins = [None; SEATS];
+    let mut seat = 0;
+    while seat < sessions.len() {
+        pins[seat] = unsettled_in(&sessions[seat]);
+        seat += 1;
+    }
+    pins
 }
 
 /// A session that is away pins the floor. It takes no memory.

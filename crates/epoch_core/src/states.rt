@@ -2,6 +2,7 @@
 
 use epoch_posts::{Opening, Status, Version};
 use graph_model::{AskError, Edge, List, Reply, Request};
+use pin_copy::PinCopy;
 use std::alloc::Global;
 
 /// A reply, or the refusal that stands in its place.
@@ -49,6 +50,8 @@ pub(crate) struct Parts {
     /// The versions after version 0, in the order of their numbers.
     pub(crate) versions: Vec<Version>,
     pub(crate) floor: u64,
+    /// What the last Floor saw: the last number, and the pins.
+    pub(crate) copy: PinCopy,
     pub(crate) sessions: Vec<SessionState>,
     pub(crate) replies: Vec<List<Answer>>,
 }

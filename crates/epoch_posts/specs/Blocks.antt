@@ -1,10 +1,12 @@
 -- What blocks are: free, fresh, used or retired; what is listed; and a change of one element of a list.
-use Rattle.std.specs.Prelude.{◌≡◌, ℕ, Bool, true, false, not, ◌&&◌, ◌==◌, nat_le, List, [], ◌∷◌, map, if◌then◌else◌, slice_get}
+use Rattle.std.specs.Prelude.{◌≡◌, ℕ, Bool, true, false, not, ◌&&◌, ◌==◌, List, [], ◌∷◌, map, if◌then◌else◌, slice_get}
 use Rattle.std.specs.Prelude.{slice_set}
 use Rattle.std.specs.List.{list_any, enumerate_from}
 use Rattle.std.specs.Option.{option_and_then}
 use Rattle.std.specs.declared.option.Option.{Option}
 use Rattle.std.specs.declared.option.Option.TheVariants.{None, Some}
+use Rattle.pin_copy.specs.declared.copies.PinCopy.{PinCopy}
+use Rattle.pin_copy.specs.Copies.{needs}
 use Rattle.graph_model.specs.declared.ids.Edge.{Edge}
 use Rattle.epoch_posts.specs.declared.states.Status.{Status}
 use Rattle.epoch_posts.specs.declared.states.Status.TheVariants.{Free, Fresh, Used, Retired}
@@ -68,12 +70,12 @@ taken Fresh = None
 taken (Used birth) = None
 taken (Retired birth since) = None
 
--- a block that was retired with a number at most the floor is free once it is recycled
-abbrev pub recycled : ℕ → Status → Option Status
-recycled floor Free = None
-recycled floor Fresh = None
-recycled floor (Used birth) = None
-recycled floor (Retired birth since) = if nat_le since floor then Some Free else None
+-- a retired block that the copy of the pins doesn't need is free once it is recycled
+abbrev pub recycled : PinCopy → Status → Option Status
+recycled copy Free = None
+recycled copy Fresh = None
+recycled copy (Used birth) = None
+recycled copy (Retired birth since) = if needs copy birth since then None else Some Free
 
 -- the heap with these edges in a fresh block
 abbrev pub filled : List Status → List (List Edge) → ℕ → List Edge → Option (List (List Edge))

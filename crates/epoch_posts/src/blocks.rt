@@ -9,6 +9,7 @@ ghost use Rattle.epoch_posts.specs.Posting as posting;
 use crate::states::Status;
 use crate::steps::Step;
 use graph_model::{Edge, List};
+use pin_copy::PinCopy;
 use std::alloc::{AllocError, Global};
 
 /// Makes a free block fresh. `Skipped`, with nothing changed, where there is no block of this number or it isn't free.
@@ -26,18 +27,37 @@ pub fn take_block(status: &mut Vec<Status>, block: usize) -> Step
     }
 }
 
-/// Frees a block that was retired with a number at most the floor. `Skipped`, with nothing changed, where there is no
-/// such block. It takes no memory.
-pub fn recycle_block(status: &mut Vec<Status>, floor: u64, block: usize) -> Step
-    ensures { Stepped (specs.changed_at (specs.recycled floor) status.old.items block) result status.old.items status.new.items }
+/// What a retired block that the copy of the pins doesn't need becomes, and none for any other.
+fn recycled(copy: &PinCopy, status: Status) -> Option<Status>
+    ensures { result ≡ specs.recycled copy.now status }
 {
-    let before = status.get(block).copied();
-    match before {
-        Some(Status::Retired { since, .. }) if since <= floor => {
-            status[block] = Status::Free;
+    match status {
+        Status::Retired { birth, since } => {
+            if copy.needs(birth, since) {
+                None
+            } else {
+                Some(Status::Free)
+            }
+        }
+        _ => None,
+    }
+}
+
+/// Frees a retired block that the copy of the pins doesn't need. `Skipped`, with nothing changed, where there is no
+/// such block. It takes no memory.
+pub fn recycle_block(status: &mut Vec<Status>, copy: &PinCopy, block: usize) -> Step
+    ensures { Stepped (specs.changed_at (specs.recycled copy.now) status.old.items block) result status.old.items
+        status.new.items }
+{
+    let Some(before) = status.get(block).copied() else {
+        return Step::Skipped;
+    };
+    match recycled(copy, before) {
+        Some(after) => {
+            status[block] = after;
             Step::Done
         }
-        _ => Step::Skipped,
+        None => Step::Skipped,
     }
 }
 

@@ -2,7 +2,7 @@
 
 use graph_model::{Batch, Content, List, Name};
 
-/// What a block is to the machine. Collection by the floor reads no birth; a collection by intervals will.
+/// What a block is to the machine.
 #[derive(Clone, Copy, Debug, PartialEq, Eq)]
 pub enum Status {
     /// It may be taken.

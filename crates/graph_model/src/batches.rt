@@ -116,6 +116,17 @@ pub enum PushError {
 }
 
 /// A list of at most 4,096 valid operations, which stand for themselves one after another in order.
+///
+/// ```
+/// let mut batch = Batch::new(alloc);
+/// batch.push(NamedOp::Insert {
+///     kind: Name::of(String::from_str(alloc, "knows")?),
+///     source: Name::of(String::from_str(alloc, "ann")?),
+///     target: Name::of(String::from_str(alloc, "bob")?),
+///     weight: 1,
+///     time: 1,
+/// })?;
+/// ```
 #[derive(Debug)]
 pub struct Batch {
     ops: Vec<NamedOp>,

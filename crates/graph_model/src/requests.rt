@@ -33,6 +33,17 @@ impl Clone for NamedFilter {
 }
 
 /// A request about a graph, with names as texts.
+///
+/// ```
+/// let levels_of_all_edges = Request::Levels {
+///     source: Name::of(String::from_str(alloc, "ann")?),
+///     filter: NamedFilter {
+///         kind: None,
+///         lo: 0,
+///         hi: u64::MAX,
+///     },
+/// };
+/// ```
 #[derive(Debug, Drop)]
 pub enum Request {
     /// The level of each vertex from the source over the view of the filter.

@@ -1,15 +1,19 @@
 -- A desk that shows a state: what batches, collections and counts come to.
 use Rattle.std.proofs.Common.{◌≡◌, ◌≢◌, ℕ, zero, suc, ◌+◌, ◌-◌, ◌<◌, ◌≤◌, Bool, true, false, cond, ◌&&◌, List, [], ◌∷◌, ◌++◌}
-use Rattle.std.proofs.Common.{length}
+use Rattle.std.proofs.Common.{length, map, not}
 use Rattle.std.proofs.Common.{count_by, filter, replicate, refl, sym, ap, ◌∙◌, arith}
 use Rattle.std.specs.Prelude.{None, Some, Ok, Err, nat_le, nat_lt, if◌then◌else◌}
 use Rattle.std.specs.FinMap.{len}
 use Rattle.std.proofs.lemmas.Bool.Decides.{nat_tests}
 use Rattle.std.proofs.lemmas.List.{length-append}
 use Rattle.batch_apply.proofs.Kept.{count_append}
-use Rattle.block_layout.specs.Batches.{dropped_by, layout_after, taken_by}
-use Rattle.block_pool.specs.Pools.{Status, Free, Used, Retired, is_free, is_past, is_retired, is_used}
-use Rattle.block_pool.proofs.Tallies.{count_more, count_true}
+use Rattle.block_layout.specs.Batches.{layout_after, taken_by}
+use Rattle.block_pool.specs.Pools.{Status, Free, Granted, Used, Retired, is_free, is_past, is_retired, is_used}
+use Rattle.block_pool.proofs.Tallies.{count_more}
+use Rattle.pin_copy.specs.declared.copies.PinCopy.{PinCopy}
+use Rattle.pin_copy.specs.Copies as copies
+use Rattle.pin_copy.specs.Copies.{needs}
+use Rattle.shard_work.specs.Births.{births_after, dropped_births}
 use Rattle.feed_csv.specs.declared.command.Command.TheVariants.{Collect, Commit, Stat}
 use Rattle.graph_model.specs.Limits.{batch_limit, kind_limit, name_limit}
 use Rattle.graph_model.specs.Step.{after_all, left_by, outcomes}
@@ -17,7 +21,7 @@ use Rattle.graph_model.specs.declared.batches.NamedOp.{NamedOp}
 use Rattle.graph_model.specs.declared.batches.Outcome.{Outcome}
 use Rattle.graph_version.specs.Kept.{edge_total}
 use Rattle.graph_version.specs.Versions.{content, layout_of}
-use Rattle.store_journal.specs.Desks.{DeskView, IsCollected, AcceptedCounts, CollectedCounts, is_retired_by}
+use Rattle.store_journal.specs.Desks.{DeskView, IsCollected, AcceptedCounts, CollectedCounts, births_in, is_retired_by}
 use Rattle.store_journal.specs.Opening.{opened_desk}
 use Rattle.store_journal.specs.Steps.{Accepts}
 use Rattle.store_journal.proofs.StatusCounts.{accepted_counts, collected_counts}
@@ -26,8 +30,10 @@ use Rattle.stream_store.specs.Refusals.{IsWithin, Refuses}
 use Rattle.stream_store.specs.declared.receipts.ApplyError.{ApplyError}
 use Rattle.stream_store.specs.declared.receipts.ApplyError.TheVariants as refused
 use Rattle.script_lines.specs.Lines.{collect_line, commit_line, stat_line}
+use Rattle.stinger_server.proofs.SlotLaws.{floor_is}
 use Rattle.stinger_server.specs.Servers.{ShowsDesk, batch_word}
-use Rattle.stinger_server.specs.States.{IsDone, State, after_collect, after_commit, beginning, commit_refusal, dropped, floor_of}
+use Rattle.stinger_server.specs.States.{Dates, IsDone, State, after_collect, after_commit, beginning, commit_refusal, copy_of, dates, dropped}
+use Rattle.stinger_server.specs.States.{floor_of}
 use Rattle.stinger_server.specs.States.{last_version, left_by_pending, recycled, set_up, taken}
 use Rattle.script_lines.specs.declared.words.Word.TheVariants.{BatchLimit, KindsFull, NamesFull, PoolEmpty}
 
@@ -42,21 +48,24 @@ same_counts p q same (s ∷ pool) =
     let rest = same_counts p q same pool in
     omega arith
 
-retired_any : (s : Status) → is_retired s ≡ is_retired_by (λ number. true) s
+retired_any : (s : Status) → is_retired s ≡ is_retired_by (λ birth since. true) s
 retired_any Free = refl
-retired_any Used = refl
-retired_any (Retired version) = refl
+retired_any Granted = refl
+retired_any (Used birth) = refl
+retired_any (Retired birth since) = refl
 
-past_any : (floor : ℕ) (s : Status) → is_past floor s ≡ is_retired_by (λ number. nat_le number floor) s
-past_any floor Free = refl
-past_any floor Used = refl
-past_any floor (Retired version) = refl
+past_any : (copy : PinCopy) (s : Status) → is_past copy s ≡ is_retired_by (λ birth since. not (needs copy birth since)) s
+past_any copy Free = refl
+past_any copy Granted = refl
+past_any copy (Used birth) = refl
+past_any copy (Retired birth since) = refl
 
 -- each block is free, retired or used
 parts_one : (s : Status) → (let n : ℕ = cond (is_free s) 1 0 in n) + cond (is_retired s) 1 0 + cond (is_used s) 1 0 ≡ 1
 parts_one Free = refl
-parts_one Used = refl
-parts_one (Retired version) = refl
+parts_one Granted = refl
+parts_one (Used birth) = refl
+parts_one (Retired birth since) = refl
 
 parts : (pool : List Status) → count_by is_free pool + count_by is_retired pool + count_by is_used pool ≡ length pool
 parts [] = refl
@@ -79,11 +88,15 @@ count_filter p q (x ∷ xs) =
       | false ↦ λ e. (let here : (let n : ℕ = cond (p x && q x) 1 0 in n) ≡ 0 = ap (λ t. cond (t && q x) 1 0) e in omega arith)
     ] refl
 
--- how many are retired is how many numbers there are
+all_counted_in : (xs : List Dates) → count_by (λ _. true) xs ≡ length xs
+all_counted_in [] = refl
+all_counted_in (x ∷ xs) = let one = count_more (λ (y : Dates). true) x xs in let rest = all_counted_in xs in omega arith
+
+-- how many are retired is how many dates there are
 all_retired : (d : DeskView) (s : State) → ShowsDesk d s → count_by is_retired d.pool ≡ length s.retired
 all_retired d s shows =
-    same_counts is_retired (is_retired_by (λ number. true)) retired_any d.pool
-    ∙ (shows.retired (λ number. true) ∙ count_true s.retired)
+    same_counts is_retired (is_retired_by (λ birth since. true)) retired_any d.pool
+    ∙ (shows.retired (λ birth since. true) ∙ all_counted_in s.retired)
 
 -- The opening
 
@@ -110,6 +123,7 @@ shows_opened d config opened = rw opened (record {
   opening = refl;
   batches = refl;
   layout = refl;
+  births = λ source. refl;
   blocks = length-replicate config.blocks;
   free = all_counted config.blocks;
   retired = λ q. none_counted (is_retired_by q) refl config.blocks;
@@ -145,6 +159,25 @@ refusal_blocks s batches names kinds blocks = grind (arith, nat_tests)
 
 not_above : (m n : ℕ) → (m < n → ⊥) → n ≤ m
 not_above m n not = omega (arith, not)
+
+-- births with one retirement
+dated : (q : ℕ → ℕ → Bool) (births : List ℕ) (n : ℕ)
+    → count_by (λ (x : Dates). q x.birth x.since) (map (λ birth. dates birth n) births)
+    ≡ count_by (λ birth. q birth n) births
+dated q [] n = refl
+dated q (birth ∷ births) n =
+    let more : List Dates = map (λ birth. dates birth n) births in
+    let a = count_more (λ (x : Dates). q x.birth x.since) (dates birth n) more in
+    let b = count_more (λ k. q k n) birth births in
+    let rest = dated q births n in
+    omega arith
+
+dated_counts : (q : ℕ → ℕ → Bool) (retired : List Dates) (births : List ℕ) (n : ℕ)
+    → count_by (λ (x : Dates). q x.birth x.since) (retired ++ map (λ birth. dates birth n) births)
+    ≡ count_by (λ (x : Dates). q x.birth x.since) retired + count_by (λ birth. q birth n) births
+dated_counts q retired births n =
+    count_append (λ (x : Dates). q x.birth x.since) retired (map (λ birth. dates birth n) births)
+    ∙ ap (λ k. count_by (λ (x : Dates). q x.birth x.since) retired + k) (dated q births n)
 
 batches_after : (d e : DeskView) (ops : List NamedOp) → Accepts d ops e → e.last.batches ≡ d.last.batches ++ ops ∷ []
 batches_after d e ops accepts = ap (λ l. l.batches) accepts.accepted.ledger
@@ -182,18 +215,21 @@ shows_committed s d e ops shows pending accepts =
     accepted_counts d e ops accepts.taken accepts.dropped accepted in
     let takes : length accepts.taken ≡ taken s =
     accepted.layout.taken_are ∙ (λ i. taken_by (pending i) (same i) (shows.layout i) (length (left i).names)) in
-    let drops : length accepts.dropped ≡ dropped s =
-    accepted.layout.dropped_are ∙ (λ i. dropped_by (pending i) (same i) (shows.layout i) (length (left i).names)) in
     let number : length d.last.batches ≡ length s.batches = ap length shows.batches in
+    let births : births_in d ≡ s.births = λ i source. shows.births source i in
     record {
       opening = accepted.opening ∙ shows.opening;
       batches = batches_after d e ops accepts ∙ (λ i. shows.batches i ++ pending i ∷ []);
       layout = (λ i source. accepted.layout.rows source i) ∙ (λ i. layout_after (pending i) (same i) (shows.layout i));
+      births = λ source. accepted.births.rows source
+          ∙ (λ i. births_after (number i + 1) (pending i) (same i) (shows.layout i) (births i) source);
       blocks = counts.blocks ∙ shows.blocks;
       free = omega (arith, counts.free, takes, shows.free);
       retired = λ q. counts.retired_by q
-          ∙ ((λ i. shows.retired q i + count_by q (replicate (drops i) (number i + 1)))
-          ∙ sym (count_append q s.retired (replicate (dropped s) (length s.batches + 1))));
+          ∙ ((λ i. shows.retired q i + accepted.births.dropped_are (λ birth. q birth (length d.last.batches + 1)) i)
+          ∙ ((λ i. count_by (λ (x : Dates). q x.birth x.since) s.retired + count_by (λ birth. q birth (number i + 1))
+          (dropped_births (pending i) (same i) (shows.layout i) (births i) (length (left i).names)))
+          ∙ sym (dated_counts q s.retired (dropped s) (length s.batches + 1))));
     }
 
 refused_numbers : (s : State) (d : DeskView) (ops : List NamedOp) (error : ApplyError) → ShowsDesk d s → ops ≡ s.pending
@@ -225,6 +261,7 @@ shows_given_up s d shows = record {
   opening = shows.opening;
   batches = shows.batches;
   layout = shows.layout;
+  births = shows.births;
   blocks = shows.blocks;
   free = shows.free;
   retired = shows.retired;
@@ -232,36 +269,40 @@ shows_given_up s d shows = record {
 
 -- A collection
 
-past_is : (s : State) (d : DeskView) (floor : ℕ) → ShowsDesk d s → floor ≡ floor_of s
-    → count_by (is_past floor) d.pool ≡ recycled s
-past_is s d floor shows same =
-    same_counts (is_past floor) (is_retired_by (λ number. nat_le number floor)) (past_any floor) d.pool
-    ∙ (shows.retired (λ number. nat_le number floor) ∙ ap (λ k. count_by (λ number. nat_le number k) s.retired) same)
+past_is : (s : State) (d : DeskView) (copy : PinCopy) → ShowsDesk d s → copy ≡ copy_of s
+    → count_by (is_past copy) d.pool ≡ recycled s
+past_is s d copy shows same =
+    same_counts (is_past copy) (is_retired_by (λ birth since. not (needs copy birth since))) (past_any copy) d.pool
+    ∙ (shows.retired (λ birth since. not (needs copy birth since))
+    ∙ ap (λ k. count_by (λ (x : Dates). not (needs k x.birth x.since)) s.retired) same)
 
-pub shows_collected : (s : State) (d e : DeskView) (floor : ℕ) → ShowsDesk d s → IsCollected d floor e → floor ≡ floor_of s
-    → ShowsDesk e (after_collect s)
-shows_collected s d e floor shows collected same =
-    let counts : CollectedCounts d floor e = collected_counts d e floor collected in
+pub shows_collected : (s : State) (d e : DeskView) (copy : PinCopy) → ShowsDesk d s → IsCollected d copy e
+    → ((source : ℕ) → births_in e source ≡ births_in d source) → copy ≡ copy_of s → ShowsDesk e (after_collect s)
+shows_collected s d e copy shows collected births same =
+    let counts : CollectedCounts d copy e = collected_counts d e copy collected in
     record {
       opening = ap (λ v. v.opening) collected.last ∙ shows.opening;
       batches = ap (λ v. v.batches) collected.last ∙ shows.batches;
       layout = ap (λ v. layout_of v.rows) collected.last ∙ shows.layout;
+      births = λ source. births source ∙ shows.births source;
       blocks = counts.blocks ∙ shows.blocks;
-      free = omega (arith, counts.free, past_is s d floor shows same, shows.free);
+      free = omega (arith, counts.free, past_is s d copy shows same, shows.free);
       retired = λ q. counts.retired_by q
-          ∙ (shows.retired (λ number. nat_lt floor number && q number)
-          ∙ (ap (λ k. count_by (λ number. nat_lt k number && q number) s.retired) same
-          ∙ count_filter (λ number. nat_lt (floor_of s) number) q s.retired));
+          ∙ (shows.retired (λ birth since. needs copy birth since && q birth since)
+          ∙ (ap (λ k. count_by (λ (x : Dates). needs k x.birth x.since && q x.birth x.since) s.retired) same
+          ∙ count_filter (λ (x : Dates). needs (copy_of s) x.birth x.since) (λ (x : Dates). q x.birth x.since) s.retired));
     }
 
-pub collect_done : (s : State) (d e : DeskView) (floor count left : ℕ) (lines : List ℕ) → ShowsDesk d s → IsCollected d floor e
-    → floor ≡ floor_of s → count ≡ count_by (is_past floor) d.pool → left ≡ count_by is_retired e.pool
+pub collect_done : (s : State) (d e : DeskView) (copy : PinCopy) (floor count left : ℕ) (lines : List ℕ) → ShowsDesk d s
+    → IsCollected d copy e → ((source : ℕ) → births_in e source ≡ births_in d source) → copy ≡ copy_of s → floor ≡ copies.floor_of copy
+    → count ≡ count_by (is_past copy) d.pool → left ≡ count_by is_retired e.pool
     → lines ≡ collect_line floor count left → IsDone Collect s (Ok lines)
-collect_done s d e floor count left lines shows collected same count_is left_is lines_are =
-    let gone : count ≡ recycled s = count_is ∙ past_is s d floor shows same in
+collect_done s d e copy floor count left lines shows collected births same floor_are count_is left_is lines_are =
+    let low : floor ≡ floor_of s = floor_are ∙ (ap copies.floor_of same ∙ floor_is (length s.batches) s.held) in
+    let gone : count ≡ recycled s = count_is ∙ past_is s d copy shows same in
     let stay : left ≡ length (after_collect s).retired =
-    left_is ∙ all_retired e (after_collect s) (shows_collected s d e floor shows collected same) in
-    rw (lines_are, same, gone, stay) refl
+    left_is ∙ all_retired e (after_collect s) (shows_collected s d e copy shows collected births same) in
+    rw (lines_are, low, gone, stay) refl
 
 -- The counts
 

@@ -1,8 +1,8 @@
 -- Slots that stay slots: as sessions are acquired and released, batches come, and the floor rises.
 use Rattle.std.proofs.Common.{◌≡◌, ◌≢◌, ℕ, zero, suc, ◌+◌, ◌<◌, ◌≤◌, ◌==◌, max, true, false, List, [], ◌∷◌, ◌++◌, length}
 use Rattle.std.proofs.Common.{map}
-use Rattle.std.proofs.Common.{take, get_or, set, replicate, append-nil, refl, sym, ap, subst, ◌∙◌, arith, inl, inr}
-use Rattle.std.specs.Prelude.{◌⊎◌, Option, None, Some, IfSome, IsSomeAnd, slice_get}
+use Rattle.std.proofs.Common.{take, get_or, set, replicate, append-nil, refl, sym, ap, ap₂, subst, ◌∙◌, arith, inl, inr, ◌-◌, min}
+use Rattle.std.specs.Prelude.{◌⊎◌, Option, None, Some, IfSome, slice_get}
 use Rattle.std.specs.List.{range_with_len}
 use Rattle.std.specs.Option.{option_map}
 use Rattle.std.specs.Iterator.{Yields}
@@ -15,15 +15,16 @@ use Rattle.std.proofs.lemmas.List.FromFn.{get_or-range_with_len}
 use Rattle.std.proofs.lemmas.Option.{get_or_from_slice_get, slice_get_read, slice_get_within}
 use Rattle.std.proofs.Math.ListN.{length-set}
 use Rattle.std.proofs.Math.Seq.{take-length}
-use Rattle.std.proofs.Math.Nat.{max-eq_right, min-le_left, min-le_right, le-min}
+use Rattle.std.proofs.Math.Nat.{max-eq_right}
 use Rattle.graph_model.specs.declared.batches.NamedOp.{NamedOp}
 use Rattle.graph_version.specs.Versions.{IsVersion, VersionView, empty_version}
-use Rattle.seat_board.specs.Board.{BoardState, IsLeast, no_pins, pin_at, with_pin}
+use Rattle.pin_copy.specs.Copies.{floor_of, least_of, lesser}
+use Rattle.seat_board.specs.Board.{BoardState, copy_of, no_pins, pin_at, settled_number, unsettled_number, with_pin}
 use Rattle.seat_board.specs.declared.board.Pin.{Pin}
 use Rattle.seat_board.specs.declared.board.TheConstants.{SEATS}
 use Rattle.stream_store.specs.Seats.{SeatView, SessionView, held_version, lent_to, seat_of}
-use Rattle.stinger_server.specs.Slots.{AreSlots, IsEarlier, IsPinned, IsSlot, held_number}
-use Rattle.stinger_server.specs.States.{least_held}
+use Rattle.stinger_server.specs.Slots.{AreSlots, IsEarlier, IsPinned, IsSlot, held_number, holding}
+use Rattle.stinger_server.specs.States.{copy_by, least_held}
 
 same_or_not : (a b : ℕ) → (a ≡ b) ⊎ (a ≢ b)
 same_or_not a b = elim (a == b) as (λ t. (a == b) ≡ t → (a ≡ b) ⊎ (a ≢ b)) [
@@ -68,8 +69,8 @@ slots_first board seats free sessions new few numbers are_free are_none = record
   few = omega (arith, none_length);
   each = λ slot below. one slot (omega (arith, none_length));
   pinned = record {
-    pins = ap (λ b. length b.pins) new ∙ length-replicate {X = Option Pin} 16 None;
-    numbers = λ slot. rw (new, are_none) (none_at slot);
+    seats = ap (λ b. length b.pins) new ∙ length-replicate {X = Option Pin} 16 None;
+    pins = λ slot. rw (new, are_none) (none_at slot);
     floor = rw new (omega arith);
   };
 } where
@@ -88,8 +89,8 @@ slots_first board seats free sessions new few numbers are_free are_none = record
   none_length : length sessions ≡ length seats
   none_length = ap length are_none ∙ length-replicate (length seats) None
 
-  none_at : (slot : ℕ) → option_map (λ (pin : Pin). pin.number) (pin_at (replicate SEATS None) slot)
-      ≡ held_number (get_or (replicate (length seats) None) slot None)
+  none_at : (slot : ℕ) → pin_at (replicate SEATS None) slot
+      ≡ option_map holding (held_number (get_or (replicate (length seats) None) slot None))
   none_at slot = rw (none_or {X = Pin} SEATS slot, none_or {X = SessionView} (length seats) slot) refl
 
   one : (slot : ℕ) → slot < length seats → IsSlot empty_version slot (get_or free slot None) (get_or sessions slot None)
@@ -125,23 +126,23 @@ seat_there last slot None None is none gone = is
 -- the pins with that slot's pin and session changed
 pinned_set : (last : ℕ) (board : BoardState) (sessions : List (Option SessionView)) (slot : ℕ) (pin : Option Pin)
     (session : Option SessionView) → IsPinned last board sessions → slot < length sessions → length sessions ≤ SEATS
-    → option_map (λ (p : Pin). p.number) pin ≡ held_number session
+    → pin ≡ option_map holding (held_number session)
     → IsPinned last (with_pin board slot pin) (set sessions slot session)
 pinned_set last board sessions slot pin session pinned below few same = record {
-  pins = length-set board.pins slot pin ∙ pinned.pins;
-  numbers = λ other. elim (same_or_not other slot) [
-    | inl is ↦ rw is (ap (λ o. option_map (λ (p : Pin). p.number) o)
-        (get_or-set_same board.pins slot pin None (omega (arith, pinned.pins)))
-        ∙ (same ∙ sym (ap (λ o. held_number o) (get_or-set_same sessions slot session None below))))
-    | inr not ↦ ap (λ o. option_map (λ (p : Pin). p.number) o) (get_or-set_other board.pins slot other pin None not)
-        ∙ (pinned.numbers other ∙ sym (ap (λ o. held_number o) (get_or-set_other sessions slot other session None not)))
+  seats = length-set board.pins slot pin ∙ pinned.seats;
+  pins = λ other. elim (same_or_not other slot) [
+    | inl is ↦ rw is (get_or-set_same board.pins slot pin None (omega (arith, pinned.seats))
+        ∙ (same ∙ sym (ap (λ o. option_map holding (held_number o)) (get_or-set_same sessions slot session None below))))
+    | inr not ↦ get_or-set_other board.pins slot other pin None not
+        ∙ (pinned.pins other
+        ∙ sym (ap (λ o. option_map holding (held_number o)) (get_or-set_other sessions slot other session None not)))
   ];
   floor = pinned.floor;
 }
 
 slots_set : (last : VersionView) (board : BoardState) (seats : List (Option SeatView)) (sessions : List (Option SessionView))
     (slot : ℕ) (pin : Option Pin) (seat : Option SeatView) (session : Option SessionView) → AreSlots last board seats sessions
-    → slot < length sessions → IsSlot last slot seat session → option_map (λ (p : Pin). p.number) pin ≡ held_number session
+    → slot < length sessions → IsSlot last slot seat session → pin ≡ option_map holding (held_number session)
     → AreSlots last (with_pin board slot pin) (set seats slot seat) (set sessions slot session)
 slots_set last board seats sessions slot pin seat session slots below is same = record {
   same_length = length-set seats slot seat ∙ (slots.same_length ∙ sym (length-set sessions slot session));
@@ -233,8 +234,8 @@ slots_more last new batch board seats sessions opening batches slots = record {
   each = λ slot below. slot_more last new batch slot (get_or seats slot None) (get_or sessions slot None) opening batches
       (slots.each slot below);
   pinned = record {
+    seats = slots.pinned.seats;
     pins = slots.pinned.pins;
-    numbers = slots.pinned.numbers;
     floor = omega (arith, slots.pinned.floor, ap length batches, length-append last.batches (batch ∷ []));
   };
 }
@@ -243,66 +244,76 @@ pub slots_same : (last new : VersionView) (board : BoardState) (seats : List (Op
     (sessions : List (Option SessionView)) → new ≡ last → AreSlots last board seats sessions → AreSlots new board seats sessions
 slots_same last new board seats sessions same slots = rw same slots
 
--- The floor
+-- The copy of the pins, and its floor
 
-least_below : (last : ℕ) (sessions : List (Option SessionView)) → least_held last (map held_number sessions) ≤ last
-least_below last [] = omega arith
-least_below last (None ∷ sessions) = least_below last sessions
-least_below last (Some s ∷ sessions) =
-    let rest = least_below last sessions in
-    let least = min-le_right (length (held_version s).batches) (least_held last (map held_number sessions)) in
-    omega (arith, rest, least)
+settled_pin : (pin : Option Pin) (number : Option ℕ) → pin ≡ option_map holding number → settled_number pin ≡ number
+settled_pin pin None is = ap settled_number is
+settled_pin pin (Some n) is = ap settled_number is
 
-least_at : (last : ℕ) (sessions : List (Option SessionView)) (slot n : ℕ) → held_number (get_or sessions slot None) ≡ Some n
-    → least_held last (map held_number sessions) ≤ n
-least_at last [] slot n is = cc
-least_at last (None ∷ sessions) zero n is = cc
-least_at last (None ∷ sessions) (suc slot) n is = least_at last sessions slot n is
-least_at last (Some s ∷ sessions) zero n is =
-    let same : length (held_version s).batches ≡ n =
-    subst (λ (o : Option ℕ). IfSome o (λ k. length (held_version s).batches ≡ k)) is refl in
-    let least = min-le_left (length (held_version s).batches) (least_held last (map held_number sessions)) in
-    omega (arith, same, least)
-least_at last (Some s ∷ sessions) (suc slot) n is =
-    let rest = least_at last sessions slot n is in
-    let least = min-le_right (length (held_version s).batches) (least_held last (map held_number sessions)) in
-    omega (arith, rest, least)
+unsettled_pin : (pin : Option Pin) (number : Option ℕ) → pin ≡ option_map holding number → unsettled_number pin ≡ None
+unsettled_pin pin None is = ap unsettled_number is
+unsettled_pin pin (Some n) is = ap unsettled_number is
 
-least_above : (last floor : ℕ) (sessions : List (Option SessionView)) → floor ≤ last
-    → ((slot : ℕ) → IfSome (held_number (get_or sessions slot None)) (λ n. floor ≤ n))
-    → floor ≤ least_held last (map held_number sessions)
-least_above last floor [] below all = below
-least_above last floor (None ∷ sessions) below all = least_above last floor sessions below (λ slot. all (suc slot))
-least_above last floor (Some s ∷ sessions) below all =
-    le-min (all 0) (least_above last floor sessions below (λ slot. all (suc slot)))
+settled_are : (pins : List (Option Pin)) (sessions : List (Option SessionView)) (free : ℕ)
+    → length sessions + free ≡ length pins
+    → ((slot : ℕ) → pin_at pins slot ≡ option_map holding (held_number (get_or sessions slot None)))
+    → map settled_number pins ≡ map held_number sessions ++ replicate free None
+settled_are [] [] zero long same = refl
+settled_are [] [] (suc free) long same = absurd (omega arith)
+settled_are [] (s ∷ sessions) free long same = absurd (omega arith)
+settled_are (p ∷ pins) [] zero long same = absurd (omega arith)
+settled_are (p ∷ pins) [] (suc free) long same =
+    ap₂ (λ n ns. n ∷ ns) (settled_pin p None (same 0)) (settled_are pins [] free (omega arith) (λ slot. same (suc slot)))
+settled_are (p ∷ pins) (s ∷ sessions) free long same =
+    ap₂ (λ n ns. n ∷ ns) (settled_pin p (held_number s) (same 0))
+    (settled_are pins sessions free (omega arith) (λ slot. same (suc slot)))
 
-pub floor_is : (last : ℕ) (board : BoardState) (sessions : List (Option SessionView)) (floor : ℕ) → IsPinned last board sessions
-    → IsLeast last board.pins floor → floor ≡ least_held last (map held_number sessions)
-floor_is last board sessions floor pinned least =
-    let above = least_above last floor sessions least.below_last (λ slot. below slot) in
-    let under = least_below last sessions in
-    elim least.reached [
-      | inl is ↦ omega (arith, above, under, is)
-      | inr at ↦ omega (arith, above, reach at.0 (pin_at board.pins at.0) refl at.1)
-    ]
-  where
-    number : Pin → ℕ
-    number p = p.number
+unsettled_are : (pins : List (Option Pin)) (held : ℕ → Option ℕ) → ((slot : ℕ) → pin_at pins slot ≡ option_map holding (held slot))
+    → map unsettled_number pins ≡ replicate (length pins) None
+unsettled_are [] held same = refl
+unsettled_are (p ∷ pins) held same =
+    ap₂ (λ n ns. n ∷ ns) (unsettled_pin p (held 0) (same 0))
+    (unsettled_are pins (λ slot. held (suc slot)) (λ slot. same (suc slot)))
 
-    below : (slot : ℕ) → IfSome (held_number (get_or sessions slot None)) (λ n. floor ≤ n)
-    below slot = subst (λ (o : Option ℕ). IfSome o (λ n. floor ≤ n)) (pinned.numbers slot) (mapped (pin_at board.pins slot)
-        (least.below_pins slot))
-      where
-        mapped : (o : Option Pin) → IfSome o (λ p. floor ≤ p.number) → IfSome (option_map number o) (λ n. floor ≤ n)
-        mapped None is = tt
-        mapped (Some p) is = is
+abbrev nones : ℕ → List (Option ℕ)
+nones n = replicate n None
 
-    reach : (slot : ℕ) (pin : Option Pin) → pin_at board.pins slot ≡ pin → IsSomeAnd pin (λ p. p.number ≡ floor)
-        → least_held last (map held_number sessions) ≤ floor
-    reach slot None is at = absurd at
-    reach slot (Some p) is at =
-        least_at last sessions slot floor
-        (sym (pinned.numbers slot) ∙ (ap (option_map number) is ∙ ap Some at))
+-- the board's copy is that of the held numbers
+pub copy_is : (last number : ℕ) (board : BoardState) (sessions : List (Option SessionView)) → IsPinned last board sessions
+    → length sessions ≤ SEATS → copy_of number board.pins ≡ copy_by number (map held_number sessions)
+copy_is last number board sessions pinned few =
+    let free : ℕ = SEATS - length (map held_number sessions) in
+    let long : length sessions + free ≡ length board.pins =
+    omega (arith, length-map sessions held_number, pinned.seats, few) in
+    let settled : map settled_number board.pins ≡ map held_number sessions ++ nones free =
+    settled_are board.pins sessions free long pinned.pins in
+    let unsettled : map unsettled_number board.pins ≡ nones SEATS =
+    unsettled_are board.pins (λ slot. held_number (get_or sessions slot None)) pinned.pins ∙ ap nones pinned.seats in
+    λ i. record { last = number; settled = settled i; unsettled = unsettled i }
+
+least_none : (n free : ℕ) → least_of n (replicate free None) ≡ n
+least_none n zero = refl
+least_none n (suc free) = least_none n free
+
+least_more : (n : ℕ) (held : List (Option ℕ)) (free : ℕ) → least_of n (held ++ replicate free None) ≡ least_of n held
+least_more n [] free = least_none n free
+least_more n (m ∷ held) free = least_more (lesser n m) held free
+
+least_turned : (n m : ℕ) (held : List (Option ℕ)) → least_held (min n m) held ≡ min m (least_held n held)
+least_turned n m [] = omega arith
+least_turned n m (None ∷ held) = least_turned n m held
+least_turned n m (Some k ∷ held) = let rest = least_turned n m held in omega arith
+
+least_is : (n : ℕ) (held : List (Option ℕ)) → least_of n held ≡ least_held n held
+least_is n [] = refl
+least_is n (None ∷ held) = least_is n held
+least_is n (Some m ∷ held) = least_is (min n m) held ∙ least_turned n m held
+
+-- the floor of that copy is the least of its numbers
+pub floor_is : (last : ℕ) (held : List (Option ℕ)) → floor_of (copy_by last held) ≡ least_held last held
+floor_is last held =
+    least_none (least_of last (held ++ replicate (SEATS - length held) None)) SEATS
+    ∙ (least_more last held (SEATS - length held) ∙ least_is last held)
 
 pub slots_raised : (last : VersionView) (board new : BoardState) (seats : List (Option SeatView))
     (sessions : List (Option SessionView)) (floor : ℕ) → new ≡ record board { floor = floor } → floor ≤ length last.batches
@@ -311,7 +322,7 @@ slots_raised last board new seats sessions floor raised below slots = rw raised 
   same_length = slots.same_length;
   few = slots.few;
   each = slots.each;
-  pinned = record { pins = slots.pinned.pins; numbers = slots.pinned.numbers; floor = below };
+  pinned = record { seats = slots.pinned.seats; pins = slots.pinned.pins; floor = below };
 })
 
 -- Reads

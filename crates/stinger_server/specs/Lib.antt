@@ -5,3 +5,4 @@ pub mod Slots
 pub mod Servers
 pub mod Runs
 pub mod Laws
+pub mod Examples

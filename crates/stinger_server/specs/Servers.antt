@@ -3,7 +3,7 @@ use Rattle.std.specs.Prelude.{◌≡◌, ℕ, List, length, count_by, Ok, Err, B
 use Rattle.graph_model.specs.Step.{empty_graph}
 use Rattle.graph_version.specs.Versions.{layout_of}
 use Rattle.block_pool.specs.Pools.{is_free}
-use Rattle.store_journal.specs.Desks.{DeskView, is_retired_by}
+use Rattle.store_journal.specs.Desks.{DeskView, births_in, is_retired_by}
 use Rattle.feed_csv.specs.declared.command.Command.{Command}
 use Rattle.feed_csv.specs.declared.command.FeedWord.TheVariants as feed
 use Rattle.stream_store.specs.declared.receipts.ApplyError.{ApplyError}
@@ -11,7 +11,7 @@ use Rattle.stream_store.specs.declared.receipts.ApplyError.TheVariants as refuse
 use Rattle.script_lines.specs.declared.words.Word.{Word}
 use Rattle.script_lines.specs.declared.words.Word.TheVariants.{Feed, BatchLimit, NamesFull, KindsFull, PoolEmpty}
 use Rattle.stinger_server.specs.Slots.{IsKept, held_numbers}
-use Rattle.stinger_server.specs.States.{IsDone, RecordResult, State, after_command}
+use Rattle.stinger_server.specs.States.{Dates, IsDone, RecordResult, State, after_command}
 use Rattle.stinger_server.specs.declared.server.Server.{Server}
 use Rattle.stinger_server.specs.declared.server.Response.{Response}
 use Rattle.stinger_server.specs.declared.server.Response.TheVariants.{Lines, Refused}
@@ -21,14 +21,16 @@ pub record IsServer (server : Server) : Type 0 where
   pub opening : server.desk.desk.last.opening ≡ empty_graph
   pub slots : IsKept server.desk.desk.last server.slots
 
--- the desk's last version is that of the state, and as many blocks are free, and retired by each number, as the state says
+-- the desk's last version is that of the state, its blocks have the births that the state says, and as many blocks are free, and
+-- retired with each birth and retirement, as the state says
 pub record ShowsDesk (d : DeskView) (s : State) : Type 0 where
   pub opening : d.last.opening ≡ s.opening
   pub batches : d.last.batches ≡ s.batches
   pub layout : layout_of d.last.rows ≡ s.layout
+  pub births : (source : ℕ) → births_in d source ≡ s.births source
   pub blocks : length d.pool ≡ s.blocks
   pub free : count_by is_free d.pool ≡ s.free
-  pub retired : (q : ℕ → Bool) → count_by (is_retired_by q) d.pool ≡ count_by q s.retired
+  pub retired : (q : ℕ → ℕ → Bool) → count_by (is_retired_by q) d.pool ≡ count_by (λ (x : Dates). q x.birth x.since) s.retired
 
 -- the fields are those of the state
 pub record Shows (server : Server) (s : State) : Type 0 where

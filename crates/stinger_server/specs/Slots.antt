@@ -1,8 +1,9 @@
 -- Slots: each has a seat, or a session on a version that the desk lent.
-use Rattle.std.specs.Prelude.{◌≡◌, ℕ, ◌<◌, ◌≤◌, List, length, map, take, slice_index_or, Option, None, Some}
+use Rattle.std.specs.Prelude.{◌≡◌, ℕ, ◌<◌, ◌≤◌, true, List, length, map, take, slice_index_or, Option, None, Some}
 use Rattle.std.specs.Option.{option_map}
 use Rattle.graph_version.specs.Versions.{VersionView, IsVersion}
 use Rattle.seat_board.specs.Board.{BoardState, pin_at}
+use Rattle.seat_board.specs.declared.board.Pin.{Pin}
 use Rattle.seat_board.specs.declared.board.TheConstants.{SEATS}
 use Rattle.stream_store.specs.Seats.{SeatView, SessionView, held_version}
 use Rattle.stinger_server.specs.declared.slots.Slots.{Slots}
@@ -28,11 +29,14 @@ IsSlot last slot None (Some session) = (session.number ≡ slot) × IsEarlier la
 IsSlot last slot (Some seat) (Some session) = ⊥
 IsSlot last slot None None = ⊥
 
--- the pins on the board are the held numbers, and the floor is at most the last version's number
+-- the pin of a held number: the session has told it
+abbrev pub holding : ℕ → Pin
+holding number = record { number = number; is_settled = true }
+
+-- the pins on the board are those of the held numbers, and the floor is at most the last version's number
 pub record IsPinned (last : ℕ) (board : BoardState) (sessions : List (Option SessionView)) : Type 0 where
-  pub pins : length board.pins ≡ SEATS
-  pub numbers : (slot : ℕ) → option_map (λ pin. pin.number) (pin_at board.pins slot)
-      ≡ held_number (slice_index_or sessions slot None)
+  pub seats : length board.pins ≡ SEATS
+  pub pins : (slot : ℕ) → pin_at board.pins slot ≡ option_map holding (held_number (slice_index_or sessions slot None))
   pub floor : board.floor ≤ last
 
 pub record AreSlots (last : VersionView) (board : BoardState) (seats : List (Option SeatView))

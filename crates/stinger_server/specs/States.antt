@@ -1,9 +1,13 @@
 -- Where a run stands between two records, and what one record does.
-use Rattle.std.specs.Prelude.{◌≡◌, ℕ, ◌+◌, ◌-◌, min, nat_le, nat_lt, List, [], ◌∷◌, ◌++◌, length, map, take, replicate, filter}
+use Rattle.std.specs.Prelude.{◌≡◌, ℕ, ◌+◌, ◌-◌, min, not, nat_le, nat_lt, List, [], ◌∷◌, ◌++◌, length, map, take, replicate, filter}
 use Rattle.std.specs.Prelude.{slice_get, slice_set, count_by, if◌then◌else◌, Option, None, Some, Result, Ok, Err}
 use Rattle.std.specs.FinMap.{entries, len}
-use Rattle.block_layout.specs.Batches.{dropped_by, layout_after, taken_by}
+use Rattle.block_layout.specs.Batches.{layout_after, taken_by}
 use Rattle.block_layout.specs.Rows.{Shape}
+use Rattle.pin_copy.specs.declared.copies.PinCopy.{PinCopy}
+use Rattle.pin_copy.specs.declared.copies.TheConstants.{SEATS}
+use Rattle.pin_copy.specs.Copies.{needs}
+use Rattle.shard_work.specs.Births.{births_after, dropped_births}
 use Rattle.graph_model.specs.Graph.{Graph}
 use Rattle.graph_model.specs.Limits.{batch_limit, kind_limit, name_limit}
 use Rattle.graph_model.specs.Step.{after_all, empty_graph, left_by, outcomes}
@@ -40,18 +44,28 @@ pub record Setup : Type 0 where
 abbrev pub set_up : ConfigView → Setup
 set_up config = record { opening = empty_graph; blocks = config.blocks; seats = config.seats }
 
+-- the version that a retired block was taken by, and the one that retired it
+pub record Dates : Type 0 where
+  pub birth : ℕ
+  pub since : ℕ
+
+abbrev pub dates : ℕ → ℕ → Dates
+dates birth since = record { birth = birth; since = since }
+
 -- the graph of version 0; the pending operations; the batches accepted so far, in order; the version that each slot
--- holds, or none, for as many slots as there are seats; the last version's row of blocks for each source; how many blocks
--- there are, and how many of them are free; and for each retired block the number of the version that retired it
+-- holds, or none, for as many slots as there are seats; the last version's row of blocks for each source, and which version
+-- each of these blocks was taken by; how many blocks there are, and how many of them are free; and for each retired block the
+-- versions that took and that retired it
 pub record State : Type 0 where
   pub opening : Graph
   pub pending : List NamedOp
   pub batches : List (List NamedOp)
   pub held : List (Option ℕ)
   pub layout : ℕ → List Shape
+  pub births : ℕ → List ℕ
   pub blocks : ℕ
   pub free : ℕ
-  pub retired : List ℕ
+  pub retired : List Dates
 
 -- how far a run has come: its state, how many records there were, and how many of them printed an error line
 pub record Progress : Type 0 where
@@ -68,6 +82,7 @@ beginning setup = record {
     batches = [];
     held = replicate setup.seats None;
     layout = λ source. [];
+    births = λ source. [];
     blocks = setup.blocks;
     free = setup.blocks;
     retired = [];
@@ -110,12 +125,13 @@ ask_word ask.OutOfMemory = Feed feed.Memory
 abbrev pub left_by_pending : State → Graph
 left_by_pending s = after_all s.pending (last_version s)
 
--- how many blocks the pending batch takes and drops, by the layout rule
+-- how many blocks the pending batch takes, by the layout rule
 abbrev pub taken : State → ℕ
 taken s = taken_by s.pending (last_version s) s.layout (length (left_by_pending s).names)
 
-abbrev pub dropped : State → ℕ
-dropped s = dropped_by s.pending (last_version s) s.layout (length (left_by_pending s).names)
+-- the births of those that it drops
+abbrev pub dropped : State → List ℕ
+dropped s = dropped_births s.pending (last_version s) s.layout s.births (length (left_by_pending s).names)
 
 -- the pending batch is refused behind so many batches; else where it would leave more names than the limit; else where more
 -- kinds; else where it has more operations than blocks are free
@@ -126,15 +142,16 @@ commit_refusal s =
     else (if nat_lt kind_limit (length (left_by_pending s).kinds) then Some KindsFull
     else (if nat_lt s.free (length s.pending) then Some PoolEmpty else None)))
 
--- the pending batch is accepted: the blocks that it takes are no longer free, and those that it drops are retired with
--- the new version's number
+-- the pending batch is accepted: the blocks that it takes are no longer free, and born with the new version's number, with which
+-- those that it drops are retired
 abbrev pub after_commit : State → State
 after_commit s = record s {
   pending = [];
   batches = s.batches ++ s.pending ∷ [];
   layout = layout_after s.pending (last_version s) s.layout;
+  births = births_after (length s.batches + 1) s.pending (last_version s) s.layout s.births;
   free = s.free - taken s;
-  retired = s.retired ++ replicate (dropped s) (length s.batches + 1);
+  retired = s.retired ++ map (λ birth. dates birth (length s.batches + 1)) (dropped s);
 }
 
 -- the floor: the least of the last version's number and all held numbers
@@ -146,14 +163,22 @@ least_held last (Some n ∷ held) = min n (least_held last held)
 abbrev pub floor_of : State → ℕ
 floor_of s = least_held (length s.batches) s.held
 
--- how many blocks a collection frees: those retired with a number at most the floor
+-- the copy of a last number and of held numbers: each is a settled pin
+abbrev pub copy_by : ℕ → List (Option ℕ) → PinCopy
+copy_by last held =
+    record { last = last; settled = held ++ replicate (SEATS - length held) None; unsettled = replicate SEATS None }
+
+abbrev pub copy_of : State → PinCopy
+copy_of s = copy_by (length s.batches) s.held
+
+-- how many blocks a collection frees: the retired ones that the copy doesn't need
 abbrev pub recycled : State → ℕ
-recycled s = count_by (λ number. nat_le number (floor_of s)) s.retired
+recycled s = count_by (λ (d : Dates). not (needs (copy_of s) d.birth d.since)) s.retired
 
 abbrev pub after_collect : State → State
 after_collect s = record s {
   free = s.free + recycled s;
-  retired = filter (λ number. nat_lt (floor_of s) number) s.retired;
+  retired = filter (λ (d : Dates). needs (copy_of s) d.birth d.since) s.retired;
 }
 
 abbrev pub op_refusal : Option PushError → Option Word

@@ -1,8 +1,14 @@
-//! A law about the definitions, as the contract of a function that does nothing.
+//! Laws about the definitions, as contracts of functions that do nothing.
 
+ghost use Rattle.stinger_server.specs.Examples.{AreExamples};
 ghost use Rattle.stinger_server.specs.Laws.{HasOneText};
 
 /// A script has one text: no definition leaves a choice, also where a request's answer is given by a relation.
 pub fn law_one_text()
     ensures { HasOneText }
+{}
+
+/// The examples that are worked out by hand.
+pub fn law_examples()
+    ensures { AreExamples }
 {}

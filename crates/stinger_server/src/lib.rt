@@ -9,7 +9,7 @@ mod server;
 mod sink;
 mod slots;
 
-pub use laws::law_one_text;
+pub use laws::{law_examples, law_one_text};
 pub use output::write_text;
 pub use script::{ServeFault, Summary, serve};
 pub use sink::Unwritten;

@@ -193,15 +193,15 @@ impl Server {
         }
     }
 
-    /// Frees the retired blocks that neither the last version nor a held one has, as far as the floor tells.
+    /// Frees the retired blocks that neither the last version nor a held one has.
     fn collect(&mut self, lines: &mut String) -> Result<Response, AllocError>
         requires server { IsServer self.old }
         requires empty { string_bytes lines.old ≡ [] }
         ensures kept { IsServer self.new }
         ensures obeys { IfOk result (λ response. Obeys Command.Collect self.old response (string_bytes lines.new) self.new) }
     {
-        let floor = self.slots.floor(&self.desk);
-        let collected = self.desk.collect(floor);
+        let copy = self.slots.copy(&self.desk);
+        let collected = self.desk.collect(&copy);
         collect_line(lines, collected)?;
         Ok(Response::Lines)
     }

@@ -10,6 +10,7 @@ ghost use Rattle.stinger_server.specs.Slots.{IsKept, held_numbers};
 ghost use Rattle.stinger_server.specs.States as states;
 
 use feed_csv::FeedWord;
+use pin_copy::PinCopy;
 use script_lines::Word;
 use seat_board::Board;
 use std::alloc::{AllocError, Global};
@@ -99,13 +100,12 @@ impl Slots {
         self.seats[slot] = Some(session.release_lent(&mut self.board));
     }
 
-    /// Raises the board's floor to the least of the desk's last number and all held numbers, and answers it.
-    pub(crate) fn floor(&mut self, desk: &Desk) -> u64
+    /// Raises the board's floor to the least of the desk's last number and all held numbers, and answers the copy of them all.
+    pub(crate) fn copy(&mut self, desk: &Desk) -> PinCopy
         requires { IsKept desk.now.desk.last self.old }
         ensures slots { IsKept desk.now.desk.last self.new }
         ensures held { held_numbers self.new ≡ held_numbers self.old }
-        ensures floor { result ≡ states.least_held (length desk.now.desk.last.batches) (held_numbers self.old) }
-        ensures reached { result ≤ length desk.now.desk.last.batches }
+        ensures copy { result ≡ states.copy_by (length desk.now.desk.last.batches) (held_numbers self.old) }
     {
         let last = desk.last().number();
         self.board.raise(last)

@@ -6,7 +6,7 @@ use Rattle.graph_model.specs.declared.batches.NamedOp.{NamedOp}
 use Rattle.edge_block.specs.Slots.{BlockView}
 use Rattle.row_pages.specs.Rows.{numbers_of}
 use Rattle.graph_version.specs.Versions.{VersionView, is_in}
-use Rattle.block_pool.specs.Pools.{Free, Used, retired, is_free_at, is_born_at, marked, changed}
+use Rattle.block_pool.specs.Pools.{Free, Granted, Used, retired, is_free_at, is_born_at, marked, changed}
 use Rattle.epoch_posts.proofs.Lists.{all_listed}
 use Rattle.store_journal.specs.Journal.{Entry, Applied, Ledger, is_legal, after_entry, entered}
 use Rattle.store_journal.specs.Desks.{DeskView, IsDesk, IsAppliedTo, IsAccepted, desk_after}
@@ -60,7 +60,8 @@ module _ (old : DeskView) (ops : List NamedOp) (numbers : List ℕ) (version : V
   applied_desk = made_desk application
 
   pub applied_moves :
-      marked unused Free (changed (retired (length old.last.batches + 1)) (numbers_of dropped) (marked numbers Used old.pool))
+      marked unused Free (changed (retired (length old.last.batches + 1)) (numbers_of dropped)
+      (marked taken (Used (length old.last.batches + 1)) (marked numbers Granted old.pool)))
       ≡ (desk_after old ops version taken dropped).pool
   applied_moves = moves_left application
 

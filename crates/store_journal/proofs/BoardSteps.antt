@@ -1,22 +1,28 @@
 -- The board's calls are the machine's steps.
-use Rattle.std.proofs.Common.{◌≡◌, ℕ, zero, suc, ◌<◌, ◌≤◌, ◌⊎◌, inl, inr, List, [], ◌∷◌, length, get_or, set, max, min, true}
+use Rattle.std.proofs.Common.{◌≡◌, ℕ, zero, suc, ◌<◌, ◌≤◌, ◌-◌, ◌⊎◌, inl, inr, Bool, not, List, [], ◌∷◌, ◌++◌, length, map, replicate, get_or, set, max, min}
+use Rattle.std.proofs.Common.{true, false, length-append}
 use Rattle.std.proofs.Common.{refl, sym, ap, subst, ◌∙◌, arith}
 use Rattle.std.specs.Prelude.{Option, Some, None, option_map, IfSome, IsSomeAnd}
 use Rattle.std.proofs.lemmas.Bool.{cases_eq}
-use Rattle.std.proofs.lemmas.List.{get_or-set_same, get_or-set_other}
+use Rattle.std.proofs.lemmas.List.{get_or-set_same, get_or-set_other, length-map, length-replicate}
 use Rattle.epoch_core.specs.declared.states.SessionState.{SessionState}
 use Rattle.epoch_core.specs.declared.states.SessionState.TheVariants.{Idle, Pinned, Holding, Asking}
-use Rattle.epoch_core.specs.Worlds.{World, session_of, pin_in, held_in, last_number}
+use Rattle.epoch_core.specs.Worlds.{World, session_of, pin_in, pin_if, settled_in, unsettled_in, seated, held_in, last_number}
+use Rattle.epoch_core.specs.Worlds.{copy_of as world_copy}
 use Rattle.epoch_core.specs.Machine.{least_pin, lesser, to_pin, to_settle, to_release}
-use Rattle.epoch_core.proofs.Moves.{Moved, moved, session_after, session_else, least_first, least_each}
-use Rattle.seat_board.specs.Board.{BoardState, IsBoard, IsLeast, IsBelowPins, pin_at, with_pin, unsettled, settled}
+use Rattle.epoch_core.proofs.Moves.{Moved, moved, floored, session_after, session_else, least_first, least_each}
+use Rattle.pin_copy.specs.Copies.{floor_of}
+use Rattle.seat_board.specs.Board.{BoardState, IsBoard, IsLeast, IsBelowPins, pin_at, with_pin, unsettled, settled, copy_of}
+use Rattle.seat_board.specs.Board.{number_if, settled_number, unsettled_number}
+use Rattle.seat_board.proofs.Copied.{floor_is_least}
 use Rattle.seat_board.specs.declared.board.Pin.{Pin as SeatPin}
 use Rattle.seat_board.specs.declared.board.TheConstants.{SEATS}
 use Rattle.store_journal.specs.Desks.{DeskView}
 use Rattle.store_journal.specs.Shown.{Shows}
-use Rattle.store_journal.specs.Boards.{seat_pin, ShowsBoard, PinsAsMachine, SettlesAsMachine, UnpinsAsMachine, RaisesAsMachine}
+use Rattle.store_journal.specs.Boards.{seat_pin, ShowsBoard, raised_board, PinsAsMachine, SettlesAsMachine, UnpinsAsMachine}
+use Rattle.store_journal.specs.Boards.{RaisesAsMachine}
 
--- a desk shows no session and no floor
+-- a desk shows no session, no floor and no copy
 pub shows_sessions : (d : DeskView) (w : World) (sessions : List SessionState) → Shows d w
     → Shows d (record w { sessions = sessions })
 shows_sessions d w sessions shown = record {
@@ -28,8 +34,8 @@ shows_sessions d w sessions shown = record {
   sizes = shown.sizes;
 }
 
-pub shows_floor : (d : DeskView) (w : World) (floor : ℕ) → Shows d w → Shows d (record w { floor = floor })
-shows_floor d w floor shown = record {
+pub shows_floored : (d : DeskView) (w : World) → Shows d w → Shows d (floored w)
+shows_floored d w shown = record {
   opening = shown.opening;
   batches = shown.batches;
   blocks = shown.blocks;
@@ -43,7 +49,7 @@ moves : (b : BoardState) (w : World) (s : ℕ) (change : SessionState
     → Option SessionState) (after : World) (pin : Option SeatPin) → IsBoard b → s < SEATS → ShowsBoard b w
     → Moved w s change after → ((session next : SessionState) → session_of w s ≡ session → change session ≡ Some next
     → seat_pin next ≡ pin)
-    → ShowsBoard (with_pin b s pin) after × ((d : DeskView) → Shows d w → Shows d after)
+    → ShowsBoard (with_pin b s pin) after × ((d : DeskView) → Shows d w → Shows d after) × (after.copy ≡ w.copy)
 moves b w s change after pin board low shows m says = (
   record {
     floor = ap (λ v. v.floor) m.result ∙ shows.floor;
@@ -57,6 +63,7 @@ moves b w s change after pin board low shows m says = (
     ];
   },
   λ d shown. subst (Shows d) (sym m.result) (shows_sessions d w (set w.sessions s m.next) shown),
+  ap (λ v. v.copy) m.result,
 )
 
 pin_next : (floor : ℕ) (session next : SessionState) → to_pin floor session ≡ Some next → seat_pin next ≡ Some (unsettled floor)
@@ -182,12 +189,85 @@ least_is b w n floor shows least =
     ] in
     omega arith
 
+-- The copy: the board's pins are the machine's
+
+told_same : (t : Bool) (n : ℕ) → number_if t n ≡ pin_if t n
+told_same true n = refl
+told_same false n = refl
+
+settled_seat : (session : SessionState) → settled_number (seat_pin session) ≡ settled_in session
+settled_seat Idle = refl
+settled_seat (Pinned pin) = refl
+settled_seat (Holding hold) = told_same hold.settled hold.pin
+settled_seat (Asking hold inquiry) = told_same hold.settled hold.pin
+
+unsettled_seat : (session : SessionState) → unsettled_number (seat_pin session) ≡ unsettled_in session
+unsettled_seat Idle = refl
+unsettled_seat (Pinned pin) = refl
+unsettled_seat (Holding hold) = told_same (not hold.settled) hold.pin
+unsettled_seat (Asking hold inquiry) = told_same (not hold.settled) hold.pin
+
+-- lists of one length with the same at each place are the same
+same_elements : (xs ys : List (Option ℕ)) → length xs ≡ length ys → ((s : ℕ) → get_or xs s None ≡ get_or ys s None) → xs ≡ ys
+same_elements [] [] long same = refl
+same_elements [] (y ∷ ys) long same = absurd (omega arith)
+same_elements (x ∷ xs) [] long same = absurd (omega arith)
+same_elements (x ∷ xs) (y ∷ ys) long same =
+    let head : x ≡ y = same zero in
+    let rest : xs ≡ ys = same_elements xs ys (omega arith) (λ s. same (suc s)) in
+    cc
+
+none_at : (k s : ℕ) → get_or (replicate k None) s None ≡ (let o : Option ℕ = None in o)
+none_at zero s = refl
+none_at (suc k) zero = refl
+none_at (suc k) (suc s) = none_at k s
+
+seated_at : (pin : SessionState → Option ℕ) (sessions : List SessionState) (k s : ℕ) → pin Idle ≡ None
+    → get_or (map pin sessions ++ replicate k None) s None ≡ pin (get_or sessions s Idle)
+seated_at pin [] k s none = none_at k s ∙ sym none
+seated_at pin (x ∷ sessions) k zero none = refl
+seated_at pin (x ∷ sessions) k (suc s) none = seated_at pin sessions k s none
+
+seats_same : (b : BoardState) (w : World) (number : Option SeatPin → Option ℕ) (pin : SessionState → Option ℕ) → IsBoard b
+    → length w.sessions ≤ SEATS → ShowsBoard b w → pin Idle ≡ None → number None ≡ None
+    → ((session : SessionState) → number (seat_pin session) ≡ pin session)
+    → seated pin w.sessions ≡ map number b.pins
+seats_same b w number pin board few shows none blank same =
+    let long : length (seated pin w.sessions) ≡ SEATS =
+    omega (
+      arith,
+      length-append (map pin w.sessions) (replicate (SEATS - length w.sessions) None),
+      length-map w.sessions pin,
+      length-replicate {A = Option ℕ} (SEATS - length w.sessions) None,
+      few,
+    ) in
+    let seats : length (map number b.pins) ≡ SEATS = length-map b.pins number ∙ board.seats in
+    same_elements (seated pin w.sessions) (map number b.pins) (long ∙ sym seats) (λ s.
+    seated_at pin w.sessions (SEATS - length w.sessions) s none ∙ sym (same (session_of w s)) ∙ ap number (shows.pins s)
+    ∙ pin_number_at number b.pins s blank)
+  where
+    pin_number_at : (number : Option SeatPin → Option ℕ) (pins : List (Option SeatPin)) (s : ℕ) → number None ≡ None
+        → number (pin_at pins s) ≡ get_or (map number pins) s None
+    pin_number_at number [] s blank = blank
+    pin_number_at number (p ∷ pins) zero blank = refl
+    pin_number_at number (p ∷ pins) (suc s) blank = pin_number_at number pins s blank
+
+pub copies_same : (b : BoardState) (w : World) → IsBoard b → length w.sessions ≤ SEATS → ShowsBoard b w
+    → world_copy w ≡ copy_of (last_number w) b.pins
+copies_same b w board few shows =
+    let settled_are = seats_same b w settled_number settled_in board few shows refl refl settled_seat in
+    let unsettled_are = seats_same b w unsettled_number unsettled_in board few shows refl refl unsettled_seat in
+    λ i. record { last = last_number w; settled = settled_are i; unsettled = unsettled_are i }
+
 pub raises_as_machine : RaisesAsMachine
-raises_as_machine b w floor shows least after is =
-    let e : record w { floor = least_pin (last_number w) w.sessions } ≡ after = cc in (
-      subst (ShowsBoard (record b { floor = floor })) e (record {
-        floor = least_is b w (last_number w) floor shows least;
+raises_as_machine b w board few shows after is =
+    let e : floored w ≡ after = cc in
+    let least : IsLeast (last_number w) b.pins (floor_of (copy_of (last_number w) b.pins)) =
+    floor_is_least b.pins (last_number w) in (
+      subst (ShowsBoard (raised_board (last_number w) b)) e (record {
+        floor = least_is b w (last_number w) (floor_of (copy_of (last_number w) b.pins)) shows least;
         pins = shows.pins;
       }),
-      λ d shown. subst (Shows d) e (shows_floor d w (least_pin (last_number w) w.sessions) shown),
+      λ d shown. subst (Shows d) e (shows_floored d w shown),
+      ap (λ v. v.copy) (sym e) ∙ copies_same b w board few shows,
     )

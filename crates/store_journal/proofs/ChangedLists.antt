@@ -8,7 +8,7 @@ use Rattle.std.specs.declared.option.Option.TheVariants.{None, Some}
 use Rattle.std.proofs.lemmas.List.{length-set}
 use Rattle.std.proofs.lemmas.Bool.{eq-eqb, eqb-true, true≢false}
 use Rattle.graph_version.specs.Versions.{is_in}
-use Rattle.block_pool.specs.Pools.{Status, Used, marked, changed}
+use Rattle.block_pool.specs.Pools.{Status, Granted, marked, changed}
 use Rattle.epoch_posts.specs.Blocks.{all_differ}
 use Rattle.store_journal.proofs.NumberLists.{apart_test, differ_head, differ_tail}
 
@@ -69,15 +69,15 @@ pub changed_at : (f : Status → Status) (ns : List ℕ) (pool : List Status) (n
     → slice_get (changed f ns pool) n ≡ (if is_in n ns then option_map f (slice_get pool n) else slice_get pool n)
 changed_at f [] pool n apart = refl
 changed_at f (m ∷ ns) pool n apart =
-    changed_at f ns (set pool m (f (get_or pool m Used))) n (differ_tail m ns apart)
-    ∙ ap (changed_if f (is_in n ns)) (set_at f pool m n Used)
+    changed_at f ns (set pool m (f (get_or pool m Granted))) n (differ_tail m ns apart)
+    ∙ ap (changed_if f (is_in n ns)) (set_at f pool m n Granted)
     ∙ once f (m == n) (is_in n ns) (slice_get pool n) (λ e. subst (λ x. is_in x ns
     ≡ false) (eqb-true m n e) (differ_head m ns apart))
 
 pub length-changed : (f : Status → Status) (ns : List ℕ) (pool : List Status) → length (changed f ns pool) ≡ length pool
 length-changed f [] pool = refl
-length-changed f (m ∷ ns) pool = length-changed f ns (set pool m (f (get_or pool m Used)))
-    ∙ length-set pool m (f (get_or pool m Used))
+length-changed f (m ∷ ns) pool = length-changed f ns (set pool m (f (get_or pool m Granted)))
+    ∙ length-set pool m (f (get_or pool m Granted))
 
 -- lists with the same at each place are the same
 pub same_list : {A : Type 0} (xs ys : List A) → ((n : ℕ) → slice_get xs n ≡ slice_get ys n) → xs ≡ ys

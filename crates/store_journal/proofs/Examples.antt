@@ -16,14 +16,14 @@ use Rattle.store_journal.specs.Boards.{seat_pin}
 use Rattle.store_journal.specs.Examples.{AreExamples, block_one, desk_of_edge, world_of_edge, board_of_two, world_of_two}
 use Rattle.store_journal.proofs.OpeningShown.{no_pin}
 
-status_shown : (birth n : ℕ) → SameStatus (slice_get desk_of_edge.pool n) (slice_get (world_of_edge birth).status n)
-status_shown birth zero = tt
-status_shown birth (suc zero) = tt
-status_shown birth (suc (suc zero)) = tt
-status_shown birth (suc (suc (suc n))) = tt
+status_shown : (n : ℕ) → SameStatus (slice_get desk_of_edge.pool n) (slice_get world_of_edge.status n)
+status_shown zero = tt
+status_shown (suc zero) = refl
+status_shown (suc (suc zero)) = tt
+status_shown (suc (suc (suc n))) = tt
 
-edges_shown : (birth : ℕ) → All (λ b. edges_at (world_of_edge birth).heap b.number ≡ edges_in_block b) (block_one ∷ [])
-edges_shown birth = All-cons (λ b. edges_at (world_of_edge birth).heap b.number
+edges_shown : All (λ b. edges_at world_of_edge.heap b.number ≡ edges_in_block b) (block_one ∷ [])
+edges_shown = All-cons (λ b. edges_at world_of_edge.heap b.number
     ≡ edges_in_block b) block_one [] refl (λ k d h. absurd (omega arith))
 
 one_idle : (s : ℕ) → get_or (Idle ∷ []) s Idle ≡ Idle
@@ -56,27 +56,35 @@ are_examples = record {
   taken_twice = refl;
   dropped_retired = refl;
   collected_early = refl;
+  collected_settled = refl;
+  collected_unsettled = refl;
   collected_late = refl;
   collected_nothing = refl;
-  desk = λ birth. record {
+  desk = record {
     opening = refl;
     batches = refl;
     blocks = refl;
-    edges = edges_shown birth;
-    status = status_shown birth;
+    edges = edges_shown;
+    status = status_shown;
     sizes = refl;
   };
+  later = λ w shows. let no : 2 ≡ 1 = shows.status 1 in absurd (omega arith);
   fresh = λ w shows. shows.status 1;
   posted = refl;
   filled = refl;
   kept = refl;
   recycled = refl;
+  recycled_behind = refl;
   none_recycled = refl;
   freed = refl;
-  past_the_floor = refl;
+  needed = refl;
   accepted = refl;
   entry = refl;
   no_entry = refl;
+  touched = record { births_are = refl; dropped_are = refl };
+  appended = record { births_are = refl; dropped_are = refl };
+  emptied = record { births_are = refl; dropped_are = refl };
+  untouched = record { births_are = refl; dropped_are = refl };
   pinned = record { floor = refl; pins = pin_shown };
   entered = refl;
   board = record { floor = refl; pins = pins_shown };

@@ -37,7 +37,7 @@ done_is_run (e ∷ es) w after is =
 unseen : (d : DeskView) (b : BoardState) (w after : World) (s : ℕ) (change : SessionState → Option SessionState)
     → Moved w s change after
     → ((session next : SessionState) → change session ≡ Some next → seat_pin next ≡ seat_pin session)
-    → Shows d w → ShowsBoard b w → Shows d after × ShowsBoard b after
+    → Shows d w → ShowsBoard b w → Shows d after × ShowsBoard b after × (after.copy ≡ w.copy)
 unseen d b w after s change m keeps shown shows = (
   subst (Shows d) (sym m.result) (shows_sessions d w (set w.sessions s m.next) shown),
   record {
@@ -50,6 +50,7 @@ unseen d b w after s change m keeps shown shows = (
       | inr ne ↦ ap seat_pin (session_else w s t m.next ne) ∙ shows.pins t
     ];
   },
+  ap (λ v. v.copy) m.result,
 )
 
 keeps_enter : (last : ℕ) (session next : SessionState) → to_enter last session ≡ Some next → seat_pin next ≡ seat_pin session

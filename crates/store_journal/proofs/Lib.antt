@@ -3,6 +3,7 @@ pub mod ChangedLists
 pub mod Counting
 pub mod OneNumber
 pub mod BlockMoves
+pub mod Births
 pub mod Accepting
 pub mod Filling
 pub mod OneStatus

@@ -3,7 +3,7 @@ use Rattle.std.proofs.Common.{◌≡◌, ℕ, zero, suc, false, [], replicate, r
 use Rattle.std.specs.Prelude.{slice_get, Some, None}
 use Rattle.std.proofs.lemmas.List.{length-replicate}
 use Rattle.graph_version.proofs.Empty.{is_empty_version}
-use Rattle.block_pool.specs.Pools.{Free as PoolFree, is_used, passes}
+use Rattle.block_pool.specs.Pools.{Free as PoolFree, is_born, passes}
 use Rattle.epoch_posts.specs.declared.states.Status.TheVariants.{Free}
 use Rattle.epoch_core.proofs.Steps.{all_idle}
 use Rattle.seat_board.specs.Board.{pin_at}
@@ -13,16 +13,16 @@ use Rattle.store_journal.specs.Shown.{SameStatus}
 use Rattle.store_journal.specs.Boards.{seat_pin}
 use Rattle.store_journal.specs.Opening.{opened_desk, OpensAsMachine}
 
-none_used : (n m : ℕ) → passes is_used (slice_get (replicate n PoolFree) m) ≡ false
-none_used zero m = refl
-none_used (suc n) zero = refl
-none_used (suc n) (suc m) = none_used n m
+none_born : (n m : ℕ) → passes is_born (slice_get (replicate n PoolFree) m) ≡ false
+none_born zero m = refl
+none_born (suc n) zero = refl
+none_born (suc n) (suc m) = none_born n m
 
 pub opened_is_desk : (blocks : ℕ) → IsDesk (opened_desk blocks)
 opened_is_desk blocks = record {
   version = is_empty_version;
   replays = ap (λ n. Some (empty_ledger n)) (length-replicate blocks PoolFree);
-  listed = none_used blocks;
+  listed = none_born blocks;
 }
 
 same_free : (n m : ℕ) → SameStatus (slice_get (replicate n PoolFree) m) (slice_get (replicate n Free) m)

@@ -18,7 +18,7 @@ use Rattle.row_pages.specs.Rows.{blocks_of, numbers_of}
 use Rattle.graph_version.specs.Versions.{content, is_in}
 use Rattle.graph_version.specs.Edges.{edges_in_block, edges_in_blocks, AreEachOnce}
 use Rattle.graph_version.proofs.Shown.{rows_each_once}
-use Rattle.block_pool.specs.Pools.{Status as PoolStatus, is_used, passes, is_free_at, is_born_at}
+use Rattle.block_pool.specs.Pools.{Status as PoolStatus, is_born, passes, is_free_at, is_born_at}
 use Rattle.epoch_posts.specs.declared.states.Status.TheVariants.{Free, Fresh}
 use Rattle.epoch_posts.specs.declared.states.Version.{Version}
 use Rattle.epoch_core.specs.declared.events.Event.TheVariants.{Post}
@@ -40,7 +40,7 @@ use Rattle.store_journal.proofs.NumberLists.{picked_apart, picked_all}
 use Rattle.store_journal.proofs.ChangedLists.{marked_at, length-marked}
 use Rattle.store_journal.proofs.OneNumber.{number_after}
 use Rattle.store_journal.proofs.Accepting.{exchanged_at}
-use Rattle.store_journal.proofs.OneStatus.{status_by, same_after, free_there, used_mark}
+use Rattle.store_journal.proofs.OneStatus.{status_by, same_after, free_there, born_mark}
 use Rattle.store_journal.proofs.Filling.{filled_world, fills_done, step_then, AllAre, length-heap_with, heap_else, heap_here}
 use Rattle.store_journal.proofs.Filling.{edges_from}
 
@@ -118,8 +118,8 @@ dropped_born a n is = all_listed (is_born_at a.old.pool) a.dropped n (legal_in a
 -- a taken number is one of the new version's
 taken_listed : (a : Acceptance) (n : ℕ) → is_in n a.taken ≡ true → is_in n (last_numbers a.new) ≡ true
 taken_listed a n is =
-    sym (a.after.listed n) ∙ ap (passes is_used) (new_pool a n)
-    ∙ used_mark (number_in_desk a) (slice_get a.old.pool n) (is_in n a.taken) (is_in n a.dropped) (taken_free a n)
+    sym (a.after.listed n) ∙ ap (passes is_born) (new_pool a n)
+    ∙ born_mark (number_in_desk a) (slice_get a.old.pool n) (is_in n a.taken) (is_in n a.dropped) (taken_free a n)
     (dropped_born a n) is
 
 -- the fresh blocks' numbers are those taken
@@ -253,11 +253,11 @@ posted_world a w = posted (ready a w) a.ops (last_numbers a.new)
 status_posted : (a : Acceptance) (w : World) → Shows a.old w → (n : ℕ)
     → SameStatus (slice_get a.new.pool n) (slice_get (posted_world a w).status n)
 status_posted a w shows n =
-    let listed : is_in n (last_numbers a.new) ≡ passes is_used
+    let listed : is_in n (last_numbers a.new) ≡ passes is_born
     (number_after (number_in_desk a) (slice_get a.old.pool n) (is_in n a.taken) (is_in n a.dropped)) =
-    sym (a.after.listed n) ∙ ap (passes is_used) (new_pool a n) in
+    sym (a.after.listed n) ∙ ap (passes is_born) (new_pool a n) in
     let machine : slice_get (posted_world a w).status n
-    ≡ status_by (number_in_desk a) (passes is_used (number_after (number_in_desk a) (slice_get a.old.pool n) (is_in n a.taken)
+    ≡ status_by (number_in_desk a) (passes is_born (number_after (number_in_desk a) (slice_get a.old.pool n) (is_in n a.taken)
     (is_in n a.dropped))) (slice_get w.status n) (is_in n a.taken) =
     status_at (length w.versions + 1) (last_numbers a.new) (ready a w).status n
     ∙ ap (option_map (after_post (length w.versions + 1) (is_in n (last_numbers a.new)))) (ready_status a w n)
@@ -296,5 +296,6 @@ accepted_takes a w shows = record {
       (ap (λ t. if t then Some (posted_world a w) else None) (posts a w shows));
   shown = shows_posted a w shows;
   floor = refl;
+  copy = refl;
   sessions = refl;
 }

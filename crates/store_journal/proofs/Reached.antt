@@ -1,5 +1,5 @@
 -- The desk and the board beside a run of the machine.
-use Rattle.std.proofs.Common.{◌≡◌, ℕ, zero, suc, ◌<◌, true, false, List, [], ◌∷◌, ◌++◌, length, get_or, set, refl, sym, ap, subst}
+use Rattle.std.proofs.Common.{◌≡◌, ℕ, zero, suc, ◌<◌, ◌≤◌, true, false, List, [], ◌∷◌, ◌++◌, length, get_or, set, refl, sym, ap, subst}
 use Rattle.std.proofs.Common.{◌∙◌, arith}
 use Rattle.std.specs.Prelude.{slice_get, is_some}
 use Rattle.std.specs.Option.{unwrap_or, option_map, option_and_then}
@@ -13,17 +13,19 @@ use Rattle.epoch_core.specs.declared.states.SessionState.TheVariants.{Idle, Pinn
 use Rattle.epoch_posts.specs.Blocks.{put}
 use Rattle.epoch_core.specs.Epochs.{PinsInOrder}
 use Rattle.epoch_core.specs.Worlds.{World, start, start_world, last_number, session_of, held_in}
-use Rattle.epoch_core.specs.Machine.{step, move, least_pin, to_pin, to_enter, to_settle, with_sessions}
+use Rattle.epoch_core.specs.Machine.{step, move, to_pin, to_enter, to_settle, with_sessions}
 use Rattle.epoch_core.specs.Runs.{run, next_world, is_done}
 use Rattle.epoch_posts.proofs.Lists.{at_from_within}
-use Rattle.epoch_core.proofs.Moves.{Moved, moved, session_after}
+use Rattle.epoch_core.proofs.Moves.{Moved, moved, floored, session_after}
 use Rattle.epoch_core.proofs.Steps.{always_sound, start_is_start}
 use Rattle.epoch_core.proofs.Sizes.{size_run}
 use Rattle.epoch_core.proofs.Epochs.{pins_in_order}
-use Rattle.seat_board.specs.Board.{BoardState, IsLeast, pin_at, with_pin, unsettled, settled}
+use Rattle.pin_copy.specs.declared.copies.PinCopy.{PinCopy}
+use Rattle.seat_board.specs.Board.{BoardState, pin_at, with_pin, unsettled, settled, copy_of}
+use Rattle.seat_board.specs.declared.board.TheConstants.{SEATS}
 use Rattle.store_journal.specs.Desks.{DeskView}
 use Rattle.store_journal.specs.Shown.{Shows}
-use Rattle.store_journal.specs.Boards.{seat_pin, ShowsBoard, ShowsIfDone}
+use Rattle.store_journal.specs.Boards.{seat_pin, ShowsBoard, ShowsIfDone, raised_board}
 use Rattle.store_journal.specs.Histories.{IsUnseen}
 use Rattle.store_journal.specs.Steps.{IsTaken}
 use Rattle.store_journal.specs.Reached.{world_by, IsReached, IsReaders, StaysReached}
@@ -40,7 +42,7 @@ run_next : (es : List Event) (e : Event) (w after : World) → step (run es w) e
 run_next es e w after is = sym (run_more es (e ∷ []) w ∙ ap (λ o. unwrap_or o (run es w)) is)
 
 -- what the desk's steps leave is reached, and the board shows it as before
-taken_reached : (sessions blocks : ℕ) (old new : DeskView) (b : BoardState) (raised : ℕ) (events more : List Event)
+taken_reached : (sessions blocks : ℕ) (old new : DeskView) (b : BoardState) (raised : PinCopy) (events more : List Event)
     → IsReached sessions blocks events old b raised
     → IsTaken (world_by sessions blocks events) more new → IsReached sessions blocks (events ++ more) new b raised
 taken_reached sessions blocks old new b raised events more r t =
@@ -54,28 +56,34 @@ taken_reached sessions blocks old new b raised events more r t =
     record {
       desk = subst (Shows new) there t.shown;
       board = subst (ShowsBoard b) there board;
-      raised_is = ap (λ w. w.floor) (sym there) ∙ t.floor ∙ r.raised_is;
+      copied_is = ap (λ w. w.copy) (sym there) ∙ t.copy ∙ r.copied_is;
     }
 
 -- a step of the board's that is done
-board_reached : (sessions blocks : ℕ) (d : DeskView) (b new : BoardState) (before raised : ℕ) (events : List Event)
+board_reached : (sessions blocks : ℕ) (d : DeskView) (b new : BoardState) (before copy : PinCopy) (events : List Event)
     (event : Event) (after : World)
     → IsReached sessions blocks events d b before → step (world_by sessions blocks events) event ≡ Some after
-    → ShowsIfDone (world_by sessions blocks events) event new
-    → new.floor ≡ raised → IsReached sessions blocks (events ++ event ∷ []) d new raised
-board_reached sessions blocks d b new before raised events event after r is shows same =
+    → ShowsIfDone (world_by sessions blocks events) event new copy
+    → IsReached sessions blocks (events ++ event ∷ []) d new copy
+board_reached sessions blocks d b new before copy events event after r is shows =
     let there : after ≡ world_by sessions blocks (events ++ event ∷ []) =
     run_next events event (start_world sessions blocks) after is in
-    let both = shows after is in
+    let all = shows after is in
     record {
-      desk = subst (Shows d) there (both.1 d r.desk);
-      board = subst (ShowsBoard new) there both.0;
-      raised_is = ap (λ w. w.floor) (sym there) ∙ both.0.floor ∙ same;
+      desk = subst (Shows d) there (all.1 d r.desk);
+      board = subst (ShowsBoard new) there all.0;
+      copied_is = ap (λ w. w.copy) (sym there) ∙ all.2;
     }
 
-floor_raised : (sessions blocks : ℕ) (d : DeskView) (b : BoardState) (raised : ℕ) (events : List Event)
-    → IsReached sessions blocks events d b raised → b.floor ≡ raised
-floor_raised sessions blocks d b raised events r = sym r.board.floor ∙ r.raised_is
+-- one that keeps the copy
+board_kept : (sessions blocks : ℕ) (d : DeskView) (b new : BoardState) (copy : PinCopy) (events : List Event)
+    (event : Event) (after : World)
+    → IsReached sessions blocks events d b copy → step (world_by sessions blocks events) event ≡ Some after
+    → ShowsIfDone (world_by sessions blocks events) event new (world_by sessions blocks events).copy
+    → IsReached sessions blocks (events ++ event ∷ []) d new copy
+board_kept sessions blocks d b new copy events event after r is shows =
+    subst (IsReached sessions blocks (events ++ event ∷ []) d new) r.copied_is
+    (board_reached sessions blocks d b new copy (world_by sessions blocks events).copy events event after r is shows)
 
 -- a reader's step, done or skipped
 reader_reached : (sessions blocks : ℕ) (event : Event) → IsUnseen event → IsReaders sessions blocks event
@@ -89,7 +97,7 @@ reader_reached sessions blocks event hidden d b raised events r =
           record {
             desk = subst (Shows d) there r.desk;
             board = subst (ShowsBoard b) there r.board;
-            raised_is = ap (λ w. w.floor) (sym there) ∙ r.raised_is;
+            copied_is = ap (λ w. w.copy) (sym there) ∙ r.copied_is;
           })
       | Some after ↦ λ is.
           (let there : after ≡ world_by sessions blocks (events ++ event ∷ []) =
@@ -98,7 +106,7 @@ reader_reached sessions blocks event hidden d b raised events r =
           record {
             desk = subst (Shows d) there both.0;
             board = subst (ShowsBoard b) there both.1;
-            raised_is = ap (λ w. w.floor) (sym there) ∙ both.1.floor ∙ floor_raised sessions blocks d b raised events r;
+            copied_is = ap (λ w. w.copy) (sym there) ∙ both.2 ∙ r.copied_is;
           })
     ] refl
 
@@ -123,7 +131,7 @@ idle_if (Pinned pin) is = cc
 idle_if (Holding hold) is = cc
 idle_if (Asking hold inquiry) is = cc
 
-pin_done : (sessions blocks : ℕ) (d : DeskView) (b : BoardState) (raised s : ℕ) (events : List Event)
+pin_done : (sessions blocks : ℕ) (d : DeskView) (b : BoardState) (raised : PinCopy) (s : ℕ) (events : List Event)
     → IsReached sessions blocks events d b raised
     → s < sessions → pin_at b.pins s ≡ None → (after : World) × (step (world_by sessions blocks events) (Pin s) ≡ Some after)
 pin_done sessions blocks d b raised s events r low none =
@@ -167,7 +175,7 @@ held_entered last (Asking hold inquiry) next is = cc
 pub same_count : (d : DeskView) (w : World) → Shows d w → last_number w ≡ length d.last.batches
 same_count d w shows = sym (length-map w.versions (λ v. v.batch)) ∙ ap length shows.batches
 
-entered_holds : (sessions blocks : ℕ) (d : DeskView) (b : BoardState) (raised s : ℕ) (events : List Event)
+entered_holds : (sessions blocks : ℕ) (d : DeskView) (b : BoardState) (raised : PinCopy) (s : ℕ) (events : List Event)
     → IsReached sessions blocks events d b raised
     → is_done (world_by sessions blocks events) (Enter s) ≡ true
     → held_in (session_of (world_by sessions blocks (events ++ Enter s ∷ [])) s) ≡ Some (length d.last.batches)
@@ -184,37 +192,37 @@ stays_reached sessions blocks = record {
   opening = record {
     desk = opens_as_machine.shown sessions blocks;
     board = opens_as_machine.board sessions blocks;
-    raised_is = refl;
+    copied_is = refl;
   };
   applied = λ old new b raised events more r takes. taken_reached sessions blocks old new b raised events more r
       (takes (world_by sessions blocks events) r.desk);
   collected = λ old new b raised events more r takes.
-      taken_reached sessions blocks old new b raised events more r (takes (world_by sessions blocks events) r.desk r.raised_is).0;
-  raised = λ d b before floor events r least.
+      taken_reached sessions blocks old new b raised events more r (takes (world_by sessions blocks events) r.desk r.copied_is).0;
+  raised = λ d b before events r is_board few_sessions.
       let w : World = world_by sessions blocks events in
-      board_reached sessions blocks d b (record b { floor = floor }) before floor events Floor (record w {
-        floor = least_pin (last_number w) w.sessions;
-      }) r refl
-      (raises_as_machine b w floor r.board (subst (λ n. IsLeast n b.pins floor) (sym (same_count d w r.desk)) least)) refl;
+      let count = same_count d w r.desk in
+      let few : length w.sessions ≡ sessions = (size_run events (start_world sessions blocks)).sessions
+      ∙ length-replicate sessions Idle in
+      subst (λ n. IsReached sessions blocks (events ++ Floor ∷ []) d (raised_board n b) (copy_of n b.pins)) count
+      (board_reached sessions blocks d b (raised_board (last_number w) b) before (copy_of (last_number w) b.pins) events Floor
+      (floored w) r refl
+      (raises_as_machine b w is_board (omega (arith, few, few_sessions)) r.board));
   pinned = λ d b raised s events r board low few none.
       let done = pin_done sessions blocks d b raised s events r few none in
-      board_reached sessions blocks d b (with_pin b s (Some (unsettled b.floor))) raised raised events (Pin s) done.0 r done.1
-      (pins_as_machine b (world_by sessions blocks events) s board low r.board)
-      (floor_raised sessions blocks d b raised events r);
+      board_kept sessions blocks d b (with_pin b s (Some (unsettled b.floor))) raised events (Pin s) done.0 r done.1
+      (pins_as_machine b (world_by sessions blocks events) s board low r.board);
   settled = λ d b raised s n events r board low held.
       let w : World = world_by sessions blocks events in
       let done = settle_done w s n held in
       let order : PinsInOrder w = pins_in_order w (always_sound (start sessions blocks) events (start_is_start sessions blocks))
       in
-      board_reached sessions blocks d b (with_pin b s (option_map (settled n) (pin_at b.pins s))) raised raised events
+      board_kept sessions blocks d b (with_pin b s (option_map (settled n) (pin_at b.pins s))) raised events
       (Settle s) done.0 r done.1
-      (settles_as_machine b w s n board low r.board held (λ pin is. order.pin_held s pin n is held))
-      (floor_raised sessions blocks d b raised events r);
+      (settles_as_machine b w s n board low r.board held (λ pin is. order.pin_held s pin n is held));
   unpinned = λ d b raised s events r board low done.
       let there = some_step (step (world_by sessions blocks events) (Release s)) done in
-      board_reached sessions blocks d b (with_pin b s None) raised raised events (Release s) there.0 r there.1
-      (unpins_as_machine b (world_by sessions blocks events) s board low r.board)
-      (floor_raised sessions blocks d b raised events r);
+      board_kept sessions blocks d b (with_pin b s None) raised events (Release s) there.0 r there.1
+      (unpins_as_machine b (world_by sessions blocks events) s board low r.board);
   enter = λ s. reader_reached sessions blocks (Enter s) (readers_are_unseen.enter s);
   ask = λ s request. reader_reached sessions blocks (Ask s request) (readers_are_unseen.ask s request);
   read = λ s. reader_reached sessions blocks (Read s) (readers_are_unseen.read s);

@@ -1,14 +1,18 @@
 -- A desk: the last version, the journal, and what each block number is. A batch and a collection change it.
-use Rattle.std.specs.Prelude.{◌≡◌, ℕ, ◌+◌, ◌==◌, nat_lt, List, [], ◌∷◌, ◌++◌, length, map, count_by, replicate, All, Contains}
+use Rattle.std.specs.Prelude.{◌≡◌, ℕ, ◌+◌, ◌==◌, List, [], ◌∷◌, ◌++◌, length, map, count_by, slice_index_or, All, Contains}
 use Rattle.std.specs.Prelude.{Bool, true, false, ◌&&◌, if◌then◌else◌}
 use Rattle.std.specs.declared.option.Option.TheVariants.{Some}
 use Rattle.graph_model.specs.declared.batches.NamedOp.{NamedOp}
 use Rattle.graph_model.specs.Step.{after_all}
 use Rattle.edge_block.specs.Slots.{BlockView}
 use Rattle.block_layout.specs.Batches.{layout_after, taken_by, dropped_by}
-use Rattle.row_pages.specs.Rows.{blocks_of, numbers_of}
+use Rattle.row_pages.specs.Rows.{row_of, blocks_of, numbers_of}
 use Rattle.graph_version.specs.Versions.{VersionView, IsVersion, content, layout_of, is_in}
-use Rattle.block_pool.specs.Pools.{Status, Free, Used, Retired, AreFree, is_free, is_retired, is_born_at, is_past, recycled}
+use Rattle.pin_copy.specs.declared.copies.PinCopy.{PinCopy}
+use Rattle.pin_copy.specs.Copies.{needs}
+use Rattle.block_pool.specs.Pools.{Status, Free, Granted, Used, Retired, AreFree, is_free, is_retired, is_born_at, is_past}
+use Rattle.block_pool.specs.Pools.{recycled}
+use Rattle.shard_work.specs.Births.{births_after, dropped_births, CarriesBirths}
 use Rattle.shard_work.specs.Done.{Exchanges}
 use Rattle.store_journal.specs.Journal.{Entry, Applied, Collected, Ledger, empty_ledger, replay, is_legal, after_entry, exchanged}
 
@@ -31,6 +35,20 @@ pub record IsDesk (d : DeskView) : Type 0 where
   pub replays : replay d.journal (empty_ledger (length d.pool)) ≡ Some (ledger_of d)
   pub listed : (n : ℕ) → is_born_at d.pool n ≡ is_in n (last_numbers d)
 
+-- the birth of a block of the last version
+abbrev pub birth_of : Status → ℕ
+birth_of Free = 0
+birth_of Granted = 0
+birth_of (Used birth) = birth
+birth_of (Retired birth since) = birth
+
+abbrev pub birth_at : List Status → ℕ → ℕ
+birth_at pool number = birth_of (slice_index_or pool number Granted)
+
+-- the births of the last version's blocks, by source
+abbrev pub births_in : DeskView → ℕ → List ℕ
+births_in d source = map (λ b. birth_at d.pool b.number) (row_of d.last.rows source)
+
 -- Batches
 
 -- the next version's layout is the one that the layout rule has after the batch, and as many blocks were taken and
@@ -40,6 +58,15 @@ pub record FollowsLayout (before : VersionView) (ops : List NamedOp) (after : Ve
   pub taken_are : taken ≡ taken_by ops (content before) (layout_of before.rows) (length (after_all ops (content before)).names)
   pub dropped_are : dropped ≡ dropped_by ops (content before) (layout_of before.rows)
       (length (after_all ops (content before)).names)
+
+-- the births after the batch are those that the rule of births has, where taken blocks are born with the new version's number;
+-- and the births of the dropped blocks are those that it says
+pub record FollowsBirths (old : DeskView) (ops : List NamedOp) (dropped : List ℕ) (new : DeskView) : Type 0 where
+  pub rows : (source : ℕ) → births_in new source
+      ≡ births_after (length old.last.batches + 1) ops (content old.last) (layout_of old.last.rows) (births_in old) source
+  pub dropped_are : (q : ℕ → Bool) → count_by q (map (birth_at old.pool) dropped)
+      ≡ count_by q (dropped_births ops (content old.last) (layout_of old.last.rows) (births_in old)
+      (length (after_all ops (content old.last)).names))
 
 -- a batch was applied to the desk's last version with granted blocks of these numbers
 pub record IsAppliedTo (d : DeskView) (ops : List NamedOp) (numbers : List ℕ) (version : VersionView) (taken : List ℕ)
@@ -51,6 +78,7 @@ pub record IsAppliedTo (d : DeskView) (ops : List NamedOp) (numbers : List ℕ) 
   pub exchanged : Exchanges (blocks_of d.last.rows) (blocks_of version.rows) taken dropped
   pub handed : (q : ℕ → Bool) → count_by q taken + count_by q unused ≡ count_by q numbers
   pub layout : FollowsLayout d.last ops version (length taken) (length dropped)
+  pub births : CarriesBirths d.last ops version taken dropped
 
 -- the desk with that version as the last one, the batch in the journal, and the blocks exchanged
 abbrev pub desk_after : DeskView → List NamedOp → VersionView → List ℕ → List BlockView → DeskView
@@ -69,38 +97,42 @@ pub record IsAccepted (old : DeskView) (ops : List NamedOp) (taken dropped : Lis
   -- blocks that weren't taken are those of the version before, unchanged
   pub kept : All (λ b. is_in b.number taken ≡ false → Contains (blocks_of old.last.rows) b) (blocks_of new.last.rows)
   pub layout : FollowsLayout old.last ops new.last (length taken) (length dropped)
+  pub births : FollowsBirths old ops dropped new
 
--- whether a block is retired, by a version whose number passes the test
-abbrev pub is_retired_by : (ℕ → Bool) → Status → Bool
+-- whether a block is retired, with a birth and a retirement that pass the test
+abbrev pub is_retired_by : (ℕ → ℕ → Bool) → Status → Bool
 is_retired_by q Free = false
-is_retired_by q Used = false
-is_retired_by q (Retired version) = q version
+is_retired_by q Granted = false
+is_retired_by q (Used birth) = false
+is_retired_by q (Retired birth since) = q birth since
 
--- free falls by what the batch takes, and retired grows by what it drops, all of which the new version's number retires
+-- free falls by what the batch takes, and retired grows by what it drops, all of which the new version's number retires,
+-- each with its birth
 pub record AcceptedCounts (old : DeskView) (taken dropped : List ℕ) (new : DeskView) : Type 0 where
   pub free : count_by is_free new.pool + length taken ≡ count_by is_free old.pool
   pub retired : count_by is_retired new.pool ≡ count_by is_retired old.pool + length dropped
-  pub retired_by : (q : ℕ → Bool) → count_by (is_retired_by q) new.pool
-      ≡ count_by (is_retired_by q) old.pool + count_by q (replicate (length dropped) (length old.last.batches + 1))
+  pub retired_by : (q : ℕ → ℕ → Bool) → count_by (is_retired_by q) new.pool
+      ≡ count_by (is_retired_by q) old.pool
+      + count_by (λ birth. q birth (length old.last.batches + 1)) (map (birth_at old.pool) dropped)
   pub blocks : length new.pool ≡ length old.pool
 
 -- Collections
 
 -- the entries of a collection: one where it recycles a block
-abbrev pub collections : ℕ → ℕ → List Entry
-collections floor count = if count == 0 then [] else Collected floor count ∷ []
+abbrev pub collections : PinCopy → ℕ → List Entry
+collections copy count = if count == 0 then [] else Collected copy count ∷ []
 
--- the desk has collected at this floor: it has recycled what is past the floor, and the journal has an entry where that
--- is anything
-pub record IsCollected (old : DeskView) (floor : ℕ) (new : DeskView) : Type 0 where
+-- the desk has collected by this copy: it has recycled what is retired and not needed by the copy, and the journal has an
+-- entry where that is anything
+pub record IsCollected (old : DeskView) (copy : PinCopy) (new : DeskView) : Type 0 where
   pub last : new.last ≡ old.last
-  pub pool : new.pool ≡ map (recycled floor) old.pool
-  pub journal : new.journal ≡ old.journal ++ collections floor (count_by (is_past floor) old.pool)
+  pub pool : new.pool ≡ map (recycled copy) old.pool
+  pub journal : new.journal ≡ old.journal ++ collections copy (count_by (is_past copy) old.pool)
 
--- what the collection recycles was retired and is free; retired is what numbers above the floor retired
-pub record CollectedCounts (old : DeskView) (floor : ℕ) (new : DeskView) : Type 0 where
-  pub free : count_by is_free new.pool ≡ count_by is_free old.pool + count_by (is_past floor) old.pool
-  pub retired : count_by is_retired new.pool + count_by (is_past floor) old.pool ≡ count_by is_retired old.pool
-  pub retired_by : (q : ℕ → Bool) → count_by (is_retired_by q) new.pool
-      ≡ count_by (is_retired_by (λ number. nat_lt floor number && q number)) old.pool
+-- what the collection recycles was retired and is free; retired is what the copy needs
+pub record CollectedCounts (old : DeskView) (copy : PinCopy) (new : DeskView) : Type 0 where
+  pub free : count_by is_free new.pool ≡ count_by is_free old.pool + count_by (is_past copy) old.pool
+  pub retired : count_by is_retired new.pool + count_by (is_past copy) old.pool ≡ count_by is_retired old.pool
+  pub retired_by : (q : ℕ → ℕ → Bool) → count_by (is_retired_by q) new.pool
+      ≡ count_by (is_retired_by (λ birth since. needs copy birth since && q birth since)) old.pool
   pub blocks : length new.pool ≡ length old.pool

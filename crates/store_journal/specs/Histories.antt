@@ -21,7 +21,7 @@ DoneIsRun = (events : List Event) (w after : World) → all_done events w ≡ So
 abbrev pub IsUnseen : Event → Type 0
 IsUnseen event =
     (d : DeskView) (b : BoardState) (w after : World) → step w event ≡ Some after → Shows d w → ShowsBoard b w
-    → Shows d after × ShowsBoard b after
+    → Shows d after × ShowsBoard b after × (after.copy ≡ w.copy)
 
 -- entering, asking, reading and replying are such steps
 pub record ReadersAreUnseen : Type 0 where

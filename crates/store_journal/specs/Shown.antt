@@ -4,27 +4,32 @@ use Rattle.std.specs.declared.option.Option.{Option}
 use Rattle.std.specs.declared.option.Option.TheVariants.{None, Some}
 use Rattle.row_pages.specs.Rows.{blocks_of}
 use Rattle.graph_version.specs.Edges.{edges_in_block}
-use Rattle.block_pool.specs.Pools.{Status as PoolStatus, Free as PoolFree, Used as PoolUsed, Retired as PoolRetired}
+use Rattle.block_pool.specs.Pools.{Status as PoolStatus, Free as PoolFree, Granted as PoolGranted, Used as PoolUsed}
+use Rattle.block_pool.specs.Pools.{Retired as PoolRetired}
 use Rattle.epoch_posts.specs.declared.states.Status.{Status}
 use Rattle.epoch_posts.specs.declared.states.Status.TheVariants.{Free, Fresh, Used, Retired}
 use Rattle.epoch_core.specs.Worlds.{World, last_blocks}
 use Rattle.epoch_posts.specs.Versions.{edges_at, opening_graph}
 use Rattle.store_journal.specs.Desks.{DeskView, last_numbers}
 
--- what the pool says of a block is what the machine says; the pool knows no births
+-- what the pool says of a block is what the machine says
 abbrev pub IsSame : PoolStatus → Status → Type 0
 IsSame PoolFree Free = Unit {0}
 IsSame PoolFree Fresh = ⊥
 IsSame PoolFree (Used birth) = ⊥
 IsSame PoolFree (Retired birth since) = ⊥
-IsSame PoolUsed Free = ⊥
-IsSame PoolUsed Fresh = ⊥
-IsSame PoolUsed (Used birth) = Unit {0}
-IsSame PoolUsed (Retired birth since) = ⊥
-IsSame (PoolRetired version) Free = ⊥
-IsSame (PoolRetired version) Fresh = ⊥
-IsSame (PoolRetired version) (Used birth) = ⊥
-IsSame (PoolRetired version) (Retired birth since) = since ≡ version
+IsSame PoolGranted Free = ⊥
+IsSame PoolGranted Fresh = Unit {0}
+IsSame PoolGranted (Used birth) = ⊥
+IsSame PoolGranted (Retired birth since) = ⊥
+IsSame (PoolUsed b) Free = ⊥
+IsSame (PoolUsed b) Fresh = ⊥
+IsSame (PoolUsed b) (Used birth) = birth ≡ b
+IsSame (PoolUsed b) (Retired birth since) = ⊥
+IsSame (PoolRetired b r) Free = ⊥
+IsSame (PoolRetired b r) Fresh = ⊥
+IsSame (PoolRetired b r) (Used birth) = ⊥
+IsSame (PoolRetired b r) (Retired birth since) = (birth ≡ b) × (since ≡ r)
 
 abbrev pub SameStatus : Option PoolStatus → Option Status → Type 0
 SameStatus None None = Unit {0}

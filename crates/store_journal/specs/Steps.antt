@@ -9,6 +9,7 @@ use Rattle.edge_block.specs.Slots.{BlockView}
 use Rattle.row_pages.specs.Rows.{blocks_of, numbers_of}
 use Rattle.graph_version.specs.Versions.{VersionView, is_in}
 use Rattle.graph_version.specs.Edges.{edges_in_block}
+use Rattle.pin_copy.specs.declared.copies.PinCopy.{PinCopy}
 use Rattle.block_pool.specs.Pools.{Status, is_past}
 use Rattle.epoch_core.specs.declared.events.Event.{Event}
 use Rattle.epoch_core.specs.declared.events.Event.TheVariants.{Take, Fill, Post, Recycle}
@@ -34,30 +35,31 @@ fresh_in v taken = filter (λ b. is_in b.number taken) (blocks_of v.rows)
 abbrev pub posting : VersionView → List NamedOp → List ℕ → List Event
 posting v batch taken = flat_map filling (fresh_in v taken) ++ Post batch (numbers_of (blocks_of v.rows)) ∷ []
 
--- these events are all done in the world, and leave one that the desk shows; floor and sessions stay as they are
+-- these events are all done in the world, and leave one that the desk shows; floor, copy and sessions stay as they are
 pub record IsTaken (w : World) (events : List Event) (new : DeskView) : Type 0 where
   pub after : World
   pub done : all_done events w ≡ Some after
   pub shown : Shows new after
   pub floor : after.floor ≡ w.floor
+  pub copy : after.copy ≡ w.copy
   pub sessions : after.sessions ≡ w.sessions
 
 -- so they do in each world that the desk showed before
 abbrev pub Takes : DeskView → List Event → DeskView → Type 0
 Takes old events new = (w : World) → Shows old w → IsTaken w events new
 
--- the numbers that are past the floor, rising
-abbrev pub past_numbers : ℕ → List Status → List ℕ
-past_numbers floor pool = map (λ p. p.0) (filter (λ p. is_past floor p.1) (enumerate_from 0 pool))
+-- the numbers that are retired and not needed by the copy, rising
+abbrev pub past_numbers : PinCopy → List Status → List ℕ
+past_numbers copy pool = map (λ p. p.0) (filter (λ p. is_past copy p.1) (enumerate_from 0 pool))
 
--- Recycle of each block that is past the floor
-abbrev pub recycling : ℕ → List Status → List Event
-recycling floor pool = map Recycle (past_numbers floor pool)
+-- Recycle of each of these
+abbrev pub recycling : PinCopy → List Status → List Event
+recycling copy pool = map Recycle (past_numbers copy pool)
 
--- these events are all done in worlds with this floor, and afterwards no further block goes
-abbrev pub TakesAt : ℕ → DeskView → List Event → DeskView → Type 0
-TakesAt floor old events new =
-    (w : World) → Shows old w → w.floor ≡ floor
+-- these events are all done in worlds with this copy, and afterwards no further block goes
+abbrev pub TakesAt : PinCopy → DeskView → List Event → DeskView → Type 0
+TakesAt copy old events new =
+    (w : World) → Shows old w → w.copy ≡ copy
     → (taken : IsTaken w events new) × ((n : ℕ) → step taken.after (Recycle n) ≡ None)
 
 -- the desk accepted the batch, which is those steps of the machine

@@ -6,7 +6,8 @@ ghost use Rattle.graph_model.specs.declared.batches.NamedOp.{NamedOp};
 ghost use Rattle.edge_block.specs.Slots.{BlockView};
 ghost use Rattle.row_pages.specs.Rows.{numbers_of};
 ghost use Rattle.graph_version.specs.Versions.{VersionView, is_in};
-ghost use Rattle.block_pool.specs.Pools.{Free, Used, retired, is_free_at, is_born_at, marked, changed};
+ghost use Rattle.pin_copy.specs.declared.copies.PinCopy.{PinCopy};
+ghost use Rattle.block_pool.specs.Pools.{Free, Granted, Used, retired, is_free_at, is_born_at, marked, changed};
 ghost use Rattle.store_journal.specs.Journal.{Entry, Applied, Ledger, entered, replay};
 ghost use Rattle.store_journal.specs.Desks.{DeskView, IsDesk, IsAppliedTo, IsAccepted, IsCollected, AcceptedCounts};
 ghost use Rattle.store_journal.specs.Desks.{CollectedCounts, desk_after};
@@ -37,12 +38,12 @@ pub fn law_journal()
 /// - `accepted`: the desk with the new version, the journal's entry and the blocks exchanged has accepted the batch, and
 ///   nothing else: its layout is the layout rule's, and it took and dropped as many blocks as the rule says.
 /// - `desk`: it is a desk: its journal replays to what it shows.
-/// - `moves`: its pool is what the moves of blocks leave, one set after another: all the granted blocks used, the dropped
-///   ones retired with the new version's number, the unused ones given back.
+/// - `moves`: its pool is what the moves of blocks leave, one set after another: all the blocks granted, the taken ones born
+///   with the new version's number, the dropped ones retired with it, the unused ones given back.
 /// - `steps`: in each world of the machine that the desk showed, Take and Fill of each taken block and one Post of the
 ///   batch are all done, and leave a world that the new desk shows.
-/// - `counts`: free falls by as many blocks as it takes, and retired grows by as many as it drops, with the new version's
-///   number.
+/// - `counts`: free falls by as many blocks as it takes, and retired grows by as many as it drops, each with its birth
+///   and the new version's number.
 pub fn law_accepted()
     ensures accepted { (old : DeskView) (ops : List NamedOp) (numbers : List ℕ) (version : VersionView) (taken : List ℕ)
         (dropped : List BlockView) (unused : List ℕ) → IsDesk old → IsAppliedTo old ops numbers version taken dropped unused
@@ -52,7 +53,8 @@ pub fn law_accepted()
         → IsDesk (desk_after old ops version taken dropped) }
     ensures moves { (old : DeskView) (ops : List NamedOp) (numbers : List ℕ) (version : VersionView) (taken : List ℕ)
         (dropped : List BlockView) (unused : List ℕ) → IsDesk old → IsAppliedTo old ops numbers version taken dropped unused
-        → marked unused Free (changed (retired (length old.last.batches + 1)) (numbers_of dropped) (marked numbers Used old.pool))
+        → marked unused Free (changed (retired (length old.last.batches + 1)) (numbers_of dropped)
+        (marked taken (Used (length old.last.batches + 1)) (marked numbers Granted old.pool)))
         ≡ (desk_after old ops version taken dropped).pool }
     ensures steps { (old new : DeskView) (ops : List NamedOp) (taken dropped : List ℕ) → IsDesk old → IsDesk new
         → IsAccepted old ops taken dropped new → Takes old (posting new.last ops taken) new }
@@ -60,19 +62,18 @@ pub fn law_accepted()
         → IsAccepted old ops taken dropped new → AcceptedCounts old taken dropped new }
 {}
 
-/// A collection at a floor.
+/// A collection by a copy of the pins.
 ///
-/// - `desk`: it leaves a desk, where the floor is at most the number of batches.
-/// - `steps`: in each world of the machine with this floor that the desk showed, Recycle of each block that is past the
-///   floor is done, which leaves a world that the new desk shows, and no further block goes.
-/// - `counts`: free grows, and retired falls, by as many blocks as are past the floor; those that stay retired have numbers
-///   above it.
+/// - `desk`: it leaves a desk, where the copy's last number is at most the number of batches.
+/// - `steps`: in each world of the machine with this copy that the desk showed, Recycle of each retired block that the copy
+///   doesn't need is done, which leaves a world that the new desk shows, and no further block goes.
+/// - `counts`: free grows, and retired falls, by as many retired blocks as the copy doesn't need; it needs those that stay.
 pub fn law_collected()
-    ensures desk { (old new : DeskView) (floor : ℕ) → IsDesk old → floor ≤ length old.last.batches
-        → IsCollected old floor new → IsDesk new }
-    ensures steps { (old new : DeskView) (floor : ℕ)
-        → IsCollected old floor new → TakesAt floor old (recycling floor old.pool) new }
-    ensures counts { (old new : DeskView) (floor : ℕ) → IsCollected old floor new → CollectedCounts old floor new }
+    ensures desk { (old new : DeskView) (copy : PinCopy) → IsDesk old → copy.last ≤ length old.last.batches
+        → IsCollected old copy new → IsDesk new }
+    ensures steps { (old new : DeskView) (copy : PinCopy)
+        → IsCollected old copy new → TakesAt copy old (recycling copy old.pool) new }
+    ensures counts { (old new : DeskView) (copy : PinCopy) → IsCollected old copy new → CollectedCounts old copy new }
 {}
 
 /// What `Board::pin`, `settle` with the number that the session holds, `unpin` and `raise` with the last number leave of
@@ -98,7 +99,7 @@ pub fn law_histories()
 {}
 
 /// From the opening on the desk and the board together show a world that a run of the machine leaves, whose events are
-/// those of the calls: after each accepted batch, each collection at the floor raised last, each raised floor, each seat
+/// those of the calls: after each accepted batch, each collection by the copy made last, each raised floor, each seat
 /// pinned, settled at the number that its session holds, or unpinned, and each step of a reader.
 pub fn law_stays_reached()
     ensures { (sessions blocks : ℕ) → StaysReached sessions blocks }
@@ -106,8 +107,8 @@ pub fn law_stays_reached()
 
 /// Held snapshots: where the desk and the board show what a run of the machine leaves, the blocks of the version that a
 /// session holds have, each once, the edges that the desk's first batches leave, as many batches as the version's number
-/// says, however many were accepted since; and none of these blocks is free, or would be freed by a collection at the
-/// floor raised last.
+/// says, however many were accepted since; and none of these blocks is free, or would be freed by a collection by the
+/// copy made last.
 pub fn law_held_versions()
     ensures { HeldIsSnapshot }
 {}

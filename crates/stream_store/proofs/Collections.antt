@@ -3,6 +3,7 @@ use Rattle.std.proofs.Common.{◌≡◌, ℕ, zero, suc, ◌+◌, ◌≤◌, rep
 use Rattle.logbook.specs.Pages.{Book}
 use Rattle.graph_version.specs.Versions.{empty_version}
 use Rattle.block_pool.specs.Pools.{Free, is_retired}
+use Rattle.pin_copy.specs.declared.copies.PinCopy.{PinCopy}
 use Rattle.version_shelf.specs.Shelves.{ShelfView, opened_shelf}
 use Rattle.store_journal.specs.Opening.{opened_desk}
 use Rattle.store_journal.proofs.CollectedDesk.{desk_collected, is_collected, collected_is_desk}
@@ -41,16 +42,16 @@ opened_kept book blocks workers some few = record {
 }
 
 -- the desk after a collection
-abbrev pub state_collected : DeskState → ℕ → DeskState
-state_collected d floor = record { book = d.book; workers = d.workers; desk = desk_collected d.desk floor }
+abbrev pub state_collected : DeskState → PinCopy → DeskState
+state_collected d copy = record { book = d.book; workers = d.workers; desk = desk_collected d.desk copy }
 
-pub collection_kept : (d e : DeskState) (floor : ℕ) (s : ShelfView) (entries capacity others room : ℕ)
+pub collection_kept : (d e : DeskState) (copy : PinCopy) (s : ShelfView) (entries capacity others room : ℕ)
     → IsKept d s entries capacity
-    → floor ≤ length d.desk.last.batches → e ≡ state_collected d floor → others + count_by is_retired e.desk.pool ≤ room
+    → copy.last ≤ length d.desk.last.batches → e ≡ state_collected d copy → others + count_by is_retired e.desk.pool ≤ room
     → IsKept e s others room
-collection_kept d e floor s entries capacity others room kept low is fits = record {
-  desk = collected_is_desk d.desk e.desk floor kept.desk low
-      (is_collected d.desk e.desk floor (ap (λ (x : DeskState). x.desk) is));
+collection_kept d e copy s entries capacity others room kept low is fits = record {
+  desk = collected_is_desk d.desk e.desk copy kept.desk low
+      (is_collected d.desk e.desk copy (ap (λ (x : DeskState). x.desk) is));
   book_is = kept.book_is ∙ sym (ap (λ (x : DeskState). x.book) is);
   opening_is = kept.opening_is ∙ sym (ap (λ (x : DeskState). x.desk.last.opening) is);
   posted_is = kept.posted_is ∙ sym (ap (λ (x : DeskState). x.desk.last.batches) is);

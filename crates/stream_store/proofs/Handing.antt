@@ -13,14 +13,14 @@ use Rattle.row_pages.specs.Rows as rows
 use Rattle.shard_work.specs.RowBlocks.{block_of, blocks_of, numbers_of}
 use Rattle.graph_version.specs.declared.versions.Version.{Version}
 use Rattle.graph_version.specs.Versions.{VersionView, is_in}
-use Rattle.block_pool.specs.Pools.{Status, Free, Used, Retired, is_retired, retired, marked, changed, AreFree}
+use Rattle.block_pool.specs.Pools.{Status, Free, Granted, Used, is_retired, is_used, is_born, retired, marked, changed, AreFree}
 use Rattle.version_shelf.specs.Shelves.{ShelfView, IsNext}
 use Rattle.store_journal.specs.Journal as journal
 use Rattle.store_journal.specs.Desks.{DeskView, IsDesk, FollowsLayout}
 use Rattle.store_journal.specs.Steps.{Accepts}
-use Rattle.store_journal.proofs.Accepting.{Application, next_desk, granted_pool, retired_pool, made_accepted, made_desk}
-use Rattle.store_journal.proofs.Accepting.{moves_left}
-use Rattle.store_journal.proofs.Accepting.{dropped_movable, unused_movable, granted_movable, given_back, granted_unlisted}
+use Rattle.store_journal.proofs.Accepting.{Application, next_desk, granted_pool, born_pool, retired_pool, made_accepted, made_desk}
+use Rattle.store_journal.proofs.Accepting.{moves_left, taken_granted, taken_movable, dropped_movable, unused_movable}
+use Rattle.store_journal.proofs.Accepting.{granted_movable, given_back, born_movable, born_given_back, granted_unlisted}
 use Rattle.store_journal.proofs.BatchLaws.{accepted_steps}
 use Rattle.store_journal.proofs.RetiredCounts.{retired_room}
 use Rattle.batch_plan.specs.declared.plans.Plan.{Plan}
@@ -31,7 +31,7 @@ use Rattle.stream_store.specs.declared.receipts.ApplyError.{ApplyError}
 use Rattle.stream_store.specs.declared.receipts.ApplyError.TheVariants.{BatchLimit, NamesFull, KindsFull, PoolEmpty, OutOfMemory}
 use Rattle.stream_store.specs.Applying.{IsPrepared}
 use Rattle.stream_store.specs.Kept.{DeskState, IsKept, entry_of}
-use Rattle.stream_store.specs.Moves.{AreUsedOnce}
+use Rattle.stream_store.specs.Moves.{AreUsedOnce, AreBornOnce}
 use Rattle.stream_store.specs.Refusals.{Refuses, RefusesGrant, IsAdmitted}
 
 pub record Handing : Type 0 where
@@ -45,7 +45,7 @@ pub record Handing : Type 0 where
   pub free : AreFree old.pool numbers
   pub same : handed ≡ numbers
   pub is_prepared : IsPrepared old.last ops handed prepared
-  pub granted : pool ≡ marked numbers Used old.pool
+  pub granted : pool ≡ marked numbers Granted old.pool
 
 numbers_mapped : (bs : List (Arc Block Global)) → rows.numbers_of (blocks_of bs) ≡ numbers_of bs
 numbers_mapped [] = refl
@@ -73,19 +73,38 @@ application h = record {
     handed = λ q. h.is_prepared.handed q ∙ ap (count_by q) h.same;
     layout = subst (FollowsLayout h.old.last h.ops (version_of h) (length h.prepared.taken))
         (sym (length-map h.prepared.dropped.items block_of)) h.is_prepared.layout;
+    births = h.is_prepared.births;
   };
 }
 
 -- The grant is given back
 
-pub back_used : (pool new : List Status) (numbers : List ℕ) → AreFree pool numbers → new ≡ marked numbers Used pool
+pub back_used : (pool new : List Status) (numbers : List ℕ) → AreFree pool numbers → new ≡ marked numbers Granted pool
     → AreUsedOnce numbers new
 back_used pool new numbers free is =
-    let m = granted_movable pool numbers free in subst (AreUsedOnce numbers) (sym is) (record { used = m.used; apart = m.apart })
+    let m = granted_movable pool numbers free in subst (AreUsedOnce numbers) (sym is) (record { pass = m.pass; apart = m.apart })
 
-pub back_same : (pool new end : List Status) (numbers : List ℕ) → AreFree pool numbers → new ≡ marked numbers Used pool
+pub back_same : (pool new end : List Status) (numbers : List ℕ) → AreFree pool numbers → new ≡ marked numbers Granted pool
     → end ≡ marked numbers Free new → end ≡ pool
 back_same pool new end numbers free is after = after ∙ ap (marked numbers Free) is ∙ given_back pool numbers free
+
+-- and so it is where some of the granted numbers were born meanwhile
+
+taken_within : (h : Handing) (m : ℕ) → is_in m h.prepared.taken ≡ true → is_in m h.numbers ≡ true
+taken_within h m is = taken_granted (application h) m is
+
+pub born_used : (h : Handing) (number : ℕ) (new : List Status) → new ≡ marked h.prepared.taken (Used number) h.pool
+    → AreUsedOnce h.numbers new
+born_used h number new is =
+    let m = born_movable h.old.pool h.numbers h.prepared.taken number h.free in
+    subst (AreUsedOnce h.numbers) (sym (is ∙ ap (marked h.prepared.taken (Used number)) h.granted))
+    (record { pass = m.pass; apart = m.apart })
+
+pub born_same : (h : Handing) (number : ℕ) (new end : List Status) → new ≡ marked h.prepared.taken (Used number) h.pool
+    → end ≡ marked h.numbers Free new → end ≡ h.old.pool
+born_same h number new end is after =
+    after ∙ ap (marked h.numbers Free) (is ∙ ap (marked h.prepared.taken (Used number)) h.granted)
+    ∙ born_given_back h.old.pool h.numbers h.prepared.taken number h.free (taken_within h)
 
 -- The granted blocks are none of the last version's
 
@@ -103,41 +122,49 @@ unlisted d numbers handed v desk free same at k e h =
 
 -- The blocks' moves
 
-changed_marked : (ns : List ℕ) (n : ℕ) (pool : List Status) → marked ns (Retired n) pool ≡ changed (retired n) ns pool
-changed_marked [] n pool = refl
-changed_marked (m ∷ ns) n pool = changed_marked ns n (set pool m (Retired n))
-
 dropped_is : (h : Handing) → numbers_of h.prepared.dropped.items ≡ rows.numbers_of (blocks_of h.prepared.dropped.items)
 dropped_is h = sym (numbers_mapped h.prepared.dropped.items)
 
-retired_is : (h : Handing) (number : ℕ) → number ≡ length h.old.last.batches + 1
-    → marked (numbers_of h.prepared.dropped.items) (Retired number) h.pool ≡ retired_pool (application h)
-retired_is h number is =
-    (λ i. marked (dropped_is h i) (Retired (is i)) (h.granted i))
-    ∙ changed_marked (rows.numbers_of (blocks_of h.prepared.dropped.items)) (length h.old.last.batches + 1)
-    (granted_pool (application h))
+born_is : (h : Handing) (number : ℕ) (born : List Status) → number ≡ length h.old.last.batches + 1
+    → born ≡ marked h.prepared.taken (Used number) h.pool → born ≡ born_pool (application h)
+born_is h number born is made = made ∙ (λ i. marked h.prepared.taken (Used (is i)) (h.granted i))
 
-pub dropped_once : (h : Handing) → AreUsedOnce (numbers_of h.prepared.dropped.items) h.pool
-dropped_once h =
+retired_is : (h : Handing) (number : ℕ) (born : List Status) → number ≡ length h.old.last.batches + 1
+    → born ≡ marked h.prepared.taken (Used number) h.pool
+    → changed (retired number) (numbers_of h.prepared.dropped.items) born ≡ retired_pool (application h)
+retired_is h number born is made =
+    λ i. changed (retired (is i)) (dropped_is h i) (born_is h number born is made i)
+
+pub taken_once : (h : Handing) → AreUsedOnce h.prepared.taken h.pool
+taken_once h =
+    let m = taken_movable (application h) in
+    subst (AreUsedOnce h.prepared.taken) (sym h.granted) (record { pass = m.pass; apart = m.apart })
+
+pub dropped_once : (h : Handing) (number : ℕ) (born : List Status) → number ≡ length h.old.last.batches + 1
+    → born ≡ marked h.prepared.taken (Used number) h.pool → AreBornOnce (numbers_of h.prepared.dropped.items) born
+dropped_once h number born is made =
     let m = dropped_movable (application h) in
-    let once : AreUsedOnce (rows.numbers_of (blocks_of h.prepared.dropped.items)) (granted_pool (application h)) =
-    record { used = m.used; apart = m.apart } in
-    subst (AreUsedOnce (numbers_of h.prepared.dropped.items)) (sym h.granted)
-    (subst (λ ns. AreUsedOnce ns (granted_pool (application h))) (sym (dropped_is h)) once)
+    let once : AreBornOnce (rows.numbers_of (blocks_of h.prepared.dropped.items)) (born_pool (application h)) =
+    record { pass = m.pass; apart = m.apart } in
+    subst (AreBornOnce (numbers_of h.prepared.dropped.items)) (sym (born_is h number born is made))
+    (subst (λ ns. AreBornOnce ns (born_pool (application h))) (sym (dropped_is h)) once)
 
-pub unused_once : (h : Handing) (number : ℕ) → number ≡ length h.old.last.batches + 1
-    → AreUsedOnce (numbers_of h.prepared.unused.items) (marked (numbers_of h.prepared.dropped.items) (Retired number) h.pool)
-unused_once h number is =
+pub unused_once : (h : Handing) (number : ℕ) (born : List Status) → number ≡ length h.old.last.batches + 1
+    → born ≡ marked h.prepared.taken (Used number) h.pool
+    → AreUsedOnce (numbers_of h.prepared.unused.items) (changed (retired number) (numbers_of h.prepared.dropped.items) born)
+unused_once h number born is made =
     let m = unused_movable (application h) in
-    subst (AreUsedOnce (numbers_of h.prepared.unused.items)) (sym (retired_is h number is))
-    (record { used = m.used; apart = m.apart })
+    subst (AreUsedOnce (numbers_of h.prepared.unused.items)) (sym (retired_is h number born is made))
+    (record { pass = m.pass; apart = m.apart })
 
-pub end_pool : (h : Handing) (number : ℕ) (end : List Status) → number ≡ length h.old.last.batches + 1
+pub end_pool : (h : Handing) (number : ℕ) (born end : List Status) → number ≡ length h.old.last.batches + 1
+    → born ≡ marked h.prepared.taken (Used number) h.pool
     → end ≡ marked (numbers_of h.prepared.unused.items) Free
-    (marked (numbers_of h.prepared.dropped.items) (Retired number) h.pool)
+    (changed (retired number) (numbers_of h.prepared.dropped.items) born)
     → end ≡ (next_desk (application h)).pool
-end_pool h number end is moved =
-    moved ∙ ap (marked (numbers_of h.prepared.unused.items) Free) (retired_is h number is) ∙ moves_left (application h)
+end_pool h number born end is made moved =
+    moved ∙ ap (marked (numbers_of h.prepared.unused.items) Free) (retired_is h number born is made)
+    ∙ moves_left (application h)
 
 -- The desk afterwards
 
@@ -216,7 +243,7 @@ grant_refused v free workers ops plan OutOfMemory admitted refuses = refuses
 abbrev pub handing : (old : DeskView) (ops : List NamedOp) (numbers handed : List ℕ) (prepared : Prepared) (pool : List Status)
     (v : VersionView)
     → IsDesk old → AreFree old.pool numbers → handed ≡ numbers → v ≡ old.last → IsPrepared v ops handed prepared
-    → pool ≡ marked numbers Used old.pool → Handing
+    → pool ≡ marked numbers Granted old.pool → Handing
 handing old ops numbers handed prepared pool v before free same last is_prepared granted = record {
   old = old;
   ops = ops;

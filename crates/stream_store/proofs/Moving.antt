@@ -1,5 +1,5 @@
 -- The last of some blocks is moved, and then the rest.
-use Rattle.std.proofs.Common.{◌≡◌, ℕ, ◌==◌, true, List, [], ◌∷◌, ◌++◌, set}
+use Rattle.std.proofs.Common.{◌≡◌, ℕ, ◌==◌, Bool, true, List, [], ◌∷◌, ◌++◌, get_or, set}
 use Rattle.std.proofs.Common.{refl, sym, ap, subst, ◌∙◌, arith}
 use Rattle.std.specs.Prelude.{slice_get, if◌then◌else◌}
 use Rattle.std.specs.Option.{option_map}
@@ -9,14 +9,15 @@ use Rattle.std.specs.declared.alloc.Global.{Global}
 use Rattle.edge_block.specs.declared.blocks.Block.{Block}
 use Rattle.shard_work.specs.RowBlocks.{block_of, numbers_of}
 use Rattle.graph_version.specs.Versions.{is_in}
-use Rattle.block_pool.specs.Pools.{Status, is_used_at, marked}
+use Rattle.block_pool.specs.Pools.{Status, Granted, Used, is_used, is_born, is_used_at, is_born_at, marked, changed, passes, retired}
 use Rattle.block_pool.proofs.Tallies.{count_more}
+use Rattle.epoch_posts.specs.Blocks.{all_differ}
 use Rattle.epoch_posts.proofs.Lists.{all_listed}
 use Rattle.store_journal.proofs.NumberLists.{all_by}
-use Rattle.store_journal.proofs.ChangedLists.{marked_at, same_list}
+use Rattle.store_journal.proofs.ChangedLists.{marked_at, changed_at, same_list}
 use Rattle.store_journal.proofs.Counting.{times, is_some_times, in_times, once_at_most, apart_if}
 use Rattle.store_journal.proofs.BlockMoves.{AreMovable, moving}
-use Rattle.stream_store.specs.Moves.{AreUsedOnce}
+use Rattle.stream_store.specs.Moves.{AreOnce, AreUsedOnce, AreBornOnce}
 
 -- a list with its last number first has each number as often
 turned_times : (m n : ℕ) (ns : List ℕ) → times m (ns ++ n ∷ []) ≡ times m (n ∷ ns)
@@ -32,10 +33,11 @@ turned_times m n (c ∷ ns) =
 turned_in : (m n : ℕ) (ns : List ℕ) → is_in m (ns ++ n ∷ []) ≡ is_in m (n ∷ ns)
 turned_in m n ns = in_times m (ns ++ n ∷ []) ∙ ap is_some_times (turned_times m n ns) ∙ sym (in_times m (n ∷ ns))
 
-turned : (n : ℕ) (ns : List ℕ) (pool : List Status) → AreUsedOnce (ns ++ n ∷ []) pool → AreMovable (n ∷ ns) pool
-turned n ns pool once = record {
-  used = all_by (is_used_at pool) (n ∷ ns) (λ m is. all_listed (is_used_at pool) (ns ++ n ∷ []) m once.used
-      (turned_in m n ns ∙ is));
+turned : (test : Status → Bool) (n : ℕ) (ns : List ℕ) (pool : List Status) → AreOnce test (ns ++ n ∷ []) pool
+    → AreMovable test (n ∷ ns) pool
+turned test n ns pool once = record {
+  pass = all_by (λ k. passes test (slice_get pool k)) (n ∷ ns) (λ m is. all_listed (λ k. passes test (slice_get pool k))
+      (ns ++ n ∷ []) m once.pass (turned_in m n ns ∙ is));
   apart = apart_if (n ∷ ns) (λ m. let same = turned_times m n ns in let one = once_at_most m (ns ++ n ∷ []) once.apart in omega
       arith);
 }
@@ -46,6 +48,13 @@ turned_marks n ns s pool = same_list _ _ (λ m.
     ∙ ap (λ t. if t then option_map (λ _. s) (slice_get pool m) else slice_get pool m) (sym (turned_in m n ns))
     ∙ sym (marked_at (ns ++ n ∷ []) s pool m))
 
+turned_changes : (f : Status → Status) (n : ℕ) (ns : List ℕ) (pool : List Status) → all_differ (ns ++ n ∷ []) ≡ true
+    → all_differ (n ∷ ns) ≡ true → changed f (n ∷ ns) pool ≡ changed f (ns ++ n ∷ []) pool
+turned_changes f n ns pool apart first = same_list _ _ (λ m.
+    changed_at f (n ∷ ns) pool m first
+    ∙ ap (λ t. if t then option_map f (slice_get pool m) else slice_get pool m) (sym (turned_in m n ns))
+    ∙ sym (changed_at f (ns ++ n ∷ []) pool m apart))
+
 -- what stays to be moved, and what the pool will be
 pub record IsMoving (numbers : List ℕ) (s : Status) (pool end : List Status) : Type 0 where
   pub once : AreUsedOnce numbers pool
@@ -53,15 +62,52 @@ pub record IsMoving (numbers : List ℕ) (s : Status) (pool end : List Status) :
 
 pub last_used : (old ns : List ℕ) (n : ℕ) (s : Status) (pool end : List Status) → old ≡ ns ++ n ∷ [] → IsMoving old s pool end
     → is_used_at pool n ≡ true
-last_used old ns n s pool end is m = (moving n ns s pool (turned n ns pool (subst (λ xs. AreUsedOnce xs pool) is m.once))).0
+last_used old ns n s pool end is m =
+    (moving is_used n ns s pool (turned is_used n ns pool (subst (λ xs. AreUsedOnce xs pool) is m.once))).0
 
 pub rest_moving : (old ns : List ℕ) (n : ℕ) (s : Status) (pool next end : List Status) → old ≡ ns ++ n ∷ [] → next ≡ set pool n s
     → IsMoving old s pool end → IsMoving ns s next end
 rest_moving old ns n s pool next end is moved m =
-    let rest = (moving n ns s pool (turned n ns pool (subst (λ xs. AreUsedOnce xs pool) is m.once))).1 in
+    let rest = (moving is_used n ns s pool (turned is_used n ns pool (subst (λ xs. AreUsedOnce xs pool) is m.once))).1 in
     record {
-      once = subst (AreUsedOnce ns) (sym moved) (record { used = rest.used; apart = rest.apart });
+      once = subst (AreUsedOnce ns) (sym moved) (record { pass = rest.pass; apart = rest.apart });
       ends = ap (marked ns s) moved ∙ turned_marks n ns s pool ∙ ap (λ xs. marked xs s pool) (sym is) ∙ m.ends;
+    }
+
+-- the first of some numbers is moved, and then the rest
+pub first_used : (n : ℕ) (ns : List ℕ) (s : Status) (pool end : List Status) → IsMoving (n ∷ ns) s pool end
+    → is_used_at pool n ≡ true
+first_used n ns s pool end m = (moving is_used n ns s pool (record { pass = m.once.pass; apart = m.once.apart })).0
+
+pub later_moving : (n : ℕ) (ns : List ℕ) (s : Status) (pool next end : List Status) → next ≡ set pool n s
+    → IsMoving (n ∷ ns) s pool end → IsMoving ns s next end
+later_moving n ns s pool next end moved m =
+    let rest = (moving is_used n ns s pool (record { pass = m.once.pass; apart = m.once.apart })).1 in
+    record {
+      once = subst (AreUsedOnce ns) (sym moved) (record { pass = rest.pass; apart = rest.apart });
+      ends = ap (marked ns s) moved ∙ m.ends;
+    }
+
+-- what stays to be retired, and what the pool will be
+pub record IsRetiring (numbers : List ℕ) (number : ℕ) (pool end : List Status) : Type 0 where
+  pub once : AreBornOnce numbers pool
+  pub ends : changed (retired number) numbers pool ≡ end
+
+pub last_born : (old ns : List ℕ) (n number : ℕ) (pool end : List Status) → old ≡ ns ++ n ∷ []
+    → IsRetiring old number pool end → is_born_at pool n ≡ true
+last_born old ns n number pool end is m =
+    (moving is_born n ns Granted pool (turned is_born n ns pool (subst (λ xs. AreBornOnce xs pool) is m.once))).0
+
+pub rest_retiring : (old ns : List ℕ) (n number : ℕ) (pool next end : List Status) → old ≡ ns ++ n ∷ []
+    → next ≡ changed (retired number) (n ∷ []) pool → IsRetiring old number pool end → IsRetiring ns number next end
+rest_retiring old ns n number pool next end is moved m =
+    let once : AreBornOnce (ns ++ n ∷ []) pool = subst (λ xs. AreBornOnce xs pool) is m.once in
+    let first : AreMovable is_born (n ∷ ns) pool = turned is_born n ns pool once in
+    let rest = (moving is_born n ns (retired number (get_or pool n Granted)) pool first).1 in
+    record {
+      once = subst (AreBornOnce ns) (sym moved) (record { pass = rest.pass; apart = rest.apart });
+      ends = ap (changed (retired number) ns) moved ∙ turned_changes (retired number) n ns pool once.apart first.apart
+          ∙ ap (λ xs. changed (retired number) xs pool) (sym is) ∙ m.ends;
     }
 
 -- the numbers of blocks whose last one is taken off

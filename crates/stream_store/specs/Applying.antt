@@ -7,6 +7,7 @@ use Rattle.graph_model.specs.declared.batches.NamedOp.{NamedOp}
 use Rattle.graph_model.specs.declared.batches.Outcome.{Outcome}
 use Rattle.row_pages.specs.Rows as rows
 use Rattle.shard_work.specs.RowBlocks.{blocks_of, numbers_of}
+use Rattle.shard_work.specs.Births.{CarriesBirths}
 use Rattle.shard_work.specs.Done.{Exchanges}
 use Rattle.graph_version.specs.declared.versions.Version.{Version}
 use Rattle.graph_version.specs.Versions.{VersionView, IsVersion, content}
@@ -25,6 +26,7 @@ pub record IsPrepared (v : VersionView) (ops : List NamedOp) (numbers : List ℕ
       (blocks_of p.dropped.items)
   pub handed : (q : ℕ → Bool) → count_by q p.taken + count_by q (numbers_of p.unused.items) ≡ count_by q numbers
   pub layout : FollowsLayout v ops (arc_value {X = Version} p.version) (length p.taken) (length p.dropped.items)
+  pub births : CarriesBirths v ops (arc_value {X = Version} p.version) p.taken (blocks_of p.dropped.items)
   pub batch_is : arc_value {X = Batch} p.batch ≡ ops
   pub dropped_are : p.dropped_numbers ≡ numbers_of p.dropped.items
 

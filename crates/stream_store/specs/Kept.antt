@@ -20,7 +20,7 @@ pub record DeskState : Type 0 where
 -- an entry as contracts see it
 abbrev pub entry_of : JournalEntry → Entry
 entry_of (entries.Applied batch taken dropped) = Applied (arc_value {X = Batch} batch) taken dropped
-entry_of (entries.Collected floor recycled) = Collected floor recycled
+entry_of (entries.Collected copy recycled) = Collected copy recycled
 
 abbrev pub state_of : Book → ℕ → VersionView → List JournalEntry → List Status → DeskState
 state_of book workers last journal pool = record {

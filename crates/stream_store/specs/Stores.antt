@@ -8,6 +8,9 @@ use Rattle.graph_model.specs.declared.batches.Outcome.{Outcome}
 use Rattle.graph_version.specs.Versions.{VersionView, IsVersion}
 use Rattle.batch_plan.specs.Planned.{MeetsNeitherLimit}
 use Rattle.version_shelf.specs.Shelves.{ToldView}
+use Rattle.pin_copy.specs.declared.copies.PinCopy.{PinCopy}
+use Rattle.seat_board.specs.Board.{BoardState, copy_of}
+use Rattle.store_journal.specs.Desks.{DeskView}
 use Rattle.stream_store.specs.Refusals.{Refuses}
 use Rattle.stream_store.specs.declared.receipts.ApplyError.{ApplyError}
 
@@ -33,3 +36,7 @@ pub record IsRefusalOf (ops : List NamedOp) (e : ApplyError) : Type 0 where
   pub version_is : IsVersion last
   pub opening_is : last.opening ≡ empty_graph
   pub refuses : Refuses last free ops e
+
+-- the copy of a desk's last number and the pins of a board
+abbrev pub copied : DeskView → BoardState → PinCopy
+copied desk board = copy_of (length desk.last.batches) board.pins

@@ -9,7 +9,7 @@ ghost use Rattle.row_pages.specs.Rows as rows;
 ghost use Rattle.shard_work.specs.RowBlocks.{numbers_of};
 ghost use Rattle.graph_version.specs.declared.versions.Version.{Version};
 ghost use Rattle.graph_version.specs.Versions.{is_in};
-ghost use Rattle.block_pool.specs.Pools.{Used, AreFree, is_free, marked};
+ghost use Rattle.block_pool.specs.Pools.{Granted, AreFree, is_free, marked};
 ghost use Rattle.version_shelf.specs.Shelves.{IsNext};
 ghost use Rattle.stream_store.specs.Applying.{IsPrepared};
 ghost use Rattle.stream_store.specs.Refusals.{Refuses, RefusesGrant, IsAdmitted};
@@ -63,7 +63,7 @@ pub(crate) fn grant_blocks(pool: &mut Pool, count: usize) -> Result<Grant, Apply
     requires { count ≤ 4096 }
     ensures numbers { IfOk result (λ g. AreFree pool.old g.numbers.items × (length g.numbers.items ≡ count)) }
     ensures blocks { IfOk result (λ g. numbers_of g.blocks.items ≡ g.numbers.items) }
-    ensures used { IfOk result (λ g. pool.new ≡ marked g.numbers.items Used pool.old) }
+    ensures used { IfOk result (λ g. pool.new ≡ marked g.numbers.items Granted pool.old) }
     ensures enough { OnOk result (count ≤ count_by is_free pool.old) }
     ensures refused { IfErr result (RefusesGrant count (count_by is_free pool.old)) }
     ensures unchanged { OnErr result (pool.new ≡ pool.old) }

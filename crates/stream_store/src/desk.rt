@@ -1,14 +1,16 @@
 //! The desk.
 
-ghost use Rattle.std.specs.Prelude.{◌≡◌, ◌+◌, ◌<◌, ◌≤◌, ◌++◌, [], length, map, replicate, count_by, vec_capacity, vec_len};
+ghost use Rattle.std.specs.Prelude.{◌≡◌, ℕ, ◌+◌, ◌<◌, ◌≤◌, ◌++◌, [], length, map, replicate, count_by, vec_capacity, vec_len};
 ghost use Rattle.std.specs.Prelude.{IfOk, IfErr, OnOk, OnErr};
 ghost use Rattle.std.specs.Arc.{arc_value};
 ghost use Rattle.graph_version.specs.declared.versions.Version.{Version};
 ghost use Rattle.graph_version.specs.Versions.{content, empty_version};
 ghost use Rattle.graph_version.specs.Kept.{edge_total};
 ghost use Rattle.block_pool.specs.Pools.{Free, is_free, is_used, is_retired, is_past};
+ghost use Rattle.pin_copy.specs.Copies.{floor_of};
+ghost use Rattle.pin_copy.specs.declared.copies.PinCopy.{PinCopy};
 ghost use Rattle.version_shelf.specs.Shelves.{opened_shelf};
-ghost use Rattle.store_journal.specs.Desks.{IsDesk, IsCollected, collections};
+ghost use Rattle.store_journal.specs.Desks.{IsDesk, IsCollected, births_in, collections};
 ghost use Rattle.store_journal.specs.Opening.{opened_desk};
 ghost use Rattle.store_journal.specs.Steps.{Accepts, TakesAt, recycling};
 ghost use Rattle.stream_store.specs.Applying.{IsReceipt};
@@ -17,12 +19,13 @@ ghost use Rattle.stream_store.specs.Kept.{entry_of};
 
 use crate::applying::{Prepared, grant_blocks, next_number, plan_next, prepare, publish};
 use crate::entries::{JournalEntry, enter};
-use crate::moves::{give_back_numbers, move_blocks};
+use crate::moves::{born_blocks, give_back_numbers, move_blocks};
 use crate::receipts::{ApplyError, Receipt};
 use batch_apply::Gate;
 use block_pool::{Grant, Pool};
 use graph_model::Batch;
 use graph_version::Version;
+use pin_copy::PinCopy;
 use std::alloc::Global;
 use std::marker::Model;
 use std::sync::{Arc, Wait};
@@ -30,6 +33,12 @@ use std::thread::Threads;
 use version_shelf::ShelfWriter;
 
 /// The desk of a store: the last version, the pool, the journal, and the shelf's writer.
+///
+/// ```
+/// let (mut desk, board, seats) = open_parts(rt, alloc, Config::new(4, 1_024, 2)?)?;
+/// let receipt = desk.apply(rt, &PassAll, batch)?;
+/// assert_eq!(rt; desk.stat().number, receipt.number);
+/// ```
 pub struct Desk {
     alloc: Global,
     workers: usize,
@@ -151,12 +160,13 @@ impl Desk {
             dropped,
             unused,
         } = prepared;
+        let room = self.pool.retired() as usize + dropped.len();
+        born_blocks(&mut self.pool, taken.as_slice(), number);
         let entry = JournalEntry::Applied {
             batch,
             taken,
             dropped: dropped_numbers,
         };
-        let room = self.pool.retired() as usize + dropped.len();
         let Ok(told) = publish(
             rt,
             &mut self.last,
@@ -177,23 +187,24 @@ impl Desk {
         })
     }
 
-    /// Recycles each block that was retired with a number at most the floor, which is at most the last number. It
+    /// Recycles each retired block that the copy of the pins doesn't need; its last number is at most the desk's. It
     /// takes no memory.
-    pub fn collect(&mut self, floor: u64) -> Collected
-        requires { floor ≤ length self.old.desk.last.batches }
+    pub fn collect(&mut self, copy: &PinCopy) -> Collected
+        requires { copy.now.last ≤ length self.old.desk.last.batches }
         ensures book { self.new.book ≡ self.old.book }
         ensures workers { self.new.workers ≡ self.old.workers }
-        ensures collected { IsCollected self.old.desk floor self.new.desk }
-        ensures steps { TakesAt floor self.old.desk (recycling floor self.old.desk.pool) self.new.desk }
-        ensures floor { result.floor ≡ floor }
-        ensures recycled { result.recycled ≡ count_by (is_past floor) self.old.desk.pool }
+        ensures collected { IsCollected self.old.desk copy.now self.new.desk }
+        ensures births { (source : ℕ) → births_in self.new.desk source ≡ births_in self.old.desk source }
+        ensures steps { TakesAt copy.now self.old.desk (recycling copy.now self.old.desk.pool) self.new.desk }
+        ensures floor { result.floor ≡ floor_of copy.now }
+        ensures recycled { result.recycled ≡ count_by (is_past copy.now) self.old.desk.pool }
         ensures retired { result.retired ≡ count_by is_retired self.new.desk.pool }
     {
-        let recycled = self.pool.recycle(floor);
-        enter_collection(&mut self.journal, floor, recycled);
+        let recycled = self.pool.recycle(copy);
+        enter_collection(&mut self.journal, *copy, recycled);
         let retired = self.pool.retired();
         Collected {
-            floor,
+            floor: copy.floor(),
             recycled,
             retired,
         }
@@ -253,13 +264,13 @@ impl Desk {
 }
 
 /// Enters a collection that recycled a block, for which there is room.
-fn enter_collection(journal: &mut Vec<JournalEntry>, floor: u64, recycled: u32)
+fn enter_collection(journal: &mut Vec<JournalEntry>, copy: PinCopy, recycled: u32)
     requires { 0 < recycled → vec_len journal.old < vec_capacity journal.old }
-    ensures entries { map entry_of journal.new.items ≡ map entry_of journal.old.items ++ collections floor recycled }
+    ensures entries { map entry_of journal.new.items ≡ map entry_of journal.old.items ++ collections copy recycled }
     ensures len { vec_len journal.new ≤ vec_len journal.old + recycled }
     ensures capacity { vec_capacity journal.old ≤ vec_capacity journal.new }
 {
     if recycled > 0 {
-        enter(journal, JournalEntry::Collected { floor, recycled });
+        enter(journal, JournalEntry::Collected { copy, recycled });
     }
 }

@@ -3,6 +3,7 @@
 ghost use Rattle.std.specs.Prelude.{◌≡◌, ◌+◌, ◌<◌, ◌≤◌, ◌++◌, ◌∷◌, [], vec_capacity, vec_len};
 
 use graph_model::{Batch, List};
+use pin_copy::PinCopy;
 use std::sync::Arc;
 
 /// What the desk did: it accepted a batch, or it collected.
@@ -14,9 +15,9 @@ pub enum JournalEntry {
         taken: List<u32>,
         dropped: List<u32>,
     },
-    /// A collection at this floor that recycled this many blocks, at least one.
+    /// A collection by this copy of the pins that recycled this many blocks, at least one.
     Collected {
-        floor: u64,
+        copy: PinCopy,
         recycled: u32,
     },
 }

@@ -1,9 +1,9 @@
 //! Moves of blocks between the pool's sets, in time by their count. None of these takes memory.
 
 ghost use Rattle.std.specs.Prelude.{◌≡◌};
-ghost use Rattle.block_pool.specs.Pools.{Free, Retired, marked};
+ghost use Rattle.block_pool.specs.Pools.{Free, Used, marked, changed, retired};
 ghost use Rattle.shard_work.specs.RowBlocks.{numbers_of};
-ghost use Rattle.stream_store.specs.Moves.{AreUsedOnce};
+ghost use Rattle.stream_store.specs.Moves.{AreUsedOnce, AreBornOnce};
 
 use block_pool::Pool;
 use edge_block::Block;
@@ -29,10 +29,22 @@ pub(crate) fn give_back_blocks(pool: &mut Pool, mut blocks: Vec<Arc<Block>>)
     }
 }
 
+/// Notes the version that first lists these blocks.
+pub(crate) fn born_blocks(pool: &mut Pool, taken: &[u32], version: u64)
+    requires { AreUsedOnce taken.now pool.old }
+    ensures { pool.new ≡ marked taken.now (Used version) pool.old }
+{
+    let mut rest = taken;
+    while let [number, others @ ..] = rest {
+        pool.born(*number, version);
+        rest = others;
+    }
+}
+
 /// Retires blocks with the number of the version that leaves them out.
 pub(crate) fn retire_blocks(pool: &mut Pool, mut blocks: Vec<Arc<Block>>, version: u64)
-    requires { AreUsedOnce (numbers_of blocks.items) pool.old }
-    ensures { pool.new ≡ marked (numbers_of blocks.items) (Retired version) pool.old }
+    requires { AreBornOnce (numbers_of blocks.items) pool.old }
+    ensures { pool.new ≡ changed (retired version) (numbers_of blocks.items) pool.old }
 {
     while let Some(block) = blocks.pop() {
         pool.retire(block, version);
@@ -46,9 +58,9 @@ pub(crate) fn move_blocks(
     unused: Vec<Arc<Block>>,
     version: u64,
 )
-    requires dropped { AreUsedOnce (numbers_of dropped.items) pool.old }
-    requires unused { AreUsedOnce (numbers_of unused.items) (marked (numbers_of dropped.items) (Retired version) pool.old) }
-    ensures { pool.new ≡ marked (numbers_of unused.items) Free (marked (numbers_of dropped.items) (Retired version) pool.old) }
+    requires dropped { AreBornOnce (numbers_of dropped.items) pool.old }
+    requires unused { AreUsedOnce (numbers_of unused.items) (changed (retired version) (numbers_of dropped.items) pool.old) }
+    ensures { pool.new ≡ marked (numbers_of unused.items) Free (changed (retired version) (numbers_of dropped.items) pool.old) }
 {
     retire_blocks(pool, dropped, version);
     give_back_blocks(pool, unused);

@@ -23,6 +23,12 @@ use version_answers::{NumberedReply, answer, answer_in_numbers};
 use version_shelf::ShelfReader;
 
 /// One reader's place, without a session: its number on the board, and its reader of the shelf.
+///
+/// ```
+/// seat.learn(&receipt)?;
+/// let session = seat.pin(rt, &store).enter(rt, &store);
+/// let seat = session.release(rt, &store);
+/// ```
 pub struct Seat {
     number: SeatNo,
     reader: ShelfReader,
@@ -79,6 +85,13 @@ impl Model for PinnedSeat {
 }
 
 /// A seat that holds a version. Where it is dropped, the seat's pin stays.
+///
+/// ```
+/// match session.ask(&request) {
+///     Ok(Reply::Levels(levels)) => Some(levels.as_slice().len()),
+///     _ => None,
+/// }
+/// ```
 pub struct Session {
     number: SeatNo,
     reader: ShelfReader,

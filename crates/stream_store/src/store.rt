@@ -1,7 +1,7 @@
 //! The store that threads share: the desk and the board behind a lock each. What a lock held when it was taken is in no
 //! contract; of what a call answers the contracts say what holds whatever it held.
 
-ghost use Rattle.std.specs.Prelude.{◌≡◌, IfOk, IfErr, OnOk, OnErr, count_by, length};
+ghost use Rattle.std.specs.Prelude.{◌≡◌, ℕ, IfOk, IfErr, OnOk, OnErr, count_by, length};
 ghost use Rattle.std.specs.Arc.{arc_value};
 ghost use Rattle.std.specs.Coded.{codes};
 ghost use Rattle.graph_model.specs.Coded.{graph_code};
@@ -11,11 +11,11 @@ ghost use Rattle.graph_version.specs.Versions.{content};
 ghost use Rattle.graph_version.specs.Kept.{edge_total};
 ghost use Rattle.block_pool.specs.Pools.{is_free, is_used, is_retired, is_past};
 ghost use Rattle.seat_board.specs.Board.{IsLeast};
-ghost use Rattle.store_journal.specs.Desks.{IsCollected};
+ghost use Rattle.store_journal.specs.Desks.{IsCollected, births_in};
 ghost use Rattle.store_journal.specs.Steps.{Accepts, TakesAt, recycling};
 ghost use Rattle.stream_store.specs.Applying.{IsReceipt};
 ghost use Rattle.stream_store.specs.Refusals.{Refuses, IsWithin};
-ghost use Rattle.stream_store.specs.Stores.{IsReceiptOf, IsRefusalOf, IsOfOpening};
+ghost use Rattle.stream_store.specs.Stores.{IsReceiptOf, IsRefusalOf, IsOfOpening, copied};
 
 use crate::desk::{Collected, Desk, Stat};
 use crate::receipts::{ApplyError, Receipt};
@@ -71,18 +71,20 @@ impl<J: Naming> NamedDesk<J> {
         self.desk.apply(rt, gate, batch)
     }
 
-    /// Collects at the least of the last version's number and the board's pins, to which the board's floor is raised first.
+    /// Collects by the copy of the last version's number and the board's pins, to whose least the board's floor is raised first.
     fn collect(&mut self, board: &mut Board) -> Collected
         ensures least { IsLeast (length self.old.desk.desk.last.batches) board.old.pins result.floor }
         ensures raised { board.new ≡ record board.old { floor = result.floor } }
-        ensures collected { IsCollected self.old.desk.desk result.floor self.new.desk.desk }
-        ensures steps { TakesAt result.floor self.old.desk.desk (recycling result.floor self.old.desk.desk.pool) self.new.desk.desk }
+        ensures collected { IsCollected self.old.desk.desk (copied self.old.desk.desk board.old) self.new.desk.desk }
+        ensures births { (source : ℕ) → births_in self.new.desk.desk source ≡ births_in self.old.desk.desk source }
+        ensures steps { let copy = copied self.old.desk.desk board.old in
+            TakesAt copy self.old.desk.desk (recycling copy self.old.desk.desk.pool) self.new.desk.desk }
         ensures workers { self.new.desk.workers ≡ self.old.desk.workers }
-        ensures recycled { result.recycled ≡ count_by (is_past result.floor) self.old.desk.desk.pool }
+        ensures recycled { result.recycled ≡ count_by (is_past (copied self.old.desk.desk board.old)) self.old.desk.desk.pool }
         ensures retired { result.retired ≡ count_by is_retired self.new.desk.desk.pool }
     {
-        let floor = board.raise(self.desk.last().number());
-        self.desk.collect(floor)
+        let copy = board.raise(self.desk.last().number());
+        self.desk.collect(&copy)
     }
 
     /// The counts, as the desk tells them.
@@ -99,6 +101,12 @@ impl<J: Naming> NamedDesk<J> {
 }
 
 /// A store that threads share: a desk and a board, each behind a lock. Where both locks are held, the desk's was taken first.
+///
+/// ```
+/// let receipt = store.apply(rt, &PassAll, batch)?;
+/// seat.learn(&receipt)?;
+/// let collected = store.collect(rt);
+/// ```
 #[derive(Drop)]
 pub struct Store<J: Naming> {
     desk: Mutex<NamedDesk<J>>,
@@ -134,7 +142,7 @@ impl<J: Naming> Store<J> {
         self.desk.lock(rt).apply(rt, gate, batch)
     }
 
-    /// Collects under the desk's lock, at the floor that the board gives under its own. It takes no memory.
+    /// Collects under the desk's lock, by the copy of the pins that the board gives under its own. It takes no memory.
     pub fn collect<R: Wait>(&self, rt: &R) -> Collected {
         let mut desk = self.desk.lock(rt);
         let mut board = self.board.lock(rt);

@@ -9,6 +9,7 @@ use epoch_posts::{
     take_block,
 };
 use graph_model::{Batch, Content, Edge, KindId, List, VertexId};
+use pin_copy::PinCopy;
 use std::alloc::{AllocError, Global};
 use std::process::Abort;
 use std::test::Fail;
@@ -57,11 +58,17 @@ fn takes_a_free_block_alone(rt: HostRuntime) -> Result<(), Fail> {
     Ok(())
 }
 
-// A floor of 3 has passed the block that version 3 retired, and not the one that version 4 retired.
+// A copy with a pin settled at 3 needs the block that was born with version 2 and retired by version 4, and not the one that
+// version 3 retired.
 fn check_recycle(rt: &impl Abort, status: &mut Vec<Status>) {
-    assert_eq!(rt; recycle_block(status, 3, 3), Step::Done);
+    let mut copy = PinCopy {
+        last: 4,
+        ..PinCopy::none()
+    };
+    copy.settled[5] = Some(3);
+    assert_eq!(rt; recycle_block(status, &copy, 3), Step::Done);
     for block in 0..6 {
-        assert_eq!(rt; recycle_block(status, 3, block), Step::Skipped);
+        assert_eq!(rt; recycle_block(status, &copy, block), Step::Skipped);
     }
     assert_eq!(rt; status.get(..3), STATUSES.get(..3));
     assert_eq!(rt;
@@ -71,7 +78,7 @@ fn check_recycle(rt: &impl Abort, status: &mut Vec<Status>) {
 }
 
 #[test]
-fn recycles_what_the_floor_has_passed(rt: HostRuntime) -> Result<(), Fail> {
+fn recycles_what_no_pin_needs(rt: HostRuntime) -> Result<(), Fail> {
     let mut status = Vec::from_slice(rt.alloc(), &STATUSES)?;
     check_recycle(&rt, &mut status);
     Ok(())

@@ -2,7 +2,7 @@
 
 ghost use Rattle.std.specs.Prelude.{◌≡◌, ◌≤◌, ◌<◌, length};
 
-use super::parts::{event, reply_text, seen};
+use super::parts::{copy_text, event, reply_text, seen};
 use epoch_core::{Core, Step};
 use std::alloc::Global;
 use std::process::Abort;
@@ -15,7 +15,8 @@ fn step_text(step: Step) -> &'static str {
     }
 }
 
-/// Does what a line says: an event, or a look at a reply. The machine has so many sessions.
+/// Does what a line says: an event, or a look at a reply, at a session or at the copy of the pins. The machine has so many
+/// sessions.
 fn check_line(
     rt: &impl Abort,
     alloc: Global,
@@ -28,10 +29,41 @@ fn check_line(
     ensures { length core.new.world.sessions ≡ sessions }
 {
     let (text, wanted) = line.split_once(" => ").ok_or("no event")?;
-    match text.strip_prefix("said ") {
-        Some(place) => check_reply(rt, alloc, core, sessions, place, wanted),
-        None => check_event(rt, alloc, core, text, wanted),
+    if let Some(place) = text.strip_prefix("said ") {
+        return check_reply(rt, alloc, core, sessions, place, wanted);
     }
+    if let Some(session) = text.strip_prefix("seen ") {
+        return check_seen(rt, alloc, core, sessions, session, wanted);
+    }
+    if text == "copied" {
+        return check_copy(rt, alloc, core, wanted);
+    }
+    check_event(rt, alloc, core, text, wanted)
+}
+
+/// Compares what is seen of a session with a text.
+fn check_seen(
+    rt: &impl Abort,
+    alloc: Global,
+    core: &Core,
+    sessions: usize,
+    session: &str,
+    wanted: &str,
+) -> Result<(), Fail>
+    requires { length core.now.world.sessions ≡ sessions }
+{
+    let session: usize = session.parse()?;
+    if session >= sessions {
+        return Err("no such session")?;
+    }
+    assert_eq!(rt; seen(alloc, core, session)?.as_str(), wanted, "{session}");
+    Ok(())
+}
+
+/// Compares the copy of the pins with a text.
+fn check_copy(rt: &impl Abort, alloc: Global, core: &Core, wanted: &str) -> Result<(), Fail> {
+    assert_eq!(rt; copy_text(alloc, &core.copied())?.as_str(), wanted);
+    Ok(())
 }
 
 /// Compares a reply with a text: the session stands before it, and how many replies came earlier.

@@ -2,7 +2,7 @@
 
 ghost use Rattle.std.specs.Prelude.{◌<◌, length};
 
-use epoch_core::{Core, Event};
+use epoch_core::{Core, Event, PinCopy};
 use graph_model::{
     AskError, Batch, Degree, Edge, KindId, List, Name, NamedFilter, NamedOp, PushError, Reply,
     Request, VertexId,
@@ -315,6 +315,25 @@ pub(super) fn seen(alloc: Global, core: &Core, session: usize) -> Result<String,
 {
     let mut text = String::new(alloc);
     write_seen(&mut text, core, session)?;
+    Ok(text)
+}
+
+// Each seat with a pin, and the pin's number.
+fn write_pins(text: &mut String, pins: &[Option<u64>]) -> Result<(), AllocError> {
+    for (seat, pin) in pins.iter().enumerate() {
+        if let Some(pin) = pin {
+            write!(text, " {seat}:{pin}")?;
+        }
+    }
+    Ok(())
+}
+
+/// The last number of a copy of the pins, and the seats that have a settled and an unsettled pin.
+pub(super) fn copy_text(alloc: Global, copy: &PinCopy) -> Result<String, AllocError> {
+    let mut text = format!(in alloc; "last {}; settled", copy.last)?;
+    write_pins(&mut text, &copy.settled)?;
+    text.push_str("; unsettled")?;
+    write_pins(&mut text, &copy.unsettled)?;
     Ok(text)
 }
 

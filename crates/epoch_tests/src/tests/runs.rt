@@ -249,3 +249,56 @@ fn a_session_is_answered_alike_in_two_worlds(rt: HostRuntime) -> Result<(), Fail
     check_new(&rt, alloc, 1, 1, &[SMALL, ALIKE])?;
     check_new(&rt, alloc, 3, 5, &[LARGE, ALIKE, "said 1 0 => edge 7 1 1"])
 }
+
+// Version 1 has the edge in block 0, and session 0 holds it; versions 2 and 3 replace it in blocks 1 and 2. Block 1, born with
+// version 2 and retired by version 3, goes although the floor stays at 1, and block 0 stays. Session 1 pins the floor. While its
+// pin isn't settled block 2 stays, which version 4 retired; once it is settled at 4 that goes, too.
+const BETWEEN_PINS: &str = "copied => last 0; settled; unsettled
+take 0 => done
+fill 0 0,0,1,1,1,1 => done
+post i,k,a,b,1,1 | 0 => done
+pin 0 => done
+enter 0 => done
+settle 0 => done: 0 1 1 0
+take 1 => done
+fill 1 0,0,1,2,1,2 => done
+post i,k,a,b,2,2 | 1 => done
+take 2 => done
+fill 2 0,0,1,3,1,3 => done
+post i,k,a,b,3,3 | 2 => done
+floor => done: 1 1 1 0
+copied => last 3; settled 0:1; unsettled
+recycle 1 => done
+recycle 0 => skipped
+pin 1 => done
+seen 1 => 1 1 - 0
+take 1 => done
+fill 1 0,0,1,4,1,4 => done
+post i,k,a,b,4,4 | 1 => done
+floor => done: 1 1 1 0
+copied => last 4; settled 0:1; unsettled 1:1
+recycle 2 => skipped
+enter 1 => done
+seen 1 => 1 1 4 0
+settle 1 => done
+seen 1 => 1 4 4 0
+floor => done: 1 1 1 0
+copied => last 4; settled 0:1 1:4; unsettled
+recycle 2 => done
+release 0 => done
+release 1 => done
+floor => done: 4 - - 0
+copied => last 4; settled; unsettled
+recycle 0 => done";
+
+// Block 1 has the edge of version 4, and the other two are free: none is retired.
+const NONE_RETIRED: &str = "take 1 => skipped
+fill 1 => skipped
+recycle 1 => skipped
+take 0 => done
+take 2 => done";
+
+#[test]
+fn keeps_what_a_settled_pin_needs(rt: HostRuntime) -> Result<(), Fail> {
+    check_new(&rt, rt.alloc(), 2, 3, &[BETWEEN_PINS, NONE_RETIRED])
+}

@@ -6,6 +6,7 @@ returns c =
     let heap = c.in_ok-empty_lists.ensures in
     let status = c.in_ok-free_blocks.ensures in
     let versions = c.new.ensures.items in
+    let copy = c.none.ensures in
     let sessions = c.in_ok-idle_sessions.ensures in
     let replies = c.in_ok-empty_lists-2.ensures in
     λ i. record {
@@ -15,6 +16,7 @@ returns c =
         status = status i;
         versions = versions i;
         floor = 0;
+        copy = copy i;
         sessions = sessions i;
       };
       replies = replies i;

@@ -27,7 +27,7 @@ returns-clause-kept c =
           (sym (take_all count c.in_ok-numbers_up_to.field-0.items (omega arith))) c.in_ok-numbers_up_to.ensures.listed);
       retired_are = subst (λ ps. Lists is_retired ps (take 0 c.in_ok-vec-2.field-0.items)) (sym pool)
           (λ q. sym (none_retired q 0 count));
-      nothing_below = λ floor less. ap (count_by (is_past floor)) pool ∙ none_due floor count;
+      nothing_below = λ copy less. ap (count_by (is_past copy)) pool ∙ none_due copy count;
     }
 
 pub returns-clause-statuses : goal.returns-clause-statuses

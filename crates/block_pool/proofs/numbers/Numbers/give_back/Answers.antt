@@ -12,8 +12,8 @@ index_mut-requires-2 c =
     let n = c.args.self.now in
     let k = c.requires.kept in
     let at = used_at (statuses n) c.args.number c.requires.used in
-    let room = lists_room is_free (statuses n) (take n.free_len n.free.items) k.free_are c.args.number Free at.0
-    (ap is_free at.1) in
+    let room = lists_room is_free (statuses n) (take n.free_len n.free.items) k.free_are c.args.number Free at.within
+    at.not_free in
     let long = length-map n.places.items status_from in
     omega (arith, length-take n.free_len n.free.items, k.free_in, k.free_room, room, long)
 
@@ -22,8 +22,8 @@ returns-clause-kept c =
     let n = c.args.self.now in
     let k = c.requires.kept in
     let at = used_at (statuses n) c.args.number c.requires.used in
-    let room = lists_room is_free (statuses n) (take n.free_len n.free.items) k.free_are c.args.number Free at.0
-    (ap is_free at.1) in
+    let room = lists_room is_free (statuses n) (take n.free_len n.free.items) k.free_are c.args.number Free at.within
+    at.not_free in
     let long = length-map n.places.items status_from in
     let lt : n.free_len < length n.free.items =
     omega (arith, length-take n.free_len n.free.items, k.free_in, k.free_room, room, long) in
@@ -40,13 +40,13 @@ returns-clause-kept c =
           (sym after)
           (subst (Lists is_free (set (statuses n) c.args.number Free))
           (sym (take_more_set n.free.items n.free_len c.args.number lt))
-          (lists_more is_free (statuses n) (take n.free_len n.free.items) k.free_are c.args.number Free at.0
-          (ap is_free at.1) refl));
-      nothing_below = λ floor lt. subst (λ pool. count_by (is_past floor) pool ≡ 0) (sym after)
-          (none_set floor (statuses n) c.args.number Free at.0 refl (k.nothing_below floor lt));
+          (lists_more is_free (statuses n) (take n.free_len n.free.items) k.free_are c.args.number Free at.within
+          at.not_free refl));
+      nothing_below = λ copy lt. subst (λ pool. count_by (is_past copy) pool ≡ 0) (sym after)
+          (none_set copy (statuses n) c.args.number Free at.within refl (k.nothing_below copy lt));
       retired_are = subst (λ pool. Lists is_retired pool (take n.retired_len n.retired.items)) (sym after)
-          (lists_same is_retired (statuses n) (take n.retired_len n.retired.items) k.retired_are c.args.number Free at.0
-          (ap is_retired at.1));
+          (lists_same is_retired (statuses n) (take n.retired_len n.retired.items) k.retired_are c.args.number Free at.within
+          at.not_retired);
     }
 
 pub returns-clause-statuses : goal.returns-clause-statuses

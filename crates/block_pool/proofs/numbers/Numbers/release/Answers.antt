@@ -68,8 +68,8 @@ returns-clause-kept c =
           (subst (Lists is_free (set (statuses n) num Free)) (sym (take_more_set n.free.items n.free_len num lt))
           (lists_more is_free (statuses n) (take n.free_len n.free.items) k.free_are num Free within
           (retired_not_free (status_of (statuses n) num) st) refl));
-      nothing_below = λ floor lt. subst (λ pool. count_by (is_past floor) pool ≡ 0) (sym after)
-          (none_set floor (statuses n) num Free within refl (k.nothing_below floor lt));
+      nothing_below = λ copy lt. subst (λ pool. count_by (is_past copy) pool ≡ 0) (sym after)
+          (none_set copy (statuses n) num Free within refl (k.nothing_below copy lt));
       retired_are = subst (λ pool. Lists is_retired pool (take m (set n.retired.items c.args.at last))) (sym after)
           (lists_less is_retired (statuses n) (take n.retired_len n.retired.items) k.retired_are num Free within
           (take m (set n.retired.items c.args.at last))

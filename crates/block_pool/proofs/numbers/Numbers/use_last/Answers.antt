@@ -1,5 +1,5 @@
 use Rattle.std.proofs.Common.{◌∙◌, ◌-◌, ℕ, List, sym, ap, arith}
-use Rattle.block_pool.specs.Pools.{Used, marked}
+use Rattle.block_pool.specs.Pools.{Granted, marked}
 use Rattle.block_pool.specs.Kept.{statuses, popped}
 use Rattle.block_pool.proofs.Grants.{popped_more, popped_none}
 use Rattle.block_pool.proofs.numbers.Numbers.use_last.Goals as goal
@@ -14,12 +14,12 @@ grant-preserved c =
       kept = c.use_one.ensures.kept;
       enough = omega (arith, c.grant.invariant.enough, c.use_one.ensures.shorter, c.grant-test.true);
       after =
-          ap (λ (room : List ℕ). marked (popped room c.use_one.new.self.free_len (c.grant.left - 1)) Used
+          ap (λ (room : List ℕ). marked (popped room c.use_one.new.self.free_len (c.grant.left - 1)) Granted
           (statuses c.use_one.new.self)) c.use_one.ensures.room
-          ∙ ap (λ len. marked (popped n.free.items len (c.grant.left - 1)) Used (statuses c.use_one.new.self))
+          ∙ ap (λ len. marked (popped n.free.items len (c.grant.left - 1)) Granted (statuses c.use_one.new.self))
           c.use_one.ensures.shorter
-          ∙ ap (marked (popped n.free.items (n.free_len - 1) (c.grant.left - 1)) Used) c.use_one.ensures.statuses
-          ∙ sym (ap (λ ns. marked ns Used (statuses n))
+          ∙ ap (marked (popped n.free.items (n.free_len - 1) (c.grant.left - 1)) Granted) c.use_one.ensures.statuses
+          ∙ sym (ap (λ ns. marked ns Granted (statuses n))
           (popped_more n.free.items n.free_len c.grant.left (omega (arith, c.grant-test.true))))
           ∙ c.grant.invariant.after;
     }
@@ -29,6 +29,6 @@ returns-clause-kept c = c.grant.invariant.kept
 
 pub returns-clause-statuses : goal.returns-clause-statuses
 returns-clause-statuses c =
-    ap (λ ns. marked ns Used (statuses c.grant.self))
+    ap (λ ns. marked ns Granted (statuses c.grant.self))
     (sym (popped_none c.grant.self.free.items c.grant.self.free_len c.grant.left (omega (arith, c.grant-test.false))))
     ∙ c.grant.invariant.after

@@ -1,5 +1,5 @@
 use Rattle.std.proofs.Common.{◌≡◌, ◌≤◌}
-use Rattle.block_pool.specs.Pools.{Used, marked}
+use Rattle.block_pool.specs.Pools.{Granted, marked}
 use Rattle.block_pool.specs.Kept.{statuses, popped, IsKept}
 use Rattle.block_pool.proofs.numbers.Numbers.use_last.Given as goal
 
@@ -7,8 +7,8 @@ abbrev pub invariant-grant : goal.invariant-grant
 invariant-grant l = record {
   kept : IsKept l.self;
   enough : l.left ≤ l.self.free_len;
-  after : marked (popped l.self.free.items l.self.free_len l.left) Used (statuses l.self)
-      ≡ marked (popped l.initial.self.free.items l.initial.self.free_len l.initial.left) Used (statuses l.initial.self);
+  after : marked (popped l.self.free.items l.self.free_len l.left) Granted (statuses l.self)
+      ≡ marked (popped l.initial.self.free.items l.initial.self.free_len l.initial.left) Granted (statuses l.initial.self);
 }
 
 abbrev pub decreases-grant : goal.decreases-grant

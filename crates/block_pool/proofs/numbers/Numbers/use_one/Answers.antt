@@ -2,7 +2,7 @@ use Rattle.std.proofs.Common.{◌≡◌, ◌∙◌, ◌+◌, ◌<◌, ℕ, lengt
 use Rattle.std.proofs.Common.{true}
 use Rattle.std.proofs.Math.ListN.{length-set}
 use Rattle.std.proofs.lemmas.List.{get_or_read, take_more, map-set, length-map}
-use Rattle.block_pool.specs.Pools.{Used, is_free, is_retired, is_past}
+use Rattle.block_pool.specs.Pools.{Granted, is_free, is_retired, is_past}
 use Rattle.block_pool.specs.Kept.{statuses, status_from, status_of, Lists}
 use Rattle.block_pool.specs.declared.numbers.Place.TheVariants as places
 use Rattle.block_pool.proofs.Tallies.{none_set, lists_same, lists_less, listed_at, count_last, free_not_retired}
@@ -34,8 +34,8 @@ returns-clause-kept c =
     (omega (arith, c.requires.some)) in
     let within : num < length (statuses n) = omega (arith, at.0, same) in
     let st : is_free (status_of (statuses n) num) ≡ true = ap (λ j. is_free (status_of (statuses n) j)) same ∙ at.1 in
-    let long_places = length-set n.places.items num places.Used in
-    let after = map-set status_from n.places.items num places.Used in
+    let long_places = length-set n.places.items num places.Granted in
+    let after = map-set status_from n.places.items num places.Granted in
     record {
       few = omega (arith, k.few);
       free_room = omega (arith, k.free_room);
@@ -43,15 +43,15 @@ returns-clause-kept c =
       free_in = omega (arith, k.free_in);
       retired_in = omega (arith, k.retired_in);
       free_are = subst (λ pool. Lists is_free pool (take m n.free.items)) (sym after)
-          (lists_less is_free (statuses n) (take n.free_len n.free.items) k.free_are num Used within (take m n.free.items)
+          (lists_less is_free (statuses n) (take n.free_len n.free.items) k.free_are num Granted within (take m n.free.items)
           (λ q. ap (λ j. count_by q (take j n.free.items)) (sym more) ∙ ap (count_by q) (take_more n.free.items m 0 ml)
           ∙ count_last q (take m n.free.items) (get_or n.free.items m 0)
           ∙ ap (λ b. count_by q (take m n.free.items) + cond (q b) 1 0) (sym same))
           st refl);
-      nothing_below = λ floor lt. subst (λ pool. count_by (is_past floor) pool ≡ 0) (sym after)
-          (none_set floor (statuses n) num Used within refl (k.nothing_below floor lt));
+      nothing_below = λ copy lt. subst (λ pool. count_by (is_past copy) pool ≡ 0) (sym after)
+          (none_set copy (statuses n) num Granted within refl (k.nothing_below copy lt));
       retired_are = subst (λ pool. Lists is_retired pool (take n.retired_len n.retired.items)) (sym after)
-          (lists_same is_retired (statuses n) (take n.retired_len n.retired.items) k.retired_are num Used within
+          (lists_same is_retired (statuses n) (take n.retired_len n.retired.items) k.retired_are num Granted within
           (free_not_retired (status_of (statuses n) num) st));
     }
 
@@ -63,4 +63,4 @@ returns-clause-statuses c =
     let same : c.index-number.result.now ≡ get_or n.free.items m 0 =
     get_or_read n.free.items m c.index-number.result.now
     (omega (arith, c.requires.some, k.free_in, k.free_room)) c.index-number.ensures 0 in
-    map-set status_from n.places.items c.index-number.result.now places.Used ∙ ap (λ j. set (statuses n) j Used) same
+    map-set status_from n.places.items c.index-number.result.now places.Granted ∙ ap (λ j. set (statuses n) j Granted) same

@@ -1,5 +1,5 @@
 use Rattle.std.proofs.Common.{◌≡◌, ℕ, ◌∙◌, ◌≤◌, length, sym, ap, subst, take, count_by, length-take, arith}
-use Rattle.block_pool.specs.Pools.{Used, is_free, AreFree}
+use Rattle.block_pool.specs.Pools.{Granted, is_free, AreFree}
 use Rattle.block_pool.specs.Kept.{statuses, status_from, popped}
 use Rattle.block_pool.specs.Bodies.{AreBodies}
 use Rattle.std.proofs.lemmas.List.{length-map}
@@ -51,7 +51,7 @@ invariant_of-self-2 c =
     let before = length-map n.places.items status_from in
     let after = length-map c.use_last.new.self.places.items status_from in
     let e = ap length c.use_last.ensures.statuses
-    ∙ length-marked (popped n.free.items n.free_len c.args.count) Used (statuses n) in
+    ∙ length-marked (popped n.free.items n.free_len c.args.count) Granted (statuses n) in
     let same : length n.places.items ≡ length c.use_last.new.self.places.items = omega arith in
     (c.use_last.ensures.kept, subst (λ (m : ℕ). AreBodies m c.gather.new.bodies.items) same c.gather.ensures.bodies)
 

@@ -1,5 +1,8 @@
-use Rattle.std.proofs.Common.{rules, ◌≡◌}
-use Rattle.stinger_server.proofs.DeskLaws.{commit_done, shows_committed}
+use Rattle.std.proofs.Common.{rules, ◌≡◌, [], ap, sym, subst}
+use Rattle.store_journal.specs.Desks.{DeskView}
+use Rattle.stream_store.specs.Kept.{DeskState}
+use Rattle.stinger_server.specs.Servers.{ShowsDesk}
+use Rattle.stinger_server.proofs.DeskLaws.{commit_done, commit_refused, shows_committed, shows_given_up}
 use Rattle.stinger_server.proofs.server.Server.commit.Goals as goal
 
 pub returns-in_ok-commit_line-in-Ok-clause-obeys : goal.returns-in_ok-commit_line-in-Ok-clause-obeys
@@ -13,6 +16,22 @@ returns-in_ok-commit_line-in-Ok-clause-obeys g c = λ s shows.
         pending = search rules;
         desk = shows_committed s c.args.self.now.desk.desk c.apply.new.self.desk c.replace-batch.result shows.desk batch
             c.in-Ok.ensures.accepted;
+        held = shows.held;
+      },
+    )
+
+pub returns-in_ok-word-in-Err-clause-obeys : goal.returns-in_ok-word-in-Err-clause-obeys
+returns-in_ok-word-in-Err-clause-obeys g c = λ s shows.
+    let batch : c.replace-batch.result ≡ s.pending = search (rules, shows) in
+    let same : c.apply.new.self.desk ≡ c.args.self.now.desk.desk =
+    ap (λ (d : DeskState). d.desk) c.in-Err.ensures.unchanged in (
+      rw c.in_ok-word-in-Err.ensures.word
+          (commit_refused s c.args.self.now.desk.desk c.replace-batch.result c.in-Err.error shows.desk batch
+          c.in_ok-word-in-Err.ensures.known c.in-Err.ensures.refused),
+      record {
+        pending = search rules;
+        desk = subst (λ (d : DeskView). ShowsDesk d (record s { pending = [] })) (sym same)
+            (shows_given_up s c.args.self.now.desk.desk shows.desk);
         held = shows.held;
       },
     )

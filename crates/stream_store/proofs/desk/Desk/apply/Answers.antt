@@ -4,14 +4,16 @@ use Rattle.graph_version.specs.declared.versions.Version.{Version}
 use Rattle.logbook.specs.Pages.{Book}
 use Rattle.graph_model.specs.Step.{outcomes}
 use Rattle.graph_version.specs.Versions.{VersionView, content}
-use Rattle.block_pool.specs.Pools.{is_free}
+use Rattle.block_pool.specs.Pools.{Used, is_free, marked}
 use Rattle.batch_plan.proofs.Names.{err_then}
 use Rattle.version_shelf.specs.Shelves.{ToldView}
 use Rattle.store_journal.specs.Steps.{Accepts}
 use Rattle.stream_store.specs.Kept.{DeskState, state_of}
+use Rattle.stream_store.specs.Moves.{AreUsedOnce}
 use Rattle.stream_store.specs.Refusals.{Refuses}
 use Rattle.stream_store.proofs.Collections.{kept_same}
-use Rattle.stream_store.proofs.Handing.{Handing, handing, desk_of, back_used, back_same, dropped_once, unused_once, end_pool}
+use Rattle.stream_store.proofs.Handing.{Handing, handing, desk_of, back_used, back_same, taken_once, dropped_once, unused_once}
+use Rattle.stream_store.proofs.Handing.{born_used, born_same, end_pool}
 use Rattle.stream_store.proofs.Handing.{end_desk}
 use Rattle.stream_store.proofs.Handing.{end_accepts, end_room, end_kept}
 use Rattle.stream_store.proofs.desk.Desk.apply.Goals as goal
@@ -32,8 +34,15 @@ give_back_numbers-requires g c =
 
 pub give_back_numbers-requires-in_default-publish : goal.give_back_numbers-requires-in_default-publish
 give_back_numbers-requires-in_default-publish g c =
-    back_used c.self.inside.pool c.grant_blocks.new.pool c.in_ok-numbers.field-0.numbers.items c.in_ok-numbers.ensures.numbers.0
-    c.in_ok-numbers.ensures.used
+    let last : c.deref-3.result.now ≡ arc_value {X = Version} c.self.inside.last = search rules in
+    let h : Handing =
+    handing (desk_of (arc_value {X = Version} c.self.inside.last) c.self.inside.journal.items c.self.inside.pool) c.args.batch
+    c.in_ok-numbers.field-0.numbers.items _ c.in-Ok.prepared c.grant_blocks.new.pool c.deref-3.result.now c.self.invariant.desk
+    c.in_ok-numbers.ensures.numbers.0 c.in_ok-numbers.ensures.blocks last c.in-Ok.ensures c.in_ok-numbers.ensures.used in
+    let born : c.born_blocks.new.pool ≡ marked c.in-Ok.prepared.taken (Used c.next_number-number.result) c.grant_blocks.new.pool =
+    c.born_blocks.ensures ∙ ap (λ ns. marked ns (Used c.next_number-number.result) c.grant_blocks.new.pool)
+    c.as_slice.ensures in
+    born_used h c.next_number-number.result c.born_blocks.new.pool born
 
 pub invariant_of-self-in_default : goal.invariant_of-self-in_default
 invariant_of-self-in_default g c =
@@ -55,9 +64,16 @@ returns-in_default-clause-unchanged g c =
 
 pub invariant_of-self-in_default-publish : goal.invariant_of-self-in_default-publish
 invariant_of-self-in_default-publish g c =
+    let last : c.deref-3.result.now ≡ arc_value {X = Version} c.self.inside.last = search rules in
+    let h : Handing =
+    handing (desk_of (arc_value {X = Version} c.self.inside.last) c.self.inside.journal.items c.self.inside.pool) c.args.batch
+    c.in_ok-numbers.field-0.numbers.items _ c.in-Ok.prepared c.grant_blocks.new.pool c.deref-3.result.now c.self.invariant.desk
+    c.in_ok-numbers.ensures.numbers.0 c.in_ok-numbers.ensures.blocks last c.in-Ok.ensures c.in_ok-numbers.ensures.used in
+    let born : c.born_blocks.new.pool ≡ marked c.in-Ok.prepared.taken (Used c.next_number-number.result) c.grant_blocks.new.pool =
+    c.born_blocks.ensures ∙ ap (λ ns. marked ns (Used c.next_number-number.result) c.grant_blocks.new.pool)
+    c.as_slice.ensures in
     let same : c.give_back_numbers-in_default-publish.new.pool ≡ c.self.inside.pool =
-    back_same c.self.inside.pool c.grant_blocks.new.pool _ c.in_ok-numbers.field-0.numbers.items c.in_ok-numbers.ensures.numbers.0
-    c.in_ok-numbers.ensures.used c.give_back_numbers-in_default-publish.ensures in
+    born_same h c.next_number-number.result c.born_blocks.new.pool _ born c.give_back_numbers-in_default-publish.ensures in
     let u = c.in_default-publish.ensures.unchanged in
     kept_same (state_of c.self.inside.shelf.book c.self.inside.workers (arc_value {X = Version} c.self.inside.last) c.self.inside.journal.items
     c.self.inside.pool) _ c.self.inside.shelf _ _ _ _ _ c.self.invariant
@@ -65,11 +81,27 @@ invariant_of-self-in_default-publish g c =
 
 pub returns-in_default-publish-clause-unchanged : goal.returns-in_default-publish-clause-unchanged
 returns-in_default-publish-clause-unchanged g c =
+    let last : c.deref-3.result.now ≡ arc_value {X = Version} c.self.inside.last = search rules in
+    let h : Handing =
+    handing (desk_of (arc_value {X = Version} c.self.inside.last) c.self.inside.journal.items c.self.inside.pool) c.args.batch
+    c.in_ok-numbers.field-0.numbers.items _ c.in-Ok.prepared c.grant_blocks.new.pool c.deref-3.result.now c.self.invariant.desk
+    c.in_ok-numbers.ensures.numbers.0 c.in_ok-numbers.ensures.blocks last c.in-Ok.ensures c.in_ok-numbers.ensures.used in
+    let born : c.born_blocks.new.pool ≡ marked c.in-Ok.prepared.taken (Used c.next_number-number.result) c.grant_blocks.new.pool =
+    c.born_blocks.ensures ∙ ap (λ ns. marked ns (Used c.next_number-number.result) c.grant_blocks.new.pool)
+    c.as_slice.ensures in
     let same : c.give_back_numbers-in_default-publish.new.pool ≡ c.self.inside.pool =
-    back_same c.self.inside.pool c.grant_blocks.new.pool _ c.in_ok-numbers.field-0.numbers.items c.in_ok-numbers.ensures.numbers.0
-    c.in_ok-numbers.ensures.used c.give_back_numbers-in_default-publish.ensures in
+    born_same h c.next_number-number.result c.born_blocks.new.pool _ born c.give_back_numbers-in_default-publish.ensures in
     let u = c.in_default-publish.ensures.unchanged in
     (λ i. state_of (u.3 i).book c.self.inside.workers (arc_value {X = Version} (u.2 i)) (u.0 i) (same i)) ∙ c.self.view_is
+
+pub born_blocks-requires : goal.born_blocks-requires
+born_blocks-requires g c =
+    let last : c.deref-3.result.now ≡ arc_value {X = Version} c.self.inside.last = search rules in
+    let h : Handing =
+    handing (desk_of (arc_value {X = Version} c.self.inside.last) c.self.inside.journal.items c.self.inside.pool) c.args.batch
+    c.in_ok-numbers.field-0.numbers.items _ c.in-Ok.prepared c.grant_blocks.new.pool c.deref-3.result.now c.self.invariant.desk
+    c.in_ok-numbers.ensures.numbers.0 c.in_ok-numbers.ensures.blocks last c.in-Ok.ensures c.in_ok-numbers.ensures.used in
+    subst (λ ns. AreUsedOnce ns c.grant_blocks.new.pool) (sym c.as_slice.ensures) (taken_once h)
 
 pub move_blocks-requires-clause-dropped : goal.move_blocks-requires-clause-dropped
 move_blocks-requires-clause-dropped g c =
@@ -78,7 +110,13 @@ move_blocks-requires-clause-dropped g c =
     handing (desk_of (arc_value {X = Version} c.self.inside.last) c.self.inside.journal.items c.self.inside.pool) c.args.batch
     c.in_ok-numbers.field-0.numbers.items _ c.in-Ok.prepared c.grant_blocks.new.pool c.deref-3.result.now c.self.invariant.desk
     c.in_ok-numbers.ensures.numbers.0 c.in_ok-numbers.ensures.blocks last c.in-Ok.ensures c.in_ok-numbers.ensures.used in
-    dropped_once h
+    let lent : c.deref-2.result.now ≡ arc_value {X = Version} c.self.inside.last = search rules in
+    let number : c.next_number-number.result ≡ length (arc_value {X = Version} c.self.inside.last).batches + 1 =
+    c.next_number-number.ensures ∙ ap (λ (v : VersionView). length v.batches + 1) lent in
+    let born : c.born_blocks.new.pool ≡ marked c.in-Ok.prepared.taken (Used c.next_number-number.result) c.grant_blocks.new.pool =
+    c.born_blocks.ensures ∙ ap (λ ns. marked ns (Used c.next_number-number.result) c.grant_blocks.new.pool)
+    c.as_slice.ensures in
+    dropped_once h c.next_number-number.result c.born_blocks.new.pool number born
 
 pub move_blocks-requires-clause-unused : goal.move_blocks-requires-clause-unused
 move_blocks-requires-clause-unused g c =
@@ -90,7 +128,10 @@ move_blocks-requires-clause-unused g c =
     let lent : c.deref-2.result.now ≡ arc_value {X = Version} c.self.inside.last = search rules in
     let number : c.next_number-number.result ≡ length (arc_value {X = Version} c.self.inside.last).batches + 1 =
     c.next_number-number.ensures ∙ ap (λ (v : VersionView). length v.batches + 1) lent in
-    unused_once h c.next_number-number.result number
+    let born : c.born_blocks.new.pool ≡ marked c.in-Ok.prepared.taken (Used c.next_number-number.result) c.grant_blocks.new.pool =
+    c.born_blocks.ensures ∙ ap (λ ns. marked ns (Used c.next_number-number.result) c.grant_blocks.new.pool)
+    c.as_slice.ensures in
+    unused_once h c.next_number-number.result c.born_blocks.new.pool number born
 
 pub invariant_of-self-2 : goal.invariant_of-self-2
 invariant_of-self-2 g c =
@@ -103,7 +144,11 @@ invariant_of-self-2 g c =
     let number : c.next_number-number.result ≡ length (arc_value {X = Version} c.self.inside.last).batches + 1 =
     c.next_number-number.ensures ∙ ap (λ (v : VersionView). length v.batches + 1) lent in
     let p = c.in-Ok-publish.ensures in
-    let pool = end_pool h c.next_number-number.result c.move_blocks.new.pool number c.move_blocks.ensures in
+    let born : c.born_blocks.new.pool ≡ marked c.in-Ok.prepared.taken (Used c.next_number-number.result) c.grant_blocks.new.pool =
+    c.born_blocks.ensures ∙ ap (λ ns. marked ns (Used c.next_number-number.result) c.grant_blocks.new.pool)
+    c.as_slice.ensures in
+    let pool = end_pool h c.next_number-number.result c.born_blocks.new.pool c.move_blocks.new.pool number born
+    c.move_blocks.ensures in
     let end = end_desk h (arc_value {X = Version} c.publish.new.last) c.publish.new.journal.items c.self.inside.journal.items
     c.move_blocks.new.pool refl p.last p.entered pool in
     let room = end_room h c.move_blocks.new.pool pool in
@@ -123,7 +168,11 @@ returns-clause-accepted g c =
     let number : c.next_number-number.result ≡ length (arc_value {X = Version} c.self.inside.last).batches + 1 =
     c.next_number-number.ensures ∙ ap (λ (v : VersionView). length v.batches + 1) lent in
     let p = c.in-Ok-publish.ensures in
-    let pool = end_pool h c.next_number-number.result c.move_blocks.new.pool number c.move_blocks.ensures in
+    let born : c.born_blocks.new.pool ≡ marked c.in-Ok.prepared.taken (Used c.next_number-number.result) c.grant_blocks.new.pool =
+    c.born_blocks.ensures ∙ ap (λ ns. marked ns (Used c.next_number-number.result) c.grant_blocks.new.pool)
+    c.as_slice.ensures in
+    let pool = end_pool h c.next_number-number.result c.born_blocks.new.pool c.move_blocks.new.pool number born
+    c.move_blocks.ensures in
     let end = end_desk h (arc_value {X = Version} c.publish.new.last) c.publish.new.journal.items c.self.inside.journal.items
     c.move_blocks.new.pool refl p.last p.entered pool in
     subst (λ (s : DeskState). Accepts s.desk c.args.batch

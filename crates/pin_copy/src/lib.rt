@@ -1,0 +1,6 @@
+//! What a collection has seen of the pins.
+#![tactic(auto)]
+
+mod copies;
+
+pub use copies::{PinCopy, SEATS};
