@@ -3,6 +3,7 @@
 mod batches;
 mod blanks;
 mod blocks;
+mod copies;
 mod lanes;
 mod names;
 mod pools;

@@ -4,6 +4,7 @@ ghost use Rattle.std.specs.Prelude.{◌≡◌};
 
 use block_pool::{Grant, GrantError, Pool};
 use edge_block::Block;
+use pin_copy::PinCopy;
 use std::alloc::{AllocError, Global};
 use std::io::Print;
 use std::marker::Model;
@@ -63,10 +64,11 @@ impl Hand {
         }
     }
 
-    /// Retires the first block with the number of a version.
-    fn retire(&mut self, version: u64) {
+    /// Retires the first block, first listed by version `birth`, with the number of a version.
+    fn retire(&mut self, birth: u64, version: u64) {
         if !self.blocks.is_empty() {
             let block = self.blocks.remove(0);
+            self.pool.born(block.number(), birth);
             self.pool.retire(block, version);
         }
     }
@@ -97,8 +99,8 @@ impl Hand {
         }
     }
 
-    fn recycle(&mut self, floor: u64) -> u32 {
-        self.pool.recycle(floor)
+    fn recycle(&mut self, copy: &PinCopy) -> u32 {
+        self.pool.recycle(copy)
     }
 
     fn first(&self) -> Option<&Block> {
@@ -119,8 +121,36 @@ fn granted(rt: &impl Abort, hand: &mut Hand, count: u32) {
     assert_eq!(rt; hand.grant(count), None);
 }
 
-fn recycled(rt: &impl Abort, hand: &mut Hand, floor: u64, freed: u32) {
-    assert_eq!(rt; hand.recycle(floor), freed, "at {floor}");
+/// So many blocks are freed by a copy.
+fn freed(rt: &impl Abort, hand: &mut Hand, copy: PinCopy, count: u32) {
+    assert_eq!(rt; hand.recycle(&copy), count, "by {copy:?}");
+}
+
+/// So many blocks are freed by a copy without pins.
+fn recycled(rt: &impl Abort, hand: &mut Hand, last: u64, count: u32) {
+    freed(rt, hand, unpinned(last), count);
+}
+
+/// A copy without pins.
+fn unpinned(last: u64) -> PinCopy {
+    PinCopy {
+        last,
+        ..PinCopy::none()
+    }
+}
+
+/// A copy with a settled pin.
+fn settled(last: u64, pin: u64) -> PinCopy {
+    let mut copy = unpinned(last);
+    copy.settled[0] = Some(pin);
+    copy
+}
+
+/// A copy with an unsettled pin.
+fn unsettled(last: u64, pin: u64) -> PinCopy {
+    let mut copy = unpinned(last);
+    copy.unsettled[15] = Some(pin);
+    copy
 }
 
 /// Tells `tools/refuse-each-growth` that a growth was refused.
@@ -136,7 +166,7 @@ fn check_lives(rt: &impl Abort, hand: &mut Hand) {
     assert_eq!(rt; hand.grant(17), Some(refused));
     granted(rt, hand, 2);
     counts(rt, hand, 14, 2, 0);
-    hand.retire(3);
+    hand.retire(1, 3);
     counts(rt, hand, 14, 1, 1);
     recycled(rt, hand, 2, 0);
     recycled(rt, hand, 3, 1);
@@ -151,12 +181,12 @@ fn counts_through_the_life_of_two_blocks(rt: HostRuntime) -> Result<(), Fail> {
     Ok(())
 }
 
-fn check_floors(rt: &impl Abort, hand: &mut Hand) {
+fn check_last_numbers(rt: &impl Abort, hand: &mut Hand) {
     granted(rt, hand, 4);
-    hand.retire(3);
-    hand.retire(9);
-    hand.retire(3);
-    hand.retire(5);
+    hand.retire(1, 3);
+    hand.retire(2, 9);
+    hand.retire(2, 3);
+    hand.retire(4, 5);
     recycled(rt, hand, 2, 0);
     recycled(rt, hand, 3, 2);
     recycled(rt, hand, 4, 0);
@@ -167,8 +197,30 @@ fn check_floors(rt: &impl Abort, hand: &mut Hand) {
 }
 
 #[test]
-fn recycles_up_to_the_floor(rt: HostRuntime) -> Result<(), Fail> {
-    check_floors(&rt, &mut Hand::new(rt.alloc())?);
+fn recycles_up_to_the_last_number_without_pins(rt: HostRuntime) -> Result<(), Fail> {
+    check_last_numbers(&rt, &mut Hand::new(rt.alloc())?);
+    Ok(())
+}
+
+fn check_pins(rt: &impl Abort, hand: &mut Hand) {
+    granted(rt, hand, 4);
+    hand.retire(1, 3);
+    hand.retire(2, 5);
+    hand.retire(4, 6);
+    hand.retire(8, 9);
+    freed(rt, hand, settled(8, 3), 2);
+    freed(rt, hand, settled(8, 4), 0);
+    freed(rt, hand, unsettled(9, 4), 0);
+    freed(rt, hand, unsettled(9, 5), 1);
+    freed(rt, hand, settled(9, 8), 0);
+    freed(rt, hand, settled(9, 9), 1);
+    counts(rt, hand, 16, 0, 0);
+}
+
+/// A settled pin keeps what was born at most with it and retired after it, and an unsettled one all that was retired after it.
+#[test]
+fn recycles_what_no_pin_needs(rt: HostRuntime) -> Result<(), Fail> {
+    check_pins(&rt, &mut Hand::new(rt.alloc())?);
     Ok(())
 }
 
@@ -229,8 +281,8 @@ fn grants_the_very_block_that_was_retired(rt: HostRuntime) -> Result<(), Fail> {
 
 fn check_retired(rt: &impl Abort, alloc: Global, hand: &mut Hand) {
     check_exchange(rt, alloc, hand);
-    hand.retire(1);
-    recycled(rt, hand, 1, 1);
+    hand.retire(1, 2);
+    recycled(rt, hand, 2, 1);
     granted(rt, hand, 1);
     assert_eq!(rt; hand.first().map(|block| block.len()), Some(1));
 }

@@ -1,12 +1,14 @@
 // The board of seats.
 
+use pin_copy::PinCopy;
 use seat_board::{Board, Pin, SeatNo};
 use std::process::Abort;
 use std::test::Fail;
 
 // Raising the floor to a version gives this floor.
 fn raised(rt: &impl Abort, board: &mut Board, version: u64, floor: u64) {
-    assert_eq!(rt; board.raise(version), floor);
+    assert_eq!(rt; board.raise(version).floor(), floor);
+    assert_eq!(rt; board.floor(), floor);
 }
 
 // A new pin of the seat has this number.
@@ -35,6 +37,27 @@ fn keeps_the_floor_below_each_pin(rt: HostRuntime) -> Result<(), Fail> {
     board.unpin(second);
     raised(&rt, &mut board, 7, 7);
     assert_eq!(rt; board.floor(), 7);
+    Ok(())
+}
+
+fn copied(rt: &impl Abort, board: &mut Board, last: u64, copy: PinCopy) {
+    assert_eq!(rt; board.raise(last), copy);
+}
+
+/// Seat 0 has a settled pin, and seat 15 an unsettled one.
+#[test]
+fn copies_the_pins(rt: HostRuntime) -> Result<(), Fail> {
+    let mut board = Board::new();
+    let mut copy = PinCopy::none();
+    copied(&rt, &mut board, 0, copy);
+    let first = SeatNo::new(0).ok_or("seat 0")?;
+    pinned(&rt, &mut board, first, 0);
+    board.settle(first, 4);
+    pinned(&rt, &mut board, SeatNo::new(15).ok_or("seat 15")?, 0);
+    copy.last = 5;
+    copy.settled[0] = Some(4);
+    copy.unsettled[15] = Some(0);
+    copied(&rt, &mut board, 5, copy);
     Ok(())
 }
 

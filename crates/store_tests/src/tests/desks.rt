@@ -4,6 +4,7 @@ use super::batches::{Op, all_pairs, batch_of, tell_refused};
 use super::opened::new_store;
 use batch_apply::PassAll;
 use graph_model::{Batch, Outcome};
+use pin_copy::PinCopy;
 use std::alloc::{AllocError, Global};
 use std::sync::Wait;
 use std::test::Fail;
@@ -195,15 +196,21 @@ pub(super) fn applies_an_edge<R: Threads + Wait + Sync>(
     is_applied(rt, desk, batch_of(alloc, &[("i", "a", target, 1, 1)]))
 }
 
-/// What two collections answer at floors 1 and 2, the counts before and after them, and the number of entries; nothing where
-/// there weren't two batches.
+/// What two collections answer, under a pin settled at 1 and without a pin, the counts before and after them, and the number of
+/// entries; nothing where there weren't two batches.
 fn collected_after_two(desk: &mut Desk) -> Option<(Stat, Collected, Collected, Stat, usize)> {
     let before = desk.stat();
     if before.number != 2 {
         return None;
     }
-    let low = desk.collect(1);
-    let high = desk.collect(2);
+    let mut copy = PinCopy {
+        last: 2,
+        ..PinCopy::none()
+    };
+    copy.settled[0] = Some(1);
+    let low = desk.collect(&copy);
+    copy.settled[0] = None;
+    let high = desk.collect(&copy);
     Some((before, low, high, desk.stat(), desk.journal().len()))
 }
 

@@ -1,6 +1,7 @@
 // The opening, and the limits of what is opened.
 
 use super::batches::tell_refused;
+use pin_copy::PinCopy;
 use std::alloc::Global;
 use std::sync::Wait;
 use stream_store::{Collected, Config, OpenError, Stat, law_equal_answers, open_parts};
@@ -12,7 +13,7 @@ fn opened<R: Wait>(
     config: Config,
 ) -> Result<(Stat, Collected, usize, usize), OpenError> {
     let (mut desk, _board, readers) = open_parts(rt, alloc, config)?;
-    let collected = desk.collect(0);
+    let collected = desk.collect(&PinCopy::none());
     Ok((desk.stat(), collected, desk.journal().len(), readers.len()))
 }
 

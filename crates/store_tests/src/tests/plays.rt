@@ -333,13 +333,14 @@ fn collects_beside_a_pin_from_before_the_sharing(rt: HostRuntime) {
     check_play(&rt, rt.alloc(), Play::PinnedBefore);
 }
 
-/// Seat 0 was lent version 0 before the store was shared, and lets it go through the store.
+/// Seat 0 was lent version 0 before the store was shared, and lets it go through the store. It keeps the floor at 0, but no
+/// block, since version 0 has none.
 const LENT: &str = "apply chain => 1 ii
 apply more => 2 u
-collect => 0 0 1
+collect => 0 1 0
 ask 0 edge => NoKind
 seat 0 => free
-collect => 2 1 0
+collect => 2 0 0
 seat 0 => pinned
 seat 0 => holds 2
 ask 0 edge => 6 10 20";
@@ -349,7 +350,8 @@ fn releases_a_lent_session_through_the_store(rt: HostRuntime) {
     check_play(&rt, rt.alloc(), Play::LentBefore);
 }
 
-/// Each of four versions is entered by a seat of its own, which holds it to the end.
+/// Each of four versions is entered by a seat of its own. The block that version 2 alone has goes once that one is let go of,
+/// while those of the versions before and after it stay.
 const FOUR_VERSIONS: &str = "apply chain => 1 ii
 seat 0 => pinned
 seat 0 => holds 1
@@ -367,15 +369,23 @@ ask 1 edge => 6 10 20
 ask 2 edge => 7 10 20
 ask 3 edge => none
 collect => 1 0 3
-stat => 4 3 1 12 3 1";
+stat => 4 3 1 12 3 1
+seat 1 => free
+collect => 1 1 2
+stat => 4 3 1 13 2 1
+ask 0 edge => 5 10 10
+ask 2 edge => 7 10 20
+ask 3 edge => none";
 
 #[test]
 fn shows_each_of_four_versions(rt: HostRuntime) {
     check_play(&rt, rt.alloc(), Play::FourVersions);
 }
 
-/// A batch of four sources takes four blocks, and retires the four before. While version 1 is held nothing is recycled, so the fifth
-/// batch finds no free block; it and one that is larger than the pool leave all as it was.
+/// A batch of four sources takes four blocks, and retires the four before. Without a collection the fifth batch finds no free
+/// block; it and one that is larger than the pool leave all as it was. A seat that was pinned and has not entered keeps all
+/// twelve retired blocks; once it holds version 4, the eight go that versions 2 and 3 alone have, and version 1, which is held,
+/// keeps its own.
 const FULL: &str = "apply seventeen => 17 blocks are needed and 16 are free
 stat => 0 0 0 16 0 0
 apply four => 1 iiii
@@ -390,15 +400,22 @@ apply four => 4 blocks are needed and 0 are free
 apply seventeen => 17 blocks are needed and 0 are free
 stat => 4 4 4 0 12 4
 ask 2 edge => 1 1 1
-collect => 1 0 12
+seat 1 => pinned
+collect => 0 0 12
 apply four => 4 blocks are needed and 0 are free
-seat 2 => free
-collect => 4 12 0
+seat 1 => holds 4
+collect => 1 8 4
+ask 2 edge => 1 1 1
 apply four => 5 uuuu
-stat => 5 4 4 8 4 4";
+stat => 5 4 4 4 8 4
+seat 2 => free
+collect => 4 4 4
+seat 1 => free
+collect => 5 4 0
+stat => 5 4 4 12 0 4";
 
 #[test]
-fn refuses_more_operations_than_free_blocks_while_a_version_is_held(rt: HostRuntime) {
+fn refuses_more_operations_than_free_blocks_until_a_collection(rt: HostRuntime) {
     check_play(&rt, rt.alloc(), Play::Full);
 }
 

@@ -173,9 +173,9 @@ fn floors_while_held<R: Threads + Wait + Sync>(
     board: &mut Board,
     session: &Session,
 ) -> Option<[u64; 3]> {
-    let low = board.raise(1);
+    let low = board.raise(1).floor();
     let second = applies_an_edge(rt, alloc, desk, "c");
-    let held = board.raise(2);
+    let held = board.raise(2).floor();
     if second {
         Some([number_held(session), low, held])
     } else {
@@ -196,7 +196,7 @@ fn floors_beside<R: Threads + Wait + Sync>(
             let told = floors_while_held(rt, alloc, desk, board, &session);
             let _seat = let_go(session, board);
             let [number, low, held] = told?;
-            Some([number, low, held, board.raise(2)])
+            Some([number, low, held, board.raise(2).floor()])
         }
         Err(_) => None,
     }

@@ -1,0 +1,46 @@
+// Copies of the pins.
+
+use pin_copy::PinCopy;
+use std::process::Abort;
+
+/// Last number 9, settled pins at 4 and 7, and an unsettled one at 6.
+fn copy_of_three() -> PinCopy {
+    let mut copy = PinCopy {
+        last: 9,
+        ..PinCopy::none()
+    };
+    copy.settled[0] = Some(4);
+    copy.settled[15] = Some(7);
+    copy.unsettled[3] = Some(6);
+    copy
+}
+
+fn tells(rt: &impl Abort, copy: &PinCopy, floor: u64, reach: u64) {
+    assert_eq!(rt; (copy.floor(), copy.reach()), (floor, reach));
+}
+
+#[test]
+fn tells_the_least_of_all_pins_and_of_the_unsettled(rt: HostRuntime) {
+    tells(&rt, &PinCopy::none(), 0, 0);
+    tells(&rt, &copy_of_three(), 4, 6);
+}
+
+/// Whether a block of this birth and retirement is needed.
+fn needs(rt: &impl Abort, birth: u64, retirement: u64, is_needed: bool) {
+    assert_eq!(rt;
+        copy_of_three().needs(birth, retirement),
+        is_needed,
+        "{birth} to {retirement}"
+    );
+}
+
+#[test]
+fn needs_what_a_pin_may_hold(rt: HostRuntime) {
+    needs(&rt, 1, 4, false);
+    needs(&rt, 1, 5, true);
+    needs(&rt, 4, 5, true);
+    needs(&rt, 5, 6, false);
+    needs(&rt, 5, 7, true);
+    needs(&rt, 8, 9, true);
+    needs(&rt, 10, 10, true);
+}
