@@ -5,11 +5,12 @@ use std::process::Abort;
 use std::sync::Wait;
 use std::test::Fail;
 use std::thread::Threads;
-use stinger_server::{Summary, law_one_text};
+use stinger_server::{Summary, law_examples, law_one_text};
 
 #[test]
 fn takes_a_script_to_its_lines(rt: HostRuntime) {
     law_one_text();
+    law_examples();
     let mut output = Vec::new(rt.alloc());
     let mut faults = Vec::new(rt.alloc());
     let end = status_of(&rt, &["run"], FIRST, &mut output, &mut faults);
