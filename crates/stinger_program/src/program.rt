@@ -80,7 +80,8 @@ be quoted, and nothing is trimmed. Each record, and below it what it prints:
       deg <slot> edges=<n>, and then a line for each vertex: <name> <out> <in> <weight out>
   edge,<slot>,<kind>,<source>,<target>         one edge: its weight, first and recent time
       edge <slot> <weight> <first> <recent>, or edge <slot> none
-  collect                                      frees the blocks that only versions before the floor have: the least
+  collect                                      frees each replaced block, but for those that came with a held version
+                                               or before it and were replaced after it; the floor is the least
                                                number among the last version and those held
       collect floor=<n> recycled=<n> retired=<n>
   stat                                         counts of the last version, and blocks free, retired, used
