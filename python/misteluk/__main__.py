@@ -1,0 +1,217 @@
+"""python -m misteluk load | lint | picture"""
+from __future__ import annotations
+
+import argparse
+import code
+import sys
+from typing import Any, Dict, List, Optional
+
+from . import pictures, records
+from .errors import StoreError
+from .feeds import Column, Columns
+from .lint import lint
+from .loading import COMMANDS, Survey, check, load_in_steps, survey
+from .store import Session, Store
+
+
+def column(text: str) -> Column:
+    """A column: its number from 1, or its name."""
+    return int(text) if text.isdigit() else text
+
+
+def add_feed_options(parser: argparse.ArgumentParser) -> None:
+    parser.add_argument("file", help="a delimited file, an edge list (SNAP), or a Matrix Market file; .gz is unpacked")
+    way = parser.add_mutually_exclusive_group(required=True)
+    way.add_argument("--set", dest="by", action="store_const", const="set", help="a later row sets the weight of its edge anew")
+    way.add_argument("--add", dest="by", action="store_const", const="add", help="a later row adds to the weight of its edge")
+    feed = parser.add_argument_group("what the file is")
+    feed.add_argument("--format", choices=("delimited", "snap", "matrix"), help="else the file's name says")
+    for name, usual in (("source", "source"), ("target", "target"), ("kind-column", None), ("weight", None), ("time", None)):
+        feed.add_argument(f"--{name}", type=column, default=usual, metavar="COLUMN", help="a column's name, or its number from 1")
+    feed.add_argument("--kind", default="link", help="the kind of all edges, where no column has it (else link)")
+    feed.add_argument("--delimiter", help="else the comma, tab, semicolon or bar of which the first line has most")
+    feed.add_argument("--header", action=argparse.BooleanOptionalAction, help="else there is one where columns are named")
+    feed.add_argument("--third", choices=("weight", "time"), help="what the third field of an edge list is")
+    feed.add_argument("--weight-scale", type=int, default=1, metavar="N", help="weights in so many parts: 100 makes 12.50 1250")
+    feed.add_argument("--times", choices=("number", "iso"), default="number", help="iso: dates, as seconds since 1970")
+    feed.add_argument("--names", choices=("plain", "escape"), default="plain", help="escape: %%20 for a space, and so on")
+    feed.add_argument("--skip-bad", action="store_true", help="pass over rows that can't be taken, and count them")
+    store = parser.add_argument_group("the store")
+    store.add_argument("--blocks", type=int, help="else as many as are needed, and no fewer than 16,384")
+    store.add_argument("--batch", type=int, default=records.MOST_OPERATIONS, metavar="N", help="rows a batch (4,096 at most)")
+    store.add_argument("--program", help="the program to run; else MISTELUK_PROGRAM, this repository's, or stinger on the path")
+    store.add_argument("--timeout", type=float, default=60.0, metavar="SECONDS", help="how long the program may be silent")
+
+
+def add_window(parser: argparse.ArgumentParser) -> None:
+    parser.add_argument("--of-kind", metavar="KIND", help="answer over edges of one kind; else of any")
+    parser.add_argument("--since", type=int, default=0, metavar="TIME", help="answer over edges with a recent time from this on")
+    parser.add_argument("--until", type=int, default=records.MOST_TIME, metavar="TIME", help="and up to this")
+
+
+def make_parser() -> argparse.ArgumentParser:
+    parser = argparse.ArgumentParser(prog="misteluk", description="Loads data into Misteluk, and asks.")
+    commands = parser.add_subparsers(dest="command", required=True)
+    load = commands.add_parser("load", help="load a file, and ask; nothing is kept when it ends")
+    add_feed_options(load)
+    ask = load.add_argument_group("what then")
+    ask.add_argument("--dry-run", action="store_true", help="count and check the file, and send nothing")
+    ask.add_argument("--script", metavar="OUT", help="write the records as a script for `stinger run`, and send nothing")
+    ask.add_argument("--ask", action="append", default=[], choices=("degrees", "components", "cores"), help="print a table")
+    ask.add_argument("--levels", action="append", default=[], metavar="NAME", help="print the levels from a source")
+    ask.add_argument("--top", type=int, default=10, metavar="N", help="how many rows of a table are printed (10)")
+    ask.add_argument("--interactive", action="store_true", help="then a Python prompt with `store` and `session`")
+    add_window(load)
+    check = commands.add_parser("lint", help="tell each refused record of a script, with its line, field and reason")
+    check.add_argument("script")
+    check.add_argument("--seats", type=int, default=records.USUAL_SEATS)
+    check.add_argument("--blocks", type=int, default=records.USUAL_BLOCKS)
+    check.add_argument("--program")
+    picture = commands.add_parser("picture", help="draw a picture of a file's graph (needs matplotlib)")
+    picture.add_argument("what", choices=("degrees", "components", "cores", "edge", "compare"),
+                         help="edge: a weight over versions, one a batch; compare: two sessions' weights going out")
+    add_feed_options(picture)
+    picture.add_argument("-o", "--output", required=True, metavar="PICTURE", help="a name that ends in .svg or .png")
+    picture.add_argument("--title")
+    picture.add_argument("--edge", metavar="KIND,SOURCE,TARGET", help="the edge, for the picture of that name")
+    picture.add_argument("--first", type=int, metavar="N", help="compare: open the first session behind N batches (else half)")
+    add_window(picture)
+    return parser
+
+
+def read(words: argparse.Namespace) -> Survey:
+    columns = Columns(words.source, words.target, words.kind_column, words.weight, words.time, words.kind)
+    found = survey(words.file, by=words.by, batch=words.batch, weight_scale=words.weight_scale, times=words.times,
+                   names=words.names, format=words.format, columns=columns, delimiter=words.delimiter, header=words.header,
+                   third=words.third)
+    check(found, skip_bad=words.skip_bad)
+    return found
+
+
+def make_store(words: argparse.Namespace, found: Survey, holds: bool = False) -> Store:
+    """A store with the blocks that are said, or else enough; as many as there can be where old versions are held."""
+    blocks = words.blocks or (records.MOST_BLOCKS if holds else found.fitting())
+    return Store(blocks=blocks, program=words.program, timeout=words.timeout)
+
+
+def window(words: argparse.Namespace) -> Dict[str, Any]:
+    return {"kind": words.of_kind, "since": words.since, "until": words.until}
+
+
+def run_load(words: argparse.Namespace) -> int:
+    found = read(words)
+    print(found)
+    if found.bad:
+        print(f"{found.bad} bad rows passed over:", *(it.told for it in found.faults), sep="\n  ")
+    if words.script:
+        with open(words.script, "wb") as file:
+            for part in found.parts:
+                file.write(part.text + b"commit\ncollect\n")
+        print(f"{found.records()} records written to {words.script}: stinger run --blocks {found.fitting()} < {words.script}")
+    if words.script or words.dry_run:
+        return 0
+    with make_store(words, found) as store:
+        print(store.load(found, by=words.by, skip_bad=words.skip_bad))
+        with store.open() as session:
+            answer(words, session)
+            if words.interactive:
+                code.interact(f"`session` holds version {session.version} of `store`. Ctrl-D ends.", local=locals())
+    return 0
+
+
+def answer(words: argparse.Namespace, session: Session) -> None:
+    """Prints the tables that are asked for."""
+    for what in words.ask:
+        if what == "components":
+            show_components(session.components(**window(words)), words.top)
+            continue
+        table: Any = getattr(session, what)(**window(words))
+        print(f"{what}: {len(table)} names" + (f", greatest {max(table.values(), default=0)}" if what == "cores" else ""))
+        for name, value in table.most(words.top):
+            told = value if what == "cores" else f"out {value.out} in {value.into} weight {value.weight_out}"
+            print(f"  {name} {told}")
+    for source in words.levels:
+        levels = session.levels(source, **window(words))
+        print(f"levels from {source}: {len(levels)} reached, the farthest at {max(levels.values())}")
+        for level in range(min(max(levels.values()) + 1, words.top)):
+            print(f"  {level}: {sum(it == level for it in levels.values())}")
+
+
+def show_components(labels: Dict[str, str], most: int) -> None:
+    sizes: Dict[str, int] = {}
+    for label in labels.values():
+        sizes[label] = sizes.get(label, 0) + 1
+    print(f"components: {len(sizes)} of {len(labels)} names")
+    for label, size in sorted(sizes.items(), key=lambda it: -it[1])[:most]:
+        print(f"  {label} {size}")
+
+
+def run_lint(words: argparse.Namespace) -> int:
+    findings = lint(words.script, program=words.program, seats=words.seats, blocks=words.blocks)
+    for it in findings:
+        print(it)
+    print(f"{words.script}: {'1 record is' if len(findings) == 1 else f'{len(findings)} records are'} refused")
+    return 1 if findings else 0
+
+
+def run_picture(words: argparse.Namespace) -> int:
+    found = read(words)
+    draw = draw_versions if words.what in ("edge", "compare") else draw_last
+    with make_store(words, found, words.what == "compare") as store:
+        figure = draw(words, store, found)
+    pictures.save(figure, words.output)
+    print(f"{words.output}: {words.what} of {found}")
+    return 0
+
+
+def draw_last(words: argparse.Namespace, store: Store, found: Survey) -> Any:
+    store.load(found, by=words.by, skip_bad=words.skip_bad)
+    more = {} if words.title is None else {"title": words.title}
+    with store.open() as session:
+        if words.what == "degrees":
+            return pictures.degree_distribution(session.degrees(**window(words)), **more)
+        if words.what == "components":
+            return pictures.component_sizes(session.components(**window(words)), **more)
+        return pictures.core_numbers(session.cores(**window(words)), **more)
+
+
+def draw_versions(words: argparse.Namespace, store: Store, found: Survey) -> Any:
+    """Pictures that need more than the last version: sessions are opened between batches."""
+    steps = load_in_steps(store, found, skip_bad=words.skip_bad)
+    if words.what == "edge":
+        edge = tuple((words.edge or "").split(","))
+        if len(edge) != 3:
+            raise ValueError("the picture of an edge wants --edge KIND,SOURCE,TARGET")
+        weights = []
+        for _ in steps:
+            with store.open() as session:
+                it = session.edges([(edge[0], edge[1], edge[2])])[0]
+                weights.append((session.version, it.weight if it else None))
+        return pictures.edge_weights(weights, words.title or f"{edge[1]} to {edge[2]} ({edge[0]})")
+    first: Optional[Session] = None
+    for at, _ in enumerate(steps, 1):
+        if at == (words.first or max(1, len(found.parts) // 2)):
+            first = store.open()
+    if first is None:
+        raise ValueError(f"the first session can't be opened behind batch {words.first}: there are {len(found.parts)}")
+    second = store.open()
+    tables = [session.degrees(**window(words)) for session in (first, second)]
+    old, new = ({name: float(it.weight_out) for name, it in table.items()} for table in tables)
+    return pictures.side_by_side(old, new, (f"version {first.version}", f"version {second.version}"),
+                                 words.title or "Weight that goes out, in two sessions", "weight out")
+
+
+def main(words: Optional[List[str]] = None) -> int:
+    parsed = make_parser().parse_args(words)
+    try:
+        return {"load": run_load, "lint": run_lint, "picture": run_picture}[parsed.command](parsed)
+    except (StoreError, OSError, ValueError) as fault:
+        print(f"misteluk: {fault}", file=sys.stderr)
+        return 1
+    except KeyboardInterrupt:
+        print("misteluk: interrupted", file=sys.stderr)
+        return 130
+
+
+if __name__ == "__main__":
+    sys.exit(main())

@@ -1,0 +1,93 @@
+"""What the store answers: small named tuples, and tables by name."""
+from __future__ import annotations
+
+from typing import TYPE_CHECKING, Any, Dict, NamedTuple, Tuple, TypeVar
+
+from .errors import Missing, Misread
+
+if TYPE_CHECKING:
+    import pandas
+
+V = TypeVar("V")
+
+
+class Commit(NamedTuple):
+    """What batches did: the last version's number; how many operations inserted an edge, updated one, removed one, found none
+    to remove, and left a weight as it was since it would have left its limits; and how many batches they were cut into."""
+
+    version: int
+    inserted: int
+    updated: int
+    removed: int
+    absent: int
+    overflowed: int
+    batches: int = 1
+
+
+class Collected(NamedTuple):
+    """What a collection did: the floor, how many blocks it freed, and how many stay retired."""
+
+    floor: int
+    recycled: int
+    retired: int
+
+
+class Stat(NamedTuple):
+    """The last version's number, its names and edges; and how many blocks are free, retired and used."""
+
+    version: int
+    names: int
+    edges: int
+    free: int
+    retired: int
+    used: int
+
+
+class Degree(NamedTuple):
+    """How many edges go out of a vertex and how many come in, and the sum of the weights of those that go out."""
+
+    out: int
+    into: int
+    weight_out: int
+
+
+class Edge(NamedTuple):
+    """An edge's weight, the time of the operation that added it, and that of the last one that touched it."""
+
+    weight: int
+    first: int
+    recent: int
+
+
+class Answer(Dict[str, V]):
+    """A table by name, in the order in which names first appeared; a dict, with the session's version and what was asked."""
+
+    version: int = 0
+    request: str = ""
+    value: str = "value"
+
+    def frame(self) -> "pandas.DataFrame":
+        """The table as a pandas frame, a row a name."""
+        try:
+            import pandas
+        except ImportError:
+            raise Missing("pandas", "a frame") from None
+        rows: Any = list(self.values())
+        columns = list(getattr(rows[0], "_fields", [self.value])) if rows else [self.value]
+        return pandas.DataFrame(rows, index=pandas.Index(list(self), name="name", dtype=object), columns=columns)
+
+    def most(self, count: int = 10) -> "list[Tuple[str, V]]":
+        """The rows with the greatest values, greatest first; equal ones in the order of the table."""
+        return sorted(self.items(), key=lambda it: it[1], reverse=True)[:count]  # type: ignore[arg-type, return-value]
+
+
+def numbers(head: str, command: str, fields: int) -> "list[int]":
+    """The numbers of a line `command name=number ..`, of which there are so many."""
+    try:
+        word, *rest = head.split(" ")
+        found = [int(it.partition("=")[2]) for it in rest if "=" in it]
+    except ValueError:
+        word, found = "", []
+    if word != command or len(found) < fields:
+        raise Misread(f"no answer to {command}: {head!r}")
+    return found[:fields]

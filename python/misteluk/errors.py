@@ -1,0 +1,241 @@
+"""What can go wrong, each with a name: which record, line and field, why, and what to do."""
+from __future__ import annotations
+
+from typing import TYPE_CHECKING, Dict, List, NamedTuple, Optional, Sequence, Tuple, Type
+
+from .records import Fault
+
+if TYPE_CHECKING:
+    from .answers import Commit
+
+
+class StoreError(Exception):
+    """Everything that this package raises of its own, but `ValueError` and `TypeError` for wrong arguments."""
+
+
+class Place(NamedTuple):
+    """Where an operation came from: a file or another feed, and its line there (for tables and graphs, the row, from 1)."""
+
+    feed: str
+    line: int
+
+    def __str__(self) -> str:
+        return f"{self.feed}:{self.line}"
+
+
+class Refused(StoreError):
+    """The program refused a record. It changed nothing by it, and goes on.
+
+    `word` is the program's word, `record` the record's number in this run, `place` where the operation came from, `fault` the
+    field and the reason, `advice` what to do, and `told` all of it without the advice. Of a refused commit `applied` has what
+    the batches before the refused one did, or `None`.
+    """
+
+    word = ""
+    advice = ""
+    applied: "Optional[Commit]" = None
+
+    def __init__(self, text: str = "", *, record: Optional[int] = None, place: Optional[Place] = None,
+                 fault: Optional[Fault] = None, word: Optional[str] = None) -> None:
+        self.record, self.place, self.fault = record, place, fault
+        self.word = word or self.word
+        where = f"{place}: " if place else ""
+        number = f" (record {record})" if record else ""
+        reason = text or (str(fault) if fault else "")
+        self.told = f"{where}{self.word}{number}" + (f": {reason}" if reason else "")
+        super().__init__(self.told + (f". {self.advice}" if self.advice else ""))
+
+    @property
+    def field(self) -> Optional[str]:
+        return self.fault.field if self.fault else None
+
+    @property
+    def reason(self) -> Optional[str]:
+        return self.fault.reason if self.fault else None
+
+
+class BadCommand(Refused):
+    word = "BadCommand"
+
+
+class BadFields(Refused):
+    word = "BadFields"
+
+
+class BadName(Refused):
+    word = "BadName"
+    advice = "Names that have other signs can be written with escapes: names='escape' (--names escape) where a feed is loaded"
+
+
+class BadWeight(Refused):
+    word = "BadWeight"
+    advice = "Amounts with decimals can be counted in cents: weight_scale=100 (--weight-scale 100) where a feed is loaded"
+
+
+class BadTime(Refused):
+    word = "BadTime"
+    advice = "Dates can be counted in seconds since 1970: times='iso' (--times iso) where a feed is loaded"
+
+
+class BadSlot(Refused):
+    word = "BadSlot"
+    advice = "Ask for more seats when the store is made (seats=, 16 at most)"
+
+
+class NotOpen(Refused):
+    word = "NotOpen"
+    advice = "Open a session first"
+
+
+class AlreadyOpen(Refused):
+    word = "AlreadyOpen"
+    advice = "Close the session in that slot, or take another slot"
+
+
+class BadWindow(Refused):
+    word = "BadWindow"
+    advice = "A window's beginning comes before its end"
+
+
+class NoKind(Refused, LookupError):
+    word = "NoKind"
+    advice = "The version that the session holds has no edge of this kind, and never had; a later one may"
+
+
+class NoVertex(Refused, LookupError):
+    word = "NoVertex"
+    advice = "The version that the session holds has no such name; a later one may"
+
+
+class BatchFull(Refused):
+    word = "BatchFull"
+    advice = "A batch has at most 4,096 operations: commit in between"
+
+
+class BatchLimit(Refused):
+    word = "BatchLimit"
+    advice = "A run takes at most 65,536 batches: make them larger, or begin a new run"
+
+
+class NamesFull(Refused):
+    word = "NamesFull"
+    advice = "A graph has at most 65,536 names, those of removed edges too"
+
+
+class KindsFull(Refused):
+    word = "KindsFull"
+    advice = "A graph has at most 64 kinds"
+
+
+class PoolEmpty(Refused):
+    """A batch needs as many free blocks as it has operations. `needed` and `free` say how many those are."""
+
+    word = "PoolEmpty"
+    advice = ("Collect, close a session that holds an old version, make batches smaller, or give the store more blocks (65,536 "
+              "at most)")
+
+    def __init__(self, *, needed: int, free: Optional[int], record: Optional[int] = None, place: Optional[Place] = None,
+                 text: str = "") -> None:
+        self.needed, self.free = needed, free
+        left = "" if free is None else f", and {free} are free"
+        super().__init__(text or f"the batch needs {needed} free blocks{left}", record=record, place=place)
+
+
+_KNOWN: Tuple[Type[Refused], ...] = (
+    BadCommand, BadFields, BadName, BadWeight, BadTime, BadSlot, NotOpen, AlreadyOpen, BadWindow, NoKind, NoVertex, BatchFull,
+    BatchLimit, NamesFull, KindsFull, PoolEmpty)
+WORDS: Dict[str, Type[Refused]] = {it.word: it for it in _KNOWN}
+
+
+def refusal(word: str, text: str = "", *, record: Optional[int] = None, place: Optional[Place] = None,
+            fault: Optional[Fault] = None) -> Refused:
+    """The exception for a word, or a plain `Refused` for one that this package doesn't know."""
+    known = WORDS.get(word, Refused)
+    if known is PoolEmpty:
+        return Refused(text, record=record, place=place, fault=fault, word=word)
+    return known(text, record=record, place=place, fault=fault, word=word)
+
+
+class OperationsRefused(StoreError):
+    """The program refused operations that this package took for right. The batch was applied without them: `version` is its
+    number, and `refused` has an exception for each of them."""
+
+    def __init__(self, version: int, refused: Sequence[Refused]) -> None:
+        self.version, self.refused = version, list(refused)
+        told = "; ".join(map(str, self.refused[:3]))
+        super().__init__(f"version {version} was made without {len(self.refused)} operations that were refused: {told}")
+
+
+class BadRows(StoreError):
+    """Rows of a feed are no operations; nothing of the feed was sent. `faults` has the first of them, `count` says how many."""
+
+    def __init__(self, feed: str, count: int, rows: int, faults: Sequence[Refused]) -> None:
+        self.feed, self.count, self.rows, self.faults = feed, count, rows, list(faults)
+        lines = [it.told for it in self.faults]
+        lines += [f"and {count - len(self.faults)} more"] if count > len(self.faults) else []
+        lines += dict.fromkeys(it.advice for it in self.faults if it.advice)
+        super().__init__("\n  ".join([f"{feed}: {count} of {rows} rows can't be taken, and none was sent", *lines]))
+
+
+class OverLimit(StoreError):
+    """A feed is more than a run of the program can take; nothing of it was sent. `counts` says what was counted."""
+
+    def __init__(self, text: str, counts: Dict[str, int]) -> None:
+        self.counts = counts
+        super().__init__(text)
+
+
+class NoSeat(StoreError):
+    """All seats hold sessions."""
+
+
+class SessionClosed(StoreError):
+    """A request of a session that was closed."""
+
+
+class RecordLimit(StoreError):
+    """A run takes 999,999 records: this one would be one more, and was not sent."""
+
+
+class Uncommitted(StoreError):
+    """The store was closed while operations were pending, or a feed was to be loaded; `operations` has them as records."""
+
+    def __init__(self, text: str, operations: List[str]) -> None:
+        self.operations = operations
+        super().__init__(text)
+
+
+class FeedFault(StoreError):
+    """A file or graph isn't of the form that was said."""
+
+
+class ProgramNotFound(StoreError):
+    """There is no program to run."""
+
+
+class NoAnswer(StoreError, TimeoutError):
+    """The program neither read nor wrote anything for as long as it may."""
+
+
+class ProgramEnded(StoreError):
+    """The program came to its end before it had answered. `status` is its exit status, negative for a signal's number, and
+    `said` what it wrote on standard error."""
+
+    def __init__(self, text: str, status: Optional[int] = None, said: str = "") -> None:
+        self.status, self.said = status, said
+        super().__init__(text + (f"; it said: {said}" if said else ""))
+
+
+class OutOfMemory(ProgramEnded):
+    """The program found no memory for a record, and ended."""
+
+
+class Misread(StoreError):
+    """The program wrote a line that answers no record that was sent: it isn't the program that this package knows."""
+
+
+class Missing(StoreError, ImportError):
+    """An optional package isn't there."""
+
+    def __init__(self, package: str, what: str) -> None:
+        super().__init__(f"{what} needs {package}: apt-get install python3-{package}, or pip install {package}")

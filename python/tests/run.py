@@ -1,0 +1,46 @@
+"""Runs the tests in files side by side, and ends with a line of how many passed and failed."""
+from __future__ import annotations
+
+import concurrent.futures
+import os
+import re
+import subprocess
+import sys
+import time
+
+from support import HERE, find_program, optional
+
+
+def run(name: str) -> "tuple[str, float, str]":
+    begun = time.monotonic()
+    done = subprocess.run([sys.executable, "-W", "error::ResourceWarning", HERE / name], stdout=subprocess.PIPE,
+                          stderr=subprocess.STDOUT, text=True, cwd=HERE)
+    return name, time.monotonic() - begun, done.stdout
+
+
+def main(*wanted: str) -> int:
+    names = sorted(it for it in os.listdir(HERE) if re.fullmatch(r"test_\w+\.py", it))
+    names = [it for it in names if not wanted or it[5:-3] in wanted]
+    missing = [it for it in ("networkx", "pandas", "matplotlib", "tqdm") if not optional(it)]
+    print(f"python/check: {sys.executable} ({sys.version.split()[0]}) runs {find_program()}")
+    if missing:
+        print(f"python/check: without {', '.join(missing)}: what needs them is passed over (apt-get install "
+              f"{' '.join('python3-' + it for it in missing)})")
+    passed = failed = passed_over = 0
+    with concurrent.futures.ThreadPoolExecutor(2) as pool:
+        for name, seconds, text in pool.map(run, names):
+            ran = re.search(r"(?m)^Ran (\d+) tests? in", text)
+            bad = sum(map(int, re.findall(r"(?:failures|errors)=(\d+)", text.splitlines()[-1] if text else "")))
+            over = sum(map(int, re.findall(r"skipped=(\d+)", text)))
+            bad = bad if ran and (bad or re.search(r"(?m)^OK", text)) else 1
+            passed += int(ran[1]) - bad - over if ran else 0
+            failed, passed_over = failed + bad, passed_over + over
+            print(f"{name[5:-3]}: {seconds:.0f} s" + (f", {over} passed over" if over else "") + (f"\n{text}" if bad else ""))
+    if passed_over:
+        print(f"{passed_over} tests were passed over")
+    print(f"{passed} passed, {failed} failed")
+    return 1 if failed or not passed else 0
+
+
+if __name__ == "__main__":
+    sys.exit(main(*sys.argv[1:]))

@@ -1,0 +1,75 @@
+"""What the tests share: the program that they run, and files and stand-ins for it."""
+from __future__ import annotations
+
+import pathlib
+import re
+import stat
+import subprocess
+import sys
+import tempfile
+import unittest
+from typing import Any, Dict, List
+
+HERE = pathlib.Path(__file__).resolve().parent
+TOP = HERE.parent.parent
+sys.path.insert(0, str(HERE.parent))
+
+from misteluk import Store, find_program  # noqa: E402
+
+
+def optional(name: str) -> Any:
+    """The package, or nothing where it isn't there."""
+    try:
+        return __import__(name)
+    except ImportError:
+        return None
+
+
+def words_of(script: bytes) -> Dict[int, str]:
+    """What the program refuses of a script, by the record's number."""
+    run = subprocess.run([find_program(), "run", "--blocks", "16"], input=script, stdout=subprocess.PIPE,
+                         stderr=subprocess.DEVNULL, timeout=60)
+    return {int(number): word.decode() for number, word in re.findall(rb"(?m)^error (\d+) ([A-Z][A-Za-z]+)$", run.stdout)}
+
+
+class Case(unittest.TestCase):
+    maxDiff = None
+
+    def setUp(self) -> None:
+        room = tempfile.TemporaryDirectory()
+        self.addCleanup(room.cleanup)
+        self.room = pathlib.Path(room.name)
+
+    def store(self, *operations: str, **options: Any) -> Store:
+        """A store with the operations, texts of `insert kind source target weight time` and so on, committed as one batch."""
+        store = Store(**options)
+        self.addCleanup(self.let_go, store)
+        self.feed(store, *operations)
+        return store
+
+    def let_go(self, store: Store) -> None:
+        store.discard()
+        store.close()
+
+    def feed(self, store: Store, *operations: str) -> None:
+        for it in operations:
+            word, *names = it.split()
+            getattr(store, word)(*names[:3], *map(int, names[3:]))
+        if operations:
+            store.commit()
+
+    def file(self, name: str, text: str) -> str:
+        (self.room / name).write_text(text)
+        return str(self.room / name)
+
+    def stand_in(self, body: str) -> str:
+        """A program in place of the store's: it answers `stat` as an empty store does, and then does as the text says."""
+        lines = ["#!" + sys.executable, "import os, sys, time", "sys.stdin.readline()",
+                 "print('stat v=0 names=0 edges=0 free=16384 retired=0 used=0', flush=True)", body]
+        path = pathlib.Path(self.file("stand_in", "\n".join(lines) + "\n"))
+        path.chmod(path.stat().st_mode | stat.S_IXUSR)
+        return str(path)
+
+
+def texts(found: List[Any]) -> List[str]:
+    return [str(it) for it in found]

@@ -1,0 +1,149 @@
+"""python -m misteluk: load, lint, picture. Values are worked out by hand."""
+import io
+import pathlib
+import subprocess
+import sys
+import unittest
+from contextlib import redirect_stderr, redirect_stdout
+
+from support import HERE, Case, find_program, optional, words_of
+
+from misteluk import pictures
+from misteluk.__main__ import main
+from misteluk.answers import Degree
+
+PAIRS = "from,to,n,t\na,b,1,10\na,c,2,11\nc,d,3,12\na,b,4,13\nx,y,5,14\n"
+OF_PAIRS = ("--source", "from", "--target", "to", "--weight", "n", "--time", "t")
+
+
+class Commands(Case):
+    def run_it(self, *words: str):
+        out, err = io.StringIO(), io.StringIO()
+        with redirect_stdout(out), redirect_stderr(err):
+            status = main([str(it) for it in words])
+        return status, out.getvalue(), err.getvalue()
+
+    def load(self, wanted: str, *words: str) -> None:
+        """Whether a load of the pairs prints these lines behind its first two."""
+        status, out, err = self.run_it("load", self.file("p.csv", PAIRS), *OF_PAIRS, *words)
+        self.assertEqual((status, err, "\n".join(out.splitlines()[2:])), (0, "", wanted))
+
+    def test_load_and_ask(self):
+        self.load("degrees: 6 names\n  a out 2 in 0 weight 7\n  c out 1 in 1 weight 3", "--add", "--ask", "degrees", "--top", "2")
+        self.load("degrees: 6 names\n  a out 2 in 0 weight 6", "--set", "--ask", "degrees", "--top", "1")
+        self.load("components: 2 of 6 names\n  a 4\n  x 2", "--add", "--ask", "components")
+        self.load("components: 4 of 6 names\n  a 2", "--add", "--ask", "components", "--top", "1", "--since", "13")
+        self.load("cores: 6 names, greatest 1\n  a 1", "--add", "--ask", "cores", "--top", "1")
+        self.load("levels from a: 4 reached, the farthest at 2\n  0: 1\n  1: 2\n  2: 1", "--add", "--levels", "a")
+        self.load("levels from a: 2 reached, the farthest at 1\n  0: 1\n  1: 1", "--add", "--levels", "a", "--until", "11")
+
+    def test_a_kind_by_column(self):
+        path = self.file("k.csv", "kind,source,target\nowns,a,b\nknows,b,c\n")
+        status, out, _ = self.run_it("load", path, "--set", "--kind-column", "kind", "--of-kind", "owns", "--levels", "a")
+        self.assertEqual((status, out.splitlines()[2]), (0, "levels from a: 2 reached, the farthest at 1"))
+        self.assertIn("2 rows, 3 names, 2 kinds, 2 edges in 2 blocks; 1 batch needs 2 blocks\n", out)
+
+    def test_a_script(self):
+        script = self.room / "s.csv"
+        status, out, _ = self.run_it("load", self.file("p.csv", PAIRS), *OF_PAIRS, "--add", "--batch", "3", "--script", script)
+        wanted = ("a,link,a,b,1,10", "a,link,a,c,2,11", "a,link,c,d,3,12", "commit", "collect", "a,link,a,b,4,13",
+                  "a,link,x,y,5,14", "commit", "collect")
+        self.assertEqual((status, script.read_text().splitlines()), (0, list(wanted)))
+        self.assertEqual(words_of(script.read_bytes()), {})
+        self.assertIn("9 records written to", out)
+
+    def test_faults(self):
+        path = self.file("p.csv", PAIRS)
+        for told, words in (("no column 'source'", ("load", path, "--add")),
+                            ("No such file", ("load", "/no/such", "--add")),
+                            ("is no program", ("load", path, *OF_PAIRS, "--add", "--program", "/no/such")),
+                            ("blocks is from 16", ("load", path, *OF_PAIRS, "--add", "--blocks", "7")),
+                            ("NoVertex (record", ("load", path, *OF_PAIRS, "--add", "--levels", "z")),
+                            ("wants --edge", ("picture", "edge", path, *OF_PAIRS, "--add", "-o", "x.svg"))):
+            status, _, err = self.run_it(*words)
+            self.assertEqual((status, told in err), (1, True), err)
+
+    def test_bad_rows_are_passed_over_where_that_is_said(self):
+        path = self.file("p.csv", PAIRS + "e f,g,1,1\n")
+        status, out, err = self.run_it("load", path, *OF_PAIRS, "--add", "--skip-bad")
+        self.assertEqual((status, err), (0, ""))
+        self.assertIn("p.csv:7: BadName: source 'e f'", out)
+        self.assertIn("4 edges inserted, 1 updated; version 1; 1 bad rows passed over", out)
+
+    def test_lint(self):
+        status, out, _ = self.run_it("lint", self.file("s.csv", "commit\nfly\n"))
+        self.assertEqual((status, out.splitlines()[-1].endswith("s.csv: 1 record is refused")), (1, True))
+        self.assertEqual(self.run_it("lint", self.file("s.csv", "commit\n"))[0], 0)
+
+    def test_interactive(self):
+        words = ("load", self.file("p.csv", PAIRS), *OF_PAIRS, "--add", "--interactive")
+        done = subprocess.run([sys.executable, "-m", "misteluk", *words], stdout=subprocess.PIPE, stderr=subprocess.PIPE,
+                              input="print(session.edge('link', 'a', 'b').weight)\n", text=True, cwd=HERE.parent, timeout=60)
+        self.assertEqual((done.returncode, "5\n" in done.stdout), (0, True), done.stderr)
+
+    @unittest.skipUnless(optional("matplotlib"), "matplotlib is not there")
+    def test_pictures(self):
+        path = self.file("p.csv", PAIRS)
+        for what, more, told in (("degrees", (), "vertices"), ("components", (), "components"), ("cores", (), "core number"),
+                                 ("edge", ("--edge", "link,a,b", "--batch", "1"), "a to b (link)"),
+                                 ("compare", ("--batch", "2", "--first", "1"), "version 1"),
+                                 ("degrees", ("--title", "T"), ">T<")):
+            picture = self.room / f"{what}.svg"
+            status, out, err = self.run_it("picture", what, path, *OF_PAIRS, "--add", "-o", picture, *more)
+            self.assertEqual((status, err), (0, ""))
+            self.assertIn(told, picture.read_text())
+        self.run_it("picture", "cores", path, *OF_PAIRS, "--add", "-o", self.room / "c.png")
+        self.assertEqual((self.room / "c.png").read_bytes()[:4], b"\x89PNG")
+
+
+@unittest.skipUnless(optional("matplotlib"), "matplotlib is not there")
+class Pictures(Case):
+    """What the figures hold."""
+
+    def points(self, figure, line: int = 0) -> list:
+        return [tuple(map(float, it)) for it in figure.axes[0].lines[line].get_xydata()]
+
+    def bars(self, figure, group: int = 0) -> list:
+        bars = [it.get_height() if it.get_width() == 0.8 else it.get_width() for it in figure.axes[0].containers[group]]
+        return [float(it) for it in bars]
+
+    def test_degrees(self):
+        degrees = {"a": Degree(2, 0, 7), "b": Degree(0, 1, 0), "c": Degree(1, 1, 3), "d": Degree(1, 2, 1)}
+        figure = pictures.degree_distribution(degrees)
+        self.assertEqual(self.points(figure), [(1, 2), (2, 1)])
+        self.assertEqual(self.points(figure, 1), [(1, 2), (2, 1)])
+        told = [it.get_text() for it in figure.axes[0].get_legend().get_texts()]
+        self.assertEqual(told, ["out (1 have none)", "in (1 have none)"])
+
+    def test_components(self):
+        self.assertEqual(self.points(pictures.component_sizes({"a": "a", "b": "a", "c": "c", "d": "d"})), [(1, 2), (2, 1)])
+
+    def test_cores(self):
+        self.assertEqual(self.bars(pictures.core_numbers({"a": 3, "b": 1, "c": 3})), [0, 1, 0, 2])
+
+    def test_weights(self):
+        figure = pictures.edge_weights([(1, 5), (2, None), (3, 7)])
+        self.assertEqual(self.points(figure, 1), [(1, 5), (3, 7)])
+        self.assertEqual(self.points(figure, 2), [(2, 0)])
+
+    def test_side_by_side(self):
+        figure = pictures.side_by_side({"a": 1, "b": 5}, {"a": 1, "b": 2, "c": 9}, ("old", "new"), most=2)
+        self.assertEqual([it.get_text() for it in figure.axes[0].get_yticklabels()], ["b", "c"])
+        self.assertEqual((self.bars(figure), self.bars(figure, 1)), ([5, 0], [2, 9]))
+
+    def test_nothing_to_draw(self):
+        for figure in (pictures.degree_distribution({}), pictures.component_sizes({}), pictures.core_numbers({}),
+                       pictures.edge_weights([]), pictures.side_by_side({}, {}, ("a", "b"))):
+            pictures.save(figure, self.room / "e.svg")
+        self.assertRaises(ValueError, pictures.save, pictures.core_numbers({}), "e.pdf")
+
+    def test_the_pictures_of_the_documents_are_there(self):
+        for it in ("debian-degrees", "shipments"):
+            text = (pathlib.Path(HERE).parents[1] / f"docs/pictures/{it}.svg").read_text()
+            self.assertTrue(text.rstrip().endswith("</svg>"))
+            self.assertLess(len(text), 30_000)
+
+
+if __name__ == "__main__":
+    find_program()
+    unittest.main()

@@ -1,0 +1,257 @@
+"""Data in: what each form of file comes to, what it is counted as, and what is told before anything is sent."""
+import gzip
+import io
+import os
+import time
+import unittest
+from contextlib import redirect_stderr
+from unittest import mock
+
+from support import Case, optional
+
+import misteluk
+from misteluk import Columns, Edge, Feed, feeds, loading, records
+
+TRANSFERS = "from,to,amount,when\nana,funnel,980,1\nben,funnel,950,1\nana,funnel,20,5\n"
+OF_TRANSFERS = Columns("from", "to", None, "amount", "when", "transfer")
+
+
+class Feeds(Case):
+    def rows(self, wanted: str, name: str, text: str, **options) -> None:
+        """Whether the file has these rows: a line each, its fields parted by a space."""
+        feed = misteluk.open_feed(self.file(name, text), **options)
+        self.assertEqual("\n".join(" ".join(map(str, it)) for it in feed.rows), wanted)
+
+    def test_delimited(self):
+        self.rows("2 transfer ana funnel 980 1\n3 transfer ben funnel 950 1\n4 transfer ana funnel 20 5", "a.csv", TRANSFERS,
+                  columns=OF_TRANSFERS)
+        self.rows("2 k a b 1 0", "a.tsv", "\ufeffx\ty\nb\ta\n", columns=Columns("y", "x", usual_kind="k"))
+        self.rows("1 a b c 7 9\n3 d e f 8 9", "a.txt", "b;c;a;7;9\n\ne;f;d;8;9\n", columns=Columns(1, 2, 3, 4, 5))
+        self.rows('1 link a,b c 1 0', "a", '"a,b",c\n', columns=Columns(1, 2))
+        self.rows("2 link b c 1 0", "b", "a|b\nb|c\n", columns=Columns(1, 2), header=True)
+        self.rows("2 link b c 1 0", "c.csv", "a b,c\nb,c\n", columns=Columns("a b", "c"), delimiter=",")
+
+    def test_snap(self):
+        self.rows("3 link 0 11 1 0\n4 link 0 12 1 0", "a.txt", "# Directed graph\n# FromNodeId\tToNodeId\n0\t11\n0 12\n")
+        self.rows("1 msg 1 2 1 1082040961", "b", "1 2 1082040961\n", format="snap", third="time",
+                  columns=Columns(usual_kind="msg"))
+        self.rows("1 link 1 2 5 0", "c", "1 2 5\n", format="snap", third="weight")
+
+    def test_matrix_market(self):
+        head = "%%MatrixMarket matrix coordinate "
+        self.rows("4 link 1 2 5 0\n5 link 2 2 -1 0", "a.mtx", head + "integer general\n% a comment\n2 2 2\n1 2 5\n2 2 -1\n")
+        self.rows("3 link 2 1 1 0\n3 link 1 2 1 0\n4 link 2 2 1 0", "b.mtx", head + "pattern symmetric\n2 2 2\n2 1\n2 2\n")
+        self.rows("3 link 2 1 3 0\n3 link 1 2 -3 0", "c.mtx", head + "real skew-symmetric\n2 2 1\n2 1 3.0\n")
+
+    def test_gzip(self):
+        path = self.room / "a.csv.gz"
+        path.write_bytes(gzip.compress(TRANSFERS.encode()))
+        self.assertEqual(len(list(misteluk.open_feed(str(path), columns=OF_TRANSFERS).rows)), 3)
+
+    def test_amounts_dates_and_names(self):
+        feed = Feed("f", [(1, "k", "A b", "50%", "12.50", "2024-05-01T02:00:00+02:00"), (2, "k", "é", "*", "1e2", "1970-01-02")])
+        self.assertEqual(list(feeds.turned(feed, weight_scale=100, times="iso", names="escape").rows), [
+            (1, "k", "A%20b", "50%25", "1250", "1714521600"), (2, "k", "%C3%A9", "*", "10000", "86400")])
+        for wrong in ("12.505", "x", "", "nan", "Infinity"):
+            self.assertEqual(feeds.whole(100)(wrong), wrong)
+        self.assertEqual(feeds.seconds("yesterday"), "yesterday")
+
+    def test_a_date_without_a_zone_is_in_utc(self):
+        self.addCleanup(time.tzset)
+        with mock.patch.dict(os.environ, {"TZ": "EST5EDT"}):
+            time.tzset()
+            self.assertEqual(feeds.seconds("1970-01-02"), "86400")
+            self.assertEqual(feeds.seconds("1970-01-02T00:00:00Z"), "86400")
+
+    def fault(self, told: str, name: str, text: str, **options) -> None:
+        with self.assertRaises(misteluk.FeedFault) as fault:
+            list(misteluk.open_feed(self.file(name, text), **options).rows)
+        self.assertIn(told, str(fault.exception))
+
+    def test_files_of_another_form(self):
+        self.fault("a.csv: no column 'too'; the header has 'from', 'to', 'amount', 'when'", "a.csv", TRANSFERS,
+                   columns=Columns("from", "too"))
+        self.fault("a.csv:3: 1 fields, where the columns need 2", "a.csv", "a,b\nc,d\ne\n", columns=Columns(1, 2))
+        self.fault("there is no header", "a.csv", "a,b\n", header=False)
+        self.fault("a.csv: columns are named, and there is no header", "a.csv", "")
+        self.fault("a.txt:2: 1 fields, where an edge list has 2", "a.txt", "# x\n7\n")
+        self.fault("a.mtx:1: no line `%%MatrixMarket", "a.mtx", "1 2 3\n")
+        self.fault("is complex and hermitian", "a.mtx", "%%MatrixMarket matrix coordinate complex hermitian\n1 1 0\n")
+        self.fault("1 entries, where its sizes say 2", "a.mtx", "%%MatrixMarket matrix coordinate pattern general\n2 2 2\n1 2\n")
+
+    def test_bytes_that_are_no_text(self):
+        (self.room / "a.csv").write_bytes(b"a,b\n\xffx,?\n")
+        found = misteluk.survey(str(self.room / "a.csv"), by="set", columns=Columns(1, 2))
+        self.assertEqual((found.rows, found.bad), (2, 1))
+        self.assertIn("a.csv:2: BadName: source '\\udcffx'", str(found.faults[0]))
+
+
+class Loads(Case):
+    def test_set_and_add(self):
+        path = self.file("a.csv", TRANSFERS)
+        for by, weight in (("set", 20), ("add", 1000)):
+            store = self.store()
+            loaded = store.load(path, by=by, columns=OF_TRANSFERS)
+            self.assertEqual(loaded.commit, (1, 2, 1, 0, 0, 0, 1))
+            self.assertEqual(store.open().edge("transfer", "ana", "funnel"), Edge(weight, 1, 5))
+        with self.assertRaisesRegex(ValueError, "by is 'set'"):
+            store.load(path, by="sum")
+        found = misteluk.survey(path, by="set", columns=OF_TRANSFERS)
+        with self.assertRaisesRegex(ValueError, "the survey was made to set, and the load is to add"):
+            store.load(found, by="add")
+
+    def counted(self, wanted: str, rows: str, batch: int = 4096) -> None:
+        """Whether rows `source target`, parted by commas, are counted so: names, edges, blocks, blocks needed."""
+        feed = Feed("f", [(at, "k", *it.split(), "1", "0") for at, it in enumerate(rows.split(","), 1)])
+        found = misteluk.survey(feed, by="add", batch=batch)
+        self.assertEqual(f"{found.names} {found.edges} {found.blocks} {found.needed}", wanted)
+
+    def test_what_is_counted(self):
+        self.counted("2 1 1 2", "a b,a b")
+        self.counted("34 33 2 33", ",".join(f"a b{it}" for it in range(33)))
+        self.counted("33 32 1 32", ",".join(f"a b{it}" for it in range(32)))
+        self.counted("34 33 33 33", ",".join(f"b{it} a" for it in range(33)))
+        # Batches of ten: behind three of them 30 blocks are used, and three operations are left; the third needs 20 and 10.
+        self.counted("34 33 33 33", ",".join(f"b{it} a" for it in range(33)), 10)
+        self.counted("34 33 2 11", ",".join(f"a b{it}" for it in range(33)), 10)
+
+    def test_the_blocks_that_are_counted_are_needed(self):
+        feed = [(it, "k", f"s{it % 7}", f"t{it * it % 50}", "1", "0") for it in range(300)]
+        found = misteluk.survey(Feed("f", feed), by="add", batch=20)
+        store = self.store(blocks=found.needed)
+        store.load(found, by="add")
+        self.assertEqual((store.stat().used, store.stat().edges, store.stat().names), (found.blocks, found.edges, found.names))
+        with self.assertRaisesRegex(misteluk.PoolEmpty, f"needs at least {found.needed} blocks in batches of 20") as told:
+            self.store(blocks=found.needed - 1).load(found, by="add")
+        self.assertEqual(told.exception.needed, found.needed)
+
+    def test_bad_rows(self):
+        path = self.file("a.csv", "s,t,w\na,b,1\nc d,b,1\na,b,1.5\n,b,2\na,b,9999999999999\nb,c,2\n")
+        columns = Columns("s", "t", weight="w")
+        store = self.store()
+        with self.assertRaises(misteluk.BadRows) as told:
+            store.load(path, by="add", columns=columns)
+        self.assertEqual((told.exception.count, told.exception.rows, store.stat().version), (4, 6, 0))
+        self.assertEqual([it.place.line for it in told.exception.faults], [3, 4, 5, 6])
+        self.assertEqual([it.word for it in told.exception.faults], ["BadName", "BadWeight", "BadName", "BadWeight"])
+        self.assertIn("a.csv:4: BadWeight: amount '1.5': a weight is a whole number", str(told.exception))
+        loaded = store.load(path, by="add", columns=columns, skip_bad=True)
+        self.assertEqual((loaded.commit.inserted, store.stat().edges), (2, 2))
+        self.assertIn("4 bad rows passed over", str(loaded))
+
+    def test_weights_that_would_leave_their_limits_are_told(self):
+        loaded = self.store().load(Feed("f", [(1, "k", "a", "b", "1099511627776", "0")] * 2), by="add")
+        self.assertIn("1 amounts NOT added", str(loaded))
+
+    def over(self, told: str, rows: list, **options) -> None:
+        store = self.store()
+        with self.assertRaises(misteluk.OverLimit) as fault:
+            store.load(Feed("f", rows), by="set", **options)
+        self.assertIn(told, str(fault.exception))
+        self.assertEqual(store.stat().version, 0)
+
+    def test_limits_are_told_before_anything_is_sent(self):
+        self.over("f has 65538 names, where a run takes 65536", [(1, "k", "a", f"b{it}", "1", "0") for it in range(65_537)])
+        self.over("f has 65 kinds, where a run takes 64", [(1, f"k{it}", "a", "b", "1", "0") for it in range(65)])
+        with mock.patch.object(records, "MOST_RECORDS", 100):
+            loaded = self.store().load(Feed("f", [(1, "k", "a", "b", "1", "0")] * 97), by="set", collect=False)
+            self.assertEqual(loaded.records, 98)
+            self.over("101 records with its commits and collections, where a run takes 100", [(1, "k", "a", "b", "1", "0")] * 99)
+            self.over("f takes 100 records, and this run has had 2 of 100", [(1, "k", "a", "b", "1", "0")] * 98)
+        # Batch 17 of 4,096 begins behind row 65,536, where 63,000 blocks are in use.
+        self.over("63000 blocks for its edges and 67096 for its batches", [
+            (1, f"k{it % 2}", f"a{it % 63_000 // 2}", "b", "1", "0") for it in range(71_000)])
+
+    def test_a_batch_that_is_refused_on_the_way(self):
+        """All rows stand in one block, and each batch retires one: behind seven batches 9 of 16 blocks are free."""
+        store = self.store(blocks=16)
+        held = store.open()
+        rows = [(it, "k", "a", f"b{it // 10}", "1", "0") for it in range(1, 101)]
+        with self.assertRaises(misteluk.PoolEmpty) as told:
+            store.load(Feed("f", rows), by="add", batch=10, collect=False)
+        self.assertIn("f:71: PoolEmpty", str(told.exception))
+        self.assertIn("the batch of lines 71 to 80 was refused, and neither it nor what comes behind it is in; 70 rows before it "
+                      "are. It needs 10 free blocks, and 9 are free", str(told.exception))
+        self.assertEqual((held.degrees(), store.stat().version), ({}, 7))
+
+    def test_blocks_in_use_are_counted_before_anything_is_sent(self):
+        store = self.store(*(f"insert k s{it} t 1 1" for it in range(10)), blocks=16)
+        told = "needs at least 17 blocks in batches of 7, and the store was made with 16"
+        with self.assertRaisesRegex(misteluk.PoolEmpty, told):
+            store.load(Feed("f", [(1, "k", "s1", "t", "1", "0")] * 7), by="add")
+        self.assertEqual(store.stat().version, 1)
+        self.assertEqual(store.load(Feed("f", [(1, "k", "s1", "t", "1", "0")] * 6), by="add").commit.version, 2)
+
+    def test_pending_operations_are_not_mixed_in(self):
+        store = self.store()
+        store.insert("k", "a", "b")
+        with self.assertRaisesRegex(misteluk.Uncommitted, "1 operations are pending"):
+            store.load(Feed("f", []), by="set")
+        store.discard()
+        self.assertIsNone(store.load(Feed("f", []), by="set").commit)
+
+    def test_steps(self):
+        store, seen = self.store(), []
+        found = misteluk.survey(Feed("f", [(it, "k", "a", "b", "1", str(it)) for it in range(6)]), by="add", batch=2)
+        for receipt in misteluk.load_in_steps(store, found):
+            with store.open() as session:
+                seen.append((receipt.version, session.edge("k", "a", "b")))
+        self.assertEqual(seen, [(1, Edge(2, 0, 1)), (2, Edge(4, 0, 3)), (3, Edge(6, 0, 5))])
+        self.assertEqual(found.times, (0, 5))
+
+    def test_progress(self):
+        with redirect_stderr(io.StringIO()) as told:
+            misteluk.survey(Feed("f", [(1, "k", "a", "b", "1", "0")] * 9000), by="add", progress=True)
+        if optional("tqdm"):
+            self.assertIn("reading f: 9000 records", told.getvalue())
+
+    def test_progress_without_tqdm(self):
+        with mock.patch.dict("sys.modules", {"tqdm": None}), redirect_stderr(io.StringIO()) as told:
+            bar = loading.Progress("reading f", 10, True)
+            bar.told -= 1
+            bar.step(5)
+            bar.end()
+        self.assertRegex(told.getvalue(), r"reading f: 5 of 10 records, \d+ a second")
+
+
+@unittest.skipUnless(optional("networkx"), "networkx is not there")
+class Graphs(Case):
+    def test_networkx(self):
+        import networkx
+        graph = networkx.DiGraph(name="g")
+        graph.add_edge(1, "b", weight=7.0, time=9)
+        graph.add_edge("b", "c", kind="other")
+        self.assertEqual(list(misteluk.from_networkx(graph).rows),
+                         [(1, "link", "1", "b", "7", "9"), (2, "other", "b", "c", "1", "0")])
+        both = misteluk.from_networkx(networkx.Graph([(1, 2), (3, 3)]))
+        self.assertEqual([it[2:4] for it in both.rows], [("1", "2"), ("2", "1"), ("3", "3")])
+        one = misteluk.from_networkx(networkx.Graph([(1, 2)]), both_ways=False)
+        self.assertEqual(len(list(one.rows)), 1)
+        with self.assertRaisesRegex(misteluk.FeedFault, "two nodes of the graph have one name"):
+            misteluk.from_networkx(networkx.Graph([(1, "1")]))
+
+
+@unittest.skipUnless(optional("pandas"), "pandas is not there")
+class Frames(Case):
+    def test_pandas(self):
+        import pandas
+        frame = pandas.read_csv(io.StringIO("from,to,amount,when\nana,funnel,980.0,2024-05-01\n"), parse_dates=["when"])
+        store = self.store()
+        store.load(frame, by="add", columns=OF_TRANSFERS, times="iso")
+        session = store.open()
+        self.assertEqual(session.edge("transfer", "ana", "funnel"), Edge(980, 1714521600, 1714521600))
+        degrees = session.degrees().frame()
+        self.assertEqual(degrees.loc["funnel"].to_dict(), {"out": 0, "into": 1, "weight_out": 0})
+        self.assertEqual(session.levels("ana").frame()["level"].to_dict(), {"ana": 0, "funnel": 1})
+        self.assertEqual(self.store().open().cores().frame().shape, (0, 1))
+
+
+class Absent(Case):
+    def test_pandas_is_named_where_it_is_missing(self):
+        with mock.patch.dict("sys.modules", {"pandas": None}):
+            with self.assertRaisesRegex(misteluk.Missing, "apt-get install python3-pandas"):
+                self.store().open().cores().frame()
+
+
+if __name__ == "__main__":
+    unittest.main()

@@ -1,0 +1,69 @@
+"""The rules of records, beside the program, which is their judge."""
+import random
+import unittest
+
+from support import Case, words_of
+
+from misteluk import records
+from misteluk.lint import read_records
+
+FROM_THE_RECORD_ALONE = {"BadCommand", "BadFields", "BadName", "BadWeight", "BadTime", "BadSlot"}
+NAMES = ["a", "", "*", "**", "~", "!", "a b", "é", '"', ",", 'a"b', "x" * 64, "x" * 65, "\x7f", "a\nb", "error", "0"]
+NUMBERS = ["0", "1", "", "-", "-0", "-1", "+1", " 1", "1 ", "1.0", "007", "1099511627776", "1099511627777", "-1099511627776",
+           "-1099511627777", "9223372036854775807", "9223372036854775808", "0" * 19, "0" * 20, "1e3", "٣", "15", "2"]
+
+
+def made(random_: random.Random) -> list:
+    """A record that is mostly right."""
+    command = random_.choice([*records.FORMATS, "I", "", "commit "]) if random_.random() < 0.9 else random_.choice(NAMES)
+    fields = [command]
+    for it in records.FORMATS.get(command, ("source",)):
+        right = random_.random() < 0.8
+        number = it in records.WEIGHT_FIELDS or it in records.TIME_FIELDS or it == "slot"
+        fields.append(("1" if number else "a") if right else random_.choice(NUMBERS if number else NAMES))
+    return fields[:-1] if random_.random() < 0.05 else fields + ["a"] if random_.random() < 0.05 else fields
+
+
+class Records(Case):
+    def judge(self, wanted: dict, script: bytes) -> None:
+        """Whether the words are those of the program, as far as a record alone can tell."""
+        told = {at: word for at, word in words_of(script).items() if word in FROM_THE_RECORD_ALONE}
+        apart = sorted(it for it in {*told, *wanted} if told.get(it) != wanted.get(it))[:3]
+        self.assertEqual([(it, told.get(it), wanted.get(it)) for it in apart], [])
+
+    def test_the_first_fault_is_the_one_that_the_program_tells(self):
+        random_ = random.Random(1)
+        all_of_them = [made(random_) for _ in range(20_000)]
+        faults = {at: records.faults_of(it) for at, it in enumerate(all_of_them, 1)}
+        self.assertGreater(len(set(it[0].word for it in faults.values() if it)), 5)
+        script = "".join(map(records.record, all_of_them)).encode()
+        self.judge({at: it[0].word for at, it in faults.items() if it}, script)
+
+    def test_records_are_parted_as_the_program_parts_them(self):
+        random_ = random.Random(2)
+        for _ in range(80):
+            script = bytes(random_.choice(b'rrr,,,,kab"" \r\n') for _ in range(random_.randrange(1, 400)))
+            script = random_.choice([b"", b"", b"\xef\xbb\xbf"]) + script
+            faults = {at: records.faults_of(it) for at, (_, it) in enumerate(read_records(script), 1)}
+            with self.subTest(script=script):
+                self.judge({at: it[0].word for at, it in faults.items() if it}, script)
+
+    def test_lines_are_counted(self):
+        script = b'r,k,a,b\n\n"r","k","a\n","b"\r\nr,k,a,b\rcommit'
+        self.assertEqual(list(read_records(script)), [
+            (1, ["r", "k", "a", "b"]), (3, ["r", "k", "a\n", "b"]), (5, ["r", "k", "a", "b"]), (6, ["commit"])])
+
+    def test_a_record_is_split_as_it_was_joined(self):
+        for fields in (["i", "a,b", 'a"b', "c", "1", "2"], ["r", '"', ",", '","'], ["commit"], ["r", "", "a", ""]):
+            self.assertEqual(records.split_record(records.record(fields)), fields)
+
+    def test_plain_lines_are_right_ones(self):
+        right = b"i,k,a,b,1,2\na,k,*,!,-999999999999,999999999999999999\n"
+        self.assertTrue(records.PLAIN_LINES.fullmatch(right))
+        for it in (b"i,*,a,b,1,2\n", b"i,k,a,b,1\n", b"i,k,a b,b,1,2\n", b"i,k,,b,1,2\n", b"i,k,a,b,1.5,2\n", b"r,k,a,b\n",
+                   b"i,k,a,b,1,-2\n", b'i,k,",b,1,2\n', b"i,k," + b"a" * 65 + b",b,1,2\n", b"i,k,a,\xc3\xa9,1,2\n"):
+            self.assertFalse(records.PLAIN_LINES.fullmatch(right + it), it)
+
+
+if __name__ == "__main__":
+    unittest.main()

@@ -1,0 +1,187 @@
+"""The archive that tools/release makes of a copy of this repository; the manual page and completions, beside what the program
+says."""
+import hashlib
+import os
+import pathlib
+import re
+import shutil
+import subprocess
+import sys
+import tarfile
+import tempfile
+import unittest
+
+from support import TOP, Case, find_program
+
+
+def run(*words, **how):
+    how = {"stdout": subprocess.PIPE, "stderr": subprocess.STDOUT, "text": True, "timeout": 60, **how}
+    return subprocess.run([str(it) for it in words], **how)
+
+
+class Pages(Case):
+    def help_pages(self, *words):
+        return run(sys.executable, TOP / "tools/help-pages", "--program", find_program(), *words)
+
+    def test_they_are_what_the_program_says(self):
+        self.assertEqual(self.help_pages("--check").stdout, "")
+
+    def test_a_page_that_differs_is_told(self):
+        self.help_pages("--to", self.room)
+        page = self.room / "man/man1/stinger.1"
+        self.assertEqual(page.read_bytes(), (TOP / "share/man/man1/stinger.1").read_bytes())
+        page.write_text(page.read_text().replace("4,096", "4,097"))
+        done = self.help_pages("--check", "--to", self.room)
+        self.assertEqual((done.returncode, done.stdout),
+                         (1, "share/man/man1/stinger.1 isn't what the program says of itself: tools/help-pages writes it\n"))
+
+    def test_the_manual_has_each_line_of_the_help(self):
+        """As roff prints it, where man is there; what is filled anew is compared without regard to ends of lines."""
+        if not shutil.which("man"):
+            self.skipTest("man is not there")
+        env = {**os.environ, "MANWIDTH": "200", "LC_ALL": "C"}
+        told = run("man", "--warnings", "-E", "ascii", "-l", TOP / "share/man/man1/stinger.1", env=env).stdout
+        plain = re.sub(r"\s+", " ", re.sub(r"-\n\s+", "-", re.sub(".\b", "", told)))
+        said = run(find_program(), "--help").stdout.split("A script is comma-separated", 1)[1]
+        missing = [it for it in said.split("\n") if re.sub(r"\s+", " ", it.strip()) not in plain]
+        self.assertEqual(missing, [])
+        self.assertNotIn("warning", told)
+
+    def complete(self, wanted: str, *words: str) -> None:
+        """What bash offers behind these words."""
+        script = (f"source {TOP}/share/bash-completion/completions/stinger; COMP_WORDS=(stinger \"$@\"); COMP_CWORD=$#; "
+                  "_stinger; echo \"${COMPREPLY[*]}\"")
+        self.assertEqual(run("bash", "-c", script, "bash", *words).stdout.strip(), wanted)
+
+    def test_completion_for_bash(self):
+        self.complete("run", "ru")
+        self.complete("--help --version", "--")
+        self.complete("--blocks", "run", "--b")
+        self.complete("16 16384 65536", "run", "--blocks", "")
+        self.complete("1 2 3 4 5 6 7 8", "run", "--seats", "4", "--workers", "")
+        self.complete("run", "help", "r")
+
+    def test_completion_for_zsh(self):
+        if not shutil.which("zsh"):
+            self.skipTest("zsh is not there")
+        self.assertEqual(run("zsh", "-n", TOP / "share/zsh/site-functions/_stinger").stdout, "")
+
+
+class Releases(Case):
+    """Over one copy of this repository without its crates, which is made as it was before each test."""
+
+    @classmethod
+    def setUpClass(cls):
+        room = tempfile.TemporaryDirectory()
+        cls.addClassCleanup(room.cleanup)
+        cls.top = pathlib.Path(room.name) / "top"
+        for it in run("git", "ls-files", "-co", "--exclude-standard", cwd=TOP).stdout.splitlines():
+            if (TOP / it).is_file() and not it.startswith("crates/"):
+                (cls.top / it).parent.mkdir(parents=True, exist_ok=True)
+                shutil.copy(TOP / it, cls.top / it)
+        run("git", "init", "-q", cwd=cls.top)
+
+    def setUp(self):
+        super().setUp()
+        if not (self.top / ".git/refs/tags/begin").exists():
+            self.git("add", "-A")
+            self.git("commit", "-qm", "a copy")
+            self.git("tag", "begin")
+        self.git("reset", "-q", "--hard", "begin")
+        self.git("clean", "-qfdx")
+
+    def git(self, *words):
+        done = run("git", "-c", "user.name=n", "-c", "user.email=e", *words, cwd=self.top)
+        self.assertEqual(done.returncode, 0, done.stdout)
+        return done.stdout.strip()
+
+    def release(self, *words):
+        return run(sys.executable, self.top / "tools/release", "--to", self.room / "made", *words)
+
+    def test_an_archive_for_trying_it_out(self):
+        done = self.release("--unproved", find_program())
+        self.assertEqual(done.returncode, 0, done.stdout)
+        archive = pathlib.Path(done.stdout.strip())
+        self.assertIn("-UNPROVED-linux-x86_64.tar.gz", archive.name)
+        self.assertEqual(run("sha256sum", "-c", f"{archive.name}.sha256", cwd=archive.parent).returncode, 0)
+        first = archive.read_bytes()
+        self.release("--unproved", find_program())
+        self.assertEqual(hashlib.sha256(first).digest(), hashlib.sha256(archive.read_bytes()).digest())
+        with tarfile.open(archive) as tar:
+            tar.extractall(self.room / "there")
+        (there,) = (self.room / "there").iterdir()
+        self.assertEqual(run("sha256sum", "--quiet", "-c", "SHA256SUMS", cwd=there).stdout, "")
+        page = (there / "PROVED.md").read_text()
+        self.assertIn("**UNPROVED.**", page)
+        self.assertIn("| toolchain | none: not proved |", page)
+        self.assertRegex(page, r"glibc 2\.\d+ or later")
+        self.assertIn(self.git("rev-parse", "HEAD"), page)
+        self.assertIn(hashlib.sha256((there / "bin/stinger").read_bytes()).hexdigest(), page)
+        with open(there / "examples/funnel.csv") as script:
+            told = run(there / "bin/stinger", "run", stdin=script).stdout
+        self.assertEqual(told, (there / "examples/funnel.expected").read_text())
+        self.from_the_archive(there)
+        for it in ("LICENSE-MIT", "LICENSE-APACHE", "share/man/man1/stinger.1", "docs/TUTORIAL.md", "python/pyproject.toml"):
+            self.assertTrue((there / it).is_file(), it)
+        self.assertFalse((there / "crates").exists())
+
+    def from_the_archive(self, there):
+        """The client of the archive finds its program by itself."""
+        env = {it: value for it, value in os.environ.items() if it != "MISTELUK_PROGRAM"} | {"PYTHONPATH": "python"}
+        told = run(sys.executable, "-c", "import misteluk; print(misteluk.find_program()); print(misteluk.Store().stat().free)",
+                   cwd=there, env=env, stderr=subprocess.DEVNULL).stdout
+        self.assertEqual(told, f"{there}/bin/stinger\n16384\n")
+
+    def refused(self, told: str, *words):
+        done = self.release(*words)
+        self.assertEqual(done.returncode, 1)
+        self.assertIn(told, done.stdout)
+        self.assertFalse((self.room / "made").exists())
+
+    def prove(self):
+        """A program in the place of the proved one, with the note that says so."""
+        out = self.top / "crates/stinger/out"
+        out.mkdir(parents=True)
+        shutil.copy(find_program(), out / "stinger")
+        code = "import sys; sys.path.insert(0, 'tools'); import programs as p; print(p.PROVED.sources(), p.digest(p.PROVED.path))"
+        (out / "stinger.made_from").write_text(run(sys.executable, "-B", "-c", code, cwd=self.top).stdout)
+
+    def test_what_is_not_proved_is_refused(self):
+        self.refused("there is no proved program of the sources as they are: ./prove makes it. (--unproved makes an archive")
+
+    def test_a_commit_whose_gate_did_not_pass_is_refused(self):
+        self.prove()
+        self.refused("the gate did not pass over this commit: ./check runs it")
+        (self.top / "out").mkdir()
+        for note in ("0" * 40 + "\nkit-1\n", self.git("rev-parse", "HEAD") + "\n"):
+            (self.top / "out/gate_passed").write_text(note)
+            self.refused("the gate did not pass over this commit: ./check runs it")
+
+    def test_the_proved_program(self):
+        self.prove()
+        (self.top / "out").mkdir()
+        (self.top / "out/gate_passed").write_text(self.git("rev-parse", "HEAD") + "\nkit-1 logic 2\n")
+        archive = self.release().stdout.strip()
+        self.assertNotIn("UNPROVED", archive)
+        with tarfile.open(archive) as tar:
+            (page,) = (tar.extractfile(it).read().decode() for it in tar if it.name.endswith("x86_64/PROVED.md"))
+        self.assertNotIn("UNPROVED", page)
+        self.assertIn("was proved to meet its contract by `kit-1 logic 2`,\nand the gate of this commit (`./check`) passed", page)
+
+    def test_a_clone_that_is_not_clean_is_refused(self):
+        (self.top / "new").write_text("")
+        self.refused("the clone isn't clean: ?? new", "--unproved", find_program())
+
+    def test_a_program_that_needs_more_is_refused(self):
+        more = next((it for it in ("/usr/bin/git", "/usr/bin/curl", "/bin/ls") if os.path.exists(it)), None)
+        self.refused("beside the C library", "--unproved", more)
+
+    def test_a_manual_of_another_program_is_refused(self):
+        page = self.top / "share/man/man1/stinger.1"
+        page.write_text(page.read_text() + ".PP\nMore.\n")
+        self.git("commit", "-qam", "another page")
+        self.refused("isn't what the program says of itself", "--unproved", find_program())
+
+
+if __name__ == "__main__":
+    unittest.main()

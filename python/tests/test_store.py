@@ -1,0 +1,217 @@
+"""A store and its sessions. Values are worked out by hand."""
+import gc
+import unittest
+import warnings
+from unittest import mock
+
+from support import Case
+
+import misteluk
+from misteluk import Commit, Degree, Edge, Stat, Store, records
+
+FUNNEL = ("insert transfer ana funnel 980 1", "insert transfer ben funnel 950 1", "insert transfer cyd funnel 990 2",
+          "insert transfer dan funnel 970 2", "insert transfer funnel offshore 3850 3")
+
+
+class Stores(Case):
+    def test_a_session_keeps_its_version(self):
+        store = self.store(*FUNNEL)
+        old = store.open()
+        store.remove("transfer", "ben", "funnel")
+        store.add("transfer", "funnel", "offshore", -940, time=4)
+        self.assertEqual(store.commit(), Commit(2, 0, 1, 1, 0, 0, 1))
+        new = store.open()
+        self.assertEqual((old.version, new.version), (1, 2))
+        self.assertEqual(old.edge("transfer", "ben", "funnel"), Edge(950, 1, 1))
+        self.assertIsNone(new.edge("transfer", "ben", "funnel"))
+        self.assertEqual(new.edge("transfer", "funnel", "offshore"), Edge(2910, 3, 4))
+        self.assertEqual(sum(it.weight for it in old.into("funnel").values()), 3890)
+        self.assertEqual(sum(it.weight for it in new.into("funnel").values()), 2940)
+
+    def test_answers(self):
+        session = self.store(*FUNNEL, "insert owns ana zed 1 9").open()
+        self.assertEqual(session.names, 7)
+        self.assertEqual(session.levels("ana"), {"ana": 0, "funnel": 1, "zed": 1, "offshore": 2})
+        self.assertEqual(session.levels("ana", "transfer", until=2), {"ana": 0, "funnel": 1})
+        self.assertEqual(set(session.components().values()), {"ana"})
+        self.assertEqual(session.components("owns")["zed"], "ana")
+        self.assertEqual(session.cores(), dict.fromkeys(("ana", "funnel", "ben", "cyd", "dan", "offshore", "zed"), 1))
+        self.assertEqual(session.degrees("transfer")["funnel"], Degree(1, 4, 3850))
+        self.assertEqual(session.degrees(since=2, until=2)["funnel"], Degree(0, 2, 0))
+        self.assertEqual(session.out_of("funnel", "transfer"), {"offshore": Edge(3850, 3, 3)})
+        self.assertEqual(list(session.into("funnel", "transfer", since=2)), ["cyd", "dan"])
+        self.assertEqual(session.edges([("transfer", "ana", "funnel"), ("transfer", "zed", "ana"), ("x", "y", "z")]),
+                         [Edge(980, 1, 1), None, None])
+        self.assertEqual(session.degrees("transfer").most(1), [("funnel", Degree(1, 4, 3850))])
+
+    def test_a_neighbor_s_edge_outside_of_the_window(self):
+        """ana has an edge within the window, and the one to bob isn't."""
+        session = self.store("insert k ana bob 1 1", "insert k ana cyd 1 5", "insert k dan bob 1 6").open()
+        self.assertEqual(session.into("bob", since=5), {"dan": Edge(1, 6, 6)})
+        self.assertEqual(session.out_of("ana", until=4), {"bob": Edge(1, 1, 1)})
+
+    def test_names_that_look_like_answers(self):
+        store = self.store("insert k error end 1 1", "insert k close stat 2 1", 'insert k a,b "q" 3 1')
+        session = store.open()
+        self.assertEqual(session.levels("error"), {"error": 0, "end": 1})
+        self.assertEqual(session.components(), {"error": "error", "end": "error", "close": "close", "stat": "close",
+                                                "a,b": "a,b", '"q"': "a,b"})
+        self.assertEqual(session.edge("k", "a,b", '"q"'), Edge(3, 1, 1))
+        self.assertEqual(store.stat(), Stat(1, 6, 3, 16381, 0, 3))
+
+    def test_a_table_has_the_names_of_its_version(self):
+        store = self.store("insert k a b 1 1")
+        session = store.open()
+        self.feed(store, "insert k c d 1 1")
+        self.assertEqual(list(session.degrees()), ["a", "b"])
+        self.assertEqual(session.edge("k", "a", "b"), Edge(1, 1, 1))
+
+    def test_an_empty_store(self):
+        session = self.store().open()
+        self.assertEqual((session.degrees(), session.components(), session.cores()), ({}, {}, {}))
+
+    def test_batches_are_cut(self):
+        store = self.store()
+        for at in range(5_000):
+            store.insert("k", f"s{at % 100}", f"t{at}")
+        self.assertEqual(store.commit(), Commit(2, 5000, 0, 0, 0, 0, 2))
+        self.assertEqual(store.commit(), Commit(3, 0, 0, 0, 0, 0, 1))
+
+    def test_outcomes_are_counted(self):
+        store = self.store("insert k a b 1099511627776 1")
+        for it in (lambda: store.add("k", "a", "b", 1), lambda: store.remove("k", "b", "a"), lambda: store.remove("k", "a", "b")):
+            it()
+        self.assertEqual(store.commit(), Commit(2, 0, 0, 1, 1, 1, 1))
+
+    def test_a_refused_batch_stays_pending(self):
+        store = self.store(*(f"insert k s{it} t 1 1" for it in range(10)), blocks=16)
+        session = store.open()
+        for it in range(7):
+            store.add("k", f"s{it}", "t")
+        with self.assertRaises(misteluk.PoolEmpty) as told:
+            store.commit()
+        self.assertEqual((told.exception.needed, told.exception.free, store.pending), (7, 6, 7))
+        session.close()
+        self.assertEqual(store.commit(batch=6, collect=True), Commit(3, 0, 7, 0, 0, 0, 2))
+        self.assertEqual(store.stat().used, 10)
+
+    def test_batches_behind_a_refused_one_are_not_sent(self):
+        store = self.store(blocks=16)
+        for it in range(40):
+            store.insert("k", f"s{it}", "t")
+        with self.assertRaises(misteluk.PoolEmpty) as told:
+            store.commit(batch=10)
+        self.assertEqual((store.stat().version, store.pending), (1, 30))
+        self.assertEqual(told.exception.applied, Commit(1, 10, 0, 0, 0, 0, 1))
+
+    def test_collect(self):
+        store = self.store("insert k a b 1 1")
+        self.feed(store, "insert k a b 2 1")
+        self.assertEqual(store.stat().retired, 1)
+        store.collect()
+        self.assertEqual(store.stat().retired, 0)
+
+    def refused(self, word: type, told: str, call) -> None:
+        with self.assertRaises(word) as fault:
+            call()
+        self.assertIn(told, str(fault.exception))
+
+    def test_wrong_operations_are_told_at_once(self):
+        store = self.store()
+        self.refused(misteluk.BadName, "source 'a b': a name has printable ASCII signs alone, from ! to ~, and this has a space",
+                     lambda: store.insert("k", "a b", "c"))
+        self.refused(misteluk.BadName, "a kind is not *", lambda: store.insert("*", "a", "c"))
+        self.refused(misteluk.BadWeight, "amount '1099511627777': a weight is from",
+                     lambda: store.add("k", "a", "b", 1 << 40 | 1))
+        self.refused(misteluk.BadTime, "time '-1'", lambda: store.insert("k", "a", "b", 1, -1))
+        self.refused(misteluk.BadWeight, "weight '5.0'", lambda: store.insert("k", "a", "b", 5.0))
+        self.refused(TypeError, "a kind and a name are texts, and not 7", lambda: store.insert("k", "a", 7))
+        self.assertEqual((store.pending, store.records_sent), (0, 1))
+
+    def test_operations_at_the_limits(self):
+        store = self.store()
+        for it in ((1 << 40, (1 << 63) - 1), (-(1 << 40), 0), (-0, 10 ** 18)):
+            store.insert("k", "x" * 64, '",*' * 21, *it)
+        store.insert("**", "*", "!", 999_999_999_999, 999_999_999_999_999_999)
+        store.remove("k", "a,b", "c")
+        self.assertEqual(store.commit(), Commit(1, 2, 2, 0, 1, 0, 1))
+        edges = store.open().edges([("k", "x" * 64, '",*' * 21), ("**", "*", "!")])
+        late = 999_999_999_999_999_999
+        self.assertEqual(edges, [Edge(0, (1 << 63) - 1, 10 ** 18), Edge(999_999_999_999, late, late)])
+
+    def test_refused_requests(self):
+        store = self.store("insert k a b 1 1")
+        session = store.open()
+        self.refused(misteluk.NoVertex, "NoVertex (record 6): edge,0,k,a,z", lambda: session.edge("k", "a", "z"))
+        self.refused(misteluk.NoKind, "no edge of this kind", lambda: session.degrees("other"))
+        self.refused(misteluk.BadWindow, "bfs,0,a,*,3,2", lambda: session.levels("a", since=3, until=2))
+        self.refused(misteluk.BadName, "source ''", lambda: session.levels(""))
+        self.refused(misteluk.BadName, "source 'a\\nb'", lambda: session.edge("k", "a\nb", "c"))
+        self.refused(misteluk.BadName, "target 'é'", lambda: session.edges([("k", "a", "é")]))
+        self.refused(misteluk.BadSlot, "the slots are 0 to 1", lambda: store.open(2))
+        self.refused(misteluk.AlreadyOpen, "open,0", lambda: store.open(0))
+        self.refused(LookupError, "", lambda: session.into("z", "k"))
+        self.refused(ValueError, "say which kind", lambda: self.store("insert k a b 1 1", "insert l a b 1 1").open().into("a"))
+        self.assertEqual(session.degrees()["a"], Degree(1, 0, 1))
+
+    def test_seats(self):
+        store = self.store(seats=1)
+        with store.open() as session:
+            self.refused(misteluk.NoSeat, "all 1 seats hold sessions", store.open)
+        self.refused(misteluk.SessionClosed, "the session of version 0 is closed", session.degrees)
+        session.close()
+        store.open().close()
+
+    def test_arguments(self):
+        for wrong in ({"blocks": 15}, {"blocks": 65_537}, {"seats": 17}, {"workers": 0}, {"timeout": 0}):
+            with self.assertRaises(ValueError):
+                Store(**wrong)
+        self.assertEqual(self.store("insert k a b 1 1", blocks=16, seats=16, workers=8).open(15).version, 1)
+
+    def test_nothing_is_lost_unsaid(self):
+        with self.assertRaises(misteluk.Uncommitted) as told:
+            with Store() as store:
+                store.insert("k", "a", "b")
+        self.assertEqual(told.exception.operations, ["i,k,a,b,1,0\n"])
+        with self.assertWarnsRegex(UserWarning, "1 operations were pending"), self.assertRaises(KeyError):
+            with Store() as store:
+                store.insert("k", "a", "b")
+                raise KeyError
+        with Store() as store:
+            store.insert("k", "a", "b")
+            self.assertEqual(store.discard(), 1)
+        self.refused(misteluk.StoreError, "the store is closed", store.stat)
+
+    def test_a_store_that_is_forgotten_ends_its_program(self):
+        store = Store()
+        process = store._talk.process
+        with warnings.catch_warnings(record=True) as told:
+            warnings.simplefilter("always")
+            del store
+            gc.collect()
+        self.assertIn("without close()", str(told[0].message))
+        self.assertIsNotNone(process.poll())
+
+    def test_a_run_takes_so_many_records(self):
+        with mock.patch.object(records, "MOST_RECORDS", 10):
+            store = self.store("insert k a b 1 1")
+            for it in range(6):
+                store.insert("k", "a", f"b{it}")
+            store.commit()
+            self.refused(misteluk.RecordLimit, "this one had 10, and 1 more were to be sent", store.stat)
+
+    def test_operations_that_only_the_program_refuses(self):
+        store = self.store()
+        with mock.patch.object(records, "faults_of", lambda *_: []):
+            for it in ("a", "a b", "c"):
+                store.insert("k", it, "t")
+        with self.assertRaises(misteluk.OperationsRefused) as told:
+            store.commit()
+        self.assertEqual((told.exception.version, len(told.exception.refused)), (1, 1))
+        self.assertIn("BadName (record 3): i,k,a b,t,1,0", str(told.exception))
+        self.assertEqual(store.pending, 0)
+        self.assertEqual(list(store.open().degrees()), ["a", "t", "c"])
+
+
+if __name__ == "__main__":
+    unittest.main()

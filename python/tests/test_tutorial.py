@@ -1,0 +1,178 @@
+"""Runs each command of docs/TUTORIAL.md, docs/PYTHON.md and README's part for Python, and compares what it prints; and works out
+the stories' figures once more, by plain loops over their files."""
+import contextlib
+import csv
+import datetime
+import doctest
+import io
+import os
+import pathlib
+import re
+import subprocess
+import sys
+import tempfile
+import unittest
+from collections import Counter, defaultdict
+
+from support import HERE, TOP, Case, find_program, optional
+
+TUTORIAL = TOP / "docs/TUTORIAL.md"
+
+
+def commands(text):
+    """Each command `$ ..` of an indented block, and the lines that it is to print."""
+    for block in re.findall(r"(?m)(?:^    .*\n|^\n(?=    \S))+", text):
+        parts = re.split(r"(?m)^    \$ ", block)[1:]
+        for it in parts:
+            command, _, lines = it.partition("\n")
+            yield command, re.sub(r"(?m)^    ", "", lines).strip("\n")
+
+
+def is_like(told, wanted):
+    """Whether the lines are the wanted ones, where `...` stands for any."""
+    return re.fullmatch(".*".join(map(re.escape, wanted.split("..."))), told, re.S) is not None
+
+
+class Documents(Case):
+    def setUp(self):
+        super().setUp()
+        for it in ("examples", "python", "docs", "stinger"):
+            (self.room / it).symlink_to(TOP / it)
+        (self.room / "bin").mkdir()
+        (self.room / "bin/python3").symlink_to(sys.executable)
+        self.env = {**os.environ, "PATH": f"{self.room}/bin:{os.environ['PATH']}", "PYTHONPATH": str(HERE.parent),
+                    "MISTELUK_PROGRAM": find_program()}
+
+    def run_commands(self, path) -> int:
+        count = 0
+        for command, wanted in commands(path.read_text()):
+            if " picture " in command and not optional("matplotlib") or "misteluk" not in command:
+                continue
+            run = subprocess.run(command, shell=True, cwd=self.room, env=self.env, stdout=subprocess.PIPE,
+                                 stderr=subprocess.STDOUT, text=True, timeout=60)
+            told = run.stdout.strip("\n")
+            self.assertTrue(is_like(told, wanted), f"\n$ {command}\nprinted\n{told}\nand not\n{wanted}")
+            count += 1
+        return count
+
+    def test_the_tutorial_s_commands(self):
+        self.assertGreater(self.run_commands(TUTORIAL), 5 if optional("matplotlib") else 3)
+
+    def conversations(self, path) -> int:
+        """Runs what stands behind >>>, and returns how many such lines there were."""
+        here = os.getcwd()
+        os.chdir(self.room)
+        self.addCleanup(os.chdir, here)
+        told = io.StringIO()
+        with contextlib.redirect_stdout(told):
+            failed, tried = doctest.testfile(str(path), module_relative=False,
+                                             optionflags=doctest.ELLIPSIS | doctest.IGNORE_EXCEPTION_DETAIL)
+        self.assertEqual(failed, 0, told.getvalue())
+        return tried
+
+    def test_the_conversations(self):
+        self.assertGreater(self.conversations(TUTORIAL), 25)
+        self.assertGreater(self.conversations(TOP / "README.md"), 1)
+        self.assertGreater(self.conversations(TOP / "docs/PYTHON.md"), 5)
+
+    def test_the_commands_of_other_pages(self):
+        self.assertGreater(self.run_commands(TOP / "docs/PYTHON.md"), 0)
+
+    def test_a_line_that_differs_is_found(self):
+        page = pathlib.Path(self.file("page.md", "\n    $ echo misteluk; echo two\n    misteluk\n    three\n"))
+        self.assertRaises(AssertionError, self.run_commands, page)
+        page.write_text("\n    $ echo misteluk 17 times\n    misteluk ... times\n")
+        self.assertEqual(self.run_commands(page), 1)
+        page.write_text("\n    >>> 1 + 1\n    3\n")
+        self.assertRaises(AssertionError, self.conversations, page)
+
+
+def read(name):
+    with open(TOP / "examples/stories" / name) as file:
+        return list(csv.DictReader(file))
+
+
+def reached(edges, source):
+    """The least number of edges on a walk from the source, by going from each front to the next."""
+    levels, front = {source: 0}, {source}
+    while front:
+        front = {b for a, b in edges if a in front} - set(levels)
+        levels.update(dict.fromkeys(front, max(levels.values()) + 1))
+    return levels
+
+
+class Figures(unittest.TestCase):
+    """What the tutorial tells, worked out from its files without the store."""
+
+    text = TUTORIAL.read_text()
+
+    def told(self, *lines):
+        self.assertEqual([it for it in lines if it not in self.text], [])
+
+    def test_fraud(self):
+        came, went, senders = Counter(), Counter(), defaultdict(set)
+        for row in read("transfers.csv"):
+            cents = int(row["amount"].replace(".", ""))
+            came[row["to"]] += cents
+            went[row["from"]] += cents
+            senders[row["to"]].add(row["from"])
+        for it in (it for it in senders if len(senders[it]) >= 3):
+            self.told(f"{it}: {len(senders[it])} senders, {came[it]} in, {went[it]} out, {went[it] / came[it]:.0%}")
+        self.told(f"version 1: {came['funnel']} in, {went['funnel']} out")
+        self.told(f"version 2: {came['funnel'] - 95_000} in, {went['funnel'] - 94_000} out")
+
+    def test_network(self):
+        rows = read("debian.csv")
+        names = {it[end] for it in rows for end in ("package", "needs")}
+        levels = Counter(reached([(it["package"], it["needs"]) for it in rows if it["kind"] == "depends"], "apt").values())
+        self.told(f"{len(rows)} rows, {len(names)} names, 2 kinds, {len(rows)} edges")
+        self.told(f"levels from apt: {sum(levels.values())} reached, the farthest at {max(levels)}",
+                  "\n".join(f"      {level}: {count}" for level, count in sorted(levels.items())))
+        late = [(it["package"], it["needs"]) for it in rows if int(it["uploaded"]) >= 20250101]
+        parts, left = [], set(names)
+        while left:
+            parts.append(set(reached(late + [(b, a) for a, b in late], min(left))))
+            left -= parts[-1]
+        self.told(f"components: {len(parts)} of {len(names)} names\n      adduser {max(map(len, parts))}")
+        needed = Counter(it["needs"] for it in rows)
+        self.told(f"({needed.most_common(1)[0][0]!r}, {max(needed.values())})")
+        self.assertEqual(round(5 * max(needed.values()) / len(names)), 4)
+
+    def test_the_greatest_core(self):
+        """The 5-core, by taking away what has fewer than 5 neighbors; and that no 6-core is left."""
+        beside = defaultdict(set)
+        for it in read("debian.csv"):
+            beside[it["package"]].add(it["needs"])
+            beside[it["needs"]].add(it["package"])
+        for least in (5, 6):
+            core = set(beside)
+            while True:
+                weak = {it for it in core if len(beside[it] & core) < least}
+                core -= weak
+                if not weak:
+                    break
+            self.assertEqual(bool(core), least == 5)
+            self.assertTrue(least == 6 or {"passwd", "libapt-pkg6.0", "libc6", "libsystemd0", "libselinux1"} <= core)
+
+    def test_logistics(self):
+        rows = [(datetime.date.fromisoformat(it["day"]), it["from"], it["to"], int(it["pallets"]))
+                for it in read("shipments.csv")]
+        for week in range(10, 22):
+            now = max(day for day, *_ in rows if day.isocalendar()[1] == week)
+            lanes = {(a, b) for day, a, b, _ in rows if now - datetime.timedelta(13) <= day <= now}
+            legs = reached(lanes, "hamburg")["munich"]
+            self.told(f"week {week}, version {week - 9}: {len(lanes)} lanes, {legs} legs from hamburg to munich")
+        left = Counter()
+        for day, source, _, pallets in rows:
+            left[source] += pallets * (day.isocalendar()[1] > 15)
+        self.told(*(f"    {it} {count}\n" for it, count in left.items()))
+        self.assertEqual(self.text.count("    kassel 0\n"), 1)
+        self.assertEqual(rows[139][0], datetime.date(2024, 4, 15))
+
+    def test_the_made_data_are_what_their_script_makes(self):
+        made = subprocess.run([sys.executable, TOP / "examples/stories/shipments.py"], stdout=subprocess.PIPE, text=True).stdout
+        self.assertEqual(made, (TOP / "examples/stories/shipments.csv").read_text())
+
+
+if __name__ == "__main__":
+    unittest.main()
