@@ -1,5 +1,6 @@
 #!/usr/bin/env python3
-"""Talks to `stinger run` through pipes, as docs/PIPES.md says: pipes.py PROGRAM [ARGUMENT..], else ./stinger of this repository."""
+"""Talks to `stinger run` through pipes, as docs/PIPES.md says: pipes.py PROGRAM [ARGUMENT..], else ./stinger of this
+repository."""
 import pathlib
 import subprocess
 import sys
