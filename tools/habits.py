@@ -1,0 +1,126 @@
+#!/usr/bin/env python3
+"""Checks the habits of this repository that a machine can keep, and tells each place that departs from one.
+
+- A line of a page or a script has at most 130 characters; a row of a table and an indented line, as what is typed, may be
+  longer. (`rt fmt` lays code out.)
+- A link of a page leads to a file of the repository, and to a heading of it where it names one.
+- Each crate of crates.txt is named in docs/ARCHITECTURE.md, and stands on crates that crates.txt lists or the kit has.
+- A wrong body names a file of its crate, and has pairs of an old line, which stands in that file once, and a new one.
+- A commit's subject has at most 72 characters.
+
+Its last line is 'N passed, M failed'.
+"""
+import pathlib
+import re
+import subprocess
+import sys
+
+TOP = pathlib.Path(__file__).resolve().parent.parent
+WIDTH = 130
+SUBJECT = 72
+# Subjects of before this one were written without the rule.
+SINCE = "cf1127e"
+PAGES = {".md", ".py", ".rs", ""}
+LINK = re.compile(r"(?<!!)\[[^\]]*\]\(([^)\s]+)\)")
+
+
+def git(*words):
+    return subprocess.run(["git", *words], cwd=TOP, capture_output=True, text=True, check=True).stdout.splitlines()
+
+
+def files():
+    """Returns the pages, scripts and wrong bodies that git knows, without licences and what `tools/help-pages` writes."""
+    names = [it for it in git("ls-files") if not it.startswith(("LICENSE", "share/"))]
+    known = (TOP / it for it in names)
+    return [it for it in known if it.is_file() and it.suffix in PAGES | {".edit"}]
+
+
+def wide_lines(path):
+    for number, line in enumerate(path.read_text(encoding="utf-8").splitlines(), 1):
+        is_as_it_is = path.suffix == ".md" and line.startswith(("|", "    "))
+        if len(line) > WIDTH and not is_as_it_is:
+            yield f"{path.relative_to(TOP)}:{number}: {len(line)} characters"
+
+
+def anchors(page):
+    """Returns the anchors of a page's headings, as they are made where pages are shown."""
+    heads = re.findall(r"^#+ (.*)$", page.read_text(encoding="utf-8"), re.M)
+    plain = (re.sub(r"[^\w\- ]", "", re.sub(r"[`*]", "", head).lower()) for head in heads)
+    return {it.strip().replace(" ", "-") for it in plain}
+
+
+def dead_links(page):
+    for target in LINK.findall(page.read_text(encoding="utf-8")):
+        if "://" in target:
+            continue
+        name, _, anchor = target.partition("#")
+        to = (page.parent / name).resolve() if name else page
+        if not to.exists():
+            yield f"{page.relative_to(TOP)}: no {target}"
+        elif anchor and to.suffix == ".md" and anchor not in anchors(to):
+            yield f"{page.relative_to(TOP)}: no heading for {target}"
+
+
+def crates():
+    rows = (line.partition("#")[0] for line in (TOP / "crates.txt").read_text().splitlines())
+    return [row.partition(":")[0].split()[0] for row in rows if row.strip()]
+
+
+def unnamed_crates():
+    page = (TOP / "docs/ARCHITECTURE.md").read_text(encoding="utf-8")
+    listed = crates()
+    for name in listed:
+        if f"`{name}`" not in page:
+            yield f"docs/ARCHITECTURE.md doesn't name {name}"
+    for folder in sorted((TOP / "crates").iterdir()):
+        if folder.name not in listed and any(folder.glob("src/*.rt")):
+            yield f"crates.txt doesn't list {folder.name}"
+
+
+def lost_edits(path):
+    """An edit of text that its file no longer has, or has twice, tries nothing."""
+    name = path.relative_to(TOP)
+    head, *pairs = path.read_text(encoding="utf-8").splitlines()
+    source = TOP / "crates" / name.parts[1] / head.removeprefix("file: ")
+    if not head.startswith("file: ") or not source.is_file():
+        yield f"{name}: no file that it names"
+        return
+    text = source.read_text(encoding="utf-8")
+    olds = [line[5:] for line in pairs if line.startswith("old:")]
+    news = [line[5:] for line in pairs if line.startswith("new:")]
+    if not olds or len(olds) != len(news):
+        yield f"{name}: {len(olds)} old lines and {len(news)} new ones"
+    for old, new in zip(olds, news):
+        if text.count(old) != 1:
+            yield f"{name}: its old line stands {text.count(old)} times in {head.removeprefix('file: ')}"
+        text = text.replace(old, new)
+
+
+def long_subjects():
+    is_known = subprocess.run(["git", "cat-file", "-e", SINCE], cwd=TOP, capture_output=True).returncode == 0
+    for subject in git("log", "--format=%s", *([f"{SINCE}.."] if is_known else ["-1"])):
+        if len(subject) > SUBJECT:
+            yield f"a commit's subject has {len(subject)} characters: {subject}"
+
+
+def main():
+    known = files()
+    pages = [it for it in known if it.suffix == ".md"]
+    edits = [it for it in known if it.suffix == ".edit"]
+    habits = {
+        "width of lines": [it for path in known if path.suffix in PAGES for it in wide_lines(path)],
+        "links": [it for page in pages for it in dead_links(page)],
+        "crates": list(unnamed_crates()),
+        "wrong bodies": [it for path in edits for it in lost_edits(path)],
+        "subjects": list(long_subjects()),
+    }
+    for habit, places in habits.items():
+        for place in places:
+            print(f"{habit}: {place}")
+    failed = sum(bool(places) for places in habits.values())
+    print(f"{len(habits) - failed} passed, {failed} failed")
+    return 1 if failed else 0
+
+
+if __name__ == "__main__":
+    sys.exit(main())
