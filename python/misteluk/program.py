@@ -80,7 +80,7 @@ class Conversation:
         self._unsent = bytearray()
         self._lines: Deque[str] = deque()
         self._rest = ""
-        self._said = b""
+        self._said = self._half_line = b""
         self._open = {self._out, self._err}
         self._poll = select.poll()
         for it in self._open:
@@ -160,9 +160,9 @@ class Conversation:
             return True
         if not data:
             self._open.discard(file)
-        elif file == self._err:
+        if file == self._err:
             self._hear(data)
-        else:
+        elif data:
             *whole, self._rest = (self._rest + data.decode("ascii", "replace")).split("\n")
             self._lines.extend(whole)
             self._sort()
@@ -170,9 +170,10 @@ class Conversation:
 
     def _hear(self, data: bytes) -> None:
         """Passes on what the program says on standard error, as that it is compiled first, or isn't proved; each line once, since
-        every store's program says it."""
+        every store's program says it, and when it is whole, which the last one is at the end."""
         self._said = (self._said + data)[-4_000:]
-        for line in data.decode(errors="replace").splitlines():
+        *whole, self._half_line = (self._half_line + (data or b"\n")).split(b"\n")
+        for line in (it.decode(errors="replace") for it in whole if it):
             if line not in _HEARD:
                 _HEARD.add(line)
                 print(line, file=sys.stderr, flush=True)

@@ -222,7 +222,7 @@ class Store:
         return Stat(*numbers(self._ask(("stat",)).head or "", "stat", 6))
 
     def collect(self) -> Collected:
-        """Frees blocks that only versions before the floor have: the oldest version that is held, or else the last one."""
+        """Frees each replaced block that no open session's version has."""
         return Collected(*numbers(self._ask(("collect",)).head or "", "collect", 3))
 
     def open(self, slot: Optional[int] = None) -> "Session":
