@@ -3,6 +3,7 @@
 
 - A line of a page or a script has at most 130 characters; a row of a table and an indented line, as what is typed, may be
   longer. (`rt fmt` lays code out.)
+- A sentence of README.md, CONTRIBUTING.md and docs/ has at most 30 words. A span of code is one word, a link's target none.
 - A link of a page leads to a file of the repository, and to a heading of it where it names one.
 - Each crate of crates.txt is named in docs/ARCHITECTURE.md, and stands on crates that crates.txt lists or the kit has.
 - A wrong body names a file of its crate, and has pairs of an old line, which stands in that file once, and a new one.
@@ -18,6 +19,7 @@ import sys
 TOP = pathlib.Path(__file__).resolve().parent.parent
 WIDTH = 130
 SUBJECT = 72
+SENTENCE = 30
 # Subjects of before this one were written without the rule.
 SINCE = "cf1127e"
 PAGES = {".md", ".py", ".rs", ""}
@@ -40,6 +42,26 @@ def wide_lines(path):
         is_as_it_is = path.suffix == ".md" and line.startswith(("|", "    "))
         if len(line) > WIDTH and not is_as_it_is:
             yield f"{path.relative_to(TOP)}:{number}: {len(line)} characters"
+
+
+def sentences(page):
+    """Yields a page's sentences, but for those of tables, headings and what is typed; a span of code stands as one word."""
+    lines = []
+    for line in page.read_text(encoding="utf-8").splitlines():
+        is_apart = line.startswith(("|", "#", "    "))
+        # What begins an item of a list begins a sentence.
+        lines.append("" if is_apart else re.sub(r"^\s*(?:[-*]|\d+\.) ", "\n", line.removeprefix("> ")))
+    for part in "\n".join(lines).split("\n\n"):
+        plain = re.sub(r"`[^`]*`", "CODE", re.sub(r"\]\([^)]*\)", "]", " ".join(part.split())))
+        # A full stop ends one, but not two as between `a` .. `b`, nor one before a small letter.
+        yield from re.split(r"(?<=[^.][.?!])[)*\"]*\s+(?=[^a-z])", plain)
+
+
+def long_sentences(page):
+    for sentence in sentences(page):
+        words = [it for it in sentence.split() if re.search(r"\w", it)]
+        if len(words) > SENTENCE:
+            yield f"{page.relative_to(TOP)}: {len(words)} words: {' '.join(words[:12])} .."
 
 
 def anchors(page):
@@ -106,9 +128,11 @@ def long_subjects():
 def main():
     known = files()
     pages = [it for it in known if it.suffix == ".md"]
+    told = [it for it in pages if it.parent == TOP / "docs" or it.name in ("README.md", "CONTRIBUTING.md") and it.parent == TOP]
     edits = [it for it in known if it.suffix == ".edit"]
     habits = {
         "width of lines": [it for path in known if path.suffix in PAGES for it in wide_lines(path)],
+        "length of sentences": [it for page in told for it in long_sentences(page)],
         "links": [it for page in pages for it in dead_links(page)],
         "crates": list(unnamed_crates()),
         "wrong bodies": [it for path in edits for it in lost_edits(path)],
