@@ -44,8 +44,8 @@ class Programs(Case):
     def test_what_the_program_says_is_passed_on_once(self):
         with redirect_stderr(io.StringIO()) as told:
             for _ in range(2):
-                in_parts = "[(os.write(2, it), time.sleep(0.05)) for it in (b'not ', b'proved', b' here', b'\\n', b'at', b' all')]"
-                self.fault(misteluk.ProgramEnded, "it said: not proved here\nat all", SAID + in_parts)
+                in_parts = "for it in b'not proved', b' here', b'\\n', b'at', b' all': os.write(2, it); time.sleep(0.05)"
+                self.fault(misteluk.ProgramEnded, "it said: not proved here\nat all", f"{SAID}\n{in_parts}")
         self.assertEqual(told.getvalue(), "not proved here\nat all\n")
 
     def test_an_end_by_a_signal(self):
