@@ -5,7 +5,7 @@ use Rattle.std.specs.List.{insert}
 use Rattle.std.proofs.lemmas.Bool.{cases_lt}
 use Rattle.std.proofs.lemmas.Bool.Decides.{leb_tells}
 use Rattle.std.proofs.lemmas.List.Edits.{length-insert, get_or-insert_below, get_or-insert_at, get_or-insert_above}
-use Rattle.vertex_names.specs.Order.{IsRising, last_place}
+use Rattle.vertex_names.specs.Order.{IsRising, last_place, Bounds}
 use lib.Dec.{leb}
 
 pub rising-tail : (x : ℕ) (ns : List ℕ) → IsRising (x ∷ ns) → IsRising ns
@@ -59,6 +59,25 @@ place_down (x ∷ y ∷ ns) n (suc m) lt above = elim (leb_tells y n) [
       let l = place_down (y ∷ ns) n m (omega arith) above in omega (arith, e, l)
   | inr high ↦ let e = place-no x y ns n high.0 in omega (arith, e)
 ]
+
+-- a number between bounds of the place narrows them
+pub bounds-all : (ns : List ℕ) (n high : ℕ) → high ≡ length ns → Bounds ns n 0 high
+bounds-all ns n high is =
+    let w = place_within ns n in record { from = omega arith; before = omega (arith, w, is); order = omega arith }
+
+pub bounds-up : (ns : List ℕ) (n low high m : ℕ) → IsRising ns → Bounds ns n low high → high ≤ length ns → m < high
+    → get_or ns m 0 ≤ n → Bounds ns n m high
+bounds-up ns n low high m rising bounds within less le =
+    let up = place_up ns n m rising (omega (arith, within, less)) le in
+    record { from = up; before = bounds.before; order = omega (arith, less) }
+
+pub bounds-down : (ns : List ℕ) (n low high m : ℕ) → Bounds ns n low high → high ≤ length ns → low < m → m < high
+    → n < get_or ns m 0 → Bounds ns n low m
+bounds-down ns n low high m bounds within more less above =
+    let is : suc (m - 1) ≡ m = omega (arith, more) in
+    let there = ap (λ k. get_or ns k 0) is in
+    let down = place_down ns n (m - 1) (omega (arith, is, within, less)) (omega (arith, there, above)) in
+    record { from = bounds.from; before = down; order = omega (arith, more) }
 
 -- numbers behind the place are above n
 pub above_place : (ns : List ℕ) (n m : ℕ) → IsRising ns → m < length ns → last_place ns n < m → n < get_or ns m 0

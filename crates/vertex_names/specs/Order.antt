@@ -1,5 +1,5 @@
 -- Pairs in the order of their firsts, and what stands at a hash among them.
-use Rattle.std.specs.Prelude.{◌≡◌, ◌<◌, ◌≤◌, ℕ, suc, List, [], ◌∷◌, length, get_or, nat_eq, map, if◌then◌else◌}
+use Rattle.std.specs.Prelude.{◌≡◌, ◌<◌, ◌≤◌, ◌-◌, ℕ, suc, List, [], ◌∷◌, length, get_or, nat_eq, map, if◌then◌else◌}
 use Rattle.std.specs.Map.{lookup}
 use Rattle.std.specs.declared.option.Option.{Option}
 use lib.Dec.{leb}
@@ -15,6 +15,12 @@ abbrev pub last_place : List ℕ → ℕ → ℕ
 last_place [] n = 0
 last_place (x ∷ []) n = 0
 last_place (x ∷ y ∷ rest) n = if leb y n then suc (last_place (y ∷ rest) n) else 0
+
+-- bounds of that place: it is at the first or behind it, and before the second, where there is any
+pub record Bounds (ns : List ℕ) (n low high : ℕ) : Type 0 where
+  pub from : low ≤ last_place ns n
+  pub before : last_place ns n ≤ high - 1
+  pub order : low ≤ high
 
 -- the pairs' firsts: the one at a place is the hash
 pub record IsAt (entries : List (ℕ × ℕ)) (hash place : ℕ) : Type 0 where

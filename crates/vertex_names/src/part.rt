@@ -3,7 +3,7 @@ ghost use Rattle.std.specs.Map.{lookup};
 ghost use Rattle.vertex_names.specs.Order.{firsts, last_place, IsRising, found_in};
 ghost use Rattle.vertex_names.specs.Pieces.{pieces_of, entries_of};
 
-use crate::piece::{Piece, last_at};
+use crate::piece::{Piece, guess, last_at};
 use std::alloc::{AllocError, Global};
 use std::marker::Model;
 use std::sync::Arc;
@@ -54,7 +54,7 @@ impl Part {
     pub(crate) fn first(&self, hash: u64) -> Option<u32>
         ensures { result ≡ found_in self.now hash }
     {
-        let place = last_at(&self.pieces, hash);
+        let place = last_at(&self.pieces, hash, guess(hash, self.pieces.len() as u64), 1);
         self.pieces.get(place)?.1.first(hash)
     }
 
@@ -64,9 +64,9 @@ impl Part {
         ensures unchanged { OnErr result ((q : ℕ) → found_in self.new q ≡ found_in self.old q) }
     {
         make_piece(alloc, &mut self.pieces)?;
-        let place = last_at(&self.pieces, hash);
+        let place = last_at(&self.pieces, hash, guess(hash, self.pieces.len() as u64), 1);
         make_room(alloc, &mut self.pieces, place)?;
-        put_at(&mut self.pieces, hash, number)
+        put_at(&mut self.pieces, place, hash, number)
     }
 }
 
@@ -103,7 +103,7 @@ fn make_room(
         return Ok(());
     }
     let middle = piece.hash(half);
-    if middle <= *lowest || last_at(pieces, middle) != place {
+    if middle <= *lowest || last_at(pieces, middle, place, 1) != place {
         return Ok(());
     }
     let lower = Arc::new(alloc, piece.before(alloc, half)?)?;
@@ -114,7 +114,12 @@ fn make_room(
 }
 
 /// Puts a number at a hash in its piece, into a copy of the piece where others have it.
-fn put_at(pieces: &mut Vec<(u64, Arc<Piece>)>, hash: u64, number: u32) -> Result<(), AllocError>
+fn put_at(
+    pieces: &mut Vec<(u64, Arc<Piece>)>,
+    guess: usize,
+    hash: u64,
+    number: u32,
+) -> Result<(), AllocError>
     requires some { 0 < length pieces.old.items }
     requires rising { IsRising (firsts pieces.old.items) }
     ensures rising { IsRising (firsts pieces.new.items) }
@@ -123,7 +128,7 @@ fn put_at(pieces: &mut Vec<(u64, Arc<Piece>)>, hash: u64, number: u32) -> Result
     ensures unchanged { OnErr result ((q : ℕ) → found_in (pieces_of pieces.new.items) q
         ≡ found_in (pieces_of pieces.old.items) q) }
 {
-    let place = last_at(pieces, hash);
+    let place = last_at(pieces, hash, guess, 1);
     put_in(&mut pieces[place].1, hash, number)
 }
 

@@ -178,7 +178,8 @@ impl Texts {
     {
         match self.name(number) {
             None => false,
-            Some(known) => known == name,
+            // (as bytes, since texts are compared by words that are read byte by byte, each with its checks)
+            Some(known) => known.as_bytes() == name.as_bytes(),
         }
     }
 

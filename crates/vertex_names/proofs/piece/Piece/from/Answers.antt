@@ -4,14 +4,14 @@ use Rattle.vertex_names.proofs.piece.Piece.from.Goals as goal
 
 pub invariant_of-result : goal.invariant_of-result
 invariant_of-result c =
-    rw (c.in_ok-from_slice.ensures.items, c.deref.ensures.value, take_rest c.self.inside.entries.items c.args.place)
+    rw (c.in_ok-entries.ensures, c.deref.ensures.value, take_rest c.self.inside.entries.items c.args.place)
     (rising-drop c.self.inside.entries.items c.args.place c.self.invariant)
 
 pub returns : goal.returns
 returns c =
     let lt : c.args.place < length c.self.inside.entries.items = rw c.self.view_is c.requires in
     rw (
-      c.in_ok-from_slice.ensures.items,
+      c.in_ok-entries.ensures,
       c.deref.ensures.value,
       take_rest c.self.inside.entries.items c.args.place,
       ← c.self.view_is,

@@ -10,7 +10,7 @@ invariant_of-self c =
 pub invariant_of-self-in-Err : goal.invariant_of-self-in-Err
 invariant_of-self-in-Err c =
     let gap : IsGap c.self.inside.entries.items c.args.hash c.in-Err.place = rw c.self.view_is c.in-Err.ensures.absent in
-    rw c.in_ok-insert-in-Err.ensures.items
+    rw c.in_ok-enter-in-Err.ensures.entered
     (rising-missing c.self.inside.entries.items c.self.invariant c.args.hash c.in-Err.place gap c.args.number)
 
 pub returns-in-Ok-clause-put : goal.returns-in-Ok-clause-put
@@ -19,8 +19,8 @@ returns-in-Ok-clause-put c =
     rw (← c.self.view_is)
     (put-found c.self.inside.entries.items c.self.invariant c.args.hash c.in-Ok.place at c.args.number)
 
-pub returns-in_ok-insert-in-Err-clause-put : goal.returns-in_ok-insert-in-Err-clause-put
-returns-in_ok-insert-in-Err-clause-put c =
+pub returns-in_ok-enter-in-Err-clause-put : goal.returns-in_ok-enter-in-Err-clause-put
+returns-in_ok-enter-in-Err-clause-put c =
     let gap : IsGap c.self.inside.entries.items c.args.hash c.in-Err.place = rw c.self.view_is c.in-Err.ensures.absent in
-    rw (c.in_ok-insert-in-Err.ensures.items, ← c.self.view_is)
+    rw (c.in_ok-enter-in-Err.ensures.entered, ← c.self.view_is)
     (put-missing c.self.inside.entries.items c.self.invariant c.args.hash c.in-Err.place gap c.args.number)

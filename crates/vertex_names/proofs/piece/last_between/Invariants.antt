@@ -1,6 +1,6 @@
 use Rattle.std.proofs.Common.{◌≤◌, ◌-◌, length}
 use Rattle.vertex_names.specs.Order.{firsts, last_place}
-use Rattle.vertex_names.proofs.piece.last_at.Given as goal
+use Rattle.vertex_names.proofs.piece.last_between.Given as goal
 
 abbrev pub invariant-loop-end : goal.invariant-loop-end
 invariant-loop-end g l = (l.at ≤ last_place (firsts l.pairs) l.hash) × (last_place (firsts l.pairs) l.hash ≤ l.end - 1)
