@@ -3,8 +3,8 @@ use Rattle.std.proofs.Common.{◌≡◌, ℕ, ◌<◌, ◌==◌, List, [], ◌�
 use Rattle.std.proofs.Common.{◌+◌, arith, refl, sym, ap, ◌∙◌, subst, Option, Some, None, is_some, All, bytes_eq, suc}
 use Rattle.std.specs.List.{list_any, list_all, position_or_len}
 use Rattle.std.specs.Option.{option_or}
-use Rattle.std.specs.Ordering.{nat_cmp, ordering_then, eq_by_cmp, is_eq}
-use Rattle.std.specs.Cmp.{unsigned_tied, tied_then, Equal-is}
+use Rattle.std.specs.Ordering.{eq_by_cmp}
+use Rattle.std.specs.Cmp.{Equal-is}
 use Rattle.std.specs.FinMap.{FinMap, get, get-insert, get-remove}
 use Rattle.std.proofs.lemmas.Bool.{true≢false, false≢true, and_parts}
 use Rattle.std.proofs.lemmas.List.Elements.{All-head, All-tail, All-cons, All-nil}
@@ -25,6 +25,7 @@ use Rattle.block_layout.specs.Batches.{Resolved, resolve, resolved, is_known, ke
 use Rattle.block_layout.specs.Batches.{outcome_in, outcomes_all, IsLayoutOf, opened, layout_after, IsWithin}
 use Rattle.block_layout.proofs.SlotLaws.{same_number}
 use Rattle.block_layout.proofs.RowLaws.{IsOpenRow, change_sets}
+use Rattle.block_layout.proofs.ListedRows.{tests, tied}
 use Rattle.edge_block.proofs.Changes.{none_is}
 
 pub set_at_get : (m : FinMap key_cmp Stamp) (k : Key) (o : Option Stamp) (q : Key)
@@ -56,17 +57,6 @@ outcome_is : (op : NamedOp) (g : Graph) → outcome op g ≡ outcome_at (change_
 outcome_is (Insert kind source target weight time) g = refl
 outcome_is (Incr kind source target amount time) g = refl
 outcome_is (Remove kind source target) g = refl
-
-abbrev tests : Key → Key → Bool → Bool
-tests q k same = (q.kind == k.kind) && (same && (q.target == k.target))
-
-tied : (q k : Key) → eq_by_cmp key_cmp q k ≡ tests q k (q.source == k.source)
-tied q k =
-    let a = nat_cmp q.kind k.kind in
-    let b = nat_cmp q.source k.source in
-    let c = nat_cmp q.target k.target in
-    sym (tied_then a (ordering_then b c)) ∙ ap (λ t. is_eq a && t) (sym (tied_then b c))
-    ∙ (λ i. unsigned_tied q.kind k.kind i && (unsigned_tied q.source k.source i && unsigned_tied q.target k.target i))
 
 never : {A : Type 0} (a : Bool) (x y : A) → y ≡ cond (a && false) x y
 never true x y = refl

@@ -1,4 +1,5 @@
 pub mod Operations
 pub mod Rows
 pub mod Batches
+pub mod Listed
 pub mod Examples

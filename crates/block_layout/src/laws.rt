@@ -1,7 +1,9 @@
 //! Laws of rows, batches and shards.
 
-ghost use Rattle.std.specs.Prelude.{◌≡◌, ℕ, List, true, ◌%◌, ◌==◌, filter};
-ghost use Rattle.graph_model.specs.Graph.{Graph};
+ghost use Rattle.std.specs.Prelude.{◌≡◌, ◌<◌, ℕ, List, true, ◌%◌, ◌==◌, filter};
+ghost use Rattle.std.specs.Option.{is_some};
+ghost use Rattle.std.specs.FinMap.{FinMap, get};
+ghost use Rattle.graph_model.specs.Graph.{Graph, Key, Stamp, key_cmp};
 ghost use Rattle.graph_model.specs.Step.{after_all, outcomes};
 ghost use Rattle.graph_model.specs.declared.batches.NamedOp.{NamedOp};
 ghost use Rattle.block_layout.specs.Examples.{AreExamples};
@@ -9,6 +11,7 @@ ghost use Rattle.block_layout.specs.Rows.{Shape, OpenBlock};
 ghost use Rattle.block_layout.specs.Batches.{Resolved, IsWithin, IsLayoutOf, key_is_of, layout_after, outcomes_all, resolved};
 ghost use Rattle.block_layout.specs.Batches.{opened, rows_all};
 ghost use Rattle.block_layout.specs.Batches.{shard_ops, shard_of, picked};
+ghost use Rattle.block_layout.specs.Listed.{edges_below, AreListedOnce};
 
 /// A batch leaves a layout of the graph that it leaves, and the outcomes in its rows are the operation rule's, for
 /// every layout of the graph before.
@@ -42,6 +45,14 @@ pub fn law_shard_outcomes()
 pub fn law_source_row()
     ensures { (ops : List Resolved) (rows : ℕ → List OpenBlock) (source : ℕ)
         → rows_all (filter (λ r. key_is_of source r.key) ops) rows source ≡ rows_all ops rows source }
+{}
+
+/// Rows that have a map's edges by look-up list each of them once, and no others, once as many sources are listed as
+/// the edges have.
+#[tactic(auto, using(crate::proofs::ListedRows::listed_once))]
+pub fn law_listed_once()
+    ensures { (layout : ℕ → List Shape) (edges : FinMap key_cmp Stamp) (n : ℕ) → IsLayoutOf layout edges
+        → ((k : Key) → is_some (get edges k) ≡ true → k.source < n) → AreListedOnce (edges_below n layout) edges }
 {}
 
 /// Layouts worked out: a block that fills, the first block with room, the lowest free slot, a block emptied.
