@@ -63,7 +63,7 @@ tally_later p m i (s ∷ pool) lt =
     let z : (let k : ℕ = cond (p s && (i == m)) 1 0 in k) ≡ 0 = ap (λ b. cond b 1 0) no in
     omega arith
 
-tally_once : (p : Status → Bool) (m i : ℕ) (pool : List Status) → tally p (λ n. n == m) i pool ≤ 1
+pub tally_once : (p : Status → Bool) (m i : ℕ) (pool : List Status) → tally p (λ n. n == m) i pool ≤ 1
 tally_once p m i [] = omega arith
 tally_once p m i (s ∷ pool) =
     elim (p s && (i == m)) as (λ b. p s && (i == m) ≡ b → cond b 1 0 + tally p (λ n. n == m) (i + 1) pool ≤ 1) [

@@ -1,4 +1,6 @@
 pub mod Tallies
 pub mod Grants
 pub mod BodyLaws
+pub mod Stacking
+pub mod Needs
 pub mod PlaceReads

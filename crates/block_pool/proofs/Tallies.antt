@@ -3,14 +3,11 @@ use Rattle.std.proofs.Common.{◌≡◌, ℕ, zero, suc, ◌+◌, ◌-◌, ◌<�
 use Rattle.std.proofs.Common.{replicate, count_by, take, Bool, true, false, cond, not, ◌&&◌, refl, sym, ap, ap₂, ◌∙◌, arith}
 use Rattle.std.proofs.Common.{subst}
 use Rattle.std.proofs.lemmas.Bool.{true≢false, false≢true, eqb-true, eqb-false, and_parts, true_from_ne_false}
-use Rattle.std.proofs.lemmas.Bool.Decides.{nat_tests}
 use Rattle.std.specs.Prelude.{slice_get}
 use Rattle.std.proofs.lemmas.List.Sums.{sum_by-cons, sum_by-append}
 use Rattle.std.proofs.lemmas.List.{take_more, take_more_set, length-map, map-set, get_or-set_same, get_or-set_other}
 use Rattle.std.proofs.Math.ListN.{length-set}
 use Rattle.pin_copy.specs.declared.copies.PinCopy.{PinCopy}
-use Rattle.pin_copy.specs.Copies.{needs, reach_of}
-use Rattle.pin_copy.proofs.Least.{reach_needed}
 use Rattle.block_pool.specs.Pools.{Status, Free, Granted, Used, Retired, is_free, is_used, is_born, is_retired, is_past, recycled}
 use Rattle.block_pool.specs.Pools.{passes}
 use Rattle.block_pool.specs.Kept.{status_of, tally, Lists}
@@ -81,28 +78,39 @@ count_lt p (s ∷ pool) (suc k) d lt e =
       | false ↦ λ z. omega arith
     ] m
 
+-- one status changed
+pub tally_here : (p : Status → Bool) (q : ℕ → Bool) (pool : List Status) (k : ℕ) (s : Status) → k < length pool
+    → tally p q 0 (set pool k s) + cond (p (status_of pool k) && q k) 1 0 ≡ tally p q 0 pool + cond (p s && q k) 1 0
+tally_here p q pool k s lt = let z : 0 + k ≡ k = omega arith in rw z at (tally_set p q 0 pool k s Granted lt)
+
+pub count_here : {A : Type 0} (p : A → Bool) (pool : List A) (k : ℕ) (s d : A) → k < length pool
+    → count_by p (set pool k s) + cond (p (get_or pool k d)) 1 0 ≡ count_by p pool + cond (p s) 1 0
+count_here p pool k s d lt = Rattle.std.proofs.lemmas.List.Sums.sum_by-set (λ s. cond (p s) 1 0) pool k s d lt
+
+pub count_kept : (p : Status → Bool) (pool : List Status) (k : ℕ) (s : Status) → k < length pool
+    → p (status_of pool k) ≡ p s → count_by p (set pool k s) ≡ count_by p pool
+count_kept p pool k s lt same =
+    let c = rw same at (count_here p pool k s Granted lt) in
+    omega arith
+
 module _ (p : Status → Bool) (pool : List Status) (ns : List ℕ) (are : Lists p pool ns) where
   pub listed_count : length ns ≡ count_by p pool
   listed_count = sym (count_true ns) ∙ are (λ _. true) ∙ tally_true p 0 pool
 
   module _ (k : ℕ) (s : Status) (lt : k < length pool) where
-    set_tally : (q : ℕ → Bool) → tally p q 0 (set pool k s) + cond (p (status_of pool k) && q k) 1 0 ≡ tally p q 0 pool
-        + cond (p s && q k) 1 0
-    set_tally q = let z : 0 + k ≡ k = omega arith in rw z at (tally_set p q 0 pool k s Granted lt)
-
     pub lists_more : p (status_of pool k) ≡ false → p s ≡ true → Lists p (set pool k s) (ns ++ k ∷ [])
     lists_more a b q =
         let old = are q in
         let c = count_last q ns k in
         let t : tally p q 0 (set pool k s) + cond (false && q k) 1 0 ≡ tally p q 0 pool + cond (true && q k) 1 0 =
-        rw b at (rw a at (set_tally q)) in
+        rw b at (rw a at (tally_here p q pool k s lt)) in
         omega arith
 
     pub lists_same : p (status_of pool k) ≡ p s → Lists p (set pool k s) ns
     lists_same e q =
         let old = are q in
         let t : tally p q 0 (set pool k s) + cond (p s && q k) 1 0 ≡ tally p q 0 pool + cond (p s && q k) 1 0 =
-        rw e at (set_tally q) in
+        rw e at (tally_here p q pool k s lt) in
         omega arith
 
     pub lists_less : (ms : List ℕ) → ((q : ℕ → Bool) → count_by q ns ≡ count_by q ms + cond (q k) 1 0)
@@ -111,17 +119,11 @@ module _ (p : Status → Bool) (pool : List Status) (ns : List ℕ) (are : Lists
         let old = are q in
         let c = cut q in
         let t : tally p q 0 (set pool k s) + cond (true && q k) 1 0 ≡ tally p q 0 pool + cond (false && q k) 1 0 =
-        rw b at (rw a at (set_tally q)) in
+        rw b at (rw a at (tally_here p q pool k s lt)) in
         omega arith
 
     pub lists_room : p (status_of pool k) ≡ false → length ns < length pool
     lists_room a = let c = count_lt p pool k Granted lt a in let l = listed_count in omega arith
-
-take_set_below : (m : ℕ) (ns : List ℕ) (at y : ℕ) → at < m → take m (set ns at y) ≡ set (take m ns) at y
-take_set_below zero ns at y lt = absurd (omega arith)
-take_set_below (suc m) [] at y lt = refl
-take_set_below (suc m) (n ∷ ns) zero y lt = refl
-take_set_below (suc m) (n ∷ ns) (suc at) y lt = ap (λ l. n ∷ l) (take_set_below m ns at y (omega arith))
 
 pub count_at : {A : Type 0} (p : A → Bool) (xs : List A) (i : ℕ) (d : A) → i < length xs → p (get_or xs i d) ≡ true
     → 1 ≤ count_by p xs
@@ -146,71 +148,22 @@ listed_at p pool n room are le i lt =
     let at = tally_at p r 0 pool Granted (omega arith) in
     (omega (arith, at.1), subst (λ k. p (get_or pool k Granted) ≡ true) (let z : r - 0 ≡ r = omega arith in z) at.2)
 
--- and each number whose status passes is listed
-pub at_listed : (p : Status → Bool) (pool : List Status) (n : ℕ) (room : List ℕ) → Lists p pool (take n room) → n ≤ length room
-    → (k : ℕ) → k < length pool → p (status_of pool k) ≡ true
-    → (i : ℕ) × ((i < n) × (get_or room i 0 ≡ k))
-at_listed p pool n room are le k lt e =
-    let same = are (λ j. j == k) in
-    let z : 0 + k ≡ k = omega arith in
-    let one : 1 ≤ tally p (λ j. j == k) 0 pool = rw z at (tally_has p k 0 pool Granted lt e) in
-    let found = found_at k (take n room) (omega arith) in
-    let short : found.0 < n = omega (arith, found.1.0, Rattle.std.proofs.Common.length-take n room) in
-    (found.0, (short, sym (Rattle.std.proofs.lemmas.List.get_or-take n room found.0 0 short) ∙ found.1.1))
-  where
-    tally_has : (p : Status → Bool) (k i : ℕ) (pool : List Status) (d : Status) → k < length pool → p (get_or pool k d) ≡ true
-        → 1 ≤ tally p (λ n. n == i + k) i pool
-    tally_has p k i [] d lt e = absurd (omega arith)
-    tally_has p zero i (s ∷ pool) d lt e =
-        let z : i + 0 ≡ i = omega arith in
-        rw (z, e, same_number i) (omega arith)
-    tally_has p (suc k) i (s ∷ pool) d lt e =
-        let rest = tally_has p k (i + 1) pool d (omega arith) e in
-        let z : i + 1 + k ≡ i + suc k = omega arith in
-        let again = rw z at rest in
-        omega arith
+tally_has : (p : Status → Bool) (k i : ℕ) (pool : List Status) → k < length pool → p (status_of pool k) ≡ true
+    → 1 ≤ tally p (λ n. n == i + k) i pool
+tally_has p k i [] lt e = absurd (omega arith)
+tally_has p zero i (s ∷ pool) lt e =
+    let z : i + 0 ≡ i = omega arith in
+    rw (z, e, same_number i) (omega arith)
+tally_has p (suc k) i (s ∷ pool) lt e =
+    let rest = tally_has p k (i + 1) pool (omega arith) e in
+    let z : i + 1 + k ≡ i + suc k = omega arith in
+    let again = rw z at rest in
+    omega arith
 
-    found_at : (k : ℕ) (xs : List ℕ) → 1 ≤ count_by (λ j. j == k) xs → (i : ℕ) × ((i < length xs) × (get_or xs i 0 ≡ k))
-    found_at k [] h = absurd (omega arith)
-    found_at k (x ∷ xs) h =
-        let m = count_more (λ j. j == k) x xs in
-        elim (x == k) as (λ b. x == k ≡ b → count_by (λ j. j == k) (x ∷ xs) ≡ cond b 1 0 + count_by (λ j. j == k) xs
-        → (i : ℕ) × ((i < suc (length xs)) × (get_or (x ∷ xs) i 0 ≡ k))) [
-          | true ↦ λ t _. (0, (omega arith, eqb-true x k t))
-          | false ↦ λ t c. let rest = found_at k xs (omega arith) in (suc rest.0, (omega (arith, rest.1.0), rest.1.1))
-        ] refl m
-
--- the list's last number is taken out, or another one, whose place the last takes
-pub count_swap : (q : ℕ → Bool) (ns : List ℕ) (at m : ℕ) → at ≤ m → m < length ns
-    → count_by q (take (m + 1) ns) ≡ count_by q (take m (set ns at (get_or ns m 0))) + cond (q (get_or ns at 0)) 1 0
-count_swap q ns at m le lt =
-    elim (at == m) as (λ b. at == m ≡ b → count_by q (take (m + 1) ns) ≡ count_by q (take m (set ns at (get_or ns m 0)))
-    + cond (q (get_or ns at 0)) 1 0) [
-      | true ↦ λ t.
-          let same : at ≡ m = eqb-true at m t in
-          let keep : set ns at (get_or ns m 0) ≡ ns =
-          ap (λ k. set ns k (get_or ns m 0)) same ∙ Rattle.std.proofs.lemmas.List.set-get_or ns m 0 in
-          ap (count_by q) (take_more ns m 0 lt) ∙ count_last q (take m ns) (get_or ns m 0)
-          ∙ ap₂ (λ a b. count_by q (take m a) + cond (q b) 1 0) (sym keep) (ap (λ k. get_or ns k 0) (sym same))
-      | false ↦ λ t.
-          let ne : at ≡ m → ⊥ = eqb-false at m t in
-          let below : at < m = omega arith in
-          let short : at < length (take m ns) = omega (arith, Rattle.std.proofs.Common.length-take m ns) in
-          let one = count_set q (take m ns) at (get_or ns m 0) short in
-          let here : get_or (take m ns) at 0 ≡ get_or ns at 0 = Rattle.std.proofs.lemmas.List.get_or-take m ns at 0 below in
-          let cut : take m (set ns at (get_or ns m 0)) ≡ set (take m ns) at (get_or ns m 0) =
-          take_set_below m ns at (get_or ns m 0) below in
-          let last = ap (count_by q) (take_more ns m 0 lt) ∙ count_last q (take m ns) (get_or ns m 0) in
-          let a : count_by q (take m (set ns at (get_or ns m 0))) ≡ count_by q (set (take m ns) at (get_or ns m 0)) =
-          ap (count_by q) cut in
-          let b : (let x : ℕ = cond (q (get_or (take m ns) at 0)) 1 0 in x) ≡ cond (q (get_or ns at 0)) 1 0 =
-          ap (λ n. cond (q n) 1 0) here in
-          omega arith
-    ] refl
-  where
-    count_set : (q : ℕ → Bool) (xs : List ℕ) (i y : ℕ) → i < length xs
-        → count_by q (set xs i y) + cond (q (get_or xs i 0)) 1 0 ≡ count_by q xs + cond (q y) 1 0
-    count_set q xs i y lt = Rattle.std.proofs.lemmas.List.Sums.sum_by-set (λ n. cond (q n) 1 0) xs i y 0 lt
+-- a number whose status passes is tallied
+pub tally_has_one : (p : Status → Bool) (k : ℕ) (pool : List Status) → k < length pool → p (status_of pool k) ≡ true
+    → 1 ≤ tally p (λ n. n == k) 0 pool
+tally_has_one p k pool lt e = let z : 0 + k ≡ k = omega arith in rw z at (tally_has p k 0 pool lt e)
 
 pub retired_not_free : (s : Status) → is_retired s ≡ true → is_free s ≡ false
 retired_not_free Free e = absurd (false≢true e)
@@ -241,21 +194,6 @@ module _ (copy : PinCopy) where
       let one : (let x : ℕ = cond (is_past copy (status_of pool k)) 1 0 in x) ≡ 1 = ap (λ b. cond b 1 0) e in
       omega arith
 
-  pub not_past_set : (pool : List Status) (r m : ℕ) → is_past copy (status_of pool m) ≡ false
-      → is_past copy (status_of (set pool r Free) m) ≡ false
-  not_past_set pool r m e =
-      elim (m == r) as (λ b. m == r ≡ b → is_past copy (status_of (set pool r Free) m) ≡ false) [
-        | true ↦ λ t. free_at pool r m (eqb-true m r t) e
-        | false ↦ λ t. ap (is_past copy) (get_or-set_other pool r m Free Granted (eqb-false m r t)) ∙ e
-      ] refl
-    where
-      free_at : (pool : List Status) (r m : ℕ) → m ≡ r → is_past copy (status_of pool m) ≡ false
-          → is_past copy (status_of (set pool r Free) m) ≡ false
-      free_at [] r m same e = e
-      free_at (s ∷ pool) zero m same e = ap (λ k. is_past copy (get_or (Free ∷ pool) k Granted)) same
-      free_at (s ∷ pool) (suc r) zero same e = absurd (omega arith)
-      free_at (s ∷ pool) (suc r) (suc m) same e = free_at pool r m (omega arith) e
-
   pub none_past : (pool : List Status) → ((k : ℕ) → k < length pool → is_past copy (status_of pool k) ≡ false)
       → (map (recycled copy) pool ≡ pool) × (count_by (is_past copy) pool ≡ 0)
   none_past [] none = (refl, refl)
@@ -266,18 +204,6 @@ module _ (copy : PinCopy) where
       let zero_here : (let x : ℕ = cond (is_past copy s) 1 0 in x) ≡ 0 = ap (λ b. cond b 1 0) here in
       let c = rest.1 in
       (ap₂ (λ x xs. x ∷ xs) (ap (λ b. cond b Free s) here) rest.0, omega arith)
-
-  -- where no listed number is due, none is
-  pub all_checked : (pool : List Status) (n : ℕ) (room : List ℕ) → Lists is_retired pool (take n room) → n ≤ length room
-      → ((i : ℕ) → i < n → is_past copy (status_of pool (get_or room i 0)) ≡ false) → (k : ℕ) → k < length pool
-      → is_past copy (status_of pool k) ≡ false
-  all_checked pool n room are le checked k lt =
-      elim (is_retired (status_of pool k)) as (λ b. is_retired (status_of pool k) ≡ b
-      → is_past copy (status_of pool k) ≡ false) [
-        | true ↦ λ t. let i = at_listed is_retired pool n room are le k lt t in
-            subst (λ j. is_past copy (status_of pool j) ≡ false) i.1.1 (checked i.0 i.1.0)
-        | false ↦ λ t. past_retired copy (status_of pool k) t
-      ] refl
 
 pub free_not_retired : (s : Status) → is_free s ≡ true → is_retired s ≡ false
 free_not_retired Free e = refl
@@ -333,35 +259,6 @@ pub born_at : (pool : List Status) (n : ℕ) → passes is_born (slice_get pool 
     → (n < length pool) × ((birth : ℕ) × (status_of pool n ≡ Used birth))
 born_at pool n e = let at = within_pool is_born pool n e in (at.0, born_is (status_of pool n) at.1)
 
--- what a copy doesn't reach, and what it needs, isn't due
-pub later : (birth since : ℕ) (copy : PinCopy) → reach_of copy < since → is_past copy (Retired birth since) ≡ false
-later birth since copy lt = ap not (reach_needed copy birth since lt)
-
-pub kept_back : (birth since : ℕ) (copy : PinCopy) → needs copy birth since ≡ true → is_past copy (Retired birth since) ≡ false
-kept_back birth since copy is = ap not is
-
-pub due : (birth since : ℕ) (copy : PinCopy) → needs copy birth since ≡ false → is_past copy (Retired birth since) ≡ true
-due birth since copy is = ap not is
-
--- where nothing is due, a status that isn't due changes nothing of that
-pub none_set : (copy : PinCopy) (pool : List Status) (k : ℕ) (s : Status) → k < length pool → is_past copy s ≡ false
-    → count_by (is_past copy) pool ≡ 0 → count_by (is_past copy) (set pool k s) ≡ 0
-none_set copy pool k s lt e none =
-    let c = Rattle.std.proofs.lemmas.List.Sums.sum_by-set (λ s. cond (is_past copy s) 1 0) pool k s Granted lt in
-    let z : (let x : ℕ = cond (is_past copy s) 1 0 in x) ≡ 0 = ap (λ b. cond b 1 0) e in
-    omega arith
-
--- where nothing is due, recycling changes nothing
-pub none_recycled : (copy : PinCopy) (pool : List Status) → count_by (is_past copy) pool ≡ 0 → map (recycled copy) pool ≡ pool
-none_recycled copy [] none = refl
-none_recycled copy (s ∷ pool) none =
-    let m = count_more (is_past copy) s pool in
-    let rest : map (recycled copy) pool ≡ pool = none_recycled copy pool (omega arith) in
-    elim (is_past copy s) as (λ b. is_past copy s ≡ b → map (recycled copy) (s ∷ pool) ≡ s ∷ pool) [
-      | true ↦ λ t. let one : (let x : ℕ = cond (is_past copy s) 1 0 in x) ≡ 1 = ap (λ b. cond b 1 0) t in absurd (omega arith)
-      | false ↦ λ t. ap₂ (λ x xs. x ∷ xs) (ap (λ b. cond b Free s) t) rest
-    ] refl
-
 -- each number is free, used or retired
 pub all_parts : (pool : List Status) → count_by is_free pool + count_by is_used pool + count_by is_retired pool ≡ length pool
 all_parts [] = refl
@@ -402,14 +299,10 @@ free_more k ns are q =
     let e = ap (tally is_free q 0) more in
     omega arith
 
--- of free numbers alone, none is retired, and recycling frees none
+-- of free numbers alone, none is retired
 pub none_retired : (q : ℕ → Bool) (i k : ℕ) → tally is_retired q i (replicate k Free) ≡ 0
 none_retired q i zero = refl
 none_retired q i (suc k) = let rest = none_retired q (i + 1) k in omega arith
-
-pub none_due : (copy : PinCopy) (k : ℕ) → count_by (is_past copy) (replicate k Free) ≡ 0
-none_due copy zero = refl
-none_due copy (suc k) = let m = count_more (is_past copy) Free (replicate k Free) in let rest = none_due copy k in omega arith
 
 pub all_one : {A B : Type 0} (f : A → B) (k : ℕ) (x : A) → map f (replicate k x) ≡ replicate k (f x)
 all_one f zero x = refl

@@ -1,11 +1,15 @@
--- What a pool keeps of its numbers: the free and the retired ones as lists, each in the first places of a room of fixed size.
+-- What a pool keeps of its numbers: the free ones as a list in the first places of a room of fixed size, and the retired
+-- ones in stacks.
 use Rattle.std.specs.Prelude.{◌≡◌, ◌<◌, ◌≤◌, ℕ, zero, suc, ◌+◌, ◌-◌, ◌&&◌, Bool, if◌then◌else◌, List, [], ◌∷◌, length, map, take}
-use Rattle.std.specs.Prelude.{count_by, slice_index, slice_index_or}
+use Rattle.std.specs.Prelude.{count_by, sum_by, slice_index, slice_index_or, slice_set, true, false, Option, None}
 use Rattle.block_pool.specs.declared.numbers.Place.{Place}
 use Rattle.block_pool.specs.declared.numbers.Place.TheVariants as places
 use Rattle.block_pool.specs.declared.numbers.Numbers.{Numbers}
 use Rattle.pin_copy.specs.declared.copies.PinCopy.{PinCopy}
+use Rattle.pin_copy.specs.declared.copies.TheConstants.{SEATS}
 use Rattle.pin_copy.specs.Copies.{reach_of}
+use Rattle.linked_stacks.specs.Stacks.{stack_of, below_top, is_in}
+use Rattle.block_pool.specs.declared.numbers.TheConstants.{LATE}
 use Rattle.block_pool.specs.Pools.{Status, Free, Granted, Used, Retired, is_free, is_retired, is_past}
 
 abbrev pub status_from : Place → Status
@@ -35,13 +39,59 @@ abbrev pub popped : List ℕ → ℕ → ℕ → List ℕ
 popped room len zero = []
 popped room len (suc k) = slice_index room (len - 1) ∷ popped room (len - 1) k
 
--- the two lists have the free and the retired numbers, and a copy that reaches no further than below `least` frees nothing
+-- the stacks have each retired number, once, and no other
+abbrev pub AreStacked : List Status → List (List ℕ) → Type 0
+AreStacked pool lists = (q : ℕ → Bool) → sum_by (count_by q) lists ≡ tally is_retired q 0 pool
+
+-- the copy needs each block of these numbers that is retired
+abbrev pub AreNeeded : PinCopy → List Status → List ℕ → Type 0
+AreNeeded copy pool numbers = (n : ℕ) → is_in n numbers ≡ true → is_past copy (status_of pool n) ≡ false
+
+-- the copy has these settled pins
+abbrev pub HasPins : PinCopy → List (Option ℕ) → Type 0
+HasPins copy pins = (seat : ℕ) → seat < SEATS → slice_index_or copy.settled seat None ≡ slice_index_or pins seat None
+
+-- The stacks of the retired numbers: one for each seat, which any copy needs that has the seat's settled pin; one that any
+-- copy needs that reaches no further than below `least`; and one of which nothing is known.
+pub record IsSorted (pool : List Status) (pins : List (Option ℕ)) (least : ℕ) (lists : List (List ℕ)) : Type 0 where
+  pub many : length lists ≡ LATE + 1
+  pub listed : AreStacked pool lists
+  pub held : (copy : PinCopy) (seat : ℕ) → seat < SEATS → slice_index_or copy.settled seat None ≡ slice_index_or pins seat None
+      → AreNeeded copy pool (stack_of lists seat)
+  pub late : (copy : PinCopy) → reach_of copy < least → AreNeeded copy pool (stack_of lists LATE)
+
+-- the number may stand in that stack
+pub record Fits (pool : List Status) (pins : List (Option ℕ)) (least to number : ℕ) : Type 0 where
+  pub held : (copy : PinCopy) → to < SEATS → slice_index_or copy.settled to None ≡ slice_index_or pins to None
+      → is_past copy (status_of pool number) ≡ false
+  pub late : (copy : PinCopy) → to ≡ LATE → reach_of copy < least → is_past copy (status_of pool number) ≡ false
+
+abbrev pub top_of : List ℕ → ℕ
+top_of numbers = slice_index numbers 0
+
+-- the stacks with a number put on one, and with the top of one taken off
+abbrev pub put_on : ℕ → ℕ → List (List ℕ) → List (List ℕ)
+put_on stack number lists = slice_set lists stack (number ∷ stack_of lists stack)
+
+abbrev pub taken_off : ℕ → List (List ℕ) → List (List ℕ)
+taken_off stack lists = slice_set lists stack (below_top (stack_of lists stack))
+
+-- the stacks with the top of one moved to another
+abbrev pub moved : ℕ → ℕ → List (List ℕ) → List (List ℕ)
+moved from to lists = put_on to (top_of (stack_of lists from)) (taken_off from lists)
+
+-- the list has the free numbers, and the stacks the retired ones
 pub record IsKept (n : Numbers) : Type 0 where
   pub few : length n.places.items ≤ 65536
   pub free_room : length n.free.items ≡ length n.places.items
-  pub retired_room : length n.retired.items ≡ length n.places.items
+  pub bound : n.retired.bound ≡ length n.places.items
+  pub seats : length n.pins ≡ SEATS
   pub free_in : n.free_len ≤ length n.places.items
-  pub retired_in : n.retired_len ≤ length n.places.items
   pub free_are : Lists is_free (statuses n) (take n.free_len n.free.items)
-  pub retired_are : Lists is_retired (statuses n) (take n.retired_len n.retired.items)
-  pub nothing_below : (copy : PinCopy) → reach_of copy < n.least → count_by (is_past copy) (statuses n) ≡ 0
+  pub retired_in : n.retired_len ≡ count_by is_retired (statuses n)
+  pub sorted : IsSorted (statuses n) n.pins n.least n.retired.lists
+
+-- each number is what it was, and each seat's stack stands under the pin that it stood under
+pub record IsSame (old new : Numbers) : Type 0 where
+  pub same : statuses new ≡ statuses old
+  pub pins : new.pins ≡ old.pins

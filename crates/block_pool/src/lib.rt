@@ -2,8 +2,9 @@
 //! that left it out.
 //!
 //! STINGER (Ediger, McColl, Riedy, Bader; IEEE HPEC 2012) takes its blocks from such a pool. Here a block that a batch
-//! replaces is retired, and is free again once no version below the floor can be read (held snapshots as in Aspen:
-//! Dhulipala, Blelloch, Shun; PLDI 2019). Only `Pool::new` and `Pool::grant` take memory.
+//! replaces is retired, and is free again once no version that lists it can be read (held snapshots as in Aspen:
+//! Dhulipala, Blelloch, Shun; PLDI 2019). Retired blocks stand in stacks, one for each seat whose settled pin needs them, so
+//! that a collection looks at those alone that are new or that a pin let go. Only `Pool::new` and `Pool::grant` take memory.
 #![tactic(auto)]
 
 mod numbers;

@@ -1,12 +1,15 @@
 //! Which numbers are free, used or retired.
 
-ghost use Rattle.std.specs.Prelude.{◌≡◌, ◌<◌, ◌≤◌, ℕ, length, map, replicate, count_by, slice_index, slice_set, ◌+◌, ◌-◌, IfOk};
-ghost use Rattle.std.specs.Prelude.{true};
+ghost use Rattle.std.specs.Prelude.{◌≡◌, ◌≢◌, ◌<◌, ◌≤◌, ℕ, length, map, replicate, count_by, slice_index, slice_set, ◌+◌, ◌-◌, IfOk};
+ghost use Rattle.std.specs.Prelude.{true, IfSome, slice_index_or, None, []};
+ghost use Rattle.pin_copy.specs.Copies as copies;
+ghost use Rattle.linked_stacks.specs.Stacks.{stack_of};
 ghost use Rattle.block_pool.specs.Pools.{Free, Granted, Used, Retired, is_free, is_used, is_retired, is_past, recycled};
 ghost use Rattle.block_pool.specs.Pools.{is_used_at, is_born_at, marked, retired};
-ghost use Rattle.block_pool.specs.Kept.{status_from, status_of, popped, Lists};
+ghost use Rattle.block_pool.specs.Kept.{status_from, status_of, popped, Lists, AreNeeded, HasPins, top_of, moved, taken_off};
 
-use pin_copy::PinCopy;
+use linked_stacks::LinkedStacks;
+use pin_copy::{PinCopy, SEATS};
 use std::alloc::{AllocError, Global};
 
 /// What a number is by now.
@@ -41,22 +44,31 @@ fn after_retiring(place: Place, version: u64) -> Place
     }
 }
 
-/// What each number is, and lists of the free and of the retired ones. The lists have their room from the start.
+/// The stack, behind those of the seats, of the numbers that were retired since the last collection, or that a seat let
+/// go of: the next collection looks at each.
+pub(crate) const LOOSE: usize = 16;
+
+/// The stack of the numbers that were retired after what the last collection reached.
+pub(crate) const LATE: usize = 17;
+
+/// What each number is, a list of the free ones, and stacks of the retired ones. All have their room from the start.
 #[derive(Debug, Drop)]
 pub(crate) struct Numbers {
     pub places: Vec<Place>,
     /// The first `free_len` are the free numbers, the next one to be granted last; the rest is room.
     pub free: Vec<u32>,
     pub free_len: usize,
-    /// The first `retired_len` are the retired numbers; the rest is room.
-    pub retired: Vec<u32>,
+    /// The retired numbers: one stack for each seat, of those that its settled pin needs, and then `LOOSE` and `LATE`.
+    pub retired: LinkedStacks,
     pub retired_len: usize,
-    /// No number was retired with a lesser version.
+    /// For each seat the settled pin that its stack stands under.
+    pub pins: [Option<u64>; SEATS],
+    /// No number in the stack `LATE` was retired with a lesser version.
     pub least: u64,
 }
 
 impl Numbers {
-    ghost use Rattle.block_pool.specs.Kept.{statuses, IsKept};
+    ghost use Rattle.block_pool.specs.Kept.{statuses, IsKept, IsSame, Fits};
 
     /// The numbers 0 to `count` - 1, all free.
     pub fn all_free(alloc: Global, count: u32) -> Result<Numbers, AllocError>
@@ -69,8 +81,9 @@ impl Numbers {
             places: vec![in alloc; Place::Free; len]?,
             free: numbers_up_to(alloc, count)?,
             free_len: len,
-            retired: vec![in alloc; 0; len]?,
+            retired: LinkedStacks::new(alloc, count, 18)?,
             retired_len: 0,
+            pins: [None; SEATS],
             least: u64::MAX,
         })
     }
@@ -161,46 +174,150 @@ impl Numbers {
     {
         let place = self.places[number as usize];
         self.places[number as usize] = after_retiring(place, version);
-        self.retired[self.retired_len] = number;
+        self.retired.push(LOOSE, number);
         self.retired_len += 1;
-        self.least = self.least.min(version);
     }
 
-    /// Frees each retired number that the copy doesn't need, and tells how many. It goes over the retired numbers
-    /// alone, and over none where the copy reaches no version that retired one.
+    /// Frees each retired number that the copy doesn't need, and tells how many. It looks at those that were retired
+    /// since the last call, at those that stood under a pin that the copy hasn't, and at the late ones where the copy
+    /// reaches one of them.
     pub fn recycle(&mut self, copy: &PinCopy) -> u32
         requires { IsKept self.old }
         ensures kept { IsKept self.new }
         ensures statuses { statuses self.new ≡ map (recycled copy.now) (statuses self.old) }
         ensures count { result ≡ count_by (is_past copy.now) (statuses self.old) }
     {
+        self.follow(copy);
+        self.recall(copy);
+        self.sort(copy)
+    }
+
+    /// Lets go of what stands under pins that the copy hasn't.
+    fn follow(&mut self, copy: &PinCopy)
+        requires { IsKept self.old }
+        ensures kept { IsKept self.new }
+        ensures statuses { statuses self.new ≡ statuses self.old }
+        ensures pins { HasPins copy.now self.new.pins }
+    {
+        for seat in 0..SEATS {
+            self.repin(seat, copy.settled[seat]);
+        }
+    }
+
+    /// Sets the pin that a seat's stack stands under; where it is another one, lets go of what is in the stack.
+    fn repin(&mut self, seat: usize, pin: Option<u64>)
+        requires kept { IsKept self.old }
+        requires seat { seat < SEATS }
+        ensures kept { IsKept self.new }
+        ensures statuses { statuses self.new ≡ statuses self.old }
+        ensures pins { self.new.pins ≡ slice_set self.old.pins seat pin }
+    {
+        if self.pins[seat] == pin {
+            return;
+        }
+        self.loosen(seat);
+        self.pins[seat] = pin;
+    }
+
+    /// Lets go of the late numbers where one of them may be reached.
+    fn recall(&mut self, copy: &PinCopy)
+        requires { IsKept self.old }
+        ensures kept { IsKept self.new }
+        ensures same { IsSame self.old self.new }
+        ensures late { AreNeeded copy.now (statuses self.new) (stack_of self.new.retired.lists LATE) }
+    {
         if copy.reach() < self.least {
-            return 0;
+            return;
         }
+        self.loosen(LATE);
+        self.least = u64::MAX;
+    }
+
+    /// Moves a stack's numbers to the loose ones.
+    fn loosen(&mut self, stack: usize)
+        requires kept { IsKept self.old }
+        requires within { stack ≤ LATE }
+        requires other { stack ≢ LOOSE }
+        ensures kept { IsKept self.new }
+        ensures same { IsSame self.old self.new }
+        ensures least { self.new.least ≡ self.old.least }
+        ensures empty { stack_of self.new.retired.lists stack ≡ [] }
+    {
+        'loosen: while self.retired.height(stack) > 0 {
+            self.move_top(stack, LOOSE);
+        }
+    }
+
+    /// Moves the top of a stack to another one.
+    fn move_top(&mut self, from: usize, to: usize)
+        requires kept { IsKept self.old }
+        requires from { from ≤ LATE }
+        requires to { to ≤ LATE }
+        requires other { from ≢ to }
+        requires some { 0 < length (stack_of self.old.retired.lists from) }
+        requires fits { Fits (statuses self.old) self.old.pins self.old.least to (top_of (stack_of self.old.retired.lists from)) }
+        ensures kept { IsKept self.new }
+        ensures same { IsSame self.old self.new }
+        ensures least { self.new.least ≡ self.old.least }
+        ensures lists { self.new.retired.lists ≡ moved from to self.old.retired.lists }
+    {
+        let number = self.retired.top(from);
+        self.retired.pop(from);
+        self.retired.push(to, number);
+    }
+
+    /// Frees each loose number that the copy doesn't need, puts the others under pins that need them or to the late
+    /// ones, and tells how many were freed.
+    fn sort(&mut self, copy: &PinCopy) -> u32
+        requires kept { IsKept self.old }
+        requires pins { HasPins copy.now self.old.pins }
+        requires late { AreNeeded copy.now (statuses self.old) (stack_of self.old.retired.lists LATE) }
+        ensures kept { IsKept self.new }
+        ensures statuses { statuses self.new ≡ map (recycled copy.now) (statuses self.old) }
+        ensures count { result ≡ count_by (is_past copy.now) (statuses self.old) }
+    {
         let mut count = 0;
-        let mut least = u64::MAX;
-        let mut at = 0;
-        while at < self.retired_len {
-            let dates = self.dates_at(at);
-            if copy.needs(dates.birth, dates.since) {
-                least = least.min(dates.since);
-                at += 1;
-            } else {
-                self.release(at);
-                count += 1;
-            }
+        'sort: while self.retired.height(LOOSE) > 0 {
+            count += self.sort_top(copy);
         }
-        self.least = least;
         count
     }
 
-    /// The versions that first listed and that retired the number at a place of the list of retired ones.
-    fn dates_at(&self, at: usize) -> Dates
-        requires kept { IsKept self.now }
-        requires within { at < self.now.retired_len }
-        ensures { status_of (statuses self.now) (slice_index self.now.retired.items at) ≡ Retired result.birth result.since }
+    /// Frees the top of the loose numbers, or puts it under a pin that needs it, or to the late ones; 1 where it was freed.
+    fn sort_top(&mut self, copy: &PinCopy) -> u32
+        requires kept { IsKept self.old }
+        requires pins { HasPins copy.now self.old.pins }
+        requires late { AreNeeded copy.now (statuses self.old) (stack_of self.old.retired.lists LATE) }
+        requires some { 0 < length (stack_of self.old.retired.lists LOOSE) }
+        ensures kept { IsKept self.new }
+        ensures pins { self.new.pins ≡ self.old.pins }
+        ensures late { AreNeeded copy.now (statuses self.new) (stack_of self.new.retired.lists LATE) }
+        ensures shorter { length (stack_of self.new.retired.lists LOOSE) + 1 ≡ length (stack_of self.old.retired.lists LOOSE) }
+        ensures recycled { map (recycled copy.now) (statuses self.new) ≡ map (recycled copy.now) (statuses self.old) }
+        ensures count { result + count_by (is_past copy.now) (statuses self.new) ≡ count_by (is_past copy.now) (statuses self.old) }
     {
-        match self.places[self.retired[at] as usize] {
+        let number = self.retired.top(LOOSE);
+        let dates = self.dates_of(number);
+        if !copy.needs(dates.birth, dates.since) {
+            self.release_top();
+            return 1;
+        }
+        if let Some(seat) = witness(copy, dates) {
+            self.move_top(LOOSE, seat);
+            return 0;
+        }
+        self.least = self.least.min(dates.since);
+        self.move_top(LOOSE, LATE);
+        0
+    }
+
+    /// The versions that first listed and that retired a retired number.
+    fn dates_of(&self, number: u32) -> Dates
+        requires within { number < length self.now.places.items }
+        requires retired { is_retired (status_of (statuses self.now) number) ≡ true }
+        ensures { status_of (statuses self.now) number ≡ Retired result.birth result.since }
+    {
+        match self.places[number as usize] {
             Place::Retired { birth, since } => Dates { birth, since },
             Place::Free => unreachable!(),
             Place::Granted => unreachable!(),
@@ -208,21 +325,44 @@ impl Numbers {
         }
     }
 
-    /// Makes the retired number at a place of the list free. The last of the list takes its place.
-    fn release(&mut self, at: usize)
+    /// Makes the top of the loose numbers free.
+    fn release_top(&mut self)
         requires kept { IsKept self.old }
-        requires within { at < self.old.retired_len }
+        requires some { 0 < length (stack_of self.old.retired.lists LOOSE) }
         ensures kept { IsKept self.new }
-        ensures statuses { statuses self.new ≡ slice_set (statuses self.old) (slice_index self.old.retired.items at) Free }
-        ensures shorter { self.new.retired_len + 1 ≡ self.old.retired_len }
-        ensures before { (k : ℕ) → k < at → slice_index self.new.retired.items k ≡ slice_index self.old.retired.items k }
+        ensures pins { self.new.pins ≡ self.old.pins }
+        ensures lists { self.new.retired.lists ≡ taken_off LOOSE self.old.retired.lists }
+        ensures statuses { statuses self.new ≡ slice_set (statuses self.old) (top_of (stack_of self.old.retired.lists LOOSE)) Free }
     {
-        let number = self.retired[at];
-        self.places[number as usize] = Place::Free;
+        let number = self.retired.top(LOOSE);
+        self.retired.pop(LOOSE);
         self.retired_len -= 1;
-        self.retired[at] = self.retired[self.retired_len];
+        self.places[number as usize] = Place::Free;
         self.free[self.free_len] = number;
         self.free_len += 1;
+    }
+}
+
+/// The first seat whose settled pin needs a block of these dates.
+fn witness(copy: &PinCopy, dates: Dates) -> Option<usize>
+    ensures { IfSome result (λ seat. (seat < SEATS)
+        × (copies.is_between dates.birth dates.since (slice_index_or copy.now.settled seat None) ≡ true)) }
+{
+    for seat in 0..SEATS {
+        if is_between(copy.settled[seat], dates) {
+            return Some(seat);
+        }
+    }
+    None
+}
+
+/// Whether a settled pin holds a version that listed a block of these dates.
+fn is_between(pin: Option<u64>, dates: Dates) -> bool
+    ensures { result ≡ copies.is_between dates.birth dates.since pin }
+{
+    match pin {
+        Some(pin) => dates.birth <= pin && pin < dates.since,
+        None => false,
     }
 }
 

@@ -68,7 +68,8 @@ pub enum GrantError {
 
 impl Pool {
     /// A pool of so many blocks, 16 to 65,536, all free. It takes all the memory that the other calls need, but for
-    /// the two lists of a grant and the blocks that were given up.
+    /// the two lists of a grant and the blocks that were given up; beside each block's body some 40 bytes, 4 of them
+    /// the link of its stack while it is retired.
     pub fn new(alloc: Global, blocks: u32) -> Result<Pool, AllocError>
         requires least { 16 ≤ blocks }
         requires most { blocks ≤ 65536 }
@@ -165,8 +166,9 @@ impl Pool {
         self.bodies[number as usize] = Some(block);
     }
 
-    /// Frees each retired block that the copy doesn't need, and tells how many. It takes no memory, goes over the
-    /// retired blocks alone, and over none where the copy reaches no version that retired one.
+    /// Frees each retired block that the copy doesn't need, and tells how many. It takes no memory, and time by how many
+    /// blocks it frees, were retired since the last call, and stood under a settled pin that the copy hasn't; not by those
+    /// that pins keep.
     pub fn recycle(&mut self, copy: &PinCopy) -> u32
         ensures pool { self.new ≡ map (recycled copy.now) self.old }
         ensures count { result ≡ count_by (is_past copy.now) self.old }

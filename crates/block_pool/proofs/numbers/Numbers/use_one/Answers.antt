@@ -2,10 +2,12 @@ use Rattle.std.proofs.Common.{◌≡◌, ◌∙◌, ◌+◌, ◌<◌, ℕ, lengt
 use Rattle.std.proofs.Common.{true}
 use Rattle.std.proofs.Math.ListN.{length-set}
 use Rattle.std.proofs.lemmas.List.{get_or_read, take_more, map-set, length-map}
-use Rattle.block_pool.specs.Pools.{Granted, is_free, is_retired, is_past}
-use Rattle.block_pool.specs.Kept.{statuses, status_from, status_of, Lists}
+use Rattle.block_pool.specs.Pools.{Granted, is_free, is_retired}
+use Rattle.block_pool.specs.Kept.{statuses, status_from, status_of, Lists, IsSorted}
 use Rattle.block_pool.specs.declared.numbers.Place.TheVariants as places
-use Rattle.block_pool.proofs.Tallies.{none_set, lists_same, lists_less, listed_at, count_last, free_not_retired}
+use Rattle.block_pool.proofs.Tallies.{lists_less, listed_at, count_last, free_not_retired}
+use Rattle.block_pool.proofs.Tallies.{count_kept}
+use Rattle.block_pool.proofs.Stacking.{sorted_set}
 use Rattle.block_pool.proofs.numbers.Numbers.use_one.Goals as goal
 
 pub index_mut-requires : goal.index_mut-requires
@@ -39,20 +41,19 @@ returns-clause-kept c =
     record {
       few = omega (arith, k.few);
       free_room = omega (arith, k.free_room);
-      retired_room = omega (arith, k.retired_room);
+      bound = omega (arith, k.bound);
+      seats = k.seats;
       free_in = omega (arith, k.free_in);
-      retired_in = omega (arith, k.retired_in);
       free_are = subst (λ pool. Lists is_free pool (take m n.free.items)) (sym after)
           (lists_less is_free (statuses n) (take n.free_len n.free.items) k.free_are num Granted within (take m n.free.items)
           (λ q. ap (λ j. count_by q (take j n.free.items)) (sym more) ∙ ap (count_by q) (take_more n.free.items m 0 ml)
           ∙ count_last q (take m n.free.items) (get_or n.free.items m 0)
           ∙ ap (λ b. count_by q (take m n.free.items) + cond (q b) 1 0) (sym same))
           st refl);
-      nothing_below = λ copy lt. subst (λ pool. count_by (is_past copy) pool ≡ 0) (sym after)
-          (none_set copy (statuses n) num Granted within refl (k.nothing_below copy lt));
-      retired_are = subst (λ pool. Lists is_retired pool (take n.retired_len n.retired.items)) (sym after)
-          (lists_same is_retired (statuses n) (take n.retired_len n.retired.items) k.retired_are num Granted within
-          (free_not_retired (status_of (statuses n) num) st));
+      retired_in = k.retired_in
+          ∙ sym (ap (count_by is_retired) after ∙ count_kept is_retired (statuses n) num Granted within (free_not_retired (status_of (statuses n) num) st));
+      sorted = subst (λ pool. IsSorted pool n.pins n.least n.retired.lists) (sym after)
+          (sorted_set (statuses n) n.pins n.least n.retired.lists k.sorted num Granted within (free_not_retired (status_of (statuses n) num) st) refl (λ _. refl));
     }
 
 pub returns-clause-statuses : goal.returns-clause-statuses

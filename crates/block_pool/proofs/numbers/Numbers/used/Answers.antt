@@ -1,6 +1,6 @@
 use Rattle.std.proofs.Common.{take, arith, length-take}
 use Rattle.std.proofs.lemmas.List.{length-map}
-use Rattle.block_pool.specs.Pools.{is_free, is_retired}
+use Rattle.block_pool.specs.Pools.{is_free}
 use Rattle.block_pool.specs.Kept.{statuses, status_from}
 use Rattle.block_pool.proofs.Tallies.{listed_count, all_parts}
 use Rattle.block_pool.proofs.numbers.Numbers.used.Goals as goal
@@ -10,16 +10,13 @@ overflow_sub-result-2 c =
     let n = c.args.self.now in
     let k = c.requires in
     let f = listed_count is_free (statuses n) (take n.free_len n.free.items) k.free_are in
-    let r = listed_count is_retired (statuses n) (take n.retired_len n.retired.items) k.retired_are in
     let all = all_parts (statuses n) in
     omega (
       arith,
       length-take n.free_len n.free.items,
-      length-take n.retired_len n.retired.items,
       k.free_in,
       k.free_room,
       k.retired_in,
-      k.retired_room,
       length-map n.places.items status_from,
     )
 
@@ -28,15 +25,12 @@ returns c =
     let n = c.args.self.now in
     let k = c.requires in
     let f = listed_count is_free (statuses n) (take n.free_len n.free.items) k.free_are in
-    let r = listed_count is_retired (statuses n) (take n.retired_len n.retired.items) k.retired_are in
     let all = all_parts (statuses n) in
     omega (
       arith,
       length-take n.free_len n.free.items,
-      length-take n.retired_len n.retired.items,
       k.free_in,
       k.free_room,
       k.retired_in,
-      k.retired_room,
       length-map n.places.items status_from,
     )

@@ -1,0 +1,14 @@
+use Rattle.std.proofs.Common.{◌≡◌, length}
+use Rattle.linked_stacks.specs.Stacks.{stack_of}
+use Rattle.block_pool.specs.Kept.{IsKept, IsSame}
+use Rattle.block_pool.proofs.numbers.Numbers.loosen.Given as goal
+
+abbrev pub invariant-loosen : goal.invariant-loosen
+invariant-loosen l = record {
+  kept : IsKept l.self;
+  same : IsSame l.initial.self l.self;
+  least : l.self.least ≡ l.initial.self.least;
+}
+
+abbrev pub decreases-loosen : goal.decreases-loosen
+decreases-loosen l = length (stack_of l.self.retired.lists l.stack)

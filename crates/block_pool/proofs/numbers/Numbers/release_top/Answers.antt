@@ -1,0 +1,90 @@
+use Rattle.std.proofs.Common.{◌≡◌, ◌∙◌, ◌+◌, ◌<◌, ℕ, length, set, count_by, sym, ap, subst, refl, take, arith, length-take, true}
+use Rattle.std.proofs.Math.ListN.{length-set}
+use Rattle.std.proofs.lemmas.List.{map-set, take_more_set, length-map}
+use Rattle.linked_stacks.specs.Stacks.{Stacks, stack_of}
+use Rattle.block_pool.specs.declared.numbers.TheConstants.{LOOSE}
+use Rattle.block_pool.specs.Pools.{Free, Granted, is_free, is_retired}
+use Rattle.block_pool.specs.Kept.{statuses, status_from, status_of, Lists, IsSorted, top_of, taken_off}
+use Rattle.block_pool.specs.declared.numbers.Place.TheVariants as places
+use Rattle.block_pool.proofs.Tallies.{lists_more, lists_room, count_at, count_here, retired_not_free}
+use Rattle.block_pool.proofs.Stacking.{top_listed, sorted_freed}
+use Rattle.block_pool.proofs.numbers.Numbers.release_top.Goals as goal
+
+pub top-number-requires : goal.top-number-requires
+top-number-requires c = record { stack = omega (arith, c.requires.kept.sorted.many); some = c.requires.some }
+
+pub pop-requires : goal.pop-requires
+pop-requires c = record { stack = omega (arith, c.requires.kept.sorted.many); some = c.requires.some }
+
+pub overflow_sub-self : goal.overflow_sub-self
+overflow_sub-self c =
+    let n = c.args.self.now in
+    let k = c.requires.kept in
+    let is = top_listed (statuses n) n.pins n.least n.retired.lists k.sorted LOOSE (omega arith) c.requires.some in
+    let one = count_at is_retired (statuses n) (top_of (stack_of n.retired.lists LOOSE)) Granted is.0 is.1 in
+    omega (arith, one, k.retired_in)
+
+pub index_mut-requires : goal.index_mut-requires
+index_mut-requires c =
+    let n = c.args.self.now in
+    let k = c.requires.kept in
+    let is = top_listed (statuses n) n.pins n.least n.retired.lists k.sorted LOOSE (omega arith) c.requires.some in
+    let num : c.top-number.result ≡ top_of (stack_of n.retired.lists LOOSE) = sym (ap top_of c.top-number.ensures) in
+    omega (arith, is.0, num, length-map n.places.items status_from)
+
+pub index_mut-requires-2 : goal.index_mut-requires-2
+index_mut-requires-2 c =
+    let n = c.args.self.now in
+    let k = c.requires.kept in
+    let r : ℕ = top_of (stack_of n.retired.lists LOOSE) in
+    let is = top_listed (statuses n) n.pins n.least n.retired.lists k.sorted LOOSE (omega arith) c.requires.some in
+    let room = lists_room is_free (statuses n) (take n.free_len n.free.items) k.free_are r Free is.0
+    (retired_not_free (status_of (statuses n) r) is.1) in
+    let long = length-map n.places.items status_from in
+    omega (arith, length-take n.free_len n.free.items, k.free_in, k.free_room, room, long)
+
+pub returns-clause-kept : goal.returns-clause-kept
+returns-clause-kept c =
+    let n = c.args.self.now in
+    let k = c.requires.kept in
+    let r : ℕ = top_of (stack_of n.retired.lists LOOSE) in
+    let num : ℕ = c.top-number.result in
+    let same : num ≡ r = sym (ap top_of c.top-number.ensures) in
+    let is = top_listed (statuses n) n.pins n.least n.retired.lists k.sorted LOOSE (omega arith) c.requires.some in
+    let within : num < length (statuses n) = omega (arith, is.0, same) in
+    let st : is_retired (status_of (statuses n) num) ≡ true = ap (λ j. is_retired (status_of (statuses n) j)) same ∙ is.1 in
+    let room = lists_room is_free (statuses n) (take n.free_len n.free.items) k.free_are num Free within
+    (retired_not_free (status_of (statuses n) num) st) in
+    let long = length-map n.places.items status_from in
+    let lt : n.free_len < length n.free.items =
+    omega (arith, length-take n.free_len n.free.items, k.free_in, k.free_room, room, long) in
+    let long_places = length-set n.places.items num places.Free in
+    let after = map-set status_from n.places.items num places.Free in
+    let free = length-set n.free.items n.free_len num in
+    let count = rw st at (count_here is_retired (statuses n) num Free Granted within) in
+    let told = ap (count_by is_retired) after in
+    record {
+      few = omega (arith, k.few);
+      free_room = omega (arith, k.free_room);
+      bound = ap (λ (s : Stacks). s.bound) c.pop.ensures ∙ k.bound ∙ sym long_places;
+      seats = k.seats;
+      free_in = omega (arith, k.free_room);
+      free_are = subst (λ pool. Lists is_free pool (take (n.free_len + 1) (set n.free.items n.free_len num))) (sym after)
+          (subst (Lists is_free (set (statuses n) num Free)) (sym (take_more_set n.free.items n.free_len num lt))
+          (lists_more is_free (statuses n) (take n.free_len n.free.items) k.free_are num Free within
+          (retired_not_free (status_of (statuses n) num) st) refl));
+      retired_in = omega (arith, k.retired_in);
+      sorted = subst (λ pool. IsSorted pool n.pins n.least c.pop.new.self.lists) (sym after)
+          (subst (IsSorted (set (statuses n) num Free) n.pins n.least) (sym (ap (λ (s : Stacks). s.lists) c.pop.ensures))
+          (subst (λ (j : ℕ). IsSorted (set (statuses n) j Free) n.pins n.least (taken_off LOOSE n.retired.lists)) (sym same)
+          (sorted_freed (statuses n) n.pins n.least n.retired.lists k.sorted c.requires.some)));
+    }
+
+pub returns-clause-lists : goal.returns-clause-lists
+returns-clause-lists c = ap (λ (s : Stacks). s.lists) c.pop.ensures
+
+pub returns-clause-statuses : goal.returns-clause-statuses
+returns-clause-statuses c =
+    let n = c.args.self.now in
+    map-set status_from n.places.items c.top-number.result places.Free
+    ∙ ap (λ (j : ℕ). set (statuses n) j Free) (sym (ap top_of c.top-number.ensures))

@@ -1,0 +1,53 @@
+use Rattle.std.proofs.Common.{◌∙◌, sym, subst, refl, arith}
+use Rattle.std.proofs.lemmas.List.{length-map}
+use Rattle.std.proofs.lemmas.List.Sums.{count_by-le-length}
+use Rattle.linked_stacks.specs.Stacks.{stack_of}
+use Rattle.block_pool.specs.declared.numbers.TheConstants.{LOOSE}
+use Rattle.block_pool.specs.Pools.{is_past}
+use Rattle.block_pool.specs.Kept.{statuses, status_from, HasPins}
+use Rattle.block_pool.proofs.Tallies.{none_past}
+use Rattle.block_pool.proofs.Stacking.{all_sorted, no_number}
+use Rattle.block_pool.proofs.numbers.Numbers.sort.Goals as goal
+
+pub sort-init : goal.sort-init
+sort-init c = record {
+  kept = c.requires.kept;
+  pins = c.requires.pins;
+  late = c.requires.late;
+  after = refl;
+  counted = omega arith;
+}
+
+pub overflow_add-count : goal.overflow_add-count
+overflow_add-count c =
+    let few = count_by-le-length (is_past c.args.copy.now) (statuses c.args.self.now) in
+    let long = length-map c.args.self.now.places.items status_from in
+    omega (arith, few, long, c.requires.kept.few, c.sort.invariant.counted, c.sort_top-count.ensures.count)
+
+pub sort-preserved : goal.sort-preserved
+sort-preserved c = record {
+  kept = c.sort_top-count.ensures.kept;
+  pins = subst (HasPins c.args.copy.now) (sym c.sort_top-count.ensures.pins) c.sort.invariant.pins;
+  late = c.sort_top-count.ensures.late;
+  after = c.sort_top-count.ensures.recycled ∙ c.sort.invariant.after;
+  counted = omega (arith, c.sort.invariant.counted, c.sort_top-count.ensures.count);
+}
+
+pub returns-clause-statuses : goal.returns-clause-statuses
+returns-clause-statuses c =
+    let n = c.sort.self in
+    let empty = no_number (stack_of n.retired.lists LOOSE) (omega (arith, c.height.ensures, c.sort-test.false)) in
+    let none = none_past c.args.copy.now (statuses n)
+    (all_sorted (statuses n) n.pins n.least n.retired.lists c.sort.invariant.kept.sorted c.args.copy.now c.sort.invariant.pins
+    c.sort.invariant.late empty) in
+    sym none.0 ∙ c.sort.invariant.after
+
+pub returns-clause-count : goal.returns-clause-count
+returns-clause-count c =
+    let n = c.sort.self in
+    let empty = no_number (stack_of n.retired.lists LOOSE) (omega (arith, c.height.ensures, c.sort-test.false)) in
+    let none = none_past c.args.copy.now (statuses n)
+    (all_sorted (statuses n) n.pins n.least n.retired.lists c.sort.invariant.kept.sorted c.args.copy.now c.sort.invariant.pins
+    c.sort.invariant.late empty) in
+    let z = none.1 in
+    omega (arith, z, c.sort.invariant.counted)

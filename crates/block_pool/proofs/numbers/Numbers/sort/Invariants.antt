@@ -1,0 +1,18 @@
+use Rattle.std.proofs.Common.{◌≡◌, ◌+◌, map, count_by, length}
+use Rattle.linked_stacks.specs.Stacks.{stack_of}
+use Rattle.block_pool.specs.declared.numbers.TheConstants.{LOOSE, LATE}
+use Rattle.block_pool.specs.Pools.{recycled, is_past}
+use Rattle.block_pool.specs.Kept.{statuses, AreNeeded, HasPins, IsKept}
+use Rattle.block_pool.proofs.numbers.Numbers.sort.Given as goal
+
+abbrev pub invariant-sort : goal.invariant-sort
+invariant-sort l = record {
+  kept : IsKept l.self;
+  pins : HasPins l.copy l.self.pins;
+  late : AreNeeded l.copy (statuses l.self) (stack_of l.self.retired.lists LATE);
+  after : map (recycled l.copy) (statuses l.self) ≡ map (recycled l.copy) (statuses l.initial.self);
+  counted : l.count + count_by (is_past l.copy) (statuses l.self) ≡ count_by (is_past l.copy) (statuses l.initial.self);
+}
+
+abbrev pub decreases-sort : goal.decreases-sort
+decreases-sort l = length (stack_of l.self.retired.lists LOOSE)
