@@ -19,3 +19,4 @@ pub mod BatchLaws
 pub mod StatusCounts
 pub mod Examples
 pub mod Held
+pub mod Dated

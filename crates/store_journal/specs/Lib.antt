@@ -8,3 +8,4 @@ pub mod Opening
 pub mod Reached
 pub mod Examples
 pub mod Held
+pub mod Dates

@@ -17,6 +17,7 @@ ghost use Rattle.store_journal.specs.Histories.{DoneIsRun, ReadersAreUnseen};
 ghost use Rattle.store_journal.specs.Opening.{OpensAsMachine};
 ghost use Rattle.store_journal.specs.Reached.{StaysReached};
 ghost use Rattle.store_journal.specs.Held.{HeldIsSnapshot};
+ghost use Rattle.store_journal.specs.Dates.{AreDated};
 ghost use Rattle.store_journal.specs.Examples.{AreExamples};
 
 /// Replay of a journal.
@@ -111,6 +112,13 @@ pub fn law_stays_reached()
 /// copy made last.
 pub fn law_held_versions()
     ensures { HeldIsSnapshot }
+{}
+
+/// The numbers that a desk's blocks carry: no block is left granted, a birth is the number of a version that a batch left,
+/// and a retirement comes after the birth and is never above the last version's number. So a copy of the pins whose last
+/// number is the desk's needs a retired block for its pins alone.
+pub fn law_dated()
+    ensures { (d : DeskView) → IsDesk d → AreDated (length d.last.batches) d.pool }
 {}
 
 /// Small stores worked out by hand: journals that replay and journals that don't, a desk and a world that it shows, the

@@ -15,6 +15,6 @@
 mod laws;
 
 pub use laws::{
-    law_accepted, law_board_steps, law_collected, law_examples, law_held_versions, law_histories,
-    law_journal, law_opening_shown, law_stays_reached,
+    law_accepted, law_board_steps, law_collected, law_dated, law_examples, law_held_versions,
+    law_histories, law_journal, law_opening_shown, law_stays_reached,
 };
