@@ -1,14 +1,15 @@
--- The exchange that adds an entry keeps the rule.
+-- The steps of the history keep its rule.
 use Rattle.graph_model.specs.declared.batches.NamedOp.{NamedOp}
-use Rattle.std.proofs.Common.{◌≡◌, ℕ, ◌+◌, ◌<◌, ◌==◌, Bool, true, false, List, [], ◌∷◌, ◌++◌, length, refl, ap, sym, subst}
-use Rattle.std.proofs.Common.{arith, inl, length-append, None}
+use Rattle.std.proofs.Common.{◌≡◌, ℕ, suc, ◌+◌, ◌<◌, ◌≤◌, ◌==◌, Bool, true, false, List, [], ◌∷◌, ◌++◌, length, set, refl, ap, ap₂, sym}
+use Rattle.std.proofs.Common.{subst, ◌∙◌, arith, inl, length-append, None}
 use Rattle.std.proofs.lemmas.List.{append-nil}
-use Rattle.std.proofs.lemmas.Bool.Decides.{nat_tests}
+use Rattle.std.proofs.lemmas.Bool.{eqb-true, true≢false}
 use mathlib.Core.List.{IsPrefix}
 use prog.Atomic.{either}
-use Rattle.logbook.specs.Pages.{Cell, cell, keeps, no_nib, step, Moves, Goes}
-use Rattle.version_shelf.specs.Histories.{IsCounted, Adds}
-use Rattle.version_shelf.proofs.Beginnings.{prefix_whole}
+use Rattle.logbook.specs.Pages.{Cell, cell, keeps, gives, adds, nib, no_nib, may_make, step, Moves, Goes}
+use Rattle.version_shelf.specs.Histories.{IsCounted, Makes, Adds, Confirms, right_at, rights, cells_of}
+use Rattle.version_shelf.proofs.Beginnings.{prefix_whole, prefix_length}
+use Rattle.version_shelf.proofs.Rights.{length_cells, first_left, use_up, one_more}
 
 abbrev pub shown : List (List NamedOp) → List (List NamedOp)
 shown log = []
@@ -16,41 +17,131 @@ shown log = []
 abbrev pub moved : List (List NamedOp) → List (List NamedOp) → ℕ → Type 0
 moved xs ys n = Unit {0}
 
-pub adds_goes : (log v : List (List NamedOp)) (e : List NamedOp) (old : ℕ) → length v ≡ old → IsPrefix v log
-    → (b : Bool) → (length log == old) ≡ b
+-- the word is left as it is
+stays : (n old : ℕ) → either (n == old) old n ≡ n
+stays n old = elim (n == old) as (λ t. (n == old) ≡ t → either t old n ≡ n) [
+  | true ↦ λ e. sym (eqb-true n old e)
+  | false ↦ λ e. refl
+] refl
+
+-- the cells are those that the rule asks for
+abbrev as_counted : ℕ → List Cell → List Cell
+as_counted n cs = (n, true) ∷ (0, true) ∷ cs
+
+-- Who has the right behind as many batches as it has seen has seen all.
+module _ (cs : List Cell) (log : List (List NamedOp)) (kept : IsCounted cs log) (place : ℕ) (few : place ≤ length log)
+    (left_yet : (suc (suc place) < length cs) × ((cell cs (suc (suc place))).1 ≡ false)) where
+  pub all_added : (length log ≡ place) × ((rest : ℕ) × (kept.left ≡ suc rest))
+  all_added =
+      let there = subst (λ (c : List Cell). (suc (suc place) < length c) × ((cell c (suc (suc place))).1 ≡ false)) kept.words
+      left_yet in
+      let long = length_cells (length log) kept.left in
+      let within = there.0 in
+      first_left (length log) kept.left place few (omega arith) there.1
+
+-- A right is made.
+
+makes_goes : (log v : List (List NamedOp)) (e : List NamedOp) (old left : ℕ) (b : Bool) → (length log + left == old) ≡ b
     → Goes IsCounted shown moved 0 (v, (no_nib, None)) (λ n. either (n == old) (old + 1) n)
-    (Adds (step 0 old (old + 1) e) (v, (no_nib, None))) ((length log, true) ∷ (0, true) ∷ []) log
-adds_goes log v e old len pre true is =
-    let here : length log ≡ old = grind (arith, nat_tests) in
-    let same : v ≡ log = prefix_whole v log pre (omega arith) in
-    let n : either (length log == old) (old + 1) (length log) ≡ length (log ++ e ∷ []) =
-    rw is (omega (arith, length-append log (e ∷ []))) in (
-      keeps,
-      e ∷ [],
+    (Makes (step 0 old (old + 1) e) (v, (no_nib, None))) (cells_of (length log) left) log
+makes_goes log v e old left true is =
+    let here : length log + left ≡ old = eqb-true (length log + left) old is in
+    let same : length (log ++ []) ≡ length log = ap length (append-nil log) in
+    let word : either (length log + left == old) (old + 1) (length log + left) ≡ length (log ++ []) + suc left =
+    rw is (omega arith) in
+    let cells : rights (length log) left ++ (0, false) ∷ [] ≡ rights (length (log ++ [])) (suc left) =
+    one_more (length log) left ∙ ap (λ k. rights k (suc left)) (sym same) in
+    let long : length (cells_of (length log) left) ≡ suc (suc old) = length_cells (length log) left ∙ ap (λ k. suc (suc k)) here in (
+      adds,
+      [],
       None,
       tt,
-      record { words = ap (λ (k : ℕ). (k, true) ∷ (0, true) ∷ []) n },
+      record { left = suc left; words = ap₂ as_counted word cells },
       inl (refl, refl),
-      rw is (ap (λ w. w ++ e ∷ []) (sym same)),
+      λ _. ap (λ k. nib may_make k 0) long,
     )
-adds_goes log v e old len pre false is =
-    let all : log ++ [] ≡ log = append-nil log in
-    let n : either (length log == old) (old + 1) (length log) ≡ length (log ++ []) = rw is (ap length (sym all)) in (
+makes_goes log v e old left false is =
+    let same : length (log ++ []) ≡ length log = ap length (append-nil log) in
+    let word : either (length log + left == old) (old + 1) (length log + left) ≡ length (log ++ []) + left =
+    rw is (omega arith) in (
       keeps,
       [],
       None,
       tt,
-      record { words = ap (λ (k : ℕ). (k, true) ∷ (0, true) ∷ []) n },
+      record { left = left; words = ap₂ as_counted word (ap (λ k. rights k left) (sym same)) },
       inl (refl, refl),
-      rw is (ap length all),
+      λ t. absurd (true≢false (sym t ∙ is)),
     )
 
--- whatever the history is, the exchange adds the entry to all that was seen, or finds that the history is longer
-pub adds_moves : (v : List (List NamedOp)) (e : List NamedOp) (old : ℕ) → length v ≡ old
+pub makes_moves : (v : List (List NamedOp)) (e : List NamedOp) (old : ℕ)
     → Moves IsCounted shown moved 0 (v, (no_nib, None)) (λ n. either (n == old) (old + 1) n)
-    (Adds (step 0 old (old + 1) e) (v, (no_nib, None)))
-adds_moves v e old len cs log kept pre away =
+    (Makes (step 0 old (old + 1) e) (v, (no_nib, None)))
+makes_moves v e old cs log kept pre away =
     let P : List Cell → Type 0 = λ c. (0 < length c) × ((cell c 0).1 ≡ true)
     × Goes IsCounted shown moved 0 (v, (no_nib, None)) (λ n. either (n == old) (old + 1) n)
-    (Adds (step 0 old (old + 1) e) (v, (no_nib, None))) c log in
-    subst P (sym kept.words) (omega arith, refl, adds_goes log v e old len pre (length log == old) refl)
+    (Makes (step 0 old (old + 1) e) (v, (no_nib, None))) c log in
+    subst P (sym kept.words) (omega arith, refl, makes_goes log v e old kept.left (length log + kept.left == old) refl)
+
+-- A batch is added.
+
+adds_goes : (log v : List (List NamedOp)) (e : List NamedOp) (old left : ℕ) → IsPrefix v log → length log ≡ length v
+    → Goes IsCounted shown moved 0 (v, (right_at (length v), None)) (λ n. either (n == old) old n)
+    (Adds (step 0 old old e) (v, (right_at (length v), None))) (cells_of (length log) (suc left)) log
+adds_goes log v e old left pre as_long =
+    let same : v ≡ log = prefix_whole v log pre (omega arith) in
+    let long : length (log ++ e ∷ []) ≡ suc (length log) = omega (arith, length-append log (e ∷ [])) in
+    let word : either (length log + suc left == old) old (length log + suc left) ≡ length (log ++ e ∷ []) + left =
+    stays (length log + suc left) old ∙ omega arith in
+    let cells : set (rights (length log) (suc left)) (length v) (0, true) ≡ rights (length (log ++ e ∷ [])) left =
+    ap (λ k. set (rights (length log) (suc left)) k (0, true)) (sym as_long)
+    ∙ (use_up (length log) left ∙ ap (λ k. rights k left) (sym long)) in (
+      gives,
+      e ∷ [],
+      None,
+      refl,
+      record { left = left; words = ap₂ as_counted word cells },
+      inl (refl, refl),
+      ap (λ w. w ++ e ∷ []) (sym same),
+    )
+
+-- whatever the history is, the batch is added to all that was seen, which is all there is
+pub adds_moves : (v : List (List NamedOp)) (e : List NamedOp) (old : ℕ)
+    → Moves IsCounted shown moved 0 (v, (right_at (length v), None)) (λ n. either (n == old) old n)
+    (Adds (step 0 old old e) (v, (right_at (length v), None)))
+adds_moves v e old cs log kept pre away =
+    let P : List Cell → Type 0 = λ c. (0 < length c) × ((cell c 0).1 ≡ true)
+    × Goes IsCounted shown moved 0 (v, (right_at (length v), None)) (λ n. either (n == old) old n)
+    (Adds (step 0 old old e) (v, (right_at (length v), None))) c log in
+    let all = all_added cs log kept (length v) (prefix_length v log pre) (away refl) in
+    let is : cs ≡ cells_of (length log) (suc all.1.0) = kept.words ∙ ap (cells_of (length log)) all.1.1 in
+    subst P (sym is) (omega arith, refl, adds_goes log v e old all.1.0 pre all.0)
+
+-- Nothing is added.
+
+confirms_goes : (log v : List (List NamedOp)) (e : List NamedOp) (place old left : ℕ) → length log ≡ place
+    → Goes IsCounted shown moved 0 (v, (right_at place, None)) (λ n. either (n == old) old n)
+    (Confirms (step 0 old old e) (v, (right_at place, None))) (cells_of (length log) left) log
+confirms_goes log v e place old left as_long =
+    let same : length (log ++ []) ≡ length log = ap length (append-nil log) in
+    let word : either (length log + left == old) old (length log + left) ≡ length (log ++ []) + left =
+    stays (length log + left) old ∙ omega arith in (
+      keeps,
+      [],
+      None,
+      tt,
+      record { left = left; words = ap₂ as_counted word (ap (λ k. rights k left) (sym same)) },
+      inl (refl, refl),
+      (ap (λ k. suc (suc k)) (sym as_long ∙ sym same), refl),
+    )
+
+-- whatever the history is, it is no longer than the right says
+pub confirms_moves : (v : List (List NamedOp)) (e : List NamedOp) (place old : ℕ) → place ≤ length v
+    → Moves IsCounted shown moved 0 (v, (right_at place, None)) (λ n. either (n == old) old n)
+    (Confirms (step 0 old old e) (v, (right_at place, None)))
+confirms_moves v e place old few cs log kept pre away =
+    let P : List Cell → Type 0 = λ c. (0 < length c) × ((cell c 0).1 ≡ true)
+    × Goes IsCounted shown moved 0 (v, (right_at place, None)) (λ n. either (n == old) old n)
+    (Confirms (step 0 old old e) (v, (right_at place, None))) c log in
+    let more = prefix_length v log pre in
+    let all = all_added cs log kept place (omega arith) (away refl) in
+    subst P (sym kept.words) (omega arith, refl, confirms_goes log v e place old kept.left all.0)

@@ -1,4 +1,5 @@
 pub mod Beginnings
+pub mod Rights
 pub mod Adding
 pub mod Steps
 pub mod Openings

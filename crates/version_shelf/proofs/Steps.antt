@@ -80,6 +80,14 @@ still_showing old shown told after is book batches which =
     (λ (e : shown ≡ told). subst (λ x. IsShowing after x) (sym e)
     (book, subst (λ b. IsPrefix told.version.batches b) batches (prefix_self told.version.batches))) which
 
+-- and so it is once the history has a batch more, or is as before
+pub showing_on : (shown : ToldView) (old new : HistoryView) (batch : List NamedOp) (is_added : Bool) → IsShowing old shown
+    → new.book ≡ old.book → MatchBool is_added (new.batches ≡ old.batches ++ batch ∷ []) (new ≡ old) → IsShowing new shown
+showing_on shown old new batch true is book added =
+    (is.0 ∙ sym book, prefix_trans shown.version.batches old.batches new.batches is.1 (batch ∷ [], sym added))
+showing_on shown old new batch false is book same =
+    (is.0 ∙ sym book, subst (λ (h : HistoryView). IsPrefix shown.version.batches h.batches) (sym same) is.1)
+
 -- of two versions of one shelf, the one whose history begins the other's begins the other
 pub begins_by : (x y : ToldView) (h k : HistoryView) → x.version.batches ≡ h.batches → y.version.batches ≡ k.batches
     → IsOfOneShelf x y

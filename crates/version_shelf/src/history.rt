@@ -1,14 +1,14 @@
 //! The history of the posted batches. It exists in the proofs alone, but for its length.
 
-ghost use Rattle.std.specs.Prelude.{◌≡◌, ◌<◌, ◌^◌, ◌++◌, ◌∷◌, [], length, MatchBool};
+ghost use Rattle.std.specs.Prelude.{◌≡◌, ◌<◌, ◌+◌, ◌^◌, ◌++◌, ◌∷◌, [], length, IfSome, MatchBool};
 ghost use mathlib.Core.List.{IsPrefix};
-ghost use Rattle.version_shelf.specs.Histories.{end_of};
+ghost use Rattle.version_shelf.specs.Histories.{IsEnd, end_of, right_at};
 
 use graph_model::Batch;
-use logbook::{Gain, Offer, Plain, Play, Rule, Seen, Start, Word};
+use logbook::{Gain, Offer, Pen, Plain, Play, Rule, Seen, Start, Word};
 use std::marker::Model;
 
-/// The rule of the history: its word is its length.
+/// The rule of the history: its word is how many rights to add a batch were made, and each batch used one up.
 pub struct HistoryRule;
 
 impl Rule<Batch, u64> for HistoryRule {
@@ -38,7 +38,16 @@ impl Gain<Batch, u64> for NoTrade {
     ghost after = { λ names about answer. ftrue };
 }
 
-/// A step that adds a batch.
+/// A step that makes a right.
+pub struct MakeRight;
+
+impl Play<Batch, u64> for MakeRight {
+    ghost use Rattle.version_shelf.specs.Histories.{Makes};
+
+    ghost then = { Makes };
+}
+
+/// A step that adds a batch, by a right.
 pub struct AddBatch;
 
 impl Play<Batch, u64> for AddBatch {
@@ -56,15 +65,37 @@ impl Plain<Batch, Batch, u64> for AddBatch {
     ghost state = { λ batch. None };
 }
 
-/// The length of the history, which its writer owns.
+/// A step that adds nothing, and finds how many batches were added.
+pub struct Confirm;
+
+impl Play<Batch, u64> for Confirm {
+    ghost use Rattle.version_shelf.specs.Histories.{Confirms};
+
+    ghost then = { Confirms };
+}
+
+/// Other steps ask for nothing.
+impl Plain<u64, Batch, u64> for Confirm {
+    ghost use Rattle.std.specs.Prelude.{[], None};
+
+    ghost ask = { λ count. [] };
+
+    ghost state = { λ count. None };
+}
+
+/// The word of the history, which its writer owns, and the right to add the next batch.
 pub struct HistoryEnd {
     pub(crate) word: Word<Batch, u64, HistoryRule>,
+    pub(crate) pen: Pen,
 }
 
 // Written by hand: who lets one go rests on this function, and not on how each part is let go.
 impl Drop for HistoryEnd {
     fn drop(self) {
-        let HistoryEnd { word: _word } = self;
+        let HistoryEnd {
+            word: _word,
+            pen: _pen,
+        } = self;
     }
 }
 
@@ -96,15 +127,15 @@ impl Model for History {
 }
 
 impl History {
-    /// A new history without batches.
-    pub fn open() -> (HistoryEnd, History)
-        ensures { (result.0.word ≡ end_of result.1.book) × (result.1.batches ≡ []) }
+    /// A new history without batches, and its end. There is none where somebody else made its first right, which nobody can.
+    pub fn open() -> Option<(HistoryEnd, History)>
+        ensures { IfSome result (λ r. IsEnd r.0.word r.0.pen.book r.0.pen.nib r.1 × (r.1.batches ≡ [])) }
     {
         let (seen, mut first, _second) = Seen::open(Start::alone(), 0, 0);
-        let end = HistoryEnd {
-            word: Word::tracked(0, &mut first),
-        };
-        (end, History { count: 0, seen })
+        let word = Word::tracked(0, &mut first);
+        let history = History { count: 0, seen };
+        let pen = history.right(&word, 0)?;
+        Some((HistoryEnd { word, pen }, history))
     }
 
     /// A copy.
@@ -127,29 +158,71 @@ impl History {
         self.count < other.count
     }
 
-    /// Adds a batch to the history, and says whether it did: it did not where the history is longer than this beginning.
-    pub fn push(&mut self, end: &HistoryEnd, batch: &Batch) -> bool
-        requires end { end.now.word ≡ end_of self.old.book }
-        requires room { length self.old.batches < 2 ^ 62 }
-        ensures book { self.new.book ≡ self.old.book }
-        ensures batches { MatchBool result (self.new.batches ≡ self.old.batches ++ batch.now ∷ [])
-            (IsPrefix self.old.batches self.new.batches) }
+    /// The right behind so many others, where no more were made. That there are more never happens, since the one writer
+    /// makes them, but no clause says so.
+    fn right(&self, word: &Word<Batch, u64, HistoryRule>, made: u64) -> Option<Pen>
+        requires word { word.now ≡ end_of self.now.book }
+        requires room { made + 1 < 2 ^ 64 }
+        ensures { IfSome result (λ pen. (pen.book ≡ self.now.book) × (pen.nib ≡ right_at made)) }
     {
+        let mut seen = self.seen.again();
+        let mut offer: Offer<Batch, u64, HistoryRule, NoTrade> = seen.plain::<
+            NoTrade,
+            u64,
+            Confirm,
+        >(&made);
+        let mut pen = seen.no_pen();
+        let found = word.compare_exchange::<MakeRight, NoTrade>(
+            made,
+            made + 1,
+            &mut seen,
+            &mut offer,
+            &mut pen,
+        );
+        if found != made {
+            return None;
+        }
+        let _word: Word<Batch, u64, HistoryRule> = Word::tracked(0, &mut pen);
+        Some(pen)
+    }
+
+    /// Adds a batch to the history, and says whether it did; where it did not, nothing changes. It does where the right for
+    /// the batch after this one is to be had.
+    pub fn push(&mut self, end: &mut HistoryEnd, batch: &Batch) -> bool
+        requires end { IsEnd end.old.word end.old.pen.book end.old.pen.nib self.old }
+        requires room { length self.old.batches < 2 ^ 62 }
+        ensures end { IsEnd end.new.word end.new.pen.book end.new.pen.nib self.new }
+        ensures book { self.new.book ≡ self.old.book }
+        ensures batches { MatchBool result (self.new.batches ≡ self.old.batches ++ batch.now ∷ []) (self.new ≡ self.old) }
+    {
+        let Some(next) = self.right(&end.word, self.count + 1) else {
+            return false;
+        };
         let mut offer: Offer<Batch, u64, HistoryRule, NoTrade> = self
             .seen
             .plain::<NoTrade, Batch, AddBatch>(batch);
-        let mut pen = self.seen.no_pen();
-        let count = self.count;
-        let found = end
-            .word
-            .compare_exchange::<AddBatch, NoTrade>(
-                count,
-                count + 1,
-                &mut self.seen,
-                &mut offer,
-                &mut pen,
-            );
-        self.count = if found == count { count + 1 } else { found };
-        found == count
+        end.word
+            .compare_exchange::<AddBatch, NoTrade>(0, 0, &mut self.seen, &mut offer, &mut end.pen);
+        self.count += 1;
+        end.pen = next;
+        true
+    }
+
+    /// What any other one has begins this one, which is whole: its end says so. It changes nothing.
+    pub fn confirm(&self, end: &mut HistoryEnd, other: &History)
+        requires end { IsEnd end.old.word end.old.pen.book end.old.pen.nib self.now }
+        requires book { other.now.book ≡ self.now.book }
+        ensures end { IsEnd end.new.word end.new.pen.book end.new.pen.nib self.now }
+        ensures whole { IsPrefix other.now.batches self.now.batches }
+    {
+        let mut both = self.seen.again();
+        both.learn(&other.seen);
+        let mut offer: Offer<Batch, u64, HistoryRule, NoTrade> = both.plain::<
+            NoTrade,
+            u64,
+            Confirm,
+        >(&self.count);
+        end.word
+            .compare_exchange::<Confirm, NoTrade>(0, 0, &mut both, &mut offer, &mut end.pen);
     }
 }

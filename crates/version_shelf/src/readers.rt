@@ -98,6 +98,13 @@ impl ShelfReader {
         &self.newest.version
     }
 
+    /// What is told of that version.
+    pub fn told(&self) -> &Told
+        ensures { result.now ≡ self.now }
+    {
+        &self.newest
+    }
+
     /// The allocator of its shelf, for what a reader makes of a version.
     pub fn allocator(&self) -> Global {
         self.alloc

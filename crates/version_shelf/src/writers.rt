@@ -4,6 +4,7 @@ ghost use Rattle.std.specs.Prelude.{◌≡◌, ◌<◌, ◌≤◌, ◌⊎◌, �
 ghost use Rattle.std.specs.Arc.{arc_value};
 ghost use Rattle.left_right.specs.Sides.{view};
 ghost use Rattle.graph_version.specs.declared.versions.Version.{Version};
+ghost use mathlib.Core.List.{IsPrefix};
 ghost use Rattle.version_shelf.specs.Shelves.{ToldView, Begins, IsNext, opened_shelf};
 
 use crate::history::{History, HistoryEnd};
@@ -40,7 +41,7 @@ impl Model for ShelfWriter {
     ghost use Rattle.std.specs.Prelude.{◌≡◌, Some};
     ghost use Rattle.version_shelf.specs.Shelves.{ShelfView};
     ghost use Rattle.left_right.specs.Sides.{view as seen_at};
-    ghost use Rattle.version_shelf.specs.Histories.{end_of};
+    ghost use Rattle.version_shelf.specs.Histories.{IsEnd};
     ghost use Rattle.version_shelf.specs.Shelves.{shelf_of, IsShowing};
     ghost use Rattle.std.specs.Coded.{codes};
     ghost use Rattle.graph_model.specs.Coded.{graph_code};
@@ -51,8 +52,8 @@ impl Model for ShelfWriter {
 
     ghost view = { λ w. shelf_of w.history w.place.desk.shown.value };
 
-    ghost invariant = { λ w. (w.end.word ≡ end_of w.history.book) × IsShowing w.history w.place.desk.shown.value
-        × (seen_at w.place.desk.place ≡ Some w.place.desk.shown.value) };
+    ghost invariant = { λ w. IsEnd w.end.word w.end.pen.book w.end.pen.nib w.history
+        × IsShowing w.history w.place.desk.shown.value × (seen_at w.place.desk.place ≡ Some w.place.desk.shown.value) };
 }
 
 impl Drop for ShelfWriter {
@@ -80,7 +81,9 @@ pub fn shelf<R: Wait>(
     ensures count { IfOk result (λ r. vec_len r.1 ≡ readers) }
     ensures readers { IfOk result (λ r. All (λ (x : ToldView). x ≡ record { book = r.0.book; version = opening }) r.1.items) }
 {
-    let (end, history) = History::open();
+    let Some((end, history)) = History::open() else {
+        return Err(ShelfError::NoReader);
+    };
     let version = Arc::new(alloc, opening).map_err(|_| ShelfError::OutOfMemory)?;
     let told = Told {
         version,
@@ -212,12 +215,19 @@ impl ShelfWriter {
         ensures posted { MatchBool result (self.new.posted ≡ self.old.posted ++ batch.now ∷ []) (self.new.posted ≡ self.old.posted) }
         ensures same { self.new ≡ (record self.old { posted = self.new.posted }) }
     {
-        let mut history = self.history.again();
-        if !history.push(&self.end, batch) {
-            return false;
-        }
-        self.history = history;
-        true
+        self.history.push(&mut self.end, batch)
+    }
+
+    /// What was told of a version of this shelf, by a post or by what a reader entered, is a beginning of the posted list. It
+    /// changes nothing, takes no memory and waits for nobody.
+    ///
+    /// So no reader sees a batch that wasn't posted, or sees batches in another order.
+    pub fn confirm(&mut self, told: &Told)
+        requires { told.now.book ≡ self.old.book }
+        ensures published { IsPrefix told.now.version.batches self.old.posted }
+        ensures same { self.new ≡ self.old }
+    {
+        self.history.confirm(&mut self.end, &told.history);
     }
 
     /// Ends the shelf: what it showed last comes back, and all else that it kept is given back. Its readers keep what they have
