@@ -3,6 +3,7 @@
 ghost use Rattle.std.specs.Prelude.{◌≡◌, ℕ, ◌+◌, ◌<◌, ◌≤◌, ◌++◌, [], length, map, replicate, count_by, vec_capacity, vec_len};
 ghost use Rattle.std.specs.Prelude.{IfOk, IfErr, OnOk, OnErr};
 ghost use Rattle.std.specs.Arc.{arc_value};
+ghost use mathlib.Core.List.{IsPrefix};
 ghost use Rattle.graph_version.specs.declared.versions.Version.{Version};
 ghost use Rattle.graph_version.specs.Versions.{content, empty_version};
 ghost use Rattle.graph_version.specs.Kept.{edge_total};
@@ -11,6 +12,7 @@ ghost use Rattle.pin_copy.specs.Copies.{floor_of};
 ghost use Rattle.pin_copy.specs.declared.copies.PinCopy.{PinCopy};
 ghost use Rattle.version_shelf.specs.Shelves.{opened_shelf};
 ghost use Rattle.store_journal.specs.Desks.{IsDesk, IsCollected, births_in, collections};
+ghost use Rattle.store_journal.specs.Dates.{AreDated};
 ghost use Rattle.store_journal.specs.Opening.{opened_desk};
 ghost use Rattle.store_journal.specs.Steps.{Accepts, TakesAt, recycling};
 ghost use Rattle.stream_store.specs.Applying.{IsReceipt};
@@ -30,7 +32,7 @@ use std::alloc::Global;
 use std::marker::Model;
 use std::sync::{Arc, Wait};
 use std::thread::Threads;
-use version_shelf::ShelfWriter;
+use version_shelf::{ShelfWriter, Told};
 
 /// The desk of a store: the last version, the pool, the journal, and the shelf's writer.
 ///
@@ -254,12 +256,28 @@ impl Desk {
         }
     }
 
-    /// What the desk did, in order. It replays legally, to the last version's batches and to what each block is.
+    /// What the desk did, in order. It replays legally, to the last version's batches and to what each block is. So no block
+    /// was born or retired with a number above the last version's.
     pub fn journal(&self) -> &[JournalEntry]
         ensures entries { map entry_of result.now ≡ self.now.desk.journal }
         ensures replays { IsDesk self.now.desk }
+        ensures dated { AreDated (length self.now.desk.last.batches) self.now.desk.pool }
     {
         self.journal.as_slice()
+    }
+
+    /// What a receipt tells, or a seat of this opening has seen, is a beginning of the posted list, which is the desk's. It
+    /// changes nothing, takes no memory and waits for nobody.
+    ///
+    /// ```
+    /// desk.confirm(session.seen());
+    /// ```
+    pub fn confirm(&mut self, told: &Told)
+        requires { told.now.book ≡ self.old.book }
+        ensures published { IsPrefix told.now.version.batches self.old.desk.last.batches }
+        ensures same { self.new ≡ self.old }
+    {
+        self.shelf.confirm(told);
     }
 }
 

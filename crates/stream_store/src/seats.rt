@@ -20,7 +20,7 @@ use std::alloc::AllocError;
 use std::marker::Model;
 use std::sync::{Arc, Wait};
 use version_answers::{NumberedReply, answer, answer_in_numbers};
-use version_shelf::ShelfReader;
+use version_shelf::{ShelfReader, Told};
 
 /// One reader's place, without a session: its number on the board, and its reader of the shelf.
 ///
@@ -146,6 +146,13 @@ impl Seat {
         self.reader.learn(&receipt.told)
     }
 
+    /// What is told of the newest version that the seat entered or learnt.
+    pub fn seen(&self) -> &Told
+        ensures { result.now ≡ self.now.seen }
+    {
+        self.reader.told()
+    }
+
     /// Pins the seat at the present floor, under the board's lock alone. It takes no memory.
     pub fn pin<J: Naming, R: Wait>(self, rt: &R, store: &Store<J>) -> PinnedSeat
         ensures { result ≡ self }
@@ -236,6 +243,13 @@ impl Session {
             Some(version) => version,
             None => self.reader.newest(),
         }
+    }
+
+    /// What is told of the newest version that the session's seat entered or learnt: of the version held, but where that was lent.
+    pub fn seen(&self) -> &Told
+        ensures { result.now ≡ self.now.seen }
+    {
+        self.reader.told()
     }
 
     /// Lets the version go, and takes the seat's pin away, under the board's lock alone. It takes no memory.

@@ -1,5 +1,6 @@
 use Rattle.std.proofs.Common.{subst, rules}
 use Rattle.store_journal.specs.Desks.{IsDesk}
+use Rattle.store_journal.proofs.Dated.{desk_dated}
 use Rattle.stream_store.specs.Kept.{DeskState}
 use Rattle.stream_store.proofs.desk.Desk.journal.Goals as goal
 
@@ -8,3 +9,7 @@ returns-clause-entries c = search rules
 
 pub returns-clause-replays : goal.returns-clause-replays
 returns-clause-replays c = subst (λ (s : DeskState). IsDesk s.desk) c.self.view_is c.self.invariant.desk
+
+pub returns-clause-dated : goal.returns-clause-dated
+returns-clause-dated c =
+    desk_dated c.args.self.now.desk (subst (λ (s : DeskState). IsDesk s.desk) c.self.view_is c.self.invariant.desk)
