@@ -3,6 +3,7 @@
 mod batches;
 mod blanks;
 mod blocks;
+mod collections;
 mod copies;
 mod lanes;
 mod names;

@@ -14,7 +14,7 @@ use std::test::Fail;
 
 /// A pool of 16 blocks, the numbers of the last grant, and those of its blocks that were neither given back nor retired
 /// since.
-struct Hand {
+pub(super) struct Hand {
     pool: Pool,
     numbers: Vec<u32>,
     blocks: Vec<Arc<Block>>,
@@ -44,7 +44,7 @@ impl Model for Hand {
 }
 
 impl Hand {
-    fn new(alloc: Global) -> Result<Hand, AllocError> {
+    pub(super) fn new(alloc: Global) -> Result<Hand, AllocError> {
         Ok(Hand {
             pool: Pool::new(alloc, 16)?,
             numbers: Vec::new(alloc),
@@ -65,7 +65,7 @@ impl Hand {
     }
 
     /// Retires the first block, first listed by version `birth`, with the number of a version.
-    fn retire(&mut self, birth: u64, version: u64) {
+    pub(super) fn retire(&mut self, birth: u64, version: u64) {
         if !self.blocks.is_empty() {
             let block = self.blocks.remove(0);
             self.pool.born(block.number(), birth);
@@ -109,7 +109,7 @@ impl Hand {
 }
 
 /// So many blocks are free, used and retired.
-fn counts(rt: &impl Abort, hand: &Hand, free: u32, used: u32, retired: u32) {
+pub(super) fn counts(rt: &impl Abort, hand: &Hand, free: u32, used: u32, retired: u32) {
     let pool = &hand.pool;
     assert_eq!(rt;
         (pool.free(), pool.used(), pool.retired()),
@@ -117,12 +117,12 @@ fn counts(rt: &impl Abort, hand: &Hand, free: u32, used: u32, retired: u32) {
     );
 }
 
-fn granted(rt: &impl Abort, hand: &mut Hand, count: u32) {
+pub(super) fn granted(rt: &impl Abort, hand: &mut Hand, count: u32) {
     assert_eq!(rt; hand.grant(count), None);
 }
 
 /// So many blocks are freed by a copy.
-fn freed(rt: &impl Abort, hand: &mut Hand, copy: PinCopy, count: u32) {
+pub(super) fn freed(rt: &impl Abort, hand: &mut Hand, copy: PinCopy, count: u32) {
     assert_eq!(rt; hand.recycle(&copy), count, "by {copy:?}");
 }
 

@@ -1,0 +1,212 @@
+// Collections of a pool, told in text: `block BIRTH RETIREMENT` is a block that these versions list first and leave out, and
+// `collect COPY => FREED` a collection by a copy, its last number and then its pins, `SEAT:NUMBER` for a settled one and
+// `SEAT?NUMBER` for one that isn't. What is freed was worked out by hand, and is also what a plain look at each retired
+// block says.
+
+ghost use Rattle.std.specs.Prelude.{◌<◌};
+ghost use Rattle.pin_copy.specs.declared.copies.TheConstants.{SEATS};
+
+use crate::tests::pools::{Hand, counts, freed, granted};
+use pin_copy::{PinCopy, SEATS};
+use std::process::Abort;
+use std::test::Fail;
+
+/// When a retired block was first listed, and when it was left out.
+#[derive(Clone, Copy)]
+struct Dates {
+    birth: u64,
+    retirement: u64,
+}
+
+/// The retired blocks, in any order.
+#[derive(Drop)]
+struct Retired {
+    dates: [Option<Dates>; 16],
+}
+
+impl Retired {
+    fn none() -> Retired {
+        Retired { dates: [None; 16] }
+    }
+
+    fn add(&mut self, dates: Dates) {
+        for place in &mut self.dates {
+            if place.is_none() {
+                *place = Some(dates);
+                return;
+            }
+        }
+    }
+
+    /// Leaves the blocks that a copy needs, and counts the others.
+    fn collect(&mut self, copy: &PinCopy) -> u32 {
+        let mut count = 0_u32;
+        for place in &mut self.dates {
+            if is_due(*place, copy) {
+                *place = None;
+                count = count.wrapping_add(1);
+            }
+        }
+        count
+    }
+}
+
+fn is_due(place: Option<Dates>, copy: &PinCopy) -> bool {
+    match place {
+        Some(dates) => !copy.needs(dates.birth, dates.retirement),
+        None => false,
+    }
+}
+
+fn number(rt: &impl Abort, word: &str) -> u64 {
+    word.parse().expect(rt, "a number")
+}
+
+/// A seat's place among the pins.
+fn seat(rt: &impl Abort, word: &str) -> usize
+    ensures { result < SEATS }
+{
+    let seat = word.parse::<usize>().expect(rt, "a seat");
+    assert!(rt; seat < SEATS);
+    seat
+}
+
+fn set_pin(rt: &impl Abort, copy: &mut PinCopy, word: &str) {
+    if let Some((place, pin)) = word.split_once(':') {
+        copy.settled[seat(rt, place)] = Some(number(rt, pin));
+    }
+    if let Some((place, pin)) = word.split_once('?') {
+        copy.unsettled[seat(rt, place)] = Some(number(rt, pin));
+    }
+}
+
+fn copy_of(rt: &impl Abort, text: &str) -> PinCopy {
+    let (last, pins) = text.split_once(' ').unwrap_or((text, ""));
+    let mut copy = PinCopy {
+        last: number(rt, last),
+        ..PinCopy::none()
+    };
+    for word in pins.split_whitespace() {
+        set_pin(rt, &mut copy, word);
+    }
+    copy
+}
+
+fn retires(rt: &impl Abort, hand: &mut Hand, retired: &mut Retired, text: &str) {
+    let (birth, retirement) = text.split_once(' ').expect(rt, "two versions");
+    let dates = Dates {
+        birth: number(rt, birth),
+        retirement: number(rt, retirement),
+    };
+    granted(rt, hand, 1);
+    hand.retire(dates.birth, dates.retirement);
+    retired.add(dates);
+}
+
+fn collects(rt: &impl Abort, hand: &mut Hand, retired: &mut Retired, text: &str) {
+    let (copy, wanted) = text.split_once(" => ").expect(rt, "a copy");
+    let copy = copy_of(rt, copy);
+    assert_eq!(rt; retired.collect(&copy), count(rt, wanted), "{text}");
+    freed(rt, hand, copy, count(rt, wanted));
+}
+
+fn count(rt: &impl Abort, word: &str) -> u32 {
+    word.parse().expect(rt, "a count")
+}
+
+fn plays(rt: &impl Abort, hand: &mut Hand, retired: &mut Retired, line: &str) {
+    let (event, rest) = line.split_once(' ').expect(rt, "an event");
+    if event == "block" {
+        retires(rt, hand, retired, rest);
+    } else {
+        collects(rt, hand, retired, rest);
+    }
+}
+
+/// Plays each line, in order; no block is retired in the end.
+fn all(rt: &impl Abort, hand: &mut Hand, lines: &[&str]) {
+    let mut retired = Retired::none();
+    for line in lines {
+        plays(rt, hand, &mut retired, line);
+    }
+    counts(rt, hand, 16, 0, 0);
+}
+
+/// Blocks that one seat's pin kept go to another seat's, or are freed.
+const SEVERAL_SEATS: [&str; 12] = [
+    "block 1 3",
+    "block 2 5",
+    "block 4 6",
+    "block 1 6",
+    "collect 6 0:2 7:4 => 0",
+    "collect 6 7:4 => 1",
+    "collect 6 0:5 7:4 => 0",
+    "collect 6 0:5 => 1",
+    "collect 6 3:5 => 0",
+    "block 6 7",
+    "collect 7 3:5 => 1",
+    "collect 7 => 2",
+];
+
+#[test]
+fn keeps_what_some_seat_needs(rt: HostRuntime) -> Result<(), Fail> {
+    all(&rt, &mut Hand::new(rt.alloc())?, &SEVERAL_SEATS);
+    Ok(())
+}
+
+const ONE_SEAT: [&str; 9] = [
+    "block 1 2",
+    "block 2 3",
+    "block 3 4",
+    "collect 4 15:1 => 2",
+    "block 4 5",
+    "block 1 6",
+    "collect 6 15:2 => 2",
+    "collect 6 15:5 => 0",
+    "collect 6 15:6 => 1",
+];
+
+#[test]
+fn frees_what_a_pin_leaves_behind(rt: HostRuntime) -> Result<(), Fail> {
+    all(&rt, &mut Hand::new(rt.alloc())?, &ONE_SEAT);
+    Ok(())
+}
+
+const UNSETTLED: [&str; 10] = [
+    "block 1 3",
+    "block 3 5",
+    "block 5 6",
+    "collect 6 15?4 => 1",
+    "collect 6 15?4 => 0",
+    "block 2 4",
+    "collect 6 15?4 => 1",
+    "collect 6 15?5 => 1",
+    "collect 6 15:5 => 0",
+    "collect 6 15:6 => 1",
+];
+
+#[test]
+fn keeps_all_that_an_unsettled_pin_may_need(rt: HostRuntime) -> Result<(), Fail> {
+    all(&rt, &mut Hand::new(rt.alloc())?, &UNSETTLED);
+    Ok(())
+}
+
+/// The copy's last number is older than what was retired.
+const LATE: [&str; 10] = [
+    "block 1 9",
+    "block 2 4",
+    "collect 3 2:2 => 0",
+    "collect 3 => 0",
+    "collect 4 => 1",
+    "collect 8 1:8 => 0",
+    "collect 9 => 1",
+    "block 0 18446744073709551615",
+    "collect 18446744073709551614 => 0",
+    "collect 18446744073709551615 => 1",
+];
+
+#[test]
+fn keeps_what_was_retired_after_the_copy(rt: HostRuntime) -> Result<(), Fail> {
+    all(&rt, &mut Hand::new(rt.alloc())?, &LATE);
+    Ok(())
+}
