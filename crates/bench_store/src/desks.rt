@@ -61,6 +61,23 @@ pub(crate) fn insertions(alloc: Global, edges: &mut Edges, count: u32) -> io::Re
     Ok(batch)
 }
 
+fn removal(alloc: Global, edge: (u32, u32)) -> Result<NamedOp, AllocError> {
+    Ok(NamedOp::Remove {
+        kind: Name::of(String::from_str(alloc, "k")?),
+        source: vertex_name(alloc, edge.0)?,
+        target: vertex_name(alloc, edge.1)?,
+    })
+}
+
+/// The removals of the next edges, at most 4,096.
+pub(crate) fn removals(alloc: Global, edges: &mut Edges, count: u32) -> io::Result<Batch> {
+    let mut batch = Batch::new(alloc);
+    for _ in 0..count {
+        push(&mut batch, removal(alloc, edges.next_edge())?)?;
+    }
+    Ok(batch)
+}
+
 /// Applies a batch.
 pub(crate) fn apply_alone<R: Threads + Wait + Sync>(
     rt: &R,
@@ -73,14 +90,20 @@ pub(crate) fn apply_alone<R: Threads + Wait + Sync>(
     }
 }
 
-/// Recycles what was retired, and tells how many blocks that were.
-pub(crate) fn collect_all(desk: &mut Desk) -> u32 {
+/// Recycles what was retired and no pin of a copy needs, and tells how many blocks that were. The copy's last number is
+/// taken from the desk.
+pub(crate) fn collect(desk: &mut Desk, pins: &PinCopy) -> u32 {
     let number = desk.stat().number;
     let copy = PinCopy {
         last: number,
-        ..PinCopy::none()
+        ..*pins
     };
     desk.collect(&copy).recycled
+}
+
+/// Recycles what was retired, and tells how many blocks that were.
+pub(crate) fn collect_all(desk: &mut Desk) -> u32 {
+    collect(desk, &PinCopy::none())
 }
 
 /// Applies a batch, and recycles what it retired.

@@ -6,6 +6,7 @@
 mod analyses;
 mod batches;
 mod blocks;
+mod collections;
 mod desks;
 mod edges;
 mod names;
@@ -52,6 +53,7 @@ fn measure<R: Threads + Wait + Sync + Clock + CpuClock + Print + AllocGlobal>(
         "batches" => batches::measure(rt, rounds),
         "versions" => versions::measure(rt, rounds),
         "stores" => stores::measure(rt, rounds),
+        "collections" => collections::measure(rt, rounds),
         "names" => names::measure(rt, rounds),
         _ => Ok(()),
     }
