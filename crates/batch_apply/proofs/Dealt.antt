@@ -1,6 +1,6 @@
 -- Shards that have got their fresh blocks.
 use Rattle.std.proofs.Common.{◌≡◌, ℕ, zero, suc, ◌+◌, ◌<◌, ◌≤◌, ◌==◌, true, false, cond, List, [], ◌∷◌, ◌++◌, length, map}
-use Rattle.std.proofs.Common.{flat_map, refl, sym, ap, ap₂, ◌∙◌, arith, subst, All}
+use Rattle.std.proofs.Common.{flat_map, refl, sym, ap, ap₂, ◌∙◌, arith, subst, All, Option}
 use Rattle.std.specs.List.{sum_by, range_with_len, AllZip}
 use Rattle.std.proofs.lemmas.Bool.{eqb-true}
 use Rattle.std.proofs.lemmas.List.{length-map}
@@ -8,16 +8,18 @@ use Rattle.std.proofs.lemmas.List.Sums.{sum_by-cons}
 use Rattle.std.proofs.lemmas.List.Elements.{All-nil, All-cons}
 use Rattle.graph_model.specs.declared.ids.VertexId.{VertexId}
 use Rattle.graph_model.specs.declared.batches.NamedOp.{NamedOp}
+use Rattle.graph_model.specs.declared.changes.EdgeChange.{EdgeChange}
+use Rattle.graph_model.specs.Graph.{Key}
 use Rattle.edge_block.specs.Slots.{BlockView}
 use Rattle.block_layout.specs.Operations.{names_after, kinds_after}
-use Rattle.block_layout.specs.Batches.{Resolved, resolved, shard_of, shard_ops}
+use Rattle.block_layout.specs.Batches.{Resolved, AtKey, resolved, shard_of, shard_ops}
 use Rattle.shard_work.specs.RowBlocks.{numbers_of}
 use Rattle.shard_work.specs.Shards.{AreSteps, resolved_at}
 use Rattle.shard_work.specs.Done.{IsShardDone, sources_in, steps_in}
 use Rattle.shard_work.specs.declared.shard.Shard.{Shard}
 use Rattle.shard_work.specs.declared.shard.ShardDone.{ShardDone}
 use Rattle.shard_work.specs.declared.shard.Step.{Step}
-use Rattle.batch_plan.specs.Shards.{AreShardSteps, IsShardOf}
+use Rattle.batch_plan.specs.Shards.{unsourced, AreShardSteps, IsShardOf}
 use Rattle.batch_apply.specs.Jobs.{steps_of, IsDealt, IsShard, AreDone}
 use Rattle.batch_apply.specs.declared.workers.Job.{Job}
 
@@ -31,36 +33,43 @@ module _ (workers : ℕ) where
   abbrev in_shards : List Resolved → ℕ → ℕ → ℕ
   in_shards rs a k = sum_by (λ w. length (shard_ops workers w rs)) (range_with_len a k)
 
-  none_more : (r : Resolved) (rs : List Resolved) (a k : ℕ) → shard_of workers r.source < a
-      → in_shards (r ∷ rs) a k ≡ in_shards rs a k
-  none_more r rs a zero lt = refl
-  none_more r rs a (suc k) lt =
-      let c = sum_by-cons (λ w. length (shard_ops workers w (r ∷ rs))) a (range_with_len (a + 1) k) in
-      let d = sum_by-cons (λ w. length (shard_ops workers w rs)) a (range_with_len (a + 1) k) in
-      let rest = none_more r rs (a + 1) k (omega arith) in
-      elim (shard_of workers r.source == a) as (λ b. shard_of workers r.source == a ≡ b
-      → in_shards (r ∷ rs) a (suc k) ≡ length (cond b (r ∷ shard_ops workers a rs) (shard_ops workers a rs)) + in_shards
-      (r ∷ rs) (a + 1) k
-      → in_shards (r ∷ rs) a (suc k) ≡ in_shards rs a (suc k)) [
-        | true ↦ λ t e. let same : shard_of workers r.source ≡ a = eqb-true (shard_of workers r.source) a t in absurd
-            (omega (arith, same, lt))
-        | false ↦ λ t e. omega (arith, e, d, rest)
-      ] refl c
+  -- an operation on an edge is in one shard
+  module _ (own : Option ℕ) (key : Option Key) (change : EdgeChange) where
+    abbrev r : Resolved
+    r = AtKey own key change
+
+    none_more : (rs : List Resolved) (a k : ℕ) → shard_of workers own < a → in_shards (r ∷ rs) a k ≡ in_shards rs a k
+    none_more rs a zero lt = refl
+    none_more rs a (suc k) lt =
+        let c = sum_by-cons (λ w. length (shard_ops workers w (r ∷ rs))) a (range_with_len (a + 1) k) in
+        let d = sum_by-cons (λ w. length (shard_ops workers w rs)) a (range_with_len (a + 1) k) in
+        let rest = none_more rs (a + 1) k (omega arith) in
+        elim (shard_of workers own == a) as (λ b. shard_of workers own == a ≡ b
+        → in_shards (r ∷ rs) a (suc k) ≡ length (cond b (r ∷ shard_ops workers a rs) (shard_ops workers a rs)) + in_shards
+        (r ∷ rs) (a + 1) k
+        → in_shards (r ∷ rs) a (suc k) ≡ in_shards rs a (suc k)) [
+          | true ↦ λ t e. let same : shard_of workers own ≡ a = eqb-true (shard_of workers own) a t in absurd
+              (omega (arith, same, lt))
+          | false ↦ λ t e. omega (arith, e, d, rest)
+        ] refl c
+
+    one_edge_more : (rs : List Resolved) (a k : ℕ) → in_shards (r ∷ rs) a k ≤ 1 + in_shards rs a k
+    one_edge_more rs a zero = omega arith
+    one_edge_more rs a (suc k) =
+        let c = sum_by-cons (λ w. length (shard_ops workers w (r ∷ rs))) a (range_with_len (a + 1) k) in
+        let d = sum_by-cons (λ w. length (shard_ops workers w rs)) a (range_with_len (a + 1) k) in
+        elim (shard_of workers own == a) as (λ b. shard_of workers own == a ≡ b
+        → in_shards (r ∷ rs) a (suc k) ≡ length (cond b (r ∷ shard_ops workers a rs) (shard_ops workers a rs)) + in_shards
+        (r ∷ rs) (a + 1) k
+        → in_shards (r ∷ rs) a (suc k) ≤ 1 + in_shards rs a (suc k)) [
+          | true ↦ λ t e.
+              let same : shard_of workers own ≡ a = eqb-true (shard_of workers own) a t in
+              let rest = none_more rs (a + 1) k (omega (arith, same)) in omega (arith, e, d, rest)
+          | false ↦ λ t e. let rest = one_edge_more rs (a + 1) k in omega (arith, e, d, rest)
+        ] refl c
 
   one_more : (r : Resolved) (rs : List Resolved) (a k : ℕ) → in_shards (r ∷ rs) a k ≤ 1 + in_shards rs a k
-  one_more r rs a zero = omega arith
-  one_more r rs a (suc k) =
-      let c = sum_by-cons (λ w. length (shard_ops workers w (r ∷ rs))) a (range_with_len (a + 1) k) in
-      let d = sum_by-cons (λ w. length (shard_ops workers w rs)) a (range_with_len (a + 1) k) in
-      elim (shard_of workers r.source == a) as (λ b. shard_of workers r.source == a ≡ b
-      → in_shards (r ∷ rs) a (suc k) ≡ length (cond b (r ∷ shard_ops workers a rs) (shard_ops workers a rs)) + in_shards
-      (r ∷ rs) (a + 1) k
-      → in_shards (r ∷ rs) a (suc k) ≤ 1 + in_shards rs a (suc k)) [
-        | true ↦ λ t e.
-            let same : shard_of workers r.source ≡ a = eqb-true (shard_of workers r.source) a t in
-            let rest = none_more r rs (a + 1) k (omega (arith, same)) in omega (arith, e, d, rest)
-        | false ↦ λ t e. let rest = one_more r rs (a + 1) k in omega (arith, e, d, rest)
-      ] refl c
+  one_more (AtKey own key change) rs a k = one_edge_more own key change rs a k
 
   no_more : (a k : ℕ) → in_shards [] a k ≡ 0
   no_more a zero = refl
@@ -75,9 +84,9 @@ module _ (workers : ℕ) where
       → steps_of shard ≡ length (shard_ops workers w rs)
   steps_are rs w shard is =
       sym (length-map shard.steps.items (λ (s : Step). resolved_at (sources_in shard) s.change s.place))
-      ∙ sym (length-map (steps_in shard) (λ (r : Resolved). (r.key, r.change)))
+      ∙ sym (length-map (steps_in shard) unsourced)
       ∙ ap length is.acts_are
-      ∙ length-map (shard_ops workers w rs) (λ (r : Resolved). (r.key, r.change))
+      ∙ length-map (shard_ops workers w rs) unsourced
 
   steps_sum : (rs : List Resolved) (a k : ℕ) (shards : List Shard) → AllZip (IsShardOf workers rs) (range_with_len a k) shards
       → sum_by steps_of shards ≡ in_shards rs a k

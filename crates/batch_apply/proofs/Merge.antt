@@ -6,8 +6,8 @@ use Rattle.std.proofs.lemmas.List.Elements.{All-head, All-tail}
 use Rattle.graph_model.specs.Graph.{Graph}
 use Rattle.graph_model.specs.declared.batches.NamedOp.{NamedOp}
 use Rattle.block_layout.specs.Rows.{Shape, OpenBlock, untouched, row_end}
-use Rattle.block_layout.specs.Batches.{Resolved, resolved, shard_of, shard_ops, picked, rows_all, rows_step, outcomes_all}
-use Rattle.block_layout.specs.Batches.{opened, layout_after, key_is_of, row_step}
+use Rattle.block_layout.specs.Batches.{Resolved, resolved, is_in_shard, shard_ops, picked, rows_all, rows_step, outcomes_all}
+use Rattle.block_layout.specs.Batches.{opened, layout_after, acts_on, row_step}
 use Rattle.block_layout.proofs.ShardLaws.{shard_rows, shard_outcomes}
 use Rattle.batch_apply.specs.Plans.{placed_ops, shard_at, ops_of}
 
@@ -46,7 +46,7 @@ module _ (workers w : ℕ) (ops : List NamedOp) (g : Graph) (layout : ℕ → Li
   shard = shard_at workers (placed_ops ops g) w
 
   pub same_ops : ops_of shard ≡ shard_ops workers w (resolved ops g.names g.kinds)
-  same_ops = shard_is (λ r. shard_of workers r.source == w) (resolved ops g.names g.kinds) 0
+  same_ops = shard_is (is_in_shard workers w) (resolved ops g.names g.kinds) 0
 
   -- the row that a shard leaves of one of its sources is the batch's
   pub shard_layout : (source : ℕ) → (source % workers == w) ≡ true → row_end (rows_all (ops_of shard) (opened layout) source)
@@ -57,12 +57,12 @@ module _ (workers w : ℕ) (ops : List NamedOp) (g : Graph) (layout : ℕ → Li
 
   -- a shard's outcomes stand at their places of the batch's
   pub shard_places : zip (map (λ x. x.0) shard) (outcomes_all (ops_of shard) (opened layout))
-      ≡ picked (λ (x : ℕ × Resolved). shard_of workers x.1.source == w) (placed_ops ops g)
+      ≡ picked (λ (x : ℕ × Resolved). is_in_shard workers w x.1) (placed_ops ops g)
       (enumerate_from 0 (outcomes_all (resolved ops g.names g.kinds) (opened layout)))
   shard_places =
       ap (λ rs. zip (map (λ x. x.0) shard) (outcomes_all rs (opened layout))) same_ops
       ∙ ap (zip (map (λ x. x.0) shard)) (shard_outcomes workers w ops g.names g.kinds (opened layout))
-      ∙ placed_results (λ r. shard_of workers r.source == w) (resolved ops g.names g.kinds)
+      ∙ placed_results (is_in_shard workers w) (resolved ops g.names g.kinds)
       (outcomes_all (resolved ops g.names g.kinds) (opened layout)) 0
 
 -- a row that no operation names stays
@@ -70,15 +70,15 @@ pub kept_all : (row : List Shape) → row_end (map untouched row) ≡ row
 kept_all [] = refl
 kept_all (b ∷ row) = ap (λ xs. b ∷ xs) (kept_all row)
 
-pub unnamed_rows : (rs : List Resolved) (rows : ℕ → List OpenBlock) (source : ℕ) → All (λ r. key_is_of source r.key ≡ false) rs
+pub unnamed_rows : (rs : List Resolved) (rows : ℕ → List OpenBlock) (source : ℕ) → All (λ r. acts_on source r ≡ false) rs
     → rows_all rs rows source ≡ rows source
 unnamed_rows [] rows source h = refl
 unnamed_rows (r ∷ rs) rows source h =
-    unnamed_rows rs (rows_step r rows) source (All-tail (λ r. key_is_of source r.key ≡ false) r rs h)
-    ∙ ap (λ b. cond b (row_step r.change r.key (rows source)) (rows source))
-    (All-head (λ r. key_is_of source r.key ≡ false) r rs h)
+    unnamed_rows rs (rows_step r rows) source (All-tail (λ r. acts_on source r ≡ false) r rs h)
+    ∙ ap (λ b. cond b (row_step r (rows source)) (rows source))
+    (All-head (λ r. acts_on source r ≡ false) r rs h)
 
 pub unnamed_layout : (ops : List NamedOp) (g : Graph) (layout : ℕ → List Shape) (source : ℕ)
-    → All (λ r. key_is_of source r.key ≡ false) (resolved ops g.names g.kinds) → layout_after ops g layout source ≡ layout source
+    → All (λ r. acts_on source r ≡ false) (resolved ops g.names g.kinds) → layout_after ops g layout source ≡ layout source
 unnamed_layout ops g layout source h = ap row_end (unnamed_rows (resolved ops g.names g.kinds) (opened layout) source h)
     ∙ kept_all (layout source)

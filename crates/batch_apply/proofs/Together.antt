@@ -7,13 +7,12 @@ use Rattle.std.proofs.lemmas.Bool.{eqb-true, eqb-false, false_from_ne_true, true
 use Rattle.std.proofs.lemmas.List.{length-map, get_or-map}
 use Rattle.std.proofs.lemmas.List.Sums.{sum_by-cons, sum_by-append}
 use Rattle.std.proofs.lemmas.List.Elements.{All-head, All-tail, All-cons, All-nil, All-append, All-map}
-use Rattle.graph_model.specs.Graph.{Graph, Key}
+use Rattle.graph_model.specs.Graph.{Graph}
 use Rattle.graph_model.specs.Step.{after_all}
 use Rattle.graph_model.specs.declared.batches.NamedOp.{NamedOp}
-use Rattle.graph_model.specs.declared.changes.EdgeChange.{EdgeChange}
 use Rattle.block_layout.specs.Rows.{Shape, OpenBlock, untouched, taken_in, dropped_in, shape_of, row_end}
-use Rattle.block_layout.specs.Batches.{Resolved, resolved, shard_ops, rows_all, opened, key_is_of, taken_by}
-use Rattle.block_layout.specs.Batches.{dropped_by, outcomes_all, layout_after, sum_below}
+use Rattle.block_layout.specs.Batches.{Resolved, AtKey, resolved, is_in_shard, shard_ops, rows_all, opened, key_is_of}
+use Rattle.block_layout.specs.Batches.{acts_on, taken_by, dropped_by, outcomes_all, layout_after, sum_below}
 use Rattle.shard_work.specs.Births.{births_end}
 use Rattle.graph_version.specs.Versions.{is_in}
 use Rattle.shard_work.specs.Shards.{IsPlace, key_at, resolved_at}
@@ -22,7 +21,7 @@ use Rattle.shard_work.specs.declared.shard.Shard.{Shard}
 use Rattle.shard_work.specs.declared.shard.ShardDone.{ShardDone}
 use Rattle.shard_work.specs.declared.shard.Step.{Step}
 use Rattle.shard_work.specs.declared.shard.Place.{Place}
-use Rattle.batch_plan.specs.Shards.{acts, is_of, IsShardOf}
+use Rattle.batch_plan.specs.Shards.{acts, unsourced, IsShardOf}
 use Rattle.batch_apply.specs.Plans.{results}
 use Rattle.batch_apply.specs.Sums.{ArePlanned}
 use Rattle.batch_apply.proofs.Totals.{sum_all, worker_rows, worker_unnamed, count_more, same_outcomes}
@@ -153,14 +152,14 @@ module _ (workers : ℕ) (ops : List NamedOp) (g : Graph) where
 
   -- a source that a shard doesn't list is named by none of its operations
   unlisted : (w m : ℕ) (shard : Shard) → IsShardOf workers (resolved ops g.names g.kinds) w shard
-      → times m (sources_in shard) ≡ 0 → All (λ r. key_is_of m r.key ≡ false) (shard_ops workers w (resolved ops g.names g.kinds))
+      → times m (sources_in shard) ≡ 0 → All (λ r. acts_on m r ≡ false) (shard_ops workers w (resolved ops g.names g.kinds))
   unlisted w m shard is none =
-      let P : (Option Key × EdgeChange) → Type 0 = λ a. key_is_of m a.0 ≡ false in
-      let steps : All P (acts (steps_in shard)) = All-map P (λ (r : Resolved). (r.key, r.change)) (steps_in shard)
-      (All-map (λ (r : Resolved). key_is_of m r.key ≡ false) (λ (s : Step). resolved_at (sources_in shard) s.change s.place)
+      let P : Resolved → Type 0 = λ r. acts_on m r ≡ false in
+      let steps : All P (acts (steps_in shard)) = All-map P unsourced (steps_in shard)
+      (All-map (λ (r : Resolved). P (unsourced r)) (λ (s : Step). resolved_at (sources_in shard) s.change s.place)
       shard.steps.items
       (λ k d lt. one (get_or shard.steps.items k d).place (is.in_range k d lt).0)) in
-      from_acts P (shard_ops workers w (resolved ops g.names g.kinds)) (subst (λ as'. All P as') is.acts_are steps)
+      from_acts (shard_ops workers w (resolved ops g.names g.kinds)) (subst (λ as'. All P as') is.acts_are steps)
     where
       one : (p : Option Place) → IsPlace (length (sources_in shard)) p → key_is_of m (key_at (sources_in shard) p) ≡ false
       one None h = refl
@@ -171,11 +170,14 @@ module _ (workers : ℕ) (ops : List NamedOp) (g : Graph) where
           subst (λ k. times k (sources_in shard) ≡ 0) same none in
           omega arith)
 
-      from_acts : (P : (Option Key × EdgeChange) → Type 0) (rs : List Resolved) → All P (acts rs)
-          → All (λ r. P (r.key, r.change)) rs
-      from_acts P [] all = All-nil (λ (r : Resolved). P (r.key, r.change))
-      from_acts P (r ∷ rs) all = All-cons (λ (r : Resolved). P (r.key, r.change)) r rs
-          (All-head P (r.key, r.change) (acts rs) all) (from_acts P rs (All-tail P (r.key, r.change) (acts rs) all))
+      back : (r : Resolved) → acts_on m (unsourced r) ≡ false → acts_on m r ≡ false
+      back (AtKey own key change) h = h
+
+      from_acts : (rs : List Resolved) → All (λ r. acts_on m r ≡ false) (acts rs) → All (λ r. acts_on m r ≡ false) rs
+      from_acts [] all = All-nil (λ (r : Resolved). acts_on m r ≡ false)
+      from_acts (r ∷ rs) all = All-cons (λ (r : Resolved). acts_on m r ≡ false) r rs
+          (back r (All-head (λ (r : Resolved). acts_on m r ≡ false) (unsourced r) (acts rs) all))
+          (from_acts rs (All-tail (λ (r : Resolved). acts_on m r ≡ false) (unsourced r) (acts rs) all))
 
   module _ (positive : 0 < workers) (shards : List Shard) (planned : ArePlanned workers ops g shards)
       (layout : ℕ → List Shape) where
@@ -293,7 +295,7 @@ module _ (workers w : ℕ) (ops : List NamedOp) (g : Graph) (before : ℕ → Li
   all_outcomes = outcomes_all (resolved ops g.names g.kinds) (opened (layout_by before))
 
   -- a shard's outcomes are the batch's at the shard's places
-  pub shard_outcomes_at : done.outcomes.items ≡ results (is_of workers w) (resolved ops g.names g.kinds) all_outcomes 0
+  pub shard_outcomes_at : done.outcomes.items ≡ results (is_in_shard workers w) (resolved ops g.names g.kinds) all_outcomes 0
   shard_outcomes_at =
       is.outcomes_are
       ∙ ap₂ zip planned.places

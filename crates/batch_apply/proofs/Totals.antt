@@ -1,49 +1,44 @@
 -- Sums over the sources of shards are sums over all sources.
 use Rattle.std.proofs.Common.{◌≡◌, ℕ, zero, suc, ◌+◌, ◌%◌, ◌<◌, ◌≤◌, ◌==◌, List, [], ◌∷◌, map, filter}
-use Rattle.std.proofs.Common.{count_by, Bool, true, false, cond, not, ◌&&◌, refl, sym, ap, ap₂, ◌∙◌, arith, Option}
+use Rattle.std.proofs.Common.{count_by, Bool, true, false, cond, not, ◌&&◌, refl, sym, ap, ap₂, ◌∙◌, arith}
 use Rattle.std.proofs.Common.{All}
 use Rattle.std.specs.List.{sum_by}
 use Rattle.std.proofs.lemmas.Bool.{eqb-true, eqb-false, false_from_ne_true}
 use Rattle.std.proofs.lemmas.List.Sums.{sum_by-cons}
 use Rattle.std.proofs.lemmas.List.Elements.{All-head, All-tail, All-cons, All-nil}
-use Rattle.graph_model.specs.Graph.{Graph, Key}
+use Rattle.graph_model.specs.Graph.{Graph}
 use Rattle.graph_model.specs.declared.batches.NamedOp.{NamedOp}
-use Rattle.graph_model.specs.declared.changes.EdgeChange.{EdgeChange}
 use Rattle.block_layout.specs.Rows.{Shape, OpenBlock, untouched, taken_in, dropped_in, has_none}
-use Rattle.block_layout.specs.Batches.{Resolved, resolved, shard_ops, sum_below, rows_all, rows_step, row_step, outcome_in}
-use Rattle.block_layout.specs.Batches.{outcomes_all, opened, key_is_of}
+use Rattle.block_layout.specs.Batches.{Resolved, AtKey, resolved, shard_ops, sum_below, rows_all, rows_step, outcome_in}
+use Rattle.block_layout.specs.Batches.{outcomes_all, opened, acts_on}
 use Rattle.block_layout.proofs.ShardLaws.{shard_rows}
-use Rattle.batch_plan.specs.Shards.{acts, IsShardOf}
+use Rattle.batch_plan.specs.Shards.{acts, unsourced, IsShardOf}
 use Rattle.shard_work.specs.Done.{steps_in}
 use Rattle.shard_work.specs.declared.shard.Shard.{Shard}
 use Rattle.batch_apply.proofs.Merge.{unnamed_rows}
 
--- rows and outcomes depend on the operations and their keys alone
+-- rows and outcomes don't depend on the sources' numbers beside the keys
+unsourced_rows : (r : Resolved) (rows : ℕ → List OpenBlock) → rows_step (unsourced r) rows ≡ rows_step r rows
+unsourced_rows (AtKey own key change) rows = refl
+
+unsourced_outcome : (r : Resolved) (rows : ℕ → List OpenBlock) → outcome_in (unsourced r) rows ≡ outcome_in r rows
+unsourced_outcome (AtKey own key change) rows = refl
+
+acts_rows : (rs : List Resolved) (rows : ℕ → List OpenBlock) → rows_all (acts rs) rows ≡ rows_all rs rows
+acts_rows [] rows = refl
+acts_rows (r ∷ rs) rows = ap (rows_all (acts rs)) (unsourced_rows r rows) ∙ acts_rows rs (rows_step r rows)
+
+acts_outcomes : (rs : List Resolved) (rows : ℕ → List OpenBlock) → outcomes_all (acts rs) rows ≡ outcomes_all rs rows
+acts_outcomes [] rows = refl
+acts_outcomes (r ∷ rs) rows = ap₂ (λ o os. o ∷ os) (unsourced_outcome r rows)
+    (ap (outcomes_all (acts rs)) (unsourced_rows r rows) ∙ acts_outcomes rs (rows_step r rows))
+
 pub same_rows : (rs ss : List Resolved) → acts rs ≡ acts ss → (rows : ℕ → List OpenBlock) → rows_all rs rows ≡ rows_all ss rows
-same_rows [] [] e rows = refl
-same_rows [] (s ∷ ss) e rows = cc
-same_rows (r ∷ rs) [] e rows = cc
-same_rows (r ∷ rs) (s ∷ ss) e rows =
-    let pair : (let p : Option Key × EdgeChange = (r.key, r.change) in p) ≡ (s.key, s.change) = cc in
-    let key : r.key ≡ s.key = ap (λ (p : Option Key × EdgeChange). p.0) pair in
-    let change : r.change ≡ s.change = ap (λ (p : Option Key × EdgeChange). p.1) pair in
-    let rest : acts rs ≡ acts ss = cc in
-    ap (rows_all rs) (λ i source. cond (key_is_of source (key i)) (row_step (change i) (key i) (rows source)) (rows source))
-    ∙ same_rows rs ss rest (rows_step s rows)
+same_rows rs ss e rows = sym (acts_rows rs rows) ∙ ap (λ xs. rows_all xs rows) e ∙ acts_rows ss rows
 
 pub same_outcomes : (rs ss : List Resolved) → acts rs ≡ acts ss → (rows : ℕ → List OpenBlock)
     → outcomes_all rs rows ≡ outcomes_all ss rows
-same_outcomes [] [] e rows = refl
-same_outcomes [] (s ∷ ss) e rows = cc
-same_outcomes (r ∷ rs) [] e rows = cc
-same_outcomes (r ∷ rs) (s ∷ ss) e rows =
-    let pair : (let p : Option Key × EdgeChange = (r.key, r.change) in p) ≡ (s.key, s.change) = cc in
-    let key : r.key ≡ s.key = ap (λ (p : Option Key × EdgeChange). p.0) pair in
-    let change : r.change ≡ s.change = ap (λ (p : Option Key × EdgeChange). p.1) pair in
-    let rest : acts rs ≡ acts ss = cc in
-    ap₂ (λ o os. o ∷ os) (λ i. outcome_in (change i) (key i) rows)
-    (ap (outcomes_all rs) (λ i source. cond (key_is_of source (key i)) (row_step (change i) (key i) (rows source))
-    (rows source)) ∙ same_outcomes rs ss rest (rows_step s rows))
+same_outcomes rs ss e rows = sym (acts_outcomes rs rows) ∙ ap (λ xs. outcomes_all xs rows) e ∙ acts_outcomes ss rows
 
 -- a row that is not touched takes and drops nothing
 pub count_more : {A : Type 0} (p : A → Bool) (x : A) (xs : List A) → count_by p (x ∷ xs) ≡ cond (p x) 1 0 + count_by p xs
@@ -149,7 +144,7 @@ worker_rows workers w ops g shard is rows source own =
 -- the row of a source that no operation of its shard names stays, and neither takes nor drops a block
 pub worker_unnamed : (workers w : ℕ) (ops : List NamedOp) (g : Graph) (layout : ℕ → List Shape) (source : ℕ)
     → (source % workers == w) ≡ true
-    → All (λ r. key_is_of source r.key ≡ false) (shard_ops workers w (resolved ops g.names g.kinds))
+    → All (λ r. acts_on source r ≡ false) (shard_ops workers w (resolved ops g.names g.kinds))
     → (taken_in (rows_all (resolved ops g.names g.kinds) (opened layout) source) ≡ 0)
     × (dropped_in (rows_all (resolved ops g.names g.kinds) (opened layout) source) ≡ 0)
 worker_unnamed workers w ops g layout source own none =

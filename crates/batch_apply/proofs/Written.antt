@@ -4,8 +4,7 @@ use Rattle.std.proofs.Common.{refl, sym, ap, ◌∙◌, ◌||◌, arith, Option,
 use Rattle.std.specs.List.{range_with_len, list_any}
 use Rattle.std.proofs.lemmas.List.{append_assoc}
 use Rattle.std.proofs.lemmas.Bool.{eqb-false}
-use Rattle.block_layout.specs.Batches.{Resolved, shard_of}
-use Rattle.batch_plan.specs.Shards.{is_of}
+use Rattle.block_layout.specs.Batches.{Resolved, AtKey, shard_of, is_in_shard}
 use Rattle.batch_apply.specs.Plans.{written, results, written_all}
 
 -- the results of the operations that pass, and else what stood there
@@ -66,17 +65,17 @@ mixed_all d h (r ∷ rs) (y ∷ ys) [] a b = absurd (omega arith)
 mixed_all d h (r ∷ rs) (y ∷ ys) (x ∷ xs) a b = λ i. cond (h r i) y x ∷ mixed_all d h rs ys xs (omega arith) (omega arith) i
 
 abbrev done : ℕ → List ℕ → Resolved → Bool
-done workers ws r = list_any (λ w. is_of workers w r) ws
+done workers ws r = list_any (λ w. is_in_shard workers w r) ws
 
 steps : {A : Type 0} (workers : ℕ) (ws : List ℕ) (d : Resolved → Bool) (rs : List Resolved) (ys xs : List A)
     → length ys ≡ length rs → length xs ≡ length rs
     → written_all workers ws rs ys (mixed d rs ys xs) ≡ mixed (λ r. done workers ws r || d r) rs ys xs
 steps workers [] d rs ys xs a b = refl
 steps workers (w ∷ ws) d rs ys xs a b =
-    ap (written_all workers ws rs ys) (one_shard (is_of workers w) rs ys [] (mixed d rs ys xs) 0 refl a
-    (mixed_length d rs ys xs b) ∙ mixed_twice (is_of workers w) d rs ys xs)
-    ∙ steps workers ws (λ r. is_of workers w r || d r) rs ys xs a b
-    ∙ (λ i. mixed (λ r. turn (done workers ws r) (is_of workers w r) (d r) i) rs ys xs) where
+    ap (written_all workers ws rs ys) (one_shard (is_in_shard workers w) rs ys [] (mixed d rs ys xs) 0 refl a
+    (mixed_length d rs ys xs b) ∙ mixed_twice (is_in_shard workers w) d rs ys xs)
+    ∙ steps workers ws (λ r. is_in_shard workers w r || d r) rs ys xs a b
+    ∙ (λ i. mixed (λ r. turn (done workers ws r) (is_in_shard workers w r) (d r) i) rs ys xs) where
       turn : (a b c : Bool) → (a || (b || c)) ≡ ((b || a) || c)
       turn true true c = refl
       turn true false c = refl
@@ -95,6 +94,11 @@ every : (workers : ℕ) → 0 < workers → (s : Option ℕ) → shard_of worker
 every workers h None = h
 every workers h (Some source) = mod-lt source h
 
+some_shard : (workers : ℕ) → 0 < workers → (r : Resolved)
+    → list_any (λ w. is_in_shard workers w r) (range_with_len 0 workers) ≡ true
+some_shard workers h (AtKey source key change) =
+    let lt = every workers h source in in_range (shard_of workers source) 0 workers (omega arith) (omega arith)
+
 none_yet : {A : Type 0} (rs : List Resolved) (ys xs : List A) → xs ≡ mixed (λ _. false) rs ys xs
 none_yet [] ys xs = refl
 none_yet (r ∷ rs) [] xs = refl
@@ -109,5 +113,4 @@ all_written workers h rs ys xs a b =
     ap (written_all workers (range_with_len 0 workers) rs ys) (none_yet rs ys xs)
     ∙ steps workers (range_with_len 0 workers) (λ _. false) rs ys xs a b
     ∙ mixed_all (λ r. done workers (range_with_len 0 workers) r || false)
-    (λ r. let lt = every workers h r.source in ap (λ b. b || false)
-    (in_range (shard_of workers r.source) 0 workers (omega arith) (omega arith))) rs ys xs a b
+    (λ r. ap (λ b. b || false) (some_shard workers h r)) rs ys xs a b

@@ -1,17 +1,16 @@
 -- A plan: a batch's operations with the numbers of their names, by shard.
-use Rattle.std.specs.Prelude.{ℕ, ◌==◌, List, [], ◌∷◌, map, filter, set, Bool}
+use Rattle.std.specs.Prelude.{ℕ, List, [], ◌∷◌, map, filter, set, Bool}
 use Rattle.std.specs.List.{enumerate_from}
 use Rattle.graph_model.specs.Graph.{Graph}
 use Rattle.graph_model.specs.declared.batches.NamedOp.{NamedOp}
-use Rattle.block_layout.specs.Batches.{Resolved, resolved, shard_of, picked}
-use Rattle.batch_plan.specs.Shards.{is_of}
+use Rattle.block_layout.specs.Batches.{Resolved, resolved, is_in_shard, picked}
 
 -- the batch's operations, each with its place
 abbrev pub placed_ops : List NamedOp → Graph → List (ℕ × Resolved)
 placed_ops ops g = enumerate_from 0 (resolved ops g.names g.kinds)
 
 abbrev pub shard_at : ℕ → List (ℕ × Resolved) → ℕ → List (ℕ × Resolved)
-shard_at workers ops w = filter (λ p. shard_of workers p.1.source == w) ops
+shard_at workers ops w = filter (λ p. is_in_shard workers w p.1) ops
 
 -- the operations of a shard without their places
 abbrev pub ops_of : List (ℕ × Resolved) → List Resolved
@@ -29,4 +28,4 @@ results p rs ys k = picked (λ (x : ℕ × Resolved). p x.1) (enumerate_from k r
 -- the results of these shards, written one shard after another
 abbrev pub written_all : {A : Type 0} → ℕ → List ℕ → List Resolved → List A → List A → List A
 written_all workers [] rs ys xs = xs
-written_all workers (w ∷ ws) rs ys xs = written_all workers ws rs ys (written (results (is_of workers w) rs ys 0) xs)
+written_all workers (w ∷ ws) rs ys xs = written_all workers ws rs ys (written (results (is_in_shard workers w) rs ys 0) xs)

@@ -10,8 +10,8 @@ ghost use Rattle.graph_model.specs.declared.batches.NamedOp.{NamedOp};
 ghost use Rattle.graph_model.specs.declared.batches.Outcome.{Outcome};
 ghost use Rattle.block_layout.specs.Rows.{OpenBlock, shape_of};
 ghost use Rattle.block_layout.specs.Batches.{Resolved, resolved, rows_all, sum_below, taken_by, dropped_by, outcomes_all};
-ghost use Rattle.block_layout.specs.Batches.{opened, layout_after};
-ghost use Rattle.batch_plan.specs.Shards.{is_of, IsShardOf};
+ghost use Rattle.block_layout.specs.Batches.{opened, layout_after, is_in_shard};
+ghost use Rattle.batch_plan.specs.Shards.{IsShardOf};
 ghost use Rattle.batch_apply.specs.Sums.{ArePlanned};
 ghost use Rattle.shard_work.specs.Done.{IsShardDone, layout_by, steps_in};
 ghost use Rattle.shard_work.specs.declared.shard.Shard.{Shard};
@@ -57,7 +57,7 @@ pub fn law_shard_results()
     ensures outcomes { (workers w : ℕ) (ops : List NamedOp) (g : Graph) (before : ℕ → List BlockView) (shard : Shard)
         (done : ShardDone)
         → IsShardOf workers (resolved ops g.names g.kinds) w shard → IsShardDone before shard done
-        → done.outcomes.items ≡ results (is_of workers w) (resolved ops g.names g.kinds)
+        → done.outcomes.items ≡ results (is_in_shard workers w) (resolved ops g.names g.kinds)
         (outcomes_all (resolved ops g.names g.kinds) (opened (layout_by before))) 0 }
     ensures layout { (workers w : ℕ) (ops : List NamedOp) (g : Graph) (before : ℕ → List BlockView) (shard : Shard)
         (done : ShardDone)

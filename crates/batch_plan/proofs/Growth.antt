@@ -12,12 +12,12 @@ use Rattle.std.proofs.lemmas.List.Elements.{All-head, All-tail, All-nil, All-con
 use Rattle.std.proofs.lemmas.List.Quantifiers.{all_pairs_push}
 use Rattle.graph_model.specs.Graph.{Key}
 use Rattle.graph_model.specs.declared.changes.EdgeChange.{EdgeChange}
-use Rattle.block_layout.specs.Batches.{Resolved, shard_of, shard_ops}
+use Rattle.block_layout.specs.Batches.{Resolved, AtKey, IsPlaced, shard_of, is_in_shard, shard_ops}
 use Rattle.graph_model.specs.Changes.{IsChange}
 use Rattle.shard_work.specs.Shards.{AreSteps, IsPlace, key_at, resolved_at, resolved_in}
 use Rattle.shard_work.specs.declared.shard.Place.{Place}
 use Rattle.shard_work.specs.declared.shard.Step.{Step}
-use Rattle.batch_plan.specs.Shards.{acts, is_of, IsPlaced, IsSourceBelow, AreShardSteps, with_source}
+use Rattle.batch_plan.specs.Shards.{acts, unsourced, IsSourceBelow, AreShardSteps, with_source}
 
 no_more : {A : Type 0} (xs : List A) → xs ++ [] ≡ xs
 no_more [] = refl
@@ -106,8 +106,8 @@ acts_stay : (o : Option Key) (sources : List ℕ) (steps : List Step) → AreSte
 acts_stay o sources [] all = refl
 acts_stay o sources (s ∷ steps) all =
     let Fine : Step → Type 0 = λ s. IsPlace (length sources) s.place × IsChange s.change in
-    ap₂ (λ (a : Option Key × EdgeChange) as'. a ∷ as')
-    (ap (λ (q : Option Key). (q, s.change)) (key_stays o sources s.place (All-head Fine s steps all).0))
+    ap₂ (λ (a : Resolved) as'. a ∷ as')
+    (ap (λ (q : Option Key). AtKey None q s.change) (key_stays o sources s.place (All-head Fine s steps all).0))
     (acts_stay o sources steps (All-tail Fine s steps all))
 
 wider : (n m : ℕ) → n ≤ m → (p : Option Place) → IsPlace n p → IsPlace m p
@@ -127,65 +127,73 @@ none_yet workers w = record {
   within = λ n all. All-nil (λ s. s < n);
 }
 
-module _ (workers w : ℕ) (rs : List Resolved) (r : Resolved) (sources : List ℕ) (steps : List Step)
-    (is : AreShardSteps workers rs w sources steps) where
-  abbrev numbers : List (ℕ × Resolved) → List ℕ
-  numbers ps = map (λ (p : ℕ × Resolved). p.0) (filter (λ (p : ℕ × Resolved). is_of workers w p.1) ps)
+abbrev numbers : ℕ → ℕ → List (ℕ × Resolved) → List ℕ
+numbers workers w ps = map (λ (p : ℕ × Resolved). p.0) (filter (λ (p : ℕ × Resolved). is_in_shard workers w p.1) ps)
 
-  next_places : numbers (enumerate_from 0 (rs ++ r ∷ [])) ≡ numbers (enumerate_from 0 rs) ++ numbers ((length rs, r) ∷ [])
-  next_places =
-      ap numbers (enumerated_last 0 rs r (length rs) (omega arith))
-      ∙ ap (map (λ (p : ℕ × Resolved). p.0)) (filter-append (λ (p : ℕ × Resolved). is_of workers w p.1) (enumerate_from 0 rs)
-      ((length rs, r) ∷ []))
-      ∙ map-append (λ (p : ℕ × Resolved). p.0) (filter (λ (p : ℕ × Resolved). is_of workers w p.1) (enumerate_from 0 rs))
-      (filter (λ (p : ℕ × Resolved). is_of workers w p.1) ((length rs, r) ∷ []))
+next_places : (workers w : ℕ) (rs : List Resolved) (r : Resolved) → numbers workers w (enumerate_from 0 (rs ++ r ∷ []))
+    ≡ numbers workers w (enumerate_from 0 rs) ++ numbers workers w ((length rs, r) ∷ [])
+next_places workers w rs r =
+    ap (numbers workers w) (enumerated_last 0 rs r (length rs) (omega arith))
+    ∙ ap (map (λ (p : ℕ × Resolved). p.0)) (filter-append (λ (p : ℕ × Resolved). is_in_shard workers w p.1) (enumerate_from 0 rs)
+    ((length rs, r) ∷ []))
+    ∙ map-append (λ (p : ℕ × Resolved). p.0) (filter (λ (p : ℕ × Resolved). is_in_shard workers w p.1) (enumerate_from 0 rs))
+    (filter (λ (p : ℕ × Resolved). is_in_shard workers w p.1) ((length rs, r) ∷ []))
 
-  next_acts : acts (shard_ops workers w (rs ++ r ∷ [])) ≡ acts (shard_ops workers w rs) ++ acts (shard_ops workers w (r ∷ []))
-  next_acts =
-      ap acts (filter-append (is_of workers w) rs (r ∷ []))
-      ∙ map-append (λ (r : Resolved). (r.key, r.change)) (shard_ops workers w rs) (shard_ops workers w (r ∷ []))
+next_acts : (workers w : ℕ) (rs : List Resolved) (r : Resolved)
+    → acts (shard_ops workers w (rs ++ r ∷ [])) ≡ acts (shard_ops workers w rs) ++ acts (shard_ops workers w (r ∷ []))
+next_acts workers w rs r =
+    ap acts (filter-append (is_in_shard workers w) rs (r ∷ []))
+    ∙ map-append unsourced (shard_ops workers w rs) (shard_ops workers w (r ∷ []))
 
-  -- an operation of another worker changes nothing
-  pub passed : is_of workers w r ≡ false → AreShardSteps workers (rs ++ r ∷ []) w sources steps
-  passed out = record {
-    places = is.places ∙ sym (next_places ∙ ap (λ b. numbers (enumerate_from 0 rs)
-        ++ map (λ (p : ℕ × Resolved). p.0) (cond b ((length rs, r) ∷ []) [])) out ∙ no_more (numbers (enumerate_from 0 rs)));
-    acts_are = is.acts_are ∙ sym (next_acts ∙ ap (λ b. acts (shard_ops workers w rs) ++ acts (cond b (r ∷ []) [])) out
-        ∙ no_more (acts (shard_ops workers w rs)));
-    in_range = is.in_range;
-    distinct = is.distinct;
-    own = is.own;
-    within = λ n all. is.within n (all_left (IsSourceBelow n) rs (r ∷ []) all);
-  }
+-- an operation of another worker changes nothing
+pub passed : (workers w : ℕ) (rs : List Resolved) (r : Resolved) (sources : List ℕ) (steps : List Step)
+    → AreShardSteps workers rs w sources steps → is_in_shard workers w r ≡ false
+    → AreShardSteps workers (rs ++ r ∷ []) w sources steps
+passed workers w rs r sources steps is out = record {
+  places = is.places ∙ sym (next_places workers w rs r ∙ ap (λ b. numbers workers w (enumerate_from 0 rs)
+      ++ map (λ (p : ℕ × Resolved). p.0) (cond b ((length rs, r) ∷ []) [])) out
+      ∙ no_more (numbers workers w (enumerate_from 0 rs)));
+  acts_are = is.acts_are ∙ sym (next_acts workers w rs r
+      ∙ ap (λ b. acts (shard_ops workers w rs) ++ acts (cond b (r ∷ []) [])) out ∙ no_more (acts (shard_ops workers w rs)));
+  in_range = is.in_range;
+  distinct = is.distinct;
+  own = is.own;
+  within = λ n all. is.within n (all_left (IsSourceBelow n) rs (r ∷ []) all);
+}
+
+module _ (workers w : ℕ) (rs : List Resolved) (of : Option ℕ) (key : Option Key) (change : EdgeChange) (sources : List ℕ)
+    (steps : List Step) (is : AreShardSteps workers rs w sources steps) where
+  abbrev r : Resolved
+  r = AtKey of key change
 
   -- one of the worker's own is added, with its source
-  pub added : is_of workers w r ≡ true → IsPlaced r → (next : List ℕ) (s : Step) → next ≡ with_source r.key sources
+  pub added : is_in_shard workers w r ≡ true → IsPlaced r → (next : List ℕ) (s : Step) → next ≡ with_source key sources
       → s.op ≡ length rs
-      → key_at next s.place ≡ r.key → IsPlace (length next) s.place → s.change ≡ r.change → IsChange s.change
+      → key_at next s.place ≡ key → IsPlace (length next) s.place → s.change ≡ change → IsChange s.change
       → AreShardSteps workers (rs ++ r ∷ []) w next (steps ++ s ∷ [])
-  added mine placed next s grows op key place change valid =
+  added mine placed next s grows op at place does valid =
       subst (λ (ss : List ℕ). AreShardSteps workers (rs ++ r ∷ []) w ss (steps ++ s ∷ [])) (sym grows)
-      (let more : List ℕ = with_source r.key sources in
-      let key_is : key_at more s.place ≡ r.key = subst (λ ss. key_at ss s.place ≡ r.key) grows key in
+      (let more : List ℕ = with_source key sources in
+      let key_is : key_at more s.place ≡ key = subst (λ ss. key_at ss s.place ≡ key) grows at in
       let place_is : IsPlace (length more) s.place = subst (λ ss. IsPlace (length ss) s.place) grows place in
       record {
         places =
             map-append (λ (t : Step). t.op) steps (s ∷ [])
             ∙ ap₂ (λ a b. a ++ b ∷ []) is.places op
-            ∙ sym (next_places ∙ ap (λ b. numbers (enumerate_from 0 rs)
+            ∙ sym (next_places workers w rs r ∙ ap (λ b. numbers workers w (enumerate_from 0 rs)
             ++ map (λ (p : ℕ × Resolved). p.0) (cond b ((length rs, r) ∷ []) [])) mine);
         acts_are =
             ap acts (map-append (λ (t : Step). resolved_at more t.change t.place) steps (s ∷ []))
-            ∙ map-append (λ (r : Resolved). (r.key, r.change)) (resolved_in more steps) (resolved_in more (s ∷ []))
-            ∙ ap₂ (λ (a : List (Option Key × EdgeChange)) (b : Option Key × EdgeChange). a ++ b ∷ [])
-            (acts_stay r.key sources steps is.in_range ∙ is.acts_are)
-            (λ i. (key_is i, change i))
-            ∙ sym (next_acts ∙ ap (λ b. acts (shard_ops workers w rs) ++ acts (cond b (r ∷ []) [])) mine);
+            ∙ map-append unsourced (resolved_in more steps) (resolved_in more (s ∷ []))
+            ∙ ap₂ (λ (a : List Resolved) (b : Resolved). a ++ b ∷ [])
+            (acts_stay key sources steps is.in_range ∙ is.acts_are)
+            (λ i. AtKey None (key_is i) (does i))
+            ∙ sym (next_acts workers w rs r ∙ ap (λ b. acts (shard_ops workers w rs) ++ acts (cond b (r ∷ []) [])) mine);
         in_range = All-push (λ (s : Step). IsPlace (length more) s.place × IsChange s.change) steps s
-            (steps_wider (length sources) (length more) (more_length r.key sources) steps is.in_range) (place_is, valid);
-        distinct = more_distinct r.key sources is.distinct;
-        own = more_all (λ s. s % workers ≡ w) r.key sources is.own
+            (steps_wider (length sources) (length more) (more_length key sources) steps is.in_range) (place_is, valid);
+        distinct = more_distinct key sources is.distinct;
+        own = more_all (λ s. s % workers ≡ w) key sources is.own
             (λ k e. eqb-true (k.source % workers) w (ap (λ o. shard_of workers o == w) (sym (placed k e)) ∙ mine));
-        within = λ n all. more_all (λ s. s < n) r.key sources (is.within n (all_left (IsSourceBelow n) rs (r ∷ []) all))
+        within = λ n all. more_all (λ s. s < n) key sources (is.within n (all_left (IsSourceBelow n) rs (r ∷ []) all))
             (last_of (IsSourceBelow n) rs r all);
       })

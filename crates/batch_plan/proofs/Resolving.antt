@@ -4,14 +4,13 @@ use Rattle.std.proofs.Common.{Option, Some, None, arith}
 use Rattle.graph_model.specs.Graph.{Key}
 use Rattle.graph_model.specs.Step.{number_of}
 use Rattle.graph_model.specs.declared.batches.NamedOp.{NamedOp}
-use Rattle.block_layout.specs.Operations.{source_name, target_name, kind_name, change_of, names_after, kinds_after}
-use Rattle.block_layout.specs.Batches.{Resolved, is_known, resolve, resolved}
+use Rattle.block_layout.specs.Operations.{Parts, OfEdge, parts_of, names_after, kinds_after}
+use Rattle.block_layout.specs.Batches.{Resolved, AtKey, IsPlaced, is_known, resolve_parts, resolved}
 use Rattle.std.proofs.lemmas.List.Elements.{All-nil, All-cons}
-use Rattle.batch_plan.specs.Shards.{IsPlaced}
 use Rattle.batch_plan.specs.declared.resolve.Ends.{Ends}
 use Rattle.std.proofs.lemmas.List.{length-map}
 use Rattle.batch_plan.specs.declared.resolve.ResolvedOp.{ResolvedOp}
-use Rattle.batch_plan.specs.Plan.{known, shown, ends_in, ends_all, key_from, with_kind, with_kinds}
+use Rattle.batch_plan.specs.Plan.{known, shown, ends_by, ends_all, key_from, with_kind, with_kinds}
 
 key_cases : (a b c : Bool) (k s t : ℕ)
     → key_from (cond a (Some k) None) (cond b (Some s) None) (cond c (Some t) None) ≡ cond (a && (b && c))
@@ -21,17 +20,17 @@ key_cases true false c k s t = refl
 key_cases true true false k s t = refl
 key_cases true true true k s t = refl
 
-one_resolved : (names kinds : List (List ℕ)) (op : NamedOp) → with_kind kinds (ends_in names op) op ≡ resolve names kinds op
-one_resolved names kinds op =
-    ap (λ (key : Option Key).
-    let r : Resolved = record { source = known names (source_name op); key = key; change = change_of op } in r)
-    (key_cases (is_known kinds (kind_name op)) (is_known names (source_name op)) (is_known names (target_name op))
-    (number_of kinds (kind_name op)) (number_of names (source_name op)) (number_of names (target_name op)))
+one_resolved : (names kinds : List (List ℕ)) (op : Parts)
+    → with_kind kinds (ends_by names op) op ≡ resolve_parts names kinds op
+one_resolved names kinds (OfEdge change kind source target) =
+    ap (λ (key : Option Key). AtKey (known names source) key change)
+    (key_cases (is_known kinds kind) (is_known names source) (is_known names target) (number_of kinds kind)
+    (number_of names source) (number_of names target))
 
 pub resolved_is : (ops : List NamedOp) (names kinds : List (List ℕ))
     → with_kinds (ends_all ops names) ops kinds ≡ resolved ops names kinds
 resolved_is [] names kinds = refl
-resolved_is (op ∷ ops) names kinds = λ i. one_resolved (names_after op names) (kinds_after op kinds) op i
+resolved_is (op ∷ ops) names kinds = λ i. one_resolved (names_after op names) (kinds_after op kinds) (parts_of op) i
     ∷ resolved_is ops (names_after op names) (kinds_after op kinds) i
 
 pub as_many_ends : (ops : List NamedOp) (names : List (List ℕ)) → length (ends_all ops names) ≡ length ops
@@ -58,12 +57,15 @@ placed_parts (Some a) (Some s) (Some t) k e =
     let same : (let key : Key = record { kind = a; source = s; target = t } in key) ≡ k = cc in
     ap (λ (q : Key). Some q.source) same
 
+one_placed : (kinds : List (List ℕ)) (e : Ends) (op : Parts) → IsPlaced (with_kind kinds e op)
+one_placed kinds e (OfEdge change kind source target) = placed_parts (known kinds kind) e.source e.target
+
 all_placed : (ends : List Ends) (ops : List NamedOp) (kinds : List (List ℕ)) → All IsPlaced (with_kinds ends ops kinds)
 all_placed [] ops kinds = All-nil IsPlaced
 all_placed (e ∷ ends) [] kinds = All-nil IsPlaced
 all_placed (e ∷ ends) (op ∷ ops) kinds =
-    All-cons IsPlaced (with_kind (kinds_after op kinds) e op) (with_kinds ends ops (kinds_after op kinds))
-    (placed_parts (known (kinds_after op kinds) (kind_name op)) e.source e.target) (all_placed ends ops (kinds_after op kinds))
+    All-cons IsPlaced (with_kind (kinds_after op kinds) e (parts_of op)) (with_kinds ends ops (kinds_after op kinds))
+    (one_placed (kinds_after op kinds) e (parts_of op)) (all_placed ends ops (kinds_after op kinds))
 
 -- an operation with a key is on the key's source
 pub placed_in : (rs : List Resolved) (ends : List Ends) (ops : List NamedOp) (kinds : List (List ℕ))

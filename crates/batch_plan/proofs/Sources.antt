@@ -3,11 +3,11 @@ use Rattle.std.proofs.Common.{◌≡◌, ◌<◌, ℕ, List, [], ◌∷◌, leng
 use Rattle.std.proofs.Common.{Some, None, arith}
 use Rattle.std.proofs.lemmas.List.Elements.{All-nil, All-cons}
 use Rattle.graph_model.specs.Graph.{Graph, Key}
-use Rattle.graph_model.specs.Step.{after_all}
+use Rattle.graph_model.specs.Step.{after_all, key_in}
 use Rattle.graph_model.specs.declared.batches.NamedOp.{NamedOp}
 use Rattle.graph_model.proofs.NameLists.{number_of-lt}
-use Rattle.block_layout.specs.Batches.{is_known, resolve, resolved}
-use Rattle.block_layout.specs.Operations.{source_name, target_name, kind_name, names_after, kinds_after, key_by}
+use Rattle.block_layout.specs.Batches.{is_known, resolve_parts, resolved}
+use Rattle.block_layout.specs.Operations.{Parts, OfEdge, parts_of, names_after, kinds_after}
 use Rattle.shard_work.specs.Done.{sources_in}
 use Rattle.shard_work.specs.declared.shard.Shard.{Shard}
 use Rattle.batch_plan.specs.Plan.{names_all}
@@ -24,20 +24,20 @@ below_if true true true q k n is below =
     let same : q ≡ k = cc in
     subst (λ (x : Key). x.source < n) same (below refl)
 
-one_below : (names kinds : List (List ℕ)) (op : NamedOp) (n : ℕ) → length names ≤ n → IsSourceBelow n (resolve names kinds op)
-one_below names kinds op n few k is =
-    below_if (is_known kinds (kind_name op)) (is_known names (source_name op)) (is_known names (target_name op))
-    (key_by names kinds op) k n is
-    (λ known. omega (arith, few, number_of-lt names (source_name op) known))
+one_below : (names kinds : List (List ℕ)) (op : Parts) (n : ℕ) → length names ≤ n
+    → IsSourceBelow n (resolve_parts names kinds op)
+one_below names kinds (OfEdge change kind source target) n few = λ k is.
+    below_if (is_known kinds kind) (is_known names source) (is_known names target) (key_in names kinds kind source target) k n is
+    (λ known. omega (arith, few, number_of-lt names source known))
 
 all_below : (ops : List NamedOp) (names kinds : List (List ℕ))
     → All (IsSourceBelow (length (names_all ops names))) (resolved ops names kinds)
 all_below [] names kinds = All-nil (IsSourceBelow (length names))
 all_below (op ∷ ops) names kinds =
     let n : ℕ = length (names_all ops (names_after op names)) in
-    All-cons (IsSourceBelow n) (resolve (names_after op names) (kinds_after op kinds) op)
+    All-cons (IsSourceBelow n) (resolve_parts (names_after op names) (kinds_after op kinds) (parts_of op))
     (resolved ops (names_after op names) (kinds_after op kinds))
-    (one_below (names_after op names) (kinds_after op kinds) op n (no_fewer_all ops (names_after op names)))
+    (one_below (names_after op names) (kinds_after op kinds) (parts_of op) n (no_fewer_all ops (names_after op names)))
     (all_below ops (names_after op names) (kinds_after op kinds))
 
 pub sources_within : (workers worker : ℕ) (ops : List NamedOp) (g : Graph) (shard : Shard)

@@ -1,16 +1,17 @@
 -- The numbers of a batch's names, each operation by the names at its place.
-use Rattle.std.specs.Prelude.{ℕ, ◌<◌, ◌≤◌, List, [], ◌∷◌, length, if◌then◌else◌}
+use Rattle.std.specs.Prelude.{◌≡◌, ℕ, ◌<◌, ◌≤◌, List, [], ◌∷◌, length, if◌then◌else◌}
 use Rattle.std.specs.Option.{option_map}
 use Rattle.std.specs.declared.option.Option.{Option}
 use Rattle.std.specs.declared.option.Option.TheVariants.{None, Some}
 use Rattle.graph_model.specs.Graph.{Key}
 use Rattle.graph_model.specs.Step.{number_of}
 use Rattle.graph_model.specs.declared.batches.NamedOp.{NamedOp}
+use Rattle.graph_model.specs.declared.changes.EdgeChange.{EdgeChange}
 use Rattle.vertex_names.specs.Book.{Book}
 use Rattle.vertex_names.specs.declared.book.AddError.{AddError}
 use Rattle.vertex_names.specs.declared.book.AddError.TheVariants.{NamesFull, OutOfMemory}
-use Rattle.block_layout.specs.Operations.{source_name, target_name, kind_name, change_of, names_after, kinds_after}
-use Rattle.block_layout.specs.Batches.{Resolved, is_known}
+use Rattle.block_layout.specs.Operations.{Parts, OfEdge, parts_of, names_after, kinds_after}
+use Rattle.block_layout.specs.Batches.{Resolved, AtKey, is_known}
 use Rattle.batch_plan.specs.declared.plans.PlanError.{PlanError}
 use Rattle.batch_plan.specs.declared.plans.PlanError.TheVariants as plan
 use Rattle.batch_plan.specs.declared.resolve.Ends.{Ends}
@@ -22,8 +23,19 @@ abbrev pub known : List (List ℕ) → List ℕ → Option ℕ
 known names name = if is_known names name then Some (number_of names name) else None
 
 -- the numbers of an operation's source and target, by these names
+abbrev pub ends_by : List (List ℕ) → Parts → Ends
+ends_by names (OfEdge change kind source target) = record { source = known names source; target = known names target }
+
 abbrev pub ends_in : List (List ℕ) → NamedOp → Ends
-ends_in names op = record { source = known names (source_name op); target = known names (target_name op) }
+ends_in names op = ends_by names (parts_of op)
+
+-- the number of an operation's kind, by these kinds
+abbrev pub kind_by : List (List ℕ) → Parts → Option ℕ
+kind_by kinds (OfEdge change kind source target) = known kinds kind
+
+-- what an operation does to the edge at its key
+abbrev pub IsChangeOf : EdgeChange → Parts → Type 0
+IsChangeOf change (OfEdge does kind source target) = change ≡ does
 
 -- the names, and the kinds, after operations, one after another
 abbrev pub names_all : List NamedOp → List (List ℕ) → List (List ℕ)
@@ -47,24 +59,22 @@ key_from (Some kind) (Some source) None = None
 key_from (Some kind) (Some source) (Some target) = Some (record { kind = kind; source = source; target = target })
 
 -- an operation with these ends, by these kinds
-abbrev pub with_kind : List (List ℕ) → Ends → NamedOp → Resolved
-with_kind kinds ends op = record {
-  source = ends.source;
-  key = key_from (known kinds (kind_name op)) ends.source ends.target;
-  change = change_of op;
-}
+abbrev pub with_kind : List (List ℕ) → Ends → Parts → Resolved
+with_kind kinds ends (OfEdge change kind source target) =
+    AtKey ends.source (key_from (known kinds kind) ends.source ends.target) change
 
 abbrev pub with_kinds : List Ends → List NamedOp → List (List ℕ) → List Resolved
 with_kinds [] ops kinds = []
 with_kinds (e ∷ ends) [] kinds = []
-with_kinds (e ∷ ends) (op ∷ ops) kinds = with_kind (kinds_after op kinds) e op ∷ with_kinds ends ops (kinds_after op kinds)
+with_kinds (e ∷ ends) (op ∷ ops) kinds =
+    with_kind (kinds_after op kinds) e (parts_of op) ∷ with_kinds ends ops (kinds_after op kinds)
 
 -- the key and the operation that the program's values show
 abbrev pub key_of : EdgeKey → Key
 key_of k = record { kind = k.kind.0; source = k.source; target = k.target }
 
 abbrev pub shown : ResolvedOp → Resolved
-shown op = record { source = op.source; key = option_map key_of op.key; change = op.change }
+shown op = AtKey op.source (option_map key_of op.key) op.change
 
 abbrev pub with_names : Book → List (List ℕ) → Book
 with_names book names = record book { names = names }

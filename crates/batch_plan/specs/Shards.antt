@@ -1,31 +1,26 @@
 -- The operations of a batch by worker.
-use Rattle.std.specs.Prelude.{◌≡◌, ◌≢◌, ℕ, ◌<◌, ◌%◌, ◌==◌, List, [], ◌∷◌, ◌++◌, map, filter, length, Bool, if◌then◌else◌}
+use Rattle.std.specs.Prelude.{◌≡◌, ◌≢◌, ℕ, ◌<◌, ◌%◌, List, [], ◌∷◌, ◌++◌, map, filter, length, if◌then◌else◌}
 use Rattle.std.specs.Prelude.{nat_eq, All, AllPairs}
 use Rattle.std.specs.List.{enumerate_from, list_any}
 use Rattle.std.specs.declared.option.Option.{Option}
 use Rattle.std.specs.declared.option.Option.TheVariants.{None, Some}
 use Rattle.graph_model.specs.Graph.{Key}
-use Rattle.graph_model.specs.declared.changes.EdgeChange.{EdgeChange}
-use Rattle.block_layout.specs.Batches.{Resolved, shard_of, shard_ops}
+use Rattle.block_layout.specs.Batches.{Resolved, AtKey, is_in_shard, shard_ops}
 use Rattle.shard_work.specs.Shards.{AreSteps, resolved_in}
 use Rattle.shard_work.specs.Done.{sources_in}
 use Rattle.shard_work.specs.declared.shard.Shard.{Shard}
 use Rattle.shard_work.specs.declared.shard.Step.{Step}
 
--- the key and the change of each, which are all that rows and outcomes depend on
-abbrev pub acts : List Resolved → List (Option Key × EdgeChange)
-acts rs = map (λ r. (r.key, r.change)) rs
+-- an operation without its source's number, on which neither rows nor outcomes depend
+abbrev pub unsourced : Resolved → Resolved
+unsourced (AtKey source key change) = AtKey None key change
 
--- whether the operation is the worker's
-abbrev pub is_of : ℕ → ℕ → Resolved → Bool
-is_of workers w r = shard_of workers r.source == w
-
--- an operation with a key is on the key's source
-abbrev pub IsPlaced : Resolved → Type 0
-IsPlaced r = (k : Key) → r.key ≡ Some k → r.source ≡ Some k.source
+-- what each does
+abbrev pub acts : List Resolved → List Resolved
+acts rs = map unsourced rs
 
 abbrev pub IsSourceBelow : ℕ → Resolved → Type 0
-IsSourceBelow n r = (k : Key) → r.key ≡ Some k → k.source < n
+IsSourceBelow n (AtKey source key change) = (k : Key) → key ≡ Some k → k.source < n
 
 -- the sources in order of first appearance, with that of a key
 abbrev pub with_source : Option Key → List ℕ → List ℕ
@@ -34,7 +29,7 @@ with_source (Some k) sources = if list_any (nat_eq k.source) sources then source
 
 -- a worker's operations among those of a batch, in order, each with its place in the batch and that of its source
 pub record AreShardSteps (workers : ℕ) (rs : List Resolved) (w : ℕ) (sources : List ℕ) (steps : List Step) : Type 0 where
-  pub places : map (λ s. s.op) steps ≡ map (λ p. p.0) (filter (λ p. is_of workers w p.1) (enumerate_from 0 rs))
+  pub places : map (λ s. s.op) steps ≡ map (λ p. p.0) (filter (λ p. is_in_shard workers w p.1) (enumerate_from 0 rs))
   pub acts_are : acts (resolved_in sources steps) ≡ acts (shard_ops workers w rs)
   pub in_range : AreSteps (length sources) steps
   pub distinct : AllPairs (λ a b. a ≢ b) sources

@@ -3,8 +3,7 @@
 ghost use Rattle.std.specs.Prelude.{◌≡◌, ◌≤◌, map, IfOk, IfErr, OnOk, All};
 ghost use Rattle.graph_model.specs.Changes.{IsChange};
 ghost use Rattle.graph_model.specs.Valid.{IsValid};
-ghost use Rattle.batch_plan.specs.Shards.{IsPlaced};
-ghost use Rattle.block_layout.specs.Batches.{resolved};
+ghost use Rattle.block_layout.specs.Batches.{resolved, IsPlaced};
 ghost use Rattle.batch_plan.specs.Plan.{names_all, kinds_all, shown, with_names, IsUnplanned};
 
 use crate::plans::PlanError;

@@ -3,10 +3,11 @@
 ghost use Rattle.std.specs.Prelude.{◌≡◌, ◌≤◌, ◌<◌, length, map, IfOk, IfErr, OnOk, All};
 ghost use Rattle.std.specs.List.{range_with_len, AllZip};
 ghost use Rattle.graph_model.specs.Changes.{IsChange};
+ghost use Rattle.block_layout.specs.Batches.{IsPlaced};
 ghost use Rattle.graph_version.specs.Versions.{content};
 ghost use Rattle.batch_plan.specs.Plan.{shown};
 ghost use Rattle.batch_plan.specs.Planned.{IsPlan, MeetsNeitherLimit, IsPlanRefusal};
-ghost use Rattle.batch_plan.specs.Shards.{IsPlaced, IsShardOf};
+ghost use Rattle.batch_plan.specs.Shards.{IsShardOf};
 
 use crate::naming::resolve_batch;
 use crate::plans::{Plan, PlanError};

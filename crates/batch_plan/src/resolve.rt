@@ -5,10 +5,10 @@ ghost use Rattle.graph_model.specs.Step.{with_name};
 ghost use Rattle.graph_model.specs.Changes.{IsChange};
 ghost use Rattle.graph_model.specs.Valid.{is_name, is_kind_name, has_names, IsValid};
 ghost use Rattle.std.specs.Option.{option_map};
-ghost use Rattle.block_layout.specs.Operations.{kind_name, change_of, names_after, kinds_after};
+ghost use Rattle.block_layout.specs.Operations.{parts_of, names_after, kinds_after};
 ghost use Rattle.batch_plan.specs.Plan as plan;
 ghost use Rattle.batch_plan.specs.Plan.{known, ends_in, ends_all, names_all, kinds_all, key_from, key_of, shown, with_names};
-ghost use Rattle.batch_plan.specs.Plan.{IsRefusal};
+ghost use Rattle.batch_plan.specs.Plan.{kind_by, IsChangeOf, IsRefusal};
 
 use graph_model::{EdgeChange, KindId, NamedOp};
 use std::alloc::Global;
@@ -128,7 +128,7 @@ fn find_kind(kinds: &NameBook, kind: &str) -> Option<KindId>
 fn op_kind(kinds: &mut NameBook, op: &NamedOp) -> Result<Option<KindId>, AddError>
     requires limit { kinds.old.limit ≤ 64 }
     requires names { IsTrue (has_names op.now) }
-    ensures kind { IfOk result (λ k. option_map (λ k. k.0) k ≡ known (kinds_after op.now kinds.old.names) (kind_name op.now)) }
+    ensures kind { IfOk result (λ k. option_map (λ k. k.0) k ≡ kind_by (kinds_after op.now kinds.old.names) (parts_of op.now)) }
     ensures kinds { OnOk result (kinds.new ≡ with_names kinds.old (kinds_after op.now kinds.old.names)) }
     ensures refused { IfErr result (λ error. IsRefusal error kinds.old (kinds_after op.now kinds.old.names)) }
 {
@@ -142,7 +142,7 @@ fn op_kind(kinds: &mut NameBook, op: &NamedOp) -> Result<Option<KindId>, AddErro
 /// What an operation does to the edge at its key.
 fn change_by(op: &NamedOp) -> EdgeChange
     requires { IsValid op.now }
-    ensures change { result ≡ change_of op.now }
+    ensures change { IsChangeOf result (parts_of op.now) }
     ensures valid { IsChange result }
 {
     match op {

@@ -4,10 +4,11 @@ ghost use Rattle.std.specs.Prelude.{◌≡◌, ◌+◌, ◌≤◌, ◌<◌, leng
 ghost use Rattle.std.specs.Option.{option_map};
 ghost use Rattle.indexmap.specs.IndexSet.{keys};
 ghost use Rattle.block_layout.specs.Batches as layout;
+ghost use Rattle.block_layout.specs.Batches.{IsPlaced};
 ghost use Rattle.graph_model.specs.Changes.{IsChange};
 ghost use Rattle.shard_work.specs.Shards.{IsPlace, key_at};
 ghost use Rattle.batch_plan.specs.Plan.{key_of, shown};
-ghost use Rattle.batch_plan.specs.Shards.{IsPlaced, IsShardOf, with_source};
+ghost use Rattle.batch_plan.specs.Shards.{IsShardOf, with_source};
 
 use crate::resolve::{EdgeKey, ResolvedOp};
 use graph_model::VertexId;

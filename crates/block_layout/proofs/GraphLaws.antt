@@ -9,20 +9,22 @@ use Rattle.std.specs.FinMap.{FinMap, get, get-insert, get-remove}
 use Rattle.std.proofs.lemmas.Bool.{true≢false, false≢true, and_parts}
 use Rattle.std.proofs.lemmas.List.Elements.{All-head, All-tail, All-cons, All-nil}
 use Rattle.graph_model.specs.Graph.{Graph, Key, Stamp, key_cmp}
-use Rattle.graph_model.specs.Step.{set_at, stamp_after, outcome_at, changed, after, outcome, after_all, outcomes, number_of}
-use Rattle.graph_model.specs.Step.{with_name}
+use Rattle.graph_model.specs.Step.{set_at, stamp_after, outcome_at, changed, changed_key, change_outcome, after, outcome, after_all}
+use Rattle.graph_model.specs.Step.{outcomes, number_of, with_name, names_made, kinds_made}
 use Rattle.graph_model.specs.declared.batches.NamedOp.{NamedOp}
 use Rattle.graph_model.specs.declared.batches.NamedOp.TheVariants.{Insert, Incr, Remove}
+use Rattle.graph_model.specs.declared.batches.Outcome.{Outcome}
 use Rattle.graph_model.specs.declared.batches.Outcome.TheVariants.{Absent}
 use Rattle.graph_model.specs.declared.changes.EdgeChange.{EdgeChange}
-use Rattle.block_layout.specs.Operations.{source_name, target_name, kind_name, change_of, names_after, kinds_after, key_by}
+use Rattle.graph_model.specs.declared.changes.EdgeChange.TheVariants.{Insert as ToInsert, Incr as ToIncr, Remove as ToRemove}
+use Rattle.block_layout.specs.Operations.{Parts, OfEdge, parts_of, names_by, kinds_by, names_after, kinds_after}
 use Rattle.graph_model.proofs.Keys.{keys_total, exact_keys}
 use Rattle.graph_model.proofs.NameLists.{appears-with_name, stays-with_name, number_of-lt, length-names_made, length-kinds_made}
 use Rattle.edge_block.specs.Slots.{Slot, NoKeyTwice, stamp_at, is_free, AreDistinct}
 use Rattle.block_layout.specs.Rows.{Shape, OpenBlock, block_at, row_at, open_at, edge_at, IsRow, change_row, has_none, is_kept}
 use Rattle.block_layout.specs.Rows.{row_end, shapes, untouched}
-use Rattle.block_layout.specs.Batches.{Resolved, resolve, resolved, is_known, key_is_of, row_step, rows_step, rows_all}
-use Rattle.block_layout.specs.Batches.{outcome_in, outcomes_all, IsLayoutOf, opened, layout_after, IsWithin}
+use Rattle.block_layout.specs.Batches.{Resolved, resolve_parts, resolved, is_known, key_is_of, key_step, rows_step, rows_all}
+use Rattle.block_layout.specs.Batches.{key_outcome, outcome_in, outcomes_all, IsLayoutOf, opened, layout_after, IsWithin}
 use Rattle.block_layout.proofs.SlotLaws.{same_number}
 use Rattle.block_layout.proofs.RowLaws.{IsOpenRow, change_sets}
 use Rattle.block_layout.proofs.ListedRows.{tests, tied}
@@ -41,19 +43,19 @@ Shows rows edges = (k : Key) → edge_at (rows k.source) (k.kind, k.target) ≡ 
 abbrev pub AreOpenRows : (ℕ → List OpenBlock) → Type 0
 AreOpenRows rows = (source : ℕ) → IsOpenRow (rows source)
 
--- an operation, by its parts
-abbrev op_key : NamedOp → Graph → Key
-op_key op g = key_by (names_after op g.names) (kinds_after op g.kinds) op
+-- what an operation leaves, and its outcome, by its parts
+abbrev after_parts : Parts → Graph → Graph
+after_parts (OfEdge change kind source target) g = changed change kind source target g
 
-abbrev after_parts : NamedOp → Graph → Graph
-after_parts op g = changed (change_of op) (kind_name op) (source_name op) (target_name op) g
+abbrev outcome_parts : Parts → Graph → Outcome
+outcome_parts (OfEdge change kind source target) g = change_outcome change kind source target g
 
-after_is : (op : NamedOp) (g : Graph) → after op g ≡ after_parts op g
+after_is : (op : NamedOp) (g : Graph) → after op g ≡ after_parts (parts_of op) g
 after_is (Insert kind source target weight time) g = refl
 after_is (Incr kind source target amount time) g = refl
 after_is (Remove kind source target) g = refl
 
-outcome_is : (op : NamedOp) (g : Graph) → outcome op g ≡ outcome_at (change_of op) (get g.edges (op_key op g))
+outcome_is : (op : NamedOp) (g : Graph) → outcome op g ≡ outcome_parts (parts_of op) g
 outcome_is (Insert kind source target weight time) g = refl
 outcome_is (Incr kind source target amount time) g = refl
 outcome_is (Remove kind source target) g = refl
@@ -104,25 +106,26 @@ unknown p (x ∷ xs) h =
 all_known : (a b c : Bool) → a ≡ true → b ≡ true → c ≡ true → (a && (b && c)) ≡ false → ⊥
 all_known a b c p q r h = true≢false ((λ i. sym p i && (sym q i && sym r i)) ∙ h)
 
-module _ (op : NamedOp) (g : Graph) where
-  abbrev knows : Bool
-  knows =
-      is_known (kinds_after op g.kinds) (kind_name op)
-      && (is_known (names_after op g.names) (source_name op) && is_known (names_after op g.names) (target_name op))
+abbrev knows : EdgeChange → List ℕ → List ℕ → List ℕ → Graph → Bool
+knows change kind source target g =
+    is_known (kinds_made change kind g.kinds) kind
+    && (is_known (names_made change source target g.names) source && is_known (names_made change source target g.names) target)
 
 -- an operation with an unknown name is a removal, and nothing is at its key
-unknown_none : (op : NamedOp) (g : Graph) → IsWithin g → knows op g ≡ false
-    → (get g.edges (op_key op g) ≡ None) × (stamp_after (change_of op) None ≡ None) × (outcome_at (change_of op) None ≡ Absent)
-unknown_none (Insert kind source target weight time) g w h =
+unknown_none : (change : EdgeChange) (kind source target : List ℕ) (g : Graph) → IsWithin g
+    → knows change kind source target g ≡ false
+    → (get g.edges (changed_key change kind source target g) ≡ None) × (stamp_after change None ≡ None)
+    × (outcome_at change None ≡ Absent)
+unknown_none (ToInsert weight time) kind source target g w h =
     absurd (all_known _ _ _ (appears-with_name g.kinds kind)
     (stays-with_name (with_name g.names source) target source (appears-with_name g.names source))
     (appears-with_name (with_name g.names source) target) h)
-unknown_none (Incr kind source target amount time) g w h =
+unknown_none (ToIncr amount time) kind source target g w h =
     absurd (all_known _ _ _ (appears-with_name g.kinds kind)
     (stays-with_name (with_name g.names source) target source (appears-with_name g.names source))
     (appears-with_name (with_name g.names source) target) h)
-unknown_none (Remove kind source target) g w h =
-    let key : Key = op_key (Remove kind source target) g in (
+unknown_none ToRemove kind source target g w h =
+    let key : Key = changed_key ToRemove kind source target g in (
       none_is (get g.edges key) (
           elim (is_some (get g.edges key)) as (λ b. is_some (get g.edges key) ≡ b → b ≡ false) [
             | true ↦ λ t.
@@ -148,69 +151,90 @@ set_none m k none q =
     ] refl
     ∙ sym (set_at_get m k None q)
 
-abbrev key_when : NamedOp → Graph → Bool → Option Key
-key_when op g b = cond b (Some (op_key op g)) None
+module _ (change : EdgeChange) (kind source target : List ℕ) (g : Graph) where
+  abbrev key : Key
+  key = changed_key change kind source target g
 
--- one operation
-pub step_shows : (op : NamedOp) (g : Graph) (rows : ℕ → List OpenBlock) → IsWithin g → AreOpenRows rows → Shows rows g.edges
-    → let r = resolve (names_after op g.names) (kinds_after op g.kinds) op in
-    Shows (rows_step r rows) (after_parts op g).edges × AreOpenRows (rows_step r rows)
-    × (outcome_in r.change r.key rows ≡ outcome op g)
-step_shows op g rows w u s =
-    elim (knows op g) as (λ b. knows op g ≡ b →
-    ((q : Key)
-    → edge_at (cond (key_is_of q.source (key_when op g b)) (row_step (change_of op) (key_when op g b) (rows q.source))
-    (rows q.source)) (q.kind, q.target) ≡ get (after_parts op g).edges q)
-    × ((source : ℕ)
-    → IsOpenRow (cond (key_is_of source (key_when op g b)) (row_step (change_of op) (key_when op g b) (rows source))
-    (rows source)))
-    × (outcome_in (change_of op) (key_when op g b) rows ≡ outcome op g)) [
-      | true ↦ λ t. (
-        λ q. shows_key (change_of op) (op_key op g) rows g.edges u s q,
-        rows_key (change_of op) (op_key op g) rows u,
-        ap (outcome_at (change_of op)) (s (op_key op g)) ∙ sym (outcome_is op g),
-      )
-      | false ↦ λ t.
-          let none = unknown_none op g w t in (
-            λ q. s q ∙ set_none g.edges (op_key op g) none.0 q
-                ∙ ap (λ o. get (set_at g.edges (op_key op g) o) q) (sym (ap (stamp_after (change_of op)) none.0 ∙ none.1)),
-            u,
-            sym (outcome_is op g ∙ ap (outcome_at (change_of op)) none.0 ∙ none.2),
-          )
-    ] refl
+  abbrev key_when : Bool → Option Key
+  key_when b = cond b (Some key) None
 
-lies : (op : NamedOp) (g : Graph) (before : Option Stamp) → is_some (stamp_after (change_of op) before) ≡ true
-    → let k = op_key op g in (k.kind < length (kinds_after op g.kinds)) × (k.source < length (names_after op g.names))
-    × (k.target < length (names_after op g.names))
-lies (Insert kind source target weight time) g before is = (
+  -- one operation on one edge
+  edge_shows : (rows : ℕ → List OpenBlock) → IsWithin g → AreOpenRows rows → Shows rows g.edges
+      → let r = resolve_parts (names_made change source target g.names) (kinds_made change kind g.kinds)
+      (OfEdge change kind source target) in
+      Shows (rows_step r rows) (changed change kind source target g).edges × AreOpenRows (rows_step r rows)
+      × (key_outcome change (key_when (knows change kind source target g)) rows ≡ change_outcome change kind source target g)
+  edge_shows rows w u s =
+      elim (knows change kind source target g) as (λ b. knows change kind source target g ≡ b →
+      ((q : Key)
+      → edge_at (cond (key_is_of q.source (key_when b)) (key_step change (key_when b) (rows q.source)) (rows q.source))
+      (q.kind, q.target) ≡ get (changed change kind source target g).edges q)
+      × ((at : ℕ) → IsOpenRow (cond (key_is_of at (key_when b)) (key_step change (key_when b) (rows at)) (rows at)))
+      × (key_outcome change (key_when b) rows ≡ change_outcome change kind source target g)) [
+        | true ↦ λ t. (
+          λ q. shows_key change key rows g.edges u s q,
+          rows_key change key rows u,
+          ap (outcome_at change) (s key),
+        )
+        | false ↦ λ t.
+            let none = unknown_none change kind source target g w t in (
+              λ q. s q ∙ set_none g.edges key none.0 q
+                  ∙ ap (λ o. get (set_at g.edges key o) q) (sym (ap (stamp_after change) none.0 ∙ none.1)),
+              u,
+              sym (ap (outcome_at change) none.0 ∙ none.2),
+            )
+      ] refl
+
+lies : (change : EdgeChange) (kind source target : List ℕ) (g : Graph) (before : Option Stamp)
+    → is_some (stamp_after change before) ≡ true
+    → let k = changed_key change kind source target g in (k.kind < length (kinds_made change kind g.kinds))
+    × (k.source < length (names_made change source target g.names)) × (k.target < length (names_made change source target g.names))
+lies (ToInsert weight time) kind source target g before is = (
   number_of-lt _ kind (appears-with_name g.kinds kind),
   number_of-lt _ source (stays-with_name (with_name g.names source) target source (appears-with_name g.names source)),
   number_of-lt _ target (appears-with_name (with_name g.names source) target),
 )
-lies (Incr kind source target amount time) g before is = (
+lies (ToIncr amount time) kind source target g before is = (
   number_of-lt _ kind (appears-with_name g.kinds kind),
   number_of-lt _ source (stays-with_name (with_name g.names source) target source (appears-with_name g.names source)),
   number_of-lt _ target (appears-with_name (with_name g.names source) target),
 )
-lies (Remove kind source target) g before is = absurd (false≢true is)
+lies ToRemove kind source target g before is = absurd (false≢true is)
 
-pub step_within : (op : NamedOp) (g : Graph) → IsWithin g → IsWithin (after_parts op g)
-step_within op g w q is =
-    elim (eq_by_cmp key_cmp q (op_key op g)) as (λ b. eq_by_cmp key_cmp q (op_key op g) ≡ b
-    → is_some (cond b (stamp_after (change_of op) (get g.edges (op_key op g))) (get g.edges q)) ≡ true
-    → (q.kind < length (kinds_after op g.kinds)) × (q.source < length (names_after op g.names))
-    × (q.target < length (names_after op g.names))) [
+pub step_within : (op : Parts) (g : Graph) → IsWithin g → IsWithin (after_parts op g)
+step_within (OfEdge change kind source target) g w q is =
+    let k : Key = changed_key change kind source target g in
+    let n = length (names_made change source target g.names) in
+    let m = length (kinds_made change kind g.kinds) in
+    elim (eq_by_cmp key_cmp q k) as (λ b. eq_by_cmp key_cmp q k ≡ b
+    → is_some (cond b (stamp_after change (get g.edges k)) (get g.edges q)) ≡ true
+    → (q.kind < m) × (q.source < n) × (q.target < n)) [
       | true ↦ λ t i.
-          subst (λ (k : Key). (k.kind < length (kinds_after op g.kinds)) × (k.source < length (names_after op g.names))
-          × (k.target < length (names_after op g.names)))
-          (sym (exact_keys q (op_key op g) ((Equal-is (key_cmp q (op_key op g))).0 t))) (lies op g (get g.edges (op_key op g)) i)
+          subst (λ (k : Key). (k.kind < m) × (k.source < n) × (k.target < n))
+          (sym (exact_keys q k ((Equal-is (key_cmp q k)).0 t))) (lies change kind source target g (get g.edges k) i)
       | false ↦ λ t i.
           let old = w q i in
-          let more_names = length-names_made (change_of op) (source_name op) (target_name op) g.names in
-          let more_kinds = length-kinds_made (change_of op) (kind_name op) g.kinds in
+          let more_names = length-names_made change source target g.names in
+          let more_kinds = length-kinds_made change kind g.kinds in
           let a = old.0 in let b = old.1 in let c = old.2 in
           (omega arith, omega arith, omega arith)
-    ] refl (ap is_some (sym (set_at_get g.edges (op_key op g) (stamp_after (change_of op) (get g.edges (op_key op g))) q)) ∙ is)
+    ] refl (ap is_some (sym (set_at_get g.edges k (stamp_after change (get g.edges k)) q)) ∙ is)
+
+-- one operation
+pub step_shows : (op : Parts) (g : Graph) (rows : ℕ → List OpenBlock) → IsWithin g → AreOpenRows rows → Shows rows g.edges
+    → let r = resolve_parts (names_by op g.names) (kinds_by op g.kinds) op in
+    Shows (rows_step r rows) (after_parts op g).edges × AreOpenRows (rows_step r rows) × (outcome_in r rows ≡ outcome_parts op g)
+step_shows (OfEdge change kind source target) g rows w u s = edge_shows change kind source target g rows w u s
+
+-- an operation by the names and kinds that it leaves of the graph's
+abbrev by_left : NamedOp → Graph → Resolved
+by_left op g = resolve_parts (names_after op g.names) (kinds_after op g.kinds) (parts_of op)
+
+names_left : (parts : Parts) (g : Graph) → (after_parts parts g).names ≡ names_by parts g.names
+names_left (OfEdge change kind source target) g = refl
+
+kinds_left : (parts : Parts) (g : Graph) → (after_parts parts g).kinds ≡ kinds_by parts g.kinds
+kinds_left (OfEdge change kind source target) g = refl
 
 -- a batch's operations, one after another
 pub all_shows : (ops : List NamedOp) (g : Graph) (rows : ℕ → List OpenBlock) → IsWithin g → AreOpenRows rows → Shows rows g.edges
@@ -219,14 +243,23 @@ pub all_shows : (ops : List NamedOp) (g : Graph) (rows : ℕ → List OpenBlock)
     × IsWithin (after_all ops g)
 all_shows [] g rows w u s = (s, u, refl, w)
 all_shows (op ∷ ops) g rows w u s =
-    let r : Resolved = resolve (names_after op g.names) (kinds_after op g.kinds) op in
+    let parts : Parts = parts_of op in
+    let r : Resolved = by_left op g in
+    let next : Graph = after_parts parts g in
     let rs : List Resolved = resolved ops (names_after op g.names) (kinds_after op g.kinds) in
-    let one = step_shows op g rows w u s in
-    let rest = all_shows ops (after_parts op g) (rows_step r rows) (step_within op g w) one.1 one.0 in (
-      subst (λ (h : Graph). Shows (rows_all rs (rows_step r rows)) (after_all ops h).edges) (sym (after_is op g)) rest.0,
-      rest.1,
-      (λ i. one.2 i ∷ (rest.2 ∙ ap (outcomes ops) (sym (after_is op g))) i),
-      subst (λ (h : Graph). IsWithin (after_all ops h)) (sym (after_is op g)) rest.3,
+    let there : ◌≡◌ {A = List Resolved} (resolved ops next.names next.kinds) rs =
+    λ i. resolved ops (names_left parts g i) (kinds_left parts g i) in
+    let one = step_shows parts g rows w u s in
+    let rest = all_shows ops next (rows_step r rows) (step_within parts g w) one.1 one.0 in
+    subst (λ (h : Graph).
+    Shows (rows_all rs (rows_step r rows)) (after_all ops h).edges × AreOpenRows (rows_all rs (rows_step r rows))
+    × (outcome_in r rows ∷ outcomes_all rs (rows_step r rows) ≡ outcome op g ∷ outcomes ops h) × IsWithin (after_all ops h))
+    (sym (after_is op g)) (
+      subst (λ xs. Shows (rows_all xs (rows_step r rows)) (after_all ops next).edges) there rest.0,
+      subst (λ xs. AreOpenRows (rows_all xs (rows_step r rows))) there rest.1,
+      (λ i. (one.2 ∙ sym (outcome_is op g)) i
+          ∷ (ap (λ xs. outcomes_all xs (rows_step r rows)) (sym there) ∙ rest.2) i),
+      rest.3,
     )
 
 -- slots that are all free

@@ -7,34 +7,33 @@ use Rattle.std.specs.FinMap.{FinMap, get}
 use Rattle.std.specs.declared.option.Option.{Option}
 use Rattle.std.specs.declared.option.Option.TheVariants.{None, Some}
 use Rattle.graph_model.specs.Graph.{Graph, Key, Stamp, key_cmp}
-use Rattle.graph_model.specs.Step.{number_of, outcome_at}
+use Rattle.graph_model.specs.Step.{number_of, key_in, outcome_at}
 use Rattle.graph_model.specs.declared.batches.NamedOp.{NamedOp}
 use Rattle.graph_model.specs.declared.batches.Outcome.{Outcome}
 use Rattle.graph_model.specs.declared.batches.Outcome.TheVariants.{Absent}
 use Rattle.graph_model.specs.declared.changes.EdgeChange.{EdgeChange}
-use Rattle.block_layout.specs.Operations.{source_name, target_name, kind_name, change_of, names_after, kinds_after, key_by}
+use Rattle.block_layout.specs.Operations.{Parts, OfEdge, parts_of, names_after, kinds_after}
 use Rattle.block_layout.specs.Rows.{Shape, OpenBlock, row_at, edge_at, untouched, change_row, row_end, taken_in, dropped_in}
 use Rattle.block_layout.specs.Rows.{IsRow}
 
--- an operation with the numbers of its names, none where a name is unknown at its place, and what it does to the
--- edge at its key
-pub record Resolved : Type 0 where
-  pub source : Option ℕ
-  pub key : Option Key
-  pub change : EdgeChange
+-- what an operation does, with the numbers of its names, none where a name is unknown at its place: it changes the edge at
+-- its key
+pub data Resolved : Type 0 where
+  AtKey : (source : Option ℕ) (key : Option Key) (change : EdgeChange) → Resolved
 
 abbrev pub is_known : List (List ℕ) → List ℕ → Bool
 is_known names name = list_any (bytes_eq name) names
 
 -- an operation by the names and kinds that it leaves
+abbrev pub resolve_parts : List (List ℕ) → List (List ℕ) → Parts → Resolved
+resolve_parts names kinds (OfEdge change kind source target) =
+    AtKey (if is_known names source then Some (number_of names source) else None)
+    (if is_known kinds kind && (is_known names source && is_known names target)
+    then Some (key_in names kinds kind source target) else None)
+    change
+
 abbrev pub resolve : List (List ℕ) → List (List ℕ) → NamedOp → Resolved
-resolve names kinds op = record {
-  source = if is_known names (source_name op) then Some (number_of names (source_name op)) else None;
-  key =
-      if is_known kinds (kind_name op) && (is_known names (source_name op) && is_known names (target_name op))
-      then Some (key_by names kinds op) else None;
-  change = change_of op;
-}
+resolve names kinds op = resolve_parts names kinds (parts_of op)
 
 -- a batch's operations, each by the names at its place
 abbrev pub resolved : List NamedOp → List (List ℕ) → List (List ℕ) → List Resolved
@@ -49,17 +48,28 @@ abbrev pub key_is_of : ℕ → Option Key → Bool
 key_is_of source None = false
 key_is_of source (Some k) = source == k.source
 
-abbrev pub row_step : EdgeChange → Option Key → List OpenBlock → List OpenBlock
-row_step change None row = row
-row_step change (Some k) row = change_row change (k.kind, k.target) row
+abbrev pub acts_on : ℕ → Resolved → Bool
+acts_on source (AtKey own key change) = key_is_of source key
 
-abbrev pub outcome_in : EdgeChange → Option Key → (ℕ → List OpenBlock) → Outcome
-outcome_in change None rows = Absent
-outcome_in change (Some k) rows = outcome_at change (edge_at (rows k.source) (k.kind, k.target))
+-- what it leaves of a row that it acts on
+abbrev pub key_step : EdgeChange → Option Key → List OpenBlock → List OpenBlock
+key_step change None row = row
+key_step change (Some k) row = change_row change (k.kind, k.target) row
 
--- one operation changes its source's row alone
+abbrev pub row_step : Resolved → List OpenBlock → List OpenBlock
+row_step (AtKey own key change) row = key_step change key row
+
+-- its outcome
+abbrev pub key_outcome : EdgeChange → Option Key → (ℕ → List OpenBlock) → Outcome
+key_outcome change None rows = Absent
+key_outcome change (Some k) rows = outcome_at change (edge_at (rows k.source) (k.kind, k.target))
+
+abbrev pub outcome_in : Resolved → (ℕ → List OpenBlock) → Outcome
+outcome_in (AtKey own key change) rows = key_outcome change key rows
+
+-- one operation changes the rows that it acts on, and no others
 abbrev pub rows_step : Resolved → (ℕ → List OpenBlock) → ℕ → List OpenBlock
-rows_step r rows source = if key_is_of source r.key then row_step r.change r.key (rows source) else rows source
+rows_step r rows source = if acts_on source r then row_step r (rows source) else rows source
 
 abbrev pub rows_all : List Resolved → (ℕ → List OpenBlock) → ℕ → List OpenBlock
 rows_all [] rows = rows
@@ -67,7 +77,7 @@ rows_all (r ∷ rs) rows = rows_all rs (rows_step r rows)
 
 abbrev pub outcomes_all : List Resolved → (ℕ → List OpenBlock) → List Outcome
 outcomes_all [] rows = []
-outcomes_all (r ∷ rs) rows = outcome_in r.change r.key rows ∷ outcomes_all rs (rows_step r rows)
+outcomes_all (r ∷ rs) rows = outcome_in r rows ∷ outcomes_all rs (rows_step r rows)
 
 -- the rows before the batch's first operation
 abbrev pub opened : (ℕ → List Shape) → ℕ → List OpenBlock
@@ -101,13 +111,20 @@ pub record IsLayoutOf (layout : ℕ → List Shape) (edges : FinMap key_cmp Stam
   pub distinct : (source : ℕ) → IsRow (layout source)
   pub shows : (k : Key) → row_at (layout k.source) (k.kind, k.target) ≡ get edges k
 
--- the shard of an operation, by its source's number; an unknown source is in shard 0
+-- an operation with a key is on the key's source
+abbrev pub IsPlaced : Resolved → Type 0
+IsPlaced (AtKey source key change) = (k : Key) → key ≡ Some k → source ≡ Some k.source
+
+-- the shard of an operation on an edge, by its source's number; an unknown source is in shard 0
 abbrev pub shard_of : ℕ → Option ℕ → ℕ
 shard_of workers None = 0
 shard_of workers (Some source) = source % workers
 
+abbrev pub is_in_shard : ℕ → ℕ → Resolved → Bool
+is_in_shard workers w (AtKey source key change) = shard_of workers source == w
+
 abbrev pub shard_ops : ℕ → ℕ → List Resolved → List Resolved
-shard_ops workers w rs = filter (λ r. shard_of workers r.source == w) rs
+shard_ops workers w rs = filter (is_in_shard workers w) rs
 
 -- of results, those of the elements that pass the test
 abbrev pub picked : {A B : Type 0} → (A → Bool) → List A → List B → List B

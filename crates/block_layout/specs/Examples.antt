@@ -6,11 +6,10 @@ use Rattle.edge_block.specs.Slots.{edges_in}
 use Rattle.graph_model.specs.declared.changes.EdgeChange.{EdgeChange}
 use Rattle.graph_model.specs.declared.changes.EdgeChange.TheVariants.{Insert, Remove}
 use Rattle.block_layout.specs.Rows.{OpenBlock, Shape, row_end, taken_in, dropped_in}
-use Rattle.block_layout.specs.Batches.{Resolved, rows_all, opened}
+use Rattle.block_layout.specs.Batches.{Resolved, AtKey, rows_all, opened}
 
 abbrev pub change_at : EdgeChange → ℕ → Resolved
-change_at change target =
-    record { source = Some 0; key = Some (record { kind = 0; source = 0; target = target }); change = change }
+change_at change target = AtKey (Some 0) (Some (record { kind = 0; source = 0; target = target })) change
 
 abbrev pub insert_at : ℕ → Resolved
 insert_at target = change_at (Insert (pos 1) 1) target

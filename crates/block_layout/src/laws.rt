@@ -8,9 +8,9 @@ ghost use Rattle.graph_model.specs.Step.{after_all, outcomes};
 ghost use Rattle.graph_model.specs.declared.batches.NamedOp.{NamedOp};
 ghost use Rattle.block_layout.specs.Examples.{AreExamples};
 ghost use Rattle.block_layout.specs.Rows.{Shape, OpenBlock};
-ghost use Rattle.block_layout.specs.Batches.{Resolved, IsWithin, IsLayoutOf, key_is_of, layout_after, outcomes_all, resolved};
+ghost use Rattle.block_layout.specs.Batches.{Resolved, IsWithin, IsLayoutOf, acts_on, layout_after, outcomes_all, resolved};
 ghost use Rattle.block_layout.specs.Batches.{opened, rows_all};
-ghost use Rattle.block_layout.specs.Batches.{shard_ops, shard_of, picked};
+ghost use Rattle.block_layout.specs.Batches.{shard_ops, is_in_shard, picked};
 ghost use Rattle.block_layout.specs.Listed.{edges_below, AreListedOnce};
 
 /// A batch leaves a layout of the graph that it leaves, and the outcomes in its rows are the operation rule's, for
@@ -37,14 +37,14 @@ pub fn law_shard_rows()
 pub fn law_shard_outcomes()
     ensures { (workers w : ℕ) (ops : List NamedOp) (names kinds : List (List ℕ)) (rows : ℕ → List OpenBlock)
         → outcomes_all (shard_ops workers w (resolved ops names kinds)) rows
-        ≡ picked (λ r. shard_of workers r.source == w) (resolved ops names kinds) (outcomes_all (resolved ops names kinds) rows) }
+        ≡ picked (is_in_shard workers w) (resolved ops names kinds) (outcomes_all (resolved ops names kinds) rows) }
 {}
 
 /// A source's row changes by the operations on that source alone.
 #[tactic(auto, using(crate::proofs::ShardLaws::source_row))]
 pub fn law_source_row()
     ensures { (ops : List Resolved) (rows : ℕ → List OpenBlock) (source : ℕ)
-        → rows_all (filter (λ r. key_is_of source r.key) ops) rows source ≡ rows_all ops rows source }
+        → rows_all (filter (acts_on source) ops) rows source ≡ rows_all ops rows source }
 {}
 
 /// Rows that have a map's edges by look-up list each of them once, and no others, once as many sources are listed as

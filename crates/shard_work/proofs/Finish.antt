@@ -14,7 +14,7 @@ use Rattle.std.proofs.lemmas.List.{get_or-map, get_or_default, length-map, map-a
 use Rattle.graph_model.specs.declared.batches.Outcome.{Outcome}
 use Rattle.graph_model.specs.declared.batches.Outcome.TheVariants.{Absent}
 use Rattle.graph_model.specs.declared.changes.EdgeChange.{EdgeChange}
-use Rattle.block_layout.specs.Batches.{opened, rows_all, outcome_in, outcomes_all}
+use Rattle.block_layout.specs.Batches.{opened, rows_all, key_outcome, outcomes_all}
 use Rattle.std.proofs.lemmas.List.Elements.{All-head, All-tail, All-cons, All-nil}
 use Rattle.edge_block.specs.declared.blocks.Block.{Block}
 use Rattle.edge_block.specs.Slots.{BlockView}
@@ -295,7 +295,7 @@ none_written rows sources steps = record {
   places (s ∷ steps) = ap (λ ops. s.op ∷ ops) (places steps)
 
   absent : (change : EdgeChange) (p : Option Place) → is_past 0 p ≡ false → (now : ℕ → List OpenBlock)
-      → outcome_in change (key_at sources p) now ≡ Absent
+      → key_outcome change (key_at sources p) now ≡ Absent
   absent change None past now = refl
   absent change (Some p) past now = absurd (false≢true (sym past ∙ ap not (le-ltb p.row 0 (omega arith))))
 

@@ -13,7 +13,7 @@ use Rattle.graph_model.specs.declared.batches.Outcome.{Outcome}
 use Rattle.graph_model.specs.declared.batches.Outcome.TheVariants.{Absent}
 use Rattle.graph_model.specs.declared.changes.EdgeChange.{EdgeChange}
 use Rattle.block_layout.specs.Rows.{OpenBlock, change_row, edge_at}
-use Rattle.block_layout.specs.Batches.{row_step, rows_step, rows_all, outcome_in, outcomes_all}
+use Rattle.block_layout.specs.Batches.{key_step, rows_step, rows_all, key_outcome, outcomes_all}
 use Rattle.shard_work.specs.Shards.{IsPlace, key_at, resolved_at, resolved_in}
 use Rattle.shard_work.specs.Groups.{is_at, is_past, key_of, IsNext, IsSourceRow, IsOutcome}
 use Rattle.shard_work.specs.declared.shard.Place.{Place}
@@ -23,7 +23,7 @@ use Rattle.shard_work.proofs.ShardSteps.{same_number, other_number, apart, first
 -- the outcome of an operation is that of the rows which those before it leave
 pub outcome_of : (sources : List ℕ) (steps : List Step) (k : ℕ) (rows : ℕ → List OpenBlock) → k < length steps
     → get_or (outcomes_all (resolved_in sources steps) rows) k Absent
-    ≡ outcome_in (get_or steps k first_step).change (key_at sources (get_or steps k first_step).place)
+    ≡ key_outcome (get_or steps k first_step).change (key_at sources (get_or steps k first_step).place)
     (rows_all (resolved_in sources (take k steps)) rows)
 outcome_of sources [] k rows lt = absurd (omega arith)
 outcome_of sources (s ∷ steps) zero rows lt = refl
@@ -78,7 +78,7 @@ module _ (sources : List ℕ) (steps : List Step) (row source : ℕ) (is : IsSou
       (ap (slice_index sources) (eqb-true p.row row e) ∙ is.source_is)
 
   row_stepped : (change : EdgeChange) (o : Option Place) (rows : ℕ → List OpenBlock) → is_at row o ≡ true
-      → rows_step (resolved_at sources change o) rows source ≡ row_step change (key_of source o) (rows source)
+      → rows_step (resolved_at sources change o) rows source ≡ key_step change (key_of source o) (rows source)
   row_stepped change None rows e = absurd (false≢true e)
   row_stepped change (Some p) rows e =
       let mine : slice_index sources p.row ≡ source = ap (slice_index sources) (eqb-true p.row row e) ∙ is.source_is in
@@ -98,22 +98,22 @@ module _ (sources : List ℕ) (steps : List Step) (row source : ℕ) (is : IsSou
     row_by k = rows_all (resolved_in sources (take k steps)) rows source
 
     pub stepped : (k : ℕ) (blocks : List OpenBlock) → k < length steps → (let t = get_or steps k first_step in
-        is_at row t.place ≡ true → blocks ≡ row_by k → row_step t.change (key_of source t.place) blocks ≡ row_by (k + 1))
+        is_at row t.place ≡ true → blocks ≡ row_by k → key_step t.change (key_of source t.place) blocks ≡ row_by (k + 1))
     stepped k blocks lt here e =
         let t : Step = get_or steps k first_step in
-        ap (row_step t.change (key_of source t.place)) e
+        ap (key_step t.change (key_of source t.place)) e
         ∙ sym (row_stepped t.change t.place (rows_all (resolved_in sources (take k steps)) rows) here)
         ∙ ap (λ f. f source) (all_rows_more sources steps k lt rows)
 
     pub outcome_here : (k : ℕ) (blocks : List OpenBlock) (o : Outcome) → k < length steps
         → (let t = get_or steps k first_step in is_at row t.place ≡ true → blocks ≡ row_by k
-        → o ≡ outcome_in t.change (key_of source t.place) (λ _. blocks) → IsOutcome sources steps rows k o)
+        → o ≡ key_outcome t.change (key_of source t.place) (λ _. blocks) → IsOutcome sources steps rows k o)
     outcome_here k blocks o lt here e is_o =
         let t : Step = get_or steps k first_step in
         is_o ∙ keyed t.change t.place here ∙ sym (outcome_of sources steps k rows lt) where
           keyed : (change : EdgeChange) (p : Option Place) → is_at row p ≡ true
-              → outcome_in change (key_of source p) (λ _. blocks)
-              ≡ outcome_in change (key_at sources p) (rows_all (resolved_in sources (take k steps)) rows)
+              → key_outcome change (key_of source p) (λ _. blocks)
+              ≡ key_outcome change (key_at sources p) (rows_all (resolved_in sources (take k steps)) rows)
           keyed change None u = absurd (false≢true u)
           keyed change (Some p) u =
               ap (λ b. outcome_at change (edge_at b (p.kind.0, p.target))) e

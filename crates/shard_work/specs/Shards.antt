@@ -7,7 +7,7 @@ use Rattle.graph_model.specs.declared.changes.EdgeChange.{EdgeChange}
 use Rattle.graph_model.specs.Changes.{IsChange}
 use Rattle.edge_block.specs.Slots.{BlockView}
 use Rattle.block_layout.specs.Rows.{OpenBlock}
-use Rattle.block_layout.specs.Batches.{Resolved}
+use Rattle.block_layout.specs.Batches.{Resolved, AtKey}
 use Rattle.shard_work.specs.RowBlocks.{opens, had_in, own_in, IsOf}
 use Rattle.shard_work.specs.declared.shard.OpenRow.{OpenRow}
 use Rattle.shard_work.specs.declared.shard.Place.{Place}
@@ -46,7 +46,7 @@ source_at sources None = None
 source_at sources (Some p) = Some (slice_index sources p.row)
 
 abbrev pub resolved_at : List ℕ → EdgeChange → Option Place → Resolved
-resolved_at sources change place = record { source = source_at sources place; key = key_at sources place; change = change }
+resolved_at sources change place = AtKey (source_at sources place) (key_at sources place) change
 
 -- the shard's operations
 abbrev pub resolved_in : List ℕ → List Step → List Resolved

@@ -5,7 +5,7 @@ ghost use Rattle.std.specs.Prelude.{vec_len, length, get_or, map, count_by};
 ghost use Rattle.graph_model.specs.declared.batches.Outcome.TheVariants.{Absent};
 ghost use Rattle.graph_model.specs.Changes.{IsChange};
 ghost use Rattle.block_layout.specs.Rows.{OpenBlock, has_none, shape_of};
-ghost use Rattle.block_layout.specs.Batches.{row_step, rows_all, outcome_in};
+ghost use Rattle.block_layout.specs.Batches.{key_step, rows_all, key_outcome};
 ghost use Rattle.row_pages.specs.Rows.{row_of};
 ghost use Rattle.shard_work.specs.RowBlocks.{block_of, blocks_of, kept_of, opens, had_in, own_in, numbers_of, HaveSame, IsOf};
 ghost use Rattle.shard_work.specs.Closing.{after_here, written_here, dropped_here, unused_here, after_of, written_of};
@@ -64,9 +64,9 @@ fn do_step(
     requires own { All (IsOf row.old.source.0) row.old.blocks.items }
     requires hinted { AreHints row.old.hints row.old.blocks.items }
     ensures row { OnOk result (opens row.new.blocks.items
-        ≡ row_step change (key_of row.old.source.0 place) (opens row.old.blocks.items)) }
+        ≡ key_step change (key_of row.old.source.0 place) (opens row.old.blocks.items)) }
     ensures outcome { IfOk result (λ o. o
-        ≡ outcome_in change (key_of row.old.source.0 place) (λ _. opens row.old.blocks.items)) }
+        ≡ key_outcome change (key_of row.old.source.0 place) (λ _. opens row.old.blocks.items)) }
     ensures source { OnOk result (row.new.source ≡ row.old.source) }
     ensures hinted { OnOk result (AreHints row.new.hints row.new.blocks.items) }
     ensures had { OnOk result (had_in row.new.blocks.items ≡ had_in row.old.blocks.items) }

@@ -8,12 +8,12 @@ use Rattle.graph_model.specs.Changes.{IsChange}
 use Rattle.graph_model.specs.Graph.{Key}
 use Rattle.graph_model.specs.declared.batches.NamedOp.{NamedOp}
 use Rattle.graph_model.specs.declared.changes.EdgeChange.{EdgeChange}
-use Rattle.block_layout.specs.Operations.{kind_name, change_of, kinds_after}
-use Rattle.block_layout.specs.Batches.{Resolved}
+use Rattle.block_layout.specs.Operations.{Parts, OfEdge, parts_of, kinds_after}
+use Rattle.block_layout.specs.Batches.{Resolved, AtKey}
 use Rattle.vertex_names.specs.Book.{Book}
 use Rattle.batch_plan.specs.declared.resolve.Ends.{Ends}
 use Rattle.batch_plan.specs.declared.resolve.ResolvedOp.{ResolvedOp}
-use Rattle.batch_plan.specs.Plan.{known, kinds_all, key_from, shown, with_kind, with_kinds, with_names, IsRefusal}
+use Rattle.batch_plan.specs.Plan.{kinds_all, key_from, kind_by, IsChangeOf, shown, with_kind, with_kinds, with_names, IsRefusal}
 use Rattle.batch_plan.proofs.Names.{refused_kinds, err_then}
 use Rattle.batch_plan.proofs.resolve.with_kinds.Goals as goal
 
@@ -27,16 +27,16 @@ returns-in_err-kind-clause-refused c =
     c.loop-k.invariant.kinds c.loop-k.invariant.limit c.in_err-kind.ensures.refused)
 
 -- an operation's values show it by its kind
-shows_op : (e : Ends) (op : NamedOp) (kinds : List (List ℕ)) (key : Option Key) (kind : Option ℕ) (change : EdgeChange)
-    → key ≡ key_from kind e.source e.target → kind ≡ known kinds (kind_name op) → change ≡ change_of op
-    → (let r : Resolved = record { source = e.source; key = key; change = change } in r) ≡ with_kind kinds e op
-shows_op e op kinds key kind change key_is kind_is change_is =
-    λ i. record { source = e.source; key = (key_is ∙ ap (λ k. key_from k e.source e.target) kind_is) i; change = change_is i }
+shows_op : (e : Ends) (op : Parts) (kinds : List (List ℕ)) (key : Option Key) (kind : Option ℕ) (change : EdgeChange)
+    → key ≡ key_from kind e.source e.target → kind ≡ kind_by kinds op → IsChangeOf change op
+    → AtKey e.source key change ≡ with_kind kinds e op
+shows_op e (OfEdge does name source target) kinds key kind change key_is kind_is change_is =
+    λ i. AtKey e.source ((key_is ∙ ap (λ k. key_from k e.source e.target) kind_is) i) (change_is i)
 
 -- one more operation is found
 one_more : (ends rest_ends : List Ends) (ops rest_ops : List NamedOp) (e : Ends) (op : NamedOp) (found : List ResolvedOp)
     (r : ResolvedOp) (kinds : List (List ℕ)) (all : List Resolved)
-    → ends ≡ e ∷ rest_ends → ops ≡ op ∷ rest_ops → shown r ≡ with_kind (kinds_after op kinds) e op
+    → ends ≡ e ∷ rest_ends → ops ≡ op ∷ rest_ops → shown r ≡ with_kind (kinds_after op kinds) e (parts_of op)
     → map shown found ++ with_kinds ends ops kinds ≡ all
     → map shown (found ++ r ∷ []) ++ with_kinds rest_ends rest_ops (kinds_after op kinds) ≡ all
 one_more ends rest_ends ops rest_ops e op found r kinds all ends_are ops_are same so_far =
@@ -59,7 +59,7 @@ loop-k-preserved c =
     let ends_step : drop k c.args.ends.now ≡ e ∷ drop (k + 1) c.args.ends.now = search (rules, drop-cons) in
     let book : c.op_kind.new.kinds ≡ with_names c.loop-k.kinds (kinds_after op kinds) = c.in_ok-kind.ensures.kinds in
     let names : c.op_kind.new.kinds.names ≡ kinds_after op kinds = ap (λ (b : Book). b.names) book in
-    let same = shows_op e op (kinds_after op kinds) _ _ c.change_by.result c.key_by.ensures c.in_ok-kind.ensures.kind
+    let same = shows_op e (parts_of op) (kinds_after op kinds) _ _ c.change_by.result c.key_by.ensures c.in_ok-kind.ensures.kind
     c.change_by.ensures.change in
     record {
       kinds = ap (kinds_all (drop (k + 1) c.args.ops.now)) names ∙ ap (λ l. kinds_all l kinds) (sym ops_step)

@@ -1,13 +1,14 @@
 use Rattle.std.proofs.Common.{◌≡◌, ◌+◌, ◌<◌, ◌==◌, true, false, ℕ, List, [], ◌∷◌, ◌++◌, length, map, get_or, take, refl, ap}
 use Rattle.std.proofs.Common.{sym, subst, ◌∙◌, arith}
 use Rattle.std.specs.Prelude.{pos}
+use Rattle.std.specs.Option.{option_map}
 use Rattle.std.specs.declared.option.Option.TheVariants.{None}
 use Rattle.std.proofs.lemmas.List.{length-map, length-take-le, take_more, get_or-map}
 use Rattle.graph_model.specs.declared.changes.EdgeChange.TheVariants.{Insert}
-use Rattle.block_layout.specs.Batches.{Resolved}
+use Rattle.block_layout.specs.Batches.{Resolved, IsPlaced, is_in_shard}
 use Rattle.shard_work.specs.declared.shard.Step.{Step}
-use Rattle.batch_plan.specs.Plan.{shown}
-use Rattle.batch_plan.specs.Shards.{AreShardSteps, IsPlaced, is_of}
+use Rattle.batch_plan.specs.Plan.{key_of, shown}
+use Rattle.batch_plan.specs.Shards.{AreShardSteps}
 use Rattle.batch_plan.specs.declared.resolve.ResolvedOp.{ResolvedOp}
 use Rattle.batch_plan.proofs.Growth.{passed, added, same_number, other_number}
 use Rattle.batch_plan.proofs.shards.shard_for.Goals.{then-worker_of-worker+in_ok-place+in_ok-push, else-worker_of-worker}
@@ -29,13 +30,14 @@ loop-k-preserved c =
     elim c.if-worker_of-worker.branch [
       | then-worker_of-worker+in_ok-place+in_ok-push w ↦
           let same : c.worker_of.result ≡ c.args.worker = omega (arith, w.if-worker_of-worker.true) in
-          let mine : is_of c.args.workers c.args.worker r ≡ true = ap (λ n. n == c.args.worker) (sym c.worker_of.ensures ∙ same)
+          let mine : is_in_shard c.args.workers c.args.worker r ≡ true = ap (λ n. n == c.args.worker) (sym c.worker_of.ensures ∙ same)
           ∙ same_number c.args.worker in
           let placed : IsPlaced r = subst IsPlaced at (c.requires.placed i (shown d) within) in
           let s : Step = record { op = i; place = w.in_ok-place.place; change = op.change } in
           let next : List ℕ = w.place_in.new.places.keys in
           let done : AreShardSteps c.args.workers (take i rs ++ r ∷ []) c.args.worker next (c.loop-k.steps.items ++ s ∷ []) =
-          added c.args.workers c.args.worker (take i rs) r c.loop-k.places.keys c.loop-k.steps.items c.loop-k.invariant.steps
+          added c.args.workers c.args.worker (take i rs) op.source (option_map key_of op.key) op.change c.loop-k.places.keys
+          c.loop-k.steps.items c.loop-k.invariant.steps
           mine placed next s w.in_ok-place.ensures.sources
           (sym (length-take-le i rs (omega arith))) w.in_ok-place.ensures.key w.in_ok-place.ensures.place refl
           (c.requires.changes i d lt) in
@@ -45,7 +47,7 @@ loop-k-preserved c =
             few = rw w.places-is (omega (arith, w.in_ok-place.ensures.few, c.loop-k.invariant.few));
           }
       | else-worker_of-worker w ↦
-          let other : is_of c.args.workers c.args.worker r ≡ false = ap (λ n. n == c.args.worker) (sym c.worker_of.ensures)
+          let other : is_in_shard c.args.workers c.args.worker r ≡ false = ap (λ n. n == c.args.worker) (sym c.worker_of.ensures)
           ∙ other_number c.worker_of.result c.args.worker (λ e. omega (arith, w.if-worker_of-worker.false, e)) in
           let done : AreShardSteps c.args.workers (take i rs ++ r ∷ []) c.args.worker c.loop-k.places.keys c.loop-k.steps.items =
           passed c.args.workers c.args.worker (take i rs) r c.loop-k.places.keys c.loop-k.steps.items c.loop-k.invariant.steps

@@ -4,7 +4,7 @@ use Rattle.std.proofs.lemmas.List.{get_or-set_other}
 use Rattle.std.proofs.Math.Seq.{map-set_same}
 use Rattle.std.proofs.lemmas.Grind.{get_or_default_zero}
 use Rattle.graph_model.specs.declared.ids.VertexId.{VertexId}
-use Rattle.block_layout.specs.Batches.{row_step, outcome_in}
+use Rattle.block_layout.specs.Batches.{key_step, key_outcome}
 use Rattle.shard_work.specs.RowBlocks.{opens}
 use Rattle.graph_model.specs.declared.batches.Outcome.{Outcome}
 use Rattle.shard_work.specs.Groups.{is_at, key_of, IsNext, IsOutcome}
@@ -54,7 +54,7 @@ loop-index-preserved c =
       within = next.within;
       there = next.there;
       rows = λ sources rows is e.
-          c.in_ok-outcome.ensures.row ∙ ap (λ (s : VertexId). row_step (get_or c.args.steps.now i first_step).change
+          c.in_ok-outcome.ensures.row ∙ ap (λ (s : VertexId). key_step (get_or c.args.steps.now i first_step).change
           (key_of s.0 (get_or c.args.steps.now i first_step).place) (opens c.loop-index.opened.blocks.items))
           c.loop-index.invariant.source ∙ stepped sources c.args.steps.now c.args.row c.args.opened.now.source.0 is rows i
           (opens c.loop-index.opened.blocks.items) lt at
@@ -66,7 +66,7 @@ loop-index-preserved c =
           (IsOutcome sources c.args.steps.now rows) (omega (arith, lt, c.loop-index.invariant.length))
           (outcome_here sources c.args.steps.now c.args.row c.args.opened.now.source.0 is rows i
           (opens c.loop-index.opened.blocks.items) c.in_ok-outcome.outcome lt at (c.loop-index.invariant.rows sources rows is e)
-          (c.in_ok-outcome.ensures.outcome ∙ ap (λ (s : VertexId). outcome_in (get_or c.args.steps.now i first_step).change
+          (c.in_ok-outcome.ensures.outcome ∙ ap (λ (s : VertexId). key_outcome (get_or c.args.steps.now i first_step).change
           (key_of s.0 (get_or c.args.steps.now i first_step).place) (λ _. opens c.loop-index.opened.blocks.items))
           c.loop-index.invariant.source))
           (λ ne. c.loop-index.invariant.written sources rows is e k s o (before_it next k s ne k_lt k_at) k_at);

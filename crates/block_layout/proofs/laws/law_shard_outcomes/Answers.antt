@@ -1,0 +1,5 @@
+use Rattle.block_layout.proofs.ShardLaws.{shard_outcomes}
+use Rattle.block_layout.proofs.laws.law_shard_outcomes.Goals as goal
+
+pub returns : goal.returns
+returns c = shard_outcomes
