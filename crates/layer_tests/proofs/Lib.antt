@@ -1,2 +1,3 @@
 mod OneEdge
 mod TakenBack
+pub mod NewShelves

@@ -3,7 +3,7 @@ ghost use Rattle.std.specs.Arc.{arc_value};
 ghost use Rattle.graph_version.specs.declared.versions.Version.{Version};
 ghost use Rattle.graph_version.specs.Drafts.{drafted_over, with_batch};
 ghost use Rattle.graph_version.specs.Versions.{empty_version};
-ghost use Rattle.version_shelf.specs.Shelves.{opened_shelf};
+ghost use Rattle.version_shelf.specs.Shelves.{opened_shelf, IsNext, IsOfOneShelf};
 
 use graph_model::Batch;
 use graph_version::{Version, VersionDraft};
@@ -83,6 +83,68 @@ fn over_a_new_shelf<R: Wait>(rt: &R, alloc: Global) -> Option<[u64; 4]> {
 #[test]
 fn shows_a_posted_version_to_each_reader(rt: HostRuntime) {
     assert_eq!(rt; over_a_new_shelf(&rt, rt.alloc()), Some([0, 0, 1, 1]));
+}
+
+// Posts the version, and says whether it did. The first reader learns of it, and the second looks; the writer confirms what
+// was told, and what each of them had seen before and has seen since.
+fn is_confirmed<R: Wait>(
+    rt: &R,
+    writer: &mut ShelfWriter,
+    first: &mut ShelfReader,
+    second: &mut ShelfReader,
+    version: Arc<Version>,
+) -> bool
+    requires next { IsNext writer.old (arc_value {X = Version} version) }
+    requires first { IsOfOneShelf (record { book = writer.old.book; version = arc_value {X = Version} version }) first.old }
+    requires second { second.old.book ≡ writer.old.book }
+{
+    writer.confirm(first.told());
+    writer.confirm(second.told());
+    let Ok(told) = writer.post(rt, version) else {
+        return false;
+    };
+    let is_learnt = first.learn(&told).is_ok();
+    second.look();
+    writer.confirm(&told);
+    writer.confirm(first.told());
+    writer.confirm(second.told());
+    is_learnt
+}
+
+// The numbers of the versions that both readers have seen once the writer confirmed them.
+fn numbers_confirmed<R: Wait>(
+    rt: &R,
+    alloc: Global,
+    writer: &mut ShelfWriter,
+    first: &mut ShelfReader,
+    second: &mut ShelfReader,
+) -> Option<[u64; 2]>
+    requires writer { writer.old ≡ opened_shelf writer.old.book empty_version }
+    requires first { first.old ≡ record { book = writer.old.book; version = empty_version } }
+    requires second { second.old ≡ record { book = writer.old.book; version = empty_version } }
+{
+    let Ok(version) = one_batch(alloc) else {
+        return None;
+    };
+    if is_confirmed(rt, writer, first, second, version) {
+        Some([first.newest().number(), second.newest().number()])
+    } else {
+        None
+    }
+}
+
+fn confirmed_over_a_new_shelf<R: Wait>(rt: &R, alloc: Global) -> Option<[u64; 2]> {
+    let Ok((mut writer, mut readers)) = shelf(rt, alloc, Version::empty(alloc), 2) else {
+        return None;
+    };
+    let mut second = readers.pop()?;
+    let mut first = readers.pop()?;
+    numbers_confirmed(rt, alloc, &mut writer, &mut first, &mut second)
+}
+
+#[test]
+fn a_writer_confirms_what_readers_have_seen(rt: HostRuntime) {
+    assert_eq!(rt; confirmed_over_a_new_shelf(&rt, rt.alloc()), Some([1, 1]));
 }
 
 // Whether the version of one batch was posted.

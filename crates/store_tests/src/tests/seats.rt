@@ -1,6 +1,6 @@
 // Sessions on versions that a desk lends.
 
-ghost use Rattle.std.specs.Prelude.{◌≡◌};
+ghost use Rattle.std.specs.Prelude.{◌≡◌, IfOk};
 
 use super::batches::{batch_of, tell_refused};
 use super::desks::applies_an_edge;
@@ -14,7 +14,9 @@ use std::thread::Threads;
 use stream_store::{Desk, Seat, Session};
 
 /// A session on the desk's last version, or the seat where it is refused.
-pub(super) fn lent(desk: &Desk, board: &mut Board, seat: Seat) -> Result<Session, Seat> {
+pub(super) fn lent(desk: &Desk, board: &mut Board, seat: Seat) -> Result<Session, Seat>
+    ensures { IfOk result (λ session. session.seen ≡ seat.seen) }
+{
     match seat.acquire_lent(desk, board) {
         Ok(session) => Ok(session),
         Err((seat, AllocError)) => Err(seat),
@@ -49,6 +51,7 @@ fn learns_of<R: Threads + Wait + Sync>(
     batch: Result<Batch, AllocError>,
 ) -> bool
     requires { seat.old.seen ≡ record { book = desk.old.book; version = desk.old.desk.last } }
+    ensures { seat.new.seen.book ≡ desk.new.book }
 {
     let Ok(batch) = batch else {
         return false;
@@ -264,4 +267,45 @@ fn closed_over_a_session<R: Threads + Wait + Sync>(rt: &R, alloc: Global) -> Opt
 #[test]
 fn a_closed_desk_leaves_a_session_its_version(rt: HostRuntime) {
     assert_eq!(rt; closed_over_a_session(&rt, rt.alloc()), Some([2, 1]));
+}
+
+/// The number of a session's version, which the desk lent. The desk confirms what the seat has seen before a batch and after it,
+/// and what the session has.
+fn number_confirmed<R: Threads + Wait + Sync>(
+    rt: &R,
+    desk: &mut Desk,
+    board: &mut Board,
+    mut seat: Seat,
+    batch: Result<Batch, AllocError>,
+) -> Option<u64>
+    requires { seat.seen ≡ record { book = desk.old.book; version = desk.old.desk.last } }
+{
+    desk.confirm(seat.seen());
+    if !learns_of(rt, desk, &mut seat, batch) {
+        return None;
+    }
+    desk.confirm(seat.seen());
+    match lent(desk, board, seat) {
+        Ok(session) => {
+            desk.confirm(session.seen());
+            Some(number_held(&session))
+        }
+        Err(_) => None,
+    }
+}
+
+fn confirmed_over_a_new_store<R: Threads + Wait + Sync>(rt: &R, alloc: Global) -> Option<u64> {
+    let Opened {
+        mut desk,
+        mut board,
+        first: _,
+        second,
+    } = new_store(rt, alloc, 1, 16)?;
+    let batch = batch_of(alloc, &[("i", "a", "b", 1, 1)]);
+    number_confirmed(rt, &mut desk, &mut board, second, batch)
+}
+
+#[test]
+fn a_desk_confirms_what_its_seats_have_seen(rt: HostRuntime) {
+    assert_eq!(rt; confirmed_over_a_new_store(&rt, rt.alloc()), Some(1));
 }
