@@ -3,9 +3,9 @@
 ghost use Rattle.std.specs.Prelude.{◌<◌};
 ghost use Rattle.graph_model.specs.Graph.{IsContent};
 
-use super::sames::row_text;
-use super::steps::{empty, first, next};
-use graph_model::{Content, VertexId};
+use super::sames::{check_same, row_text};
+use super::steps::{empty, first, next, plain};
+use graph_model::{Batch, Content, NamedOp, VertexId};
 use graph_version::Version;
 use std::alloc::{AllocError, Global};
 use std::process::Abort;
@@ -72,13 +72,23 @@ pub(super) fn first_grown<R: Threads + Sync + Abort>(
     )
 }
 
-fn check_lengths(rt: &impl Abort, first: &Version, second: &Version, links: usize) {
-    assert_eq!(rt; second.names().len(), links.saturating_add(2));
-    assert_eq!(rt; first.names().len(), links.saturating_add(1));
+// The version has what operations leave that are applied plainly.
+fn check_left(rt: &impl Abort, alloc: Global, version: &Version, ops: &str) {
+    let mut content = empty(alloc);
+    assert!(rt; plain(alloc, &mut content, ops).is_some());
+    check_same(rt, version, &content);
 }
 
-// One link more than so many, in a version that shares what it can.
-fn check_link<R: Threads + Sync + Abort>(
+// One link more than so many; the first one has another weight, and the second one goes.
+fn stretch(alloc: Global, links: u32) -> Result<String, AllocError> {
+    let mut text = String::new(alloc);
+    write_link(&mut text, links)?;
+    text.push_str("i,k,v0,v1,9,9 r,k,v1,v2")?;
+    Ok(text)
+}
+
+// The chain of so many links is stretched, in a version that shares what it can.
+fn check_stretched<R: Threads + Sync + Abort>(
     rt: &R,
     alloc: Global,
     workers: usize,
@@ -90,12 +100,12 @@ fn check_link<R: Threads + Sync + Abort>(
     requires content { IsContent content.old }
     ensures { IsContent content.new }
 {
-    let ops = chain(alloc, links, links.saturating_add(1)).expect(rt, "a link");
-    let second = grown(rt, alloc, workers, first, content, ops.as_str(), (1, 0, 0));
-    check_lengths(rt, first, &second, links as usize);
+    let ops = stretch(alloc, links).expect(rt, "a stretch");
+    let second = grown(rt, alloc, workers, first, content, ops.as_str(), (2, 2, 1));
+    assert_eq!(rt; second.names().len(), (links as usize).saturating_add(2));
 }
 
-// A chain of so many links, and then one link more.
+// A chain of so many links is stretched, and the version before it has the names, rows and edges that it had.
 fn check_chain<R: Threads + Sync + Abort>(rt: &R, alloc: Global, workers: usize, links: u32)
     requires { 0 < workers }
 {
@@ -103,12 +113,14 @@ fn check_chain<R: Threads + Sync + Abort>(rt: &R, alloc: Global, workers: usize,
     let mut content = empty(alloc);
     let blocks = (links as usize, 0, 0);
     let first = first_grown(rt, alloc, workers, &mut content, ops.as_str(), blocks);
-    check_link(rt, alloc, workers, &first, &mut content, links);
+    check_stretched(rt, alloc, workers, &first, &mut content, links);
+    check_left(rt, alloc, &first, ops.as_str());
 }
 
+// The numbers of links for which the version before or after the stretch has 63, 64 or 65 rows, or 255, 256 or 257 names.
 #[test]
 fn shares_names_and_rows_at_the_ends_of_pieces(rt: HostRuntime) {
-    for links in [62, 63, 64, 253, 254, 255, 256] {
+    for links in [62, 63, 64, 65, 253, 254, 255, 256] {
         check_chain(&rt, rt.alloc(), 2, links);
     }
 }
@@ -161,20 +173,42 @@ fn turn(alloc: Global, number: u64) -> Result<String, AllocError> {
     }
 }
 
-// How many batches the version lends.
-fn batches_lent(version: &Version) -> u64 {
-    let mut batches = 0_u64;
-    for _batch in version.batches() {
-        batches = batches.saturating_add(1);
+// Whether a batch is the turn of this number.
+fn is_turn(batch: &Batch, number: u64) -> bool {
+    match batch.ops() {
+        [NamedOp::Insert { time, .. }] => number % 2 == 0 && *time == number,
+        [NamedOp::Remove { .. }] => number % 2 == 1,
+        _ => false,
     }
-    batches
 }
 
-// A version before the turn of this number.
-fn check_before(rt: &impl Abort, version: &Version, number: u64) {
+// How many batches the version lends; nothing where one of them isn't the turn of its place.
+fn turns_lent(version: &Version) -> Option<u64> {
+    let mut turns = 0_u64;
+    for batch in version.batches() {
+        if !is_turn(batch, turns) {
+            return None;
+        }
+        turns = turns.saturating_add(1);
+    }
+    Some(turns)
+}
+
+// What stands before the turn of this number, in as few operations.
+fn standing(alloc: Global, number: u64) -> Result<String, AllocError> {
+    match number.checked_sub(1) {
+        None => Ok(String::new(alloc)),
+        Some(before) if before % 2 == 0 => turn(alloc, before),
+        Some(_) => String::from_str(alloc, "i,k,a,b,1,1 r,k,a,b"),
+    }
+}
+
+// A version before the turn of this number has its batches, names, rows and edges.
+fn check_before(rt: &impl Abort, alloc: Global, version: &Version, number: u64) {
     assert_eq!(rt; version.number(), number);
-    assert_eq!(rt; batches_lent(version), number);
-    assert_eq!(rt; version.edge_count(), number % 2);
+    assert_eq!(rt; turns_lent(version), Some(number));
+    let ops = standing(alloc, number).expect(rt, "what stands");
+    check_left(rt, alloc, version, ops.as_str());
 }
 
 // The version that the last turn left.
@@ -195,7 +229,7 @@ fn turned<R: Threads + Sync + Abort>(
 {
     let ops = turn(alloc, number).expect(rt, "a turn");
     let next = next(rt, alloc, 1, version, content, ops.as_str());
-    check_before(rt, version, number);
+    check_before(rt, alloc, version, number);
     check_last(rt, &next.version);
     next.version
 }
