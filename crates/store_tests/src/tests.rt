@@ -7,6 +7,7 @@ mod gates;
 mod limits;
 mod opened;
 mod plays;
+mod refused;
 mod seats;
 mod shared_answers;
 mod stores;

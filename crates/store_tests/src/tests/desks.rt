@@ -1,6 +1,6 @@
 // The desk: batches and collections by one thread that owns it.
 
-use super::batches::{Op, all_pairs, batch_of, tell_refused};
+use super::batches::{Op, all_pairs, batch_of};
 use super::opened::new_store;
 use batch_apply::PassAll;
 use graph_model::{Batch, Outcome};
@@ -24,7 +24,8 @@ fn new_desk<R: Wait>(
     }
 }
 
-fn apply_to<R: Threads + Wait + Sync>(
+/// Applies a batch, where there was memory for it.
+pub(super) fn apply_to<R: Threads + Wait + Sync>(
     rt: &R,
     desk: &mut Desk,
     batch: Result<Batch, AllocError>,
@@ -45,7 +46,7 @@ pub(super) fn is_applied<R: Threads + Wait + Sync>(
 }
 
 /// Two insertions from different sources, a removal whose source is unknown, and the first insertion again.
-const FOUR: [Op; 4] = [
+pub(super) const FOUR: [Op; 4] = [
     ("i", "a", "b", 1, 1),
     ("i", "b", "c", 1, 1),
     ("r", "z", "a", 0, 0),
@@ -258,41 +259,4 @@ fn collects_what_a_batch_dropped(rt: HostRuntime) -> Result<(), Fail> {
     };
     assert_eq!(rt; collected(&rt, rt.alloc())?, (before, low, high, after, 3));
     Ok(())
-}
-
-/// The error of four operations where they are refused, the counts after them, and those after they are tried again.
-fn tried_on<R: Threads + Wait + Sync>(
-    rt: &R,
-    alloc: Global,
-    desk: &mut Desk,
-) -> (Option<ApplyError>, Stat, Stat) {
-    let refused = apply_to(rt, desk, batch_of(alloc, FOUR.as_slice())).err();
-    let stat = desk.stat();
-    if refused.is_some() {
-        let _told = applies_four(rt, alloc, desk);
-    }
-    (refused, stat, desk.stat())
-}
-
-/// The same over a new desk.
-fn tried_twice<R: Threads + Wait + Sync>(
-    rt: &R,
-    alloc: Global,
-) -> Result<(Option<ApplyError>, Stat, Stat), AllocError> {
-    let mut desk = new_desk(rt, alloc, 4, 16)?;
-    Ok(tried_on(rt, alloc, &mut desk))
-}
-
-#[test]
-fn refused_batches_leave_the_desk(rt: HostRuntime) {
-    match tried_twice(&rt, rt.alloc()) {
-        Ok((None, stat, _)) => assert_eq!(rt; stat, AFTER),
-        Ok((Some(error), stat, again)) => {
-            tell_refused(&rt);
-            assert_eq!(rt; error, ApplyError::OutOfMemory);
-            assert_eq!(rt; stat, BEFORE);
-            assert_eq!(rt; again, AFTER);
-        }
-        Err(AllocError) => tell_refused(&rt),
-    }
 }
