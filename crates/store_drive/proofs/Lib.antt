@@ -1,0 +1,3 @@
+mod Agreeing
+mod Empty
+mod Places

@@ -1,0 +1,5 @@
+use Rattle.store_drive.proofs.driving.drive_new.Given as goal
+
+-- the store is of the opening that was just made
+abbrev pub ghosts-drive_over : goal.ghosts-drive_over
+ghosts-drive_over g a = record { book = a.desk.book }

@@ -1,0 +1,64 @@
+-- What is fed to a store, and what its readers ask of it. The load is this project's own: 24 vertices, three kinds, and names,
+-- weights and times that the numbers of a batch and of a place in it give.
+use Rattle.std.specs.Prelude.{ℕ, ◌+◌, ◌*◌, ◌%◌, ◌==◌, ◌||◌, ℤ, pos, codes, decimal, if◌then◌else◌, List, [], ◌∷◌, ◌++◌, map}
+use Rattle.std.specs.List.{range_with_len}
+use Rattle.std.specs.declared.option.Option.{Option}
+use Rattle.std.specs.declared.option.Option.TheVariants.{None, Some}
+use Rattle.graph_model.specs.declared.batches.NamedOp.{NamedOp}
+use Rattle.graph_model.specs.declared.batches.NamedOp.TheVariants.{Insert, Incr, Remove}
+use Rattle.graph_model.specs.declared.requests.NamedFilter.{NamedFilter}
+use Rattle.graph_model.specs.declared.requests.Request.{Request}
+use Rattle.graph_model.specs.declared.requests.Request.TheVariants.{Levels, Labels, Cores, Degrees, OneEdge}
+
+-- the name of a vertex and of a kind: a letter and a number
+abbrev pub vertex_name : ℕ → List ℕ
+vertex_name n = codes "v" ++ decimal n
+
+abbrev pub kind_name : ℕ → List ℕ
+kind_name n = codes "k" ++ decimal n
+
+-- the names and the weight at a place of a batch
+abbrev pub source_at : ℕ → ℕ → List ℕ
+source_at batch place = vertex_name ((3 * batch + place) % 24)
+
+abbrev pub target_at : ℕ → ℕ → List ℕ
+target_at batch place = vertex_name ((5 * batch + 2 * place) % 24)
+
+abbrev pub kind_at : ℕ → List ℕ
+kind_at place = kind_name (place % 3)
+
+abbrev pub weight_at : ℕ → ℕ → ℤ
+weight_at batch place = pos (1 + (batch + place) % 5)
+
+-- the operation at a place of a batch, at the time that is the batch's number: the places 3 and 6 add to a weight, the place 7
+-- removes an edge, and all others insert one
+abbrev pub operation_at : ℕ → ℕ → NamedOp
+operation_at batch place =
+    if (place == 3) || (place == 6)
+    then Incr (kind_at place) (source_at batch place) (target_at batch place) (weight_at batch place) batch
+    else (if place == 7
+    then Remove (kind_at place) (source_at batch place) (target_at batch place)
+    else Insert (kind_at place) (source_at batch place) (target_at batch place) (weight_at batch place) batch)
+
+-- the batch of a number: eight operations
+abbrev pub batch_at : ℕ → List NamedOp
+batch_at batch = map (operation_at batch) (range_with_len 0 8)
+
+-- the edges of a kind, or of any, whose recent time is in a window
+abbrev pub filter_of : Option (List ℕ) → ℕ → ℕ → NamedFilter
+filter_of kind lo hi = record { kind = kind; lo = lo; hi = hi }
+
+-- what each version is asked: by walks over it, and of its edges one by one
+abbrev pub walks : List Request
+walks =
+    Levels (vertex_name 3) (filter_of None 0 64)
+    ∷ Labels (filter_of None 0 64)
+    ∷ Cores (filter_of (Some (kind_name 0)) 0 32)
+    ∷ []
+
+abbrev pub requests : List Request
+requests =
+    walks
+    ++ Degrees (filter_of None 16 48)
+    ∷ OneEdge (kind_name 1) (vertex_name 4) (vertex_name 7)
+    ∷ []

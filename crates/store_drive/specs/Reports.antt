@@ -1,0 +1,37 @@
+-- What a drive tells.
+use Rattle.std.specs.Prelude.{◌≡◌, ℕ, ◌*◌, ◌≤◌, List, codes}
+use Rattle.stream_store.specs.declared.receipts.ApplyError.{ApplyError}
+use Rattle.stream_store.specs.declared.receipts.ApplyError.TheVariants as errors
+use Rattle.store_drive.specs.declared.reports.DriveReport.{DriveReport}
+use Rattle.store_drive.specs.declared.reports.DriveWord.{DriveWord}
+use Rattle.store_drive.specs.declared.reports.DriveWord.TheVariants.{Start, Memory, BatchLimit, NamesFull, KindsFull, PoolEmpty}
+
+-- a word as the program writes it
+abbrev pub word_text : DriveWord → List ℕ
+word_text Start = codes "Start"
+word_text Memory = codes "Memory"
+word_text BatchLimit = codes "BatchLimit"
+word_text NamesFull = codes "NamesFull"
+word_text KindsFull = codes "KindsFull"
+word_text PoolEmpty = codes "PoolEmpty"
+
+-- the word of a refused batch
+abbrev pub word_of : ApplyError → DriveWord
+word_of errors.BatchLimit = BatchLimit
+word_of errors.NamesFull = NamesFull
+word_of errors.KindsFull = KindsFull
+word_of (errors.PoolEmpty needed free) = PoolEmpty
+word_of errors.OutOfMemory = Memory
+
+-- one to four threads read
+pub record IsReaderCount (readers : ℕ) : Type 0 where
+  pub some : 1 ≤ readers
+  pub few : readers ≤ 4
+
+-- all 64 batches were applied, and each reader compared five answers in each of its 16 rounds with the plain ones, of which none
+-- differed
+pub record IsReport (readers : ℕ) (r : DriveReport) : Type 0 where
+  pub readers_are : r.readers ≡ readers
+  pub batches_are : r.batches ≡ 64
+  pub checked_are : r.checked ≡ 80 * readers
+  pub none_wrong : r.wrong ≡ 0

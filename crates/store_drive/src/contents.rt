@@ -1,0 +1,46 @@
+//! What the plain application leaves of a version's batches.
+
+ghost use Rattle.std.specs.Prelude.{◌≡◌, IfOk, OnOk};
+ghost use Rattle.graph_model.specs.Graph.{graph_of, IsContent};
+ghost use Rattle.graph_model.specs.Step.{empty_graph, left_by};
+
+use crate::reports::DriveWord;
+use graph_model::{Batch, Content, List};
+use graph_version::Version;
+use plain_graph::{PlainError, plain_apply};
+use std::alloc::Global;
+
+impl From<PlainError> for DriveWord {
+    fn from(error: PlainError) -> DriveWord {
+        match error {
+            PlainError::NamesFull => DriveWord::NamesFull,
+            PlainError::KindsFull => DriveWord::KindsFull,
+            PlainError::OutOfMemory => DriveWord::Memory,
+        }
+    }
+}
+
+/// The content without names and edges.
+#[tactic(auto, using(crate::proofs::Empty::empty_content))]
+fn empty(alloc: Global) -> Content
+    ensures content { IsContent result }
+    ensures graph { graph_of result ≡ empty_graph }
+{
+    Content {
+        names: List::of(Vec::new(alloc)),
+        kinds: List::of(Vec::new(alloc)),
+        edges: List::of(Vec::new(alloc)),
+    }
+}
+
+/// The content that the version's batches leave, one after another, of the empty one.
+pub(crate) fn content_of(alloc: Global, version: &Version) -> Result<Content, DriveWord>
+    ensures content { IfOk result IsContent }
+    ensures graph { IfOk result (λ content. graph_of content ≡ left_by version.now.batches empty_graph) }
+{
+    let mut content = empty(alloc);
+    for batch in version.batches() {
+        let _outcomes = plain_apply(alloc, &mut content, batch)?;
+    }
+    Ok(content)
+}

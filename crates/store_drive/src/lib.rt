@@ -1,0 +1,16 @@
+//! A check of the running store in threads: [`drive`] has one thread feed batches to a store while readers acquire versions of it,
+//! ask them, and compare each answer with that of the slow functions of `plain_graph`. The load that is fed, and what is asked,
+//! stand in `specs/Load.antt`.
+#![tactic(auto)]
+
+mod contents;
+mod driving;
+mod feeder;
+mod load;
+mod readers;
+mod reports;
+mod sames;
+mod tally;
+
+pub use driving::drive;
+pub use reports::{DriveFault, DriveReport, DriveWord};
