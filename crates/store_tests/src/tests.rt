@@ -3,6 +3,7 @@
 mod answers;
 mod batches;
 mod desks;
+mod drives;
 mod gates;
 mod limits;
 mod opened;
