@@ -5,6 +5,7 @@ mod batches;
 mod desks;
 mod drives;
 mod gates;
+mod held_batches;
 mod limits;
 mod opened;
 mod plays;

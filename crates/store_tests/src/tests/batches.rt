@@ -1,4 +1,4 @@
-// Batches of operations of kind `k`.
+// Batches of operations, most of them of kind `k`.
 
 use graph_model::{Batch, Name, NamedOp};
 use std::alloc::{AllocError, Global};
@@ -98,8 +98,8 @@ fn named_operation(op: Op, kind: Name, source: Name, target: Name) -> NamedOp {
     }
 }
 
-fn operation(alloc: Global, op: Op) -> Result<NamedOp, AllocError> {
-    let kind = name(alloc, "k")?;
+fn operation(alloc: Global, kind: &str, op: Op) -> Result<NamedOp, AllocError> {
+    let kind = name(alloc, kind)?;
     match ends_of(alloc, op.1, op.2) {
         Ok((source, target)) => Ok(named_operation(op, kind, source, target)),
         Err(error) => Err(error),
@@ -114,9 +114,14 @@ fn push(batch: &mut Batch, op: Result<NamedOp, AllocError>) -> Result<(), AllocE
 }
 
 pub(super) fn batch_of(alloc: Global, ops: &[Op]) -> Result<Batch, AllocError> {
+    batch_of_kind(alloc, "k", ops)
+}
+
+/// A batch of operations of that kind.
+pub(super) fn batch_of_kind(alloc: Global, kind: &str, ops: &[Op]) -> Result<Batch, AllocError> {
     let mut batch = Batch::new(alloc);
     for op in ops {
-        push(&mut batch, operation(alloc, *op))?;
+        push(&mut batch, operation(alloc, kind, *op))?;
     }
     Ok(batch)
 }
@@ -154,7 +159,7 @@ fn push_from(
     targets: &[&'static str],
 ) -> Result<(), AllocError> {
     for target in targets {
-        push(batch, operation(alloc, ("i", source, *target, 1, 1)))?;
+        push(batch, operation(alloc, "k", ("i", source, *target, 1, 1)))?;
     }
     Ok(())
 }

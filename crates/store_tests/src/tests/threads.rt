@@ -145,14 +145,24 @@ fn handed_over<J: Naming + Send + Sync, R: Threads + Wait + Sync>(
 
 /// A gate that holds the first worker until another thread has read.
 #[derive(Drop)]
-struct HoldFirst {
-    arrived: AtomicBool,
-    read: AtomicBool,
-    late: AtomicBool,
+pub(super) struct HoldFirst {
+    pub(super) arrived: AtomicBool,
+    pub(super) read: AtomicBool,
+    pub(super) late: AtomicBool,
+}
+
+impl HoldFirst {
+    pub(super) fn new() -> HoldFirst {
+        HoldFirst {
+            arrived: AtomicBool::new(false),
+            read: AtomicBool::new(false),
+            late: AtomicBool::new(false),
+        }
+    }
 }
 
 /// Looks at a flag until it is set; whether it was.
-fn is_set(flag: &AtomicBool) -> bool {
+pub(super) fn is_set(flag: &AtomicBool) -> bool {
     for _ in 0..TURNS {
         if flag.load(SeqCst) {
             return true;
@@ -190,7 +200,7 @@ fn read_beside<J: Naming, R: Wait>(
     Some(number)
 }
 
-fn apply_behind<J: Naming, R: Threads + Wait + Sync>(
+pub(super) fn apply_behind<J: Naming, R: Threads + Wait + Sync>(
     rt: &R,
     store: &Store<J>,
     gate: &HoldFirst,
@@ -217,11 +227,7 @@ fn beside_a_batch<J: Naming + Send + Sync, R: Threads + Wait + Sync>(
     store: &Store<J>,
     seat: Seat,
 ) -> Beside {
-    let gate = HoldFirst {
-        arrived: AtomicBool::new(false),
-        read: AtomicBool::new(false),
-        late: AtomicBool::new(false),
-    };
+    let gate = HoldFirst::new();
     let batch = batch_of(alloc, &CHAIN[..1]);
     let (applied, seen) = join(
         rt,
