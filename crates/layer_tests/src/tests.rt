@@ -9,4 +9,5 @@ mod levels;
 mod plans;
 mod shards;
 mod shelves;
+mod views;
 mod workers;

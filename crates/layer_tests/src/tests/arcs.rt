@@ -1,10 +1,11 @@
 //! Targets in a list of arcs, and in a version without edges.
 
+use super::levels::tell_refused;
+use super::views::view_of;
 use graph_model::Filter;
 use graph_version::Version;
 use std::alloc::{AllocError, Global};
-use std::test::Fail;
-use view_edges::{ListedArcs, VersionEdges, ViewEdges};
+use view_edges::{VersionEdges, ViewEdges};
 
 /// Puts the targets in place of another.
 fn put_targets<E: ViewEdges>(
@@ -25,22 +26,20 @@ fn lists<E: ViewEdges>(alloc: Global, edges: &E, source: u32, wanted: &[u32]) ->
 }
 
 /// Three vertices: an arc twice, one back, one to no vertex, and a loop.
-fn three(alloc: Global) -> Result<ListedArcs, AllocError> {
-    Ok(ListedArcs {
-        count: 3,
-        arcs: Vec::from_slice(alloc, &[(0, 1), (0, 1), (1, 0), (0, 3), (2, 2), (3, 0)])?,
-    })
+const THREE: &str = "3: 0>1 0>1 1>0 0>3 2>2 3>0";
+
+/// How many vertices there are, and whether this one's targets are these; nothing where memory is refused.
+fn told_of(alloc: Global, source: u32, targets: &[u32]) -> Option<(usize, bool)> {
+    let edges = view_of(alloc, THREE)?;
+    Some((edges.vertex_count(), lists(alloc, &edges, source, targets)?))
 }
 
 #[test]
-fn arcs_lead_from_their_sources(rt: HostRuntime) -> Result<(), Fail> {
-    let edges = three(rt.alloc())?;
-    assert_eq!(rt; edges.vertex_count(), 3);
+fn arcs_lead_from_their_sources(rt: HostRuntime) {
     let rows: [(u32, &[u32]); 4] = [(0, &[1, 1]), (1, &[0]), (2, &[2]), (3, &[])];
-    for (source, wanted) in rows {
-        assert_eq!(rt; lists(rt.alloc(), &edges, source, wanted), Some(true));
+    for (source, targets) in rows {
+        assert_eq!(rt; told_of(rt.alloc(), source, targets), Some((3, true)));
     }
-    Ok(())
 }
 
 /// Whether a version without batches lists no target; nothing where memory is refused.
@@ -64,16 +63,23 @@ fn a_version_without_edges_lists_none(rt: HostRuntime) {
     assert_eq!(rt; lists_none_at_the_opening(rt.alloc()), Some(true));
 }
 
+/// Whether the first vertex has its targets, nothing where memory is refused; and how many arcs there are then. Nothing where
+/// there was no memory for the view.
+fn told_of_the_first(alloc: Global) -> Option<(Option<bool>, usize)> {
+    let edges = view_of(alloc, THREE)?;
+    Some((lists(alloc, &edges, 0, &[1, 1]), edges.arcs.len()))
+}
+
 #[test]
-fn refused_targets_leave_the_view(rt: HostRuntime) -> Result<(), Fail> {
-    let Ok(edges) = three(rt.alloc()) else {
-        println!(rt; "refused")?;
-        return Ok(());
-    };
-    match lists(rt.alloc(), &edges, 0, &[1, 1]) {
-        Some(right) => assert!(rt; right),
-        None => println!(rt; "refused")?,
+fn refused_targets_leave_the_view(rt: HostRuntime) {
+    match told_of_the_first(rt.alloc()) {
+        Some((told, arcs)) => {
+            assert_eq!(rt; arcs, 6);
+            assert!(rt; told.unwrap_or(true));
+            if told.is_none() {
+                tell_refused(&rt);
+            }
+        }
+        None => tell_refused(&rt),
     }
-    assert_eq!(rt; edges.arcs.len(), 6);
-    Ok(())
 }

@@ -1,123 +1,86 @@
 //! Levels and labels of small views, with values written by hand from the definitions, and of a long path.
 
+use super::views::{view_of, write_levels, write_numbers};
 use graph_levels::{LevelError, labels, labels_over, levels, levels_over};
 use graph_model::{Filter, VertexId};
 use graph_version::Version;
 use std::alloc::{AllocError, Global};
 use std::io::Print;
-use std::test::Fail;
 use view_edges::ListedArcs;
 
 // Tells `tools/refuse-each-growth` that a growth was refused.
-fn tell_refused(rt: &impl Print) {
+pub(super) fn tell_refused(rt: &impl Print) {
     let _ = println!(rt; "refused");
 }
 
-/// How many vertices, the arcs, the source, the levels from it, and the labels.
-type Case = (
-    u16,
-    &'static [(u32, u32)],
-    u32,
-    &'static [Option<u32>],
-    &'static [u32],
-);
+/// The levels of a view from a source that is a vertex; nothing where memory is refused.
+fn add_levels(alloc: Global, text: &mut String, edges: &ListedArcs, source: u32) -> Option<()> {
+    if source >= edges.count as u32 {
+        return None;
+    }
+    let levels = levels_over(alloc, edges, VertexId(source)).ok()?;
+    write_levels(text, levels.as_slice()).ok()
+}
 
-fn view(alloc: Global, count: u16, arcs: &[(u32, u32)]) -> Result<ListedArcs, AllocError> {
-    Ok(ListedArcs {
-        count,
-        arcs: Vec::from_slice(alloc, arcs)?,
-    })
+/// The labels of a view; nothing where memory is refused.
+fn add_labels(alloc: Global, text: &mut String, edges: &ListedArcs) -> Option<()> {
+    let labels = labels_over(alloc, edges).ok()?;
+    write_numbers(text, labels.as_slice()).ok()
 }
 
 /// Whether these are the levels from a source that is a vertex; nothing where memory is refused.
-fn are_levels(
-    alloc: Global,
-    edges: &ListedArcs,
-    source: u32,
-    wanted: &[Option<u32>],
-) -> Option<bool> {
-    if source >= edges.count as u32 {
-        return Some(false);
-    }
-    match levels_over(alloc, edges, VertexId(source)) {
-        Ok(levels) => Some(levels.as_slice() == wanted),
-        Err(AllocError) => None,
-    }
+fn are_levels(alloc: Global, edges: &ListedArcs, source: u32, wanted: &str) -> Option<bool> {
+    let mut text = String::new(alloc);
+    add_levels(alloc, &mut text, edges, source)?;
+    Some(text.as_str() == wanted)
 }
 
 /// Whether these are the labels; nothing where memory is refused.
-fn are_labels(alloc: Global, edges: &ListedArcs, wanted: &[u32]) -> Option<bool> {
-    match labels_over(alloc, edges) {
-        Ok(labels) => Some(labels.as_slice() == wanted),
-        Err(AllocError) => None,
-    }
+fn are_labels(alloc: Global, edges: &ListedArcs, wanted: &str) -> Option<bool> {
+    let mut text = String::new(alloc);
+    add_labels(alloc, &mut text, edges)?;
+    Some(text.as_str() == wanted)
 }
 
-/// Small views.
-const CASES: [Case; 7] = [
-    // a triangle with a tail, from its corner and from the tail's end
-    (
-        4,
-        &[(0, 1), (1, 2), (2, 0), (2, 3)],
-        0,
-        &[Some(0), Some(1), Some(2), Some(3)],
-        &[0, 0, 0, 0],
-    ),
-    (
-        4,
-        &[(0, 1), (1, 2), (2, 0), (2, 3)],
-        3,
-        &[None, None, None, Some(0)],
-        &[0, 0, 0, 0],
-    ),
-    // levels go by direction, and labels against it too
-    (2, &[(1, 0)], 0, &[Some(0), None], &[0, 0]),
-    // loops, and an arc twice
-    (
-        4,
-        &[(0, 0), (0, 1), (0, 1), (2, 2)],
-        0,
-        &[Some(0), Some(1), None, None],
-        &[0, 0, 2, 3],
-    ),
-    // the shorter of two ways
-    (
-        5,
-        &[(0, 1), (1, 2), (2, 3), (0, 3), (3, 4)],
-        0,
-        &[Some(0), Some(1), Some(2), Some(1), Some(2)],
-        &[0, 0, 0, 0, 0],
-    ),
-    // trees that are joined by their ends
-    (
-        6,
-        &[(3, 4), (1, 2), (2, 4)],
-        3,
-        &[None, None, None, Some(0), Some(1), None],
-        &[0, 1, 1, 1, 1, 5],
-    ),
-    // one vertex, and an arc to none
-    (1, &[(0, 1)], 0, &[Some(0)], &[0]),
-];
+/// A triangle with a tail, from its corner and from the tail's end; levels go by direction, and labels against it too; loops, and
+/// an arc twice; the shorter of two ways; trees that are joined by their ends; one vertex, and an arc to none. Behind the view
+/// stand the source, the levels from it, and the labels.
+const VIEWS: &str = "4: 0>1 1>2 2>0 2>3; 0; 0,1,2,3,; 0,0,0,0,
+4: 0>1 1>2 2>0 2>3; 3; -,-,-,0,; 0,0,0,0,
+2: 1>0; 0; 0,-,; 0,0,
+4: 0>0 0>1 0>1 2>2; 0; 0,1,-,-,; 0,0,2,3,
+5: 0>1 1>2 2>3 0>3 3>4; 0; 0,1,2,1,2,; 0,0,0,0,0,
+6: 3>4 1>2 2>4; 3; -,-,-,0,1,-,; 0,1,1,1,1,5,
+1: 0>1; 0; 0,; 0,";
 
-#[test]
-fn small_views_have_their_levels_and_labels(rt: HostRuntime) -> Result<(), Fail> {
-    for (count, arcs, source, wanted_levels, wanted_labels) in CASES {
-        let edges = view(rt.alloc(), count, arcs)?;
-        assert_eq!(rt;
-            are_levels(rt.alloc(), &edges, source, wanted_levels),
-            Some(true)
-        );
-        assert_eq!(rt; are_labels(rt.alloc(), &edges, wanted_labels), Some(true));
-    }
-    Ok(())
+/// Whether the view of a line has its levels and its labels; nothing where memory is refused.
+fn has_tables(alloc: Global, line: &str) -> Option<(bool, bool)> {
+    let (view, rest) = line.split_once("; ")?;
+    let (source, rest) = rest.split_once("; ")?;
+    let (levels, labels) = rest.split_once("; ")?;
+    let source: u32 = source.parse().ok()?;
+    let edges = view_of(alloc, view)?;
+    Some((
+        are_levels(alloc, &edges, source, levels)?,
+        are_labels(alloc, &edges, labels)?,
+    ))
 }
 
 #[test]
-fn no_vertices_have_no_labels(rt: HostRuntime) -> Result<(), Fail> {
-    let edges = view(rt.alloc(), 0, &[])?;
-    assert_eq!(rt; are_labels(rt.alloc(), &edges, &[]), Some(true));
-    Ok(())
+fn small_views_have_their_levels_and_labels(rt: HostRuntime) {
+    for line in VIEWS.lines() {
+        assert_eq!(rt; has_tables(rt.alloc(), line), Some((true, true)), "{line}");
+    }
+}
+
+/// Whether the view without vertices has no labels; nothing where memory is refused.
+fn has_no_labels(alloc: Global) -> Option<bool> {
+    are_labels(alloc, &view_of(alloc, "0:")?, "")
+}
+
+#[test]
+fn no_vertices_have_no_labels(rt: HostRuntime) {
+    assert_eq!(rt; has_no_labels(rt.alloc()), Some(true));
 }
 
 /// A path of so many vertices, from the last down to the first.
@@ -152,11 +115,9 @@ fn a_long_path_is_one_part(rt: HostRuntime) {
 /// Whether the levels from the first vertex of a path of three are right, and its labels, each nothing where memory is refused;
 /// and whether the path is as it was. Nothing where there was no memory for the path.
 fn told_of_a_path(alloc: Global) -> Option<(Option<bool>, Option<bool>, bool)> {
-    let Ok(edges) = view(alloc, 3, &[(0, 1), (1, 2)]) else {
-        return None;
-    };
-    let levels = are_levels(alloc, &edges, 0, &[Some(0), Some(1), Some(2)]);
-    let labels = are_labels(alloc, &edges, &[0, 0, 0]);
+    let edges = view_of(alloc, "3: 0>1 1>2")?;
+    let levels = are_levels(alloc, &edges, 0, "0,1,2,");
+    let labels = are_labels(alloc, &edges, "0,0,0,");
     let is_left = edges.arcs.as_slice() == [(0, 1), (1, 2)].as_slice();
     Some((levels, labels, is_left))
 }
