@@ -99,7 +99,7 @@ fn refused_post(rt: HostRuntime) -> Result<(), Fail> {
     }
 }
 
-const REPLYING: &str = "ask 0 edge k a b
+const REPLYING: &str = "ask 0 edge,0,k,a,b
 read 0
 reply 0";
 

@@ -3,9 +3,9 @@
 ghost use Rattle.std.specs.Prelude.{◌<◌, length};
 
 use epoch_core::{Core, Event, PinCopy};
+use feed_csv::{Command, Feed, FeedWord};
 use graph_model::{
-    AskError, Batch, Degree, Edge, KindId, List, Name, NamedFilter, NamedOp, PushError, Reply,
-    Request, VertexId,
+    AskError, Batch, Degree, Edge, KindId, List, Name, NamedOp, PushError, Reply, Request, VertexId,
 };
 use std::alloc::{AllocError, Global};
 use std::num::ParseIntError;
@@ -95,66 +95,29 @@ pub(super) fn edges(alloc: Global, text: &str) -> Result<Vec<Edge>, LineError> {
     Ok(list)
 }
 
-// `kind,source,target,weight,time`
-fn insertion(alloc: Global, fields: &[&str]) -> Result<NamedOp, LineError> {
-    match *fields {
-        [kind, source, target, weight, time] => {
-            let (weight, time) = (weight.parse()?, time.parse()?);
-            Ok(NamedOp::Insert {
-                kind: name(alloc, kind)?,
-                source: name(alloc, source)?,
-                target: name(alloc, target)?,
-                weight,
-                time,
-            })
-        }
-        _ => Err(LineError::Wrong),
+// The command of a script's record.
+fn command(alloc: Global, record: &str) -> Result<Command, LineError> {
+    let mut feed = Feed::over(alloc, record.as_bytes());
+    match feed.next() {
+        Ok(Some(command)) => Ok(command),
+        Ok(None) => Err(LineError::Wrong),
+        Err(fault) => Err(told(fault.word)),
     }
 }
 
-// `kind,source,target,amount,time`
-fn increment(alloc: Global, fields: &[&str]) -> Result<NamedOp, LineError> {
-    match *fields {
-        [kind, source, target, amount, time] => {
-            let (amount, time) = (amount.parse()?, time.parse()?);
-            Ok(NamedOp::Incr {
-                kind: name(alloc, kind)?,
-                source: name(alloc, source)?,
-                target: name(alloc, target)?,
-                amount,
-                time,
-            })
-        }
-        _ => Err(LineError::Wrong),
+fn told(word: FeedWord) -> LineError {
+    match word {
+        FeedWord::Memory => LineError::OutOfMemory,
+        _ => LineError::Wrong,
     }
 }
 
-// `kind,source,target`
-fn removal(alloc: Global, fields: &[&str]) -> Result<NamedOp, LineError> {
-    match *fields {
-        [kind, source, target] => Ok(NamedOp::Remove {
-            kind: name(alloc, kind)?,
-            source: name(alloc, source)?,
-            target: name(alloc, target)?,
-        }),
+// An operation as a script has it.
+fn op(alloc: Global, record: &str) -> Result<NamedOp, LineError> {
+    match command(alloc, record)? {
+        Command::Op(op) => Ok(op),
         _ => Err(LineError::Wrong),
     }
-}
-
-fn op_of(alloc: Global, letter: &str, fields: &[&str]) -> Result<NamedOp, LineError> {
-    match letter {
-        "i" => insertion(alloc, fields),
-        "a" => increment(alloc, fields),
-        "r" => removal(alloc, fields),
-        _ => Err(LineError::Wrong),
-    }
-}
-
-// `i,kind,source,target,weight,time`, `a,kind,source,target,amount,time` or `r,kind,source,target`.
-fn op(alloc: Global, text: &str) -> Result<NamedOp, LineError> {
-    let (letter, rest) = text.split_once(',').ok_or(LineError::Wrong)?;
-    let fields: Vec<&str> = rest.split(',').collect(alloc)?;
-    op_of(alloc, letter, fields.as_slice())
 }
 
 fn refused(refusal: PushError) -> LineError {
@@ -193,68 +156,12 @@ fn fill(alloc: Global, text: &str) -> Result<Event, LineError> {
     Ok(Event::Fill(block, List::of(edges(alloc, listed)?)))
 }
 
-// The name of a kind, and none for `*`.
-fn kind_name(alloc: Global, text: &str) -> Result<Option<Name>, AllocError> {
-    if text == "*" {
-        return Ok(None);
-    }
-    Ok(Some(name(alloc, text)?))
-}
-
-// The view of a kind, `*` for any, and a window.
-fn view(alloc: Global, kind: &str, lo: &str, hi: &str) -> Result<NamedFilter, LineError> {
-    let (lo, hi) = (lo.parse()?, hi.parse()?);
-    let kind = kind_name(alloc, kind)?;
-    Ok(NamedFilter { kind, lo, hi })
-}
-
-fn one_edge(alloc: Global, words: &[&str]) -> Result<Request, LineError> {
-    match *words {
-        [kind, source, target] => Ok(Request::OneEdge {
-            kind: name(alloc, kind)?,
-            source: name(alloc, source)?,
-            target: name(alloc, target)?,
-        }),
+// A request as a script has it; the slot is for nothing.
+fn request(alloc: Global, record: &str) -> Result<Request, LineError> {
+    match command(alloc, record)? {
+        Command::Query(_, request) => Ok(request),
         _ => Err(LineError::Wrong),
     }
-}
-
-fn levels(alloc: Global, words: &[&str]) -> Result<Request, LineError> {
-    match *words {
-        [source, kind, lo, hi] => Ok(Request::Levels {
-            source: name(alloc, source)?,
-            filter: view(alloc, kind, lo, hi)?,
-        }),
-        _ => Err(LineError::Wrong),
-    }
-}
-
-// The request of a verb for all of a view.
-fn of_view(verb: &str, filter: NamedFilter) -> Result<Request, LineError> {
-    match verb {
-        "comp" => Ok(Request::Labels { filter }),
-        "core" => Ok(Request::Cores { filter }),
-        "deg" => Ok(Request::Degrees { filter }),
-        _ => Err(LineError::Wrong),
-    }
-}
-
-fn request_of(alloc: Global, verb: &str, words: &[&str]) -> Result<Request, LineError> {
-    match verb {
-        "edge" => one_edge(alloc, words),
-        "bfs" => levels(alloc, words),
-        _ => match *words {
-            [kind, lo, hi] => of_view(verb, view(alloc, kind, lo, hi)?),
-            _ => Err(LineError::Wrong),
-        },
-    }
-}
-
-// `edge KIND SOURCE TARGET`; `bfs SOURCE KIND LO HI`; `comp`, `core` or `deg`, and KIND LO HI.
-fn request(alloc: Global, text: &str) -> Result<Request, LineError> {
-    let (verb, rest) = text.split_once(' ').ok_or(LineError::Wrong)?;
-    let words: Vec<&str> = rest.split_whitespace().collect(alloc)?;
-    request_of(alloc, verb, words.as_slice())
 }
 
 // A session, and a request.

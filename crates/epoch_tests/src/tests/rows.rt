@@ -20,7 +20,7 @@ post i,k,a,b,5,10 | 0 => done";
 const SESSION_ROWS: &str = "idle, pin 0 => done: 0 0 - 0
 idle, enter 0 => skipped: 0 - - 0
 idle, settle 0 => skipped: 0 - - 0
-idle, ask 0 edge k a b => skipped: 0 - - 0
+idle, ask 0 edge,0,k,a,b => skipped: 0 - - 0
 idle, read 0 => skipped: 0 - - 0
 idle, reply 0 => skipped: 0 - - 0
 idle, release 0 => skipped: 0 - - 0
@@ -28,7 +28,7 @@ idle, floor => done: 1 - - 0
 pinned, pin 0 => skipped: 0 0 - 0
 pinned, enter 0 => done: 0 0 1 0
 pinned, settle 0 => skipped: 0 0 - 0
-pinned, ask 0 edge k a b => skipped: 0 0 - 0
+pinned, ask 0 edge,0,k,a,b => skipped: 0 0 - 0
 pinned, read 0 => skipped: 0 0 - 0
 pinned, reply 0 => skipped: 0 0 - 0
 pinned, release 0 => done: 0 - - 0
@@ -36,7 +36,7 @@ pinned, floor => done: 0 0 - 0
 holding, pin 0 => skipped: 0 0 1 0
 holding, enter 0 => skipped: 0 0 1 0
 holding, settle 0 => done: 0 1 1 0
-holding, ask 0 edge k a b => done: 0 0 1 0
+holding, ask 0 edge,0,k,a,b => done: 0 0 1 0
 holding, read 0 => skipped: 0 0 1 0
 holding, reply 0 => skipped: 0 0 1 0
 holding, release 0 => done: 0 - - 0
@@ -44,7 +44,7 @@ holding, floor => done: 0 0 1 0
 asking, pin 0 => skipped: 0 0 1 0
 asking, enter 0 => skipped: 0 0 1 0
 asking, settle 0 => done: 0 1 1 0
-asking, ask 0 edge k a b => skipped: 0 0 1 0
+asking, ask 0 edge,0,k,a,b => skipped: 0 0 1 0
 asking, read 0 => done: 0 0 1 0
 asking, reply 0 => skipped: 0 0 1 0
 asking, release 0 => skipped: 0 0 1 0
@@ -52,7 +52,7 @@ asking, floor => done: 0 0 1 0
 reading, pin 0 => skipped: 0 0 1 0
 reading, enter 0 => skipped: 0 0 1 0
 reading, settle 0 => done: 0 1 1 0
-reading, ask 0 edge k a b => skipped: 0 0 1 0
+reading, ask 0 edge,0,k,a,b => skipped: 0 0 1 0
 reading, read 0 => skipped: 0 0 1 0
 reading, reply 0 => done: 0 0 1 1
 reading, release 0 => skipped: 0 0 1 0
@@ -65,8 +65,8 @@ fn session_setup(state: &str) -> &'static str {
     match state {
         "pinned" => "pin 0 => done",
         "holding" => "pin 0 => done\nenter 0 => done",
-        "asking" => "pin 0 => done\nenter 0 => done\nask 0 edge k a b => done",
-        "reading" => "pin 0 => done\nenter 0 => done\nask 0 edge k a b => done\nread 0 => done",
+        "asking" => "pin 0 => done\nenter 0 => done\nask 0 edge,0,k,a,b => done",
+        "reading" => "pin 0 => done\nenter 0 => done\nask 0 edge,0,k,a,b => done\nread 0 => done",
         "settled" => "pin 0 => done\nenter 0 => done\nsettle 0 => done",
         _ => "",
     }
@@ -174,7 +174,7 @@ recycle 65536 => skipped
 pin 16 => skipped
 enter 16 => skipped
 settle 16 => skipped
-ask 16 deg * 0 9 => skipped
+ask 16 deg,0,*,0,9 => skipped
 read 16 => skipped
 reply 16 => skipped
 release 16 => skipped

@@ -24,7 +24,7 @@ enter 0 => done: 0 0 2 0
 settle 0 => done: 0 2 2 0
 floor => done: 2 2 2 0
 recycle 0 => done
-ask 0 edge k a b => done
+ask 0 edge,0,k,a,b => done
 read 0 => done
 reply 0 => done: 2 2 2 1
 release 0 => done: 2 - - 1
@@ -120,24 +120,24 @@ pin 0 => done
 enter 0 => done";
 
 // Each of these is asked, and answered so once both blocks are read.
-const REQUESTS: &str = "deg * 0 100 => deg a 1 0 5 b 1 1 2 c 1 2 -3
-deg * 10 11 => deg a 1 0 5 b 1 1 2 c 0 1 0
-deg k 11 12 => deg a 0 0 0 b 0 0 0 c 1 1 -3
-deg x 5 4 => BadWindow
-deg x 4 5 => NoKind
-edge x z b => NoKind
-edge k z b => NoVertex
-edge k a z => NoVertex
-edge k b a => edge none
-edge m b c => edge 2 11 11
-bfs a * 0 100 => bfs a 0 b 1 c 2
-bfs c * 0 100 => bfs c 0
-bfs a k 0 100 => bfs a 0 b 1
-bfs z * 0 9 => NoVertex
-bfs z x 5 4 => BadWindow
-comp k 0 100 => comp a a b a c c
-core * 0 100 => core a 1 b 1 c 1
-core k 11 12 => core a 0 b 0 c 0";
+const REQUESTS: &str = "deg,0,*,0,100 => deg a 1 0 5 b 1 1 2 c 1 2 -3
+deg,0,*,10,11 => deg a 1 0 5 b 1 1 2 c 0 1 0
+deg,0,k,11,12 => deg a 0 0 0 b 0 0 0 c 1 1 -3
+deg,0,x,5,4 => BadWindow
+deg,0,x,4,5 => NoKind
+edge,0,x,z,b => NoKind
+edge,0,k,z,b => NoVertex
+edge,0,k,a,z => NoVertex
+edge,0,k,b,a => edge none
+edge,0,m,b,c => edge 2 11 11
+bfs,0,a,*,0,100 => bfs a 0 b 1 c 2
+bfs,0,c,*,0,100 => bfs c 0
+bfs,0,a,k,0,100 => bfs a 0 b 1
+bfs,0,z,*,0,9 => NoVertex
+bfs,0,z,x,5,4 => BadWindow
+comp,0,k,0,100 => comp a a b a c c
+core,0,*,0,100 => core a 1 b 1 c 1
+core,0,k,11,12 => core a 0 b 0 c 0";
 
 // Session 0 asks one of these of a version of two blocks, and has got as many replies before.
 fn push_asking(
@@ -175,20 +175,20 @@ fill 0 0,0,1,3,1,1 => done
 post i,k,a,b,3,1 | 0 => done
 pin 0 => done
 enter 0 => done
-ask 0 edge k a b => done
+ask 0 edge,0,k,a,b => done
 read 0 => done
 reply 0 => done
-ask 0 deg * 0 9 => done
+ask 0 deg,0,*,0,9 => done
 read 0 => done
 reply 0 => done
-ask 0 edge x a b => done
+ask 0 edge,0,x,a,b => done
 read 0 => done
 reply 0 => done
 release 0 => done
 post r,k,a,b | => done
 pin 0 => done
 enter 0 => done
-ask 0 edge k a b => done
+ask 0 edge,0,k,a,b => done
 reply 0 => done: 0 0 2 4";
 
 // In the large one it holds version 3, whose edge got its weight by an increment, while session 1 holds version 2 and
@@ -206,10 +206,10 @@ take 3 => done
 fill 3 0,0,1,3,1,1 => done
 post a,k,a,b,-4,1 | 3 => done
 enter 0 => done: 0 0 3 0
-ask 0 edge k a b => done
+ask 0 edge,0,k,a,b => done
 read 0 => done
 reply 0 => done
-ask 1 edge k a b => done
+ask 1 edge,0,k,a,b => done
 take 2 => done
 fill 2 0,1,0,9,5,5 => done
 post r,k,a,b i,k,b,a,9,5 | 2 => done
@@ -225,17 +225,17 @@ recycle 4 => done
 recycle 3 => skipped
 take 4 => done
 fill 4 0,1,0,9,5,5 => done
-ask 0 deg * 0 9 => done
+ask 0 deg,0,*,0,9 => done
 read 0 => done
 reply 0 => done
-ask 0 edge x a b => done
+ask 0 edge,0,x,a,b => done
 read 0 => done
 reply 0 => done
 release 0 => done
 post r,k,b,a | => done
 pin 0 => done
 enter 0 => done
-ask 0 edge k a b => done
+ask 0 edge,0,k,a,b => done
 reply 0 => done: 3 3 5 4";
 
 const ALIKE: &str = "said 0 0 => edge 3 1 1
