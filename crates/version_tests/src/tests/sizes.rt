@@ -105,16 +105,29 @@ fn check_stretched<R: Threads + Sync + Abort>(
     assert_eq!(rt; second.names().len(), (links as usize).saturating_add(2));
 }
 
-// A chain of so many links is stretched, and the version before it has the names, rows and edges that it had.
+// The chain that these operations make is stretched, and the version before it has the names, rows and edges that it had.
+fn check_links<R: Threads + Sync + Abort>(
+    rt: &R,
+    alloc: Global,
+    workers: usize,
+    ops: &str,
+    links: u32,
+)
+    requires { 0 < workers }
+{
+    let mut content = empty(alloc);
+    let blocks = (links as usize, 0, 0);
+    let first = first_grown(rt, alloc, workers, &mut content, ops, blocks);
+    check_stretched(rt, alloc, workers, &first, &mut content, links);
+    check_left(rt, alloc, &first, ops);
+}
+
+// The same of a chain of so many links.
 fn check_chain<R: Threads + Sync + Abort>(rt: &R, alloc: Global, workers: usize, links: u32)
     requires { 0 < workers }
 {
     let ops = chain(alloc, 0, links).expect(rt, "a chain");
-    let mut content = empty(alloc);
-    let blocks = (links as usize, 0, 0);
-    let first = first_grown(rt, alloc, workers, &mut content, ops.as_str(), blocks);
-    check_stretched(rt, alloc, workers, &first, &mut content, links);
-    check_left(rt, alloc, &first, ops.as_str());
+    check_links(rt, alloc, workers, ops.as_str(), links);
 }
 
 // The numbers of links for which the version before or after the stretch has 63, 64 or 65 rows, or 255, 256 or 257 names.
@@ -203,10 +216,15 @@ fn standing(alloc: Global, number: u64) -> Result<String, AllocError> {
     }
 }
 
-// A version before the turn of this number has its batches, names, rows and edges.
-fn check_before(rt: &impl Abort, alloc: Global, version: &Version, number: u64) {
+// A version before the turn of this number has the turns before it.
+fn check_turns(rt: &impl Abort, version: &Version, number: u64) {
     assert_eq!(rt; version.number(), number);
     assert_eq!(rt; turns_lent(version), Some(number));
+}
+
+// It has their batches, names, rows and edges.
+fn check_before(rt: &impl Abort, alloc: Global, version: &Version, number: u64) {
+    check_turns(rt, version, number);
     let ops = standing(alloc, number).expect(rt, "what stands");
     check_left(rt, alloc, version, ops.as_str());
 }
