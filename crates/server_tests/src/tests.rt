@@ -38,6 +38,40 @@ edge 0 5 10 10
 // How many bytes of `FIRST_TEXT` stand before each record of `FIRST`, and at its end.
 const FIRST_ENDS: [usize; 7] = [0, 0, 0, 41, 52, 96, 111];
 
+// Levels in a session that is held while an edge goes, and in one that is opened behind it; and what is printed.
+const HELD: &str = "\
+i,knows,ann,bob,5,10
+i,knows,bob,cat,2,11
+commit
+open,0
+bfs,0,ann,*,0,100
+r,knows,ann,bob
+commit
+bfs,0,ann,*,0,100
+open,1
+bfs,1,ann,*,0,100
+";
+
+const HELD_TEXT: &str = "\
+commit v=1 ins=2 upd=0 rem=0 abs=0 ovf=0
+open 0 v=1
+bfs 0 reached=3
+ann 0
+bob 1
+cat 2
+commit v=2 ins=0 upd=0 rem=1 abs=0 ovf=0
+bfs 0 reached=3
+ann 0
+bob 1
+cat 2
+open 1 v=2
+bfs 1 reached=1
+ann 0
+";
+
+// How many bytes of `HELD_TEXT` stand before each record of `HELD`, and at its end.
+const HELD_ENDS: [usize; 11] = [0, 0, 0, 41, 52, 86, 86, 127, 161, 172, 194];
+
 // A script with refusals and a pending operation, and what it prints.
 const REFUSED: &str = "\
 hello
@@ -247,23 +281,28 @@ fn is_cut_of(text: &str, ends: &[usize], output: &[u8], given: usize, word: &str
         return false;
     };
     let lines = &text.as_bytes()[..(*end).min(text.len())];
-    let n = lines.len();
-    if output.len() < n || &output[..n] != lines {
-        return false;
+    match output.strip_prefix(lines) {
+        Some(line) => is_error(line, given, word),
+        None => false,
     }
-    is_error(&output[n..], given, word)
 }
 
-// Whether this is the error line of the record behind so many, fewer than nine.
+const NUMBERS: [&str; 11] = ["1", "2", "3", "4", "5", "6", "7", "8", "9", "10", "11"];
+
+// What stands behind the number in the error line of the record behind so many, fewer than eleven.
+fn behind_number(line: &[u8], given: usize) -> Option<&[u8]> {
+    let number = NUMBERS.get(given)?;
+    line.strip_prefix(b"error ".as_slice())?
+        .strip_prefix(number.as_bytes())
+}
+
+// Whether this is the error line of that record with the word.
 fn is_error(line: &[u8], given: usize, word: &str) -> bool {
-    let Some(digit) = b"123456789".get(given) else {
+    let Some(rest) = behind_number(line, given) else {
         return false;
     };
-    let bytes = word.as_bytes();
-    line.len() == bytes.len() + 9
-        && &line[..6] == b"error ".as_slice()
-        && line[6] == *digit
-        && line[7] == b' '
-        && &line[8..8 + bytes.len()] == bytes
-        && line[8 + bytes.len()] == b'\n'
+    let Some(told) = rest.strip_prefix(b" ".as_slice()) else {
+        return false;
+    };
+    told.strip_prefix(word.as_bytes()) == Some(b"\n".as_slice())
 }

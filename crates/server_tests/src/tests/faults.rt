@@ -1,7 +1,8 @@
 // Readers and writers that fail.
 
 use super::{
-    FIRST, FIRST_TEXT, FakeWriter, REFUSED, REFUSED_TEXT, is_cut, lines_in, served, served_torn,
+    FIRST, FIRST_ENDS, FIRST_TEXT, FakeWriter, HELD, HELD_ENDS, HELD_TEXT, REFUSED, REFUSED_TEXT,
+    is_cut_of, lines_in, served, served_torn,
 };
 use std::process::Abort;
 use std::sync::Wait;
@@ -33,6 +34,7 @@ fn fills_each_writer(
 fn writes_the_bytes_that_a_writer_takes(rt: HostRuntime) {
     for fails in [true, false] {
         fills_each_writer(&rt, FIRST, FIRST_TEXT, fails);
+        fills_each_writer(&rt, HELD, HELD_TEXT, fails);
         fills_each_writer(&rt, REFUSED, REFUSED_TEXT, fails);
     }
 }
@@ -67,15 +69,33 @@ fn tells_failed_flushes(rt: HostRuntime) {
     tells_a_failed_flush(&rt, 0, "error 1 Read\n");
 }
 
+// Where the reader fails after so many reads, a byte each, the lines of the records whose end was read are written, and the word
+// for the next one; so many bytes of the text stand before each record and at the end.
+fn tells_the_record(
+    rt: &(impl Abort + AllocGlobal + Threads + Wait + Sync),
+    script: &str,
+    text: &str,
+    ends: &[usize],
+    reads: usize,
+) {
+    let mut writer = FakeWriter::new(rt, usize::MAX, true);
+    let answer = served_torn(rt, script.as_bytes(), reads, &mut writer);
+    let (read, _) = script.as_bytes().split_at(reads.min(script.len()));
+    assert_eq!(rt; answer, Err(ServeFault::Read), "{reads}");
+    assert!(rt;
+        is_cut_of(text, ends, writer.held.as_slice(), lines_in(read), "Read"),
+        "{reads}"
+    );
+    assert!(rt; writer.flushed, "{reads}");
+}
+
 #[test]
 fn tells_the_record_that_a_reader_failed_at(rt: HostRuntime) {
     for reads in 0..=FIRST.len() {
-        let mut writer = FakeWriter::new(&rt, usize::MAX, true);
-        let answer = served_torn(&rt, FIRST.as_bytes(), reads, &mut writer);
-        let given = lines_in(&FIRST.as_bytes()[..reads]);
-        assert_eq!(rt; answer, Err(ServeFault::Read), "{reads}");
-        assert!(rt; is_cut(writer.held.as_slice(), given, "Read"), "{reads}");
-        assert!(rt; writer.flushed, "{reads}");
+        tells_the_record(&rt, FIRST, FIRST_TEXT, FIRST_ENDS.as_slice(), reads);
+    }
+    for reads in 0..=HELD.len() {
+        tells_the_record(&rt, HELD, HELD_TEXT, HELD_ENDS.as_slice(), reads);
     }
 }
 

@@ -4,6 +4,7 @@ use super::{lines_in, tell_refused, torn};
 use feed_csv::{Command, Feed, FeedFault, FeedWord};
 use graph_model::{Name, NamedFilter, NamedOp, Request};
 use std::alloc::AllocError;
+use std::io;
 use std::io::{ErrorKind, Read};
 use std::process::Abort;
 use std::test::Fail;
@@ -153,6 +154,43 @@ fn ends_for_good(rt: HostRuntime) {
     for _ in 0..3 {
         assert!(rt; matches!(feed.next(), Ok(None)));
     }
+}
+
+// Records `stat`, of which a reader gives so many bytes.
+#[derive(Drop)]
+struct Stats {
+    left: usize,
+}
+
+const STATS: &[u8] = b"stat\nstat\nstat\nstat\nstat\nstat\nstat\nstat\nstat\nstat\n";
+
+impl Read for Stats {
+    fn read(&mut self, buf: &mut [u8]) -> io::Result<usize> {
+        let begun = (5 - self.left % 5) % 5;
+        let rest = &STATS[begun..];
+        let n = buf.len().min(rest.len()).min(self.left);
+        buf[..n].copy_from_slice(&rest[..n]);
+        self.left -= n;
+        Ok(n)
+    }
+}
+
+// A million records are given, and the reader's next one isn't.
+#[test]
+fn gives_a_million_records(rt: HostRuntime) {
+    let mut feed = Feed::over(
+        rt.alloc(),
+        Stats {
+            left: 5 * 1_000_001,
+        },
+    );
+    for record in 1..=1_000_000 {
+        assert!(rt;
+            matches!(feed.next(), Ok(Some(Command::Stat))),
+            "record {record}"
+        );
+    }
+    check_ended(&rt, &mut feed, 1_000_001);
 }
 
 // Whether the call of this number was refused a growth; if not, it gave what `SCRIPT` says.
