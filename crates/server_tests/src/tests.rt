@@ -6,6 +6,7 @@ mod faults;
 mod feeds;
 mod growths;
 mod lines;
+mod progress;
 mod scripts;
 
 use std::io;

@@ -1,13 +1,15 @@
 //! `stinger run < script`: serves a script on standard input, and writes its lines on standard output.
 #![tactic(auto)]
 
+use progress_reader::ProgressReader;
 use std::env;
 use std::env::Env;
 use std::io::{ErrorKind, IsTerminal, Read, Write};
 use std::process::ExitCode;
 use std::sync::Wait;
 use std::thread::Threads;
-use stinger_program::{refuse_arguments, serves, stinger};
+use std::time::Clock;
+use stinger_program::{refuse_arguments, serves, shows_progress, stinger};
 
 // What stands on standard error where somebody at a terminal is to give the script.
 const AWAITED: &str = "\
@@ -20,7 +22,7 @@ const NO_MEMORY: &str = "error: out of memory: the arguments can't be read\n";
 fn main(rt: HostRuntime) -> ExitCode {
     let mut writer = rt.stdout();
     let mut faults = rt.stderr();
-    match run(&rt, rt.stdin(), &mut writer, &mut faults) {
+    match run(&rt, rt.stdin(), &mut writer, &mut faults, rt.stderr()) {
         Ok(status) => ExitCode::from(status),
         Err(_) => {
             let _ = faults.write_all(NO_MEMORY.as_bytes());
@@ -29,15 +31,18 @@ fn main(rt: HostRuntime) -> ExitCode {
     }
 }
 
-/// The arguments after the program's name, over these streams.
-fn run<A, R: Read + IsTerminal + Drop, W: Write, F: Write>(
+/// The arguments after the program's name, over these streams, of which the last takes the line of progress.
+fn run<A, R, W: Write + IsTerminal, F: Write, P>(
     rt: &A,
     reader: R,
     writer: &mut W,
     faults: &mut F,
+    progress: P,
 ) -> anyhow::Result<u8>
 where
-    A: AllocGlobal + Env + Threads + Wait + Sync,
+    A: AllocGlobal + Clock + Env + Threads + Wait + Sync,
+    R: Read + IsTerminal + Drop,
+    P: Write + IsTerminal + Drop,
 {
     let all = match env::args(rt) {
         Ok(all) => all,
@@ -51,8 +56,16 @@ where
     for argument in &given {
         arguments.push(argument.as_str())?;
     }
-    if serves(rt, arguments.as_slice())? && reader.is_terminal() {
+    let is_typed = reader.is_terminal();
+    if serves(rt, arguments.as_slice())? && is_typed {
         let _ = faults.write_all(AWAITED.as_bytes());
     }
+    let is_seen = progress.is_terminal() && !writer.is_terminal() && !is_typed;
+    let progress = if is_seen && shows_progress(rt, arguments.as_slice())? {
+        Some(progress)
+    } else {
+        None
+    };
+    let reader = ProgressReader::over(rt, reader, progress);
     Ok(stinger(rt, arguments.as_slice(), reader, writer, faults))
 }

@@ -15,15 +15,14 @@ use Rattle.clap.specs.declared.error.kind.ErrorKind.{ErrorKind}
 use Rattle.clap.specs.declared.error.kind.ErrorKind.TheVariants.{DisplayHelp, InvalidSubcommand, MissingSubcommand}
 use Rattle.clap.specs.declared.error.kind.ErrorKind.TheVariants.{TooManyValues, UnknownArgument}
 use Rattle.clap.proofs.OnLiterals.{clap_on_literals}
-use Rattle.stream_store.specs.Configs.{ConfigView}
-use Rattle.stinger_program.specs.Program.{Asked, Help, Serve, Usage, Version, asked, asked_by, asked_of_command}
-use Rattle.stinger_program.specs.Program.{asks_for_help, begins_with_h, begins_with_option, default_sizes, is_help_flag, is_option}
+use Rattle.stinger_program.specs.Program.{Asked, Help, RunView, Serve, Usage, Version, asked, asked_by, asked_of_command}
+use Rattle.stinger_program.specs.Program.{asks_for_help, begins_with_h, begins_with_option, default_run, is_help_flag, is_option}
 use Rattle.stinger_program.specs.Program.{help_words, is_version, is_wish_for_help, plainly_asked, plainly_asked_of_command}
-use Rattle.stinger_program.specs.Program.{plainly_asked_of_run, program, sizes_of, without_help}
+use Rattle.stinger_program.specs.Program.{plainly_asked_of_run, program, run_of, without_help}
 
 -- the kinds of errors that come of what the command is asked for
 abbrev HasKinds : Asked → Kinds → Type 0
-HasKinds (Serve sizes) kinds = kinds ≡ []
+HasKinds (Serve asks) kinds = kinds ≡ []
 HasKinds Help kinds = kinds ≡ DisplayHelp ∷ []
 HasKinds Version kinds = ⊥
 HasKinds Usage kinds = (k : ErrorKind) × (ks : Kinds) × (kinds ≡ k ∷ ks) × (is_wish_for_help k ≡ false)
@@ -158,20 +157,24 @@ run_level = (λ c. refl, refl)
 
 run_word : (argument : Text) → is_option argument ≡ false → IsPlainWord run argument
 run_word argument e name value l = go (bytes_eq (codes "workers") name) refl (bytes_eq (codes "blocks") name) refl
-    (bytes_eq (codes "seats") name) refl
+    (bytes_eq (codes "seats") name) refl (bytes_eq (codes "quiet") name) refl
   where
     go : (w : Bool) → bytes_eq (codes "workers") name ≡ w → (b : Bool) → bytes_eq (codes "blocks") name ≡ b → (s : Bool)
-        → bytes_eq (codes "seats") name ≡ s → arg_by_long run.rules name ≡ arg_by_long flag_rules name
-    go true is b f s g =
+        → bytes_eq (codes "seats") name ≡ s → (q : Bool) → bytes_eq (codes "quiet") name ≡ q
+        → arg_by_long run.rules name ≡ arg_by_long flag_rules name
+    go true is b f s g q h =
         let bad : true ≡ false = rw (l, is) at e in
         cc
-    go false is true f s g =
+    go false is true f s g q h =
         let bad : true ≡ false = rw (l, is, f) at e in
         cc
-    go false is false f true g =
+    go false is false f true g q h =
         let bad : true ≡ false = rw (l, is, f, g) at e in
         cc
-    go false is false f false g = rw (is, f, g) refl
+    go false is false f false g true h =
+        let bad : true ≡ false = rw (l, is, f, g, h) at e in
+        cc
+    go false is false f false g false h = rw (is, f, g, h) refl
 
 -- behind a subcommand, the arguments are not this level's
 stopped_fault : (s : Shape) (known : Names) (w : Walk) (p : Text × List Text) (rest : List Text)
@@ -284,31 +287,31 @@ asked_kinds (argument ∷ rest) plain = go (bytes_eq (codes "run") argument) ref
 
 -- ---- the arguments that serve
 
-abbrev served : Asked → Option ConfigView
-served (Serve sizes) = Some sizes
+abbrev served : Asked → Option RunView
+served (Serve asks) = Some asks
 served Help = None
 served Version = None
 served Usage = None
 
-never_serves : (a b : Bool) (sizes : ConfigView) → (if a then Help else flagged b) ≡ Serve sizes → ⊥
-never_serves true b sizes e = cc
-never_serves false true sizes e = cc
-never_serves false false sizes e = cc
+never_serves : (a b : Bool) (asks : RunView) → (if a then Help else flagged b) ≡ Serve asks → ⊥
+never_serves true b asks e = cc
+never_serves false true asks e = cc
+never_serves false false asks e = cc
 
-run_serves : (rest : List Text) (sizes : ConfigView) → plainly_asked_of_run rest ≡ Serve sizes
+run_serves : (rest : List Text) (asks : RunView) → plainly_asked_of_run rest ≡ Serve asks
     → (rest ≡ []) ⊎ (rest ≡ codes "--" ∷ [])
-run_serves [] sizes e = inl refl
-run_serves (argument ∷ []) sizes e = go (bytes_eq argument (codes "--")) refl
+run_serves [] asks e = inl refl
+run_serves (argument ∷ []) asks e = go (bytes_eq argument (codes "--")) refl
   where
     go : (b : Bool) → bytes_eq argument (codes "--") ≡ b → (argument ∷ [] ≡ []) ⊎ (argument ∷ [] ≡ codes "--" ∷ [])
     go true d = inr (ap (λ w. w ∷ []) ((bytes_eq-Decides argument (codes "--")).0 d))
-    go false d = absurd (never_serves false (asks_for_help argument) sizes (sym (plain_after_run argument d) ∙ e))
-run_serves (argument ∷ next ∷ rest) sizes e = absurd (never_serves false (asks_for_help argument) sizes e)
+    go false d = absurd (never_serves false (asks_for_help argument) asks (sym (plain_after_run argument d) ∙ e))
+run_serves (argument ∷ next ∷ rest) asks e = absurd (never_serves false (asks_for_help argument) asks e)
 
-command_serves : (arguments : List Text) (sizes : ConfigView) → plainly_asked_of_command arguments ≡ Serve sizes
+command_serves : (arguments : List Text) (asks : RunView) → plainly_asked_of_command arguments ≡ Serve asks
     → (arguments ≡ codes "run" ∷ []) ⊎ (arguments ≡ codes "run" ∷ codes "--" ∷ [])
-command_serves [] sizes e = cc
-command_serves (argument ∷ rest) sizes e = go (bytes_eq (codes "run") argument) refl
+command_serves [] asks e = cc
+command_serves (argument ∷ rest) asks e = go (bytes_eq (codes "run") argument) refl
   where
     behind : codes "run" ≡ argument → (rest ≡ []) ⊎ (rest ≡ codes "--" ∷ [])
         → (argument ∷ rest ≡ codes "run" ∷ []) ⊎ (argument ∷ rest ≡ codes "run" ∷ codes "--" ∷ [])
@@ -317,31 +320,31 @@ command_serves (argument ∷ rest) sizes e = go (bytes_eq (codes "run") argument
 
     go : (b : Bool) → bytes_eq (codes "run") argument ≡ b
         → (argument ∷ rest ≡ codes "run" ∷ []) ⊎ (argument ∷ rest ≡ codes "run" ∷ codes "--" ∷ [])
-    go true r = behind ((bytes_eq-Decides (codes "run") argument).0 r) (run_serves rest sizes (rw r at e))
-    go false r = absurd (never_serves (bytes_eq (codes "help") argument) (asks_for_help argument) sizes (rw r at e))
+    go true r = behind ((bytes_eq-Decides (codes "run") argument).0 r) (run_serves rest asks (rw r at e))
+    go false r = absurd (never_serves (bytes_eq (codes "help") argument) (asks_for_help argument) asks (rw r at e))
 
--- the sizes that the options stand for, where clap finds nothing wrong
-abbrev sizes_found : List Text → Option ConfigView
-sizes_found arguments = option_and_then (λ run. sizes_of run.1) (subcommand_of program (without_help arguments))
+-- the run that the options stand for, where clap finds nothing wrong
+abbrev run_found : List Text → Option RunView
+run_found arguments = option_and_then (λ p. run_of p.1) (subcommand_of program (without_help arguments))
 
-default_found : sizes_found (codes "run" ∷ []) ≡ Some default_sizes
+default_found : run_found (codes "run" ∷ []) ≡ Some default_run
 unfolding clap_on_literals
 default_found = refl
 
-default_behind_dashes : sizes_found (codes "run" ∷ codes "--" ∷ []) ≡ Some default_sizes
+default_behind_dashes : run_found (codes "run" ∷ codes "--" ∷ []) ≡ Some default_run
 unfolding clap_on_literals
 default_behind_dashes = refl
 
-serves_default : (arguments : List Text) (sizes : ConfigView) → plainly_asked_of_command arguments ≡ Serve sizes
-    → sizes_found arguments ≡ Some sizes
-serves_default arguments sizes e = elim (command_serves arguments sizes e) [
-  | inl is ↦ ap sizes_found is ∙ (default_found ∙ ap served (sym (ap plainly_asked_of_command is) ∙ e))
-  | inr is ↦ ap sizes_found is ∙ (default_behind_dashes ∙ ap served (sym (ap plainly_asked_of_command is) ∙ e))
+serves_default : (arguments : List Text) (asks : RunView) → plainly_asked_of_command arguments ≡ Serve asks
+    → run_found arguments ≡ Some asks
+serves_default arguments asks e = elim (command_serves arguments asks e) [
+  | inl is ↦ ap run_found is ∙ (default_found ∙ ap served (sym (ap plainly_asked_of_command is) ∙ e))
+  | inr is ↦ ap run_found is ∙ (default_behind_dashes ∙ ap served (sym (ap plainly_asked_of_command is) ∙ e))
 ]
 
-by_kinds : (a : Asked) (kinds : Kinds) (found : Option ConfigView) → HasKinds a kinds
-    → ((sizes : ConfigView) → a ≡ Serve sizes → found ≡ Some sizes) → asked_by kinds found ≡ a
-by_kinds (Serve sizes) kinds found has serves = rw (has, serves sizes refl) refl
+by_kinds : (a : Asked) (kinds : Kinds) (found : Option RunView) → HasKinds a kinds
+    → ((asks : RunView) → a ≡ Serve asks → found ≡ Some asks) → asked_by kinds found ≡ a
+by_kinds (Serve asks) kinds found has serves = rw (has, serves asks refl) refl
 by_kinds Help kinds found has serves = rw has refl
 by_kinds Version kinds found has serves = absurd has
 by_kinds Usage kinds found has serves = rw (has.2, has.3) refl
@@ -352,5 +355,5 @@ reads_plainly arguments plain = go (is_version arguments)
     go : (b : Bool) → (if b then Version else asked_of_command arguments)
         ≡ (if b then Version else plainly_asked_of_command arguments)
     go true = refl
-    go false = by_kinds (plainly_asked_of_command arguments) (fault_of program (without_help arguments)) (sizes_found arguments)
+    go false = by_kinds (plainly_asked_of_command arguments) (fault_of program (without_help arguments)) (run_found arguments)
         (asked_kinds arguments plain) (serves_default arguments)

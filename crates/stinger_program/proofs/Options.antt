@@ -4,16 +4,18 @@ use Rattle.std.proofs.Common.{inl, inr, refl, subst, sym}
 use Rattle.std.proofs.lemmas.Bool.Decides.{leb_tells, nat_tests}
 use Rattle.std.specs.Prelude.{◌&&◌, MatchResult, Option, None, Some, Result, Ok, Err, if◌then◌else◌, nat_le}
 use Rattle.std.specs.Prelude.{option_and_then, option_map}
+use Rattle.std.specs.Option.{option_map_or}
+use Rattle.std.specs.Str.{bytes_eq}
 use Rattle.std.specs.Str.Parse.{ExplainsUnsignedError, HasUnsignedDigitsIfOk, ParsesUnsigned, digits_value, without_leading_plus}
-use Rattle.clap.specs.Matches.{ReadsOne, one_text}
+use Rattle.clap.specs.Matches.{ReadsOne, first_value, one_text}
 use Rattle.clap.specs.ValueTests.{is_unsigned_in}
 use Rattle.clap.specs.declared.builder.value_parser.ValueParser.TheVariants.{Unsigned}
 use Rattle.clap.specs.Walk.{Row, Text, one_of, rows_of}
 use Rattle.clap.specs.declared.parser.matches.Found.{Found}
-use Rattle.clap.proofs.WalkLemmas.{one_text-rows}
+use Rattle.clap.proofs.WalkLemmas.{first_value-rows, one_text-rows}
 use Rattle.clap.proofs.ValueTestLemmas.{Accepts-accepts, accepts-Accepts}
 use Rattle.stream_store.specs.Configs.{IsWithinLimits, ConfigView}
-use Rattle.stinger_program.specs.Program.{number_within, sizes_given, sizes_of}
+use Rattle.stinger_program.specs.Program.{is_quiet, number_within, run_of, sizes_given, sizes_of}
 use Rattle.stream_store.specs.declared.config.BadConfig.{BadConfig}
 
 -- a number, where it lies within limits
@@ -210,3 +212,36 @@ sizes_limits rows sizes e =
       seats_some = s.0;
       seats_few = s.1;
     }
+
+-- ---- the flag
+
+-- the flag of the subcommand that was met
+pub quiet_met : (met : Option (Text × List Row)) (f : Found) (b : Bool) → option_map (λ p. p.1) met ≡ Some (rows_of f)
+    → b ≡ option_map_or (λ text. bytes_eq text (codes "true")) (first_value f (codes "quiet")) false
+    → b ≡ option_map_or (λ p. is_quiet p.1) met false
+quiet_met None f b e is = cc
+quiet_met (Some p) f b e is = is ∙ (ap flagged (first_value-rows f (codes "quiet")) ∙ sym (ap is_quiet (unsome e)))
+  where
+    flagged : Option Text → Bool
+    flagged text = option_map_or (λ t. bytes_eq t (codes "true")) text false
+
+    unsome : Some p.1 ≡ Some (rows_of f) → p.1 ≡ rows_of f
+    unsome e = cc
+
+-- no subcommand was met
+pub no_flag : (met : Option (Text × List Row)) → option_map (λ p. p.1) met ≡ None
+    → false ≡ option_map_or (λ p. is_quiet p.1) met false
+no_flag None e = refl
+no_flag (Some p) e = cc
+
+-- the run of the subcommand that was met
+pub run_met : (met : Option (Text × List Row)) (sizes : ConfigView) (quiet : Bool)
+    → Some sizes ≡ option_and_then (λ p. sizes_of p.1) met → quiet ≡ option_map_or (λ p. is_quiet p.1) met false
+    → Some (record { sizes = sizes; quiet = quiet }) ≡ option_and_then (λ p. run_of p.1) met
+run_met None sizes quiet e q = cc
+run_met (Some p) sizes quiet e q = rw (← e, q) refl
+
+pub no_run_met : (met : Option (Text × List Row)) → None ≡ option_and_then (λ p. sizes_of p.1) met
+    → None ≡ option_and_then (λ p. run_of p.1) met
+no_run_met None e = refl
+no_run_met (Some p) e = rw (← e) refl

@@ -1,6 +1,6 @@
 -- The program over its arguments: what they ask for, and what is done and told.
 use Rattle.std.specs.Prelude.{◌≡◌, ◌⊎◌, ◌==◌, ◌++◌, ◌&&◌, ◌||◌, ℕ, Bool, true, false, codes, List, [], ◌∷◌, slice_get}
-use Rattle.std.specs.Prelude.{if◌then◌else◌, map, IfSome, Option, None, Some, Result, Ok, Err, option_and_then}
+use Rattle.std.specs.Prelude.{if◌then◌else◌, map, IfSome, Option, None, Some, Result, Ok, Err, option_and_then, option_map, not}
 use Rattle.std.specs.Str.{bytes_eq, chars}
 use Rattle.std.specs.Str.Parse.{digits_value, without_leading_plus}
 use Rattle.std.specs.Option.{option_map_or}
@@ -8,15 +8,16 @@ use Rattle.clap.specs.Faults.{fault_of}
 use Rattle.clap.specs.Kinds.{Kinds}
 use Rattle.clap.specs.Lexer.{long_of, short_of}
 use Rattle.clap.specs.Simple.{App, new_app, new_rule, new_shape, subcommand_of, with_rule, with_subcommand}
-use Rattle.clap.specs.Walk.{Row, Rule, one_of}
+use Rattle.clap.specs.Walk.{Row, Rule, first_of, one_of}
 use Rattle.clap.specs.ValueTests.{is_unsigned_in}
 use Rattle.clap.specs.declared.builder.value_parser.ValueParser.TheVariants.{Unsigned}
+use Rattle.clap.specs.declared.builder.action.ArgAction.TheVariants.{SetTrue}
 use Rattle.clap.specs.declared.error.kind.ErrorKind.{ErrorKind}
 use Rattle.clap.specs.declared.error.kind.ErrorKind.TheVariants.{DisplayHelp}
 use Rattle.feed_csv.specs.Records.{records_of}
 use Rattle.stream_store.specs.Configs.{ConfigView, IsWithinLimits}
 use Rattle.stream_store.specs.declared.config.BadConfig.{BadConfig}
-use Rattle.stinger_program.specs.declared.program.Sizes.{Sizes}
+use Rattle.stinger_program.specs.declared.program.RunOptions.{RunOptions}
 use Rattle.stinger_program.specs.declared.program.Order.{Order}
 use Rattle.stinger_program.specs.declared.program.Order.TheVariants as order
 use Rattle.stinger_server.specs.declared.script.ServeFault.{ServeFault}
@@ -30,19 +31,35 @@ use Rattle.stinger_server.specs.Writes.{AppendsPart, AppendsSome}
 abbrev pub default_sizes : ConfigView
 default_sizes = record { workers = 4; blocks = 16384; seats = 2 }
 
+-- a run: its sizes, and whether no progress is to be shown
+pub record RunView : Type 0 where
+  pub sizes : ConfigView
+  pub quiet : Bool
+
 -- what arguments may ask for: a script served, help, the version, or nothing that there is
 pub data Asked : Type 0 where
-  Serve : ConfigView → Asked
+  Serve : RunView → Asked
   Help : Asked
   Version : Asked
   Usage : Asked
 
+-- a run of the default sizes, with its progress
+abbrev pub default_run : RunView
+default_run = record { sizes = default_sizes; quiet = false }
+
 -- a script is to be served
 abbrev pub is_served : Asked → Bool
-is_served (Serve sizes) = true
+is_served (Serve run) = true
 is_served Help = false
 is_served Version = false
 is_served Usage = false
+
+-- a script is to be served, and its progress may be shown
+abbrev pub shows_progress : Asked → Bool
+shows_progress (Serve run) = not run.quiet
+shows_progress Help = false
+shows_progress Version = false
+shows_progress Usage = false
 
 -- ---- the command line
 
@@ -55,12 +72,18 @@ size_rule name least most default = record (new_rule name) {
   defaults = default ∷ [];
 }
 
--- the subcommand `run`, with its three options
+-- an option without a value
+abbrev pub flag_rule : List ℕ → Rule
+flag_rule name = record (new_rule name) { long = Some name; action = Some SetTrue }
+
+-- the subcommand `run`, with its four options
 abbrev pub run_app : App
 run_app = with_rule
+    (with_rule
     (with_rule (with_rule (new_app (codes "run")) (size_rule (codes "workers") 1 8 (codes "4")))
     (size_rule (codes "blocks") 16 65536 (codes "16384")))
-    (size_rule (codes "seats") 1 16 (codes "2"))
+    (size_rule (codes "seats") 1 16 (codes "2")))
+    (flag_rule (codes "quiet"))
 
 -- the command `stinger`, with its subcommand `run`
 abbrev pub program : App
@@ -98,6 +121,14 @@ sizes_of options =
     (number_within 16 65536 (one_of (codes "blocks") options)))
     (number_within 1 8 (one_of (codes "workers") options))
 
+-- `--quiet` was given
+abbrev pub is_quiet : List Row → Bool
+is_quiet options = option_map_or (λ text. bytes_eq text (codes "true")) (first_of (codes "quiet") options) false
+
+-- the run that the options of `run` stand for
+abbrev pub run_of : List Row → Option RunView
+run_of options = option_map (λ sizes. record { sizes = sizes; quiet = is_quiet options }) (sizes_of options)
+
 -- an error of the command line is a wish for help, or a mistake
 abbrev pub is_wish_for_help : ErrorKind → Bool
 is_wish_for_help DisplayHelp = true
@@ -107,16 +138,16 @@ abbrev pub asked_by_kind : ErrorKind → Asked
 asked_by_kind kind = if is_wish_for_help kind then Help else Usage
 
 -- a command line without an error has a script served
-abbrev pub asked_by : Kinds → Option ConfigView → Asked
-asked_by [] (Some sizes) = Serve sizes
+abbrev pub asked_by : Kinds → Option RunView → Asked
+asked_by [] (Some run) = Serve run
 asked_by [] None = Usage
-asked_by (kind ∷ more) sizes = asked_by_kind kind
+asked_by (kind ∷ more) run = asked_by_kind kind
 
 -- what the arguments ask of the command `stinger`, as `clap` reads a command line
 abbrev pub asked_of_command : List (List ℕ) → Asked
 asked_of_command arguments =
     asked_by (fault_of program (without_help arguments))
-    (option_and_then (λ run. sizes_of run.1) (subcommand_of program (without_help arguments)))
+    (option_and_then (λ run. run_of run.1) (subcommand_of program (without_help arguments)))
 
 -- `--version` or `-V` comes first
 abbrev pub is_version : List (List ℕ) → Bool
@@ -127,16 +158,19 @@ is_version (argument ∷ rest) = bytes_eq (codes "--version") argument || bytes_
 abbrev pub asked : List (List ℕ) → Asked
 asked arguments = if is_version arguments then Version else asked_of_command arguments
 
--- what the sizes of a run, a configuration and an order of the program stand for
-abbrev pub sizes_in : Sizes → ConfigView
-sizes_in sizes = record { workers = sizes.workers; blocks = sizes.blocks; seats = sizes.seats }
+-- what the options of a run, a configuration and an order of the program stand for
+abbrev pub sizes_in : RunOptions → ConfigView
+sizes_in options = record { workers = options.workers; blocks = options.blocks; seats = options.seats }
+
+abbrev pub run_in : RunOptions → RunView
+run_in options = record { sizes = sizes_in options; quiet = options.quiet }
 
 abbrev pub sizes_given : Result ConfigView BadConfig → Option ConfigView
 sizes_given (Ok config) = Some config
 sizes_given (Err fault) = None
 
 abbrev pub asked_for : Order → Asked
-asked_for (order.Serve sizes) = Serve (sizes_in sizes)
+asked_for (order.Serve options) = Serve (run_in options)
 asked_for (order.Help text) = Help
 asked_for order.Version = Version
 asked_for (order.Usage text) = Usage
@@ -159,9 +193,9 @@ asks_for_help argument = is_help_flag (long_of argument) (short_of argument)
 
 -- behind `run`: nothing, or `--` alone, or a flag for help
 abbrev pub plainly_asked_of_run : List (List ℕ) → Asked
-plainly_asked_of_run [] = Serve default_sizes
+plainly_asked_of_run [] = Serve default_run
 plainly_asked_of_run (argument ∷ []) =
-    if bytes_eq argument (codes "--") then Serve default_sizes
+    if bytes_eq argument (codes "--") then Serve default_run
     else (if asks_for_help argument then Help else Usage)
 plainly_asked_of_run (argument ∷ next ∷ rest) = if asks_for_help argument then Help else Usage
 
@@ -175,11 +209,12 @@ plainly_asked_of_command (argument ∷ rest) =
 abbrev pub plainly_asked : List (List ℕ) → Asked
 plainly_asked arguments = if is_version arguments then Version else plainly_asked_of_command arguments
 
--- the argument is `--workers`, `--blocks` or `--seats`, with a value behind `=` or without
+-- the argument is `--workers`, `--blocks`, `--seats` or `--quiet`, with a value behind `=` or without
 abbrev pub is_option : List ℕ → Bool
 is_option argument = option_map_or
     (λ option. bytes_eq (codes "workers") option.0
-    || (bytes_eq (codes "blocks") option.0 || bytes_eq (codes "seats") option.0))
+    || (bytes_eq (codes "blocks") option.0
+    || (bytes_eq (codes "seats") option.0 || bytes_eq (codes "quiet") option.0)))
     (long_of argument) false
 
 -- an option comes first behind `run`
@@ -193,8 +228,8 @@ ReadsPlainly = (arguments : List (List ℕ)) → begins_with_option arguments �
 
 -- a script is served with sizes within their limits alone
 abbrev pub ServesWithinLimits : Type 0
-ServesWithinLimits = (arguments : List (List ℕ)) → (sizes : ConfigView) → asked arguments ≡ Serve sizes
-    → IsWithinLimits sizes.workers sizes.blocks sizes.seats
+ServesWithinLimits = (arguments : List (List ℕ)) → (run : RunView) → asked arguments ≡ Serve run
+    → IsWithinLimits run.sizes.workers run.sizes.blocks run.sizes.seats
 
 -- the arguments of a line, which single blanks part
 abbrev pub arguments_from : List ℕ → List ℕ → List (List ℕ)
@@ -210,10 +245,17 @@ abbrev pub EachAsks : Asked → List (List (List ℕ)) → Type 0
 EachAsks wanted [] = Unit {0}
 EachAsks wanted (arguments ∷ more) = (asked arguments ≡ wanted) × EachAsks wanted more
 
--- the arguments of each of these lines ask for a script served with so many workers, blocks and seats
+-- the arguments of each of these lines ask for a script served with so many workers, blocks and seats, with its progress
 abbrev pub EachServes : ℕ → ℕ → ℕ → List (List ℕ) → Type 0
 EachServes workers blocks seats lines =
-    EachAsks (Serve (record { workers = workers; blocks = blocks; seats = seats })) (map arguments_of lines)
+    EachAsks (Serve (record { sizes = record { workers = workers; blocks = blocks; seats = seats }; quiet = false }))
+    (map arguments_of lines)
+
+-- the same without its progress
+abbrev pub EachServesQuietly : ℕ → ℕ → ℕ → List (List ℕ) → Type 0
+EachServesQuietly workers blocks seats lines =
+    EachAsks (Serve (record { sizes = record { workers = workers; blocks = blocks; seats = seats }; quiet = true }))
+    (map arguments_of lines)
 
 -- the arguments of each of these lines ask for nothing that there is
 abbrev pub EachIsRefused : List (List ℕ) → Type 0

@@ -4,4 +4,4 @@
 
 mod program;
 
-pub use program::{law_arguments, law_options, refuse_arguments, serves, stinger};
+pub use program::{law_arguments, law_options, refuse_arguments, serves, shows_progress, stinger};

@@ -1,18 +1,20 @@
 //! The program over its arguments.
 
 ghost use Rattle.std.specs.Prelude.{◌≡◌, ◌≢◌, ◌⊎◌, ◌++◌, ◌∷◌, [], codes, false, IfOk, map, OnOk, OnErr};
+ghost use Rattle.std.specs.Option.{option_map_or};
 ghost use Rattle.std.specs.Prelude.{option_and_then};
 ghost use Rattle.clap.specs.Words.{app_of, kind_of, rule_of, subcommand_rows_of};
-ghost use Rattle.stinger_program.specs.Program.{Asked, EachAsks, EachIsRefused, EachServes, EndsWith, IsServed, IsTold};
-ghost use Rattle.stinger_program.specs.Program.{ReadsPlainly, ServesWithinLimits, arguments_of};
+ghost use Rattle.stinger_program.specs.Program.{Asked, EachAsks, EachIsRefused, EachServes, EachServesQuietly, EndsWith, IsServed};
+ghost use Rattle.stinger_program.specs.Program.{IsTold, ReadsPlainly, RunView, ServesWithinLimits, arguments_of};
 ghost use Rattle.stream_store.specs.Configs.{ConfigView};
-ghost use Rattle.stinger_program.specs.Program.{asked, asked_by_kind, asked_for, asked_of_command, default_sizes, fault_line};
-ghost use Rattle.stinger_program.specs.Program.{help_words, is_served, is_version, program, size_rule, sizes_given, sizes_in, sizes_of, without_help};
+ghost use Rattle.stinger_program.specs.Program.{asked, asked_by_kind, asked_for, asked_of_command, default_run, fault_line};
+ghost use Rattle.stinger_program.specs.Program.{flag_rule, help_words, is_quiet, is_served, is_version, program, run_in};
+ghost use Rattle.stinger_program.specs.Program.{shows_progress, size_rule, sizes_given, sizes_in, sizes_of, without_help};
 ghost use Rattle.stinger_server.specs.Writes.{AppendsPart};
 
 use clap::builder::ValueParser;
 use clap::error::ErrorKind;
-use clap::{Arg, ArgMatches, Command, Error};
+use clap::{Arg, ArgAction, ArgMatches, Command, Error};
 use std::alloc::AllocError;
 use std::io::{Read, Write};
 use std::sync::Wait;
@@ -36,6 +38,8 @@ const WORKERS: &str = "How many workers apply a batch, from 1 to 8";
 const BLOCKS: &str = "How many blocks hold edges, from 16 to 65536";
 
 const SEATS: &str = "How many slots there are, from 1 to 16";
+
+const QUIET: &str = "Don't show progress at a terminal";
 
 const VERSION: &str = "stinger 0.1.0\n";
 
@@ -99,7 +103,9 @@ most 4,096 operations and needs as many free blocks, a graph has 65,536 names an
 run applies at most 65,536 batches. A script has fewer than 1,000,000 records.
 
 Options of `run`, each at most once: `--workers <N>` (how many threads may work on a batch: 1 to
-8, else 4), `--blocks <N>` (16 to 65536, else 16384) and `--seats <N>` (1 to 16, else 2).
+8, else 4), `--blocks <N>` (16 to 65536, else 16384), `--seats <N>` (1 to 16, else 2) and `--quiet`:
+without it a line on standard error shows how far the script was read, where standard error is a
+terminal, and standard input and output are none.
 
 A session, with what each record prints beside it:
 
@@ -128,18 +134,19 @@ static HELP_FLAG: [&str; 1] = ["--help"];
 
 static RUN_HELP: [&str; 2] = ["run", "--help"];
 
-/// How many workers, blocks and seats a run has.
+/// How many workers, blocks and seats a run has, and whether its progress is not to be shown.
 #[derive(Clone, Copy, Debug, PartialEq, Eq)]
-pub(crate) struct Sizes {
+pub(crate) struct RunOptions {
     workers: usize,
     blocks: u32,
     seats: usize,
+    quiet: bool,
 }
 
 /// What the arguments ask for, with the text that clap has for it.
 #[derive(Debug, Drop)]
 pub(crate) enum Order {
-    Serve(Sizes),
+    Serve(RunOptions),
     Help(String),
     Version,
     Usage(String),
@@ -147,9 +154,9 @@ pub(crate) enum Order {
 
 /// The whole program over the arguments after its name, with `faults` as its standard error: `run` serves `reader`
 /// into `writer`; its options `--workers`, `--blocks` and `--seats`, each at most once, have a whole number from 1 to 8,
-/// from 16 to 65,536 and from 1 to 16, and 4, 16,384 and 2 where they are left out; `--help`, `-h`, `help`,
-/// `run --help` and `help run` write a text to `writer` which ends with the formats of records; `--version` and `-V` write the
-/// version.
+/// from 16 to 65,536 and from 1 to 16, and 4, 16,384 and 2 where they are left out, and `--quiet`, at most once, changes nothing
+/// here (see [`shows_progress`]); `--help`, `-h`, `help`, `run --help` and `help run` write a text to `writer` which ends with the
+/// formats of records; `--version` and `-V` write the version.
 ///
 /// The answer is the exit status: 0 where the script was read to its end without an error line, or the whole text
 /// was written; 1 where there was an error line or the run broke off, and where memory or a writer failed outside
@@ -163,9 +170,9 @@ pub fn stinger<'a, A: AllocGlobal + Threads + Wait + Sync, R: Read + Drop, W: Wr
     writer: &mut W,
     faults: &mut F,
 ) -> u8
-    ensures served { (sizes : ConfigView) → asked (map (λ argument. argument.now) arguments.now) ≡ Asked.Serve sizes
+    ensures served { (run : RunView) → asked (map (λ argument. argument.now) arguments.now) ≡ Asked.Serve run
         → ((result ≡ 1) × (writer.new ≡ writer.old) × (faults.new ≡ faults.old))
-        ⊎ IsServed sizes (R.remaining reader) result (W.contents writer.old) (W.contents writer.new)
+        ⊎ IsServed run.sizes (R.remaining reader) result (W.contents writer.old) (W.contents writer.new)
         F.contents (fault_line UNWRITTEN.now UNOPENED.now UNREAD.now) faults.old faults.new }
     ensures helped { asked (map (λ argument. argument.now) arguments.now) ≡ Asked.Help
         → IsTold (EndsWith FORMATS.now) 0 result (W.contents writer.old) (W.contents writer.new) }
@@ -179,7 +186,7 @@ pub fn stinger<'a, A: AllocGlobal + Threads + Wait + Sync, R: Read + Drop, W: Wr
         → (writer.new ≡ writer.old) × IsTold (EndsWith HINT.now) 2 result (F.contents faults.old) (F.contents faults.new) }
 {
     match read_arguments(rt, arguments) {
-        Ok(Order::Serve(sizes)) => run_sizes(rt, sizes, reader, writer, faults),
+        Ok(Order::Serve(options)) => run_sizes(rt, options, reader, writer, faults),
         Ok(Order::Help(text)) => show(writer, faults, text.as_str(), FORMATS),
         Ok(Order::Version) => show(writer, faults, "", VERSION),
         Ok(Order::Usage(text)) => tell(faults, text.as_str(), HINT, USAGE),
@@ -197,6 +204,20 @@ pub fn serves<'a, A: AllocGlobal>(rt: &A, arguments: &'a [&'a str]) -> Result<bo
     }
 }
 
+/// Whether the arguments have a script served whose progress may be shown, as it may without `--quiet`; an error where they can't be
+/// read for want of memory.
+pub fn shows_progress<'a, A: AllocGlobal>(
+    rt: &A,
+    arguments: &'a [&'a str],
+) -> Result<bool, AllocError>
+    ensures { IfOk result (λ yes. yes ≡ shows_progress (asked (map (λ argument. argument.now) arguments.now))) }
+{
+    match read_arguments(rt, arguments)? {
+        Order::Serve(options) => Ok(!options.quiet),
+        _ => Ok(false),
+    }
+}
+
 /// Says on `faults` that an argument is not UTF-8, and answers the status for wrong arguments, 2; or 1, where that
 /// could not be written.
 pub fn refuse_arguments<F: Write>(faults: &mut F) -> u8
@@ -208,7 +229,7 @@ pub fn refuse_arguments<F: Write>(faults: &mut F) -> u8
 /// What arguments ask for, at lists that are written out; that without options it is what our own words say; and that a
 /// script is served with sizes within their limits alone.
 pub fn law_arguments()
-    ensures serve { EachAsks (Asked.Serve default_sizes) ((codes "run" ∷ []) ∷ (codes "run" ∷ codes "--" ∷ []) ∷ []) }
+    ensures serve { EachAsks (Asked.Serve default_run) ((codes "run" ∷ []) ∷ (codes "run" ∷ codes "--" ∷ []) ∷ []) }
     ensures help { EachAsks Asked.Help ((codes "--help" ∷ []) ∷ (codes "-h" ∷ []) ∷ (codes "help" ∷ [])
         ∷ (codes "help" ∷ codes "run" ∷ []) ∷ (codes "run" ∷ codes "--help" ∷ []) ∷ (codes "run" ∷ codes "-h" ∷ []) ∷ []) }
     ensures version { EachAsks Asked.Version ((codes "--version" ∷ []) ∷ (codes "--version" ∷ codes "run" ∷ [])
@@ -220,8 +241,9 @@ pub fn law_arguments()
     ensures limits { ServesWithinLimits }
 {}
 
-/// What the options of `run` ask for: each by itself, in both its forms and at both its limits, all three in any order,
-/// and the mistakes: a number past a limit, no number, no value, an option twice, a value too many.
+/// What the options of `run` ask for: each by itself, in both its forms and at both its limits, those with a number in any order,
+/// `--quiet` before and behind them, and the mistakes: a number past a limit, no number, no value, an option twice, a value too
+/// many.
 pub fn law_options()
     ensures workers { EachServes 1 16384 2 (codes "run --workers 1" ∷ codes "run --workers=1" ∷ codes "run --workers 01 --"
         ∷ []) }
@@ -233,6 +255,9 @@ pub fn law_options()
     ensures all { EachServes 2 64 3 (codes "run --workers 2 --blocks 64 --seats 3" ∷ codes "run --workers=2 --seats=3 --blocks=64"
         ∷ codes "run --blocks 64 --workers 2 --seats 3" ∷ codes "run --blocks=64 --seats 3 --workers 2"
         ∷ codes "run --seats 3 --workers=2 --blocks 64" ∷ codes "run --seats 3 --blocks 64 --workers 2" ∷ []) }
+    ensures quiet { EachServesQuietly 4 16384 2 (codes "run --quiet" ∷ codes "run --quiet --" ∷ []) }
+    ensures all_and_quiet { EachServesQuietly 2 64 3 (codes "run --quiet --workers 2 --blocks 64 --seats 3"
+        ∷ codes "run --seats=3 --workers=2 --quiet --blocks=64" ∷ codes "run --workers 2 --blocks 64 --seats 3 --quiet" ∷ []) }
     ensures workers_past { EachIsRefused (codes "run --workers 0" ∷ codes "run --workers 9" ∷ codes "run --workers=256"
         ∷ codes "run --workers -1" ∷ codes "run --workers x" ∷ codes "run --workers " ∷ codes "run --workers=" ∷ []) }
     ensures blocks_past { EachIsRefused (codes "run --blocks 15" ∷ codes "run --blocks 65537" ∷ codes "run --blocks 4294967312"
@@ -240,11 +265,12 @@ pub fn law_options()
     ensures seats_past { EachIsRefused (codes "run --seats 0" ∷ codes "run --seats 17" ∷ codes "run --seats 2.0"
         ∷ codes "run --seats=" ∷ []) }
     ensures twice { EachIsRefused (codes "run --workers 2 --workers 2" ∷ codes "run --blocks=64 --blocks 64"
-        ∷ codes "run --seats 1 --blocks 64 --seats 1" ∷ []) }
+        ∷ codes "run --seats 1 --blocks 64 --seats 1" ∷ codes "run --quiet --quiet" ∷ []) }
     ensures without_value { EachIsRefused (codes "run --workers" ∷ codes "run --seats 3 --blocks" ∷ codes "run --seats"
         ∷ codes "run --workers --seats 2" ∷ []) }
     ensures elsewhere { EachIsRefused (codes "--workers 2 run" ∷ codes "--seats=1" ∷ codes "run 2" ∷ codes "run --workers 2 3"
-        ∷ codes "run -- --workers 2" ∷ codes "run --worker 2" ∷ codes "run -w 2" ∷ []) }
+        ∷ codes "run -- --workers 2" ∷ codes "run --worker 2" ∷ codes "run -w 2" ∷ codes "run --quiet=true" ∷ codes "run --quiet 1"
+        ∷ codes "--quiet run" ∷ codes "run -q" ∷ []) }
     ensures help { EachAsks Asked.Help (arguments_of (codes "run --workers 2 --help") ∷ arguments_of (codes "run --seats=1 -h")
         ∷ []) }
 {}
@@ -252,29 +278,30 @@ pub fn law_options()
 /// Serves the reader in a run of these sizes; sizes past their limits are none that a run has.
 fn run_sizes<A: AllocGlobal + Threads + Wait + Sync, R: Read + Drop, W: Write, F: Write>(
     rt: &A,
-    sizes: Sizes,
+    options: RunOptions,
     reader: R,
     writer: &mut W,
     faults: &mut F,
 ) -> u8
     ensures { ((result ≡ 1) × (writer.new ≡ writer.old) × (faults.new ≡ faults.old))
-        ⊎ IsServed (sizes_in sizes) (R.remaining reader) result (W.contents writer.old) (W.contents writer.new)
+        ⊎ IsServed (sizes_in options) (R.remaining reader) result (W.contents writer.old) (W.contents writer.new)
         F.contents (fault_line UNWRITTEN.now UNOPENED.now UNREAD.now) faults.old faults.new }
 {
-    match Config::new(sizes.workers, sizes.blocks, sizes.seats) {
+    match Config::new(options.workers, options.blocks, options.seats) {
         Ok(config) => run(rt, config, reader, writer, faults),
         Err(_) => FAULTY,
     }
 }
 
-/// The sizes of a configuration.
-fn sizes_of_config(config: Config) -> Sizes
-    ensures { sizes_in result ≡ config }
+/// The options of a run of this configuration.
+fn options_of(config: Config, quiet: bool) -> RunOptions
+    ensures { run_in result ≡ record { sizes = config; quiet = quiet } }
 {
-    Sizes {
+    RunOptions {
         workers: config.workers(),
         blocks: config.blocks(),
         seats: config.seats(),
+        quiet,
     }
 }
 
@@ -333,7 +360,7 @@ fn read_command<'a, A: AllocGlobal>(rt: &A, arguments: &'a [&'a str]) -> Result<
 {
     match command(rt)?.try_get_matches_from(without_help(arguments)) {
         Ok(matches) => match configure(&matches) {
-            Ok(config) => Ok(Order::Serve(sizes_of_config(config))),
+            Ok(config) => Ok(Order::Serve(options_of(config, is_quiet(&matches)))),
             Err(error) => Ok(Order::Usage(format!(in rt.alloc(); "error: {error}\n")?)),
         },
         Err(error) => explain(rt, &error),
@@ -349,6 +376,19 @@ fn configure(matches: &ArgMatches<'_>) -> Result<Config, BadConfig>
     let blocks: u32 = options.get_one("blocks").ok_or(BadConfig)?;
     let seats: usize = options.get_one("seats").ok_or(BadConfig)?;
     Config::new(workers, blocks, seats)
+}
+
+/// Whether `--quiet` is among the options of a run.
+fn is_quiet(matches: &ArgMatches<'_>) -> bool
+    ensures { result ≡ option_map_or (λ run. is_quiet run.1) (subcommand_rows_of matches.now) false }
+{
+    let Some((_, options)) = matches.subcommand() else {
+        return false;
+    };
+    match options.get_str("quiet") {
+        Some(value) => value == "true",
+        None => false,
+    }
 }
 
 /// What an error of the command line asks for.
@@ -405,7 +445,8 @@ fn command<'a, A: AllocGlobal>(rt: &A) -> Result<Command<'a>, AllocError>
         .override_usage("stinger run [OPTIONS] < script")
         .arg(workers)?
         .arg(blocks)?
-        .arg(seats)?;
+        .arg(seats)?
+        .arg(flag(rt, "quiet", QUIET))?;
     Command::new(rt.alloc(), "stinger")
         .about(ABOUT)
         .no_binary_name(true)
@@ -431,6 +472,17 @@ fn size<'a, A: AllocGlobal>(
         .value_name("N")
         .value_parser(ValueParser::unsigned(least, most))
         .default_value(default)
+        .help(help)
+}
+
+/// An option without a value.
+fn flag<'a, A: AllocGlobal>(rt: &A, name: &'a str, help: &'a str) -> Arg<'a>
+    ensures rule { rule_of result ≡ flag_rule name.now }
+    ensures local { result.global ≡ false }
+{
+    Arg::new(rt.alloc(), name)
+        .long(name)
+        .action(ArgAction::SetTrue)
         .help(help)
 }
 

@@ -12,11 +12,13 @@ returns c = record {
   seats = (refl, (refl, tt));
   most_seats = (refl, (refl, tt));
   all = (refl, (refl, (refl, (refl, (refl, (refl, tt))))));
+  quiet = (refl, (refl, tt));
+  all_and_quiet = (refl, (refl, (refl, tt)));
   workers_past = (refl, (refl, (refl, (refl, (refl, (refl, (refl, tt)))))));
   blocks_past = (refl, (refl, (refl, (refl, (refl, tt)))));
   seats_past = (refl, (refl, (refl, (refl, tt))));
-  twice = (refl, (refl, (refl, tt)));
+  twice = (refl, (refl, (refl, (refl, tt))));
   without_value = (refl, (refl, (refl, (refl, tt))));
-  elsewhere = (refl, (refl, (refl, (refl, (refl, (refl, (refl, tt)))))));
+  elsewhere = (refl, (refl, (refl, (refl, (refl, (refl, (refl, (refl, (refl, (refl, (refl, tt)))))))))));
   help = (refl, (refl, tt));
 }
