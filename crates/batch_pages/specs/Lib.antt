@@ -1,3 +1,5 @@
 pub mod Batches
+pub mod Pieces
 pub mod Pages
+pub mod Groups
 pub mod Lending

@@ -4,74 +4,21 @@ ghost use Rattle.std.specs.Prelude.{◌≡◌, ◌<◌, ◌≤◌, ◌^◌, ◌+
 ghost use Rattle.std.specs.Prelude.{MatchOption, OnOk, OnErr};
 ghost use Rattle.graph_model.specs.declared.batches.NamedOp.{NamedOp};
 ghost use Rattle.batch_pages.specs.Batches.{batch_value};
-ghost use Rattle.batch_pages.specs.Pages.{in_pages, ArePages};
+ghost use Rattle.batch_pages.specs.Groups.{in_groups, AreGroups};
 
+use crate::groups::BatchGroup;
 use graph_model::Batch;
 use std::alloc::{AllocError, Global};
 use std::marker::Model;
 use std::sync::Arc;
 
-/// How many batches stand in one page.
-const PAGE: usize = 256;
+/// How many batches stand in one group.
+const GROUP: usize = 1_024;
 
-/// Batches that follow one another.
-#[derive(Drop)]
-pub(crate) struct BatchPage {
-    batches: Vec<Arc<Batch>>,
-}
-
-impl Model for BatchPage {
-    ghost use Rattle.std.specs.Prelude.{List, map};
-    ghost use Rattle.graph_model.specs.declared.batches.NamedOp.{NamedOp};
-    ghost use Rattle.batch_pages.specs.Batches.{batch_value};
-
-    ghost Value = { List (List NamedOp) };
-
-    ghost view = { λ page. map batch_value page.batches.items };
-}
-
-impl Clone for BatchPage {
-    ghost is_clone = { λ page copy. copy ≡ page };
-
-    fn clone(&self) -> Result<BatchPage, AllocError> {
-        Ok(BatchPage {
-            batches: self.batches.clone()?,
-        })
-    }
-}
-
-impl BatchPage {
-    /// The page of one batch.
-    fn of(alloc: Global, batch: Arc<Batch>) -> Result<BatchPage, AllocError>
-        ensures { IfOk result (λ page. page ≡ batch_value batch ∷ []) }
-    {
-        let mut batches = Vec::new(alloc);
-        batches.push(batch)?;
-        Ok(BatchPage { batches })
-    }
-
-    /// The batch at a place.
-    fn get(&self, place: usize) -> Option<&Batch>
-        ensures { option_copied result ≡ slice_get self.now place }
-    {
-        let batch = self.batches.get(place)?;
-        Some(&**batch)
-    }
-
-    /// One more batch.
-    fn push(&mut self, batch: Arc<Batch>) -> Result<(), AllocError>
-        ensures pushed { OnOk result (self.new ≡ self.old ++ batch_value batch ∷ []) }
-        ensures unchanged { OnErr result (self.new ≡ self.old) }
-    {
-        self.batches.push(batch)?;
-        Ok(())
-    }
-}
-
-/// Batches in order, in pages of 256 that copies share.
+/// Batches in order, in groups of 1,024 that copies share.
 pub struct BatchList {
     len: usize,
-    pages: Vec<Arc<BatchPage>>,
+    groups: Vec<Arc<BatchGroup>>,
 }
 
 // Written by hand: who lets one go rests on this function, and not on how each part is let go.
@@ -79,7 +26,7 @@ impl Drop for BatchList {
     fn drop(self) {
         let BatchList {
             len: _len,
-            pages: _pages,
+            groups: _groups,
         } = self;
     }
 }
@@ -87,13 +34,13 @@ impl Drop for BatchList {
 impl Model for BatchList {
     ghost use Rattle.std.specs.Prelude.{◌≡◌, ◌<◌, ◌^◌, List, length};
     ghost use Rattle.graph_model.specs.declared.batches.NamedOp.{NamedOp};
-    ghost use Rattle.batch_pages.specs.Pages.{in_pages, ArePages};
+    ghost use Rattle.batch_pages.specs.Groups.{in_groups, AreGroups};
 
     ghost Value = { List (List NamedOp) };
 
-    ghost view = { λ list. in_pages list.pages.items };
+    ghost view = { λ list. in_groups list.groups.items };
 
-    ghost invariant = { λ list. (length (in_pages list.pages.items) ≡ list.len) × ArePages list.pages.items
+    ghost invariant = { λ list. (length (in_groups list.groups.items) ≡ list.len) × AreGroups list.groups.items
         × (list.len < 2 ^ 64) };
 }
 
@@ -106,7 +53,7 @@ impl BatchList {
     {
         BatchList {
             len: 0,
-            pages: Vec::new(alloc),
+            groups: Vec::new(alloc),
         }
     }
 
@@ -122,7 +69,7 @@ impl BatchList {
         ensures batch { option_copied result ≡ slice_get self.now place }
         ensures few { length self.now < 2 ^ 64 }
     {
-        self.pages.get(place / PAGE)?.get(place % PAGE)
+        self.groups.get(place / GROUP)?.get(place % GROUP)
     }
 
     /// The last batch.
@@ -143,50 +90,50 @@ impl BatchList {
         }
     }
 
-    /// Adds a batch at the end: one page is made or copied, and every other is shared. After a refused growth the
-    /// list is as before.
+    /// Adds a batch at the end: one page and its group's references are made or copied, and all else is shared. After
+    /// a refused growth the list is as before.
     pub fn push(&mut self, batch: Arc<Batch>) -> Result<(), AllocError>
         requires { length self.old < 2 ^ 32 }
         ensures pushed { OnOk result (self.new ≡ self.old ++ batch_value batch ∷ []) }
         ensures unchanged { OnErr result (self.new ≡ self.old) }
     {
-        let alloc = *self.pages.allocator();
-        add_batch(alloc, &mut self.pages, self.len, batch)?;
+        let alloc = *self.groups.allocator();
+        add_to_groups(alloc, &mut self.groups, self.len, batch)?;
         self.len += 1;
         Ok(())
     }
 
-    /// An equal list, all of whose pages are shared.
+    /// An equal list, all of whose groups are shared: one reference for each 1,024 batches.
     pub fn share(&self) -> Result<BatchList, AllocError>
         ensures { IfOk result (λ copy. copy ≡ self.now) }
     {
         Ok(BatchList {
             len: self.len,
-            pages: self.pages.clone()?,
+            groups: self.groups.clone()?,
         })
     }
 }
 
-/// One more batch after the last: in a new page where all are full, and otherwise in the last page, or in a copy of
-/// it where other lists have it.
-fn add_batch(
+/// One more batch after the last: in a new group where all are full, and otherwise in the last group, or in a copy
+/// of it where other lists have it.
+fn add_to_groups(
     alloc: Global,
-    pages: &mut Vec<Arc<BatchPage>>,
+    groups: &mut Vec<Arc<BatchGroup>>,
     len: usize,
     batch: Arc<Batch>,
 ) -> Result<(), AllocError>
-    requires len { length (in_pages pages.old.items) ≡ len }
-    requires pages { ArePages pages.old.items }
-    ensures added { OnOk result (in_pages pages.new.items ≡ in_pages pages.old.items ++ batch_value batch ∷ []) }
-    ensures unchanged { OnErr result (in_pages pages.new.items ≡ in_pages pages.old.items) }
-    ensures pages { ArePages pages.new.items }
+    requires len { length (in_groups groups.old.items) ≡ len }
+    requires groups { AreGroups groups.old.items }
+    ensures added { OnOk result (in_groups groups.new.items ≡ in_groups groups.old.items ++ batch_value batch ∷ []) }
+    ensures unchanged { OnErr result (in_groups groups.new.items ≡ in_groups groups.old.items) }
+    ensures groups { AreGroups groups.new.items }
 {
-    if len % PAGE == 0 {
-        let page = Arc::new(alloc, BatchPage::of(alloc, batch)?)?;
-        pages.push(page)?;
+    if len % GROUP == 0 {
+        let group = Arc::new(alloc, BatchGroup::of(alloc, batch)?)?;
+        groups.push(group)?;
         return Ok(());
     }
-    Arc::make_mut(&mut pages[len / PAGE])?.push(batch)
+    Arc::make_mut(&mut groups[len / GROUP])?.push(batch)
 }
 
 /// The batches of a list that are still to be lent, in order.

@@ -1,12 +1,12 @@
 -- Lists in pieces of one length: their elements, and a piece changed.
 use Rattle.std.proofs.Common.{◌≡◌, ℕ, zero, suc, ◌+◌, ◌*◌, ◌<◌, ◌≤◌, ◌==◌, List, [], ◌∷◌, ◌++◌, length, get_or, set, map}
 use Rattle.std.proofs.Common.{flat_map, take, replicate, refl, sym, ap, ◌∙◌, arith, length-append, append_assoc, inl, inr, Result}
-use Rattle.std.proofs.Common.{Ok, Err, if◌then◌else◌}
+use Rattle.std.proofs.Common.{Ok, Err, if◌then◌else◌, All}
 use Rattle.std.specs.Result.{OnOk}
 use Rattle.std.proofs.lemmas.Bool.Decides.{eqb_tells}
-use Rattle.std.proofs.lemmas.List.{set-append_left, set-append_right, get_or-set_same, get_or-set_other, append-nil}
+use Rattle.std.proofs.lemmas.List.{set-append_left, set-append_right, get_or-set_same, get_or-set_other, append-nil, length-replicate, replicate-append-replicate}
 use Rattle.std.specs.List.{AllZip}
-use Rattle.std.proofs.lemmas.List.Elements.{All-head, All-tail, All-cons, All-push}
+use Rattle.std.proofs.lemmas.List.Elements.{All-head, All-tail, All-nil, All-cons, All-push}
 use Rattle.std.proofs.lemmas.List.Concat.{get_or-flat_map}
 use Rattle.std.proofs.Math.ListN.{get_or-eq_default}
 use Rattle.row_pages.specs.Pieces.{ArePieces}
@@ -58,6 +58,19 @@ module _ {X A : Type 0} (n : ℕ) (f : X → List A) where
       let here : length (f x) ≡ n = All-head (λ x. length (f x) ≡ n) x xs all in
       let rest = long xs (All-tail (λ x. length (f x) ≡ n) x xs all) in
       let both = length-append (f x) (flat_map f xs) in omega arith
+
+  -- pieces that have nothing but a default
+  pub blank_pieces : (xs : List X) (d : A) → All (λ x. f x ≡ replicate n d) xs → ArePieces n f xs
+  blank_pieces xs d all i e lt = ap length (all i e lt) ∙ length-replicate n d
+
+  pub blank_flat : (xs : List X) (d : A) → All (λ x. f x ≡ replicate n d) xs → flat_map f xs ≡ replicate (length xs * n) d
+  blank_flat [] d all = ap (λ m. replicate m d) (let z : 0 ≡ 0 * n = omega arith in z)
+  blank_flat (x ∷ xs) d all =
+      let here : f x ≡ replicate n d = All-head (λ x. f x ≡ replicate n d) x xs all in
+      let rest = blank_flat xs d (All-tail (λ x. f x ≡ replicate n d) x xs all) in
+      let both : n + length xs * n ≡ suc (length xs) * n = omega arith in
+      ap (λ l. l ++ flat_map f xs) here ∙ ap (λ l. replicate n d ++ l) rest
+      ∙ replicate-append-replicate n (length xs * n) d ∙ ap (λ m. replicate m d) both
 
   before : (xs : List X) (i : ℕ) → ArePieces n f xs → i ≤ length xs → length (flat_map f (take i xs)) ≡ i * n
   before xs zero all le = omega arith
@@ -136,3 +149,12 @@ module _ {X A : Type 0} (n : ℕ) (f : X → List A) where
 pub OnOk-then : {T E : Type 0} (r : Result T E) {P Q : Type 0} → (P → Q) → OnOk r P → OnOk r Q
 OnOk-then (Ok x) f p = f p
 OnOk-then (Err e) f p = tt
+
+-- eight elements that pass
+pub all_eight : {X : Type 0} (P : X → Type 0) (a b c d e g h i : X) → P a → P b → P c → P d → P e → P g → P h → P i
+    → All P (a ∷ b ∷ c ∷ d ∷ e ∷ g ∷ h ∷ i ∷ [])
+all_eight P a b c d e g h i pa pb pc pd pe pg ph pi =
+    All-cons P a (b ∷ c ∷ d ∷ e ∷ g ∷ h ∷ i ∷ []) pa (All-cons P b (c ∷ d ∷ e ∷ g ∷ h ∷ i ∷ []) pb
+    (All-cons P c (d ∷ e ∷ g ∷ h ∷ i ∷ []) pc (All-cons P d (e ∷ g ∷ h ∷ i ∷ []) pd
+    (All-cons P e (g ∷ h ∷ i ∷ []) pe (All-cons P g (h ∷ i ∷ []) pg
+    (All-cons P h (i ∷ []) ph (All-cons P i [] pi (All-nil P))))))))

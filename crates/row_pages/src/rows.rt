@@ -3,9 +3,9 @@
 ghost use Rattle.std.specs.Prelude.{◌≡◌, ◌*◌, ◌^◌, ◌<◌, ◌≤◌, ℕ, [], IfOk, OnOk, length, slice_set};
 ghost use Rattle.row_pages.specs.Rows.{row_of, Replaces};
 ghost use Rattle.row_pages.specs.Sharing.{block_values, row_values};
-ghost use Rattle.row_pages.specs.Pages.{in_pages, ArePages};
+ghost use Rattle.row_pages.specs.Groups.{in_groups, AreGroups};
 
-use crate::pages::Page;
+use crate::groups::Group;
 use crate::row::Row;
 use edge_block::Block;
 use graph_model::VertexId;
@@ -13,31 +13,31 @@ use std::alloc::{AllocError, Global};
 use std::marker::Model;
 use std::sync::Arc;
 
-/// How many rows stand in one page.
-const PAGE: usize = 64;
+/// How many rows stand in one group.
+const GROUP: usize = 512;
 
-/// The rows of all sources, in pages that versions share. They never change; a change makes new ones.
+/// The rows of all sources, in groups that versions share. They never change; a change makes new ones.
 pub struct Rows {
-    pages: Vec<Arc<Page>>,
+    groups: Vec<Arc<Group>>,
 }
 
 // Written by hand: who lets one go rests on this function, and not on how each part is let go.
 impl Drop for Rows {
     fn drop(self) {
-        let Rows { pages: _pages } = self;
+        let Rows { groups: _groups } = self;
     }
 }
 
 impl Model for Rows {
     ghost use Rattle.std.specs.Prelude.{List, ◌≤◌, ◌^◌, length};
     ghost use Rattle.edge_block.specs.Slots.{BlockView};
-    ghost use Rattle.row_pages.specs.Pages.{in_pages, ArePages};
+    ghost use Rattle.row_pages.specs.Groups.{in_groups, AreGroups};
 
     ghost Value = { List (List BlockView) };
 
-    ghost view = { λ rows. in_pages rows.pages.items };
+    ghost view = { λ rows. in_groups rows.groups.items };
 
-    ghost invariant = { λ rows. ArePages rows.pages.items × (length rows.pages.items ≤ 2 ^ 26) };
+    ghost invariant = { λ rows. AreGroups rows.groups.items × (length rows.groups.items ≤ 2 ^ 23) };
 }
 
 impl Rows {
@@ -46,7 +46,7 @@ impl Rows {
         ensures { result ≡ [] }
     {
         Rows {
-            pages: Vec::new(alloc),
+            groups: Vec::new(alloc),
         }
     }
 
@@ -55,7 +55,7 @@ impl Rows {
         ensures count { result ≡ length self.now }
         ensures few { length self.now ≤ 2 ^ 32 }
     {
-        self.pages.len() * PAGE
+        self.groups.len() * GROUP
     }
 
     /// The blocks of a source's row, in order.
@@ -63,22 +63,22 @@ impl Rows {
         ensures { block_values result.now ≡ row_of self.now source.0 }
     {
         let source = source.0 as usize;
-        match self.pages.get(source / PAGE) {
+        match self.groups.get(source / GROUP) {
             None => &[],
-            Some(page) => page.row(source % PAGE),
+            Some(group) => group.row(source % GROUP),
         }
     }
 
-    /// Equal rows, all of whose pages are shared: one reference for each 64 rows.
+    /// Equal rows, all of whose groups are shared: one reference for each 512 rows.
     pub fn share(&self) -> Result<Rows, AllocError>
         ensures { IfOk result (λ rows. rows ≡ self.now) }
     {
         Ok(Rows {
-            pages: self.pages.clone()?,
+            groups: self.groups.clone()?,
         })
     }
 
-    /// The rows with these blocks as the row of a source. Other rows that share its page or part keep theirs.
+    /// The rows with these blocks as the row of a source. Other rows that share its group, page or part keep theirs.
     ///
     /// After a refused growth the rows are given up.
     pub fn replace_row(
@@ -88,44 +88,44 @@ impl Rows {
     ) -> Result<Rows, AllocError>
         ensures { IfOk result (λ rows. Replaces source.0 (block_values blocks.items) self rows) }
     {
-        let alloc = *self.pages.allocator();
+        let alloc = *self.groups.allocator();
         let row = Row::of(alloc, blocks)?;
-        put_row(alloc, &mut self.pages, source.0 as usize, row)?;
+        put_row(alloc, &mut self.groups, source.0 as usize, row)?;
         Ok(self)
     }
 }
 
-/// Adds pages of empty rows up to a count.
-fn add_pages(alloc: Global, pages: &mut Vec<Arc<Page>>, count: usize) -> Result<(), AllocError>
-    requires pages { ArePages pages.old.items }
-    requires few { length pages.old.items ≤ 2 ^ 26 }
-    requires count { count ≤ 2 ^ 26 }
-    ensures enough { OnOk result (count ≤ length pages.new.items) }
-    ensures same { (s : ℕ) → row_of (in_pages pages.new.items) s ≡ row_of (in_pages pages.old.items) s }
-    ensures pages { ArePages pages.new.items }
-    ensures few { length pages.new.items ≤ 2 ^ 26 }
+/// Adds groups of empty rows up to a count.
+fn add_groups(alloc: Global, groups: &mut Vec<Arc<Group>>, count: usize) -> Result<(), AllocError>
+    requires groups { AreGroups groups.old.items }
+    requires few { length groups.old.items ≤ 2 ^ 23 }
+    requires count { count ≤ 2 ^ 23 }
+    ensures enough { OnOk result (count ≤ length groups.new.items) }
+    ensures same { (s : ℕ) → row_of (in_groups groups.new.items) s ≡ row_of (in_groups groups.old.items) s }
+    ensures groups { AreGroups groups.new.items }
+    ensures few { length groups.new.items ≤ 2 ^ 23 }
 {
-    while pages.len() < count {
-        let page = Arc::new(alloc, Page::blank(alloc)?)?;
-        pages.push(page)?;
+    while groups.len() < count {
+        let group = Arc::new(alloc, Group::blank(alloc)?)?;
+        groups.push(group)?;
     }
     Ok(())
 }
 
-/// Writes a source's row into its page and part, into copies of these where other versions have them.
+/// Writes a source's row into its group, page and part, into copies of these where other versions have them.
 fn put_row(
     alloc: Global,
-    pages: &mut Vec<Arc<Page>>,
+    groups: &mut Vec<Arc<Group>>,
     source: usize,
     row: Row,
 ) -> Result<(), AllocError>
-    requires pages { ArePages pages.old.items }
-    requires few { length pages.old.items ≤ 2 ^ 26 }
+    requires groups { AreGroups groups.old.items }
+    requires few { length groups.old.items ≤ 2 ^ 23 }
     requires source { source < 2 ^ 32 }
-    ensures rows { OnOk result (Replaces source (row_values row) (in_pages pages.old.items) (in_pages pages.new.items)) }
-    ensures pages { ArePages pages.new.items }
-    ensures few { length pages.new.items ≤ 2 ^ 26 }
+    ensures rows { OnOk result (Replaces source (row_values row) (in_groups groups.old.items) (in_groups groups.new.items)) }
+    ensures groups { AreGroups groups.new.items }
+    ensures few { length groups.new.items ≤ 2 ^ 23 }
 {
-    add_pages(alloc, pages, source / PAGE + 1)?;
-    Arc::make_mut(&mut pages[source / PAGE])?.put(source % PAGE, row)
+    add_groups(alloc, groups, source / GROUP + 1)?;
+    Arc::make_mut(&mut groups[source / GROUP])?.put(source % GROUP, row)
 }

@@ -5,12 +5,13 @@ ghost use Rattle.graph_model.specs.Step.{with_name, number_of};
 ghost use Rattle.graph_model.specs.Answer.{is_listed};
 ghost use Rattle.graph_model.specs.Valid.{is_name};
 ghost use Rattle.vertex_names.specs.Book.{empty_book, with_entry, IsBook, MeetsLimit, Refuses};
-ghost use Rattle.vertex_names.specs.Index.{text_hash, Stands};
+ghost use Rattle.vertex_names.specs.Index.{text_hash};
 
-use crate::index::{HashIndex, hash_of};
-use crate::texts::{Entry, Texts};
+use crate::index::hash_of;
+use crate::tables::{Tables, is_at, push_name, shared};
 use std::alloc::{AllocError, AllocFailed, Global};
 use std::marker::Model;
+use std::sync::Arc;
 use thiserror::Error;
 
 /// Why a name was not added.
@@ -45,29 +46,26 @@ impl<T: Drop> From<AllocFailed<T>> for AddError {
 /// The names that have appeared, in order of first appearance; a name's number is its place.
 ///
 /// A look-up takes no memory: one hash, a search in two lists that rise, and one comparison of texts. A new name takes one
-/// copy of its text, and after a `share` copies of the last 256 texts at most, and of a list and a piece of one part in 64 of
-/// the index.
+/// copy of its text. The first one after a `share` takes a pointer for each 256 names and each of 64 parts of the index, and
+/// each one copies of the last 256 texts at most, and of a list and a piece of one part.
 pub struct NameBook {
     limit: u32,
     alloc: Global,
-    texts: Texts,
-    index: HashIndex,
-    /// The numbers of the names whose hash another name had taken.
-    others: Vec<u32>,
+    /// `None` before the first name.
+    tables: Option<Arc<Tables>>,
     /// The number that `add` found last: operations mostly have one kind, which is then found without its hash.
     last: u32,
 }
 
 impl Model for NameBook {
     ghost use Rattle.vertex_names.specs.Book.{Book, IsBook};
-    ghost use Rattle.vertex_names.specs.Index.{IsIndexed};
+    ghost use Rattle.vertex_names.specs.Tables.{names_of};
 
     ghost Value = { Book };
 
-    ghost view = { λ book. record { limit = book.limit; names = book.texts } };
+    ghost view = { λ book. record { limit = book.limit; names = names_of book.tables } };
 
-    ghost invariant = { λ book. IsBook (record { limit = book.limit; names = book.texts })
-        × IsIndexed book.texts book.index book.others.items };
+    ghost invariant = { λ book. IsBook (record { limit = book.limit; names = names_of book.tables }) };
 }
 
 // Written by hand: who lets one go rests on this function, and not on how each part is let go.
@@ -76,9 +74,7 @@ impl Drop for NameBook {
         let NameBook {
             limit: _limit,
             alloc: _alloc,
-            texts: _texts,
-            index: _index,
-            others: _others,
+            tables: _tables,
             last: _last,
         } = self;
     }
@@ -92,9 +88,7 @@ impl NameBook {
         NameBook {
             limit,
             alloc,
-            texts: Texts::new(alloc),
-            index: HashIndex::new(alloc),
-            others: Vec::new(alloc),
+            tables: None,
             last: 0,
         }
     }
@@ -104,14 +98,17 @@ impl NameBook {
         ensures value { result ≡ length self.now.names }
         ensures book { IsBook self.now }
     {
-        self.texts.len()
+        match &self.tables {
+            None => 0,
+            Some(tables) => tables.len(),
+        }
     }
 
     /// Whether there are no names.
     pub fn is_empty(&self) -> bool
         ensures { IsTrue result ↔ (length self.now.names ≡ 0) }
     {
-        self.texts.len() == 0
+        self.len() == 0
     }
 
     /// The number of a name that has appeared.
@@ -126,11 +123,10 @@ impl NameBook {
         requires { hash ≡ text_hash name.now }
         ensures { SomeIff result (IsTrue (is_listed self.now.names name.now)) (number_of self.now.names name.now) }
     {
-        let first = self.index.first(hash)?;
-        if self.texts.is_at(first, name) {
-            return Some(first);
+        match &self.tables {
+            None => None,
+            Some(tables) => tables.number_at(hash, name),
         }
-        self.texts.find_among(&self.others, name)
     }
 
     /// The number that `add` found last, if it is the name's.
@@ -138,7 +134,7 @@ impl NameBook {
         ensures listed { IfSome result (λ number. IsTrue (is_listed self.now.names name.now)) }
         ensures number { IfSome result (λ number. number ≡ number_of self.now.names name.now) }
     {
-        if self.texts.is_at(self.last, name) {
+        if is_at(&self.tables, self.last, name) {
             Some(self.last)
         } else {
             None
@@ -149,7 +145,10 @@ impl NameBook {
     pub fn name(&self, number: u32) -> Option<&str>
         ensures { option_copied result ≡ slice_get self.now.names number }
     {
-        self.texts.name(number)
+        match &self.tables {
+            None => None,
+            Some(tables) => tables.name(number),
+        }
     }
 
     /// The number of a name, which becomes the last one where it has not appeared before.
@@ -175,51 +174,23 @@ impl NameBook {
             self.last = number;
             return Ok(number);
         }
-        let number = self.texts.len();
+        let number = self.len();
         if number >= self.limit as usize {
             return Err(AddError::NamesFull);
         }
-        let number = number as u32;
-        let text = Entry::of(self.alloc, name)?;
-        enter(self.alloc, &mut self.index, &mut self.others, hash, number)?;
-        self.texts.push(self.alloc, text)?;
-        Ok(number)
+        push_name(&mut self.tables, self.alloc, hash, name)?;
+        Ok(number as u32)
     }
 
-    /// An equal book, which later changes of this one leave alone. It copies no text: one pointer for each 256 names
-    /// and for each of 64 parts of the index, and the few numbers whose hash was taken.
+    /// An equal book, which later changes of this one leave alone. It copies nothing, and takes no memory.
     pub fn share(&self) -> Result<NameBook, AllocError>
         ensures { IfOk result (λ copy. copy ≡ self.now) }
     {
         Ok(NameBook {
             limit: self.limit,
             alloc: self.alloc,
-            texts: self.texts.share()?,
-            index: self.index.share()?,
-            others: self.others.clone()?,
+            tables: shared(&self.tables)?,
             last: self.last,
         })
-    }
-}
-
-/// A number for a hash: at the hash where that is free, and otherwise among the others. What a refused growth left
-/// behind stands already.
-fn enter(
-    alloc: Global,
-    index: &mut HashIndex,
-    others: &mut Vec<u32>,
-    hash: u64,
-    number: u32,
-) -> Result<(), AllocError>
-    ensures entered { OnOk result (Stands index.new others.new.items hash number) }
-    ensures kept { (q i : ℕ) → Stands index.old others.old.items q i → Stands index.new others.new.items q i }
-{
-    match index.first(hash) {
-        None => index.put(alloc, hash, number),
-        Some(known) if known == number => Ok(()),
-        Some(_) => {
-            others.push(number)?;
-            Ok(())
-        }
     }
 }

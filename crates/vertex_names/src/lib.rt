@@ -12,6 +12,7 @@ mod book;
 mod index;
 mod part;
 mod piece;
+mod tables;
 mod texts;
 
 pub use book::{AddError, NameBook};

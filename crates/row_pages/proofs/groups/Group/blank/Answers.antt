@@ -1,0 +1,35 @@
+use Rattle.std.proofs.Common.{◌≡◌, ◌∙◌, List, [], ◌∷◌, replicate, refl}
+use Rattle.std.specs.declared.sync.Arc.{Arc}
+use Rattle.std.specs.declared.alloc.Global.{Global}
+use Rattle.row_pages.specs.Pages.{in_page}
+use Rattle.row_pages.specs.declared.pages.Page.{Page}
+use Rattle.row_pages.proofs.Pieces.{all_eight, blank_pieces, blank_flat}
+use Rattle.row_pages.proofs.groups.Group.blank.Goals as goal
+
+pub invariant_of-result : goal.invariant_of-result
+invariant_of-result c =
+    let blank : in_page c.in_ok-page.page ≡ replicate 64 [] = c.in_ok-page.ensures.ok ∙ c.in_ok-blank.ensures in
+    let pages : List (Arc Page Global) = c.in_ok-try_clone.field-0 ∷ c.in_ok-try_clone-2.field-0 ∷ c.in_ok-try_clone-3.field-0
+    ∷ c.in_ok-try_clone-4.field-0 ∷ c.in_ok-try_clone-5.field-0 ∷ c.in_ok-try_clone-6.field-0 ∷ c.in_ok-try_clone-7.field-0
+    ∷ c.in_ok-page.page ∷ [] in
+    let all = all_eight (λ (p : Arc Page Global). in_page p ≡ replicate 64 [])
+    c.in_ok-try_clone.field-0 c.in_ok-try_clone-2.field-0 c.in_ok-try_clone-3.field-0 c.in_ok-try_clone-4.field-0
+    c.in_ok-try_clone-5.field-0 c.in_ok-try_clone-6.field-0 c.in_ok-try_clone-7.field-0 c.in_ok-page.page
+    (c.in_ok-try_clone.ensures ∙ blank) (c.in_ok-try_clone-2.ensures ∙ blank) (c.in_ok-try_clone-3.ensures ∙ blank)
+    (c.in_ok-try_clone-4.ensures ∙ blank) (c.in_ok-try_clone-5.ensures ∙ blank) (c.in_ok-try_clone-6.ensures ∙ blank)
+    (c.in_ok-try_clone-7.ensures ∙ blank) blank in
+    (blank_pieces 64 in_page pages [] all, refl)
+
+pub returns : goal.returns
+returns c =
+    let blank : in_page c.in_ok-page.page ≡ replicate 64 [] = c.in_ok-page.ensures.ok ∙ c.in_ok-blank.ensures in
+    let pages : List (Arc Page Global) = c.in_ok-try_clone.field-0 ∷ c.in_ok-try_clone-2.field-0 ∷ c.in_ok-try_clone-3.field-0
+    ∷ c.in_ok-try_clone-4.field-0 ∷ c.in_ok-try_clone-5.field-0 ∷ c.in_ok-try_clone-6.field-0 ∷ c.in_ok-try_clone-7.field-0
+    ∷ c.in_ok-page.page ∷ [] in
+    let all = all_eight (λ (p : Arc Page Global). in_page p ≡ replicate 64 [])
+    c.in_ok-try_clone.field-0 c.in_ok-try_clone-2.field-0 c.in_ok-try_clone-3.field-0 c.in_ok-try_clone-4.field-0
+    c.in_ok-try_clone-5.field-0 c.in_ok-try_clone-6.field-0 c.in_ok-try_clone-7.field-0 c.in_ok-page.page
+    (c.in_ok-try_clone.ensures ∙ blank) (c.in_ok-try_clone-2.ensures ∙ blank) (c.in_ok-try_clone-3.ensures ∙ blank)
+    (c.in_ok-try_clone-4.ensures ∙ blank) (c.in_ok-try_clone-5.ensures ∙ blank) (c.in_ok-try_clone-6.ensures ∙ blank)
+    (c.in_ok-try_clone-7.ensures ∙ blank) blank in
+    blank_flat 64 in_page pages [] all

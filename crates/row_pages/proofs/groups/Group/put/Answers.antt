@@ -1,0 +1,11 @@
+use Rattle.std.proofs.Common.{◌≡◌, length, arith}
+use Rattle.row_pages.specs.Pages.{in_page}
+use Rattle.row_pages.proofs.Pieces.{long}
+use Rattle.row_pages.proofs.groups.Group.put.Goals as goal
+
+pub returns-clause-length : goal.returns-clause-length
+returns-clause-length c =
+    let whole = long 64 in_page c.put_in_page.new.pages c.put_in_page.ensures.pages in
+    let same = c.put_in_page.auto.pages in
+    let before : length c.self.inside.pages ≡ 8 = c.self.invariant.1 in
+    omega (arith, whole, same, before)

@@ -1,0 +1,18 @@
+use Rattle.std.proofs.Common.{◌∙◌, ◌∷◌, []}
+use Rattle.row_pages.specs.Pages.{in_page}
+use Rattle.row_pages.proofs.Pieces.{eight, same_pieces}
+use Rattle.row_pages.proofs.groups.GroupClone.clone.Goals as goal
+
+pub returns : goal.returns
+returns c = record {
+  cases =
+      same_pieces 64 in_page
+      (c.in_ok-try_clone.field-0 ∷ c.in_ok-try_clone-2.field-0 ∷ c.in_ok-try_clone-3.field-0 ∷ c.in_ok-try_clone-4.field-0
+      ∷ c.in_ok-try_clone-5.field-0 ∷ c.in_ok-try_clone-6.field-0 ∷ c.in_ok-try_clone-7.field-0 ∷ c.in_ok-try_clone-8.field-0
+      ∷ [])
+      c.self.inside.pages
+      (eight in_page c.self.inside.pages _ _ _ _ _ _ _ _ _ _ _ _ _ _ _ _ c.self.told
+      c.in_ok-try_clone.ensures c.in_ok-try_clone-2.ensures c.in_ok-try_clone-3.ensures c.in_ok-try_clone-4.ensures
+      c.in_ok-try_clone-5.ensures c.in_ok-try_clone-6.ensures c.in_ok-try_clone-7.ensures c.in_ok-try_clone-8.ensures)
+      ∙ c.self.view_is;
+}

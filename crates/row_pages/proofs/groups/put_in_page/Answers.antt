@@ -1,0 +1,25 @@
+use Rattle.std.proofs.Common.{◌≡◌, ◌∙◌, ◌/◌, ◌%◌, inl, inr, ap, List, set, get_or, rules, arith}
+use Rattle.std.specs.Result.{IsOk}
+use Rattle.std.specs.declared.sync.Arc.{Arc}
+use Rattle.std.specs.declared.alloc.Global.{Global}
+use Rattle.edge_block.specs.Slots.{BlockView}
+use Rattle.row_pages.specs.Sharing.{row_values}
+use Rattle.row_pages.specs.Pages.{in_page}
+use Rattle.row_pages.specs.declared.pages.Page.{Page}
+use Rattle.row_pages.proofs.Pieces.{set_piece, OnOk-then}
+use Rattle.row_pages.proofs.groups.put_in_page.Goals as goal
+
+pub returns-clause-rows : goal.returns-clause-rows
+returns-clause-rows c =
+    let h : Arc Page Global = c.index-pages-place.result in
+    let same : c.in_ok-make_mut.field-0.now ≡ in_page (get_or c.args.pages.now (c.args.place / 64) h) =
+    elim c.in_ok-make_mut.ensures.value [ inl e ↦ e | inr e ↦ e ] in
+    let ok : IsOk c.make_mut.result = search rules in
+    let lt = c.requires.place in
+    OnOk-then c.put.result
+    (λ put.
+    set_piece 64 in_page c.args.pages.now c.args.place (c.args.place / 64) (c.args.place % 64) _ h
+    (row_values c.args.row) c.requires.pages (omega arith) (omega arith) (omega arith)
+    (c.make_mut.follows.holds c.put.new.self ok ∙ put
+    ∙ ap (λ (p : List (List BlockView)). set p (c.args.place % 64) (row_values c.args.row)) same))
+    c.put.ensures.rows
