@@ -1,15 +1,16 @@
 -- What all shards leave is what the batch leaves of the version.
 use Rattle.std.proofs.Common.{◌≡◌, ◌≢◌, ℕ, zero, suc, ◌+◌, ◌<◌, ◌≤◌, ◌==◌, Bool, true, false, cond, ◌||◌, List, [], ◌∷◌, ◌++◌}
-use Rattle.std.proofs.Common.{length, length-append, map, flat_map, count_by, replicate, refl, sym, ap, ap₂, ◌∙◌, arith}
+use Rattle.std.proofs.Common.{length, length-append, map, flat_map, zip, count_by, replicate, refl, sym, ap, ap₂, ◌∙◌, arith}
 use Rattle.std.proofs.Common.{subst, All, AllPairs, ltb}
 use Rattle.std.specs.List.{sum_by, range_with_len, AllZip, list_any}
 use Rattle.std.proofs.lemmas.Bool.{eqb-true, ltb-true, ltb-false, true≢false}
-use Rattle.std.proofs.lemmas.List.{length-map, map-append, length-replicate}
+use Rattle.std.proofs.lemmas.List.{length-map, map-append}
 use Rattle.std.proofs.lemmas.Grind.{flat_map-append}
+use Rattle.std.proofs.lemmas.List.FromFn.{length-range_with_len}
 use Rattle.std.proofs.lemmas.List.Sums.{sum_by-cons}
 use Rattle.std.proofs.lemmas.List.Elements.{All-head, All-tail, All-nil, All-append}
 use Rattle.graph_model.specs.Graph.{Graph}
-use Rattle.graph_model.specs.Limits.{name_limit, kind_limit, batch_limit}
+use Rattle.graph_model.specs.Limits.{name_limit, kind_limit, batch_limit, operation_limit}
 use Rattle.std.specs.FinMap.{len}
 use Rattle.graph_model.specs.Step.{after_all, outcomes, left_by}
 use Rattle.graph_model.specs.declared.batches.NamedOp.{NamedOp}
@@ -17,37 +18,39 @@ use Rattle.graph_model.specs.declared.batches.Outcome.{Outcome}
 use Rattle.graph_model.specs.declared.batches.Outcome.TheVariants.{Absent}
 use Rattle.edge_block.specs.Slots.{BlockView}
 use Rattle.vertex_names.specs.Book.{Book}
-use Rattle.block_layout.specs.Rows.{Shape, shape_of, row_at, IsRow, untouched}
+use Rattle.block_layout.specs.Rows.{Shape, OpenBlock, shape_of, row_at, IsRow, untouched}
 use Rattle.block_layout.specs.Batches.{Resolved, resolved, outcomes_all, opened, layout_after, rows_all, sum_below}
-use Rattle.block_layout.specs.Batches.{IsWithin}
+use Rattle.block_layout.specs.Batches.{IsWithin, IsLayoutOf}
 use Rattle.block_layout.proofs.GraphLaws.{batch_layout}
 use Rattle.row_pages.specs.Rows as rows
 use Rattle.row_pages.specs.Rows.{row_of}
 use Rattle.shard_work.specs.RowBlocks.{block_of, blocks_of, numbers_of}
 use Rattle.shard_work.specs.Closing.{row_values}
 use Rattle.shard_work.specs.Done.{IsShardDone, Exchanges, sources_in, rows_by}
-use Rattle.shard_work.specs.Births.{births_end, births_dropped, later_births, open_row, births_after, dropped_births, CarriesBirths}
+use Rattle.shard_work.specs.Births.{births_end, births_dropped, later_births, open_row, births_after, dropped_births}
 use Rattle.shard_work.specs.declared.shard.Shard.{Shard}
 use Rattle.shard_work.specs.declared.shard.ShardDone.{ShardDone}
-use Rattle.shard_work.proofs.ShardSteps.{length-outcomes_all}
 use Rattle.graph_version.specs.Versions.{VersionView, IsVersion, IsBlockOf, AreRowsOf, content, layout_of, is_in}
 use Rattle.graph_version.specs.Kept.{vertex_book, kind_book, edge_total}
 use Rattle.graph_version.specs.Drafts.{DraftView, drafted_over, with_batch, IsWhole}
+use Rattle.graph_version.proofs.Few.{few_total}
 use Rattle.batch_plan.specs.Shards.{IsShardOf}
 use Rattle.batch_plan.specs.Planned.{MeetsNeitherLimit}
 use Rattle.batch_apply.specs.Plans.{written, written_all}
+use Rattle.shard_work.specs.Groups.{told}
 use Rattle.batch_apply.specs.Sums.{ArePlanned}
 use Rattle.batch_apply.specs.Applied.{IsApplied, ReplacesRows, row_among, written_from}
 use Rattle.batch_apply.specs.declared.applied.Applied.{Applied}
+use Rattle.batch_apply.proofs.Told.{told_exact}
 use Rattle.batch_apply.proofs.Totals.{count_more}
-use Rattle.batch_apply.proofs.Written.{all_written}
-use Rattle.batch_apply.proofs.Together.{all_once, all_within, once, quiet_layout, batch_totals}
+use Rattle.batch_apply.proofs.Written.{all_written, all_sources}
+use Rattle.batch_apply.proofs.Together.{all_once, all_within, once, quiet_layout, batch_totals, outcomes_over}
 use Rattle.batch_apply.proofs.Together.{shard_outcomes_at, shard_layout_at, shard_births_at, quiet_row, births_sum, together_at}
 use Rattle.batch_apply.proofs.Placed.{times, sources_of, among_is}
 use Rattle.batch_apply.proofs.Kept.{count_append, count_map, pairs, exchanged_all}
 use Rattle.batch_apply.specs.Jobs.{IsDealt, AreDone}
 use Rattle.batch_apply.specs.declared.workers.Job.{Job}
-use Rattle.batch_apply.proofs.Dealt.{length-resolved, shards_in, dealt_planned, done_in, fresh_in}
+use Rattle.batch_apply.proofs.Dealt.{length-resolved, shards_in, needs_of, dealt_planned, done_in, fresh_in}
 
 -- Births
 
@@ -246,12 +249,12 @@ module _ (before : ℕ → List BlockView) where
         count_append q (numbers_of s.fresh.items) (fresh_all shards),
       )
 
-  module _ (workers : ℕ) (ops : List NamedOp) (g : Graph) where
+  module _ (workers : ℕ) (ops : List NamedOp) (g : Graph) (layout : ℕ → List Shape) where
     abbrev rs : List Resolved
     rs = resolved ops g.names g.kinds
 
     layouts_left : (a k : ℕ) (shards : List Shard) (dones : List ShardDone)
-        → AllZip (IsShardOf workers rs) (range_with_len a k) shards → AllZip (IsShardDone before) shards dones
+        → AllZip (IsShardOf workers rs layout) (range_with_len a k) shards → AllZip (IsShardDone before) shards dones
         → All (λ r. map shape_of r.1 ≡ layout_after ops g (λ s. map shape_of (before s)) r.0) (rows_left dones)
     layouts_left a zero [] [] p z = All-nil (λ (r : ℕ × List BlockView). map shape_of r.1 ≡ layout_after ops g
         (λ s. map shape_of (before s)) r.0)
@@ -262,11 +265,11 @@ module _ (before : ℕ → List BlockView) where
     layouts_left a (suc k) (s ∷ shards) (d ∷ dones) p z =
         All-append (λ (r : ℕ × List BlockView). map shape_of r.1 ≡ layout_after ops g (λ s. map shape_of (before s)) r.0)
         (row_values d.rows.items) (rows_left dones)
-        (shard_layout_at workers a ops g before s d p.0 z.0) (layouts_left (a + 1) k shards dones p.1 z.1)
+        (shard_layout_at workers a ops g layout before s d p.0 z.0) (layouts_left (a + 1) k shards dones p.1 z.1)
 
     births_left : (f h : BlockView → ℕ) (n a k : ℕ) (shards : List Shard) (dones : List ShardDone)
         → ((b : BlockView) → is_in b.number (taken_left dones) ≡ true → h b ≡ n)
-        → AllZip (IsShardOf workers rs) (range_with_len a k) shards → AllZip (IsShardDone before) shards dones
+        → AllZip (IsShardOf workers rs layout) (range_with_len a k) shards → AllZip (IsShardDone before) shards dones
         → All (λ r. All (λ b. h b ≡ f b) (before r.0) → map h r.1
         ≡ births_end n (rows_all rs (opened (λ s. map shape_of (before s))) r.0) (map f (before r.0))) (rows_left dones)
     births_left f h n a zero [] [] each p z = All-nil (λ (r : ℕ × List BlockView). All (λ b. h b ≡ f b) (before r.0) → map h r.1
@@ -279,23 +282,33 @@ module _ (before : ℕ → List BlockView) where
         All-append (λ (r : ℕ × List BlockView). All (λ b. h b ≡ f b) (before r.0) → map h r.1
         ≡ births_end n (rows_all rs (opened (λ s. map shape_of (before s))) r.0) (map f (before r.0)))
         (row_values d.rows.items) (rows_left dones)
-        (shard_births_at workers a ops g before s d p.0 z.0 f h n
+        (shard_births_at workers a ops g layout before s d p.0 z.0 f h n
         (λ b is. each b (in_left b.number d.left.taken.items (taken_left dones) is)))
         (births_left f h n (a + 1) k shards dones
         (λ b is. each b (in_right b.number d.left.taken.items (taken_left dones) is)) p.1 z.1)
 
     outcomes_left : (a k : ℕ) (shards : List Shard) (dones : List ShardDone)
-        → AllZip (IsShardOf workers rs) (range_with_len a k) shards → AllZip (IsShardDone before) shards dones
-        → (xs : List Outcome) → written_from dones xs ≡ written_all workers (range_with_len a k) rs
-        (outcomes_all rs (opened (λ s. map shape_of (before s)))) xs
+        → AllZip (IsShardOf workers rs layout) (range_with_len a k) shards → AllZip (IsShardDone before) shards dones
+        → (xs : List Outcome) → written_from dones xs
+        ≡ written_all workers a (map sources_in shards) rs (opened (λ s. map shape_of (before s))) xs
     outcomes_left a zero [] [] p z xs = refl
     outcomes_left a k [] (d ∷ dones) p z xs = absurd z
     outcomes_left a zero (s ∷ shards) dones p z xs = absurd p
     outcomes_left a (suc k) [] dones p z xs = absurd p
     outcomes_left a k (s ∷ shards) [] p z xs = absurd z
     outcomes_left a (suc k) (s ∷ shards) (d ∷ dones) p z xs =
-        ap (λ os. written_from dones (written os xs)) (shard_outcomes_at workers a ops g before s d p.0 z.0)
+        ap (λ os. written_from dones (written os xs)) (shard_outcomes_at workers a ops g layout before s d p.0 z.0)
         ∙ outcomes_left (a + 1) k shards dones p.1 z.1 _
+
+all_shards : (shards : List Shard) → all_sources (map sources_in shards) ≡ flat_map sources_in shards
+all_shards [] = refl
+all_shards (s ∷ shards) = ap (λ l. sources_in s ++ l) (all_shards shards)
+
+as_many : {A B : Type 0} (R : A → B → Type 0) (xs : List A) (ys : List B) → AllZip R xs ys → length ys ≡ length xs
+as_many R [] [] z = refl
+as_many R [] (y ∷ ys) z = absurd z
+as_many R (x ∷ xs) [] z = absurd z
+as_many R (x ∷ xs) (y ∷ ys) z = ap suc (as_many R xs ys z.1)
 
 left_more : (bs : List (List NamedOp)) (b : List NamedOp) (g : Graph) → left_by (bs ++ b ∷ []) g ≡ after_all b (left_by bs g)
 left_more [] b g = refl
@@ -311,7 +324,7 @@ no_more limit n never =
 -- The next version
 
 module _ (v : VersionView) (ops : List NamedOp) (workers : ℕ) (positive : 0 < workers) (is : IsVersion v)
-    (shards : List Shard) (planned : ArePlanned workers ops (content v) shards)
+    (shards : List Shard) (planned : ArePlanned workers ops (content v) (layout_of v.rows) shards)
     (dones : List ShardDone) (done : AllZip (IsShardDone (row_of v.rows)) shards dones) where
   abbrev g : Graph
   g = content v
@@ -331,8 +344,8 @@ module _ (v : VersionView) (ops : List NamedOp) (workers : ℕ) (positive : 0 < 
     layout_next s =
         ap (map shape_of) (among s)
         ∙ among_is (λ s row. map shape_of row ≡ layout_after ops g (layout_of v.rows) s) s (rows_left dones) (row_of v.rows s)
-        (layouts_left (row_of v.rows) workers ops g 0 workers shards dones planned done)
-        (λ none. sym (quiet_layout workers ops g positive shards planned (layout_of v.rows) s
+        (layouts_left (row_of v.rows) workers ops g (layout_of v.rows) 0 workers shards dones planned done)
+        (λ none. sym (quiet_layout workers ops g (layout_of v.rows) positive shards planned s
         (ap (times s) (sym (sources_left (row_of v.rows) shards dones done)) ∙ none)))
 
     pub births_next : (f h : BlockView → ℕ) (n s : ℕ)
@@ -342,10 +355,10 @@ module _ (v : VersionView) (ops : List NamedOp) (workers : ℕ) (positive : 0 < 
         ap (map h) (among s)
         ∙ among_is (λ s row. All (λ b. h b ≡ f b) (row_of v.rows s)
         → map h row ≡ births_end n (open_row ops g (layout_of v.rows) s) (map f (row_of v.rows s))) s (rows_left dones) (row_of v.rows s)
-        (births_left (row_of v.rows) workers ops g f h n 0 workers shards dones each planned done)
+        (births_left (row_of v.rows) workers ops g (layout_of v.rows) f h n 0 workers shards dones each planned done)
         (λ none same. map_same h f (row_of v.rows s) same
         ∙ sym (ap (λ row. births_end n row (map f (row_of v.rows s)))
-        (quiet_row workers ops g positive shards planned (layout_of v.rows) s
+        (quiet_row workers ops g (layout_of v.rows) positive shards planned s
         (ap (times s) (sym (sources_left (row_of v.rows) shards dones done)) ∙ none))
         ∙ untouched_births f n (row_of v.rows s))) old
 
@@ -353,12 +366,12 @@ module _ (v : VersionView) (ops : List NamedOp) (workers : ℕ) (positive : 0 < 
         ≡ count_by q (dropped_births ops g (layout_of v.rows) (λ s. map f (row_of v.rows s)) (length (after_all ops g).names))
     dropped_next f q =
         count_pieces q f (λ (d : ShardDone). blocks_of d.left.dropped.items) dones
-        ∙ together_at workers ops g (row_of v.rows) (λ s row. count_by q (births_dropped row (map f (row_of v.rows s))))
+        ∙ together_at workers ops g (layout_of v.rows) (row_of v.rows) (λ s row. count_by q (births_dropped row (map f (row_of v.rows s))))
         (λ d. count_by q (map f (blocks_of d.left.dropped.items)))
         (λ s x is. ap (count_by q) (is.dropped_births f)
         ∙ count_lists q (λ source. births_dropped (rows_by (row_of v.rows) s source) (map f (row_of v.rows source)))
         (sources_in s)) 0 workers shards dones planned done
-        ∙ births_sum workers ops g positive shards planned (layout_of v.rows)
+        ∙ births_sum workers ops g (layout_of v.rows) positive shards planned is.within is.rows.layout
         (λ s row. count_by q (births_dropped row (map f (row_of v.rows s))))
         (λ m. ap (count_by q) (untouched_dropped (layout_of v.rows m) (map f (row_of v.rows m))))
         ∙ sym (count_births q ops g (layout_of v.rows) (λ s. map f (row_of v.rows s)) (length (after_all ops g).names))
@@ -372,7 +385,8 @@ module _ (v : VersionView) (ops : List NamedOp) (workers : ℕ) (positive : 0 < 
     pub exchanged_next : Exchanges (rows.blocks_of v.rows) (rows.blocks_of after) (taken_left dones) (dropped_left dones)
     exchanged_next =
         exchanged_all xs (rows_left dones) v.rows after (length (after_all ops g).names)
-        (λ m. all_once workers ops g 0 workers m shards planned) (all_within workers ops g 0 workers shards planned)
+        (λ m. all_once workers ops g (layout_of v.rows) 0 workers m shards planned)
+        (all_within workers ops g (layout_of v.rows) is.within is.rows.layout 0 workers shards planned)
         (sources_left (row_of v.rows) shards dones done) among (taken_left dones) (dropped_left dones)
         (exchanged_left (row_of v.rows) shards dones done)
 
@@ -380,9 +394,17 @@ module _ (v : VersionView) (ops : List NamedOp) (workers : ℕ) (positive : 0 < 
         → count_by q (fresh_all shards) + count_by q rest ≡ count_by q numbers)
         (distinct : AllPairs (λ a b. a ≢ b) numbers)
         (unlisted : All (λ n. is_in n (rows.numbers_of (rows.blocks_of v.rows)) ≡ false) numbers)
-        (limits : MeetsNeitherLimit ops g) (few : length v.batches < batch_limit) where
+        (limits : MeetsNeitherLimit ops g) (few : length v.batches < batch_limit) (short : length ops ≤ operation_limit) where
       few_taken : (m : ℕ) → times m (taken_left dones) ≤ times m numbers
       few_taken m = omega (arith, handed (λ x. x == m), handed_left (row_of v.rows) shards dones done (λ x. x == m))
+
+      abbrev over : List ℕ
+      over = range_with_len 0 (length (after_all ops g).names)
+
+      laid : IsLayoutOf (layout_after ops g (layout_of v.rows)) (after_all ops g).edges
+          × (outcomes_all over (resolved ops g.names g.kinds) (opened (layout_of v.rows)) ≡ outcomes ops g)
+          × IsWithin (after_all ops g)
+      laid = batch_layout ops g (layout_of v.rows) (length (after_all ops g).names) is.within is.rows.layout (omega arith)
 
       numbers_next : AllPairs (λ a b. a ≢ b) (rows.numbers_of (rows.blocks_of after))
       numbers_next =
@@ -394,7 +416,6 @@ module _ (v : VersionView) (ops : List NamedOp) (workers : ℕ) (positive : 0 < 
 
       pub version_next : IsVersion (next after)
       version_next =
-          let laid = batch_layout ops g (layout_of v.rows) is.within is.rows.layout in
           record {
             rows = subst (λ h. AreRowsOf h after) (sym (content_next after)) (record {
               layout = record {
@@ -416,14 +437,19 @@ module _ (v : VersionView) (ops : List NamedOp) (workers : ℕ) (positive : 0 < 
 
       outcomes_next : written_from dones (replicate (length ops) Absent) ≡ outcomes ops g
       outcomes_next =
-          let laid = batch_layout ops g (layout_of v.rows) is.within is.rows.layout in
           let rs : List Resolved = resolved ops g.names g.kinds in
-          let ys : List Outcome = outcomes_all rs (opened (layout_of v.rows)) in
-          outcomes_left (row_of v.rows) workers ops g 0 workers shards dones planned done (replicate (length ops) Absent)
-          ∙ all_written workers positive rs ys (replicate (length ops) Absent)
-          (length-outcomes_all rs (opened (layout_of v.rows)))
-          (length-replicate (length ops) Absent ∙ sym (length-resolved ops g.names g.kinds))
-          ∙ laid.1
+          let rows : ℕ → List OpenBlock = opened (layout_of v.rows) in
+          let lists : List (List ℕ) = map sources_in shards in
+          let many : length lists ≡ workers = length-map shards sources_in ∙ as_many (IsShardOf workers rs (layout_of v.rows))
+          (range_with_len 0 workers) shards planned ∙ length-range_with_len 0 workers in
+          outcomes_left (row_of v.rows) workers ops g (layout_of v.rows) 0 workers shards dones planned done
+          (replicate (length ops) Absent)
+          ∙ ap (λ (n : ℕ). written_all workers 0 lists rs rows (replicate n Absent)) (sym (length-resolved ops g.names g.kinds))
+          ∙ all_written workers positive lists many rs rows
+          ∙ ap (λ (xs : List ℕ). map told (outcomes_all xs rs rows)) (all_shards shards)
+          ∙ ap (map told) (outcomes_over workers ops g (layout_of v.rows) positive shards planned is.within is.rows.layout
+          ∙ laid.1)
+          ∙ told_exact ops g (omega (arith, few_total v is, short))
 
       -- what apply answers
       pub applied : (a : Applied) → a.version ≡ next after → a.outcomes.items ≡ written_from dones (replicate (length ops) Absent)
@@ -431,7 +457,8 @@ module _ (v : VersionView) (ops : List NamedOp) (workers : ℕ) (positive : 0 < 
           ++ unused_left dones
           → IsApplied v ops numbers a
       applied a ver out taken dropped unused =
-          let totals = batch_totals workers ops g (row_of v.rows) shards dones positive planned done in
+          let totals = batch_totals workers ops g (row_of v.rows) shards dones positive is.within is.rows.layout planned
+          done in
           record {
             version = subst IsVersion (sym ver) version_next;
             opening = ap (λ (w : VersionView). w.opening) ver;
@@ -465,22 +492,23 @@ module _ (v : VersionView) (ops : List NamedOp) (workers : ℕ) (positive : 0 < 
           }
 
 -- The next version by the jobs of a plan's shards
-module _ (v : VersionView) (ops : List NamedOp) (workers : ℕ) (shards : List Shard) (jobs : List Job) (dones : List ShardDone)
-    (numbers rest : List ℕ)
-    (positive : 0 < workers) (is : IsVersion v) (planned : ArePlanned workers ops (content v) shards)
-    (dealt : AllZip IsDealt shards jobs)
+module _ (v : VersionView) (ops : List NamedOp) (workers : ℕ) (shards : List Shard) (needs : List ℕ) (jobs : List Job)
+    (dones : List ShardDone) (numbers rest : List ℕ)
+    (positive : 0 < workers) (is : IsVersion v) (planned : ArePlanned workers ops (content v) (layout_of v.rows) shards)
+    (needs_are : needs ≡ map (needs_of (row_of v.rows)) shards) (dealt : AllZip IsDealt (zip shards needs) jobs)
     (done : AreDone (row_of v.rows) jobs dones)
     (handed : (q : ℕ → Bool) → count_by q (flat_map (λ j. numbers_of j.shard.fresh.items) jobs) + count_by q rest
     ≡ count_by q numbers)
     (distinct : AllPairs (λ a b. a ≢ b) numbers)
     (unlisted : All (λ n. is_in n (rows.numbers_of (rows.blocks_of v.rows)) ≡ false) numbers)
-    (limits : MeetsNeitherLimit ops (content v)) (few : length v.batches < batch_limit)
+    (limits : MeetsNeitherLimit ops (content v)) (few : length v.batches < batch_limit) (short : length ops ≤ operation_limit)
     (after : List (List BlockView)) (among : (s : ℕ) → row_of after s ≡ row_among (rows_left dones) s (row_of v.rows s)) where
   abbrev with_fresh : List Shard
   with_fresh = shards_in jobs
 
-  planned_jobs : ArePlanned workers ops (content v) with_fresh
-  planned_jobs = dealt_planned workers (resolved ops (content v).names (content v).kinds) 0 workers shards jobs planned dealt
+  planned_jobs : ArePlanned workers ops (content v) (layout_of v.rows) with_fresh
+  planned_jobs = dealt_planned workers (resolved ops (content v).names (content v).kinds) (layout_of v.rows) (row_of v.rows) 0
+      workers shards needs jobs needs_are planned dealt
 
   handed_jobs : (q : ℕ → Bool) → count_by q (fresh_all with_fresh) + count_by q rest ≡ count_by q numbers
   handed_jobs q = ap (λ ns. count_by q ns + count_by q rest) (sym (fresh_in jobs)) ∙ handed q
@@ -488,12 +516,12 @@ module _ (v : VersionView) (ops : List NamedOp) (workers : ℕ) (shards : List S
   pub version_made : IsVersion (record { opening = v.opening; batches = v.batches ++ ops ∷ []; rows = after })
   version_made =
       version_next v ops workers positive is with_fresh planned_jobs dones (done_in (row_of v.rows) jobs dones done) after among
-      numbers rest handed_jobs distinct unlisted limits few
+      numbers rest handed_jobs distinct unlisted limits few short
 
   pub outcomes_made : written_from dones (replicate (length ops) Absent) ≡ outcomes ops (content v)
   outcomes_made =
       outcomes_next v ops workers positive is with_fresh planned_jobs dones (done_in (row_of v.rows) jobs dones done) after among
-      numbers rest handed_jobs distinct unlisted limits few
+      numbers rest handed_jobs distinct unlisted limits few short
 
   pub applied_made : (a : Applied) → a.version ≡ record { opening = v.opening; batches = v.batches ++ ops ∷ []; rows = after }
       → a.outcomes.items ≡ written_from dones (replicate (length ops) Absent)
@@ -502,7 +530,7 @@ module _ (v : VersionView) (ops : List NamedOp) (workers : ℕ) (shards : List S
       → IsApplied v ops numbers a
   applied_made =
       applied v ops workers positive is with_fresh planned_jobs dones (done_in (row_of v.rows) jobs dones done) after among
-      numbers rest handed_jobs distinct unlisted limits few
+      numbers rest handed_jobs distinct unlisted limits few short
 
 -- The drafts of the next version
 

@@ -1,7 +1,8 @@
 -- How many edges operations leave: as many as before, with one more for each that was inserted and one less for each that
--- was removed.
+-- was removed or has expired.
 use Rattle.std.proofs.Common.{◌≡◌, ℕ, zero, suc, ◌+◌, ◌-◌, ◌<◌, true, false, cond, List, [], ◌∷◌, refl, sym, ap, ◌∙◌, arith}
 use Rattle.std.specs.Prelude.{◌+ℤ◌, count_by, if◌then◌else◌}
+use Rattle.std.specs.List.{sum_by}
 use Rattle.std.proofs.lemmas.Bool.{true≢false}
 use Rattle.std.proofs.lemmas.List.Sums.{sum_by-cons}
 use Rattle.std.specs.declared.option.Option.{Option}
@@ -13,13 +14,14 @@ use Rattle.graph_model.specs.Graph.{Graph, Key, Stamp, key_cmp}
 use Rattle.graph_model.specs.Step.{after, outcome, after_all, outcomes, stamp_after, outcome_at, set_at, changed, changed_key}
 use Rattle.graph_model.specs.Step.{change_outcome}
 use Rattle.graph_model.specs.declared.batches.NamedOp.{NamedOp}
-use Rattle.graph_model.specs.declared.batches.NamedOp.TheVariants.{Insert, Incr, Remove}
+use Rattle.graph_model.specs.declared.batches.NamedOp.TheVariants.{Insert, Incr, Remove, Expire}
 use Rattle.graph_model.specs.declared.batches.Outcome.{Outcome}
 use Rattle.graph_model.specs.declared.batches.Outcome.TheVariants.{Updated, Overflow}
 use Rattle.graph_model.specs.declared.changes.EdgeChange.{EdgeChange}
 use Rattle.graph_model.specs.declared.changes.EdgeChange.TheVariants.{Insert as ToInsert, Incr as ToIncr, Remove as ToRemove}
 use Rattle.graph_model.proofs.Keys.{keys_total}
-use Rattle.batch_apply.specs.Counts.{is_inserted, is_removed}
+use Rattle.graph_model.proofs.Expiry.{fewer}
+use Rattle.batch_apply.specs.Counts.{is_inserted, taken_away}
 
 -- how many edges there are with a stamp at a key
 inserted_len : (edges : FinMap key_cmp Stamp) (key : Key) (stamp : Stamp) (before : Option Stamp) → get edges key ≡ before
@@ -49,7 +51,7 @@ removed_len edges key (Some e) at =
 
 -- what a change does at one key
 at_key : (change : EdgeChange) (edges : FinMap key_cmp Stamp) (key : Key) (before : Option Stamp) → get edges key ≡ before
-    → len (set_at edges key (stamp_after change before)) + cond (is_removed (outcome_at change before)) 1 0
+    → len (set_at edges key (stamp_after change before)) + taken_away (outcome_at change before)
     ≡ len edges + cond (is_inserted (outcome_at change before)) 1 0
 at_key (ToInsert weight time) edges key None at =
     omega (arith, inserted_len edges key (record { weight = weight; first = time; recent = time }) None at)
@@ -60,7 +62,7 @@ at_key (ToIncr amount time) edges key None at =
 at_key (ToIncr amount time) edges key (Some e) at =
     elim (is_weight (e.weight +ℤ amount)) as (λ b.
     len (set_at edges key (if b then Some (record e { weight = e.weight +ℤ amount; recent = time }) else Some e))
-    + cond (is_removed (if b then Updated else Overflow)) 1 0
+    + taken_away (if b then Updated else Overflow)
     ≡ len edges + cond (is_inserted (if b then Updated else Overflow)) 1 0) [
       | true ↦ omega (arith, inserted_len edges key (record e { weight = e.weight +ℤ amount; recent = time }) (Some e) at)
       | false ↦ omega (arith, inserted_len edges key e (Some e) at)
@@ -69,24 +71,25 @@ at_key ToRemove edges key None at = omega (arith, removed_len edges key None at)
 at_key ToRemove edges key (Some e) at = omega (arith, removed_len edges key (Some e) at)
 
 changed_len : (change : EdgeChange) (kind source target : List ℕ) (g : Graph)
-    → len (changed change kind source target g).edges + cond (is_removed (change_outcome change kind source target g)) 1 0
+    → len (changed change kind source target g).edges + taken_away (change_outcome change kind source target g)
     ≡ len g.edges + cond (is_inserted (change_outcome change kind source target g)) 1 0
 changed_len change kind source target g =
     at_key change g.edges (changed_key change kind source target g) (get g.edges (changed_key change kind source target g)) refl
 
-op_len : (op : NamedOp) (g : Graph)
-    → len (after op g).edges + cond (is_removed (outcome op g)) 1 0 ≡ len g.edges + cond (is_inserted (outcome op g)) 1 0
+pub op_len : (op : NamedOp) (g : Graph)
+    → len (after op g).edges + taken_away (outcome op g) ≡ len g.edges + cond (is_inserted (outcome op g)) 1 0
 op_len (Insert kind source target weight time) g = changed_len (ToInsert weight time) kind source target g
 op_len (Incr kind source target amount time) g = changed_len (ToIncr amount time) kind source target g
 op_len (Remove kind source target) g = changed_len ToRemove kind source target g
+op_len (Expire time) g = omega (arith, fewer time g.edges)
 
 pub len_after_all : (ops : List NamedOp) (g : Graph)
-    → len (after_all ops g).edges + count_by is_removed (outcomes ops g) ≡ len g.edges + count_by is_inserted (outcomes ops g)
+    → len (after_all ops g).edges + sum_by taken_away (outcomes ops g) ≡ len g.edges + count_by is_inserted (outcomes ops g)
 len_after_all [] g = refl
 len_after_all (op ∷ ops) g = omega (
   arith,
   op_len op g,
   len_after_all ops (after op g),
-  sum_by-cons (λ (o : Outcome). cond (is_removed o) 1 0) (outcome op g) (outcomes ops (after op g)),
+  sum_by-cons taken_away (outcome op g) (outcomes ops (after op g)),
   sum_by-cons (λ (o : Outcome). cond (is_inserted o) 1 0) (outcome op g) (outcomes ops (after op g)),
 )

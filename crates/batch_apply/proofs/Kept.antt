@@ -72,7 +72,7 @@ sum_same f h (x ∷ xs) all =
     sum_by-cons f x xs ∙ ap₂ (λ a b. a + b) (All-head (λ x. f x ≡ h x) x xs all)
     (sum_same f h xs (All-tail (λ x. f x ≡ h x) x xs all)) ∙ sym (sum_by-cons h x xs)
 
-sum_lists : {A : Type 0} (p : A → Bool) (h : ℕ → List A) (xs : List ℕ)
+pub sum_lists : {A : Type 0} (p : A → Bool) (h : ℕ → List A) (xs : List ℕ)
     → sum_by (λ s. count_by p (h s)) xs ≡ count_by p (flat_map h xs)
 sum_lists p h [] = refl
 sum_lists p h (x ∷ xs) =
@@ -90,7 +90,7 @@ split_count p false row = omega arith
 
 module _ (xs : List ℕ) (once : (m : ℕ) → times m xs ≤ 1) where
   -- all blocks are those of the sources that aren't listed and those of the listed ones
-  split_rows : (p : BlockView → Bool) (rows : List (List BlockView)) (n : ℕ) → length rows ≤ n → All (λ x. x < n) xs
+  pub split_rows : (p : BlockView → Bool) (rows : List (List BlockView)) (n : ℕ) → length rows ≤ n → All (λ x. x < n) xs
       → count_by p (blocks_of rows) ≡ count_by p (lists_below n (others xs (row_of rows))) + count_by p
       (flat_map (row_of rows) xs)
   split_rows p rows n le within =

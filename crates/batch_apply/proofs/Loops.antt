@@ -1,5 +1,5 @@
 -- What loops have done, with one more.
-use Rattle.std.proofs.Common.{◌≡◌, ℕ, zero, suc, ◌+◌, ◌≤◌, ◌==◌, Bool, cond, List, [], ◌∷◌, ◌++◌, length, flat_map}
+use Rattle.std.proofs.Common.{◌≡◌, ℕ, zero, suc, ◌+◌, ◌≤◌, ◌==◌, Bool, cond, List, [], ◌∷◌, ◌++◌, length, flat_map, get_or}
 use Rattle.std.proofs.Common.{count_by, set, take, drop, refl, sym, ap, ◌∙◌}
 use Rattle.std.specs.declared.sync.Arc.{Arc}
 use Rattle.std.specs.declared.alloc.Global.{Global}
@@ -14,19 +14,23 @@ use Rattle.shard_work.specs.RowBlocks.{block_of, blocks_of, numbers_of}
 use Rattle.shard_work.specs.Closing.{row_values}
 use Rattle.shard_work.specs.declared.shard.ShardDone.{ShardDone}
 use Rattle.graph_version.specs.Drafts.{DraftView, ReplacesRow}
+use Rattle.graph_model.specs.declared.batches.Outcome.TheVariants.{Absent}
+use Rattle.block_layout.specs.Batches.{together}
 use Rattle.batch_apply.specs.Plans.{written}
+use Rattle.shard_work.specs.Groups.{told}
 use Rattle.batch_apply.specs.Applied.{ReplacesRows, written_from, row_among}
 use Rattle.batch_apply.proofs.Kept.{count_append}
 use Rattle.batch_apply.proofs.Placed.{among_more}
 
-pub written_more : {A : Type 0} (ps : List (ℕ × A)) (p : ℕ × A) (xs : List A)
-    → written (ps ++ p ∷ []) xs ≡ set (written ps xs) p.0 p.1
+pub written_more : (ps : List (ℕ × Outcome)) (p : ℕ × Outcome) (xs : List Outcome)
+    → written (ps ++ p ∷ []) xs ≡ set (written ps xs) p.0 (told (together (get_or (written ps xs) p.0 Absent) p.1))
 written_more [] p xs = refl
-written_more (x ∷ ps) p xs = written_more ps p (set xs x.0 x.1)
+written_more (x ∷ ps) p xs = written_more ps p (set xs x.0 (told (together (get_or xs x.0 Absent) x.1)))
 
-pub written_past : {A : Type 0} (ps : List (ℕ × A)) (p : ℕ × A) (xs : List A) → length (written ps xs) ≤ p.0
+pub written_past : (ps : List (ℕ × Outcome)) (p : ℕ × Outcome) (xs : List Outcome) → length (written ps xs) ≤ p.0
     → written (ps ++ p ∷ []) xs ≡ written ps xs
-written_past ps p xs past = written_more ps p xs ∙ set_past (written ps xs) p.0 p.1 past
+written_past ps p xs past = written_more ps p xs
+    ∙ set_past (written ps xs) p.0 (told (together (get_or (written ps xs) p.0 Absent) p.1)) past
 
 pub from_more : (ds : List ShardDone) (d : ShardDone) (xs : List Outcome)
     → written_from (ds ++ d ∷ []) xs ≡ written d.outcomes.items (written_from ds xs)

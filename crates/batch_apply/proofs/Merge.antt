@@ -2,14 +2,15 @@
 use Rattle.std.proofs.Common.{◌≡◌, ℕ, ◌+◌, ◌%◌, ◌==◌, List, [], ◌∷◌, map, filter, zip, Bool, true, false, cond, refl, ap}
 use Rattle.std.proofs.Common.{◌∙◌, All}
 use Rattle.std.specs.List.{enumerate_from}
-use Rattle.std.proofs.lemmas.List.Elements.{All-head, All-tail}
 use Rattle.graph_model.specs.Graph.{Graph}
 use Rattle.graph_model.specs.declared.batches.NamedOp.{NamedOp}
-use Rattle.block_layout.specs.Rows.{Shape, OpenBlock, untouched, row_end}
-use Rattle.block_layout.specs.Batches.{Resolved, resolved, is_in_shard, shard_ops, picked, rows_all, rows_step, outcomes_all}
-use Rattle.block_layout.specs.Batches.{opened, layout_after, acts_on, row_step}
+use Rattle.block_layout.specs.Rows.{Shape, untouched, row_end}
+use Rattle.block_layout.specs.Batches.{Resolved, resolved, is_in_shard, shard_ops, picked, rows_all, outcomes_all}
+use Rattle.block_layout.specs.Batches.{opened, layout_after}
 use Rattle.block_layout.proofs.ShardLaws.{shard_rows, shard_outcomes}
+use Rattle.graph_model.specs.declared.batches.Outcome.{Outcome}
 use Rattle.batch_apply.specs.Plans.{placed_ops, shard_at, ops_of}
+use Rattle.shard_work.specs.Groups.{told}
 
 -- a shard of placed operations is the shard of the operations
 shard_is : (p : Resolved → Bool) (rs : List Resolved) (k : ℕ) → map (λ x. x.1) (filter (λ x. p x.1) (enumerate_from k rs))
@@ -41,6 +42,17 @@ placed_results p (r ∷ rs) (y ∷ ys) k =
       | false ↦ placed_results p rs ys (k + 1)
     ]
 
+map_picked : {A B : Type 0} (f : B → B) (p : A → Bool) (xs : List A) (ys : List B)
+    → map f (picked p xs ys) ≡ picked p xs (map f ys)
+map_picked f p [] ys = refl
+map_picked f p (x ∷ xs) [] = refl
+map_picked f p (x ∷ xs) (y ∷ ys) =
+    elim (p x) as (λ b. map f (cond b (y ∷ picked p xs ys) (picked p xs ys))
+    ≡ cond b (f y ∷ picked p xs (map f ys)) (picked p xs (map f ys))) [
+      | true ↦ ap (λ l. f y ∷ l) (map_picked f p xs ys)
+      | false ↦ map_picked f p xs ys
+    ]
+
 module _ (workers w : ℕ) (ops : List NamedOp) (g : Graph) (layout : ℕ → List Shape) where
   abbrev shard : List (ℕ × Resolved)
   shard = shard_at workers (placed_ops ops g) w
@@ -55,30 +67,20 @@ module _ (workers w : ℕ) (ops : List NamedOp) (g : Graph) (layout : ℕ → Li
       ap (λ rs. row_end (rows_all rs (opened layout) source)) same_ops
       ∙ ap row_end (shard_rows workers w ops g.names g.kinds (opened layout) source is)
 
-  -- a shard's outcomes stand at their places of the batch's
-  pub shard_places : zip (map (λ x. x.0) shard) (outcomes_all (ops_of shard) (opened layout))
+  -- a shard's outcomes over some of its sources stand at their places of the batch's over these
+  pub shard_places : (sources : List ℕ) → All (λ s. (s % workers == w) ≡ true) sources
+      → zip (map (λ x. x.0) shard) (map told (outcomes_all sources (ops_of shard) (opened layout)))
       ≡ picked (λ (x : ℕ × Resolved). is_in_shard workers w x.1) (placed_ops ops g)
-      (enumerate_from 0 (outcomes_all (resolved ops g.names g.kinds) (opened layout)))
-  shard_places =
-      ap (λ rs. zip (map (λ x. x.0) shard) (outcomes_all rs (opened layout))) same_ops
-      ∙ ap (zip (map (λ x. x.0) shard)) (shard_outcomes workers w ops g.names g.kinds (opened layout))
-      ∙ placed_results (is_in_shard workers w) (resolved ops g.names g.kinds)
-      (outcomes_all (resolved ops g.names g.kinds) (opened layout)) 0
+      (enumerate_from 0 (map told (outcomes_all sources (resolved ops g.names g.kinds) (opened layout))))
+  shard_places sources own =
+      let all : List Outcome = outcomes_all sources (resolved ops g.names g.kinds) (opened layout) in
+      ap (λ rs. zip (map (λ x. x.0) shard) (map told (outcomes_all sources rs (opened layout)))) same_ops
+      ∙ ap (λ os. zip (map (λ x. x.0) shard) (map told os))
+      (shard_outcomes workers w ops g.names g.kinds (opened layout) sources own)
+      ∙ ap (zip (map (λ x. x.0) shard)) (map_picked told (is_in_shard workers w) (resolved ops g.names g.kinds) all)
+      ∙ placed_results (is_in_shard workers w) (resolved ops g.names g.kinds) (map told all) 0
 
--- a row that no operation names stays
+-- a row that is left as it is
 pub kept_all : (row : List Shape) → row_end (map untouched row) ≡ row
 kept_all [] = refl
 kept_all (b ∷ row) = ap (λ xs. b ∷ xs) (kept_all row)
-
-pub unnamed_rows : (rs : List Resolved) (rows : ℕ → List OpenBlock) (source : ℕ) → All (λ r. acts_on source r ≡ false) rs
-    → rows_all rs rows source ≡ rows source
-unnamed_rows [] rows source h = refl
-unnamed_rows (r ∷ rs) rows source h =
-    unnamed_rows rs (rows_step r rows) source (All-tail (λ r. acts_on source r ≡ false) r rs h)
-    ∙ ap (λ b. cond b (row_step r (rows source)) (rows source))
-    (All-head (λ r. acts_on source r ≡ false) r rs h)
-
-pub unnamed_layout : (ops : List NamedOp) (g : Graph) (layout : ℕ → List Shape) (source : ℕ)
-    → All (λ r. acts_on source r ≡ false) (resolved ops g.names g.kinds) → layout_after ops g layout source ≡ layout source
-unnamed_layout ops g layout source h = ap row_end (unnamed_rows (resolved ops g.names g.kinds) (opened layout) source h)
-    ∙ kept_all (layout source)

@@ -1,9 +1,9 @@
 -- The blocks that all workers take and drop are those of the batch.
 use Rattle.std.proofs.Common.{◌≡◌, ◌≢◌, ℕ, zero, suc, ◌+◌, ◌%◌, ◌<◌, ◌≤◌, ◌==◌, List, [], ◌∷◌, ◌++◌, length, map, flat_map}
 use Rattle.std.proofs.Common.{get_or, count_by, true, false, cond, refl, sym, ap, ap₂, ◌∙◌, arith, subst, Option, Some}
-use Rattle.std.proofs.Common.{None, All, AllPairs, mod-lt, zip}
-use Rattle.std.specs.List.{sum_by, range_with_len, AllZip}
-use Rattle.std.proofs.lemmas.Bool.{eqb-true, eqb-false, false_from_ne_true, true_from_ne_false}
+use Rattle.std.proofs.Common.{None, All, AllPairs, mod-lt, zip, ◌||◌}
+use Rattle.std.specs.List.{sum_by, range_with_len, AllZip, list_any}
+use Rattle.std.proofs.lemmas.Bool.{eqb-true, eqb-false, false_from_ne_true, true_from_ne_false, true≢false}
 use Rattle.std.proofs.lemmas.List.{length-map, get_or-map}
 use Rattle.std.proofs.lemmas.List.Sums.{sum_by-cons, sum_by-append}
 use Rattle.std.proofs.lemmas.List.Elements.{All-head, All-tail, All-cons, All-nil, All-append, All-map}
@@ -11,23 +11,28 @@ use Rattle.graph_model.specs.Graph.{Graph}
 use Rattle.graph_model.specs.Step.{after_all}
 use Rattle.graph_model.specs.declared.batches.NamedOp.{NamedOp}
 use Rattle.block_layout.specs.Rows.{Shape, OpenBlock, untouched, taken_in, dropped_in, shape_of, row_end}
-use Rattle.block_layout.specs.Batches.{Resolved, AtKey, resolved, is_in_shard, shard_ops, rows_all, opened, key_is_of}
-use Rattle.block_layout.specs.Batches.{acts_on, taken_by, dropped_by, outcomes_all, layout_after, sum_below}
+use Rattle.block_layout.specs.Batches.{Resolved, AtKey, InAll, resolved, is_in_shard, shard_ops, rows_all, opened, key_is_of}
+use Rattle.block_layout.specs.Batches.{taken_by, dropped_by, outcomes_all, layout_after, sum_below, IsWithin, IsLayoutOf}
 use Rattle.shard_work.specs.Births.{births_end}
 use Rattle.graph_version.specs.Versions.{is_in}
-use Rattle.shard_work.specs.Shards.{IsPlace, key_at, resolved_at}
+use Rattle.shard_work.specs.Shards.{IsAct, IsPlace, key_at, resolved_at}
+use Rattle.shard_work.specs.declared.shard.Act.{Act}
+use Rattle.shard_work.specs.declared.shard.Act.TheVariants.{Edge, Expire}
 use Rattle.shard_work.specs.Done.{IsShardDone, sources_in, steps_in, rows_by, layout_by, sum_of}
 use Rattle.shard_work.specs.declared.shard.Shard.{Shard}
 use Rattle.shard_work.specs.declared.shard.ShardDone.{ShardDone}
 use Rattle.shard_work.specs.declared.shard.Step.{Step}
 use Rattle.shard_work.specs.declared.shard.Place.{Place}
-use Rattle.batch_plan.specs.Shards.{acts, unsourced, IsShardOf}
-use Rattle.batch_apply.specs.Plans.{results}
+use Rattle.std.specs.Prelude.{nat_eq}
+use Rattle.batch_plan.specs.Shards.{acts, unsourced, latest, is_old_row, IsShardOf}
+use Rattle.batch_apply.specs.Plans.{results, told}
+use Rattle.batch_apply.proofs.Spared.{Spares, KeepsOff, rows_spared, over_all, all_spare, off_all}
+use Rattle.batch_plan.specs.Plan.{ends_all}
+use Rattle.batch_plan.proofs.Resolving.{placed_in, resolved_is}
 use Rattle.batch_apply.specs.Sums.{ArePlanned}
-use Rattle.batch_apply.proofs.Totals.{sum_all, worker_rows, worker_unnamed, count_more, same_outcomes}
+use Rattle.batch_apply.proofs.Totals.{sum_all, worker_rows, none_taken, none_dropped, count_more, same_outcomes}
 use Rattle.batch_plan.proofs.Sources.{sources_within}
-use Rattle.block_layout.proofs.ShardLaws.{shard_rows}
-use Rattle.batch_apply.proofs.Merge.{same_ops, shard_places, unnamed_rows, kept_all}
+use Rattle.batch_apply.proofs.Merge.{same_ops, shard_places, kept_all}
 use Rattle.shard_work.specs.Closing.{row_values}
 use Rattle.edge_block.specs.Slots.{BlockView}
 use Rattle.graph_model.specs.declared.batches.Outcome.{Outcome}
@@ -74,14 +79,17 @@ once m (x ∷ xs) pairs =
       | false ↦ λ t z. omega arith
     ] refl c
 
-module _ (workers : ℕ) (ops : List NamedOp) (g : Graph) where
+module _ (workers : ℕ) (ops : List NamedOp) (g : Graph) (layout : ℕ → List Shape) where
+  abbrev rs : List Resolved
+  rs = resolved ops g.names g.kinds
+
   abbrev pub sources_all : List Shard → List ℕ
   sources_all shards = flat_map sources_in shards
 
   abbrev pub Zipped : ℕ → ℕ → List Shard → Type 0
-  Zipped a k shards = AllZip (IsShardOf workers (resolved ops g.names g.kinds)) (range_with_len a k) shards
+  Zipped a k shards = AllZip (IsShardOf workers (resolved ops g.names g.kinds) layout) (range_with_len a k) shards
 
-  other_worker : (w m : ℕ) (shard : Shard) → IsShardOf workers (resolved ops g.names g.kinds) w shard → (m % workers ≡ w → ⊥)
+  other_worker : (w m : ℕ) (shard : Shard) → IsShardOf workers (resolved ops g.names g.kinds) layout w shard → (m % workers ≡ w → ⊥)
       → times m (sources_in shard) ≡ 0
   other_worker w m shard is ne = no_times m (sources_in shard) (λ k d lt e. ne (ap (λ x. x % workers) (sym e) ∙ is.own k d lt))
 
@@ -114,27 +122,28 @@ module _ (workers : ℕ) (ops : List NamedOp) (g : Graph) where
   abbrev n : ℕ
   n = length (after_all ops g).names
 
-  pub all_within : (a k : ℕ) (shards : List Shard) → Zipped a k shards → All (λ s. s < n) (sources_all shards)
-  all_within a zero [] z = All-nil (λ s. s < n)
-  all_within a zero (s ∷ shards) z = absurd z
-  all_within a (suc k) [] z = absurd z
-  all_within a (suc k) (s ∷ shards) z = All-append (λ s. s < n) (sources_in s) (sources_all shards)
-      (sources_within workers a ops g s z.0) (all_within (a + 1) k shards z.1)
+  pub all_within : IsWithin g → IsLayoutOf layout g.edges → (a k : ℕ) (shards : List Shard) → Zipped a k shards
+      → All (λ s. s < n) (sources_all shards)
+  all_within inside shows a zero [] z = All-nil (λ s. s < n)
+  all_within inside shows a zero (s ∷ shards) z = absurd z
+  all_within inside shows a (suc k) [] z = absurd z
+  all_within inside shows a (suc k) (s ∷ shards) z = All-append (λ s. s < n) (sources_in s) (sources_all shards)
+      (sources_within workers a ops g layout s inside shows z.0) (all_within inside shows (a + 1) k shards z.1)
 
   -- the shard of a worker
   pick : (a k w : ℕ) (shards : List Shard) → Zipped a k shards → a ≤ w → w < a + k
-      → (shard : Shard) × (IsShardOf workers (resolved ops g.names g.kinds) w shard
+      → (shard : Shard) × (IsShardOf workers (resolved ops g.names g.kinds) layout w shard
       × ((m : ℕ) → times m (sources_in shard) ≤ times m (sources_all shards)))
   pick a zero w shards z le lt = absurd (omega arith)
   pick a (suc k) w [] z le lt = absurd z
   pick a (suc k) w (s ∷ shards) z le lt =
       elim (a == w) as (λ b. a == w ≡ b → (shard : Shard)
-      × (IsShardOf workers (resolved ops g.names g.kinds) w shard
+      × (IsShardOf workers (resolved ops g.names g.kinds) layout w shard
       × ((m : ℕ) → times m (sources_in shard) ≤ times m (sources_all (s ∷ shards))))) [
         | true ↦ λ t. (
           s,
           (
-            subst (λ v. IsShardOf workers (resolved ops g.names g.kinds) v s) (eqb-true a w t) z.0,
+            subst (λ v. IsShardOf workers (resolved ops g.names g.kinds) layout v s) (eqb-true a w t) z.0,
             λ m. let both = times_append m (sources_in s) (sources_all shards) in omega arith,
           ),
         )
@@ -151,80 +160,93 @@ module _ (workers : ℕ) (ops : List NamedOp) (g : Graph) where
       ] refl
 
   -- a source that a shard doesn't list is named by none of its operations
-  unlisted : (w m : ℕ) (shard : Shard) → IsShardOf workers (resolved ops g.names g.kinds) w shard
-      → times m (sources_in shard) ≡ 0 → All (λ r. acts_on m r ≡ false) (shard_ops workers w (resolved ops g.names g.kinds))
+  unlisted : (w m : ℕ) (shard : Shard) → IsShardOf workers (resolved ops g.names g.kinds) layout w shard
+      → times m (sources_in shard) ≡ 0 → All (KeepsOff m) (shard_ops workers w (resolved ops g.names g.kinds))
   unlisted w m shard is none =
-      let P : Resolved → Type 0 = λ r. acts_on m r ≡ false in
-      let steps : All P (acts (steps_in shard)) = All-map P unsourced (steps_in shard)
-      (All-map (λ (r : Resolved). P (unsourced r)) (λ (s : Step). resolved_at (sources_in shard) s.change s.place)
+      let steps : All (KeepsOff m) (acts (steps_in shard)) = All-map (KeepsOff m) unsourced (steps_in shard)
+      (All-map (λ (r : Resolved). KeepsOff m (unsourced r)) (λ (s : Step). resolved_at (sources_in shard) s.act)
       shard.steps.items
-      (λ k d lt. one (get_or shard.steps.items k d).place (is.in_range k d lt).0)) in
-      from_acts (shard_ops workers w (resolved ops g.names g.kinds)) (subst (λ as'. All P as') is.acts_are steps)
+      (λ k d lt. one (get_or shard.steps.items k d).act (is.in_range k d lt))) in
+      from_acts (shard_ops workers w (resolved ops g.names g.kinds)) (subst (λ as'. All (KeepsOff m) as') is.acts_are steps)
     where
-      one : (p : Option Place) → IsPlace (length (sources_in shard)) p → key_is_of m (key_at (sources_in shard) p) ≡ false
-      one None h = refl
-      one (Some p) h = false_from_ne_true (m == get_or (sources_in shard) p.row 0) (λ e.
+      at : (p : Option Place) → IsPlace (length (sources_in shard)) p → key_is_of m (key_at (sources_in shard) p) ≡ false
+      at None h = refl
+      at (Some p) h = false_from_ne_true (m == get_or (sources_in shard) p.row 0) (λ e.
           let same : m ≡ get_or (sources_in shard) p.row 0 = eqb-true m (get_or (sources_in shard) p.row 0) e in
           let some = some_times (sources_in shard) p.row 0 h in
           let zero_is : times (get_or (sources_in shard) p.row 0) (sources_in shard) ≡ 0 =
           subst (λ k. times k (sources_in shard) ≡ 0) same none in
           omega arith)
 
-      back : (r : Resolved) → acts_on m (unsourced r) ≡ false → acts_on m r ≡ false
+      one : (act : Act) → IsAct (length (sources_in shard)) act → KeepsOff m (unsourced (resolved_at (sources_in shard) act))
+      one (Edge place change) is_in = at place is_in.0
+      one (Expire time) is_in = tt
+
+      back : (r : Resolved) → KeepsOff m (unsourced r) → KeepsOff m r
       back (AtKey own key change) h = h
+      back (InAll time) h = h
 
-      from_acts : (rs : List Resolved) → All (λ r. acts_on m r ≡ false) (acts rs) → All (λ r. acts_on m r ≡ false) rs
-      from_acts [] all = All-nil (λ (r : Resolved). acts_on m r ≡ false)
-      from_acts (r ∷ rs) all = All-cons (λ (r : Resolved). acts_on m r ≡ false) r rs
-          (back r (All-head (λ (r : Resolved). acts_on m r ≡ false) (unsourced r) (acts rs) all))
-          (from_acts rs (All-tail (λ (r : Resolved). acts_on m r ≡ false) (unsourced r) (acts rs) all))
+      from_acts : (rs : List Resolved) → All (KeepsOff m) (acts rs) → All (KeepsOff m) rs
+      from_acts [] all = All-nil (KeepsOff m)
+      from_acts (r ∷ rs) all = All-cons (KeepsOff m) r rs
+          (back r (All-head (KeepsOff m) (unsourced r) (acts rs) all))
+          (from_acts rs (All-tail (KeepsOff m) (unsourced r) (acts rs) all))
 
-  module _ (positive : 0 < workers) (shards : List Shard) (planned : ArePlanned workers ops g shards)
-      (layout : ℕ → List Shape) where
+  listed_times : (m : ℕ) (xs : List ℕ) → list_any (nat_eq m) xs ≡ true → 1 ≤ times m xs
+  listed_times m [] e = absurd (true≢false (sym e))
+  listed_times m (x ∷ xs) e =
+      let c = count_more (λ y. y == m) x xs in
+      elim (m == x) as (λ b. m == x ≡ b → (b || list_any (nat_eq m) xs) ≡ true → 1 ≤ times m (x ∷ xs)) [
+        | true ↦ λ t f.
+            let yes : (let k : ℕ = cond (x == m) 1 0 in k) ≡ 1 = ap (λ y. cond (y == m) 1 0) (sym (eqb-true m x t))
+            ∙ ap (λ b. cond b 1 0) (same_number m) in omega (arith, c, yes)
+        | false ↦ λ t f. let rest = listed_times m xs f in omega (arith, c, rest)
+      ] refl e
+
+  -- nor has its row an edge that one of the expiries takes
+  no_old : (w m : ℕ) (shard : Shard) → IsShardOf workers (resolved ops g.names g.kinds) layout w shard → m % workers ≡ w
+      → times m (sources_in shard) ≡ 0 → is_old_row (latest rs) (layout m) ≡ false
+  no_old w m shard is own none = false_from_ne_true (is_old_row (latest rs) (layout m)) (λ old.
+      let some = listed_times m (sources_in shard) (is.old_rows m own old) in omega (arith, some, none))
+
+  module _ (positive : 0 < workers) (shards : List Shard) (planned : ArePlanned workers ops g layout shards) where
     abbrev left : ℕ → List OpenBlock
     left = rows_all (resolved ops g.names g.kinds) (opened layout)
 
-    quiet : (m : ℕ) → times m (sources_all shards) ≡ 0 → (taken_in (left m) ≡ 0) × (dropped_in (left m) ≡ 0)
-    quiet m none =
+    -- a source that no shard lists is spared by the batch
+    pub spared : (m : ℕ) → times m (sources_all shards) ≡ 0 → All (Spares m (opened layout m)) rs
+    spared m none =
         let lt = mod-lt m positive in
         let s = pick 0 workers (m % workers) shards planned (omega arith) (omega arith) in
         let few = s.1.1 m in
-        worker_unnamed workers (m % workers) ops g layout m (same_number (m % workers))
-        (unlisted (m % workers) m s.0 s.1.0 (omega arith))
+        let nowhere : times m (sources_in s.0) ≡ 0 = omega arith in
+        all_spare m rs (layout m) (no_old (m % workers) m s.0 s.1.0 refl nowhere)
+        (off_all workers m rs (placed_in rs (ends_all ops g.names) ops g.kinds (sym (resolved_is ops g.names g.kinds)))
+        (unlisted (m % workers) m s.0 s.1.0 nowhere))
 
-    -- a source that no shard lists has the row that it had
-    pub quiet_layout : (m : ℕ) → times m (sources_all shards) ≡ 0 → layout_after ops g layout m ≡ layout m
-    quiet_layout m none =
-        let lt = mod-lt m positive in
-        let s = pick 0 workers (m % workers) shards planned (omega arith) (omega arith) in
-        let few = s.1.1 m in
-        let unnamed = unlisted (m % workers) m s.0 s.1.0 (omega arith) in
-        ap row_end (sym (shard_rows workers (m % workers) ops g.names g.kinds (opened layout) m (same_number (m % workers)))
-        ∙ unnamed_rows (shard_ops workers (m % workers) (resolved ops g.names g.kinds)) (opened layout) m unnamed)
-        ∙ kept_all (layout m)
-
-    -- nor does it get other births, or drop any
+    -- it has the row that it had, with the births that it had
     pub quiet_row : (m : ℕ) → times m (sources_all shards) ≡ 0 → left m ≡ map untouched (layout m)
-    quiet_row m none =
-        let lt = mod-lt m positive in
-        let s = pick 0 workers (m % workers) shards planned (omega arith) (omega arith) in
-        let few = s.1.1 m in
-        let unnamed = unlisted (m % workers) m s.0 s.1.0 (omega arith) in
-        sym (shard_rows workers (m % workers) ops g.names g.kinds (opened layout) m (same_number (m % workers)))
-        ∙ unnamed_rows (shard_ops workers (m % workers) (resolved ops g.names g.kinds)) (opened layout) m unnamed
+    quiet_row m none = rows_spared m rs (opened layout) (spared m none)
 
-    pub births_sum : (f : ℕ → List OpenBlock → ℕ) → ((m : ℕ) → f m (map untouched (layout m)) ≡ 0)
-        → sum_by (λ m. f m (left m)) (sources_all shards) ≡ sum_below n (λ m. f m (left m))
-    births_sum f none = sum_all (λ m. f m (left m)) n (sources_all shards) (λ m. all_once 0 workers m shards planned)
-        (all_within 0 workers shards planned) (λ m lt quiet_m. ap (f m) (quiet_row m quiet_m) ∙ none m)
+    pub quiet_layout : (m : ℕ) → times m (sources_all shards) ≡ 0 → layout_after ops g layout m ≡ layout m
+    quiet_layout m none = ap row_end (quiet_row m none) ∙ kept_all (layout m)
 
-    pub taken_sum : sum_by (λ m. taken_in (left m)) (sources_all shards) ≡ taken_by ops g layout n
-    taken_sum = sum_all (λ m. taken_in (left m)) n (sources_all shards) (λ m. all_once 0 workers m shards planned)
-        (all_within 0 workers shards planned) (λ m lt none. (quiet m none).0)
+    module _ (inside : IsWithin g) (shows : IsLayoutOf layout g.edges) where
+      pub births_sum : (f : ℕ → List OpenBlock → ℕ) → ((m : ℕ) → f m (map untouched (layout m)) ≡ 0)
+          → sum_by (λ m. f m (left m)) (sources_all shards) ≡ sum_below n (λ m. f m (left m))
+      births_sum f none = sum_all (λ m. f m (left m)) n (sources_all shards) (λ m. all_once 0 workers m shards planned)
+          (all_within inside shows 0 workers shards planned) (λ m lt quiet_m. ap (f m) (quiet_row m quiet_m) ∙ none m)
 
-    pub dropped_sum : sum_by (λ m. dropped_in (left m)) (sources_all shards) ≡ dropped_by ops g layout n
-    dropped_sum = sum_all (λ m. dropped_in (left m)) n (sources_all shards) (λ m. all_once 0 workers m shards planned)
-        (all_within 0 workers shards planned) (λ m lt none. (quiet m none).1)
+      pub taken_sum : sum_by (λ m. taken_in (left m)) (sources_all shards) ≡ taken_by ops g layout n
+      taken_sum = births_sum (λ m. taken_in) (λ m. none_taken (layout m))
+
+      pub dropped_sum : sum_by (λ m. dropped_in (left m)) (sources_all shards) ≡ dropped_by ops g layout n
+      dropped_sum = births_sum (λ m. dropped_in) (λ m. none_dropped (layout m))
+
+      -- outcomes over the sources of all shards are those over all sources
+      pub outcomes_over : outcomes_all (sources_all shards) rs (opened layout) ≡ outcomes_all (range_with_len 0 n) rs (opened layout)
+      outcomes_over = over_all n (sources_all shards) (λ m. all_once 0 workers m shards planned)
+          (all_within inside shows 0 workers shards planned) rs (opened layout) spared
 
   sum_same : (f h : ℕ → ℕ) (xs : List ℕ) → All (λ x. f x ≡ h x) xs → sum_by f xs ≡ sum_by h xs
   sum_same f h [] all = refl
@@ -249,7 +271,7 @@ module _ (workers : ℕ) (ops : List NamedOp) (g : Graph) where
       sum_by-cons count x dones
       ∙ ap₂ (λ a b. a + b)
       (each s x d.0 ∙ sum_same (λ m. f (rows_by before s m)) all (sources_in s)
-      (λ i e lt. ap f (worker_rows workers a ops g s z.0 (opened (layout_by before)) (get_or (sources_in s) i e)
+      (λ i e lt. ap f (worker_rows workers a ops g layout s z.0 (opened (layout_by before)) (get_or (sources_in s) i e)
       (ap (λ b. b == a) (z.0.own i e lt) ∙ same_number a))))
       (together before f count each (a + 1) k shards dones z.1 d.1)
       ∙ sym (sum_by-append all (sources_in s) (sources_all shards))
@@ -271,7 +293,7 @@ module _ (workers : ℕ) (ops : List NamedOp) (g : Graph) where
       sum_by-cons count x dones
       ∙ ap₂ (λ a b. a + b)
       (each s x d.0 ∙ sum_same (λ m. f m (rows_by before s m)) all (sources_in s)
-      (λ i e lt. ap (f (get_or (sources_in s) i e)) (worker_rows workers a ops g s z.0 (opened (layout_by before))
+      (λ i e lt. ap (f (get_or (sources_in s) i e)) (worker_rows workers a ops g layout s z.0 (opened (layout_by before))
       (get_or (sources_in s) i e) (ap (λ b. b == a) (z.0.own i e lt) ∙ same_number a))))
       (together_at before f count each (a + 1) k shards dones z.1 d.1)
       ∙ sym (sum_by-append all (sources_in s) (sources_all shards))
@@ -279,30 +301,36 @@ module _ (workers : ℕ) (ops : List NamedOp) (g : Graph) where
 -- all workers together take and drop as many blocks as the layout rule says of the batch, for every number of workers
 pub batch_totals : (workers : ℕ) (ops : List NamedOp) (g : Graph) (before : ℕ → List BlockView) (shards : List Shard)
     (dones : List ShardDone)
-    → 0 < workers → ArePlanned workers ops g shards → AllZip (IsShardDone before) shards dones
+    → 0 < workers → IsWithin g → IsLayoutOf (layout_by before) g.edges → ArePlanned workers ops g (layout_by before) shards
+    → AllZip (IsShardDone before) shards dones
     → (sum_by (λ d. length d.left.taken.items) dones ≡ taken_by ops g (layout_by before) (length (after_all ops g).names))
     × (sum_by (λ d. length d.left.dropped.items) dones ≡ dropped_by ops g (layout_by before) (length (after_all ops g).names))
-batch_totals workers ops g before shards dones positive planned done = (
-  together workers ops g before taken_in (λ d. length d.left.taken.items) (λ s x is. is.taken_are) 0 workers shards dones
-      planned done ∙ taken_sum workers ops g positive shards planned (layout_by before),
-  together workers ops g before dropped_in (λ d. length d.left.dropped.items) (λ s x is. is.dropped_are) 0 workers shards dones
-      planned done ∙ dropped_sum workers ops g positive shards planned (layout_by before),
+batch_totals workers ops g before shards dones positive inside shows planned done = (
+  together workers ops g (layout_by before) before taken_in (λ d. length d.left.taken.items) (λ s x is. is.taken_are) 0 workers
+      shards dones planned done ∙ taken_sum workers ops g (layout_by before) positive shards planned inside shows,
+  together workers ops g (layout_by before) before dropped_in (λ d. length d.left.dropped.items) (λ s x is. is.dropped_are) 0
+      workers shards dones planned done ∙ dropped_sum workers ops g (layout_by before) positive shards planned inside shows,
 )
 
-module _ (workers w : ℕ) (ops : List NamedOp) (g : Graph) (before : ℕ → List BlockView) (shard : Shard) (done : ShardDone)
-    (planned : IsShardOf workers (resolved ops g.names g.kinds) w shard) (is : IsShardDone before shard done) where
+module _ (workers w : ℕ) (ops : List NamedOp) (g : Graph) (layout : ℕ → List Shape) (before : ℕ → List BlockView)
+    (shard : Shard) (done : ShardDone)
+    (planned : IsShardOf workers (resolved ops g.names g.kinds) layout w shard) (is : IsShardDone before shard done) where
+  -- the batch's outcomes over the shard's sources
   abbrev all_outcomes : List Outcome
-  all_outcomes = outcomes_all (resolved ops g.names g.kinds) (opened (layout_by before))
+  all_outcomes = outcomes_all (sources_in shard) (resolved ops g.names g.kinds) (opened (layout_by before))
 
   -- a shard's outcomes are the batch's at the shard's places
-  pub shard_outcomes_at : done.outcomes.items ≡ results (is_in_shard workers w) (resolved ops g.names g.kinds) all_outcomes 0
+  pub shard_outcomes_at : done.outcomes.items
+      ≡ results (is_in_shard workers w) (resolved ops g.names g.kinds) (map told all_outcomes) 0
   shard_outcomes_at =
       is.outcomes_are
-      ∙ ap₂ zip planned.places
-      (same_outcomes (steps_in shard) (shard_ops workers w (resolved ops g.names g.kinds)) planned.acts_are
+      ∙ ap₂ (λ ps (os : List Outcome). zip ps (map told os)) planned.places
+      (same_outcomes (sources_in shard) (steps_in shard) (shard_ops workers w (resolved ops g.names g.kinds)) planned.acts_are
       (opened (layout_by before))
-      ∙ ap (λ rs. outcomes_all rs (opened (layout_by before))) (sym (same_ops workers w ops g (layout_by before))))
-      ∙ shard_places workers w ops g (layout_by before)
+      ∙ ap (λ rs. outcomes_all (sources_in shard) rs (opened (layout_by before)))
+      (sym (same_ops workers w ops g (layout_by before))))
+      ∙ shard_places workers w ops g (layout_by before) (sources_in shard)
+      (λ k d lt. ap (λ n. n == w) (planned.own k d lt) ∙ same_number w)
 
   -- a shard's rows have the layout that the batch leaves
   pub shard_layout_at : All (λ r. map shape_of r.1 ≡ layout_after ops g (layout_by before) r.0) (row_values done.rows.items)
@@ -314,7 +342,7 @@ module _ (workers w : ℕ) (ops : List NamedOp) (g : Graph) (before : ℕ → Li
       ∙ get_or-map (λ (r : ℕ × List BlockView). r.0) (row_values done.rows.items) k d 0 lt in
       let within : k < length (sources_in shard) = omega (arith, ap length is.sources_are) in
       let own : r.0 % workers ≡ w = ap (λ s. s % workers) (sym source) ∙ planned.own k 0 within in
-      is.layout k d lt ∙ ap row_end (worker_rows workers w ops g shard planned (opened (layout_by before)) r.0
+      is.layout k d lt ∙ ap row_end (worker_rows workers w ops g layout shard planned (opened (layout_by before)) r.0
       (ap (λ b. b == w) own ∙ same_number w))
 
   -- a shard's rows have the births that the batch leaves
@@ -331,4 +359,4 @@ module _ (workers w : ℕ) (ops : List NamedOp) (g : Graph) (before : ℕ → Li
       let within : k < length (sources_in shard) = omega (arith, ap length is.sources_are) in
       let own : r.0 % workers ≡ w = ap (λ s. s % workers) (sym source) ∙ planned.own k 0 within in
       is.births f h n each k d lt old ∙ ap (λ row. births_end n row (map f (before r.0)))
-      (worker_rows workers w ops g shard planned (opened (layout_by before)) r.0 (ap (λ b. b == w) own ∙ same_number w))
+      (worker_rows workers w ops g layout shard planned (opened (layout_by before)) r.0 (ap (λ b. b == w) own ∙ same_number w))

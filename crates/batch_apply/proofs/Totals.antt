@@ -9,36 +9,40 @@ use Rattle.std.proofs.lemmas.List.Elements.{All-head, All-tail, All-cons, All-ni
 use Rattle.graph_model.specs.Graph.{Graph}
 use Rattle.graph_model.specs.declared.batches.NamedOp.{NamedOp}
 use Rattle.block_layout.specs.Rows.{Shape, OpenBlock, untouched, taken_in, dropped_in, has_none}
-use Rattle.block_layout.specs.Batches.{Resolved, AtKey, resolved, shard_ops, sum_below, rows_all, rows_step, outcome_in}
-use Rattle.block_layout.specs.Batches.{outcomes_all, opened, acts_on}
+use Rattle.block_layout.specs.Batches.{Resolved, AtKey, InAll, resolved, shard_ops, sum_below, rows_all, rows_step, outcome_in}
+use Rattle.block_layout.specs.Batches.{outcomes_all}
 use Rattle.block_layout.proofs.ShardLaws.{shard_rows}
 use Rattle.batch_plan.specs.Shards.{acts, unsourced, IsShardOf}
 use Rattle.shard_work.specs.Done.{steps_in}
 use Rattle.shard_work.specs.declared.shard.Shard.{Shard}
-use Rattle.batch_apply.proofs.Merge.{unnamed_rows}
 
 -- rows and outcomes don't depend on the sources' numbers beside the keys
 unsourced_rows : (r : Resolved) (rows : ℕ → List OpenBlock) → rows_step (unsourced r) rows ≡ rows_step r rows
 unsourced_rows (AtKey own key change) rows = refl
+unsourced_rows (InAll time) rows = refl
 
-unsourced_outcome : (r : Resolved) (rows : ℕ → List OpenBlock) → outcome_in (unsourced r) rows ≡ outcome_in r rows
-unsourced_outcome (AtKey own key change) rows = refl
+unsourced_outcome : (over : List ℕ) (r : Resolved) (rows : ℕ → List OpenBlock)
+    → outcome_in over (unsourced r) rows ≡ outcome_in over r rows
+unsourced_outcome over (AtKey own key change) rows = refl
+unsourced_outcome over (InAll time) rows = refl
 
 acts_rows : (rs : List Resolved) (rows : ℕ → List OpenBlock) → rows_all (acts rs) rows ≡ rows_all rs rows
 acts_rows [] rows = refl
 acts_rows (r ∷ rs) rows = ap (rows_all (acts rs)) (unsourced_rows r rows) ∙ acts_rows rs (rows_step r rows)
 
-acts_outcomes : (rs : List Resolved) (rows : ℕ → List OpenBlock) → outcomes_all (acts rs) rows ≡ outcomes_all rs rows
-acts_outcomes [] rows = refl
-acts_outcomes (r ∷ rs) rows = ap₂ (λ o os. o ∷ os) (unsourced_outcome r rows)
-    (ap (outcomes_all (acts rs)) (unsourced_rows r rows) ∙ acts_outcomes rs (rows_step r rows))
+acts_outcomes : (over : List ℕ) (rs : List Resolved) (rows : ℕ → List OpenBlock)
+    → outcomes_all over (acts rs) rows ≡ outcomes_all over rs rows
+acts_outcomes over [] rows = refl
+acts_outcomes over (r ∷ rs) rows = ap₂ (λ o os. o ∷ os) (unsourced_outcome over r rows)
+    (ap (outcomes_all over (acts rs)) (unsourced_rows r rows) ∙ acts_outcomes over rs (rows_step r rows))
 
 pub same_rows : (rs ss : List Resolved) → acts rs ≡ acts ss → (rows : ℕ → List OpenBlock) → rows_all rs rows ≡ rows_all ss rows
 same_rows rs ss e rows = sym (acts_rows rs rows) ∙ ap (λ xs. rows_all xs rows) e ∙ acts_rows ss rows
 
-pub same_outcomes : (rs ss : List Resolved) → acts rs ≡ acts ss → (rows : ℕ → List OpenBlock)
-    → outcomes_all rs rows ≡ outcomes_all ss rows
-same_outcomes rs ss e rows = sym (acts_outcomes rs rows) ∙ ap (λ xs. outcomes_all xs rows) e ∙ acts_outcomes ss rows
+pub same_outcomes : (over : List ℕ) (rs ss : List Resolved) → acts rs ≡ acts ss → (rows : ℕ → List OpenBlock)
+    → outcomes_all over rs rows ≡ outcomes_all over ss rows
+same_outcomes over rs ss e rows =
+    sym (acts_outcomes over rs rows) ∙ ap (λ xs. outcomes_all over xs rows) e ∙ acts_outcomes over ss rows
 
 -- a row that is not touched takes and drops nothing
 pub count_more : {A : Type 0} (p : A → Bool) (x : A) (xs : List A) → count_by p (x ∷ xs) ≡ cond (p x) 1 0 + count_by p xs
@@ -132,23 +136,11 @@ sum_all f (suc n) xs once below rest =
     ] refl
 
 -- a worker's shard leaves the rows of its sources as the batch does
-pub worker_rows : (workers w : ℕ) (ops : List NamedOp) (g : Graph) (shard : Shard)
-    → IsShardOf workers (resolved ops g.names g.kinds) w shard → (rows : ℕ → List OpenBlock) (source : ℕ)
+pub worker_rows : (workers w : ℕ) (ops : List NamedOp) (g : Graph) (layout : ℕ → List Shape) (shard : Shard)
+    → IsShardOf workers (resolved ops g.names g.kinds) layout w shard → (rows : ℕ → List OpenBlock) (source : ℕ)
     → (source % workers == w) ≡ true
     → rows_all (steps_in shard) rows source ≡ rows_all (resolved ops g.names g.kinds) rows source
-worker_rows workers w ops g shard is rows source own =
+worker_rows workers w ops g layout shard is rows source own =
     ap (λ (after : ℕ → List OpenBlock). after source)
     (same_rows (steps_in shard) (shard_ops workers w (resolved ops g.names g.kinds)) is.acts_are rows)
     ∙ shard_rows workers w ops g.names g.kinds rows source own
-
--- the row of a source that no operation of its shard names stays, and neither takes nor drops a block
-pub worker_unnamed : (workers w : ℕ) (ops : List NamedOp) (g : Graph) (layout : ℕ → List Shape) (source : ℕ)
-    → (source % workers == w) ≡ true
-    → All (λ r. acts_on source r ≡ false) (shard_ops workers w (resolved ops g.names g.kinds))
-    → (taken_in (rows_all (resolved ops g.names g.kinds) (opened layout) source) ≡ 0)
-    × (dropped_in (rows_all (resolved ops g.names g.kinds) (opened layout) source) ≡ 0)
-worker_unnamed workers w ops g layout source own none =
-    let same : rows_all (resolved ops g.names g.kinds) (opened layout) source ≡ map untouched (layout source) =
-    sym (shard_rows workers w ops g.names g.kinds (opened layout) source own)
-    ∙ unnamed_rows (shard_ops workers w (resolved ops g.names g.kinds)) (opened layout) source none in
-    (ap taken_in same ∙ none_taken (layout source), ap dropped_in same ∙ none_dropped (layout source))

@@ -1,116 +1,194 @@
--- Results of all shards, written at their places, are the batch's results.
-use Rattle.std.proofs.Common.{◌≡◌, ℕ, zero, suc, ◌+◌, ◌<◌, ◌==◌, List, [], ◌∷◌, ◌++◌, length, set, Bool, true, false, cond}
-use Rattle.std.proofs.Common.{refl, sym, ap, ◌∙◌, ◌||◌, arith, Option, Some, None, mod-lt, length-append}
-use Rattle.std.specs.List.{range_with_len, list_any}
+-- Results of all shards, put together at their places, are the batch's results.
+use Rattle.std.proofs.Common.{◌≡◌, ℕ, suc, ◌+◌, ◌%◌, ◌^◌, ◌<◌, ◌==◌, List, [], ◌∷◌, ◌++◌, length, set, Bool, true, false}
+use Rattle.std.proofs.Common.{refl, sym, ap, ap₂, ◌∙◌, arith, Option, Some, None, mod-lt, length-append, get_or, map, flat_map}
+use Rattle.std.proofs.Common.{cond, replicate, ltb}
+use Rattle.std.specs.List.{sum_by}
 use Rattle.std.proofs.lemmas.List.{append_assoc}
-use Rattle.std.proofs.lemmas.Bool.{eqb-false}
-use Rattle.block_layout.specs.Batches.{Resolved, AtKey, shard_of, is_in_shard}
+use Rattle.std.proofs.lemmas.List.Sums.{sum_by-append}
+use Rattle.std.proofs.lemmas.Bool.{eqb-true, eqb-false, lt-ltb, le-ltb, ltb-true, ltb-false}
+use Rattle.std.proofs.Math.Nat.{add-mod-mod, mod-add-mod, mod-mod}
+use Rattle.graph_model.specs.declared.batches.Outcome.{Outcome}
+use Rattle.graph_model.specs.declared.batches.Outcome.TheVariants.{Inserted, Updated, Removed, Absent, Overflow, Expired}
+use Rattle.block_layout.specs.Rows.{OpenBlock, old_in_row}
+use Rattle.block_layout.specs.Batches.{Resolved, AtKey, InAll, shard_of, is_in_shard, together, outcome_in, outcomes_all, rows_step}
+use Rattle.block_layout.specs.Batches.{key_outcome}
 use Rattle.batch_apply.specs.Plans.{written, results, written_all}
+use Rattle.shard_work.specs.Groups.{told}
 
--- the results of the operations that pass, and else what stood there
-abbrev mixed : {A : Type 0} → (Resolved → Bool) → List Resolved → List A → List A → List A
+-- what stands after a shard: the results of the operations that pass are put together with it
+abbrev mixed : (Resolved → Bool) → List Resolved → List Outcome → List Outcome → List Outcome
 mixed p [] ys xs = xs
 mixed p (r ∷ rs) [] xs = xs
 mixed p (r ∷ rs) (y ∷ ys) [] = []
-mixed p (r ∷ rs) (y ∷ ys) (x ∷ xs) = cond (p r) y x ∷ mixed p rs ys xs
+mixed p (r ∷ rs) (y ∷ ys) (x ∷ xs) = cond (p r) (told (together x y)) x ∷ mixed p rs ys xs
 
-set_middle : {A : Type 0} (before : List A) (x y : A) (xs : List A) → set (before ++ x ∷ xs) (length before) y ≡ before ++ y ∷ xs
+set_middle : (before : List Outcome) (x y : Outcome) (xs : List Outcome)
+    → set (before ++ x ∷ xs) (length before) y ≡ before ++ y ∷ xs
 set_middle [] x y xs = refl
 set_middle (b ∷ before) x y xs = ap (λ l. b ∷ l) (set_middle before x y xs)
 
+get_middle : (before : List Outcome) (x d : Outcome) (xs : List Outcome) → get_or (before ++ x ∷ xs) (length before) d ≡ x
+get_middle [] x d xs = refl
+get_middle (b ∷ before) x d xs = get_middle before x d xs
+
 -- one shard's results written
-one_shard : {A : Type 0} (p : Resolved → Bool) (rs : List Resolved) (ys before xs : List A) (k : ℕ) → length before ≡ k
+one_shard : (p : Resolved → Bool) (rs : List Resolved) (ys before xs : List Outcome) (k : ℕ) → length before ≡ k
     → length ys ≡ length rs → length xs ≡ length rs
     → written (results p rs ys k) (before ++ xs) ≡ before ++ mixed p rs ys xs
 one_shard p [] ys before xs k at a b = refl
 one_shard p (r ∷ rs) [] before xs k at a b = absurd (omega arith)
 one_shard p (r ∷ rs) (y ∷ ys) before [] k at a b = absurd (omega arith)
 one_shard p (r ∷ rs) (y ∷ ys) before (x ∷ xs) k at a b =
-    let go : (z : _) → written (results p rs ys (k + 1)) (before ++ z ∷ xs) ≡ before ++ z ∷ mixed p rs ys xs = λ z.
+    let go : (z : Outcome) → written (results p rs ys (k + 1)) (before ++ z ∷ xs) ≡ before ++ z ∷ mixed p rs ys xs = λ z.
     ap (written (results p rs ys (k + 1))) (sym (append_assoc before (z ∷ []) xs))
     ∙ one_shard p rs ys (before ++ z ∷ []) xs (k + 1) (length-append before (z ∷ []) ∙ ap (λ n. n + 1) at) (omega arith)
     (omega arith)
     ∙ append_assoc before (z ∷ []) (mixed p rs ys xs) in
+    let all : List Outcome = before ++ x ∷ xs in
     elim (p r) as (λ b. written (cond b ((k, y) ∷ results p rs ys (k + 1)) (results p rs ys (k + 1))) (before ++ x ∷ xs)
-    ≡ before ++ cond b y x ∷ mixed p rs ys xs) [
-      | true ↦ ap (written (results p rs ys (k + 1))) (ap (λ n. set (before ++ x ∷ xs) n y) (sym at) ∙ set_middle before x y xs)
-          ∙ go y
+    ≡ before ++ cond b (told (together x y)) x ∷ mixed p rs ys xs) [
+      | true ↦ ap (written (results p rs ys (k + 1)))
+          (ap (λ n. set all n (told (together (get_or all n Absent) y))) (sym at)
+          ∙ ap (λ (o : Outcome). set all (length before) (told (together o y))) (get_middle before x Absent xs)
+          ∙ set_middle before x (told (together x y)) xs)
+          ∙ go (told (together x y))
       | false ↦ go x
     ]
 
-mixed_twice : {A : Type 0} (p d : Resolved → Bool) (rs : List Resolved) (ys xs : List A)
-    → mixed p rs ys (mixed d rs ys xs) ≡ mixed (λ r. p r || d r) rs ys xs
-mixed_twice p d [] ys xs = refl
-mixed_twice p d (r ∷ rs) [] xs = refl
-mixed_twice p d (r ∷ rs) (y ∷ ys) [] = refl
-mixed_twice p d (r ∷ rs) (y ∷ ys) (x ∷ xs) = λ i. one (p r) (d r) y x i ∷ mixed_twice p d rs ys xs i where
-  one : {A : Type 0} (a b : Bool) (y x : A) → cond a y (cond b y x) ≡ cond (a || b) y x
-  one true b y x = refl
-  one false b y x = refl
+-- Of so many first shards, which have these sources
 
-mixed_length : {A : Type 0} (p : Resolved → Bool) (rs : List Resolved) (ys xs : List A) → length xs ≡ length rs
-    → length (mixed p rs ys xs) ≡ length rs
-mixed_length p [] ys xs e = e
-mixed_length p (r ∷ rs) [] xs e = e
-mixed_length p (r ∷ rs) (y ∷ ys) [] e = e
-mixed_length p (r ∷ rs) (y ∷ ys) (x ∷ xs) e = let rest = mixed_length p rs ys xs (omega arith) in omega arith
+abbrev is_done : ℕ → ℕ → Resolved → Bool
+is_done workers w (AtKey source key change) = ltb (shard_of workers source) w
+is_done workers w (InAll time) = ltb 0 w
 
-mixed_all : {A : Type 0} (d : Resolved → Bool) → ((r : Resolved) → d r ≡ true) → (rs : List Resolved) (ys xs : List A)
-    → length ys ≡ length rs → length xs ≡ length rs → mixed d rs ys xs ≡ ys
-mixed_all d h [] [] [] a b = refl
-mixed_all d h [] (y ∷ ys) xs a b = absurd (omega arith)
-mixed_all d h [] [] (x ∷ xs) a b = absurd (omega arith)
-mixed_all d h (r ∷ rs) [] xs a b = absurd (omega arith)
-mixed_all d h (r ∷ rs) (y ∷ ys) [] a b = absurd (omega arith)
-mixed_all d h (r ∷ rs) (y ∷ ys) (x ∷ xs) a b = λ i. cond (h r i) y x ∷ mixed_all d h rs ys xs (omega arith) (omega arith) i
+abbrev so_far : ℕ → ℕ → List ℕ → List Resolved → (ℕ → List OpenBlock) → List Outcome
+so_far workers w sources [] rows = []
+so_far workers w sources (r ∷ rs) rows =
+    cond (is_done workers w r) (told (outcome_in sources r rows)) Absent ∷ so_far workers w sources rs (rows_step r rows)
 
-abbrev done : ℕ → List ℕ → Resolved → Bool
-done workers ws r = list_any (λ w. is_in_shard workers w r) ws
+twice : (o : Outcome) → told (told o) ≡ told o
+twice Inserted = refl
+twice Updated = refl
+twice Removed = refl
+twice Absent = refl
+twice Overflow = refl
+twice (Expired count) = ap Expired (mod-mod count (2 ^ 64))
 
-steps : {A : Type 0} (workers : ℕ) (ws : List ℕ) (d : Resolved → Bool) (rs : List Resolved) (ys xs : List A)
-    → length ys ≡ length rs → length xs ≡ length rs
-    → written_all workers ws rs ys (mixed d rs ys xs) ≡ mixed (λ r. done workers ws r || d r) rs ys xs
-steps workers [] d rs ys xs a b = refl
-steps workers (w ∷ ws) d rs ys xs a b =
-    ap (written_all workers ws rs ys) (one_shard (is_in_shard workers w) rs ys [] (mixed d rs ys xs) 0 refl a
-    (mixed_length d rs ys xs b) ∙ mixed_twice (is_in_shard workers w) d rs ys xs)
-    ∙ steps workers ws (λ r. is_in_shard workers w r || d r) rs ys xs a b
-    ∙ (λ i. mixed (λ r. turn (done workers ws r) (is_in_shard workers w r) (d r) i) rs ys xs) where
-      turn : (a b c : Bool) → (a || (b || c)) ≡ ((b || a) || c)
-      turn true true c = refl
-      turn true false c = refl
-      turn false true c = refl
-      turn false false c = refl
-
-in_range : (s a n : ℕ) → a + 0 < s + 1 → s < a + n → list_any (λ w. s == w) (range_with_len a n) ≡ true
-in_range s a zero l h = absurd (omega arith)
-in_range s a (suc n) l h =
-    elim (s == a) as (λ b. s == a ≡ b → (b || list_any (λ w. s == w) (range_with_len (a + 1) n)) ≡ true) [
-      | true ↦ λ t. refl
-      | false ↦ λ t. let other : s ≡ a → ⊥ = eqb-false s a t in in_range s (a + 1) n (omega arith) (omega arith)
+edge_step : (a w : ℕ) (o : Outcome)
+    → cond (a == w) (told (together (cond (ltb a w) (told o) Absent) (told o))) (cond (ltb a w) (told o) Absent)
+    ≡ cond (ltb a (w + 1)) (told o) Absent
+edge_step a w o =
+    elim (a == w) as (λ b. a == w ≡ b
+    → cond b (told (together (cond (ltb a w) (told o) Absent) (told o))) (cond (ltb a w) (told o) Absent)
+    ≡ cond (ltb a (w + 1)) (told o) Absent) [
+      | true ↦ λ t.
+          let same : a ≡ w = eqb-true a w t in
+          let not_yet : ltb a w ≡ false = le-ltb a w (omega (arith, same)) in
+          let now : ltb a (w + 1) ≡ true = lt-ltb a (w + 1) (omega (arith, same)) in
+          ap (λ b. told (together (cond b (told o) Absent) (told o))) not_yet ∙ twice o
+          ∙ ap (λ b. cond b (told o) Absent) (sym now)
+      | false ↦ λ t.
+          let other : a ≡ w → ⊥ = eqb-false a w t in
+          ap (λ b. cond b (told o) Absent) (elim (ltb a w) as (λ b. ltb a w ≡ b → b ≡ ltb a (w + 1)) [
+            | true ↦ λ l. let lt = ltb-true a w l in sym (lt-ltb a (w + 1) (omega (arith, lt)))
+            | false ↦ λ l. let ge = ltb-false a w l in sym (le-ltb a (w + 1) (omega (arith, ge, other)))
+          ] refl)
     ] refl
+
+expiry_step : (w : ℕ) (f : ℕ → ℕ) (before sources : List ℕ) → (w ≡ 0 → before ≡ [])
+    → told (together (cond (ltb 0 w) (told (Expired (sum_by f before))) Absent) (told (Expired (sum_by f sources))))
+    ≡ cond (ltb 0 (w + 1)) (told (Expired (sum_by f (before ++ sources)))) Absent
+expiry_step w f before sources first =
+    let a : ℕ = sum_by f before in
+    let b : ℕ = sum_by f sources in
+    let now : ltb 0 (w + 1) ≡ true = lt-ltb 0 (w + 1) (omega arith) in
+    elim (ltb 0 w) as (λ t. ltb 0 w ≡ t → told (together (cond t (told (Expired a)) Absent) (told (Expired b)))
+    ≡ told (Expired (sum_by f (before ++ sources)))) [
+      | true ↦ λ t. ap Expired (mod-add-mod a (2 ^ 64) (b % 2 ^ 64) ∙ add-mod-mod a b (2 ^ 64)
+          ∙ ap (λ n. n % 2 ^ 64) (sym (sum_by-append f before sources)))
+      | false ↦ λ t.
+          let none : before ≡ [] = first (let le = ltb-false 0 w t in omega (arith, le)) in
+          twice (Expired b) ∙ ap (λ (xs : List ℕ). told (Expired (sum_by f (xs ++ sources)))) (sym none)
+    ] refl ∙ ap (λ t. cond t (told (Expired (sum_by f (before ++ sources)))) Absent) (sym now)
+
+step : (workers w : ℕ) (before sources : List ℕ) → (w ≡ 0 → before ≡ []) → (rs : List Resolved) (rows : ℕ → List OpenBlock)
+    → mixed (is_in_shard workers w) rs (map told (outcomes_all sources rs rows)) (so_far workers w before rs rows)
+    ≡ so_far workers (w + 1) (before ++ sources) rs rows
+step workers w before sources first [] rows = refl
+step workers w before sources first (AtKey source key change ∷ rs) rows =
+    ap₂ (λ (o : Outcome) os. o ∷ os) (edge_step (shard_of workers source) w (key_outcome change key rows))
+    (step workers w before sources first rs (rows_step (AtKey source key change) rows))
+step workers w before sources first (InAll time ∷ rs) rows =
+    ap₂ (λ (o : Outcome) os. o ∷ os) (expiry_step w (λ s. old_in_row time (rows s)) before sources first)
+    (step workers w before sources first rs (rows_step (InAll time) rows))
+
+long_so_far : (workers w : ℕ) (sources : List ℕ) (rs : List Resolved) (rows : ℕ → List OpenBlock)
+    → length (so_far workers w sources rs rows) ≡ length rs
+long_so_far workers w sources [] rows = refl
+long_so_far workers w sources (r ∷ rs) rows = ap suc (long_so_far workers w sources rs (rows_step r rows))
+
+long_told : (sources : List ℕ) (rs : List Resolved) (rows : ℕ → List OpenBlock)
+    → length (map told (outcomes_all sources rs rows)) ≡ length rs
+long_told sources [] rows = refl
+long_told sources (r ∷ rs) rows = ap suc (long_told sources rs (rows_step r rows))
+
+none_more : (xs : List ℕ) → xs ++ [] ≡ xs
+none_more [] = refl
+none_more (x ∷ xs) = ap (λ l. x ∷ l) (none_more xs)
+
+abbrev pub all_sources : List (List ℕ) → List ℕ
+all_sources shards = flat_map (λ s. s) shards
+
+shard_by_shard : (workers w : ℕ) (before : List ℕ) (shards : List (List ℕ)) → (w ≡ 0 → before ≡ [])
+    → (rs : List Resolved) (rows : ℕ → List OpenBlock)
+    → written_all workers w shards rs rows (so_far workers w before rs rows)
+    ≡ so_far workers (w + length shards) (before ++ all_sources shards) rs rows
+shard_by_shard workers w before [] first rs rows =
+    let same : w ≡ w + 0 = omega arith in
+    ap (λ n. so_far workers n before rs rows) same
+    ∙ ap (λ xs. so_far workers (w + 0) xs rs rows) (sym (none_more before))
+shard_by_shard workers w before (sources ∷ shards) first rs rows =
+    let next : w + 1 + length shards ≡ w + suc (length shards) = omega arith in
+    ap (written_all workers (w + 1) shards rs rows)
+    (one_shard (is_in_shard workers w) rs (map told (outcomes_all sources rs rows)) [] (so_far workers w before rs rows) 0 refl
+    (long_told sources rs rows) (long_so_far workers w before rs rows)
+    ∙ step workers w before sources first rs rows)
+    ∙ shard_by_shard workers (w + 1) (before ++ sources) shards (λ e. absurd (omega (arith, e))) rs rows
+    ∙ ap (λ n. so_far workers n ((before ++ sources) ++ all_sources shards) rs rows) next
+    ∙ ap (λ xs. so_far workers (w + suc (length shards)) xs rs rows) (append_assoc before sources (all_sources shards))
+
+none_done : (workers : ℕ) (r : Resolved) → is_done workers 0 r ≡ false
+none_done workers (AtKey source key change) = le-ltb (shard_of workers source) 0 (omega arith)
+none_done workers (InAll time) = le-ltb 0 0 (omega arith)
+
+none_yet : (workers : ℕ) (rs : List Resolved) (rows : ℕ → List OpenBlock)
+    → replicate (length rs) Absent ≡ so_far workers 0 [] rs rows
+none_yet workers [] rows = refl
+none_yet workers (r ∷ rs) rows = ap₂ (λ (o : Outcome) os. o ∷ os)
+    (ap (λ b. cond b (told (outcome_in [] r rows)) Absent) (sym (none_done workers r))) (none_yet workers rs (rows_step r rows))
 
 every : (workers : ℕ) → 0 < workers → (s : Option ℕ) → shard_of workers s < workers
 every workers h None = h
 every workers h (Some source) = mod-lt source h
 
-some_shard : (workers : ℕ) → 0 < workers → (r : Resolved)
-    → list_any (λ w. is_in_shard workers w r) (range_with_len 0 workers) ≡ true
-some_shard workers h (AtKey source key change) =
-    let lt = every workers h source in in_range (shard_of workers source) 0 workers (omega arith) (omega arith)
+each_done : (workers : ℕ) → 0 < workers → (r : Resolved) → is_done workers workers r ≡ true
+each_done workers h (AtKey source key change) = lt-ltb (shard_of workers source) workers (every workers h source)
+each_done workers h (InAll time) = lt-ltb 0 workers h
 
-none_yet : {A : Type 0} (rs : List Resolved) (ys xs : List A) → xs ≡ mixed (λ _. false) rs ys xs
-none_yet [] ys xs = refl
-none_yet (r ∷ rs) [] xs = refl
-none_yet (r ∷ rs) (y ∷ ys) [] = refl
-none_yet (r ∷ rs) (y ∷ ys) (x ∷ xs) = ap (λ l. x ∷ l) (none_yet rs ys xs)
+all_done : (workers : ℕ) → 0 < workers → (sources : List ℕ) (rs : List Resolved) (rows : ℕ → List OpenBlock)
+    → so_far workers workers sources rs rows ≡ map told (outcomes_all sources rs rows)
+all_done workers h sources [] rows = refl
+all_done workers h sources (r ∷ rs) rows = ap₂ (λ (o : Outcome) os. o ∷ os)
+    (ap (λ b. cond b (told (outcome_in sources r rows)) Absent) (each_done workers h r))
+    (all_done workers h sources rs (rows_step r rows))
 
--- for every number of workers the results of all shards, written at their places, are the batch's
-pub all_written : {A : Type 0} (workers : ℕ) → 0 < workers → (rs : List Resolved) (ys xs : List A) → length ys ≡ length rs
-    → length xs ≡ length rs
-    → written_all workers (range_with_len 0 workers) rs ys xs ≡ ys
-all_written workers h rs ys xs a b =
-    ap (written_all workers (range_with_len 0 workers) rs ys) (none_yet rs ys xs)
-    ∙ steps workers (range_with_len 0 workers) (λ _. false) rs ys xs a b
-    ∙ mixed_all (λ r. done workers (range_with_len 0 workers) r || false)
-    (λ r. ap (λ b. b || false) (some_shard workers h r)) rs ys xs a b
+-- for every number of workers the results of all shards, put together at their places, are the batch's over all sources
+pub all_written : (workers : ℕ) → 0 < workers → (shards : List (List ℕ)) → length shards ≡ workers
+    → (rs : List Resolved) (rows : ℕ → List OpenBlock)
+    → written_all workers 0 shards rs rows (replicate (length rs) Absent)
+    ≡ map told (outcomes_all (all_sources shards) rs rows)
+all_written workers h shards long rs rows =
+    ap (written_all workers 0 shards rs rows) (none_yet workers rs rows)
+    ∙ shard_by_shard workers 0 [] shards (λ e. refl) rs rows
+    ∙ ap (λ (n : ℕ). so_far workers n (all_sources shards) rs rows) (omega (arith, long))
+    ∙ all_done workers h (all_sources shards) rs rows

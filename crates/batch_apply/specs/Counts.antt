@@ -1,14 +1,15 @@
--- Which outcomes change the number of edges.
-use Rattle.std.specs.Prelude.{Bool, true, false}
+-- How outcomes change the number of edges.
+use Rattle.std.specs.Prelude.{ℕ, Bool, true, false}
 use Rattle.graph_model.specs.declared.batches.Outcome.{Outcome}
-use Rattle.graph_model.specs.declared.batches.Outcome.TheVariants.{Inserted, Removed}
+use Rattle.graph_model.specs.declared.batches.Outcome.TheVariants.{Inserted, Removed, Expired}
 
 -- one edge more
 abbrev pub is_inserted : Outcome → Bool
 is_inserted Inserted = true
 is_inserted other = false
 
--- one edge less
-abbrev pub is_removed : Outcome → Bool
-is_removed Removed = true
-is_removed other = false
+-- how many edges less
+abbrev pub taken_away : Outcome → ℕ
+taken_away Removed = 1
+taken_away (Expired count) = count
+taken_away other = 0

@@ -3,14 +3,15 @@ use Rattle.std.specs.Prelude.{◌≡◌, ◌≢◌, ℕ, ◌≤◌, List, map, l
 use Rattle.std.specs.List.{AllZip}
 use Rattle.edge_block.specs.Slots.{BlockView}
 use Rattle.shard_work.specs.Shards.{AreSteps}
-use Rattle.shard_work.specs.Done.{IsShardDone}
+use Rattle.shard_work.specs.Done.{IsShardDone, sources_in}
+use Rattle.shard_work.specs.Spending.{needed}
 use Rattle.shard_work.specs.declared.shard.Shard.{Shard}
 use Rattle.shard_work.specs.declared.shard.ShardDone.{ShardDone}
 use Rattle.batch_apply.specs.declared.workers.Job.{Job}
 
--- a shard that can be worked on: its sources are distinct, and it has a fresh block for each operation
-pub record IsShard (shard : Shard) : Type 0 where
-  pub fresh : length shard.steps.items ≤ length shard.fresh.items
+-- a shard that can be worked on over these rows: its sources are distinct, and it has as many fresh blocks as it may take
+pub record IsShard (rows : ℕ → List BlockView) (shard : Shard) : Type 0 where
+  pub fresh : needed rows (sources_in shard) shard.steps.items ≤ length shard.fresh.items
   pub steps : AreSteps (length shard.sources.items) shard.steps.items
   pub distinct : AllPairs (λ a b. a ≢ b) (map (λ s. s.0) shard.sources.items)
 
@@ -18,12 +19,8 @@ pub record IsShard (shard : Shard) : Type 0 where
 abbrev pub AreDone : (ℕ → List BlockView) → List Job → List ShardDone → Type 0
 AreDone rows jobs done = AllZip (λ j d. IsShardDone rows j.shard d) jobs done
 
--- how many operations a shard has
-abbrev pub steps_of : Shard → ℕ
-steps_of shard = length shard.steps.items
-
--- the job of a shard, once the shard has fresh blocks
-pub record IsDealt (shard : Shard) (job : Job) : Type 0 where
-  pub sources_are : job.shard.sources.items ≡ shard.sources.items
-  pub steps_are : job.shard.steps.items ≡ shard.steps.items
-  pub fresh : length job.shard.steps.items ≤ length job.shard.fresh.items
+-- the job of a shard, once the shard has so many fresh blocks
+pub record IsDealt (planned : Shard × ℕ) (job : Job) : Type 0 where
+  pub sources_are : job.shard.sources.items ≡ planned.0.sources.items
+  pub steps_are : job.shard.steps.items ≡ planned.0.steps.items
+  pub fresh : length job.shard.fresh.items ≡ planned.1

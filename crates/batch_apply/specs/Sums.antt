@@ -3,10 +3,12 @@ use Rattle.std.specs.Prelude.{ℕ, List}
 use Rattle.std.specs.List.{range_with_len, AllZip}
 use Rattle.graph_model.specs.Graph.{Graph}
 use Rattle.graph_model.specs.declared.batches.NamedOp.{NamedOp}
+use Rattle.block_layout.specs.Rows.{Shape}
 use Rattle.block_layout.specs.Batches.{resolved}
 use Rattle.batch_plan.specs.Shards.{IsShardOf}
 use Rattle.shard_work.specs.declared.shard.Shard.{Shard}
 
--- one shard for each worker, in order, each with the batch's operations on the worker's sources
-abbrev pub ArePlanned : ℕ → List NamedOp → Graph → List Shard → Type 0
-ArePlanned workers ops g shards = AllZip (IsShardOf workers (resolved ops g.names g.kinds)) (range_with_len 0 workers) shards
+-- one shard for each worker, in order, each with the batch's operations on the worker's sources, over a version's layout
+abbrev pub ArePlanned : ℕ → List NamedOp → Graph → (ℕ → List Shape) → List Shard → Type 0
+ArePlanned workers ops g layout shards =
+    AllZip (IsShardOf workers (resolved ops g.names g.kinds) layout) (range_with_len 0 workers) shards

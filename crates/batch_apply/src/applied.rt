@@ -1,18 +1,21 @@
 //! A batch applied to a version.
 
 ghost use Rattle.std.specs.Prelude.{◌≡◌, ◌≢◌, ◌+◌, ◌++◌, ◌%◌, ◌^◌, ◌<◌, ◌≤◌, ℕ, false, Bool, List, length, map, flat_map};
-ghost use Rattle.std.specs.Prelude.{replicate, count_by, IfOk, OnOk, All, AllPairs};
+ghost use Rattle.std.specs.Prelude.{replicate, count_by, zip, IfOk, OnOk, All, AllPairs};
 ghost use Rattle.std.specs.List.{sum_by, AllZip};
 ghost use Rattle.graph_model.specs.declared.batches.Outcome.TheVariants.{Absent};
 ghost use Rattle.batch_pages.specs.Batches.{batch_value};
 ghost use Rattle.row_pages.specs.Rows as rows;
+ghost use Rattle.row_pages.specs.Rows.{row_of};
+ghost use Rattle.block_layout.specs.Batches.{together};
 ghost use Rattle.shard_work.specs.RowBlocks.{blocks_of, numbers_of};
 ghost use Rattle.shard_work.specs.Closing.{row_values};
 ghost use Rattle.graph_version.specs.Versions.{content, is_in};
 ghost use Rattle.batch_plan.specs.Planned.{IsPlan, MeetsNeitherLimit};
 ghost use Rattle.batch_apply.specs.Plans.{written};
-ghost use Rattle.batch_apply.specs.Jobs.{steps_of, IsDealt};
-ghost use Rattle.batch_apply.specs.Counts.{is_inserted, is_removed};
+ghost use Rattle.shard_work.specs.Groups.{told};
+ghost use Rattle.batch_apply.specs.Jobs.{IsDealt};
+ghost use Rattle.batch_apply.specs.Counts.{is_inserted, taken_away};
 ghost use Rattle.batch_apply.specs.Applied.{IsApplied, ReplacesRows, written_from};
 
 use crate::workers::{Gate, Job, do_all};
@@ -40,8 +43,8 @@ pub struct Applied {
     pub unused: Vec<Arc<Block>>,
 }
 
-/// The next version of a version, after a batch of which this is the plan, with a fresh block for each operation at
-/// hand. All workers with operations work at once; `gate` is told of each worker once.
+/// The next version of a version, after a batch of which this is the plan, with as many fresh blocks at hand as
+/// the plan's shards may take. All workers with operations work at once; `gate` is told of each worker once.
 ///
 /// The version before stays as it is, after an error too.
 pub fn apply<R: Threads + Sync, G: Gate + Sync>(
@@ -53,10 +56,11 @@ pub fn apply<R: Threads + Sync, G: Gate + Sync>(
     batch: Arc<Batch>,
     blocks: Vec<Arc<Block>>,
 ) -> Result<Applied, AllocError>
-    requires plan { (workers : ℕ) × (0 < workers) × IsPlan workers (batch_value batch) (content version.now) plan }
+    requires plan { (workers : ℕ) × (0 < workers) × IsPlan workers (batch_value batch) (content version.now)
+        (row_of version.now.rows) plan }
     requires limits { MeetsNeitherLimit (batch_value batch) (content version.now) }
     requires few { length version.now.batches < 65536 }
-    requires blocks { length blocks.items ≡ length (batch_value batch) }
+    requires blocks { sum_by (λ n. n) plan.needs.items ≤ length blocks.items }
     requires distinct { AllPairs ◌≢◌ (numbers_of blocks.items) }
     requires unlisted { All (λ n. is_in n (rows.numbers_of (rows.blocks_of version.now.rows)) ≡ false) (numbers_of blocks.items) }
     ensures { IfOk result (IsApplied version.now (batch_value batch) (numbers_of blocks.items)) }
@@ -67,11 +71,12 @@ pub fn apply<R: Threads + Sync, G: Gate + Sync>(
         names,
         kinds,
         shards,
+        needs,
     } = plan;
     let workers = shards.len();
     let operations = batch.len();
     let mut unused = blocks;
-    let jobs = deal(alloc, shards, &mut unused)?;
+    let jobs = deal(alloc, shards, needs.as_slice(), &mut unused)?;
     let dones = do_all(rt, alloc, gate, version, workers, jobs)?;
     let all = gather(alloc, operations, dones, unused)?;
     let edges = edges_after(version.edge_count(), &all.outcomes);
@@ -86,21 +91,23 @@ pub fn apply<R: Threads + Sync, G: Gate + Sync>(
     })
 }
 
-/// A job for each shard, in order, with as many of the blocks as the shard has operations.
+/// A job for each shard, in order, with as many of the blocks as the shard may take.
 fn deal(
     alloc: Global,
     shards: Vec<Shard>,
+    needs: &[usize],
     blocks: &mut Vec<Arc<Block>>,
 ) -> Result<Vec<Job>, AllocError>
-    requires { sum_by steps_of shards.items ≤ length blocks.old.items }
-    ensures jobs { IfOk result (λ v. AllZip IsDealt shards.items v.items) }
+    requires long { length needs.now ≡ length shards.items }
+    requires blocks { sum_by (λ n. n) needs.now ≤ length blocks.old.items }
+    ensures jobs { IfOk result (λ v. AllZip IsDealt (zip shards.items needs.now) v.items) }
     ensures numbers { IfOk result (λ v. (q : ℕ → Bool)
         → count_by q (flat_map (λ j. numbers_of j.shard.fresh.items) v.items) + count_by q (numbers_of blocks.new.items)
         ≡ count_by q (numbers_of blocks.old.items)) }
 {
     let mut jobs = Vec::with_capacity(alloc, shards.len())?;
     for shard in shards {
-        let fresh = take_last(blocks, shard.steps.len())?;
+        let fresh = take_last(blocks, needs[jobs.len()])?;
         jobs.push(Job {
             worker: jobs.len(),
             shard: Shard { fresh, ..shard },
@@ -197,7 +204,7 @@ fn add_blocks(all: &mut Leavings, left: &mut Leavings) -> Result<(), AllocError>
     Ok(())
 }
 
-/// Writes outcomes at their places; one whose place is past the end is let go.
+/// Puts outcomes together with those at their places; one whose place is past the end is let go.
 #[tactic(auto, using(crate::proofs::Loops::written_more, crate::proofs::Loops::written_past))]
 fn write_outcomes(outcomes: &mut Vec<Outcome>, found: Vec<(u32, Outcome)>)
     ensures { outcomes.new.items ≡ written found.items outcomes.old.items }
@@ -205,19 +212,33 @@ fn write_outcomes(outcomes: &mut Vec<Outcome>, found: Vec<(u32, Outcome)>)
     for (place, outcome) in found {
         let place = place as usize;
         if place < outcomes.len() {
-            outcomes[place] = outcome;
+            outcomes[place] = put_together(outcomes[place], outcome);
         }
     }
 }
 
+/// What is told of an operation after one more shard: an expiry's counts are added, and of all else the shard's outcome
+/// stands.
+fn put_together(before: Outcome, found: Outcome) -> Outcome
+    ensures { result ≡ told (together before found) }
+{
+    let Outcome::Expired(so_far) = before else {
+        return found;
+    };
+    let Outcome::Expired(more) = found else {
+        return found;
+    };
+    Outcome::Expired(so_far.wrapping_add(more))
+}
+
 /// How many edges operations with these outcomes leave where there were so many before, modulo 2^64.
 fn edges_after(before: u64, outcomes: &[Outcome]) -> u64
-    ensures { (after : ℕ) → after + count_by is_removed outcomes.now ≡ before + count_by is_inserted outcomes.now
+    ensures { (after : ℕ) → after + sum_by taken_away outcomes.now ≡ before + count_by is_inserted outcomes.now
         → result ≡ after % 2 ^ 64 }
 {
     before
         .wrapping_add(inserted_in(outcomes) as u64)
-        .wrapping_sub(removed_in(outcomes) as u64)
+        .wrapping_sub(gone_in(outcomes))
 }
 
 /// How many operations inserted an edge.
@@ -230,14 +251,26 @@ fn inserted_in(outcomes: &[Outcome]) -> usize
         .count()
 }
 
-/// How many operations removed an edge.
-fn removed_in(outcomes: &[Outcome]) -> usize
-    ensures { result ≡ count_by is_removed outcomes.now }
+/// How many edges an operation with this outcome took away.
+fn gone_by(outcome: Outcome) -> u64
+    ensures { result ≡ taken_away outcome }
 {
-    outcomes
-        .iter()
-        .filter(|outcome| **outcome == Outcome::Removed)
-        .count()
+    match outcome {
+        Outcome::Removed => 1,
+        Outcome::Expired(count) => count,
+        _ => 0,
+    }
+}
+
+/// How many edges the operations took away, modulo 2^64.
+fn gone_in(outcomes: &[Outcome]) -> u64
+    ensures { result ≡ sum_by taken_away outcomes.now % 2 ^ 64 }
+{
+    let mut gone = 0_u64;
+    for outcome in outcomes {
+        gone = gone.wrapping_add(gone_by(*outcome));
+    }
+    gone
 }
 
 /// The draft with these rows, each in the place of its source's row.

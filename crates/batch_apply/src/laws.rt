@@ -1,29 +1,36 @@
 //! Shards together are the batch.
 
-ghost use Rattle.std.specs.Prelude.{◌≡◌, ◌<◌, ◌≤◌, ◌==◌, ◌%◌, true, ℕ, List, length, count_by, map, All};
-ghost use Rattle.std.specs.List.{enumerate_from, range_with_len, sum_by, AllZip};
-ghost use Rattle.graph_model.specs.Step.{after_all};
+ghost use Rattle.std.specs.Prelude.{◌≡◌, ◌+◌, ◌<◌, ◌≤◌, ◌==◌, ◌%◌, true, ℕ, List, length, count_by, map, flat_map, replicate, All};
+ghost use Rattle.std.specs.Prelude.{if◌then◌else◌};
+ghost use Rattle.std.specs.List.{sum_by, list_any, AllZip};
+ghost use Rattle.graph_model.specs.Step.{after_all, is_expire};
 ghost use Rattle.edge_block.specs.Slots.{BlockView};
 ghost use Rattle.shard_work.specs.declared.shard.ShardDone.{ShardDone};
 ghost use Rattle.graph_model.specs.Graph.{Graph};
 ghost use Rattle.graph_model.specs.declared.batches.NamedOp.{NamedOp};
-ghost use Rattle.graph_model.specs.declared.batches.Outcome.{Outcome};
-ghost use Rattle.block_layout.specs.Rows.{OpenBlock, shape_of};
+ghost use Rattle.graph_model.specs.declared.batches.Outcome.TheVariants.{Absent};
+ghost use Rattle.block_layout.specs.Rows.{Shape, OpenBlock, shape_of};
 ghost use Rattle.block_layout.specs.Batches.{Resolved, resolved, rows_all, sum_below, taken_by, dropped_by, outcomes_all};
-ghost use Rattle.block_layout.specs.Batches.{opened, layout_after, is_in_shard};
+ghost use Rattle.block_layout.specs.Batches.{opened, layout_after, is_in_shard, IsWithin, IsLayoutOf};
+ghost use Rattle.row_pages.specs.Rows.{row_of, blocks_of};
 ghost use Rattle.batch_plan.specs.Shards.{IsShardOf};
+ghost use Rattle.batch_plan.specs.Planned.{IsPlan};
+ghost use Rattle.batch_plan.specs.declared.plans.Plan.{Plan};
 ghost use Rattle.batch_apply.specs.Sums.{ArePlanned};
-ghost use Rattle.shard_work.specs.Done.{IsShardDone, layout_by, steps_in};
+ghost use Rattle.shard_work.specs.Done.{IsShardDone, layout_by, sources_in, steps_in};
 ghost use Rattle.shard_work.specs.declared.shard.Shard.{Shard};
 ghost use Rattle.batch_apply.specs.Plans.{written_all, results};
+ghost use Rattle.shard_work.specs.Groups.{told};
 ghost use Rattle.shard_work.specs.Closing.{row_values};
 
-/// The results of all shards, written at their places, are the batch's.
+/// The outcomes of all shards, put together at their places, are the batch's, where an expiry counts the edges of all their
+/// sources, and the program tells counts modulo 2^64.
 #[tactic(auto, using(crate::proofs::Written::all_written))]
 pub fn law_all_written()
-    ensures { (workers : ℕ) → 0 < workers → (rs : List Resolved) (ys xs : List Outcome) → length ys ≡ length rs
-        → length xs ≡ length rs
-        → written_all workers (range_with_len 0 workers) rs ys xs ≡ ys }
+    ensures { (workers : ℕ) → 0 < workers → (shards : List (List ℕ)) → length shards ≡ workers → (rs : List Resolved)
+        (rows : ℕ → List OpenBlock)
+        → written_all workers 0 shards rs rows (replicate (length rs) Absent)
+        ≡ map told (outcomes_all (flat_map (λ s. s) shards) rs rows) }
 {}
 
 /// A sum over different numbers below n is one over all numbers below n, where the others add nothing.
@@ -34,10 +41,9 @@ pub fn law_sum_all()
 {}
 
 /// A worker's shard leaves the rows of its sources as the batch does.
-#[tactic(auto, using(crate::proofs::Totals::worker_rows))]
 pub fn law_worker_rows()
-    ensures { (workers w : ℕ) (ops : List NamedOp) (g : Graph) (shard : Shard)
-        → IsShardOf workers (resolved ops g.names g.kinds) w shard → (rows : ℕ → List OpenBlock) (source : ℕ)
+    ensures { (workers w : ℕ) (ops : List NamedOp) (g : Graph) (layout : ℕ → List Shape) (shard : Shard)
+        → IsShardOf workers (resolved ops g.names g.kinds) layout w shard → (rows : ℕ → List OpenBlock) (source : ℕ)
         → (source % workers == w) ≡ true
         → rows_all (steps_in shard) rows source ≡ rows_all (resolved ops g.names g.kinds) rows source }
 {}
@@ -46,21 +52,32 @@ pub fn law_worker_rows()
 pub fn law_batch_totals()
     ensures { (workers : ℕ) (ops : List NamedOp) (g : Graph) (before : ℕ → List BlockView) (shards : List Shard)
         (dones : List ShardDone)
-        → 0 < workers → ArePlanned workers ops g shards → AllZip (IsShardDone before) shards dones
+        → 0 < workers → IsWithin g → IsLayoutOf (layout_by before) g.edges → ArePlanned workers ops g (layout_by before) shards
+        → AllZip (IsShardDone before) shards dones
         → (sum_by (λ d. length d.left.taken.items) dones ≡ taken_by ops g (layout_by before) (length (after_all ops g).names))
         × (sum_by (λ d. length d.left.dropped.items) dones ≡ dropped_by ops g (layout_by before)
         (length (after_all ops g).names)) }
 {}
 
-/// A worker's outcomes are the batch's at its operations' places, and its rows have the layout that the batch leaves.
+/// A worker's outcomes are the batch's at its operations' places, over its sources, and its rows have the layout that the
+/// batch leaves.
 pub fn law_shard_results()
-    ensures outcomes { (workers w : ℕ) (ops : List NamedOp) (g : Graph) (before : ℕ → List BlockView) (shard : Shard)
-        (done : ShardDone)
-        → IsShardOf workers (resolved ops g.names g.kinds) w shard → IsShardDone before shard done
+    ensures outcomes { (workers w : ℕ) (ops : List NamedOp) (g : Graph) (layout : ℕ → List Shape) (before : ℕ → List BlockView)
+        (shard : Shard) (done : ShardDone)
+        → IsShardOf workers (resolved ops g.names g.kinds) layout w shard → IsShardDone before shard done
         → done.outcomes.items ≡ results (is_in_shard workers w) (resolved ops g.names g.kinds)
-        (outcomes_all (resolved ops g.names g.kinds) (opened (layout_by before))) 0 }
-    ensures layout { (workers w : ℕ) (ops : List NamedOp) (g : Graph) (before : ℕ → List BlockView) (shard : Shard)
-        (done : ShardDone)
-        → IsShardOf workers (resolved ops g.names g.kinds) w shard → IsShardDone before shard done
+        (map told (outcomes_all (sources_in shard) (resolved ops g.names g.kinds) (opened (layout_by before)))) 0 }
+    ensures layout { (workers w : ℕ) (ops : List NamedOp) (g : Graph) (layout : ℕ → List Shape) (before : ℕ → List BlockView)
+        (shard : Shard) (done : ShardDone)
+        → IsShardOf workers (resolved ops g.names g.kinds) layout w shard → IsShardDone before shard done
         → All (λ r. map shape_of r.1 ≡ layout_after ops g (layout_by before) r.0) (row_values done.rows.items) }
+{}
+
+/// The shards of a plan may take at most one block for each operation of the batch, and, where one of these expires edges, as
+/// many more as the version has.
+#[tactic(auto, using(crate::proofs::Asked::needs_within))]
+pub fn law_needs()
+    ensures { (workers : ℕ) (ops : List NamedOp) (g : Graph) (rows : List (List BlockView)) (plan : Plan)
+        → IsPlan workers ops g (row_of rows) plan
+        → sum_by (λ n. n) plan.needs.items ≤ length ops + (if list_any is_expire ops then length (blocks_of rows) else 0) }
 {}

@@ -3,6 +3,7 @@
 ghost use Rattle.std.specs.Prelude.{◌≡◌, ◌+◌, ◌++◌, ◌<◌, ◌≤◌, map, IfOk, IfSome, MatchBool, vec_len, length, [], All, List, ℕ};
 ghost use Rattle.std.specs.Thread.{IsSync};
 ghost use Rattle.row_pages.specs.Rows.{row_of};
+ghost use Rattle.shard_work.specs.Done.{IsShardDone};
 ghost use Rattle.batch_apply.specs.Jobs.{IsShard, AreDone};
 
 use graph_version::Version;
@@ -10,7 +11,7 @@ use shard_work::{Shard, ShardDone, work_on};
 use std::alloc::{AllocError, Global};
 use std::thread::{Threads, join};
 
-/// It is told of each worker before the worker's shard: of a worker without operations in the thread that starts the
+/// It is told of each worker before the worker's shard: of a worker without rows in the thread that starts the
 /// others, before it starts them, and of any other in the thread that does the worker's shard.
 pub trait Gate {
     fn arrive(&self, worker: usize, of: usize);
@@ -31,17 +32,17 @@ pub struct Job {
 }
 
 impl Job {
-    /// Whether it has operations.
+    /// Whether it has rows to open.
     fn is_busy(&self) -> bool
-        ensures { MatchBool result (0 < length self.now.shard.steps.items) (self.now.shard.steps.items ≡ []) }
+        ensures { MatchBool result (0 < length self.now.shard.sources.items) (self.now.shard.sources.items ≡ []) }
     {
-        !self.shard.steps.is_empty()
+        !self.shard.sources.is_empty()
     }
 }
 
 /// What the work on each shard leaves, in the order of the jobs.
 ///
-/// All workers with operations run at once; where at most one has any, no thread is started.
+/// All workers with rows run at once; where at most one has any, no thread is started.
 pub fn do_all<R: Threads + Sync, G: Gate + Sync>(
     rt: &R,
     alloc: Global,
@@ -50,7 +51,7 @@ pub fn do_all<R: Threads + Sync, G: Gate + Sync>(
     of: usize,
     jobs: Vec<Job>,
 ) -> Result<Vec<ShardDone>, AllocError>
-    requires { All (λ j. IsShard j.shard) jobs.items }
+    requires { All (λ j. IsShard (row_of version.now.rows) j.shard) jobs.items }
     ensures { IfOk result (λ v. AreDone (row_of version.now.rows) jobs.items v.items) }
 {
     for job in jobs.as_slice() {
@@ -61,7 +62,7 @@ pub fn do_all<R: Threads + Sync, G: Gate + Sync>(
     do_busy(rt, alloc, gate, version, of, jobs)
 }
 
-/// The place of the last worker with operations, where another has some too.
+/// The place of the last worker with rows, where another has some too.
 fn last_of_several(jobs: &[Job]) -> Option<usize>
     ensures { IfSome result (λ place. place < length jobs.now) }
 {
@@ -73,7 +74,7 @@ fn last_of_several(jobs: &[Job]) -> Option<usize>
     }
 }
 
-/// As `do_all`, once the gate has been told of the workers without operations. The last worker with operations gets a
+/// As `do_all`, once the gate has been told of the workers without rows. The last worker with rows gets a
 /// thread of its own while this thread goes on with those before it.
 fn do_busy<R: Threads + Sync, G: Gate + Sync>(
     rt: &R,
@@ -83,7 +84,7 @@ fn do_busy<R: Threads + Sync, G: Gate + Sync>(
     of: usize,
     mut low: Vec<Job>,
 ) -> Result<Vec<ShardDone>, AllocError>
-    requires { All (λ j. IsShard j.shard) low.items }
+    requires { All (λ j. IsShard (row_of version.now.rows) j.shard) low.items }
     ensures { IfOk result (λ v. AreDone (row_of version.now.rows) low.items v.items) }
 {
     let Some(place) = last_of_several(&low) else {
@@ -91,11 +92,11 @@ fn do_busy<R: Threads + Sync, G: Gate + Sync>(
     };
     let high = low.split_off(place)?;
     let back = move || -> Result<Vec<ShardDone>, AllocError>
-        requires { IsSync G.row × All (λ j. IsShard j.shard) high.items }
+        requires { IsSync G.row × All (λ j. IsShard (row_of version.now.rows) j.shard) high.items }
         ensures { IfOk result (λ v. AreDone (row_of version.entry.now.rows) high.items v.items) }
     { do_each(alloc, gate, version, of, high) };
     let front = move || -> Result<Vec<ShardDone>, AllocError>
-        requires { IsSync R.row × IsSync G.row × All (λ j. IsShard j.shard) low.items }
+        requires { IsSync R.row × IsSync G.row × All (λ j. IsShard (row_of version.now.rows) j.shard) low.items }
         ensures { IfOk result (λ v. AreDone (row_of version.entry.now.rows) low.items v.items) }
     { do_busy(rt, alloc, gate, version, of, low) };
     let (b, a) = join(rt, back, front);
@@ -126,15 +127,29 @@ fn do_each<G: Gate>(
     of: usize,
     jobs: Vec<Job>,
 ) -> Result<Vec<ShardDone>, AllocError>
-    requires { All (λ j. IsShard j.shard) jobs.items }
+    requires { All (λ j. IsShard (row_of version.now.rows) j.shard) jobs.items }
     ensures { IfOk result (λ v. AreDone (row_of version.now.rows) jobs.items v.items) }
 {
     let mut done = Vec::with_capacity(alloc, jobs.len())?;
     for job in jobs {
-        if job.is_busy() {
-            gate.arrive(job.worker, of);
-        }
-        done.push(work_on(alloc, version, job.shard)?)?;
+        done.push(do_one(alloc, gate, version, of, job)?)?;
     }
     Ok(done)
+}
+
+/// What the work on a job's shard leaves; the gate is told of the worker before, where it has rows.
+fn do_one<G: Gate>(
+    alloc: Global,
+    gate: &G,
+    version: &Version,
+    of: usize,
+    job: Job,
+) -> Result<ShardDone, AllocError>
+    requires { IsShard (row_of version.now.rows) job.shard }
+    ensures { IfOk result (λ d. IsShardDone (row_of version.now.rows) job.shard d) }
+{
+    if job.is_busy() {
+        gate.arrive(job.worker, of);
+    }
+    work_on(alloc, version, job.shard)
 }

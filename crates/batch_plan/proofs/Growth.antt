@@ -1,23 +1,25 @@
 -- A worker's operations as more of the batch are planned.
 use Rattle.std.proofs.Common.{◌≡◌, ◌≢◌, ℕ, zero, suc, ◌+◌, ◌<◌, ◌≤◌, ◌%◌, ◌==◌, ◌||◌, true, false, cond, List, [], ◌∷◌, ◌++◌}
 use Rattle.std.proofs.Common.{length, length-append, get_or, map, filter, refl, sym, ap, ap₂, ◌∙◌, arith, subst, All, AllPairs}
-use Rattle.std.proofs.Common.{nat_eq}
+use Rattle.std.proofs.Common.{nat_eq, Bool}
+use Rattle.std.proofs.lemmas.List.Folds.{list_any-append}
 use Rattle.std.specs.Prelude.{slice_index}
-use Rattle.std.specs.List.{enumerate_from, list_any}
+use Rattle.std.specs.List.{enumerate_from, list_any, sum_by}
 use Rattle.std.specs.declared.option.Option.{Option}
 use Rattle.std.specs.declared.option.Option.TheVariants.{None, Some}
 use Rattle.std.proofs.lemmas.Bool.{true≢false, eqb-true, eqb-false}
 use Rattle.std.proofs.lemmas.List.{map-append, get_or_append_left}
+use Rattle.std.proofs.lemmas.List.Sums.{sum_by_push}
 use Rattle.std.proofs.lemmas.List.Elements.{All-head, All-tail, All-nil, All-cons, All-push, filter-append}
 use Rattle.std.proofs.lemmas.List.Quantifiers.{all_pairs_push}
 use Rattle.graph_model.specs.Graph.{Key}
-use Rattle.graph_model.specs.declared.changes.EdgeChange.{EdgeChange}
-use Rattle.block_layout.specs.Batches.{Resolved, AtKey, IsPlaced, shard_of, is_in_shard, shard_ops}
-use Rattle.graph_model.specs.Changes.{IsChange}
-use Rattle.shard_work.specs.Shards.{AreSteps, IsPlace, key_at, resolved_at, resolved_in}
+use Rattle.block_layout.specs.Batches.{Resolved, AtKey, InAll, IsPlaced, shard_of, is_in_shard, shard_ops}
+use Rattle.shard_work.specs.Shards.{AreSteps, IsAct, IsPlace, key_at, resolved_at, resolved_in}
+use Rattle.shard_work.specs.declared.shard.Act.{Act}
+use Rattle.shard_work.specs.declared.shard.Act.TheVariants.{Edge, Expire}
 use Rattle.shard_work.specs.declared.shard.Place.{Place}
 use Rattle.shard_work.specs.declared.shard.Step.{Step}
-use Rattle.batch_plan.specs.Shards.{acts, unsourced, IsSourceBelow, AreShardSteps, with_source}
+use Rattle.batch_plan.specs.Shards.{acts, unsourced, IsSourceBelow, AreShardSteps, with_source, with_op}
 
 no_more : {A : Type 0} (xs : List A) → xs ++ [] ≡ xs
 no_more [] = refl
@@ -77,6 +79,16 @@ more_all P (Some k) sources all new =
       | false ↦ All-push P sources k.source all (new k refl)
     ]
 
+more_listed : (o : Option Key) (sources : List ℕ) (s : ℕ) → list_any (nat_eq s) sources ≡ true
+    → list_any (nat_eq s) (with_source o sources) ≡ true
+more_listed None sources s listed = listed
+more_listed (Some k) sources s listed =
+    elim (list_any (nat_eq k.source) sources) as (λ b. list_any (nat_eq s) (cond b sources (sources ++ k.source ∷ [])) ≡ true) [
+      | true ↦ listed
+      | false ↦ list_any-append (nat_eq s) sources (k.source ∷ [])
+          ∙ ap (λ b. b || list_any (nat_eq s) (k.source ∷ [])) listed
+    ]
+
 more_length : (o : Option Key) (sources : List ℕ) → length sources ≤ length (with_source o sources)
 more_length None sources = omega arith
 more_length (Some k) sources =
@@ -105,27 +117,23 @@ acts_stay : (o : Option Key) (sources : List ℕ) (steps : List Step) → AreSte
     → acts (resolved_in (with_source o sources) steps) ≡ acts (resolved_in sources steps)
 acts_stay o sources [] all = refl
 acts_stay o sources (s ∷ steps) all =
-    let Fine : Step → Type 0 = λ s. IsPlace (length sources) s.place × IsChange s.change in
-    ap₂ (λ (a : Resolved) as'. a ∷ as')
-    (ap (λ (q : Option Key). AtKey None q s.change) (key_stays o sources s.place (All-head Fine s steps all).0))
-    (acts_stay o sources steps (All-tail Fine s steps all))
+    let Fine : Step → Type 0 = λ s. IsAct (length sources) s.act in
+    ap₂ (λ (a : Resolved) as'. a ∷ as') (act_stays s.act (All-head Fine s steps all))
+    (acts_stay o sources steps (All-tail Fine s steps all)) where
+      act_stays : (act : Act) → IsAct (length sources) act
+          → unsourced (resolved_at (with_source o sources) act) ≡ unsourced (resolved_at sources act)
+      act_stays (Edge place change) is = ap (λ (q : Option Key). AtKey None q change) (key_stays o sources place is.0)
+      act_stays (Expire time) is = refl
 
 wider : (n m : ℕ) → n ≤ m → (p : Option Place) → IsPlace n p → IsPlace m p
 wider n m le None h = tt
 wider n m le (Some p) h = omega arith
 
 steps_wider : (n m : ℕ) → n ≤ m → (steps : List Step) → AreSteps n steps → AreSteps m steps
-steps_wider n m le steps all k d lt = (wider n m le (get_or steps k d).place (all k d lt).0, (all k d lt).1)
-
-pub none_yet : (workers w : ℕ) → AreShardSteps workers [] w [] []
-none_yet workers w = record {
-  places = refl;
-  acts_are = refl;
-  in_range = All-nil (λ (s : Step). IsPlace 0 s.place × IsChange s.change);
-  distinct = λ i j d lt within. absurd (omega arith);
-  own = All-nil (λ s. s % workers ≡ w);
-  within = λ n all. All-nil (λ s. s < n);
-}
+steps_wider n m le steps all k d lt = act_wider (get_or steps k d).act (all k d lt) where
+  act_wider : (act : Act) → IsAct n act → IsAct m act
+  act_wider (Edge place change) is = (wider n m le place is.0, is.1)
+  act_wider (Expire time) is = tt
 
 abbrev numbers : ℕ → ℕ → List (ℕ × Resolved) → List ℕ
 numbers workers w ps = map (λ (p : ℕ × Resolved). p.0) (filter (λ (p : ℕ × Resolved). is_in_shard workers w p.1) ps)
@@ -146,10 +154,10 @@ next_acts workers w rs r =
     ∙ map-append unsourced (shard_ops workers w rs) (shard_ops workers w (r ∷ []))
 
 -- an operation of another worker changes nothing
-pub passed : (workers w : ℕ) (rs : List Resolved) (r : Resolved) (sources : List ℕ) (steps : List Step)
-    → AreShardSteps workers rs w sources steps → is_in_shard workers w r ≡ false
-    → AreShardSteps workers (rs ++ r ∷ []) w sources steps
-passed workers w rs r sources steps is out = record {
+pub passed : (workers w : ℕ) (rs : List Resolved) (r : Resolved) (is_old : ℕ → Bool) (sources : List ℕ) (steps : List Step)
+    → AreShardSteps workers rs w is_old sources steps → is_in_shard workers w r ≡ false
+    → AreShardSteps workers (rs ++ r ∷ []) w is_old sources steps
+passed workers w rs r is_old sources steps is out = record {
   places = is.places ∙ sym (next_places workers w rs r ∙ ap (λ b. numbers workers w (enumerate_from 0 rs)
       ++ map (λ (p : ℕ × Resolved). p.0) (cond b ((length rs, r) ∷ []) [])) out
       ∙ no_more (numbers workers w (enumerate_from 0 rs)));
@@ -158,42 +166,82 @@ passed workers w rs r sources steps is out = record {
   in_range = is.in_range;
   distinct = is.distinct;
   own = is.own;
-  within = λ n all. is.within n (all_left (IsSourceBelow n) rs (r ∷ []) all);
+  within = λ n all old. is.within n (all_left (IsSourceBelow n) rs (r ∷ []) all) old;
+  old_rows = is.old_rows;
 }
 
-module _ (workers w : ℕ) (rs : List Resolved) (of : Option ℕ) (key : Option Key) (change : EdgeChange) (sources : List ℕ)
-    (steps : List Step) (is : AreShardSteps workers rs w sources steps) where
-  abbrev r : Resolved
-  r = AtKey of key change
+-- the key of an operation on an edge
+abbrev key_in : Resolved → Option Key
+key_in (AtKey source key change) = key
+key_in (InAll time) = None
 
+with_key : (r : Resolved) (sources : List ℕ) → with_op r sources ≡ with_source (key_in r) sources
+with_key (AtKey source key change) sources = refl
+with_key (InAll time) sources = refl
+
+own_key : (workers w : ℕ) (r : Resolved) → IsPlaced r → is_in_shard workers w r ≡ true → (k : Key) → key_in r ≡ Some k
+    → k.source % workers ≡ w
+own_key workers w (AtKey source key change) placed mine k e =
+    eqb-true (k.source % workers) w (ap (λ o. shard_of workers o == w) (sym (placed k e)) ∙ mine)
+own_key workers w (InAll time) placed mine k e = cc
+
+below_key : (n : ℕ) (r : Resolved) → IsSourceBelow n r → (k : Key) → key_in r ≡ Some k → k.source < n
+below_key n (AtKey source key change) below = below
+below_key n (InAll time) below = λ k e. cc
+
+more_sum : (f : ℕ → ℕ) (o : Option Key) (sources : List ℕ)
+    → ((k : Key) → o ≡ Some k → list_any (nat_eq k.source) sources ≡ false → f k.source ≡ 0)
+    → sum_by f (with_source o sources) ≡ sum_by f sources
+more_sum f None sources new = refl
+more_sum f (Some k) sources new =
+    elim (list_any (nat_eq k.source) sources) as (λ b. list_any (nat_eq k.source) sources ≡ b
+    → sum_by f (cond b sources (sources ++ k.source ∷ [])) ≡ sum_by f sources) [
+      | true ↦ λ _. refl
+      | false ↦ λ none. let one = sum_by_push f sources k.source in let zero = new k refl none in omega arith
+    ] refl
+
+module _ (workers w : ℕ) (rs : List Resolved) (r : Resolved) (is_old : ℕ → Bool) (sources : List ℕ) (steps : List Step)
+    (is : AreShardSteps workers rs w is_old sources steps) (mine : is_in_shard workers w r ≡ true) (placed : IsPlaced r) where
   -- one of the worker's own is added, with its source
-  pub added : is_in_shard workers w r ≡ true → IsPlaced r → (next : List ℕ) (s : Step) → next ≡ with_source key sources
-      → s.op ≡ length rs
-      → key_at next s.place ≡ key → IsPlace (length next) s.place → s.change ≡ change → IsChange s.change
-      → AreShardSteps workers (rs ++ r ∷ []) w next (steps ++ s ∷ [])
-  added mine placed next s grows op at place does valid =
-      subst (λ (ss : List ℕ). AreShardSteps workers (rs ++ r ∷ []) w ss (steps ++ s ∷ [])) (sym grows)
-      (let more : List ℕ = with_source key sources in
-      let key_is : key_at more s.place ≡ key = subst (λ ss. key_at ss s.place ≡ key) grows at in
-      let place_is : IsPlace (length more) s.place = subst (λ ss. IsPlace (length ss) s.place) grows place in
+  pub added : (next : List ℕ) (op : ℕ) (act : Act) → next ≡ with_op r sources → op ≡ length rs
+      → unsourced (resolved_at next act) ≡ unsourced r → IsAct (length next) act
+      → AreShardSteps workers (rs ++ r ∷ []) w is_old next (steps ++ record { op = op; act = act } ∷ [])
+  added next op act grows op_is at in_rows =
+      let key : Option Key = key_in r in
+      let more : List ℕ = with_source key sources in
+      let next_is : next ≡ more = grows ∙ with_key r sources in
+      let s : Step = record { op = op; act = act } in
+      subst (λ (ss : List ℕ). AreShardSteps workers (rs ++ r ∷ []) w is_old ss (steps ++ s ∷ [])) (sym next_is)
+      (let act_is : unsourced (resolved_at more act) ≡ unsourced r =
+      subst (λ ss. unsourced (resolved_at ss act) ≡ unsourced r) next_is at in
       record {
         places =
             map-append (λ (t : Step). t.op) steps (s ∷ [])
-            ∙ ap₂ (λ a b. a ++ b ∷ []) is.places op
+            ∙ ap₂ (λ a b. a ++ b ∷ []) is.places op_is
             ∙ sym (next_places workers w rs r ∙ ap (λ b. numbers workers w (enumerate_from 0 rs)
             ++ map (λ (p : ℕ × Resolved). p.0) (cond b ((length rs, r) ∷ []) [])) mine);
         acts_are =
-            ap acts (map-append (λ (t : Step). resolved_at more t.change t.place) steps (s ∷ []))
+            ap acts (map-append (λ (t : Step). resolved_at more t.act) steps (s ∷ []))
             ∙ map-append unsourced (resolved_in more steps) (resolved_in more (s ∷ []))
             ∙ ap₂ (λ (a : List Resolved) (b : Resolved). a ++ b ∷ [])
-            (acts_stay key sources steps is.in_range ∙ is.acts_are)
-            (λ i. AtKey None (key_is i) (does i))
+            (acts_stay key sources steps is.in_range ∙ is.acts_are) act_is
             ∙ sym (next_acts workers w rs r ∙ ap (λ b. acts (shard_ops workers w rs) ++ acts (cond b (r ∷ []) [])) mine);
-        in_range = All-push (λ (s : Step). IsPlace (length more) s.place × IsChange s.change) steps s
-            (steps_wider (length sources) (length more) (more_length key sources) steps is.in_range) (place_is, valid);
+        in_range = All-push (λ (s : Step). IsAct (length more) s.act) steps s
+            (steps_wider (length sources) (length more) (more_length key sources) steps is.in_range)
+            (subst (λ (ss : List ℕ). IsAct (length ss) act) next_is in_rows);
         distinct = more_distinct key sources is.distinct;
-        own = more_all (λ s. s % workers ≡ w) key sources is.own
-            (λ k e. eqb-true (k.source % workers) w (ap (λ o. shard_of workers o == w) (sym (placed k e)) ∙ mine));
-        within = λ n all. more_all (λ s. s < n) key sources (is.within n (all_left (IsSourceBelow n) rs (r ∷ []) all))
-            (last_of (IsSourceBelow n) rs r all);
+        own = more_all (λ s. s % workers ≡ w) key sources is.own (own_key workers w r placed mine);
+        within = λ n all old. more_all (λ s. s < n) key sources (is.within n (all_left (IsSourceBelow n) rs (r ∷ []) all) old)
+            (below_key n r (last_of (IsSourceBelow n) rs r all));
+        old_rows = λ t own old. more_listed key sources t (is.old_rows t own old);
       })
+
+  -- a sum over the sources to which those with old rows alone add
+  pub same_sum : (f : ℕ → ℕ) → ((s : ℕ) → is_old s ≡ false → f s ≡ 0) → (next : List ℕ) → next ≡ with_op r sources
+      → sum_by f next ≡ sum_by f sources
+  same_sum f none next grows =
+      ap (sum_by f) (grows ∙ with_key r sources)
+      ∙ more_sum f (key_in r) sources (λ k e out. elim (is_old k.source) as (λ b. is_old k.source ≡ b → f k.source ≡ 0) [
+        | true ↦ λ old. absurd (true≢false (sym (is.old_rows k.source (own_key workers w r placed mine k e) old) ∙ out))
+        | false ↦ λ old. none k.source old
+      ] refl)

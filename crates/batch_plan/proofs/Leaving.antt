@@ -4,7 +4,7 @@ use Rattle.std.specs.List.{range_with_len, AllZip}
 use Rattle.graph_model.specs.Graph.{Graph}
 use Rattle.graph_model.specs.Step.{after, after_all}
 use Rattle.graph_model.specs.declared.batches.NamedOp.{NamedOp}
-use Rattle.graph_model.specs.declared.batches.NamedOp.TheVariants.{Insert, Incr, Remove}
+use Rattle.graph_model.specs.declared.batches.NamedOp.TheVariants.{Insert, Incr, Remove, Expire}
 use Rattle.block_layout.specs.Operations.{names_after, kinds_after}
 use Rattle.vertex_names.specs.Book.{Book}
 use Rattle.graph_version.specs.Kept.{vertex_book, kind_book}
@@ -17,11 +17,13 @@ one_names : (op : NamedOp) (g : Graph) → names_after op g.names ≡ (after op 
 one_names (Insert kind source target weight time) g = refl
 one_names (Incr kind source target amount time) g = refl
 one_names (Remove kind source target) g = refl
+one_names (Expire time) g = refl
 
 one_kinds : (op : NamedOp) (g : Graph) → kinds_after op g.kinds ≡ (after op g).kinds
 one_kinds (Insert kind source target weight time) g = refl
 one_kinds (Incr kind source target amount time) g = refl
 one_kinds (Remove kind source target) g = refl
+one_kinds (Expire time) g = refl
 
 -- the names that operations leave are those of the graph that they leave
 pub names_left : (ops : List NamedOp) (g : Graph) → names_all ops g.names ≡ (after_all ops g).names

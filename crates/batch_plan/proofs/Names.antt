@@ -11,7 +11,7 @@ use Rattle.graph_model.specs.Step.{with_name, number_of}
 use Rattle.block_layout.specs.Operations.{names_after, kinds_after}
 use Rattle.graph_model.specs.Answer.{is_listed}
 use Rattle.graph_model.specs.declared.batches.NamedOp.{NamedOp}
-use Rattle.graph_model.specs.declared.batches.NamedOp.TheVariants.{Insert, Incr, Remove}
+use Rattle.graph_model.specs.declared.batches.NamedOp.TheVariants.{Insert, Incr, Remove, Expire}
 use Rattle.vertex_names.specs.Book.{Book}
 use Rattle.vertex_names.specs.declared.book.AddError.{AddError}
 use Rattle.vertex_names.specs.declared.book.AddError.TheVariants.{NamesFull, OutOfMemory}
@@ -96,6 +96,7 @@ no_fewer_after (Insert kind source target weight time) names =
 no_fewer_after (Incr kind source target amount time) names =
     let a = no_fewer names source in let b = no_fewer (with_name names source) target in omega arith
 no_fewer_after (Remove kind source target) names = omega arith
+no_fewer_after (Expire time) names = omega arith
 
 pub no_fewer_all : (ops : List NamedOp) (names : List (List ℕ)) → length names ≤ length (names_all ops names)
 no_fewer_all [] names = omega arith
@@ -122,6 +123,7 @@ no_fewer_kinds : (op : NamedOp) (kinds : List (List ℕ)) → length kinds ≤ l
 no_fewer_kinds (Insert kind source target weight time) kinds = no_fewer kinds kind
 no_fewer_kinds (Incr kind source target amount time) kinds = no_fewer kinds kind
 no_fewer_kinds (Remove kind source target) kinds = omega arith
+no_fewer_kinds (Expire time) kinds = omega arith
 
 pub no_fewer_kinds_all : (ops : List NamedOp) (kinds : List (List ℕ)) → length kinds ≤ length (kinds_all ops kinds)
 no_fewer_kinds_all [] kinds = omega arith

@@ -4,7 +4,7 @@ use Rattle.std.proofs.Common.{Option, Some, None, arith}
 use Rattle.graph_model.specs.Graph.{Key}
 use Rattle.graph_model.specs.Step.{number_of}
 use Rattle.graph_model.specs.declared.batches.NamedOp.{NamedOp}
-use Rattle.block_layout.specs.Operations.{Parts, OfEdge, parts_of, names_after, kinds_after}
+use Rattle.block_layout.specs.Operations.{Parts, OfEdge, OfAll, parts_of, names_after, kinds_after}
 use Rattle.block_layout.specs.Batches.{Resolved, AtKey, IsPlaced, is_known, resolve_parts, resolved}
 use Rattle.std.proofs.lemmas.List.Elements.{All-nil, All-cons}
 use Rattle.batch_plan.specs.declared.resolve.Ends.{Ends}
@@ -26,6 +26,7 @@ one_resolved names kinds (OfEdge change kind source target) =
     ap (λ (key : Option Key). AtKey (known names source) key change)
     (key_cases (is_known kinds kind) (is_known names source) (is_known names target) (number_of kinds kind)
     (number_of names source) (number_of names target))
+one_resolved names kinds (OfAll time) = refl
 
 pub resolved_is : (ops : List NamedOp) (names kinds : List (List ℕ))
     → with_kinds (ends_all ops names) ops kinds ≡ resolved ops names kinds
@@ -59,6 +60,7 @@ placed_parts (Some a) (Some s) (Some t) k e =
 
 one_placed : (kinds : List (List ℕ)) (e : Ends) (op : Parts) → IsPlaced (with_kind kinds e op)
 one_placed kinds e (OfEdge change kind source target) = placed_parts (known kinds kind) e.source e.target
+one_placed kinds e (OfAll time) = tt
 
 all_placed : (ends : List Ends) (ops : List NamedOp) (kinds : List (List ℕ)) → All IsPlaced (with_kinds ends ops kinds)
 all_placed [] ops kinds = All-nil IsPlaced

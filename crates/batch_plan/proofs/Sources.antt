@@ -1,17 +1,19 @@
 -- An operation's source is one of the vertices that the batch leaves.
-use Rattle.std.proofs.Common.{◌≡◌, ◌<◌, ℕ, List, [], ◌∷◌, length, ◌≤◌, Bool, true, false, cond, ◌&&◌, refl, subst, All}
+use Rattle.std.proofs.Common.{◌≡◌, ◌<◌, ℕ, List, [], ◌∷◌, length, ◌≤◌, Bool, true, false, cond, ◌&&◌, refl, ap, subst, All}
 use Rattle.std.proofs.Common.{Some, None, arith}
 use Rattle.std.proofs.lemmas.List.Elements.{All-nil, All-cons}
 use Rattle.graph_model.specs.Graph.{Graph, Key}
 use Rattle.graph_model.specs.Step.{after_all, key_in}
 use Rattle.graph_model.specs.declared.batches.NamedOp.{NamedOp}
 use Rattle.graph_model.proofs.NameLists.{number_of-lt}
-use Rattle.block_layout.specs.Batches.{is_known, resolve_parts, resolved}
-use Rattle.block_layout.specs.Operations.{Parts, OfEdge, parts_of, names_after, kinds_after}
+use Rattle.block_layout.specs.Rows.{Shape}
+use Rattle.block_layout.specs.Batches.{is_known, resolve_parts, resolved, IsWithin, IsLayoutOf}
+use Rattle.block_layout.specs.Operations.{Parts, OfEdge, OfAll, parts_of, names_after, kinds_after}
 use Rattle.shard_work.specs.Done.{sources_in}
 use Rattle.shard_work.specs.declared.shard.Shard.{Shard}
 use Rattle.batch_plan.specs.Plan.{names_all}
-use Rattle.batch_plan.specs.Shards.{IsSourceBelow, IsShardOf}
+use Rattle.batch_plan.specs.Shards.{IsSourceBelow, IsShardOf, latest}
+use Rattle.batch_plan.proofs.OldRows.{old_within}
 use Rattle.batch_plan.proofs.Names.{no_fewer_all}
 use Rattle.batch_plan.proofs.Leaving.{names_left}
 
@@ -29,6 +31,7 @@ one_below : (names kinds : List (List ℕ)) (op : Parts) (n : ℕ) → length na
 one_below names kinds (OfEdge change kind source target) n few = λ k is.
     below_if (is_known kinds kind) (is_known names source) (is_known names target) (key_in names kinds kind source target) k n is
     (λ known. omega (arith, few, number_of-lt names source known))
+one_below names kinds (OfAll time) n few = tt
 
 all_below : (ops : List NamedOp) (names kinds : List (List ℕ))
     → All (IsSourceBelow (length (names_all ops names))) (resolved ops names kinds)
@@ -40,9 +43,13 @@ all_below (op ∷ ops) names kinds =
     (one_below (names_after op names) (kinds_after op kinds) (parts_of op) n (no_fewer_all ops (names_after op names)))
     (all_below ops (names_after op names) (kinds_after op kinds))
 
-pub sources_within : (workers worker : ℕ) (ops : List NamedOp) (g : Graph) (shard : Shard)
-    → IsShardOf workers (resolved ops g.names g.kinds) worker shard
+pub sources_within : (workers worker : ℕ) (ops : List NamedOp) (g : Graph) (layout : ℕ → List Shape) (shard : Shard)
+    → IsWithin g → IsLayoutOf layout g.edges → IsShardOf workers (resolved ops g.names g.kinds) layout worker shard
     → All (λ s. s < length (after_all ops g).names) (sources_in shard)
-sources_within workers worker ops g shard is =
+sources_within workers worker ops g layout shard within shows is =
+    let more = no_fewer_all ops g.names in
+    let left : length (names_all ops g.names) ≡ length (after_all ops g).names = ap length (names_left ops g) in
     is.within (length (after_all ops g).names) (subst (λ ns. All (IsSourceBelow (length ns)) (resolved ops g.names g.kinds))
     (names_left ops g) (all_below ops g.names g.kinds))
+    (λ s old. let lt = old_within g layout (latest (resolved ops g.names g.kinds)) s within shows old in omega
+    (arith, lt, more, left))

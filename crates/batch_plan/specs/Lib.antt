@@ -1,3 +1,4 @@
 pub mod Plan
 pub mod Shards
 pub mod Planned
+pub mod OldRows

@@ -1,22 +1,23 @@
 -- The numbers of a batch's names, each operation by the names at its place.
-use Rattle.std.specs.Prelude.{◌≡◌, ℕ, ◌<◌, ◌≤◌, List, [], ◌∷◌, length, if◌then◌else◌}
+use Rattle.std.specs.Prelude.{ℕ, ◌<◌, ◌≤◌, List, [], ◌∷◌, length, if◌then◌else◌}
 use Rattle.std.specs.Option.{option_map}
 use Rattle.std.specs.declared.option.Option.{Option}
 use Rattle.std.specs.declared.option.Option.TheVariants.{None, Some}
 use Rattle.graph_model.specs.Graph.{Key}
 use Rattle.graph_model.specs.Step.{number_of}
 use Rattle.graph_model.specs.declared.batches.NamedOp.{NamedOp}
-use Rattle.graph_model.specs.declared.changes.EdgeChange.{EdgeChange}
+use Rattle.graph_model.specs.Changes.{IsChange}
 use Rattle.vertex_names.specs.Book.{Book}
 use Rattle.vertex_names.specs.declared.book.AddError.{AddError}
 use Rattle.vertex_names.specs.declared.book.AddError.TheVariants.{NamesFull, OutOfMemory}
-use Rattle.block_layout.specs.Operations.{Parts, OfEdge, parts_of, names_after, kinds_after}
-use Rattle.block_layout.specs.Batches.{Resolved, AtKey, is_known}
+use Rattle.block_layout.specs.Operations.{Parts, OfEdge, OfAll, parts_of, names_after, kinds_after}
+use Rattle.block_layout.specs.Batches.{Resolved, AtKey, InAll, is_known}
 use Rattle.batch_plan.specs.declared.plans.PlanError.{PlanError}
 use Rattle.batch_plan.specs.declared.plans.PlanError.TheVariants as plan
 use Rattle.batch_plan.specs.declared.resolve.Ends.{Ends}
 use Rattle.batch_plan.specs.declared.resolve.EdgeKey.{EdgeKey}
 use Rattle.batch_plan.specs.declared.resolve.ResolvedOp.{ResolvedOp}
+use Rattle.batch_plan.specs.declared.resolve.ResolvedOp.TheVariants.{Edge, Expire}
 
 -- a name's number, if it has appeared
 abbrev pub known : List (List ℕ) → List ℕ → Option ℕ
@@ -25,6 +26,7 @@ known names name = if is_known names name then Some (number_of names name) else 
 -- the numbers of an operation's source and target, by these names
 abbrev pub ends_by : List (List ℕ) → Parts → Ends
 ends_by names (OfEdge change kind source target) = record { source = known names source; target = known names target }
+ends_by names (OfAll time) = record { source = None; target = None }
 
 abbrev pub ends_in : List (List ℕ) → NamedOp → Ends
 ends_in names op = ends_by names (parts_of op)
@@ -32,10 +34,7 @@ ends_in names op = ends_by names (parts_of op)
 -- the number of an operation's kind, by these kinds
 abbrev pub kind_by : List (List ℕ) → Parts → Option ℕ
 kind_by kinds (OfEdge change kind source target) = known kinds kind
-
--- what an operation does to the edge at its key
-abbrev pub IsChangeOf : EdgeChange → Parts → Type 0
-IsChangeOf change (OfEdge does kind source target) = change ≡ does
+kind_by kinds (OfAll time) = None
 
 -- the names, and the kinds, after operations, one after another
 abbrev pub names_all : List NamedOp → List (List ℕ) → List (List ℕ)
@@ -62,6 +61,7 @@ key_from (Some kind) (Some source) (Some target) = Some (record { kind = kind; s
 abbrev pub with_kind : List (List ℕ) → Ends → Parts → Resolved
 with_kind kinds ends (OfEdge change kind source target) =
     AtKey ends.source (key_from (known kinds kind) ends.source ends.target) change
+with_kind kinds ends (OfAll time) = InAll time
 
 abbrev pub with_kinds : List Ends → List NamedOp → List (List ℕ) → List Resolved
 with_kinds [] ops kinds = []
@@ -74,7 +74,13 @@ abbrev pub key_of : EdgeKey → Key
 key_of k = record { kind = k.kind.0; source = k.source; target = k.target }
 
 abbrev pub shown : ResolvedOp → Resolved
-shown op = AtKey op.source (option_map key_of op.key) op.change
+shown (Edge source key change) = AtKey source (option_map key_of key) change
+shown (Expire time) = InAll time
+
+-- an operation on an edge has a weight and a time in range
+abbrev pub IsInRange : ResolvedOp → Type 0
+IsInRange (Edge source key change) = IsChange change
+IsInRange (Expire time) = Unit {0}
 
 abbrev pub with_names : Book → List (List ℕ) → Book
 with_names book names = record book { names = names }

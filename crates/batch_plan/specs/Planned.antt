@@ -1,22 +1,28 @@
 -- The plan of a batch: what it leaves of the names, and its operations by worker.
-use Rattle.std.specs.Prelude.{◌≡◌, ℕ, List}
+use Rattle.std.specs.Prelude.{◌≡◌, ℕ, List, map}
 use Rattle.std.specs.List.{range_with_len, AllZip}
 use Rattle.graph_model.specs.Graph.{Graph}
 use Rattle.graph_model.specs.GraphLimits.{MeetsNameLimit, MeetsKindLimit}
 use Rattle.graph_model.specs.Step.{after_all}
 use Rattle.graph_model.specs.declared.batches.NamedOp.{NamedOp}
+use Rattle.edge_block.specs.Slots.{BlockView}
 use Rattle.block_layout.specs.Batches.{resolved}
+use Rattle.shard_work.specs.Done.{layout_by, sources_in}
+use Rattle.shard_work.specs.Spending.{needed}
 use Rattle.graph_version.specs.Kept.{vertex_book, kind_book}
 use Rattle.batch_plan.specs.Shards.{IsShardOf}
 use Rattle.batch_plan.specs.declared.plans.Plan.{Plan}
 use Rattle.batch_plan.specs.declared.plans.PlanError.{PlanError}
 use Rattle.batch_plan.specs.declared.plans.PlanError.TheVariants.{NamesFull, KindsFull, OutOfMemory}
 
--- the books have the names that the batch leaves of the graph, and the shards are those of workers 0, 1, .. in order
-pub record IsPlan (workers : ℕ) (ops : List NamedOp) (g : Graph) (plan : Plan) : Type 0 where
+-- the books have the names that the batch leaves of the graph, the shards over its rows are those of workers 0, 1, .. in order,
+-- and each may take as many fresh blocks as it has operations on edges, and blocks with an edge that an expiry may take
+pub record IsPlan (workers : ℕ) (ops : List NamedOp) (g : Graph) (rows : ℕ → List BlockView) (plan : Plan) : Type 0 where
   pub names : plan.names ≡ vertex_book (after_all ops g).names
   pub kinds : plan.kinds ≡ kind_book (after_all ops g).kinds
-  pub shards : AllZip (IsShardOf workers (resolved ops g.names g.kinds)) (range_with_len 0 workers) plan.shards.items
+  pub shards : AllZip (IsShardOf workers (resolved ops g.names g.kinds) (layout_by rows)) (range_with_len 0 workers)
+      plan.shards.items
+  pub needs : plan.needs.items ≡ map (λ shard. needed rows (sources_in shard) shard.steps.items) plan.shards.items
 
 -- a batch that leaves no more names and no more kinds than the limits
 abbrev pub MeetsNeitherLimit : List NamedOp → Graph → Type 0

@@ -4,7 +4,8 @@ ghost use Rattle.std.specs.Prelude.{◌<◌, ℕ, List, length, All};
 ghost use Rattle.graph_model.specs.Graph.{Graph};
 ghost use Rattle.graph_model.specs.Step.{after_all};
 ghost use Rattle.graph_model.specs.declared.batches.NamedOp.{NamedOp};
-ghost use Rattle.block_layout.specs.Batches.{resolved};
+ghost use Rattle.block_layout.specs.Rows.{Shape};
+ghost use Rattle.block_layout.specs.Batches.{resolved, IsWithin, IsLayoutOf};
 ghost use Rattle.shard_work.specs.Done.{sources_in};
 ghost use Rattle.shard_work.specs.declared.shard.Shard.{Shard};
 ghost use Rattle.batch_plan.specs.Shards.{IsShardOf};
@@ -12,7 +13,7 @@ ghost use Rattle.batch_plan.specs.Shards.{IsShardOf};
 /// The sources of a batch's shards are vertices of the graph that the batch leaves.
 #[tactic(auto, using(crate::proofs::Sources::sources_within))]
 pub fn law_sources_within()
-    ensures { (workers worker : ℕ) (ops : List NamedOp) (g : Graph) (shard : Shard)
-        → IsShardOf workers (resolved ops g.names g.kinds) worker shard
+    ensures { (workers worker : ℕ) (ops : List NamedOp) (g : Graph) (layout : ℕ → List Shape) (shard : Shard)
+        → IsWithin g → IsLayoutOf layout g.edges → IsShardOf workers (resolved ops g.names g.kinds) layout worker shard
         → All (λ s. s < length (after_all ops g).names) (sources_in shard) }
 {}

@@ -6,6 +6,7 @@
 
 mod laws;
 mod naming;
+mod old;
 mod planning;
 mod plans;
 mod resolve;
@@ -13,7 +14,7 @@ mod shards;
 
 pub use laws::law_sources_within;
 pub use naming::resolve_batch;
+pub use old::{OldRow, old_rows};
 pub use planning::plan;
 pub use plans::{Plan, PlanError};
 pub use resolve::{EdgeKey, ResolvedOp};
-pub use shards::shard_for;

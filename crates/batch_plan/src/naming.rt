@@ -1,10 +1,9 @@
 //! The names of a batch, resolved.
 
 ghost use Rattle.std.specs.Prelude.{◌≡◌, ◌≤◌, map, IfOk, IfErr, OnOk, All};
-ghost use Rattle.graph_model.specs.Changes.{IsChange};
 ghost use Rattle.graph_model.specs.Valid.{IsValid};
 ghost use Rattle.block_layout.specs.Batches.{resolved, IsPlaced};
-ghost use Rattle.batch_plan.specs.Plan.{names_all, kinds_all, shown, with_names, IsUnplanned};
+ghost use Rattle.batch_plan.specs.Plan.{names_all, kinds_all, shown, with_names, IsInRange, IsUnplanned};
 
 use crate::plans::PlanError;
 use crate::resolve::{ResolvedOp, ends_of, with_kinds};
@@ -26,7 +25,7 @@ pub fn resolve_batch(
     requires limit { kinds.old.limit ≤ 64 }
     requires valid { All IsValid ops.now }
     ensures ops { IfOk result (λ v. map shown v.items ≡ resolved ops.now names.old.names kinds.old.names) }
-    ensures changes { IfOk result (λ v. All (λ op. IsChange op.change) v.items) }
+    ensures changes { IfOk result (λ v. All IsInRange v.items) }
     ensures placed { IfOk result (λ v. All IsPlaced (map shown v.items)) }
     ensures names { OnOk result (names.new ≡ with_names names.old (names_all ops.now names.old.names)) }
     ensures kinds { OnOk result (kinds.new ≡ with_names kinds.old (kinds_all ops.now kinds.old.names)) }

@@ -1,6 +1,7 @@
 //! What a plan is, and why there may be none.
 
-ghost use Rattle.std.specs.Prelude.{◌≡◌};
+ghost use Rattle.std.specs.Prelude.{◌≡◌, ◌-◌, ◌^◌, min};
+ghost use Rattle.std.specs.List.{sum_by};
 
 use shard_work::Shard;
 use std::alloc::AllocError;
@@ -16,6 +17,22 @@ pub struct Plan {
     pub kinds: NameBook,
     /// The batch's operations by worker: a shard for each worker, in order, without fresh blocks.
     pub shards: Vec<Shard>,
+    /// How many fresh blocks each shard may take: one for each operation on an edge, and one for each block of its rows
+    /// with an edge from before the greatest time of the expiries.
+    pub needs: Vec<usize>,
+}
+
+impl Plan {
+    /// How many fresh blocks all shards may take together, or the greatest number where they are more.
+    pub fn blocks_needed(&self) -> usize
+        ensures { result ≡ min (sum_by (λ n. n) self.now.needs.items) (2 ^ 64 - 1) }
+    {
+        let mut all = 0_usize;
+        for need in &self.needs {
+            all = all.saturating_add(*need);
+        }
+        all
+    }
 }
 
 /// Why a batch was not planned.

@@ -1,14 +1,14 @@
 //! The numbers of a batch's names, each operation by the names at its place.
 
-ghost use Rattle.std.specs.Prelude.{◌≡◌, ◌≤◌, ◌<◌, [], length, map, IfOk, IfErr, OnOk, IsTrue, All};
+ghost use Rattle.std.specs.Prelude.{◌≡◌, ◌≤◌, ◌<◌, ℕ, List, [], length, map, IfOk, IfErr, OnOk, IsTrue, All};
 ghost use Rattle.graph_model.specs.Step.{with_name};
-ghost use Rattle.graph_model.specs.Changes.{IsChange};
+ghost use Rattle.block_layout.specs.Batches.{AtKey};
 ghost use Rattle.graph_model.specs.Valid.{is_name, is_kind_name, has_names, IsValid};
 ghost use Rattle.std.specs.Option.{option_map};
 ghost use Rattle.block_layout.specs.Operations.{parts_of, names_after, kinds_after};
 ghost use Rattle.batch_plan.specs.Plan as plan;
 ghost use Rattle.batch_plan.specs.Plan.{known, ends_in, ends_all, names_all, kinds_all, key_from, key_of, shown, with_names};
-ghost use Rattle.batch_plan.specs.Plan.{kind_by, IsChangeOf, IsRefusal};
+ghost use Rattle.batch_plan.specs.Plan.{kind_by, IsInRange, IsRefusal};
 
 use graph_model::{EdgeChange, KindId, NamedOp};
 use std::alloc::Global;
@@ -29,13 +29,13 @@ pub struct EdgeKey {
     pub target: u32,
 }
 
-/// An operation with its names resolved: its source's number and its edge's key, none where a name has not appeared, and
-/// what it does to the edge.
+/// An operation with its names resolved.
 #[derive(Clone, Copy, Debug)]
-pub struct ResolvedOp {
-    pub source: Option<u32>,
-    pub key: Option<EdgeKey>,
-    pub change: EdgeChange,
+pub enum ResolvedOp {
+    /// Its source's number and its edge's key, none where a name has not appeared, and what it does to the edge.
+    Edge(Option<u32>, Option<EdgeKey>, EdgeChange),
+    /// It expires the edges that were last touched before a time.
+    Expire(u64),
 }
 
 /// The numbers of two names, which are added, the source before the target.
@@ -73,6 +73,10 @@ fn op_ends(names: &mut NameBook, op: &NamedOp) -> Result<Ends, AddError>
         NamedOp::Remove { source, target, .. } => Ok(Ends {
             source: names.number(source.as_str()),
             target: names.number(target.as_str()),
+        }),
+        NamedOp::Expire { .. } => Ok(Ends {
+            source: None,
+            target: None,
         }),
     }
 }
@@ -136,25 +140,7 @@ fn op_kind(kinds: &mut NameBook, op: &NamedOp) -> Result<Option<KindId>, AddErro
         NamedOp::Insert { kind, .. } => add_kind(kinds, kind.as_str()),
         NamedOp::Incr { kind, .. } => add_kind(kinds, kind.as_str()),
         NamedOp::Remove { kind, .. } => Ok(find_kind(kinds, kind.as_str())),
-    }
-}
-
-/// What an operation does to the edge at its key.
-fn change_by(op: &NamedOp) -> EdgeChange
-    requires { IsValid op.now }
-    ensures change { IsChangeOf result (parts_of op.now) }
-    ensures valid { IsChange result }
-{
-    match op {
-        NamedOp::Insert { weight, time, .. } => EdgeChange::Insert {
-            weight: *weight,
-            time: *time,
-        },
-        NamedOp::Incr { amount, time, .. } => EdgeChange::Incr {
-            amount: *amount,
-            time: *time,
-        },
-        NamedOp::Remove { .. } => EdgeChange::Remove,
+        NamedOp::Expire { .. } => Ok(None),
     }
 }
 
@@ -167,6 +153,42 @@ fn key_by(ends: Ends, kind: Option<KindId>) -> Option<EdgeKey>
         source: ends.source?,
         target: ends.target?,
     })
+}
+
+/// An operation on the edge of these ends and this kind.
+fn on_edge(ends: Ends, kind: Option<KindId>, change: EdgeChange) -> ResolvedOp
+    ensures { shown result ≡ AtKey ends.source (key_from (option_map (λ k. k.0) kind) ends.source ends.target) change }
+{
+    ResolvedOp::Edge(ends.source, key_by(ends, kind), change)
+}
+
+/// An operation with these ends and this kind.
+fn resolved_op(op: &NamedOp, ends: Ends, kind: Option<KindId>) -> ResolvedOp
+    requires { IsValid op.now }
+    ensures shown { (kinds : List (List ℕ)) → option_map (λ k. k.0) kind ≡ kind_by kinds (parts_of op.now)
+        → shown result ≡ plan.with_kind kinds ends (parts_of op.now) }
+    ensures valid { IsInRange result }
+{
+    match op {
+        NamedOp::Insert { weight, time, .. } => on_edge(
+            ends,
+            kind,
+            EdgeChange::Insert {
+                weight: *weight,
+                time: *time,
+            },
+        ),
+        NamedOp::Incr { amount, time, .. } => on_edge(
+            ends,
+            kind,
+            EdgeChange::Incr {
+                amount: *amount,
+                time: *time,
+            },
+        ),
+        NamedOp::Remove { .. } => on_edge(ends, kind, EdgeChange::Remove),
+        NamedOp::Expire { time } => ResolvedOp::Expire(*time),
+    }
 }
 
 /// Operations with these ends, in order, each with its kind by the kinds that it leaves.
@@ -182,7 +204,7 @@ pub fn with_kinds(
     requires valid { All IsValid ops.now }
     requires ends { length ends.now ≡ length ops.now }
     ensures ops { IfOk result (λ v. map shown v.items ≡ plan.with_kinds ends.now ops.now kinds.old.names) }
-    ensures changes { IfOk result (λ v. All (λ op. IsChange op.change) v.items) }
+    ensures changes { IfOk result (λ v. All IsInRange v.items) }
     ensures kinds { OnOk result (kinds.new ≡ with_names kinds.old (kinds_all ops.now kinds.old.names)) }
     ensures refused { IfErr result (λ error. IsRefusal error kinds.old (kinds_all ops.now kinds.old.names)) }
 {
@@ -190,11 +212,7 @@ pub fn with_kinds(
     for k in 0..ops.len() {
         let op = &ops[k];
         let kind = op_kind(kinds, op)?;
-        found.push(ResolvedOp {
-            source: ends[k].source,
-            key: key_by(ends[k], kind),
-            change: change_by(op),
-        })?;
+        found.push(resolved_op(op, ends[k], kind))?;
     }
     Ok(found)
 }

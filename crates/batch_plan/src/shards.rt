@@ -1,23 +1,27 @@
 //! A batch's operations by worker.
 
-ghost use Rattle.std.specs.Prelude.{◌≡◌, ◌+◌, ◌≤◌, ◌<◌, length, map, IfOk, OnOk, All};
+ghost use Rattle.std.specs.Prelude.{◌≡◌, ◌≢◌, ◌+◌, ◌-◌, ◌≤◌, ◌<◌, ◌^◌, ℕ, List, length, map, min, IfOk, OnOk, All, AllPairs};
 ghost use Rattle.std.specs.Option.{option_map};
 ghost use Rattle.indexmap.specs.IndexSet.{keys};
+ghost use Rattle.edge_block.specs.Slots.{BlockView};
 ghost use Rattle.block_layout.specs.Batches as layout;
 ghost use Rattle.block_layout.specs.Batches.{IsPlaced};
-ghost use Rattle.graph_model.specs.Changes.{IsChange};
-ghost use Rattle.shard_work.specs.Shards.{IsPlace, key_at};
-ghost use Rattle.batch_plan.specs.Plan.{key_of, shown};
-ghost use Rattle.batch_plan.specs.Shards.{IsShardOf, with_source};
+ghost use Rattle.shard_work.specs.Shards.{IsPlace, IsAct, key_at, resolved_at};
+ghost use Rattle.shard_work.specs.Done.{layout_by, sources_in};
+ghost use Rattle.shard_work.specs.Spending.{needed};
+ghost use Rattle.batch_plan.specs.Plan.{key_of, shown, IsInRange};
+ghost use Rattle.batch_plan.specs.OldRows.{AreOldRows, old_sources, own_rows, blocks_in};
+ghost use Rattle.batch_plan.specs.Shards.{IsShardOf, latest, unsourced, with_source, with_op};
 
+use crate::old::OldRow;
 use crate::resolve::{EdgeKey, ResolvedOp};
 use graph_model::VertexId;
 use indexmap::IndexSet;
-use shard_work::{Place, Shard, Step};
+use shard_work::{Act, Place, Shard, Step};
 use std::alloc::{AllocError, Global};
 
-/// The worker of an operation: its source's number by the number of workers. An operation on an unknown source is
-/// worker 0's.
+/// The worker of an operation on an edge: its source's number by the number of workers. One on an unknown source is worker
+/// 0's.
 fn worker_of(workers: usize, source: Option<u32>) -> usize
     requires { 0 < workers }
     ensures { result ≡ layout.shard_of workers source }
@@ -28,13 +32,24 @@ fn worker_of(workers: usize, source: Option<u32>) -> usize
     }
 }
 
+/// Whether an operation is one of a worker's: an expiry is every one's.
+fn is_in_shard(workers: usize, worker: usize, op: ResolvedOp) -> bool
+    requires { 0 < workers }
+    ensures { result ≡ layout.is_in_shard workers worker (shown op) }
+{
+    match op {
+        ResolvedOp::Edge(source, _, _) => worker_of(workers, source) == worker,
+        ResolvedOp::Expire(_) => true,
+    }
+}
+
 /// Where a key's edge is: the place of its source among the sources, to which a new one is added.
 fn place_in(
     sources: &mut Vec<VertexId>,
     places: &mut IndexSet<u32>,
     key: Option<EdgeKey>,
 ) -> Result<Option<Place>, AllocError>
-    requires few { length places.old.keys < 4096 }
+    requires few { length places.old.keys < 2 ^ 32 }
     requires same { map (λ s. s.0) sources.old.items ≡ places.old.keys }
     ensures same { OnOk result (map (λ s. s.0) sources.new.items ≡ places.new.keys) }
     ensures sources { OnOk result (places.new.keys ≡ with_source (option_map key_of key) places.old.keys) }
@@ -56,36 +71,116 @@ fn place_in(
     }))
 }
 
-/// A worker's operations, in order, without fresh blocks.
+/// What an operation of a shard does, where the place of its edge is by the sources, to which a new one is added.
+fn act_in(
+    sources: &mut Vec<VertexId>,
+    places: &mut IndexSet<u32>,
+    op: ResolvedOp,
+) -> Result<Act, AllocError>
+    requires few { length places.old.keys < 2 ^ 32 }
+    requires same { map (λ s. s.0) sources.old.items ≡ places.old.keys }
+    requires valid { IsInRange op }
+    ensures same { OnOk result (map (λ s. s.0) sources.new.items ≡ places.new.keys) }
+    ensures sources { OnOk result (places.new.keys ≡ with_op (shown op) places.old.keys) }
+    ensures act { IfOk result (λ act. unsourced (resolved_at places.new.keys act) ≡ unsourced (shown op)) }
+    ensures in_rows { IfOk result (IsAct (length places.new.keys)) }
+    ensures few { OnOk result (length places.new.keys ≤ length places.old.keys + 1) }
+{
+    match op {
+        ResolvedOp::Edge(_, key, change) => {
+            let place = place_in(sources, places, key)?;
+            Ok(Act::Edge(place, change))
+        }
+        ResolvedOp::Expire(time) => Ok(Act::Expire(time)),
+    }
+}
+
+/// A worker's sources before its first operation, the place of each, and how many old blocks they have.
+#[derive(Drop)]
+struct Listed {
+    sources: Vec<VertexId>,
+    places: IndexSet<u32>,
+    blocks: usize,
+}
+
+/// The old rows of a worker. The greatest number stands for as many blocks, or more.
+fn list_old(
+    alloc: Global,
+    workers: usize,
+    worker: usize,
+    old: &[OldRow],
+) -> Result<Listed, AllocError>
+    requires workers { 0 < workers }
+    requires distinct { AllPairs (λ a b. a ≢ b) (old_sources old.now) }
+    ensures same { IfOk result (λ l. map (λ s. s.0) l.sources.items ≡ l.places.keys) }
+    ensures own { IfOk result (λ l. l.places.keys ≡ old_sources (own_rows workers worker old.now)) }
+    ensures blocks { IfOk result (λ l. l.blocks ≡ min (blocks_in (own_rows workers worker old.now)) (2 ^ 64 - 1)) }
+{
+    let mut sources = Vec::new(alloc);
+    let mut places = IndexSet::new(alloc);
+    let mut blocks = 0_usize;
+    for row in old {
+        if row.source.0 as usize % workers == worker {
+            let (_, _) = places.insert_full(row.source.0)?;
+            sources.push(row.source)?;
+            blocks = blocks.saturating_add(row.blocks);
+        }
+    }
+    Ok(Listed {
+        sources,
+        places,
+        blocks,
+    })
+}
+
+/// A shard without fresh blocks, and how many of them it may take.
+#[derive(Drop)]
+pub struct Needing {
+    pub shard: Shard,
+    pub blocks: usize,
+}
+
+/// A worker's operations, in order, without fresh blocks. The worker opens the rows of its edges, and those of the version's
+/// old rows that are its own. The greatest number stands for as many blocks, or more.
 pub fn shard_for(
     alloc: Global,
     workers: usize,
     worker: usize,
     ops: &[ResolvedOp],
-) -> Result<Shard, AllocError>
+    old: &[OldRow],
+) -> Result<Needing, AllocError>
     requires workers { 0 < workers }
     requires few { length ops.now ≤ 4096 }
     requires placed { All IsPlaced (map shown ops.now) }
-    requires changes { All (λ op. IsChange op.change) ops.now }
-    ensures { IfOk result (IsShardOf workers (map shown ops.now) worker) }
+    requires valid { All IsInRange ops.now }
+    requires few_old { length old.now ≤ 65536 }
+    requires old { (rows : ℕ → List BlockView) × AreOldRows (latest (map shown ops.now)) rows old.now }
+    ensures shard { IfOk result (λ n. (rows : ℕ → List BlockView) → AreOldRows (latest (map shown ops.now)) rows old.now
+        → IsShardOf workers (map shown ops.now) (layout_by rows) worker n.shard) }
+    ensures blocks { IfOk result (λ n. (rows : ℕ → List BlockView) → AreOldRows (latest (map shown ops.now)) rows old.now
+        → n.blocks ≡ min (needed rows (sources_in n.shard) n.shard.steps.items) (2 ^ 64 - 1)) }
 {
-    let mut sources = Vec::new(alloc);
-    let mut places = IndexSet::new(alloc);
+    let Listed {
+        mut sources,
+        mut places,
+        mut blocks,
+    } = list_old(alloc, workers, worker, old)?;
     let mut steps = Vec::new(alloc);
     for k in 0..ops.len() {
         let op = ops[k];
-        if worker_of(workers, op.source) == worker {
-            let place = place_in(&mut sources, &mut places, op.key)?;
-            steps.push(Step {
-                op: k as u32,
-                place,
-                change: op.change,
-            })?;
+        if is_in_shard(workers, worker, op) {
+            let act = act_in(&mut sources, &mut places, op)?;
+            let step = Step { op: k as u32, act };
+            blocks = blocks.saturating_add(usize::from(!step.is_expiry()));
+            steps.push(step)?;
         }
     }
-    Ok(Shard {
-        sources,
-        steps,
-        fresh: Vec::new(alloc),
+    Ok(Needing {
+        shard: Shard {
+            sources,
+            steps,
+            fresh: Vec::new(alloc),
+        },
+        blocks,
     })
 }

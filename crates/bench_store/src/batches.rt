@@ -4,7 +4,7 @@ use crate::desks::{apply_to, grow, insertions, opened, refused};
 use crate::edges::{Edges, Shape};
 use crate::times::Times;
 use batch_apply::{PassAll, apply};
-use batch_plan::plan;
+use batch_plan::{old_rows, plan};
 use blank_blocks::fresh_blocks;
 use graph_model::Batch;
 use graph_version::Version;
@@ -120,13 +120,20 @@ fn apply_one<R: Threads + Sync + Clock + CpuClock + AllocGlobal>(
     if workers == 0 || version.number() >= 65_536 {
         return Err(refused());
     }
+    // (without an expiry there is an operation for each block)
     let Some(blocks) = fresh_blocks(rt.alloc(), version, batch.len()) else {
         return Err(refused());
     };
     let before = Times::now(rt)?;
-    let Ok(plan) = plan(rt.alloc(), version, &batch, workers) else {
+    let Ok(old) = old_rows(rt.alloc(), version, &batch) else {
         return Err(refused());
     };
+    let Ok(plan) = plan(rt.alloc(), version, &batch, &old, workers) else {
+        return Err(refused());
+    };
+    if plan.blocks_needed() > blocks.len() {
+        return Err(refused());
+    }
     let Ok(batch) = Arc::new(rt.alloc(), batch) else {
         return Err(refused());
     };

@@ -1,7 +1,7 @@
 -- The rows that operations leave have the edges that the operation rule leaves, and the outcomes are the rule's.
 use Rattle.std.proofs.Common.{◌≡◌, ℕ, ◌<◌, ◌==◌, List, [], ◌∷◌, length, map, filter, Bool, true, false, cond, not, ◌&&◌, ◌||◌}
-use Rattle.std.proofs.Common.{◌+◌, arith, refl, sym, ap, ◌∙◌, subst, Option, Some, None, is_some, All, bytes_eq, suc}
-use Rattle.std.specs.List.{list_any, list_all, position_or_len}
+use Rattle.std.proofs.Common.{◌+◌, ◌≤◌, arith, refl, sym, ap, ◌∙◌, subst, Option, Some, None, is_some, All, bytes_eq, suc}
+use Rattle.std.specs.List.{list_any, list_all, position_or_len, range_with_len}
 use Rattle.std.specs.Option.{option_or}
 use Rattle.std.specs.Ordering.{eq_by_cmp}
 use Rattle.std.specs.Cmp.{Equal-is}
@@ -10,24 +10,28 @@ use Rattle.std.proofs.lemmas.Bool.{true≢false, false≢true, and_parts}
 use Rattle.std.proofs.lemmas.List.Elements.{All-head, All-tail, All-cons, All-nil}
 use Rattle.graph_model.specs.Graph.{Graph, Key, Stamp, key_cmp}
 use Rattle.graph_model.specs.Step.{set_at, stamp_after, outcome_at, changed, changed_key, change_outcome, after, outcome, after_all}
-use Rattle.graph_model.specs.Step.{outcomes, number_of, with_name, names_made, kinds_made}
+use Rattle.graph_model.specs.Step.{outcomes, number_of, with_name, names_made, kinds_made, stays_from, expired, count_before}
 use Rattle.graph_model.specs.declared.batches.NamedOp.{NamedOp}
-use Rattle.graph_model.specs.declared.batches.NamedOp.TheVariants.{Insert, Incr, Remove}
+use Rattle.graph_model.specs.declared.batches.NamedOp.TheVariants.{Insert, Incr, Remove, Expire}
 use Rattle.graph_model.specs.declared.batches.Outcome.{Outcome}
-use Rattle.graph_model.specs.declared.batches.Outcome.TheVariants.{Absent}
+use Rattle.graph_model.specs.declared.batches.Outcome.TheVariants.{Absent, Expired}
 use Rattle.graph_model.specs.declared.changes.EdgeChange.{EdgeChange}
 use Rattle.graph_model.specs.declared.changes.EdgeChange.TheVariants.{Insert as ToInsert, Incr as ToIncr, Remove as ToRemove}
-use Rattle.block_layout.specs.Operations.{Parts, OfEdge, parts_of, names_by, kinds_by, names_after, kinds_after}
+use Rattle.block_layout.specs.Operations.{Parts, OfEdge, OfAll, parts_of, names_by, kinds_by, names_after, kinds_after}
 use Rattle.graph_model.proofs.Keys.{keys_total, exact_keys}
 use Rattle.graph_model.proofs.NameLists.{appears-with_name, stays-with_name, number_of-lt, length-names_made, length-kinds_made}
+use Rattle.graph_model.proofs.NameLists.{length-after_all-names}
+use Rattle.graph_model.proofs.Expiry.{get-expired}
 use Rattle.edge_block.specs.Slots.{Slot, NoKeyTwice, stamp_at, is_free, AreDistinct}
 use Rattle.block_layout.specs.Rows.{Shape, OpenBlock, block_at, row_at, open_at, edge_at, IsRow, change_row, has_none, is_kept}
-use Rattle.block_layout.specs.Rows.{row_end, shapes, untouched}
-use Rattle.block_layout.specs.Batches.{Resolved, resolve_parts, resolved, is_known, key_is_of, key_step, rows_step, rows_all}
-use Rattle.block_layout.specs.Batches.{key_outcome, outcome_in, outcomes_all, IsLayoutOf, opened, layout_after, IsWithin}
+use Rattle.block_layout.specs.Rows.{row_end, shapes, untouched, expire_row}
+use Rattle.block_layout.specs.Batches.{Resolved, InAll, resolve_parts, resolved, is_known, key_is_of, key_step, rows_step}
+use Rattle.block_layout.specs.Batches.{rows_all, key_outcome, outcome_in, outcomes_all, IsLayoutOf, opened, layout_after}
+use Rattle.block_layout.specs.Batches.{IsWithin}
 use Rattle.block_layout.proofs.SlotLaws.{same_number}
 use Rattle.block_layout.proofs.RowLaws.{IsOpenRow, change_sets}
-use Rattle.block_layout.proofs.ListedRows.{tests, tied}
+use Rattle.block_layout.proofs.ExpiryLaws.{expire_stays, expire_open}
+use Rattle.block_layout.proofs.ListedRows.{tests, tied, count_shown}
 use Rattle.edge_block.proofs.Changes.{none_is}
 
 pub set_at_get : (m : FinMap key_cmp Stamp) (k : Key) (o : Option Stamp) (q : Key)
@@ -46,19 +50,23 @@ AreOpenRows rows = (source : ℕ) → IsOpenRow (rows source)
 -- what an operation leaves, and its outcome, by its parts
 abbrev after_parts : Parts → Graph → Graph
 after_parts (OfEdge change kind source target) g = changed change kind source target g
+after_parts (OfAll time) g = record g { edges = expired time g.edges }
 
 abbrev outcome_parts : Parts → Graph → Outcome
 outcome_parts (OfEdge change kind source target) g = change_outcome change kind source target g
+outcome_parts (OfAll time) g = Expired (count_before time g.edges)
 
 after_is : (op : NamedOp) (g : Graph) → after op g ≡ after_parts (parts_of op) g
 after_is (Insert kind source target weight time) g = refl
 after_is (Incr kind source target amount time) g = refl
 after_is (Remove kind source target) g = refl
+after_is (Expire time) g = refl
 
 outcome_is : (op : NamedOp) (g : Graph) → outcome op g ≡ outcome_parts (parts_of op) g
 outcome_is (Insert kind source target weight time) g = refl
 outcome_is (Incr kind source target amount time) g = refl
 outcome_is (Remove kind source target) g = refl
+outcome_is (Expire time) g = refl
 
 never : {A : Type 0} (a : Bool) (x y : A) → y ≡ cond (a && false) x y
 never true x y = refl
@@ -201,7 +209,12 @@ lies (ToIncr amount time) kind source target g before is = (
 )
 lies ToRemove kind source target g before is = absurd (false≢true is)
 
+some_before : (time : ℕ) (o : Option Stamp) → is_some (stays_from time o) ≡ true → is_some o ≡ true
+some_before time None is = is
+some_before time (Some s) is = refl
+
 pub step_within : (op : Parts) (g : Graph) → IsWithin g → IsWithin (after_parts op g)
+step_within (OfAll time) g w q is = w q (some_before time (get g.edges q) (ap is_some (sym (get-expired time g.edges q)) ∙ is))
 step_within (OfEdge change kind source target) g w q is =
     let k : Key = changed_key change kind source target g in
     let n = length (names_made change source target g.names) in
@@ -220,11 +233,51 @@ step_within (OfEdge change kind source target) g w q is =
           (omega arith, omega arith, omega arith)
     ] refl (ap is_some (sym (set_at_get g.edges k (stamp_after change (get g.edges k)) q)) ∙ is)
 
+-- the shapes of open rows that have a map's edges are a layout of it
+shapes_at : (row : List OpenBlock) (q : ℕ × ℕ) → row_at (shapes row) q ≡ edge_at row q
+shapes_at [] q = refl
+shapes_at (b ∷ row) q = ap (option_or (open_at b q)) (shapes_at row q)
+
+shapes_row : (row : List OpenBlock) → IsOpenRow row → IsRow (shapes row)
+shapes_row row u = record { within = within row u.within; between = between row u.between } where
+  within : (row : List OpenBlock) → All (λ b. AreDistinct b.shape.slots) row → All (λ b. AreDistinct b.slots) (shapes row)
+  within [] a = All-nil (λ b. AreDistinct b.slots)
+  within (b ∷ row) a =
+      All-cons (λ b. AreDistinct b.slots) b.shape (shapes row) (All-head (λ b. AreDistinct b.shape.slots) b row a)
+      (within row (All-tail (λ b. AreDistinct b.shape.slots) b row a))
+
+  between : (row : List OpenBlock) → NoKeyTwice open_at row → NoKeyTwice block_at (shapes row)
+  between [] u = tt
+  between (b ∷ row) u = (λ q is. shapes_at row q ∙ u.0 q is, between row u.1)
+
+shapes_layout : (rows : ℕ → List OpenBlock) (edges : FinMap key_cmp Stamp) → AreOpenRows rows → Shows rows edges
+    → IsLayoutOf (λ source. shapes (rows source)) edges
+shapes_layout rows edges u s = record {
+  distinct = λ source. shapes_row (rows source) (u source);
+  shows = λ k. shapes_at (rows k.source) (k.kind, k.target) ∙ s k;
+}
+
+-- an expiry, counted over so many sources that each edge is of one of them
+pub expiry_shows : (time : ℕ) (edges : FinMap key_cmp Stamp) (rows : ℕ → List OpenBlock) (n : ℕ) → AreOpenRows rows
+    → Shows rows edges → ((k : Key) → is_some (get edges k) ≡ true → k.source < n)
+    → Shows (rows_step (InAll time) rows) (expired time edges) × AreOpenRows (rows_step (InAll time) rows)
+    × (outcome_in (range_with_len 0 n) (InAll time) rows ≡ Expired (count_before time edges))
+expiry_shows time edges rows n u s below = (
+  λ q. expire_stays time (rows q.source) (u q.source) (q.kind, q.target) ∙ ap (stays_from time) (s q)
+      ∙ sym (get-expired time edges q),
+  λ source. expire_open time (rows source) (u source),
+  ap (λ count. Expired count) (count_shown time edges rows n (shapes_layout rows edges u s) below),
+)
+
 -- one operation
-pub step_shows : (op : Parts) (g : Graph) (rows : ℕ → List OpenBlock) → IsWithin g → AreOpenRows rows → Shows rows g.edges
+pub step_shows : (op : Parts) (g : Graph) (rows : ℕ → List OpenBlock) (n : ℕ) → IsWithin g → AreOpenRows rows
+    → Shows rows g.edges → length g.names ≤ n
     → let r = resolve_parts (names_by op g.names) (kinds_by op g.kinds) op in
-    Shows (rows_step r rows) (after_parts op g).edges × AreOpenRows (rows_step r rows) × (outcome_in r rows ≡ outcome_parts op g)
-step_shows (OfEdge change kind source target) g rows w u s = edge_shows change kind source target g rows w u s
+    Shows (rows_step r rows) (after_parts op g).edges × AreOpenRows (rows_step r rows)
+    × (outcome_in (range_with_len 0 n) r rows ≡ outcome_parts op g)
+step_shows (OfEdge change kind source target) g rows n w u s few = edge_shows change kind source target g rows w u s
+step_shows (OfAll time) g rows n w u s few =
+    expiry_shows time g.edges rows n u s (λ k is. let lt = (w k is).1 in omega arith)
 
 -- an operation by the names and kinds that it leaves of the graph's
 abbrev by_left : NamedOp → Graph → Resolved
@@ -232,33 +285,41 @@ by_left op g = resolve_parts (names_after op g.names) (kinds_after op g.kinds) (
 
 names_left : (parts : Parts) (g : Graph) → (after_parts parts g).names ≡ names_by parts g.names
 names_left (OfEdge change kind source target) g = refl
+names_left (OfAll time) g = refl
 
 kinds_left : (parts : Parts) (g : Graph) → (after_parts parts g).kinds ≡ kinds_by parts g.kinds
 kinds_left (OfEdge change kind source target) g = refl
+kinds_left (OfAll time) g = refl
 
 -- a batch's operations, one after another
-pub all_shows : (ops : List NamedOp) (g : Graph) (rows : ℕ → List OpenBlock) → IsWithin g → AreOpenRows rows → Shows rows g.edges
+pub all_shows : (ops : List NamedOp) (g : Graph) (rows : ℕ → List OpenBlock) (n : ℕ) → IsWithin g → AreOpenRows rows
+    → Shows rows g.edges → length (after_all ops g).names ≤ n
     → let rs = resolved ops g.names g.kinds in
-    Shows (rows_all rs rows) (after_all ops g).edges × AreOpenRows (rows_all rs rows) × (outcomes_all rs rows ≡ outcomes ops g)
-    × IsWithin (after_all ops g)
-all_shows [] g rows w u s = (s, u, refl, w)
-all_shows (op ∷ ops) g rows w u s =
+    Shows (rows_all rs rows) (after_all ops g).edges × AreOpenRows (rows_all rs rows)
+    × (outcomes_all (range_with_len 0 n) rs rows ≡ outcomes ops g) × IsWithin (after_all ops g)
+all_shows [] g rows n w u s few = (s, u, refl, w)
+all_shows (op ∷ ops) g rows n w u s few =
+    let all : List ℕ = range_with_len 0 n in
     let parts : Parts = parts_of op in
     let r : Resolved = by_left op g in
     let next : Graph = after_parts parts g in
     let rs : List Resolved = resolved ops (names_after op g.names) (kinds_after op g.kinds) in
     let there : ◌≡◌ {A = List Resolved} (resolved ops next.names next.kinds) rs =
     λ i. resolved ops (names_left parts g i) (kinds_left parts g i) in
-    let one = step_shows parts g rows w u s in
-    let rest = all_shows ops next (rows_step r rows) (step_within parts g w) one.1 one.0 in
+    let few_here : length g.names ≤ n = omega (arith, few, length-after_all-names (op ∷ ops) g) in
+    let few_next : length (after_all ops next).names ≤ n =
+    subst (λ (h : Graph). length (after_all ops h).names ≤ n) (after_is op g) few in
+    let one = step_shows parts g rows n w u s few_here in
+    let rest = all_shows ops next (rows_step r rows) n (step_within parts g w) one.1 one.0 few_next in
     subst (λ (h : Graph).
     Shows (rows_all rs (rows_step r rows)) (after_all ops h).edges × AreOpenRows (rows_all rs (rows_step r rows))
-    × (outcome_in r rows ∷ outcomes_all rs (rows_step r rows) ≡ outcome op g ∷ outcomes ops h) × IsWithin (after_all ops h))
+    × (outcome_in all r rows ∷ outcomes_all all rs (rows_step r rows) ≡ outcome op g ∷ outcomes ops h)
+    × IsWithin (after_all ops h))
     (sym (after_is op g)) (
       subst (λ xs. Shows (rows_all xs (rows_step r rows)) (after_all ops next).edges) there rest.0,
       subst (λ xs. AreOpenRows (rows_all xs (rows_step r rows))) there rest.1,
       (λ i. (one.2 ∙ sym (outcome_is op g)) i
-          ∷ (ap (λ xs. outcomes_all xs (rows_step r rows)) (sym there) ∙ rest.2) i),
+          ∷ (ap (λ xs. outcomes_all all xs (rows_step r rows)) (sym there) ∙ rest.2) i),
       rest.3,
     )
 
@@ -324,18 +385,34 @@ end_within (h ∷ row) a =
       | false ↦ rest
     ]
 
+-- what open rows are at a batch's end is a layout of the edges that they have
+ended_layout : (rows : ℕ → List OpenBlock) (edges : FinMap key_cmp Stamp) → AreOpenRows rows → Shows rows edges
+    → IsLayoutOf (λ source. row_end (rows source)) edges
+ended_layout rows edges u s = record {
+  distinct = λ source. record { within = end_within _ (u source).within; between = end_unique _ (u source).between };
+  shows = λ k. end_at _ (k.kind, k.target) ∙ s k;
+}
+
 -- a batch leaves a layout of the graph that it leaves, and the rows' outcomes are the operation rule's
-pub batch_layout : (ops : List NamedOp) (g : Graph) (layout : ℕ → List Shape) → IsWithin g → IsLayoutOf layout g.edges
+pub batch_layout : (ops : List NamedOp) (g : Graph) (layout : ℕ → List Shape) (n : ℕ) → IsWithin g → IsLayoutOf layout g.edges
+    → length (after_all ops g).names ≤ n
     → IsLayoutOf (layout_after ops g layout) (after_all ops g).edges
-    × (outcomes_all (resolved ops g.names g.kinds) (opened layout) ≡ outcomes ops g) × IsWithin (after_all ops g)
-batch_layout ops g layout w l =
-    let done = all_shows ops g (opened layout) w (λ source. opened_row (layout source) (l.distinct source))
-    (λ k. opened_at (layout k.source) (k.kind, k.target) ∙ l.shows k) in (
-      record {
-        distinct =
-            λ source. record { within = end_within _ (done.1 source).within; between = end_unique _ (done.1 source).between };
-        shows = λ k. end_at _ (k.kind, k.target) ∙ done.0 k;
-      },
+    × (outcomes_all (range_with_len 0 n) (resolved ops g.names g.kinds) (opened layout) ≡ outcomes ops g)
+    × IsWithin (after_all ops g)
+batch_layout ops g layout n w l few =
+    let done = all_shows ops g (opened layout) n w (λ source. opened_row (layout source) (l.distinct source))
+    (λ k. opened_at (layout k.source) (k.kind, k.target) ∙ l.shows k) few in (
+      ended_layout (rows_all (resolved ops g.names g.kinds) (opened layout)) (after_all ops g).edges done.1 done.0,
       done.2,
       done.3,
     )
+
+-- an expiry alone leaves a layout of the edges that stay, and tells how many went
+pub expiry_layout : (time : ℕ) (edges : FinMap key_cmp Stamp) (layout : ℕ → List Shape) (n : ℕ) → IsLayoutOf layout edges
+    → ((k : Key) → is_some (get edges k) ≡ true → k.source < n)
+    → IsLayoutOf (λ source. row_end (expire_row time (opened layout source))) (expired time edges)
+    × (outcome_in (range_with_len 0 n) (InAll time) (opened layout) ≡ Expired (count_before time edges))
+expiry_layout time edges layout n l below =
+    let done = expiry_shows time edges (opened layout) n (λ source. opened_row (layout source) (l.distinct source))
+    (λ k. opened_at (layout k.source) (k.kind, k.target) ∙ l.shows k) below in
+    (ended_layout (rows_step (InAll time) (opened layout)) (expired time edges) done.1 done.0, done.2)

@@ -1,6 +1,8 @@
--- Rows that have a map's edges by look-up list each of them once.
+-- Rows that have a map's edges by look-up list each of them once, and so as many old ones as the map has.
 use Rattle.std.proofs.Common.{◌≡◌, ◌≢◌, ◌⊎◌, inl, inr, ℕ, zero, suc, ◌+◌, ◌<◌, ◌≤◌, ◌==◌, Bool, true, false, cond, ◌&&◌}
 use Rattle.std.proofs.Common.{List, [], ◌∷◌, ◌++◌, map, append_assoc, refl, sym, ap, ◌∙◌, subst, arith, All, Option, None, Some}
+use Rattle.std.specs.Prelude.{count_by}
+use Rattle.std.specs.List.{sum_by, range_with_len}
 use Rattle.std.specs.Option.{is_some, option_or}
 use Rattle.std.specs.Ordering.{nat_cmp, ordering_then, eq_by_cmp, is_eq}
 use Rattle.std.specs.Cmp.{unsigned_tied, tied_then}
@@ -9,12 +11,15 @@ use Rattle.std.proofs.lemmas.Bool.{eq-eqb, eqb-true, true≢false}
 use Rattle.std.proofs.lemmas.Bool.Decides.{eqb_tells, leb_tells}
 use Rattle.std.proofs.lemmas.List.{map-append}
 use Rattle.std.proofs.lemmas.List.Elements.{All-head, All-tail}
+use Rattle.std.proofs.lemmas.List.Sums.{sum_by-cons, sum_by-append}
 use Rattle.graph_model.specs.Graph.{Key, Stamp, key_cmp, key_of, stamp_of, map_of}
+use Rattle.graph_model.specs.Step.{is_before, was_before, count_before}
 use Rattle.graph_model.specs.declared.ids.Edge.{Edge}
 use Rattle.graph_model.proofs.Keys.{keys_total, exact_keys, is_key_of, is_key_of_at, HasKeysOnce, once_none, once_cons}
-use Rattle.edge_block.specs.Slots.{Slot, slot_at, stamp_at, edges_in, AreDistinct, NoKeyTwice}
+use Rattle.graph_model.proofs.Expiry.{count_before-map_of}
+use Rattle.edge_block.specs.Slots.{Slot, slot_at, stamp_at, edges_in, old_in, AreDistinct, NoKeyTwice}
 use Rattle.edge_block.proofs.Changes.{or_none}
-use Rattle.block_layout.specs.Rows.{Shape, block_at, row_at, row_entries, IsRow}
+use Rattle.block_layout.specs.Rows.{Shape, OpenBlock, block_at, row_at, row_entries, shapes, old_in_row, IsRow}
 use Rattle.block_layout.specs.Batches.{IsLayoutOf}
 use Rattle.block_layout.specs.Listed.{edge_from, edges_in_row, edges_in_rows, edges_below, AreListedOnce}
 
@@ -260,3 +265,49 @@ listed_once layout edges n is below = record {
         ∙ none_past (get edges k) (λ some. let lt = below k some in let le = past.1 in absurd (omega arith))
     | inr lt ↦ rows_in layout 0 n k (omega arith) (let to = lt.1 in omega arith) ∙ is.shows k
   ]
+
+-- Counts
+
+sum_map : {A B : Type 0} (f : B → ℕ) (g : A → B) (xs : List A) → sum_by f (map g xs) ≡ sum_by (λ x. f (g x)) xs
+sum_map f g [] = refl
+sum_map f g (x ∷ xs) =
+    sum_by-cons f (g x) (map g xs) ∙ ap (λ n. f (g x) + n) (sum_map f g xs) ∙ sym (sum_by-cons (λ x. f (g x)) x xs)
+
+abbrev one_if : Bool → ℕ
+one_if b = cond b 1 0
+
+count_entries : (time source : ℕ) (row : List Shape)
+    → count_by (λ e. is_before time e.1) (row_entries source row) ≡ sum_by (λ b. old_in time b.slots) row
+count_entries time source [] = refl
+count_entries time source (b ∷ row) =
+    let entry : Slot → Key × Stamp = slot_entry source b.kind in
+    sum_by-append (λ (e : Key × Stamp). one_if (is_before time e.1)) (map entry (edges_in b.slots)) (row_entries source row)
+    ∙ (λ i. sum_map (λ (e : Key × Stamp). one_if (is_before time e.1)) entry (edges_in b.slots) i
+    + count_entries time source row i)
+    ∙ sym (sum_by-cons (λ (x : Shape). old_in time x.slots) b row)
+
+count_row : (time source : ℕ) (row : List OpenBlock)
+    → count_by (was_before time) (edges_in_row source (shapes row)) ≡ old_in_row time row
+count_row time source row =
+    sum_map (λ e. one_if (was_before time e)) edge_from (row_entries source (shapes row))
+    ∙ count_entries time source (shapes row) ∙ sum_map (λ (x : Shape). old_in time x.slots) (λ (b : OpenBlock). b.shape) row
+
+count_rows : (time first count : ℕ) (rows : ℕ → List OpenBlock)
+    → count_by (was_before time) (edges_in_rows first count (λ s. shapes (rows s)))
+    ≡ sum_by (λ s. old_in_row time (rows s)) (range_with_len first count)
+count_rows time first zero rows = refl
+count_rows time first (suc count) rows =
+    sum_by-append (λ e. one_if (was_before time e)) (edges_in_row first (shapes (rows first)))
+    (edges_in_rows (first + 1) count (λ s. shapes (rows s)))
+    ∙ (λ i. count_row time first (rows first) i + count_rows time (first + 1) count rows i)
+    ∙ sym (sum_by-cons (λ s. old_in_row time (rows s)) first (range_with_len (first + 1) count))
+
+-- rows that have a map's edges by look-up, all of sources below n, have as many old ones as the map
+pub count_shown : (time : ℕ) (edges : FinMap key_cmp Stamp) (rows : ℕ → List OpenBlock) (n : ℕ)
+    → IsLayoutOf (λ s. shapes (rows s)) edges → ((k : Key) → is_some (get edges k) ≡ true → k.source < n)
+    → sum_by (λ s. old_in_row time (rows s)) (range_with_len 0 n) ≡ count_before time edges
+count_shown time edges rows n is below =
+    let listed = listed_once (λ s. shapes (rows s)) edges n is below in
+    sym (count_rows time 0 n rows)
+    ∙ sym (count_before-map_of time (edges_below n (λ s. shapes (rows s))) listed.once)
+    ∙ ap (count_before time) listed.same

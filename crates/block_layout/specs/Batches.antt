@@ -1,7 +1,7 @@
 -- The rows of all sources, and what a batch does to them.
 use Rattle.std.specs.Prelude.{◌≡◌, ℕ, zero, suc, ◌+◌, ◌%◌, ◌<◌, ◌==◌, List, [], ◌∷◌, map, length, filter, Bool, true, false, ◌&&◌}
 use Rattle.std.specs.Prelude.{if◌then◌else◌, bytes_eq}
-use Rattle.std.specs.List.{list_any}
+use Rattle.std.specs.List.{list_any, sum_by}
 use Rattle.std.specs.Option.{is_some}
 use Rattle.std.specs.FinMap.{FinMap, get}
 use Rattle.std.specs.declared.option.Option.{Option}
@@ -10,16 +10,17 @@ use Rattle.graph_model.specs.Graph.{Graph, Key, Stamp, key_cmp}
 use Rattle.graph_model.specs.Step.{number_of, key_in, outcome_at}
 use Rattle.graph_model.specs.declared.batches.NamedOp.{NamedOp}
 use Rattle.graph_model.specs.declared.batches.Outcome.{Outcome}
-use Rattle.graph_model.specs.declared.batches.Outcome.TheVariants.{Absent}
+use Rattle.graph_model.specs.declared.batches.Outcome.TheVariants.{Absent, Expired}
 use Rattle.graph_model.specs.declared.changes.EdgeChange.{EdgeChange}
-use Rattle.block_layout.specs.Operations.{Parts, OfEdge, parts_of, names_after, kinds_after}
-use Rattle.block_layout.specs.Rows.{Shape, OpenBlock, row_at, edge_at, untouched, change_row, row_end, taken_in, dropped_in}
-use Rattle.block_layout.specs.Rows.{IsRow}
+use Rattle.block_layout.specs.Operations.{Parts, OfEdge, OfAll, parts_of, names_after, kinds_after}
+use Rattle.block_layout.specs.Rows.{Shape, OpenBlock, row_at, edge_at, untouched, change_row, expire_row, old_in_row, row_end}
+use Rattle.block_layout.specs.Rows.{taken_in, dropped_in, IsRow}
 
 -- what an operation does, with the numbers of its names, none where a name is unknown at its place: it changes the edge at
--- its key
+-- its key, or expires edges of every row
 pub data Resolved : Type 0 where
   AtKey : (source : Option ℕ) (key : Option Key) (change : EdgeChange) → Resolved
+  InAll : (time : ℕ) → Resolved
 
 abbrev pub is_known : List (List ℕ) → List ℕ → Bool
 is_known names name = list_any (bytes_eq name) names
@@ -31,6 +32,7 @@ resolve_parts names kinds (OfEdge change kind source target) =
     (if is_known kinds kind && (is_known names source && is_known names target)
     then Some (key_in names kinds kind source target) else None)
     change
+resolve_parts names kinds (OfAll time) = InAll time
 
 abbrev pub resolve : List (List ℕ) → List (List ℕ) → NamedOp → Resolved
 resolve names kinds op = resolve_parts names kinds (parts_of op)
@@ -50,6 +52,7 @@ key_is_of source (Some k) = source == k.source
 
 abbrev pub acts_on : ℕ → Resolved → Bool
 acts_on source (AtKey own key change) = key_is_of source key
+acts_on source (InAll time) = true
 
 -- what it leaves of a row that it acts on
 abbrev pub key_step : EdgeChange → Option Key → List OpenBlock → List OpenBlock
@@ -58,14 +61,16 @@ key_step change (Some k) row = change_row change (k.kind, k.target) row
 
 abbrev pub row_step : Resolved → List OpenBlock → List OpenBlock
 row_step (AtKey own key change) row = key_step change key row
+row_step (InAll time) row = expire_row time row
 
--- its outcome
+-- its outcome: of an expiry, how many edges go from the rows of these sources
 abbrev pub key_outcome : EdgeChange → Option Key → (ℕ → List OpenBlock) → Outcome
 key_outcome change None rows = Absent
 key_outcome change (Some k) rows = outcome_at change (edge_at (rows k.source) (k.kind, k.target))
 
-abbrev pub outcome_in : Resolved → (ℕ → List OpenBlock) → Outcome
-outcome_in (AtKey own key change) rows = key_outcome change key rows
+abbrev pub outcome_in : List ℕ → Resolved → (ℕ → List OpenBlock) → Outcome
+outcome_in sources (AtKey own key change) rows = key_outcome change key rows
+outcome_in sources (InAll time) rows = Expired (sum_by (λ source. old_in_row time (rows source)) sources)
 
 -- one operation changes the rows that it acts on, and no others
 abbrev pub rows_step : Resolved → (ℕ → List OpenBlock) → ℕ → List OpenBlock
@@ -75,9 +80,10 @@ abbrev pub rows_all : List Resolved → (ℕ → List OpenBlock) → ℕ → Lis
 rows_all [] rows = rows
 rows_all (r ∷ rs) rows = rows_all rs (rows_step r rows)
 
-abbrev pub outcomes_all : List Resolved → (ℕ → List OpenBlock) → List Outcome
-outcomes_all [] rows = []
-outcomes_all (r ∷ rs) rows = outcome_in r rows ∷ outcomes_all rs (rows_step r rows)
+-- the outcomes of operations, where expiries count the edges of these sources
+abbrev pub outcomes_all : List ℕ → List Resolved → (ℕ → List OpenBlock) → List Outcome
+outcomes_all sources [] rows = []
+outcomes_all sources (r ∷ rs) rows = outcome_in sources r rows ∷ outcomes_all sources rs (rows_step r rows)
 
 -- the rows before the batch's first operation
 abbrev pub opened : (ℕ → List Shape) → ℕ → List OpenBlock
@@ -114,17 +120,32 @@ pub record IsLayoutOf (layout : ℕ → List Shape) (edges : FinMap key_cmp Stam
 -- an operation with a key is on the key's source
 abbrev pub IsPlaced : Resolved → Type 0
 IsPlaced (AtKey source key change) = (k : Key) → key ≡ Some k → source ≡ Some k.source
+IsPlaced (InAll time) = Unit {0}
 
 -- the shard of an operation on an edge, by its source's number; an unknown source is in shard 0
 abbrev pub shard_of : ℕ → Option ℕ → ℕ
 shard_of workers None = 0
 shard_of workers (Some source) = source % workers
 
+-- each operation on an edge is in one shard, and an expiry in every one
 abbrev pub is_in_shard : ℕ → ℕ → Resolved → Bool
 is_in_shard workers w (AtKey source key change) = shard_of workers source == w
+is_in_shard workers w (InAll time) = true
 
 abbrev pub shard_ops : ℕ → ℕ → List Resolved → List Resolved
 shard_ops workers w rs = filter (is_in_shard workers w) rs
+
+-- what is told of one operation over two lists of sources, taken together: an expiry's counts are added, and of all else
+-- the second stands
+abbrev pub together : Outcome → Outcome → Outcome
+together (Expired a) (Expired b) = Expired (a + b)
+together other b = b
+
+-- the same for each operation
+abbrev pub joined : List Outcome → List Outcome → List Outcome
+joined [] ys = []
+joined (x ∷ xs) [] = []
+joined (x ∷ xs) (y ∷ ys) = together x y ∷ joined xs ys
 
 -- of results, those of the elements that pass the test
 abbrev pub picked : {A B : Type 0} → (A → Bool) → List A → List B → List B

@@ -6,7 +6,7 @@ use Rattle.edge_block.specs.Slots.{edges_in}
 use Rattle.graph_model.specs.declared.changes.EdgeChange.{EdgeChange}
 use Rattle.graph_model.specs.declared.changes.EdgeChange.TheVariants.{Insert, Remove}
 use Rattle.block_layout.specs.Rows.{OpenBlock, Shape, row_end, taken_in, dropped_in}
-use Rattle.block_layout.specs.Batches.{Resolved, AtKey, rows_all, opened}
+use Rattle.block_layout.specs.Batches.{Resolved, AtKey, InAll, rows_all, opened}
 
 abbrev pub change_at : EdgeChange → ℕ → Resolved
 change_at change target = AtKey (Some 0) (Some (record { kind = 0; source = 0; target = target })) change
@@ -28,6 +28,10 @@ edge_counts row = map (λ b. length (edges_in b.slots)) row
 -- which targets each block of a row has, slots rising
 abbrev pub targets_of : List Shape → List (List ℕ)
 targets_of row = map (λ b. map (λ e. e.target) (edges_in b.slots)) row
+
+-- an insertion at time 9, where insert_at is one at time 1
+abbrev pub insert_late : ℕ → Resolved
+insert_late target = change_at (Insert (pos 1) 9) target
 
 -- a row's counts at a batch's end: the edges of each block, the blocks taken, and those dropped
 pub record Leaves (row : List OpenBlock) (edges : List ℕ) (taken dropped : ℕ) : Type 0 where
@@ -51,5 +55,10 @@ pub record AreExamples : Type 0 where
   pub emptied : Leaves (row_by (remove_at 0 ∷ []) (row_end (row_by (insert_at 0 ∷ []) []))) [] 0 1
   -- an edge removed and put anew in one batch: one block taken, one dropped
   pub put_anew : Leaves (row_by (remove_at 0 ∷ insert_at 0 ∷ []) (row_end (row_by (insert_at 0 ∷ []) []))) (1 ∷ []) 1 1
+  -- an expiry touches the blocks with an old edge alone, leaves out those that it empties, and keeps each edge of its time
+  pub expires_later : Leaves (row_by (insert_late 40 ∷ InAll 9 ∷ []) (row_end many)) (1 ∷ []) 1 2
+  pub expires : Leaves (row_by (InAll 9 ∷ []) (row_end (row_by (insert_late 33 ∷ insert_late 34 ∷ []) (row_end many))))
+      (2 ∷ []) 1 2
+  pub expires_none : Leaves (row_by (InAll 1 ∷ []) (row_end many)) (32 ∷ 1 ∷ []) 0 0
   -- an operation without effect touches no block
   pub untouched_row : Leaves (row_by (remove_at 1 ∷ []) (row_end (row_by (insert_at 0 ∷ []) []))) (1 ∷ []) 0 0

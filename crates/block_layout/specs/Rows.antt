@@ -1,7 +1,7 @@
 -- The row of a source: its blocks, and how one operation changes them.
 use Rattle.std.specs.Prelude.{ℕ, ◌==◌, List, [], ◌∷◌, ◌++◌, map, filter, count_by, replicate, All, Bool, true, false, not, ◌&&◌}
 use Rattle.std.specs.Prelude.{if◌then◌else◌}
-use Rattle.std.specs.List.{list_any, list_all}
+use Rattle.std.specs.List.{list_any, list_all, sum_by}
 use Rattle.std.specs.Option.{is_some}
 use Rattle.std.specs.declared.option.Option.{Option}
 use Rattle.std.specs.declared.option.Option.TheVariants.{None, Some}
@@ -9,9 +9,9 @@ use Rattle.graph_model.specs.Graph.{Key, Stamp}
 use Rattle.graph_model.specs.declared.changes.EdgeChange.{EdgeChange}
 use Rattle.graph_model.specs.Step.{stamp_after, outcome_at}
 use Rattle.graph_model.specs.declared.batches.Outcome.{Outcome}
-use Rattle.graph_model.specs.declared.batches.Outcome.TheVariants.{Inserted, Updated, Removed, Absent, Overflow}
+use Rattle.graph_model.specs.declared.batches.Outcome.TheVariants.{Inserted, Updated, Removed, Absent, Overflow, Expired}
 use Rattle.edge_block.specs.Slots.{BlockView, Slot, is_free, stamp_at, AreDistinct, at_first, put_slot, take_slot, edges_in}
-use Rattle.edge_block.specs.Slots.{first_some, NoKeyTwice}
+use Rattle.edge_block.specs.Slots.{first_some, NoKeyTwice, slots_since, old_in, has_before}
 
 -- a block without its number and source: its kind and its 32 slots
 pub record Shape : Type 0 where
@@ -92,18 +92,33 @@ abbrev pub set_edge : ℕ × ℕ → Option Stamp → List OpenBlock → List Op
 set_edge place None row = take_edge place row
 set_edge place (Some stamp) row = put_edge place.0 (record { target = place.1; stamp = stamp }) row
 
--- an outcome that touches a block
+-- an outcome of a change that touches a block; a change has none of an expiry
 abbrev pub touches : Outcome → Bool
 touches Inserted = true
 touches Updated = true
 touches Removed = true
 touches Absent = false
 touches Overflow = false
+touches (Expired count) = false
 
 -- one change to the row's edge of a kind to a target
 abbrev pub change_row : EdgeChange → ℕ × ℕ → List OpenBlock → List OpenBlock
 change_row change place row =
     if touches (outcome_at change (edge_at row place)) then set_edge place (stamp_after change (edge_at row place)) row else row
+
+-- whether a block has an edge that was last touched before a time, and how many a row has
+abbrev pub has_old : ℕ → OpenBlock → Bool
+has_old time b = has_before time b.shape.slots
+
+abbrev pub old_in_row : ℕ → List OpenBlock → ℕ
+old_in_row time row = sum_by (λ b. old_in time b.shape.slots) row
+
+-- an expiry touches the blocks that have such an edge, and no others
+abbrev pub expire_block : ℕ → OpenBlock → OpenBlock
+expire_block time b = if has_old time b then touch (slots_since time) b else b
+
+abbrev pub expire_row : ℕ → List OpenBlock → List OpenBlock
+expire_row time row = map (expire_block time) row
 
 -- at the batch's end: a touched block without edges is left out
 abbrev pub is_kept : OpenBlock → Bool

@@ -260,6 +260,7 @@ impl Numbers {
         ensures same { IsSame self.old self.new }
         ensures least { self.new.least ≡ self.old.least }
         ensures lists { self.new.retired.lists ≡ moved from to self.old.retired.lists }
+        ensures free { self.new.free_len ≡ self.old.free_len }
     {
         let number = self.retired.top(from);
         self.retired.pop(from);
@@ -276,16 +277,18 @@ impl Numbers {
         ensures statuses { statuses self.new ≡ map (recycled copy.now) (statuses self.old) }
         ensures count { result ≡ count_by (is_past copy.now) (statuses self.old) }
     {
-        let mut count = 0;
+        let mut count: u32 = 0;
         'sort: while self.retired.height(LOOSE) > 0 {
-            count += self.sort_top(copy);
+            count += self.sort_top(copy, count as usize);
         }
         count
     }
 
-    /// Frees the top of the loose numbers, or puts it under a pin that needs it, or to the late ones; 1 where it was freed.
-    fn sort_top(&mut self, copy: &PinCopy) -> u32
+    /// Frees the top of the loose numbers, as the free number of that place, or puts it under a pin that needs it, or to the
+    /// late ones; 1 where it was freed.
+    fn sort_top(&mut self, copy: &PinCopy, place: usize) -> u32
         requires kept { IsKept self.old }
+        requires place { place ≤ self.old.free_len }
         requires pins { HasPins copy.now self.old.pins }
         requires late { AreNeeded copy.now (statuses self.old) (stack_of self.old.retired.lists LATE) }
         requires some { 0 < length (stack_of self.old.retired.lists LOOSE) }
@@ -295,11 +298,12 @@ impl Numbers {
         ensures shorter { length (stack_of self.new.retired.lists LOOSE) + 1 ≡ length (stack_of self.old.retired.lists LOOSE) }
         ensures recycled { map (recycled copy.now) (statuses self.new) ≡ map (recycled copy.now) (statuses self.old) }
         ensures count { result + count_by (is_past copy.now) (statuses self.new) ≡ count_by (is_past copy.now) (statuses self.old) }
+        ensures free { self.new.free_len ≡ self.old.free_len + result }
     {
         let number = self.retired.top(LOOSE);
         let dates = self.dates_of(number);
         if !copy.needs(dates.birth, dates.since) {
-            self.release_top();
+            self.release_top(place);
             return 1;
         }
         if let Some(seat) = witness(copy, dates) {
@@ -325,20 +329,26 @@ impl Numbers {
         }
     }
 
-    /// Makes the top of the loose numbers free.
-    fn release_top(&mut self)
+    /// Makes the top of the loose numbers free, at a place of the free ones; the one that stood there becomes the next to be
+    /// granted. A collection puts what it frees at the first places: readers may still hold the version before, and a block
+    /// that it has would be copied before it is filled. Until the next collection most have let it go.
+    fn release_top(&mut self, place: usize)
         requires kept { IsKept self.old }
+        requires place { place ≤ self.old.free_len }
         requires some { 0 < length (stack_of self.old.retired.lists LOOSE) }
         ensures kept { IsKept self.new }
         ensures pins { self.new.pins ≡ self.old.pins }
         ensures lists { self.new.retired.lists ≡ taken_off LOOSE self.old.retired.lists }
         ensures statuses { statuses self.new ≡ slice_set (statuses self.old) (top_of (stack_of self.old.retired.lists LOOSE)) Free }
+        ensures free { self.new.free_len ≡ self.old.free_len + 1 }
     {
         let number = self.retired.top(LOOSE);
         self.retired.pop(LOOSE);
         self.retired_len -= 1;
         self.places[number as usize] = Place::Free;
-        self.free[self.free_len] = number;
+        let next = self.free[place];
+        self.free[self.free_len] = next;
+        self.free[place] = number;
         self.free_len += 1;
     }
 }

@@ -11,3 +11,4 @@ pub mod Times
 pub mod Copies
 pub mod Changes
 pub mod Entries
+pub mod Expiring

@@ -1,10 +1,12 @@
 -- Slots of a block: each is empty or has an edge of the block's source and kind.
-use Rattle.std.specs.Prelude.{◌≡◌, ℕ, ℤ, ◌==◌, List, [], ◌∷◌, length, map, replicate, Bool, true, false, ◌||◌, if◌then◌else◌, All}
+use Rattle.std.specs.Prelude.{◌≡◌, ℕ, ℤ, ◌==◌, List, [], ◌∷◌, length, map, replicate, count_by, Bool, true, false, ◌||◌}
+use Rattle.std.specs.Prelude.{if◌then◌else◌, All}
 use Rattle.std.specs.List.{list_any}
 use Rattle.std.specs.Option.{is_some, option_or}
 use Rattle.std.specs.declared.option.Option.{Option}
 use Rattle.std.specs.declared.option.Option.TheVariants.{None, Some}
 use Rattle.graph_model.specs.Graph.{Key, Stamp, IsWeight, IsTime}
+use Rattle.graph_model.specs.Step.{is_before}
 
 -- what the first element has that has something
 abbrev pub first_some : {A B : Type 0} → (A → Option B) → List A → Option B
@@ -73,6 +75,27 @@ has_room_for target slots = list_any (holds target) slots || list_any is_free sl
 -- without the edge to the target
 abbrev pub take_slot : ℕ → List (Option Slot) → List (Option Slot)
 take_slot target slots = at_first (holds target) (λ _. None) slots
+
+-- Expiry
+
+-- slots without the edges that were last touched before a time, how many these are, and whether there is one
+abbrev pub slot_since : ℕ → Option Slot → Option Slot
+slot_since time None = None
+slot_since time (Some e) = if is_before time e.stamp then None else Some e
+
+abbrev pub slots_since : ℕ → List (Option Slot) → List (Option Slot)
+slots_since time slots = map (slot_since time) slots
+
+abbrev pub old_in : ℕ → List (Option Slot) → ℕ
+old_in time slots = count_by (λ e. is_before time e.stamp) (edges_in slots)
+
+abbrev pub has_before : ℕ → List (Option Slot) → Bool
+has_before time slots = list_any (λ e. is_before time e.stamp) (edges_in slots)
+
+-- the target of an edge that was last touched before a time, none where there is no such edge
+abbrev pub IsOld : ℕ → List (Option Slot) → Option ℕ → Type 0
+IsOld time slots None = old_in time slots ≡ 0
+IsOld time slots (Some target) = (s : Stamp) × (stamp_at slots target ≡ Some s) × (is_before time s ≡ true)
 
 -- the target of a slot's edge
 abbrev pub slot_target : Option Slot → Option ℕ

@@ -7,6 +7,7 @@ ghost use Rattle.graph_model.specs.Graph.{IsWeight, IsTime};
 ghost use Rattle.graph_model.specs.View.{in_view, takes_kind};
 ghost use Rattle.lane_scan.specs.Masks.{AreBoundsOf};
 ghost use Rattle.edge_block.specs.Slots.{IsBlock, IsStamp, edges_in, edge_slot, is_free, empty_block, entries_of, holds};
+ghost use Rattle.edge_block.specs.Slots.{slots_since, old_in, has_before, IsOld};
 ghost use Rattle.edge_block.specs.Slots.{has_room_for, put_slot, take_slot, stamp_at, targets_in, with_slots};
 
 use crate::columns::{SLOTS, bounds_without, places_within, used_places};
@@ -199,6 +200,43 @@ impl Block {
         true
     }
 
+    /// Takes out the edges that were last touched before a time, and answers how many they were. It takes no memory.
+    pub fn expire(&mut self, time: u64) -> u32
+        ensures slots { self.new ≡ with_slots self.old (slots_since time self.old.slots) }
+        ensures count { result ≡ old_in time self.old.slots }
+    {
+        // A block's contract says with its length that it has 32 slots.
+        let _len = self.len();
+        let mut count = 0_u32;
+        while let Some(target) = self.first_before(time) {
+            let _taken = self.take(target);
+            count = count.wrapping_add(1);
+        }
+        count
+    }
+
+    /// The target of an edge that was last touched before a time, where there is one.
+    fn first_before(&self, time: u64) -> Option<u32>
+        ensures { IsOld time self.now.slots result }
+    {
+        if time == 0 {
+            return None;
+        }
+        // A block's contract says with its length that its targets are distinct.
+        let _len = self.len();
+        let old = Filter {
+            kind: None,
+            lo: 0,
+            hi: time - 1,
+        };
+        let mut edges = self.select(&old);
+        let first = edges.next();
+        match first {
+            Some(edge) => Some(*edge.target),
+            None => None,
+        }
+    }
+
     /// Whether the same slots of two blocks have edges, to the same targets.
     pub fn same_targets(&self, other: &Block) -> bool
         ensures { IsTrue result ↔ (targets_in self.now.slots ≡ targets_in other.now.slots) }
@@ -214,6 +252,16 @@ impl Block {
             None
         } else {
             Some(self.times)
+        }
+    }
+
+    /// Whether an edge was last touched before a time: the header tells.
+    pub fn has_before(&self, time: u64) -> bool
+        ensures { result ≡ has_before time self.now.slots }
+    {
+        match self.time_bounds() {
+            None => false,
+            Some((least, _)) => least < time,
         }
     }
 

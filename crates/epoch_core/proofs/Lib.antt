@@ -13,3 +13,4 @@ pub mod OneElement
 pub mod Read
 pub mod Cores
 pub mod Examples
+pub mod OpenedStart

@@ -148,7 +148,7 @@ sound_start start is =
 pub always_sound : (start : State) (events : List Event) → IsStart start → IsSound (run events start.world)
 always_sound start events is = sound_run events start.world (sound_start start is)
 
-free_at : (n b : ℕ) → b < n → slice_get (replicate n Free) b ≡ Some Free
+pub free_at : (n b : ℕ) → b < n → slice_get (replicate n Free) b ≡ Some Free
 free_at zero b h = absurd (omega arith)
 free_at (suc n) zero h = refl
 free_at (suc n) (suc b) h = free_at n b (omega arith)

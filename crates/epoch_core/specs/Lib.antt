@@ -1,4 +1,5 @@
 pub mod Worlds
+pub mod Opened
 pub mod Posts
 pub mod Machine
 pub mod Runs

@@ -1,13 +1,14 @@
 //! The machine itself.
 
 ghost use Rattle.std.specs.Prelude.{◌≡◌, ℕ, ◌<◌, ◌≤◌, ◌+◌, ◌-◌, ◌^◌, [], IfOk, OnOk, OnErr, IsTrue, length, min, replicate, take};
-ghost use Rattle.std.specs.Prelude.{slice_index_or};
+ghost use Rattle.std.specs.Prelude.{All, map, slice_index_or};
 ghost use Rattle.epoch_core.specs.Worlds as worlds;
 ghost use Rattle.epoch_core.specs.Worlds.{HasContents, IsStart};
 ghost use Rattle.epoch_core.specs.Machine.{takes_memory};
 ghost use Rattle.epoch_core.specs.Runs.{Steps, Runs, done_in, count_of};
 ghost use Rattle.epoch_core.specs.Sound.{IsCore};
 ghost use Rattle.epoch_core.specs.Cores.{state_of};
+ghost use Rattle.epoch_core.specs.Opened.{IsOpening, opened_state, heap_with, status_with};
 ghost use Rattle.epoch_posts.specs.declared.states.Status.TheVariants.{Free};
 ghost use Rattle.epoch_core.specs.declared.states.SessionState.TheVariants.{Idle};
 
@@ -62,6 +63,27 @@ impl Core {
         ensures starts { IfOk result (λ core. IsStart core) }
     {
         let parts = parts_at_start(alloc, sessions, blocks)?;
+        Ok(Core { parts })
+    }
+
+    /// The machine at its start over a content, whose edges are each once those in the listed blocks: version 0 lists
+    /// these blocks, with birth 0, and all others are free and without edges. Else it is as `new` makes it.
+    pub fn opened(
+        alloc: Global,
+        sessions: usize,
+        blocks: usize,
+        content: &Content,
+        lists: &[(u32, List<Edge>)],
+    ) -> Result<Core, OutOfMemory>
+        requires some_sessions { 1 ≤ sessions }
+        requires few_sessions { sessions ≤ 16 }
+        requires some_blocks { 1 ≤ blocks }
+        requires few_blocks { blocks ≤ 65536 }
+        requires opening { IsOpening blocks content.now lists.now }
+        ensures opened { IfOk result (λ core. core ≡ opened_state sessions blocks content.now lists.now) }
+        ensures starts { IfOk result (λ core. IsStart core) }
+    {
+        let parts = opened_parts(alloc, sessions, blocks, content, lists)?;
         Ok(Core { parts })
     }
 
@@ -165,6 +187,65 @@ fn parts_at_start(alloc: Global, sessions: usize, blocks: usize) -> Result<Parts
         sessions: idle_sessions(alloc, sessions)?,
         replies: empty_lists(alloc, sessions)?,
     })
+}
+
+/// The fields of the machine at its start over a content.
+fn opened_parts(
+    alloc: Global,
+    sessions: usize,
+    blocks: usize,
+    content: &Content,
+    lists: &[(u32, List<Edge>)],
+) -> Result<Parts, AllocError>
+    requires { All (λ l. l.0 < blocks) lists.now }
+    ensures { IfOk result (λ parts. state_of parts ≡ opened_state sessions blocks content.now lists.now) }
+{
+    let mut parts = parts_at_start(alloc, sessions, blocks)?;
+    fill_lists(alloc, &mut parts.heap, lists)?;
+    mark_lists(&mut parts.status, lists);
+    let numbers = listed_numbers(alloc, lists)?;
+    parts.opening = Opening {
+        content: content.clone()?,
+        blocks: List::of(numbers),
+    };
+    Ok(parts)
+}
+
+/// The number of each listed block.
+fn listed_numbers(alloc: Global, lists: &[(u32, List<Edge>)]) -> Result<Vec<usize>, AllocError>
+    ensures { IfOk result (λ v. v.items ≡ map (λ l. l.0) lists.now) }
+{
+    let mut numbers = Vec::with_capacity(alloc, lists.len())?;
+    for list in lists {
+        numbers.push(list.0 as usize)?;
+    }
+    Ok(numbers)
+}
+
+/// Puts each list of edges at its block's number.
+fn fill_lists(
+    alloc: Global,
+    heap: &mut Vec<List<Edge>>,
+    lists: &[(u32, List<Edge>)],
+) -> Result<(), AllocError>
+    requires { All (λ l. l.0 < length heap.old.items) lists.now }
+    ensures { OnOk result (heap.new.items ≡ heap_with lists.now heap.old.items) }
+{
+    for list in lists {
+        let edges = Vec::from_slice(alloc, list.1.as_slice())?;
+        heap[list.0 as usize] = List::of(edges);
+    }
+    Ok(())
+}
+
+/// Marks each listed block as used from version 0 on.
+fn mark_lists(status: &mut Vec<Status>, lists: &[(u32, List<Edge>)])
+    requires { All (λ l. l.0 < length status.old.items) lists.now }
+    ensures { status.new.items ≡ status_with lists.now status.old.items }
+{
+    for list in lists {
+        status[list.0 as usize] = Status::Used { birth: 0 };
+    }
 }
 
 /// The opening without names, kinds, edges and blocks. It takes no memory.

@@ -6,8 +6,8 @@ use Rattle.epoch_posts.specs.Versions.{graph_at}
 use Rattle.epoch_posts.specs.Posting.{last_content}
 use Rattle.epoch_core.specs.Worlds.{empty_opening}
 
-pub empty_content : (heap : List (List Edge)) → IsContent (last_content empty_opening heap [])
-empty_content heap = record {
+pub no_content : IsContent (record { names = []; kinds = []; edges = [] })
+no_content = record {
   names_distinct = λ i j d lt h. omega (arith, h);
   kinds_distinct = λ i j d lt h. omega (arith, h);
   names_few = omega arith;
@@ -15,6 +15,9 @@ empty_content heap = record {
   keys_distinct = λ i j d lt h. omega (arith, h);
   edges_within = λ j d h. omega (arith, h);
 }
+
+pub empty_content : (heap : List (List Edge)) → IsContent (last_content empty_opening heap [])
+empty_content heap = no_content
 
 pub empty_graph : (heap : List (List Edge)) → graph_of (last_content empty_opening heap []) ≡ graph_at empty_opening [] 0
 empty_graph heap = refl

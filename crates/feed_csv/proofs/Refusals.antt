@@ -1,6 +1,6 @@
 -- A record is refused for what it says, and never for a failed read or want of memory.
 use Rattle.std.proofs.Common.{◌≡◌, ◌≢◌, ℕ, Bool, true, false, cond, codes, List, Option, Some, None, Result, Ok, Err, refl, rules}
-use Rattle.feed_csv.specs.Commands.{Refuses, close_of, commit_of, cores_of, degrees_of, edge_of, incr_of, insert_of, item_of}
+use Rattle.feed_csv.specs.Commands.{Refuses, close_of, commit_of, cores_of, degrees_of, edge_of, expire_of, incr_of, insert_of, item_of}
 use Rattle.feed_csv.specs.Commands.{collect_of, stat_of}
 use Rattle.feed_csv.specs.Commands.{labels_of, levels_of, open_of, remove_of}
 use Rattle.feed_csv.specs.Fields.{◌>>=◌, any_kind_at, field, kind_at, name_at, of_length, required, slot_at, time_at, weight_at}
@@ -97,6 +97,12 @@ remove_of-fails row =
     then (kind_at r 1) _ (kind_at-fails r 1)
     (λ v0. then (name_at r 2) _ (name_at-fails r 2) (λ v1. then (name_at r 3) _ (name_at-fails r 3) (λ v2. given _))))
 
+expire_of-fails : (row : Row) → FailsByRecord (expire_of row)
+unfolding expire_of
+expire_of-fails row =
+    then (of_length 2 row) _ (of_length-fails 2 row) (λ r.
+    then (time_at r 1) _ (time_at-fails r 1) (λ v0. given _))
+
 commit_of-fails : (row : Row) → FailsByRecord (commit_of row)
 unfolding commit_of
 commit_of-fails row =
@@ -170,13 +176,14 @@ unfolding item_of
 item_of-fails row =
     let is = λ (text : List ℕ). bytes_eq (field row 0) text in
     tested (is (codes "i")) _ _ (insert_of-fails row) (tested (is (codes "a")) _ _ (incr_of-fails row)
-    (tested (is (codes "r")) _ _ (remove_of-fails row) (tested (is (codes "commit")) _ _ (commit_of-fails row)
+    (tested (is (codes "r")) _ _ (remove_of-fails row) (tested (is (codes "x")) _ _ (expire_of-fails row)
+    (tested (is (codes "commit")) _ _ (commit_of-fails row)
     (tested (is (codes "open")) _ _ (open_of-fails row) (tested (is (codes "close")) _ _ (close_of-fails row)
     (tested (is (codes "bfs")) _ _ (levels_of-fails row) (tested (is (codes "comp")) _ _ (labels_of-fails row)
     (tested (is (codes "core")) _ _ (cores_of-fails row) (tested (is (codes "deg")) _ _ (degrees_of-fails row)
     (tested (is (codes "edge")) _ _ (edge_of-fails row)
     (tested (is (codes "stat")) _ _ (stat_of-fails row) (tested (is (codes "collect")) _ _ (collect_of-fails row)
-    (refused BadCommand tt)))))))))))))
+    (refused BadCommand tt))))))))))))))
 
 -- a record that was taken and refused is a step of the feed
 pub refused_step : (word : FeedWord) (row : Row) (old new : Script) → word ≢ Memory → Refuses word (item_of row)

@@ -1,7 +1,7 @@
 -- The command of a record, or the word of its refusal: one rule for each command. A rule takes the fields in the
 -- order of refusals: how many there are, names and kinds, the weight, times, the slot.
 use Rattle.std.specs.Prelude.{◌≡◌, ℕ, bytes_eq, codes, List, if◌then◌else◌, Result, Ok, Err}
-use Rattle.graph_model.specs.declared.batches.NamedOp.TheVariants.{Insert, Incr, Remove}
+use Rattle.graph_model.specs.declared.batches.NamedOp.TheVariants.{Insert, Incr, Remove, Expire}
 use Rattle.graph_model.specs.declared.requests.Request.TheVariants.{Levels, Labels, Cores, Degrees, OneEdge}
 use Rattle.feed_csv.specs.Fields.{◌>>=◌, any_kind_at, field, kind_at, name_at, of_length, slot_at, time_at, weight_at}
 use Rattle.feed_csv.specs.Records.{Row}
@@ -41,6 +41,13 @@ remove_of record_fields = do
   source ← name_at row 2
   target ← name_at row 3
   Ok (Op (Remove kind source target))
+
+-- x,time
+unfoldable pub expire_of : Row → Result Command FeedWord
+expire_of record_fields = do
+  row ← of_length 2 record_fields
+  time ← time_at row 1
+  Ok (Op (Expire time))
 
 -- commit
 unfoldable pub commit_of : Row → Result Command FeedWord
@@ -132,6 +139,7 @@ item_of row =
     if bytes_eq word (codes "i") then insert_of row
     else (if bytes_eq word (codes "a") then incr_of row
     else (if bytes_eq word (codes "r") then remove_of row
+    else (if bytes_eq word (codes "x") then expire_of row
     else (if bytes_eq word (codes "commit") then commit_of row
     else (if bytes_eq word (codes "open") then open_of row
     else (if bytes_eq word (codes "close") then close_of row
@@ -142,7 +150,7 @@ item_of row =
     else (if bytes_eq word (codes "edge") then edge_of row
     else (if bytes_eq word (codes "stat") then stat_of row
     else (if bytes_eq word (codes "collect") then collect_of row
-    else Err BadCommand))))))))))))
+    else Err BadCommand)))))))))))))
 
 -- how a word of refusal is written
 abbrev pub word_text : FeedWord → List ℕ

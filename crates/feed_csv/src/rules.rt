@@ -23,6 +23,8 @@ pub(crate) fn command_of(alloc: Global, row: &ByteRecord) -> Result<Command, Fee
         incr(alloc, row)
     } else if word == b"r".as_slice() {
         remove(alloc, row)
+    } else if word == b"x".as_slice() {
+        expire(row)
     } else if word == b"commit".as_slice() {
         commit(row)
     } else if word == b"open".as_slice() {
@@ -130,6 +132,15 @@ fn remove(alloc: Global, row: &ByteRecord) -> Result<Command, FeedWord>
         source,
         target,
     }))
+}
+
+#[tactic(auto, unfolding(crate::specs::Commands::expire_of))]
+fn expire(row: &ByteRecord) -> Result<Command, FeedWord>
+    ensures { result ≡ spec.expire_of (fields_of row.now) }
+{
+    check_length(row, 2)?;
+    let time = time_at(row, 1)?;
+    Ok(Command::Op(NamedOp::Expire { time }))
 }
 
 #[tactic(auto, unfolding(crate::specs::Commands::commit_of))]

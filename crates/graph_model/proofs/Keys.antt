@@ -159,7 +159,7 @@ once_cons e es apart once (suc i) zero d h g = absurd (omega arith)
 once_cons e es apart once (suc i) (suc j) d h g = once i j d (omega arith) (omega arith)
 
 -- what stands in the map at a key, once an edge is listed before
-get_cons : (e : Edge) (es : List Edge) (key : Key)
+pub get_cons : (e : Edge) (es : List Edge) (key : Key)
     → get (map_of (e ∷ es)) key ≡ cond (is_key_of key e) (Some (stamp_of e)) (get (map_of es) key)
 get_cons e es key = get-insert keys_total (map_of es) (key_of e) (stamp_of e) key
 

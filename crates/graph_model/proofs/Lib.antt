@@ -5,6 +5,7 @@ pub mod NamesKept
 pub mod EdgeLookup
 pub mod Keys
 pub mod Folds
+pub mod Expiry
 pub mod DegreeBounds
 pub mod ListedDegrees
 pub mod TwoOrders

@@ -11,7 +11,7 @@ use Rattle.graph_model.specs.Step.{with_name, number_of, makes_names, names_made
 use Rattle.graph_model.specs.Step.{after_all}
 use Rattle.graph_model.specs.Graph.{Graph, Key, Stamp}
 use Rattle.graph_model.specs.declared.batches.NamedOp.{NamedOp}
-use Rattle.graph_model.specs.declared.batches.NamedOp.TheVariants.{Insert, Incr, Remove}
+use Rattle.graph_model.specs.declared.batches.NamedOp.TheVariants.{Insert, Incr, Remove, Expire}
 use Rattle.graph_model.specs.declared.changes.EdgeChange.{EdgeChange}
 use Rattle.graph_model.specs.declared.changes.EdgeChange.TheVariants.{Insert as ToInsert, Incr as ToIncr, Remove as ToRemove}
 
@@ -43,11 +43,13 @@ pub length-after-names : (op : NamedOp) (g : Graph) → length g.names ≤ lengt
 length-after-names (Insert kind source target weight time) g = length-names_made (ToInsert weight time) source target g.names
 length-after-names (Incr kind source target amount time) g = length-names_made (ToIncr amount time) source target g.names
 length-after-names (Remove kind source target) g = length-names_made ToRemove source target g.names
+length-after-names (Expire time) g = omega arith
 
 pub length-after-kinds : (op : NamedOp) (g : Graph) → length g.kinds ≤ length (after op g).kinds
 length-after-kinds (Insert kind source target weight time) g = length-kinds_made (ToInsert weight time) kind g.kinds
 length-after-kinds (Incr kind source target amount time) g = length-kinds_made (ToIncr amount time) kind g.kinds
 length-after-kinds (Remove kind source target) g = length-kinds_made ToRemove kind g.kinds
+length-after-kinds (Expire time) g = omega arith
 
 pub length-after_all-names : (ops : List NamedOp) (g : Graph) → length g.names ≤ length (after_all ops g).names
 length-after_all-names [] g = omega arith

@@ -9,7 +9,7 @@ use Rattle.graph_model.specs.Laws.{HasNames}
 use Rattle.graph_model.specs.Step.{with_name, makes_names, changed, after, after_all, left_by}
 use Rattle.graph_model.specs.Valid.{is_name, is_kind_name, are_names, IsValid, IsBatch}
 use Rattle.graph_model.specs.declared.batches.NamedOp.{NamedOp}
-use Rattle.graph_model.specs.declared.batches.NamedOp.TheVariants.{Insert, Incr, Remove}
+use Rattle.graph_model.specs.declared.batches.NamedOp.TheVariants.{Insert, Incr, Remove, Expire}
 use Rattle.graph_model.specs.declared.changes.EdgeChange.{EdgeChange}
 use Rattle.graph_model.specs.declared.changes.EdgeChange.TheVariants.{Insert as ToInsert, Incr as ToIncr, Remove as ToRemove}
 
@@ -45,6 +45,7 @@ HasNames-after (Insert kind source target weight time) g valid has =
 HasNames-after (Incr kind source target amount time) g valid has =
     HasNames-changed (ToIncr amount time) kind source target g valid.names has
 HasNames-after (Remove kind source target) g valid has = HasNames-changed ToRemove kind source target g valid.names has
+HasNames-after (Expire time) g valid has = record { names = has.names; kinds = has.kinds }
 
 HasNames-after_all : (ops : List NamedOp) (g : Graph) → All IsValid ops → HasNames g → HasNames (after_all ops g)
 HasNames-after_all [] g valid has = has

@@ -1,8 +1,9 @@
 -- Laws about the definitions.
-use Rattle.std.specs.Prelude.{◌≡◌, ◌↔◌, List, Result, IsPermutation, IsTrue, All, true}
+use Rattle.std.specs.Prelude.{◌≡◌, ◌↔◌, ℕ, ◌+◌, List, Result, IsPermutation, IsTrue, All, true}
 use Rattle.std.specs.declared.option.Option.TheVariants.{Some}
-use Rattle.graph_model.specs.Graph.{Graph, Stamp, graph_of, content_of, IsContent}
-use Rattle.graph_model.specs.Step.{after_all, left_by, stamp_after}
+use Rattle.std.specs.FinMap.{FinMap, get, len}
+use Rattle.graph_model.specs.Graph.{Graph, Key, Stamp, key_cmp, graph_of, content_of, IsContent}
+use Rattle.graph_model.specs.Step.{after_all, left_by, stamp_after, stays_from, expired, count_before}
 use Rattle.graph_model.specs.Valid.{is_name, is_kind_name, IsBatch}
 use Rattle.graph_model.specs.GraphLimits.{MeetsNameLimit, MeetsKindLimit, is_within_limits}
 use Rattle.graph_model.specs.Answer.{IsAnswer}
@@ -49,3 +50,10 @@ KeepsNames = (batches : List (List NamedOp)) (g : Graph) → All IsBatch batches
 abbrev pub KeepsFirstTime : Type 0
 KeepsFirstTime = (change : EdgeChange) (before after : Stamp) → stamp_after change (Some before) ≡ Some after
     → after.first ≡ before.first
+
+-- an expiry leaves at each key what was last touched at its time or later, and counts the edges that the map then lacks
+pub record Expires : Type 0 where
+  pub stays : (time : ℕ) (edges : FinMap key_cmp Stamp) (key : Key)
+      → get (expired time edges) key ≡ stays_from time (get edges key)
+  pub counted : (time : ℕ) (edges : FinMap key_cmp Stamp)
+      → count_before time edges + len (expired time edges) ≡ len edges

@@ -1,15 +1,18 @@
 -- What operations and batches do to a graph.
-use Rattle.std.specs.Prelude.{ℕ, ◌+ℤ◌, List, [], ◌∷◌, ◌++◌, Bool, true, false, if◌then◌else◌, bytes_eq}
+use Rattle.std.specs.Prelude.{ℕ, ◌+ℤ◌, List, [], ◌∷◌, ◌++◌, Bool, true, false, if◌then◌else◌, bytes_eq, nat_lt, count_by, filter}
+use Rattle.std.specs.Prelude.{not}
+use Rattle.std.specs.Option.{is_some}
 use Rattle.std.specs.List.{list_any, position_or_len}
-use Rattle.std.specs.FinMap.{FinMap, empty, get, insert, remove}
+use Rattle.std.specs.FinMap.{FinMap, empty, get, insert, remove, retain_keys, entries}
 use Rattle.std.specs.declared.option.Option.{Option}
 use Rattle.std.specs.declared.option.Option.TheVariants.{None, Some}
 use Rattle.graph_model.specs.Limits.{is_weight}
-use Rattle.graph_model.specs.Graph.{Graph, Key, Stamp, key_cmp}
+use Rattle.graph_model.specs.Graph.{Graph, Key, Stamp, key_cmp, stamp_of}
+use Rattle.graph_model.specs.declared.ids.Edge.{Edge}
 use Rattle.graph_model.specs.declared.batches.NamedOp.{NamedOp}
-use Rattle.graph_model.specs.declared.batches.NamedOp.TheVariants.{Insert, Incr, Remove}
+use Rattle.graph_model.specs.declared.batches.NamedOp.TheVariants.{Insert, Incr, Remove, Expire}
 use Rattle.graph_model.specs.declared.batches.Outcome.{Outcome}
-use Rattle.graph_model.specs.declared.batches.Outcome.TheVariants.{Inserted, Updated, Removed, Absent, Overflow}
+use Rattle.graph_model.specs.declared.batches.Outcome.TheVariants.{Inserted, Updated, Removed, Absent, Overflow, Expired}
 use Rattle.graph_model.specs.declared.changes.EdgeChange.{EdgeChange}
 use Rattle.graph_model.specs.declared.changes.EdgeChange.TheVariants.{Insert as ToInsert, Incr as ToIncr, Remove as ToRemove}
 
@@ -81,18 +84,50 @@ changed change kind source target g =
 abbrev pub change_outcome : EdgeChange → List ℕ → List ℕ → List ℕ → Graph → Outcome
 change_outcome change kind source target g = outcome_at change (get g.edges (changed_key change kind source target g))
 
+-- Expiry: each edge that was last touched before a time goes, and no name is made
+
+abbrev pub is_before : ℕ → Stamp → Bool
+is_before time stamp = nat_lt stamp.recent time
+
+-- what stays of what stands at a key
+abbrev pub stays_from : ℕ → Option Stamp → Option Stamp
+stays_from time None = None
+stays_from time (Some stamp) = if is_before time stamp then None else Some stamp
+
+-- the edges that stay, and how many go
+abbrev pub expired : ℕ → FinMap key_cmp Stamp → FinMap key_cmp Stamp
+expired time edges = retain_keys edges (λ key. is_some (stays_from time (get edges key)))
+
+abbrev pub count_before : ℕ → FinMap key_cmp Stamp → ℕ
+count_before time edges = count_by (λ entry. is_before time entry.1) (entries edges)
+
+-- of a list of edges, whether one goes, and those that stay
+abbrev pub was_before : ℕ → Edge → Bool
+was_before time e = is_before time (stamp_of e)
+
+abbrev pub later : ℕ → List Edge → List Edge
+later time edges = filter (λ e. not (was_before time e)) edges
+
 -- Operations
+
+abbrev pub is_expire : NamedOp → Bool
+is_expire (Insert kind source target weight time) = false
+is_expire (Incr kind source target amount time) = false
+is_expire (Remove kind source target) = false
+is_expire (Expire time) = true
 
 -- one operation
 abbrev pub after : NamedOp → Graph → Graph
 after (Insert kind source target weight time) g = changed (ToInsert weight time) kind source target g
 after (Incr kind source target amount time) g = changed (ToIncr amount time) kind source target g
 after (Remove kind source target) g = changed ToRemove kind source target g
+after (Expire time) g = record g { edges = expired time g.edges }
 
 abbrev pub outcome : NamedOp → Graph → Outcome
 outcome (Insert kind source target weight time) g = change_outcome (ToInsert weight time) kind source target g
 outcome (Incr kind source target amount time) g = change_outcome (ToIncr amount time) kind source target g
 outcome (Remove kind source target) g = change_outcome ToRemove kind source target g
+outcome (Expire time) g = Expired (count_before time g.edges)
 
 -- operations one after another, in order
 abbrev pub after_all : List NamedOp → Graph → Graph

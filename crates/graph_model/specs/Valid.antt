@@ -5,7 +5,7 @@ use Rattle.std.specs.declared.option.Option.{Option}
 use Rattle.std.specs.declared.option.Option.TheVariants.{None, Some}
 use Rattle.graph_model.specs.Limits.{operation_limit, is_weight, is_time}
 use Rattle.graph_model.specs.declared.batches.NamedOp.{NamedOp}
-use Rattle.graph_model.specs.declared.batches.NamedOp.TheVariants.{Insert, Incr, Remove}
+use Rattle.graph_model.specs.declared.batches.NamedOp.TheVariants.{Insert, Incr, Remove, Expire}
 use Rattle.graph_model.specs.declared.batches.PushError.{PushError}
 use Rattle.graph_model.specs.declared.batches.PushError.TheVariants.{BadName, BadWeight, BadTime, BatchFull}
 
@@ -29,16 +29,19 @@ abbrev pub has_names : NamedOp → Bool
 has_names (Insert kind source target weight time) = are_names kind source target
 has_names (Incr kind source target amount time) = are_names kind source target
 has_names (Remove kind source target) = are_names kind source target
+has_names (Expire time) = true
 
 abbrev pub has_weight : NamedOp → Bool
 has_weight (Insert kind source target weight time) = is_weight weight
 has_weight (Incr kind source target amount time) = is_weight amount
 has_weight (Remove kind source target) = true
+has_weight (Expire time) = true
 
 abbrev pub has_time : NamedOp → Bool
 has_time (Insert kind source target weight time) = is_time time
 has_time (Incr kind source target amount time) = is_time time
 has_time (Remove kind source target) = true
+has_time (Expire time) = is_time time
 
 pub record IsValid (op : NamedOp) : Type 0 where
   pub names : IsTrue (has_names op)

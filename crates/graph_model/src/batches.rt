@@ -4,6 +4,8 @@ ghost use Rattle.std.specs.Prelude.{◌≡◌, [], ◌∷◌, ◌++◌, length, 
 ghost use Rattle.graph_model.specs.Valid.{push_refusal, IsBatch};
 ghost use Rattle.graph_model.specs.Valid as valid;
 ghost use Rattle.graph_model.specs.Limits as limits;
+ghost use Rattle.graph_model.specs.Step as step;
+ghost use Rattle.std.specs.List.{list_any};
 ghost use Rattle.std.specs.declared.option.Option.TheVariants.{None, Some};
 
 use crate::{Name, is_kind_name, is_name};
@@ -14,7 +16,8 @@ use thiserror::Error;
 // A batch has no more operations than these.
 const OPERATION_LIMIT: usize = 4096;
 
-/// One operation on one edge, with names as texts (STINGER's insertion, increment and removal, HPEC 2012).
+/// One operation on one edge, with names as texts (STINGER's insertion, increment and removal, HPEC 2012), or on all
+/// edges that were last touched before a time.
 #[derive(Debug, Drop)]
 pub enum NamedOp {
     /// Adds the edge, or replaces the weight of the one that is there.
@@ -38,6 +41,10 @@ pub enum NamedOp {
         kind: Name,
         source: Name,
         target: Name,
+    },
+    /// Takes away every edge whose recent time is less than this time.
+    Expire {
+        time: u64,
     },
 }
 
@@ -81,6 +88,7 @@ impl Clone for NamedOp {
                 source: source.clone()?,
                 target: target.clone()?,
             }),
+            NamedOp::Expire { time } => Ok(NamedOp::Expire { time: *time }),
         }
     }
 }
@@ -98,6 +106,8 @@ pub enum Outcome {
     Absent,
     /// The sum would leave the range of weights: nothing changed.
     Overflow,
+    /// As many edges were last touched before a time, and are gone.
+    Expired(u64),
 }
 
 /// Why an operation was not added to a batch; the first that holds, in this order.
@@ -184,6 +194,13 @@ impl Batch {
         self.ops.as_slice()
     }
 
+    /// Whether an operation is among them that expires edges. It takes no memory.
+    pub fn has_expire(&self) -> bool
+        ensures { result ≡ list_any step.is_expire self.now }
+    {
+        self.ops.iter().any(is_expire)
+    }
+
     /// Appends a valid operation, or changes nothing and tells the first refusal that holds: a field that is no
     /// name, a weight or an amount past 2^40, a time from 2^63 on, a batch that has 4,096 operations. Want of
     /// memory may be told in place of any of these.
@@ -222,6 +239,13 @@ impl Clone for Batch {
     }
 }
 
+/// Whether an operation expires edges.
+fn is_expire(op: &NamedOp) -> bool
+    ensures { result ≡ step.is_expire op.now }
+{
+    matches!(op, NamedOp::Expire { .. })
+}
+
 /// Whether these are the names of an edge's kind and of its two ends.
 fn are_names(kind: &Name, source: &Name, target: &Name) -> bool
     ensures { result ≡ valid.are_names kind.now source.now target.now }
@@ -251,6 +275,7 @@ fn has_names(op: &NamedOp) -> bool
             source,
             target,
         } => are_names(kind, source, target),
+        NamedOp::Expire { .. } => true,
     }
 }
 
@@ -262,6 +287,7 @@ fn has_weight(op: &NamedOp) -> bool
         NamedOp::Insert { weight, .. } => is_weight(*weight),
         NamedOp::Incr { amount, .. } => is_weight(*amount),
         NamedOp::Remove { .. } => true,
+        NamedOp::Expire { .. } => true,
     }
 }
 
@@ -273,6 +299,7 @@ fn has_time(op: &NamedOp) -> bool
         NamedOp::Insert { time, .. } => is_time(*time),
         NamedOp::Incr { time, .. } => is_time(*time),
         NamedOp::Remove { .. } => true,
+        NamedOp::Expire { time } => is_time(*time),
     }
 }
 

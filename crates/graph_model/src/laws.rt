@@ -1,7 +1,7 @@
 //! Laws about the definitions, as contracts of functions that do nothing.
 
 ghost use Rattle.graph_model.specs.Laws.{HasOneAnswer, HasSomeAnswer, IsFreeOfEdgeOrder, KeepsFirstTime, KeepsNames};
-ghost use Rattle.graph_model.specs.Laws.{MeetsNoLimit};
+ghost use Rattle.graph_model.specs.Laws.{MeetsNoLimit, Expires};
 
 /// A request has one answer over a graph: contents of equal graphs give equal answers, refusals included.
 pub fn law_one_answer()
@@ -32,4 +32,11 @@ pub fn law_names_stay_names()
 /// An edge that is changed and stays keeps the time of its first insertion.
 pub fn law_first_time_stays()
     ensures { KeepsFirstTime }
+{}
+
+/// An expiry leaves at each key what was last touched at its time or later, and nothing else; it counts by how many
+/// edges the graph is then smaller.
+#[tactic(auto, using(crate::proofs::Expiry::expires))]
+pub fn law_expiry()
+    ensures { Expires }
 {}

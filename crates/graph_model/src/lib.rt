@@ -19,8 +19,8 @@ pub use changes::{EdgeChange, EdgeMarks, change_edge};
 pub use contents::Content;
 pub use ids::{Degree, Edge, Filter, KindId, VertexId};
 pub use laws::{
-    law_edge_order, law_first_time_stays, law_names_stay_names, law_one_answer, law_some_answer,
-    law_within_limits,
+    law_edge_order, law_expiry, law_first_time_stays, law_names_stay_names, law_one_answer,
+    law_some_answer, law_within_limits,
 };
 pub use lists::List;
 pub use pin_copy::PinCopy;

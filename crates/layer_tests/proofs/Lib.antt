@@ -1,3 +1,4 @@
 mod OneEdge
 mod TakenBack
 pub mod NewShelves
+pub mod NoRows

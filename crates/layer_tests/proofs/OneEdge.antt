@@ -1,17 +1,18 @@
 -- A draft over the version without batches, with the names of one inserted edge, a block of it as the row of its source, and the
 -- batch, is a version.
-use Rattle.std.proofs.Common.{◌≡◌, ◌≢◌, ◌∙◌, ◌==◌, ℕ, zero, suc, All, List, [], ◌∷◌, refl, sym, ap, subst, map, arith}
+use Rattle.std.proofs.Common.{◌≡◌, ◌≢◌, ◌∙◌, ◌==◌, ◌≤◌, ℕ, zero, suc, All, List, [], ◌∷◌, refl, sym, ap, subst, map, arith}
 use Rattle.std.proofs.Common.{true≢false, inl, inr, if◌then◌else◌}
 use Rattle.std.specs.Prelude.{AllPairs}
+use Rattle.std.specs.List.{range_with_len}
 use Rattle.std.specs.Option.{is_some}
 use Rattle.std.specs.FinMap.{get-empty}
 use Rattle.std.proofs.lemmas.Bool.Decides.{eqb_tells}
 use Rattle.std.proofs.lemmas.List.Elements.{All-cons}
 use Rattle.graph_model.specs.Graph.{key_cmp}
-use Rattle.graph_model.specs.Step.{empty_graph, after_all}
+use Rattle.graph_model.specs.Step.{empty_graph, after_all, outcomes}
 use Rattle.edge_block.specs.Slots.{BlockView}
 use Rattle.block_layout.specs.Rows.{Shape, shape_of, row_at, IsRow}
-use Rattle.block_layout.specs.Batches.{IsLayoutOf, IsWithin, layout_after}
+use Rattle.block_layout.specs.Batches.{IsLayoutOf, IsWithin, layout_after, outcomes_all, resolved, opened}
 use Rattle.block_layout.proofs.GraphLaws.{batch_layout}
 use Rattle.row_pages.specs.Rows.{row_of, numbers_of}
 use Rattle.graph_model.specs.declared.batches.NamedOp.{NamedOp}
@@ -55,11 +56,16 @@ one_row : (n s : ℕ) → row_of ((one_edge_block n ∷ []) ∷ []) s ≡ (if s 
 one_row n zero = refl
 one_row n (suc s) = sym (elsewhere 0 (suc s) (one_edge_block n ∷ []) [] (λ e. absurd (omega arith)))
 
+one_layout : IsLayoutOf (layout_after one_insert empty_graph (λ s. [])) (after_all one_insert empty_graph).edges
+    × (outcomes_all (range_with_len 0 2) (resolved one_insert [] []) (opened (λ s. [])) ≡ outcomes one_insert empty_graph)
+    × IsWithin (after_all one_insert empty_graph)
+one_layout = batch_layout one_insert empty_graph (λ s. []) 2 no_edges_within empty_layout (omega arith)
+
 of_one_edge : (n : ℕ) (rows : List (List BlockView))
     → ((s : ℕ) → row_of rows s ≡ (if s == 0 then one_edge_block n ∷ [] else []))
     → AreRowsOf (after_all one_insert empty_graph) rows
 of_one_edge n rows are =
-    let layout = (batch_layout one_insert empty_graph (λ s. []) no_edges_within empty_layout).0 in
+    let layout = one_layout.0 in
     record {
       layout = record {
         distinct = λ s. subst IsRow (sym (row_left n s (row_of rows s) (are s))) (layout.distinct s);
@@ -93,7 +99,7 @@ one_edge_whole n drafted put pushed is replaced last =
       kinds_are = refl;
       version = record {
         rows = of_one_edge n rows are;
-        within = (batch_layout one_insert empty_graph (λ s. []) no_edges_within empty_layout).2;
+        within = one_layout.2;
         small = record { names = omega arith; kinds = omega arith; count = omega arith };
       };
     })

@@ -5,7 +5,7 @@ use Rattle.graph_model.specs.Limits.{name_limit}
 use Rattle.graph_model.specs.Graph.{Graph}
 use Rattle.graph_model.specs.Step.{after, after_all}
 use Rattle.graph_model.specs.declared.batches.NamedOp.{NamedOp}
-use Rattle.graph_model.specs.declared.batches.NamedOp.TheVariants.{Insert, Incr, Remove}
+use Rattle.graph_model.specs.declared.batches.NamedOp.TheVariants.{Insert, Incr, Remove, Expire}
 use Rattle.graph_model.proofs.NameLists.{length-after-names, length-after_all-names, length-after_all-kinds}
 use Rattle.plain_graph.specs.Drafts.{names_after, names_left}
 use Rattle.plain_graph.specs.Refusals.{Refuses, Exceeds, IsNamesRefusal}
@@ -23,6 +23,7 @@ names_of-after : (op : NamedOp) (g : Graph) → (after op g).names ≡ names_aft
 names_of-after (Insert kind source target weight time) g = refl
 names_of-after (Incr kind source target amount time) g = refl
 names_of-after (Remove kind source target) g = refl
+names_of-after (Expire time) g = refl
 
 -- what stays of a graph's names doesn't depend on its edges
 names_of-after_all : (ops : List NamedOp) (g : Graph) → (after_all ops g).names ≡ names_left ops g.names

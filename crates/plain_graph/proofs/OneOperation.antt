@@ -10,9 +10,9 @@ use Rattle.std.proofs.lemmas.List.Kept.{AllPairs-filter}
 use Rattle.std.proofs.lemmas.List.Quantifiers.{all_pairs_push}
 use Rattle.graph_model.specs.Limits.{IsWeight, IsTime, name_limit, kind_limit}
 use Rattle.graph_model.specs.Graph.{Graph, Key, Stamp, key_of, stamp_of, map_of, graph_of, has_key, without, IsAt, IsEdgeWithin}
-use Rattle.graph_model.specs.Graph.{IsContent}
+use Rattle.graph_model.specs.Graph.{IsContent, content_of}
 use Rattle.graph_model.specs.Changes.{AreMarks, option_stamp}
-use Rattle.graph_model.specs.Step.{names_made, kinds_made, stamp_after, set_at, changed_key, changed}
+use Rattle.graph_model.specs.Step.{names_made, kinds_made, stamp_after, set_at, changed_key, changed, was_before, later}
 use Rattle.graph_model.specs.declared.ids.Edge.{Edge}
 use Rattle.graph_model.specs.declared.changes.EdgeChange.{EdgeChange}
 use Rattle.graph_model.specs.declared.changes.EdgeMarks.{EdgeMarks}
@@ -167,3 +167,14 @@ IsContent-applied change kind source target old new key put step content names_f
           (All-weaker (IsEdgeWithin (length old.names) (length old.kinds)) (IsEdgeWithin n m)
           (λ e. within_more _ _ _ _ e names_more kinds_more) old.edges content.edges_within));
     }
+
+-- a content without the edges that were last touched before a time is a content
+pub IsContent-later : (time : ℕ) (c : Content) → IsContent c → IsContent (content_of c.names c.kinds (later time c.edges))
+IsContent-later time c is = record {
+  names_distinct = is.names_distinct;
+  kinds_distinct = is.kinds_distinct;
+  names_few = is.names_few;
+  kinds_few = is.kinds_few;
+  keys_distinct = AllPairs-filter (λ a b. key_of a ≢ key_of b) (λ e. not (was_before time e)) c.edges is.keys_distinct;
+  edges_within = All-filter (λ e. not (was_before time e)) (IsEdgeWithin (length c.names) (length c.kinds)) c.edges is.edges_within;
+}

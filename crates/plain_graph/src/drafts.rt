@@ -7,9 +7,10 @@ ghost use Rattle.graph_model.specs.Step as step;
 ghost use Rattle.graph_model.specs.Valid.{IsValid};
 ghost use Rattle.plain_graph.specs.Drafts.{shown_by};
 ghost use Rattle.plain_graph.specs.Refusals.{Exceeds};
+ghost use Rattle.graph_model.specs.declared.batches.NamedOp.TheVariants.{Expire};
 
 use crate::PlainError;
-use crate::edges::{EdgeKey, marks_at, put_at};
+use crate::edges::{EdgeKey, clear_before, marks_at, put_at};
 use crate::names::{make_kind, make_names, number_of};
 use graph_model::{Content, Edge, EdgeChange, List, Name, NamedOp, Outcome, change_edge};
 use std::alloc::{AllocError, Global};
@@ -89,7 +90,21 @@ impl Draft {
                 source,
                 target,
             } => self.change(EdgeChange::Remove, kind, source, target),
+            NamedOp::Expire { time } => Ok(self.expire(*time)),
         }
+    }
+
+    /// Takes away the edges that were last touched before a time, and answers by how many. It takes no memory.
+    fn expire(&mut self, time: u64) -> Outcome
+        requires { IsContent (shown_by self.old) }
+        ensures outcome { result ≡ step.outcome (Expire time) (graph_of (shown_by self.old)) }
+        ensures graph { graph_of (shown_by self.new) ≡ step.after (Expire time) (graph_of (shown_by self.old)) }
+        ensures content { IsContent (shown_by self.new) }
+    {
+        let before = self.edges.as_slice().len();
+        clear_before(&mut self.edges, time);
+        let after = self.edges.as_slice().len();
+        Outcome::Expired((before - after) as u64)
     }
 
     /// Changes the edge of this kind between these vertices, with the errors of an operation.

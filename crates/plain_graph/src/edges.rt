@@ -8,6 +8,7 @@ ghost use Rattle.graph_model.specs.Graph as graph;
 ghost use Rattle.graph_model.specs.Limits.{name_limit, kind_limit};
 ghost use Rattle.graph_model.specs.Changes.{stamp_in, option_stamp};
 ghost use Rattle.plain_graph.specs.Drafts.{shown_key, edge_with};
+ghost use Rattle.graph_model.specs.Step as step;
 
 use graph_model::{Edge, EdgeMarks, KindId, VertexId};
 use std::alloc::AllocError;
@@ -91,6 +92,13 @@ fn clear_at(edges: &mut Vec<Edge>, key: EdgeKey)
     ensures { edges.new.items ≡ graph.without (shown_key key) edges.old.items }
 {
     edges.retain(|edge| !has_key(edge, key));
+}
+
+/// Takes away the edges that were last touched before a time. It takes no memory.
+pub(crate) fn clear_before(edges: &mut Vec<Edge>, time: u64)
+    ensures { edges.new.items ≡ step.later time edges.old.items }
+{
+    edges.retain(|edge| edge.recent >= time);
 }
 
 /// Takes away the edges that have the key, and adds at the end the one that bears these marks.

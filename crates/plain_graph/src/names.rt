@@ -130,6 +130,7 @@ fn make_names_of(names: &mut Vec<Name>, op: &NamedOp) -> Result<(), PlainError>
         NamedOp::Remove { source, target, .. } => {
             make_names(names, EdgeChange::Remove, source, target)
         }
+        NamedOp::Expire { .. } => Ok(()),
     }
 }
 

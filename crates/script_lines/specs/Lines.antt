@@ -1,12 +1,12 @@
 -- The lines that a run prints. Each ends with one line feed, and numbers are plain decimals.
 use Rattle.std.specs.Prelude.{ℕ, ℤ, Bool, true, false, codes, decimal, zero, suc, List, [], ◌++◌, length, max, fold, count_by}
-use Rattle.std.specs.Prelude.{Option, None, Some, bytes_eq, sum_by}
+use Rattle.std.specs.Prelude.{Option, None, Some, bytes_eq, sum_by, ◌==◌, if◌then◌else◌}
 use Rattle.std.specs.Fmt.{signed_decimal}
-use Rattle.std.specs.List.{flat_map}
+use Rattle.std.specs.List.{flat_map, list_any}
 use Rattle.graph_model.specs.Step.{with_name}
 use Rattle.graph_model.specs.declared.ids.Degree.{Degree}
 use Rattle.graph_model.specs.declared.batches.Outcome.{Outcome}
-use Rattle.graph_model.specs.declared.batches.Outcome.TheVariants.{Inserted, Updated, Removed, Absent, Overflow}
+use Rattle.graph_model.specs.declared.batches.Outcome.TheVariants.{Inserted, Updated, Removed, Absent, Overflow, Expired}
 use Rattle.graph_model.specs.declared.requests.Reply.{Reply}
 use Rattle.graph_model.specs.declared.requests.Reply.TheVariants.{Cores, Degrees, Labels, Levels, OneEdge}
 use Rattle.feed_csv.specs.Commands.{word_text as feed_word_text}
@@ -39,7 +39,21 @@ is_outcome Updated Updated = true
 is_outcome Removed Removed = true
 is_outcome Absent Absent = true
 is_outcome Overflow Overflow = true
+is_outcome (Expired a) (Expired b) = a == b
 is_outcome wanted other = false
+
+-- how many edges an outcome says that an expiry removed
+abbrev pub expired_in : Outcome → ℕ
+expired_in (Expired count) = count
+expired_in other = 0
+
+abbrev pub is_expired : Outcome → Bool
+is_expired (Expired count) = true
+is_expired other = false
+
+-- exp=<n>, where an operation was an expiry: how many edges the batch's expiries removed
+abbrev pub expired_part : List Outcome → List ℕ
+expired_part outcomes = if list_any is_expired outcomes then codes " exp=" ++ decimal (sum_by expired_in outcomes) else []
 
 -- commit v=<version> ins=<n> upd=<n> rem=<n> abs=<n> ovf=<n>: how many operations had each outcome
 abbrev pub commit_line : ℕ → List Outcome → List ℕ
@@ -49,7 +63,8 @@ commit_line version outcomes =
     ++ (codes " upd=" ++ (decimal (count_by (is_outcome Updated) outcomes)
     ++ (codes " rem=" ++ (decimal (count_by (is_outcome Removed) outcomes)
     ++ (codes " abs=" ++ (decimal (count_by (is_outcome Absent) outcomes)
-    ++ (codes " ovf=" ++ (decimal (count_by (is_outcome Overflow) outcomes) ++ codes "\n")))))))))))
+    ++ (codes " ovf=" ++ (decimal (count_by (is_outcome Overflow) outcomes)
+    ++ (expired_part outcomes ++ codes "\n"))))))))))))
 
 -- collect floor=<n> recycled=<n> retired=<n>: the number that the retired were freed up to, how many were freed, and how
 -- many stay retired

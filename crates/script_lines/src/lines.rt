@@ -1,14 +1,16 @@
 //! A record's line, appended to a buffer. `AllocError` where the buffer could not grow: what it held before stands, and behind it
 //! there may be a part of the line.
 
-ghost use Rattle.std.specs.Prelude.{◌≡◌, ◌++◌, OnOk, count_by, string_bytes};
+ghost use Rattle.std.specs.Prelude.{◌≡◌, ◌++◌, OnOk, count_by, string_bytes, sum_by};
+ghost use Rattle.std.specs.List.{list_any};
 ghost use Rattle.script_lines.specs.Lines as lines_of;
 
 use graph_model::Outcome;
 use std::alloc::AllocError;
 use stream_store::{Collected, Stat};
 
-/// Appends the line of a batch that made this version: how many of its operations had each outcome.
+/// Appends the line of a batch that made this version: how many of its operations had each outcome, and how many edges its
+/// expiries removed, where it has any.
 pub fn commit_line(lines: &mut String, version: u64, outcomes: &[Outcome]) -> Result<(), AllocError>
     ensures { OnOk result (string_bytes lines.new ≡ string_bytes lines.old ++ lines_of.commit_line version outcomes.now) }
 {
@@ -19,8 +21,53 @@ pub fn commit_line(lines: &mut String, version: u64, outcomes: &[Outcome]) -> Re
     let overflow = count_of(outcomes, Outcome::Overflow);
     write!(
         lines,
-        "commit v={version} ins={inserted} upd={updated} rem={removed} abs={absent} ovf={overflow}\n"
-    )
+        "commit v={version} ins={inserted} upd={updated} rem={removed} abs={absent} ovf={overflow}"
+    )?;
+    expired_part(lines, outcomes)?;
+    write!(lines, "\n")
+}
+
+/// Appends how many edges expiries removed, where an operation was one.
+fn expired_part(lines: &mut String, outcomes: &[Outcome]) -> Result<(), AllocError>
+    ensures { OnOk result (string_bytes lines.new ≡ string_bytes lines.old ++ lines_of.expired_part outcomes.now) }
+{
+    if !has_expiry(outcomes) {
+        return Ok(());
+    }
+    let expired = count_expired(outcomes);
+    write!(lines, " exp={expired}")
+}
+
+fn has_expiry(outcomes: &[Outcome]) -> bool
+    ensures { result ≡ list_any lines_of.is_expired outcomes.now }
+{
+    outcomes.iter().any(is_expired)
+}
+
+fn is_expired(outcome: &Outcome) -> bool
+    ensures { result ≡ lines_of.is_expired outcome.now }
+{
+    matches!(outcome, Outcome::Expired(_))
+}
+
+fn expired_in(outcome: &Outcome) -> u64
+    ensures { result ≡ lines_of.expired_in outcome.now }
+{
+    match outcome {
+        Outcome::Expired(count) => *count,
+        _ => 0,
+    }
+}
+
+/// How many edges expiries removed. Any slice's sum has room in the wider type.
+fn count_expired(outcomes: &[Outcome]) -> u128
+    ensures { result ≡ sum_by lines_of.expired_in outcomes.now }
+{
+    let mut expired: u128 = 0;
+    for outcome in outcomes {
+        expired += u128::from(expired_in(outcome));
+    }
+    expired
 }
 
 fn count_of(outcomes: &[Outcome], wanted: Outcome) -> usize

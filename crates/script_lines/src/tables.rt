@@ -229,7 +229,7 @@ fn number_line(lines: &mut String, name: &str, number: u32) -> Result<(), AllocE
 {
     lines.push_str(name)?;
     field(lines, number)?;
-    lines.push_str("\n")
+    lines.push('\n')
 }
 
 /// The line of a name with the name of its label.
@@ -237,9 +237,9 @@ fn label_line(lines: &mut String, name: &str, label: &str) -> Result<(), AllocEr
     ensures { OnOk result (string_bytes lines.new ≡ string_bytes lines.old ++ lines_of.label_line (name.now, label.now)) }
 {
     lines.push_str(name)?;
-    lines.push_str(" ")?;
+    lines.push(' ')?;
     lines.push_str(label)?;
-    lines.push_str("\n")
+    lines.push('\n')
 }
 
 /// The line of a name with its degrees.
@@ -250,7 +250,7 @@ fn degree_line(lines: &mut String, name: &str, degree: Degree) -> Result<(), All
     field(lines, degree.outgoing)?;
     field(lines, degree.incoming)?;
     field(lines, degree.out_weight)?;
-    lines.push_str("\n")
+    lines.push('\n')
 }
 
 /// A space and a number.
@@ -258,6 +258,6 @@ fn field<I: Integer>(lines: &mut String, number: I) -> Result<(), AllocError>
     ensures { OnOk result (string_bytes lines.new ≡ string_bytes lines.old ++ (codes " " ++ I.text number)) }
 {
     let mut digits = Buffer::new();
-    lines.push_str(" ")?;
+    lines.push(' ')?;
     lines.push_str(digits.format(number))
 }

@@ -20,7 +20,7 @@ pub enum Word {
     KindsFull,
     /// 65,536 batches were accepted before.
     BatchLimit,
-    /// The batch has more operations than blocks are free.
+    /// The batch asks for more blocks than are free.
     PoolEmpty,
 }
 

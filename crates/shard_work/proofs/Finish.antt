@@ -13,8 +13,7 @@ use Rattle.std.proofs.lemmas.Bool.{false≢true, lt-ltb, le-ltb}
 use Rattle.std.proofs.lemmas.List.{get_or-map, get_or_default, length-map, map-append, take_all}
 use Rattle.graph_model.specs.declared.batches.Outcome.{Outcome}
 use Rattle.graph_model.specs.declared.batches.Outcome.TheVariants.{Absent}
-use Rattle.graph_model.specs.declared.changes.EdgeChange.{EdgeChange}
-use Rattle.block_layout.specs.Batches.{opened, rows_all, key_outcome, outcomes_all}
+use Rattle.block_layout.specs.Batches.{opened, rows_all, outcome_in, outcomes_all}
 use Rattle.std.proofs.lemmas.List.Elements.{All-head, All-tail, All-cons, All-nil}
 use Rattle.edge_block.specs.declared.blocks.Block.{Block}
 use Rattle.edge_block.specs.Slots.{BlockView}
@@ -24,11 +23,13 @@ use Rattle.shard_work.specs.RowBlocks.{numbers_of, IsOf}
 use Rattle.shard_work.specs.Closing.{after_here, stays_here, written_here, dropped_here, unused_here, after_of, stays_of}
 use Rattle.shard_work.specs.Closing.{written_of, dropped_of, unused_of, closed_rows, row_values, stays_all, written_all}
 use Rattle.shard_work.specs.Closing.{dropped_all, unused_all}
-use Rattle.shard_work.specs.Shards.{AreOpen, AreOwn, IsPlace, AreSteps, key_at, resolved_at, resolved_in, sources_of, had_all}
+use Rattle.shard_work.specs.Shards.{AreOpen, AreOwn, IsAct, AreSteps, resolved_at, resolved_in, sources_of, had_all}
 use Rattle.shard_work.specs.Shards.{own_all}
-use Rattle.shard_work.specs.Groups.{is_past}
+use Rattle.shard_work.specs.Groups.{is_past, is_expiry, told, none_told, outcome_over}
+use Rattle.shard_work.specs.Spending.{needed, needed_past}
+use Rattle.shard_work.specs.declared.shard.Act.{Act}
+use Rattle.shard_work.specs.declared.shard.Act.TheVariants.{Edge, Expire}
 use Rattle.shard_work.specs.Progress.{AreOutcomes, AreRowsDone}
-use Rattle.shard_work.specs.declared.shard.Place.{Place}
 use Rattle.shard_work.specs.declared.shard.Step.{Step}
 use Rattle.graph_version.specs.Versions.{IsBlockOf, is_in}
 use Rattle.shard_work.specs.Births.{births_end, births_dropped}
@@ -41,6 +42,7 @@ use Rattle.shard_work.specs.declared.shard.OpenRow.{OpenRow}
 use Rattle.shard_work.proofs.Places.{count_by-append}
 use Rattle.shard_work.proofs.ShardSteps.{first_step, length-outcomes_all}
 use Rattle.shard_work.proofs.SourceSteps.{outcome_of}
+use Rattle.shard_work.proofs.Expiring.{count_wider}
 
 -- what balances in each element balances in the whole list
 pub balance : {X A : Type 0} (p : A → Bool) (a b c d : X → List A)
@@ -277,34 +279,42 @@ own_blocks bs row source e all k d lt =
     ap (λ (b : BlockView). b.source) (sym (get_or-map block_of bs k d (block_of d) lt))
     ∙ (subst (λ r. All (IsBlockOf source) r) (sym e) all k (block_of d) (omega arith)).source_is
 
--- before the first row is opened no operation in a row has an outcome, and each other one is absent
+-- before the first row is opened no operation in a row has an outcome, each other one is absent, and an expiry has counted none
 pub none_written : (rows : ℕ → List BlockView) (sources : List ℕ) (steps : List Step)
-    → AreOutcomes sources steps rows 0 (map (λ s. (s.op, Absent)) steps)
+    → AreOutcomes sources steps rows 0 (map (λ s. (s.op, none_told s.act)) steps)
 none_written rows sources steps = record {
   places = places steps;
   are = λ k s o lt past.
-      ap (λ (p : ℕ × Outcome). p.1) (get_or-map (λ (s : Step). (s.op, Absent)) steps k first_step o lt)
-      ∙ sym (outcome_of sources steps k (opened (layout_by rows)) lt
-      ∙ absent (get_or steps k first_step).change (get_or steps k first_step).place
-      (ap (λ (s : Step). is_past 0 s.place) (get_or_default steps k first_step s lt) ∙ past) (rows_all (resolved_in sources
-      (take k steps)) (opened (layout_by rows))));
+      ap (λ (p : ℕ × Outcome). p.1) (get_or-map (λ (s : Step). (s.op, none_told s.act)) steps k first_step o lt)
+      ∙ none (get_or steps k first_step).act
+      (ap (λ (s : Step). is_past 0 s.act) (get_or_default steps k first_step s lt) ∙ past) (rows_all (resolved_in sources
+      (take k steps)) (opened (layout_by rows)))
+      ∙ sym (ap told (outcome_of [] sources steps k (opened (layout_by rows)) lt));
 } where
-  places : (steps : List Step) → map (λ (o : ℕ × Outcome). o.0) (map (λ (s : Step). (s.op, Absent)) steps)
+  places : (steps : List Step) → map (λ (o : ℕ × Outcome). o.0) (map (λ (s : Step). (s.op, none_told s.act)) steps)
       ≡ map (λ (s : Step). s.op) steps
   places [] = refl
   places (s ∷ steps) = ap (λ ops. s.op ∷ ops) (places steps)
 
-  absent : (change : EdgeChange) (p : Option Place) → is_past 0 p ≡ false → (now : ℕ → List OpenBlock)
-      → key_outcome change (key_at sources p) now ≡ Absent
-  absent change None past now = refl
-  absent change (Some p) past now = absurd (false≢true (sym past ∙ ap not (le-ltb p.row 0 (omega arith))))
+  none : (act : Act) → is_past 0 act ≡ false → (now : ℕ → List OpenBlock)
+      → none_told act ≡ told (outcome_in [] (resolved_at sources act) now)
+  none (Edge None change) past now = refl
+  none (Edge (Some p) change) past now = absurd (false≢true (sym past ∙ ap not (le-ltb p.row 0 (omega arith))))
+  none (Expire time) past now = refl
 
-pub few_past : (rows : ℕ) (steps : List Step) (n : ℕ) → length steps ≤ n → count_by (λ s. is_past rows s.place) steps ≤ n
-few_past rows steps n few = let h = count_by-le-length (λ (s : Step). is_past rows s.place) steps in omega arith
+-- what is needed before the first row
+pub few_past : (rows : ℕ → List BlockView) (sources : List ℕ) (steps : List Step) → needed_past 0 rows sources steps
+    ≤ needed rows sources steps
+few_past rows sources steps =
+    let h = count_wider (λ (s : Step). is_past 0 s.act) (λ (s : Step). not (is_expiry s.act)) (λ s. one s.act) steps in
+    omega arith where
+      one : (act : Act) → is_past 0 act ≡ true → not (is_expiry act) ≡ true
+      one (Edge place change) e = refl
+      one (Expire time) e = absurd (false≢true e)
 
 -- no row is done yet
 pub none_yet : (rows : ℕ → List BlockView) (sources : List ℕ) (steps : List Step) (fresh : List (Arc Block Global))
-    (done : ShardDone) → done.outcomes.items ≡ map (λ s. (s.op, Absent)) steps → done.rows.items ≡ []
+    (done : ShardDone) → done.outcomes.items ≡ map (λ s. (s.op, none_told s.act)) steps → done.rows.items ≡ []
     → done.left.taken.items ≡ [] → done.left.dropped.items ≡ [] → done.left.unused.items ≡ []
     → AreRowsDone rows sources steps (numbers_of fresh) 0 fresh done
 none_yet rows sources steps fresh done outs closed taken dropped unused = record {
@@ -335,24 +345,29 @@ zipped (o ∷ outs) (r ∷ rs) e h =
     (zipped outs rs (omega arith) (λ k p lt. h (suc k) p (omega arith)))
 
 -- every operation is on one of the rows
-all_past : (rows : ℕ) (p : Option Place) → IsPlace rows p → is_past rows p ≡ false
-all_past rows None w = refl
-all_past rows (Some p) w = ap not (lt-ltb p.row rows w)
+all_past : (rows : ℕ) (act : Act) → IsAct rows act → is_past rows act ≡ false
+all_past rows (Edge None change) w = refl
+all_past rows (Edge (Some p) change) w = ap not (lt-ltb p.row rows w.0)
+all_past rows (Expire time) w = refl
 
 outcomes_all_are : (rows : ℕ → List BlockView) (sources : List ℕ) (steps : List Step) (outs : List (ℕ × Outcome))
     → AreSteps (length sources) steps → AreOutcomes sources steps rows (length sources) outs
-    → outs ≡ zip (map (λ s. s.op) steps) (outcomes_all (resolved_in sources steps) (opened (layout_by rows)))
+    → outs ≡ zip (map (λ s. s.op) steps) (map told (outcomes_all sources (resolved_in sources steps) (opened (layout_by rows))))
 outcomes_all_are rows sources steps outs in_rows d =
-    let a : length (outcomes_all (resolved_in sources steps) (opened (layout_by rows))) ≡ length (resolved_in sources steps) =
-    length-outcomes_all (resolved_in sources steps) (opened (layout_by rows)) in
+    let those : List Outcome = outcomes_all sources (resolved_in sources steps) (opened (layout_by rows)) in
+    let a = length-outcomes_all sources (resolved_in sources steps) (opened (layout_by rows)) in
     let b : length (resolved_in sources steps) ≡ length steps = length-map steps
-    (λ (s : Step). resolved_at sources s.change s.place) in
+    (λ (s : Step). resolved_at sources s.act) in
+    let c : length (map told those) ≡ length those = length-map those told in
     let long : length outs ≡ length steps = sym (length-map outs (λ (o : ℕ × Outcome). o.0)) ∙ ap length d.places
     ∙ length-map steps (λ (s : Step). s.op) in
-    zipped outs (outcomes_all (resolved_in sources steps) (opened (layout_by rows))) (omega arith)
-    (λ k o lt. d.are k first_step o (omega arith) (all_past (length sources) (get_or steps k first_step).place
-    (in_rows k first_step (omega arith)).0))
-    ∙ ap (λ ops. zip ops (outcomes_all (resolved_in sources steps) (opened (layout_by rows)))) d.places
+    let all : take (length sources) sources ≡ sources = take_all (length sources) sources (omega arith) in
+    zipped outs (map told those) (omega arith)
+    (λ k o lt. d.are k first_step o (omega arith) (all_past (length sources) (get_or steps k first_step).act
+    (in_rows k first_step (omega arith)))
+    ∙ ap (λ ss. told (outcome_over ss sources steps (opened (layout_by rows)) k)) all
+    ∙ sym (get_or-map told those k Absent Absent (omega arith)))
+    ∙ ap (λ ops. zip ops (map told those)) d.places
 
 -- what all rows leave is what a shard must leave
 module _ (rows : ℕ → List BlockView) (shard : Shard) (before done : ShardDone) (fresh : List (Arc Block Global)) where

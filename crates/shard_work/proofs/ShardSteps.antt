@@ -2,15 +2,16 @@
 use Rattle.std.proofs.Common.{◌≡◌, ◌≢◌, ℕ, zero, suc, ◌+◌, ◌<◌, ◌≤◌, ◌==◌, Bool, true, false, cond, List, [], ◌∷◌, ◌++◌, length}
 use Rattle.std.proofs.Common.{get_or, set, map, flat_map, count_by, refl, sym, ap, ◌∙◌, arith, subst, All, AllPairs, nat_eq}
 use Rattle.std.proofs.Common.{zip, take, ap₂}
-use Rattle.std.specs.Prelude.{pos}
-use Rattle.std.specs.declared.option.Option.TheVariants.{None}
 use Rattle.std.proofs.lemmas.Bool.{true≢false, false≢true, eqb-true, false_from_ne_true}
 use Rattle.std.proofs.lemmas.List.{map-append, take_more}
-use Rattle.graph_model.specs.declared.changes.EdgeChange.TheVariants.{Insert}
 use Rattle.block_layout.specs.Rows.{OpenBlock}
 use Rattle.block_layout.specs.Batches.{Resolved, rows_step, rows_all, outcomes_all}
 use Rattle.shard_work.specs.Shards.{resolved_at, resolved_in}
 use Rattle.shard_work.specs.declared.shard.Step.{Step}
+use Rattle.shard_work.specs.declared.shard.Act.TheVariants.{Edge}
+use Rattle.std.specs.Prelude.{pos}
+use Rattle.std.specs.declared.option.Option.TheVariants.{None}
+use Rattle.graph_model.specs.declared.changes.EdgeChange.TheVariants.{Insert}
 
 pub same_number : (a : ℕ) → (a == a) ≡ true
 same_number a = Rattle.std.proofs.lemmas.Bool.true_from_ne_false (a == a)
@@ -34,25 +35,26 @@ pub rows_more : (rs : List Resolved) (r : Resolved) (rows : ℕ → List OpenBlo
 rows_more [] r rows = refl
 rows_more (x ∷ rs) r rows = rows_more rs r (rows_step x rows)
 
-pub length-outcomes_all : (rs : List Resolved) (rows : ℕ → List OpenBlock) → length (outcomes_all rs rows) ≡ length rs
-length-outcomes_all [] rows = refl
-length-outcomes_all (r ∷ rs) rows = ap suc (length-outcomes_all rs (rows_step r rows))
+pub length-outcomes_all : (sources : List ℕ) (rs : List Resolved) (rows : ℕ → List OpenBlock)
+    → length (outcomes_all sources rs rows) ≡ length rs
+length-outcomes_all sources [] rows = refl
+length-outcomes_all sources (r ∷ rs) rows = ap suc (length-outcomes_all sources rs (rows_step r rows))
 
 abbrev pub first_step : Step
-first_step = record { op = 0; place = None; change = Insert (pos 0) 0 }
+first_step = record { op = 0; act = Edge None (Insert (pos 0) 0) }
 
 module _ (sources : List ℕ) (steps : List Step) (k : ℕ) (lt : k < length steps) where
   abbrev s : Step
   s = get_or steps k first_step
 
   pub resolved_more : resolved_in sources (take (k + 1) steps) ≡ resolved_in sources (take k steps)
-      ++ resolved_at sources s.change s.place ∷ []
+      ++ resolved_at sources s.act ∷ []
   resolved_more =
       ap (resolved_in sources) (take_more steps k first_step lt)
-      ∙ map-append (λ (t : Step). resolved_at sources t.change t.place) (take k steps) (s ∷ [])
+      ∙ map-append (λ (t : Step). resolved_at sources t.act) (take k steps) (s ∷ [])
 
   pub all_rows_more : (rows : ℕ → List OpenBlock)
-      → rows_step (resolved_at sources s.change s.place) (rows_all (resolved_in sources (take k steps)) rows)
+      → rows_step (resolved_at sources s.act) (rows_all (resolved_in sources (take k steps)) rows)
       ≡ rows_all (resolved_in sources (take (k + 1) steps)) rows
   all_rows_more rows = sym (ap (λ rs. rows_all rs rows) resolved_more
-      ∙ rows_more (resolved_in sources (take k steps)) (resolved_at sources s.change s.place) rows)
+      ∙ rows_more (resolved_in sources (take k steps)) (resolved_at sources s.act) rows)

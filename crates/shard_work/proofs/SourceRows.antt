@@ -3,45 +3,96 @@ use Rattle.std.proofs.Common.{◌≡◌, ℕ, ◌+◌, ◌<◌, true, false, Lis
 use Rattle.std.proofs.Common.{refl, sym, ap, ap₂, ◌∙◌, arith, All}
 use Rattle.std.specs.declared.sync.Arc.{Arc}
 use Rattle.std.specs.declared.alloc.Global.{Global}
-use Rattle.std.proofs.lemmas.List.{map-append, take_more, append-nil}
+use Rattle.std.proofs.lemmas.Bool.{false≢true}
+use Rattle.std.proofs.lemmas.List.{map-append, take_more, append-nil, get_or_default}
+use Rattle.std.proofs.lemmas.List.Sums.{sum_by-append}
+use Rattle.std.specs.List.{sum_by}
 use Rattle.std.proofs.lemmas.List.Elements.{All-push}
 use Rattle.std.proofs.lemmas.Grind.{flat_map-append}
 use Rattle.graph_model.specs.declared.batches.Outcome.{Outcome}
+use Rattle.graph_model.specs.declared.batches.Outcome.TheVariants.{Expired}
 use Rattle.edge_block.specs.declared.blocks.Block.{Block}
 use Rattle.edge_block.specs.Slots.{BlockView}
-use Rattle.block_layout.specs.Batches.{rows_all, opened}
+use Rattle.block_layout.specs.Batches.{outcome_in, together, rows_all, opened}
+use Rattle.block_layout.specs.Rows.{OpenBlock, old_in_row}
 use Rattle.shard_work.specs.RowBlocks.{blocks_of, numbers_of, opens, had_in, own_in, HaveSame, IsOf}
 use Rattle.shard_work.specs.Closing.{row_values, after_of, written_of, dropped_of, unused_of, written_all}
-use Rattle.shard_work.specs.Shards.{resolved_in, own_all}
-use Rattle.shard_work.specs.Groups.{is_at, IsSourceRow, IsOutcome}
+use Rattle.shard_work.specs.Shards.{key_at, resolved_at, resolved_in, own_all}
+use Rattle.shard_work.specs.Groups.{is_past, does_act, told, outcome_over, IsSourceRow, IsOneMore}
 use Rattle.shard_work.specs.Progress.{AreOutcomes, AreRowsDone}
 use Rattle.shard_work.specs.Done.{layout_by}
 use Rattle.shard_work.specs.declared.shard.OpenRow.{OpenRow}
 use Rattle.shard_work.specs.declared.shard.ShardDone.{ShardDone}
 use Rattle.shard_work.specs.declared.shard.Step.{Step}
 use Rattle.shard_work.proofs.Places.{count_by-append}
-use Rattle.shard_work.proofs.SourceSteps.{past_here}
+use Rattle.shard_work.proofs.ShardSteps.{first_step}
+use Rattle.shard_work.proofs.SourceSteps.{outcome_of, past_here}
+use Rattle.shard_work.proofs.Expiring.{edge_stands, told_more}
+use Rattle.shard_work.specs.declared.shard.Act.{Act}
+use Rattle.shard_work.specs.declared.shard.Act.TheVariants.{Edge, Expire}
 
 -- a list of pieces, with one more
 pub one_piece : {A B : Type 0} (f : A → List B) (xs : List A) (x : A) → flat_map f (xs ++ x ∷ []) ≡ flat_map f xs ++ f x
 one_piece f xs x = flat_map-append f xs (x ∷ []) ∙ ap (λ ys. flat_map f xs ++ ys) (append-nil (f x))
 
 module _ (rows : ℕ → List BlockView) (sources : List ℕ) (steps : List Step) where
+  -- the outcome of an operation with one more row
+  module _ (row source : ℕ) (is : IsSourceRow sources steps row source) (k : ℕ) (lt : k < length steps) where
+    abbrev over : List ℕ → Outcome
+    over counted = outcome_over counted sources steps (opened (layout_by rows)) k
+
+    abbrev now : ℕ → List OpenBlock
+    now = rows_all (resolved_in sources (take k steps)) (opened (layout_by rows))
+
+    abbrev acts : Act → Type 0
+    acts act = (get_or steps k first_step).act ≡ act
+
+    over_is : (counted : List ℕ) (act : Act) → acts act → over counted ≡ outcome_in counted (resolved_at sources act) now
+    over_is counted act e = outcome_of counted sources steps k (opened (layout_by rows)) lt
+        ∙ ap (λ a. outcome_in counted (resolved_at sources a) now) e
+
+    -- over which sources it is counted matters for an expiry alone
+    one_edge : (act : Act) → acts act → does_act row act ≡ false → over (take row sources) ≡ over (take (row + 1) sources)
+    one_edge (Edge place change) e out =
+        over_is (take row sources) (Edge place change) e ∙ sym (over_is (take (row + 1) sources) (Edge place change) e)
+    one_edge (Expire time) e out = absurd (false≢true (sym out))
+
+    one_told : (act : Act) → acts act → (before : Outcome)
+        → (is_past row act ≡ false → before ≡ told (over (take row sources)))
+        → told (together before (over (source ∷ []))) ≡ told (over (take (row + 1) sources))
+    one_told (Edge place change) e before was =
+        ap told (ap (together before) (over_is (source ∷ []) (Edge place change) e)
+        ∙ edge_stands before change (key_at sources place) now ∙ sym (over_is (take (row + 1) sources) (Edge place change) e))
+    one_told (Expire time) e before was =
+        let f : ℕ → ℕ = λ s. old_in_row time (now s) in
+        let taken : take (row + 1) sources ≡ take row sources ++ source ∷ [] =
+        take_more sources row 0 is.within ∙ ap (λ s. take row sources ++ s ∷ []) is.source_is in
+        ap₂ (λ a b. told (together a b)) (was refl ∙ ap told (over_is (take row sources) (Expire time) e))
+        (over_is (source ∷ []) (Expire time) e)
+        ∙ told_more (sum_by f (take row sources)) (sum_by f (source ∷ []))
+        ∙ ap (λ n. told (Expired n)) (sym (sum_by-append f (take row sources) (source ∷ [])))
+        ∙ ap told (sym (over_is (take row sources ++ source ∷ []) (Expire time) e))
+        ∙ ap (λ ss. told (over ss)) (sym taken)
+
   -- the outcomes of operations on one more row
-  pub outcomes_more : (row : ℕ) (old new : List (ℕ × Outcome)) → map (λ o. o.0) new ≡ map (λ o. o.0) old
-      → ((k : ℕ) (s : Step) (o : ℕ × Outcome) → k < length steps → is_at row (get_or steps k s).place ≡ true
-      → IsOutcome sources steps (opened (layout_by rows)) k (get_or new k o).1)
-      → ((k : ℕ) (s : Step) (o : ℕ × Outcome) → k < length steps → is_at row (get_or steps k s).place ≡ false
+  pub outcomes_more : (row source : ℕ) → IsSourceRow sources steps row source → (old new : List (ℕ × Outcome))
+      → map (λ o. o.0) new ≡ map (λ o. o.0) old
+      → ((k : ℕ) (s : Step) (o : ℕ × Outcome) → k < length steps → does_act row (get_or steps k s).act ≡ true
+      → IsOneMore sources steps (opened (layout_by rows)) source k (get_or old k o).1 (get_or new k o).1)
+      → ((k : ℕ) (s : Step) (o : ℕ × Outcome) → k < length steps → does_act row (get_or steps k s).act ≡ false
       → get_or new k o ≡ get_or old k o)
       → AreOutcomes sources steps rows row old → AreOutcomes sources steps rows (row + 1) new
-  outcomes_more row old new places written others d = record {
+  outcomes_more row source is old new places written others d = record {
     places = places ∙ d.places;
     are = λ k s o lt past.
-        elim (is_at row (get_or steps k s).place) as (λ t. is_at row (get_or steps k s).place ≡ t
-        → IsOutcome sources steps (opened (layout_by rows)) k (get_or new k o).1) [
+        let act : Act = (get_or steps k s).act in
+        let same : (get_or steps k first_step).act ≡ act = ap (λ (x : Step). x.act) (get_or_default steps k first_step s lt) in
+        elim (does_act row act) as (λ t. does_act row act ≡ t
+        → (get_or new k o).1 ≡ told (outcome_over (take (row + 1) sources) sources steps (opened (layout_by rows)) k)) [
           | true ↦ λ t. written k s o lt t
+              ∙ one_told row source is k lt act same (get_or old k o).1 (λ before. d.are k s o lt before)
           | false ↦ λ t. ap (λ (p : ℕ × Outcome). p.1) (others k s o lt t)
-              ∙ d.are k s o lt (past_here row (get_or steps k s).place past t)
+              ∙ d.are k s o lt (past_here row act past t) ∙ ap told (one_edge row source is k lt act same t)
         ] refl;
   }
 

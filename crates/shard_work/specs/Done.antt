@@ -8,6 +8,7 @@ use Rattle.block_layout.specs.Batches.{Resolved, rows_all, outcomes_all, opened}
 use Rattle.shard_work.specs.RowBlocks.{blocks_of, numbers_of}
 use Rattle.shard_work.specs.Closing.{row_values}
 use Rattle.shard_work.specs.Shards.{resolved_in}
+use Rattle.shard_work.specs.Groups.{told}
 use Rattle.shard_work.specs.declared.shard.Shard.{Shard}
 use Rattle.shard_work.specs.declared.shard.ShardDone.{ShardDone}
 
@@ -43,9 +44,9 @@ rows_by rows shard = rows_all (steps_in shard) (opened (layout_by rows))
 
 -- what the work on a shard leaves of these rows
 pub record IsShardDone (rows : ℕ → List BlockView) (shard : Shard) (done : ShardDone) : Type 0 where
-  -- the outcomes of the operation rule, each at its place
+  -- the outcomes of the operation rule, each at its place; an expiry counts the edges of the shard's sources
   pub outcomes_are : done.outcomes.items ≡ zip (map (λ s. s.op) shard.steps.items)
-      (outcomes_all (steps_in shard) (opened (layout_by rows)))
+      (map told (outcomes_all (sources_in shard) (steps_in shard) (opened (layout_by rows))))
   -- the rows of the shard's sources, in order
   pub sources_are : map (λ r. r.0) (row_values done.rows.items) ≡ sources_in shard
   -- the layout rule, for each row

@@ -4,6 +4,7 @@ pub mod Notes
 pub mod Room
 pub mod Shards
 pub mod Groups
+pub mod Spending
 pub mod Closing
 pub mod Done
 pub mod Progress

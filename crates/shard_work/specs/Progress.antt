@@ -9,18 +9,19 @@ use Rattle.block_layout.specs.Batches.{rows_all, opened}
 use Rattle.shard_work.specs.RowBlocks.{blocks_of, numbers_of, had_in, HaveSame}
 use Rattle.shard_work.specs.Closing.{row_values, closed_rows, written_all, dropped_all, unused_all}
 use Rattle.shard_work.specs.Shards.{AreOpen, AreOwn, resolved_in, sources_of, had_all, own_all}
-use Rattle.shard_work.specs.Groups.{is_past, IsOutcome}
+use Rattle.shard_work.specs.Groups.{is_past, told, outcome_over}
 use Rattle.shard_work.specs.Done.{layout_by}
 use Rattle.shard_work.specs.declared.shard.OpenRow.{OpenRow}
 use Rattle.shard_work.specs.declared.shard.ShardDone.{ShardDone}
 use Rattle.shard_work.specs.declared.shard.Step.{Step}
 
--- the outcomes of operations on so many first rows are those of the operation rule, each with its place in the batch
+-- the outcomes of operations on so many first rows are those of the operation rule, each with its place in the batch; an
+-- expiry's counts the edges of these rows
 pub record AreOutcomes (sources : List ℕ) (steps : List Step) (rows : ℕ → List BlockView) (done : ℕ)
     (outcomes : List (ℕ × Outcome)) : Type 0 where
   pub places : map (λ o. o.0) outcomes ≡ map (λ s. s.op) steps
-  pub are : (k : ℕ) (s : Step) (o : ℕ × Outcome) → k < length steps → is_past done (get_or steps k s).place ≡ false
-      → IsOutcome sources steps (opened (layout_by rows)) k (get_or outcomes k o).1
+  pub are : (k : ℕ) (s : Step) (o : ℕ × Outcome) → k < length steps → is_past done (get_or steps k s).act ≡ false
+      → (get_or outcomes k o).1 ≡ told (outcome_over (take done sources) sources steps (opened (layout_by rows)) k)
 
 -- the rows of so many first sources are done: they were opened, changed as the layout rule says, and closed
 pub record AreRowsDone (rows : ℕ → List BlockView) (sources : List ℕ) (steps : List Step) (handed : List ℕ) (count : ℕ)

@@ -45,6 +45,10 @@ had_in row = flat_map had_here row
 abbrev pub own_here : RowBlock → List ℕ
 own_here h = if h.touched then (block_of h.block).number ∷ [] else []
 
+-- how many fresh blocks a first touch takes
+abbrev pub untouched_here : RowBlock → ℕ
+untouched_here h = if h.touched then 0 else 1
+
 abbrev pub own_in : List RowBlock → List ℕ
 own_in row = flat_map own_here row
 

@@ -7,10 +7,12 @@ use Rattle.graph_model.specs.declared.changes.EdgeChange.{EdgeChange}
 use Rattle.graph_model.specs.Changes.{IsChange}
 use Rattle.edge_block.specs.Slots.{BlockView}
 use Rattle.block_layout.specs.Rows.{OpenBlock}
-use Rattle.block_layout.specs.Batches.{Resolved, AtKey}
+use Rattle.block_layout.specs.Batches.{Resolved, AtKey, InAll}
 use Rattle.shard_work.specs.RowBlocks.{opens, had_in, own_in, IsOf}
 use Rattle.shard_work.specs.declared.shard.OpenRow.{OpenRow}
 use Rattle.shard_work.specs.declared.shard.Place.{Place}
+use Rattle.shard_work.specs.declared.shard.Act.{Act}
+use Rattle.shard_work.specs.declared.shard.Act.TheVariants.{Edge, Expire}
 use Rattle.shard_work.specs.declared.shard.Step.{Step}
 
 -- the open rows are those of their sources
@@ -45,13 +47,22 @@ abbrev pub source_at : List ℕ → Option Place → Option ℕ
 source_at sources None = None
 source_at sources (Some p) = Some (slice_index sources p.row)
 
-abbrev pub resolved_at : List ℕ → EdgeChange → Option Place → Resolved
-resolved_at sources change place = AtKey (source_at sources place) (key_at sources place) change
+abbrev pub resolved_at : List ℕ → Act → Resolved
+resolved_at sources (Edge place change) = AtKey (source_at sources place) (key_at sources place) change
+resolved_at sources (Expire time) = InAll time
 
 -- the shard's operations
 abbrev pub resolved_in : List ℕ → List Step → List Resolved
-resolved_in sources steps = map (λ s. resolved_at sources s.change s.place) steps
+resolved_in sources steps = map (λ s. resolved_at sources s.act) steps
 
--- each has its edge in one of so many rows, and a weight and a time in range
+-- one on an edge has it in one of so many rows, and a weight and a time in range
+abbrev pub IsActChange : Act → Type 0
+IsActChange (Edge place change) = IsChange change
+IsActChange (Expire time) = Unit {0}
+
+abbrev pub IsAct : ℕ → Act → Type 0
+IsAct rows (Edge place change) = IsPlace rows place × IsChange change
+IsAct rows (Expire time) = Unit {0}
+
 abbrev pub AreSteps : ℕ → List Step → Type 0
-AreSteps rows steps = All (λ s. IsPlace rows s.place × IsChange s.change) steps
+AreSteps rows steps = All (λ s. IsAct rows s.act) steps

@@ -11,4 +11,4 @@ mod row_blocks;
 mod rows;
 mod shard;
 
-pub use shard::{Leavings, Place, Shard, ShardDone, Step, work_on};
+pub use shard::{Act, Leavings, Place, Shard, ShardDone, Step, work_on};

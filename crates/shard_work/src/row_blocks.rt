@@ -1,8 +1,8 @@
 //! One block of a row.
 
-ghost use Rattle.std.specs.Prelude.{◌≡◌, ◌+◌, ◌<◌, ◌≤◌, IsTrue, OnOk, vec_len};
+ghost use Rattle.std.specs.Prelude.{◌≡◌, ◌+◌, ◌<◌, ◌≤◌, IsTrue, OnOk, IfOk, vec_len, true, false, cond};
 ghost use Rattle.graph_model.specs.Graph.{IsWeight, IsTime};
-ghost use Rattle.edge_block.specs.Slots.{has_room_for, put_slot, take_slot, edge_slot};
+ghost use Rattle.edge_block.specs.Slots.{has_room_for, put_slot, take_slot, edge_slot, slots_since, old_in};
 ghost use Rattle.block_layout.specs.Rows as layout;
 
 use edge_block::Block;
@@ -21,7 +21,8 @@ pub struct RowBlock {
 }
 
 impl RowBlock {
-    ghost use Rattle.shard_work.specs.RowBlocks.{block_of, open_of, numbers_of, own_here, IsTouched, HaveSame};
+    ghost use Rattle.shard_work.specs.RowBlocks.{block_of, open_of, numbers_of, had_here, own_here, untouched_here, IsTouched, HaveSame};
+    ghost use Rattle.shard_work.specs.Spending.{is_unspent};
 
     /// Whether it has an edge of the kind to the target.
     pub fn has_edge(&self, kind: KindId, target: u32) -> bool
@@ -39,11 +40,11 @@ impl RowBlock {
 
     /// Puts a fresh block in the block's place, with the same edges, where the batch has not yet done so.
     fn own(&mut self, fresh: &mut Vec<Arc<Block>>) -> Result<(), AllocError>
-        requires { 0 < vec_len fresh.old }
+        requires { self.old.touched ≡ false → 0 < vec_len fresh.old }
         ensures touched { OnOk result (IsTouched (λ slots. slots) self.old self.new) }
         ensures numbers { OnOk result (HaveSame (own_here self.new) (numbers_of fresh.new.items) (own_here self.old)
             (numbers_of fresh.old.items)) }
-        ensures few { OnOk result (vec_len fresh.old ≤ vec_len fresh.new + 1) }
+        ensures few { OnOk result (vec_len fresh.old ≤ vec_len fresh.new + untouched_here self.old) }
     {
         if self.touched {
             return Ok(());
@@ -93,5 +94,38 @@ impl RowBlock {
         self.own(fresh)?;
         let _ = Arc::make_mut(&mut self.block)?.take(target);
         Ok(())
+    }
+
+    /// Takes out the edges that were last touched before a time, and answers how many they were. A block without such an
+    /// edge isn't touched.
+    pub fn expire(&mut self, fresh: &mut Vec<Arc<Block>>, time: u64) -> Result<u32, AllocError>
+        requires { is_unspent time (open_of self.old) ≡ true → 0 < vec_len fresh.old }
+        ensures shown { OnOk result (open_of self.new ≡ layout.expire_block time (open_of self.old)) }
+        ensures had { OnOk result (had_here self.new ≡ had_here self.old) }
+        ensures source { OnOk result ((block_of self.new.block).source ≡ (block_of self.old.block).source) }
+        ensures count { IfOk result (λ n. n ≡ old_in time (block_of self.old.block).slots) }
+        ensures numbers { OnOk result (HaveSame (own_here self.new) (numbers_of fresh.new.items) (own_here self.old)
+            (numbers_of fresh.old.items)) }
+        ensures few { OnOk result (vec_len fresh.old ≤ vec_len fresh.new
+            + cond (is_unspent time (open_of self.old)) 1 0) }
+    {
+        if !self.block.has_before(time) {
+            return Ok(0);
+        }
+        self.expire_old(fresh, time)
+    }
+
+    /// The same of a block that has such an edge.
+    fn expire_old(&mut self, fresh: &mut Vec<Arc<Block>>, time: u64) -> Result<u32, AllocError>
+        requires { self.old.touched ≡ false → 0 < vec_len fresh.old }
+        ensures touched { OnOk result (IsTouched (slots_since time) self.old self.new) }
+        ensures count { IfOk result (λ n. n ≡ old_in time (block_of self.old.block).slots) }
+        ensures numbers { OnOk result (HaveSame (own_here self.new) (numbers_of fresh.new.items) (own_here self.old)
+            (numbers_of fresh.old.items)) }
+        ensures few { OnOk result (vec_len fresh.old ≤ vec_len fresh.new + untouched_here self.old) }
+    {
+        self.own(fresh)?;
+        let count = Arc::make_mut(&mut self.block)?.expire(time);
+        Ok(count)
     }
 }

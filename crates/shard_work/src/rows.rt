@@ -2,7 +2,7 @@
 
 ghost use Rattle.std.specs.Prelude.{◌≡◌, ℕ, List, ◌+◌, ◌<◌, ◌≤◌, IsTrue, IfOk};
 ghost use Rattle.std.specs.Prelude.{IfSome, OnOk, All, vec_len, length, [], true, false};
-ghost use Rattle.std.specs.Prelude.{get_or, min, MatchOption};
+ghost use Rattle.std.specs.Prelude.{get_or, min, MatchOption, ◌%◌, ◌^◌};
 ghost use Rattle.std.specs.List.{list_any, position};
 ghost use Rattle.std.specs.Option.{is_some};
 ghost use Rattle.graph_model.specs.Graph.{IsWeight, IsTime};
@@ -11,6 +11,7 @@ ghost use Rattle.edge_block.specs.Slots.{has_room_for, stamp_at, edge_slot};
 ghost use Rattle.block_layout.specs.Rows as layout;
 ghost use Rattle.block_layout.specs.Rows.{touch, touches, change_row, edge_at, put_edge};
 ghost use Rattle.shard_work.specs.RowBlocks.{block_of, open_of, opens, had_here, had_in, numbers_of, own_here, own_in};
+ghost use Rattle.shard_work.specs.Spending.{unspent};
 ghost use Rattle.shard_work.specs.Notes.{stands, Gains, IsNoted};
 ghost use Rattle.shard_work.specs.Room.{IsFull, IsRoom, AreHints};
 ghost use Rattle.shard_work.specs.RowBlocks.{set_slot, HaveSame, IsOf, IsChanged, IsTouched};
@@ -118,7 +119,7 @@ fn change_here(
     };
     let (outcome, after) = change_edge(change, Some(before));
     match outcome {
-        Outcome::Absent | Outcome::Overflow => Ok(outcome),
+        Outcome::Absent | Outcome::Overflow | Outcome::Expired(_) => Ok(outcome),
         Outcome::Inserted | Outcome::Updated | Outcome::Removed => {
             set_edge(here, fresh, target, after)?;
             Ok(outcome)
@@ -267,4 +268,30 @@ fn note_edge(notes: &mut Option<Notes>, target: u32, place: usize) -> Result<(),
         None => Ok(()),
         Some(notes) => notes.note(target, place),
     }
+}
+
+/// Takes out the edges of a row that were last touched before a time, and answers how many they were, modulo 2^64.
+///
+/// A block that was full may have room then.
+pub fn expire_blocks(
+    row: &mut Vec<RowBlock>,
+    fresh: &mut Vec<Arc<Block>>,
+    time: u64,
+) -> Result<u64, AllocError>
+    requires fresh { unspent time (opens row.old.items) ≤ vec_len fresh.old }
+    ensures row { OnOk result (opens row.new.items ≡ layout.expire_row time (opens row.old.items)) }
+    ensures count { IfOk result (λ n. n ≡ layout.old_in_row time (opens row.old.items) % 2 ^ 64) }
+    ensures had { OnOk result (had_in row.new.items ≡ had_in row.old.items) }
+    ensures own { OnOk result ((source : ℕ) → All (IsOf source) row.old.items → All (IsOf source) row.new.items) }
+    ensures numbers { OnOk result (HaveSame (own_in row.new.items) (numbers_of fresh.new.items) (own_in row.old.items)
+        (numbers_of fresh.old.items)) }
+    ensures few { OnOk result ((t : ℕ) → time ≤ t → vec_len fresh.old + unspent t (opens row.new.items)
+        ≤ vec_len fresh.new + unspent t (opens row.old.items)) }
+{
+    let mut count = 0_u64;
+    for place in 0..row.len() {
+        let gone = row[place].expire(fresh, time)?;
+        count = count.wrapping_add(u64::from(gone));
+    }
+    Ok(count)
 }

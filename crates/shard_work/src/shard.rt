@@ -1,19 +1,22 @@
 //! The rows of a shard's sources while a batch goes on.
 
 ghost use Rattle.std.specs.Prelude.{◌≡◌, ◌≢◌, ◌+◌, ◌++◌, ◌<◌, ◌≤◌, ℕ, List, [], IfOk, OnOk, All, AllPairs, true, false};
-ghost use Rattle.std.specs.Prelude.{vec_len, length, get_or, map, count_by};
-ghost use Rattle.graph_model.specs.declared.batches.Outcome.TheVariants.{Absent};
+ghost use Rattle.std.specs.Prelude.{vec_len, length, get_or, map, count_by, ◌%◌, ◌^◌};
+ghost use Rattle.graph_model.specs.declared.batches.Outcome.TheVariants.{Expired};
 ghost use Rattle.graph_model.specs.Changes.{IsChange};
+ghost use Rattle.block_layout.specs.Rows as layout;
 ghost use Rattle.block_layout.specs.Rows.{OpenBlock, has_none, shape_of};
-ghost use Rattle.block_layout.specs.Batches.{key_step, rows_all, key_outcome};
+ghost use Rattle.block_layout.specs.Batches.{key_step, rows_all, key_outcome, together};
 ghost use Rattle.row_pages.specs.Rows.{row_of};
 ghost use Rattle.shard_work.specs.RowBlocks.{block_of, blocks_of, kept_of, opens, had_in, own_in, numbers_of, HaveSame, IsOf};
 ghost use Rattle.shard_work.specs.Closing.{after_here, written_here, dropped_here, unused_here, after_of, written_of};
 ghost use Rattle.shard_work.specs.Closing.{dropped_of, unused_of};
 ghost use Rattle.shard_work.specs.Done.{AreBlockRows, IsShardDone};
-ghost use Rattle.shard_work.specs.Groups.{is_at, is_past, key_of, AreGroups, IsSourceRow, IsOutcome};
+ghost use Rattle.shard_work.specs.Groups.{is_at, is_expiry, does_act, key_of, AreGroups, AreExpiries, IsSourceRow};
+ghost use Rattle.shard_work.specs.Groups.{IsOneMore, told, none_told, act_step, act_outcome};
+ghost use Rattle.shard_work.specs.Spending.{spends, takes, time_of, latest, unspent, needed, needed_past};
 ghost use Rattle.shard_work.specs.Progress.{AreRowsDone};
-ghost use Rattle.shard_work.specs.Shards.{AreSteps, resolved_in};
+ghost use Rattle.shard_work.specs.Shards.{AreSteps, IsActChange, resolved_in};
 ghost use Rattle.shard_work.specs.Notes.{IsNoted};
 ghost use Rattle.shard_work.specs.Room.{AreHints};
 
@@ -21,7 +24,7 @@ use crate::groups::{Groups, group_steps, targets_of};
 use crate::notes::Notes;
 use crate::room::Room;
 use crate::row_blocks::RowBlock;
-use crate::rows::{Hints, apply_step};
+use crate::rows::{Hints, apply_step, expire_blocks};
 use edge_block::Block;
 use graph_model::{EdgeChange, KindId, Outcome, VertexId};
 use graph_version::Version;
@@ -44,12 +47,32 @@ pub struct Place {
     pub target: u32,
 }
 
-/// An operation of a shard: its place in the batch, and its edge's, where all its names are known.
+/// What an operation does.
+#[derive(Clone, Copy)]
+pub enum Act {
+    /// It changes one edge, which has a place where all its names are known.
+    Edge(Option<Place>, EdgeChange),
+    /// It takes out each edge, of all rows, that was last touched before a time.
+    Expire(u64),
+}
+
+/// An operation of a shard: its place in the batch, and what it does.
 #[derive(Clone, Copy)]
 pub struct Step {
     pub op: u32,
-    pub place: Option<Place>,
-    pub change: EdgeChange,
+    pub act: Act,
+}
+
+impl Step {
+    /// Whether it takes out old edges.
+    pub fn is_expiry(&self) -> bool
+        ensures { result ≡ is_expiry self.now.act }
+    {
+        match self.act {
+            Act::Edge(_, _) => false,
+            Act::Expire(_) => true,
+        }
+    }
 }
 
 /// Does one operation on its row, and answers its outcome.
@@ -90,6 +113,73 @@ fn do_step(
     Ok(outcome)
 }
 
+/// Takes old edges out of a row, and answers how many they were, modulo 2^64.
+fn expire_row(row: &mut OpenRow, fresh: &mut Vec<Arc<Block>>, time: u64) -> Result<u64, AllocError>
+    requires fresh { unspent time (opens row.old.blocks.items) ≤ vec_len fresh.old }
+    requires own { All (IsOf row.old.source.0) row.old.blocks.items }
+    requires hinted { AreHints row.old.hints row.old.blocks.items }
+    ensures row { OnOk result (opens row.new.blocks.items ≡ layout.expire_row time (opens row.old.blocks.items)) }
+    ensures count { IfOk result (λ n. n ≡ layout.old_in_row time (opens row.old.blocks.items) % 2 ^ 64) }
+    ensures source { OnOk result (row.new.source ≡ row.old.source) }
+    ensures hinted { OnOk result (AreHints row.new.hints row.new.blocks.items) }
+    ensures had { OnOk result (had_in row.new.blocks.items ≡ had_in row.old.blocks.items) }
+    ensures own { OnOk result (All (IsOf row.new.source.0) row.new.blocks.items) }
+    ensures numbers { OnOk result (HaveSame (own_in row.new.blocks.items) (numbers_of fresh.new.items)
+        (own_in row.old.blocks.items) (numbers_of fresh.old.items)) }
+    ensures few { OnOk result ((t : ℕ) → time ≤ t → vec_len fresh.old + unspent t (opens row.new.blocks.items)
+        ≤ vec_len fresh.new + unspent t (opens row.old.blocks.items)) }
+{
+    let count = expire_blocks(&mut row.blocks, fresh, time)?;
+    // A block before the place may have room now.
+    row.hints.room.place = 0;
+    Ok(count)
+}
+
+/// What is told of an expiry, with what was told of it before in other rows.
+fn counted(before: Outcome, count: u64) -> Outcome
+    ensures { result ≡ told (together before (Expired count)) }
+{
+    match before {
+        Outcome::Expired(counted) => Outcome::Expired(counted.wrapping_add(count)),
+        _ => Outcome::Expired(count),
+    }
+}
+
+/// Does one operation on a row, and answers its outcome in this row and those before.
+fn do_act(
+    row: &mut OpenRow,
+    fresh: &mut Vec<Arc<Block>>,
+    act: Act,
+    before: Outcome,
+) -> Result<Outcome, AllocError>
+    requires act { IsActChange act }
+    requires fresh { spends act (opens row.old.blocks.items) ≤ vec_len fresh.old }
+    requires own { All (IsOf row.old.source.0) row.old.blocks.items }
+    requires hinted { AreHints row.old.hints row.old.blocks.items }
+    ensures row { OnOk result (opens row.new.blocks.items ≡ act_step row.old.source.0 act (opens row.old.blocks.items)) }
+    ensures outcome { IfOk result (λ o. o ≡ told (together before
+        (act_outcome row.old.source.0 act (opens row.old.blocks.items)))) }
+    ensures source { OnOk result (row.new.source ≡ row.old.source) }
+    ensures hinted { OnOk result (AreHints row.new.hints row.new.blocks.items) }
+    ensures had { OnOk result (had_in row.new.blocks.items ≡ had_in row.old.blocks.items) }
+    ensures own { OnOk result (All (IsOf row.new.source.0) row.new.blocks.items) }
+    ensures numbers { OnOk result (HaveSame (own_in row.new.blocks.items) (numbers_of fresh.new.items)
+        (own_in row.old.blocks.items) (numbers_of fresh.old.items)) }
+    ensures few { OnOk result ((t : ℕ) → time_of act ≤ t → vec_len fresh.old + unspent t (opens row.new.blocks.items)
+        ≤ vec_len fresh.new + (takes act + unspent t (opens row.old.blocks.items))) }
+{
+    match act {
+        Act::Edge(place, change) => {
+            let outcome = do_step(row, fresh, place, change)?;
+            Ok(outcome)
+        }
+        Act::Expire(time) => {
+            let count = expire_row(row, fresh, time)?;
+            Ok(counted(before, count))
+        }
+    }
+}
+
 /// Does the operations on one row in order, and writes their outcomes.
 fn do_steps(
     opened: &mut OpenRow,
@@ -102,9 +192,11 @@ fn do_steps(
     requires groups { AreGroups 0 steps.now groups.now.first.items groups.now.next.items }
     requires row { row < length groups.now.first.items }
     requires steps { length groups.now.next.items ≡ length steps.now }
-    requires changes { All (λ s. IsChange s.change) steps.now }
+    requires expiries { AreExpiries 0 steps.now groups.now.expiries.items }
+    requires changes { All (λ s. IsActChange s.act) steps.now }
     requires outcomes { length outcomes.old.items ≡ length steps.now }
-    requires fresh { count_by (λ s. is_at row s.place) steps.now ≤ vec_len fresh.old }
+    requires fresh { count_by (λ s. is_at row s.act) steps.now + unspent (latest steps.now) (opens opened.old.blocks.items)
+        ≤ vec_len fresh.old }
     requires own { All (IsOf opened.old.source.0) opened.old.blocks.items }
     requires hinted { AreHints opened.old.hints opened.old.blocks.items }
     ensures rows { OnOk result ((sources : List ℕ) (rows : ℕ → List OpenBlock)
@@ -112,24 +204,27 @@ fn do_steps(
         → opens opened.new.blocks.items ≡ rows_all (resolved_in sources steps.now) rows opened.old.source.0) }
     ensures written { OnOk result ((sources : List ℕ) (rows : ℕ → List OpenBlock)
         → IsSourceRow sources steps.now row opened.old.source.0 → opens opened.old.blocks.items ≡ rows opened.old.source.0
-        → (k : ℕ) (s : Step) (o : ℕ × Outcome) → k < length steps.now → is_at row (get_or steps.now k s).place ≡ true
-        → IsOutcome sources steps.now rows k (get_or outcomes.new.items k o).1) }
+        → (k : ℕ) (s : Step) (o : ℕ × Outcome) → k < length steps.now → does_act row (get_or steps.now k s).act ≡ true
+        → IsOneMore sources steps.now rows opened.old.source.0 k (get_or outcomes.old.items k o).1
+        (get_or outcomes.new.items k o).1) }
     ensures others { OnOk result ((k : ℕ) (s : Step) (o : ℕ × Outcome) → k < length steps.now
-        → is_at row (get_or steps.now k s).place ≡ false → get_or outcomes.new.items k o ≡ get_or outcomes.old.items k o) }
+        → does_act row (get_or steps.now k s).act ≡ false → get_or outcomes.new.items k o ≡ get_or outcomes.old.items k o) }
     ensures places { OnOk result (map (λ o. o.0) outcomes.new.items ≡ map (λ o. o.0) outcomes.old.items) }
     ensures source { OnOk result (opened.new.source ≡ opened.old.source) }
     ensures had { OnOk result (had_in opened.new.blocks.items ≡ had_in opened.old.blocks.items) }
     ensures own { OnOk result (All (IsOf opened.new.source.0) opened.new.blocks.items) }
     ensures numbers { OnOk result (HaveSame (own_in opened.new.blocks.items) (numbers_of fresh.new.items)
         (own_in opened.old.blocks.items) (numbers_of fresh.old.items)) }
-    ensures few { OnOk result (vec_len fresh.old ≤ vec_len fresh.new + count_by (λ s. is_at row s.place) steps.now) }
+    ensures few { OnOk result (vec_len fresh.old ≤ vec_len fresh.new + (count_by (λ s. is_at row s.act) steps.now
+        + unspent (latest steps.now) (opens opened.old.blocks.items))) }
 {
-    let mut index = groups.first[row];
+    let mut edge = groups.first[row];
+    let mut index = edge.min(groups.expiries[0]);
     while index < steps.len() {
-        let step = steps[index];
-        let outcome = do_step(opened, fresh, step.place, step.change)?;
+        let outcome = do_act(opened, fresh, steps[index].act, outcomes[index].1)?;
         outcomes[index].1 = outcome;
-        index = groups.next[index];
+        edge = groups.edge_after(index, edge);
+        index = edge.min(groups.expiries[index + 1]);
     }
     Ok(())
 }
@@ -303,11 +398,13 @@ fn do_row(
     requires steps { AreSteps (length sources.now) steps.now }
     requires distinct { AllPairs (λ a b. a ≢ b) (map (λ s. s.0) sources.now) }
     requires groups { AreGroups 0 steps.now groups.now.first.items groups.now.next.items }
+    requires expiries { AreExpiries 0 steps.now groups.now.expiries.items }
     requires firsts { length groups.now.first.items ≡ length sources.now }
     requires nexts { length groups.now.next.items ≡ length steps.now }
     requires outcomes { length done.old.outcomes.items ≡ length steps.now }
-    requires fresh { count_by (λ s. is_past row s.place) steps.now ≤ vec_len fresh.old }
-    ensures fresh { OnOk result (count_by (λ s. is_past (row + 1) s.place) steps.now ≤ vec_len fresh.new) }
+    requires fresh { needed_past row (row_of version.now.rows) (map (λ s. s.0) sources.now) steps.now ≤ vec_len fresh.old }
+    ensures fresh { OnOk result (needed_past (row + 1) (row_of version.now.rows) (map (λ s. s.0) sources.now) steps.now
+        ≤ vec_len fresh.new) }
     ensures done { OnOk result ((handed : List ℕ)
         → AreRowsDone (row_of version.now.rows) (map (λ s. s.0) sources.now) steps.now handed row fresh.old.items done.old
         → AreRowsDone (row_of version.now.rows) (map (λ s. s.0) sources.now) steps.now handed (row + 1) fresh.new.items
@@ -327,9 +424,19 @@ fn do_row(
     Ok(())
 }
 
+/// What is told of an operation before the first row.
+fn none_told(act: Act) -> Outcome
+    ensures { result ≡ none_told act }
+{
+    match act {
+        Act::Edge(_, _) => Outcome::Absent,
+        Act::Expire(_) => Outcome::Expired(0),
+    }
+}
+
 /// What a shard leaves before its first row is opened: no operation has an outcome yet.
 fn none_done(alloc: Global, rows: usize, steps: &[Step]) -> Result<ShardDone, AllocError>
-    ensures outcomes { IfOk result (λ d. d.outcomes.items ≡ map (λ s. (s.op, Absent)) steps.now) }
+    ensures outcomes { IfOk result (λ d. d.outcomes.items ≡ map (λ s. (s.op, none_told s.act)) steps.now) }
     ensures rows { IfOk result (λ d. d.rows.items ≡ []) }
     ensures taken { IfOk result (λ d. d.left.taken.items ≡ []) }
     ensures dropped { IfOk result (λ d. d.left.dropped.items ≡ []) }
@@ -337,7 +444,7 @@ fn none_done(alloc: Global, rows: usize, steps: &[Step]) -> Result<ShardDone, Al
 {
     let mut outcomes = Vec::with_capacity(alloc, steps.len())?;
     for step in steps {
-        outcomes.push((step.op, Outcome::Absent))?;
+        outcomes.push((step.op, none_told(step.act)))?;
     }
     Ok(ShardDone {
         outcomes,
@@ -352,7 +459,8 @@ fn none_done(alloc: Global, rows: usize, steps: &[Step]) -> Result<ShardDone, Al
 
 /// Does a shard's operations on a version's rows, source by source.
 pub fn work_on(alloc: Global, version: &Version, shard: Shard) -> Result<ShardDone, AllocError>
-    requires fresh { length shard.steps.items ≤ vec_len shard.fresh }
+    requires fresh { needed (row_of version.now.rows) (map (λ s. s.0) shard.sources.items) shard.steps.items
+        ≤ vec_len shard.fresh }
     requires steps { AreSteps (length shard.sources.items) shard.steps.items }
     requires distinct { AllPairs (λ a b. a ≢ b) (map (λ s. s.0) shard.sources.items) }
     ensures { IfOk result (IsShardDone (row_of version.now.rows) shard) }

@@ -3,3 +3,4 @@ pub mod OneFault
 pub mod Asked
 pub mod Served
 pub mod HelpText
+pub mod Driven

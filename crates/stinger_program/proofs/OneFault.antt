@@ -28,18 +28,18 @@ use Rattle.clap.specs.declared.builder.action.ArgAction.TheVariants as action
 use Rattle.clap.specs.declared.builder.value_parser.ValueParser.{ValueParser}
 use Rattle.clap.specs.declared.error.kind.ErrorKind.{ErrorKind}
 use Rattle.clap.specs.declared.error.kind.ErrorKind.TheVariants as kind
-use Rattle.stinger_program.specs.Program.{RunView, asked_by, asked_by_kind, program}
+use Rattle.stinger_program.specs.Program.{Asked, asked_by, asked_by_kind, program}
 
 -- whichever of the kinds comes, the command line asks for the same
 abbrev pub HasOneMeaning : Kinds → Type 0
-HasOneMeaning kinds = (k : ErrorKind) → IsAmong k kinds → (run : Option RunView) → asked_by kinds run ≡ asked_by_kind k
+HasOneMeaning kinds = (k : ErrorKind) → IsAmong k kinds → (found : Asked) → asked_by kinds found ≡ asked_by_kind k
 
 none : HasOneMeaning []
-none k among run = absurd among
+none k among found = absurd among
 
 one : (j : ErrorKind) → HasOneMeaning (j ∷ [])
-one j k (inl is) run = ap asked_by_kind (sym is)
-one j k (inr nowhere) run = absurd nowhere
+one j k (inl is) found = ap asked_by_kind (sym is)
+one j k (inr nowhere) found = absurd nowhere
 
 first : (x y : Kinds) → HasOneMeaning x → HasOneMeaning y → HasOneMeaning (or_else x y)
 first [] y m n = n
@@ -181,9 +181,9 @@ stray_meaning : (s : Shape) → HasOneMeaning (stray_fault s)
 stray_meaning s = choice s.is_leaf _ _ (one kind.UnknownArgument) two
   where
     two : HasOneMeaning (kind.UnknownArgument ∷ kind.InvalidSubcommand ∷ [])
-    two k (inl is) run = ap asked_by_kind (sym is)
-    two k (inr (inl is)) run = ap asked_by_kind (sym is)
-    two k (inr (inr nowhere)) run = absurd nowhere
+    two k (inl is) found = ap asked_by_kind (sym is)
+    two k (inr (inl is)) found = ap asked_by_kind (sym is)
+    two k (inr (inr nowhere)) found = absurd nowhere
 
 positional_meaning : (c : List Rule) (again : Bool) (a : Rule) (h : Held) → HasOneMeaning (positional_fault c again a h)
 positional_meaning c again a h = choice (is_pending a h.pending && takes_several a) _ _ none (settle_meaning c again h)

@@ -1,6 +1,7 @@
 -- The program over its arguments: what they ask for, and what is done and told.
-use Rattle.std.specs.Prelude.{◌≡◌, ◌⊎◌, ◌==◌, ◌++◌, ◌&&◌, ◌||◌, ℕ, Bool, true, false, codes, List, [], ◌∷◌, slice_get}
-use Rattle.std.specs.Prelude.{if◌then◌else◌, map, IfSome, Option, None, Some, Result, Ok, Err, option_and_then, option_map, not}
+use Rattle.std.specs.Prelude.{◌≡◌, ◌⊎◌, ◌==◌, ◌++◌, ◌&&◌, ◌||◌, ℕ, Bool, true, false, codes, decimal, List, [], ◌∷◌, slice_get}
+use Rattle.std.specs.Prelude.{if◌then◌else◌, map, IfOk, IfSome, Option, None, Some, Result, Ok, Err, option_and_then}
+use Rattle.std.specs.Prelude.{option_map, not}
 use Rattle.std.specs.Str.{bytes_eq, chars}
 use Rattle.std.specs.Str.Parse.{digits_value, without_leading_plus}
 use Rattle.std.specs.Option.{option_map_or}
@@ -26,6 +27,9 @@ use Rattle.stinger_server.specs.declared.script.Summary.{Summary}
 use Rattle.stinger_server.specs.States.{set_up}
 use Rattle.stinger_server.specs.Texts.{IsText}
 use Rattle.stinger_server.specs.Writes.{AppendsPart, AppendsSome}
+use Rattle.store_drive.specs.Reports.{IsReaderCount, IsReport, word_text}
+use Rattle.store_drive.specs.declared.reports.DriveFault.{DriveFault}
+use Rattle.store_drive.specs.declared.reports.DriveReport.{DriveReport}
 
 -- 4 workers, 16,384 blocks and 2 seats
 abbrev pub default_sizes : ConfigView
@@ -36,9 +40,10 @@ pub record RunView : Type 0 where
   pub sizes : ConfigView
   pub quiet : Bool
 
--- what arguments may ask for: a script served, help, the version, or nothing that there is
+-- what arguments may ask for: a script served, a drive of so many readers, help, the version, or nothing that there is
 pub data Asked : Type 0 where
   Serve : RunView → Asked
+  Drive : ℕ → Asked
   Help : Asked
   Version : Asked
   Usage : Asked
@@ -50,6 +55,7 @@ default_run = record { sizes = default_sizes; quiet = false }
 -- a script is to be served
 abbrev pub is_served : Asked → Bool
 is_served (Serve run) = true
+is_served (Drive readers) = false
 is_served Help = false
 is_served Version = false
 is_served Usage = false
@@ -57,20 +63,23 @@ is_served Usage = false
 -- a script is to be served, and its progress may be shown
 abbrev pub shows_progress : Asked → Bool
 shows_progress (Serve run) = not run.quiet
+shows_progress (Drive readers) = false
 shows_progress Help = false
 shows_progress Version = false
 shows_progress Usage = false
 
 -- ---- the command line
 
--- an option whose value is a whole number from `least` to `most`
+-- an option whose value is a whole number from `least` to `most`; one that has such a value where it is left out; and one
+-- that may not be left out
+abbrev pub number_rule : List ℕ → ℕ → ℕ → Rule
+number_rule name least most = record (new_rule name) { long = Some name; value_names = 1; parser = Some (Unsigned least most) }
+
 abbrev pub size_rule : List ℕ → ℕ → ℕ → List ℕ → Rule
-size_rule name least most default = record (new_rule name) {
-  long = Some name;
-  value_names = 1;
-  parser = Some (Unsigned least most);
-  defaults = default ∷ [];
-}
+size_rule name least most default = record (number_rule name least most) { defaults = default ∷ [] }
+
+abbrev pub required_rule : List ℕ → ℕ → ℕ → Rule
+required_rule name least most = record (number_rule name least most) { required = true }
 
 -- an option without a value
 abbrev pub flag_rule : List ℕ → Rule
@@ -85,7 +94,11 @@ run_app = with_rule
     (size_rule (codes "seats") 1 16 (codes "2")))
     (flag_rule (codes "quiet"))
 
--- the command `stinger`, with its subcommand `run`
+-- the subcommand `drive`, with its one option
+abbrev pub drive_app : App
+drive_app = with_rule (new_app (codes "drive")) (required_rule (codes "readers") 1 4)
+
+-- the command `stinger`, with its two subcommands
 abbrev pub program : App
 program =
     let top = record (new_shape (codes "stinger")) {
@@ -93,13 +106,14 @@ program =
       disable_help_subcommand = true;
       subcommand_required = true;
     } in
-    with_subcommand (record { top = top; subs = [] }) run_app.top
+    with_subcommand (with_subcommand (record { top = top; subs = [] }) run_app.top) drive_app.top
 
--- `help run` stands for `run --help`, and `help` for `--help`, whatever else follows it
+-- `help run` stands for `run --help`, `help drive` for `drive --help`, and `help` for `--help`, whatever else follows it
 abbrev pub help_words : List (List ℕ) → List (List ℕ)
 help_words [] = codes "--help" ∷ []
 help_words (argument ∷ rest) =
-    if bytes_eq (codes "run") argument then codes "run" ∷ codes "--help" ∷ [] else codes "--help" ∷ []
+    if bytes_eq (codes "run") argument then codes "run" ∷ codes "--help" ∷ []
+    else (if bytes_eq (codes "drive") argument then codes "drive" ∷ codes "--help" ∷ [] else codes "--help" ∷ [])
 
 abbrev pub without_help : List (List ℕ) → List (List ℕ)
 without_help [] = []
@@ -129,6 +143,17 @@ is_quiet options = option_map_or (λ text. bytes_eq text (codes "true")) (first_
 abbrev pub run_of : List Row → Option RunView
 run_of options = option_map (λ sizes. record { sizes = sizes; quiet = is_quiet options }) (sizes_of options)
 
+-- the readers that the option of `drive` stands for
+abbrev pub readers_of : List Row → Option ℕ
+readers_of options = number_within 1 4 (one_of (codes "readers") options)
+
+-- what a subcommand asks for, by its name and its options
+abbrev pub asked_of_subcommand : Option (List ℕ × List Row) → Asked
+asked_of_subcommand None = Usage
+asked_of_subcommand (Some (name, options)) =
+    if bytes_eq name (codes "drive") then option_map_or Drive (readers_of options) Usage
+    else option_map_or Serve (run_of options) Usage
+
 -- an error of the command line is a wish for help, or a mistake
 abbrev pub is_wish_for_help : ErrorKind → Bool
 is_wish_for_help DisplayHelp = true
@@ -137,17 +162,15 @@ is_wish_for_help _ = false
 abbrev pub asked_by_kind : ErrorKind → Asked
 asked_by_kind kind = if is_wish_for_help kind then Help else Usage
 
--- a command line without an error has a script served
-abbrev pub asked_by : Kinds → Option RunView → Asked
-asked_by [] (Some run) = Serve run
-asked_by [] None = Usage
-asked_by (kind ∷ more) run = asked_by_kind kind
+-- a command line without an error asks for what its subcommand does
+abbrev pub asked_by : Kinds → Asked → Asked
+asked_by [] asked = asked
+asked_by (kind ∷ more) asked = asked_by_kind kind
 
 -- what the arguments ask of the command `stinger`, as `clap` reads a command line
 abbrev pub asked_of_command : List (List ℕ) → Asked
 asked_of_command arguments =
-    asked_by (fault_of program (without_help arguments))
-    (option_and_then (λ run. run_of run.1) (subcommand_of program (without_help arguments)))
+    asked_by (fault_of program (without_help arguments)) (asked_of_subcommand (subcommand_of program (without_help arguments)))
 
 -- `--version` or `-V` comes first
 abbrev pub is_version : List (List ℕ) → Bool
@@ -171,9 +194,15 @@ sizes_given (Err fault) = None
 
 abbrev pub asked_for : Order → Asked
 asked_for (order.Serve options) = Serve (run_in options)
+asked_for (order.Drive readers) = Drive readers
 asked_for (order.Help text) = Help
 asked_for order.Version = Version
 asked_for (order.Usage text) = Usage
+
+-- what an order, or a fault in its place, stands for
+abbrev pub asked_if_any : Result Order BadConfig → Asked
+asked_if_any (Ok order) = asked_for order
+asked_if_any (Err fault) = Usage
 
 -- ---- the same without options, in words of our own
 
@@ -199,12 +228,18 @@ plainly_asked_of_run (argument ∷ []) =
     else (if asks_for_help argument then Help else Usage)
 plainly_asked_of_run (argument ∷ next ∷ rest) = if asks_for_help argument then Help else Usage
 
--- what the arguments ask of the command `stinger`, where `run` has no options
+-- behind `drive`, which can't do without its option: a flag for help
+abbrev pub plainly_asked_of_drive : List (List ℕ) → Asked
+plainly_asked_of_drive [] = Usage
+plainly_asked_of_drive (argument ∷ rest) = if asks_for_help argument then Help else Usage
+
+-- what the arguments ask of the command `stinger`, where `run` and `drive` have no options
 abbrev pub plainly_asked_of_command : List (List ℕ) → Asked
 plainly_asked_of_command [] = Usage
 plainly_asked_of_command (argument ∷ rest) =
     if bytes_eq (codes "run") argument then plainly_asked_of_run rest
-    else (if bytes_eq (codes "help") argument then Help else (if asks_for_help argument then Help else Usage))
+    else (if bytes_eq (codes "drive") argument then plainly_asked_of_drive rest
+    else (if bytes_eq (codes "help") argument then Help else (if asks_for_help argument then Help else Usage)))
 
 abbrev pub plainly_asked : List (List ℕ) → Asked
 plainly_asked arguments = if is_version arguments then Version else plainly_asked_of_command arguments
@@ -217,9 +252,14 @@ is_option argument = option_map_or
     || (bytes_eq (codes "seats") option.0 || bytes_eq (codes "quiet") option.0)))
     (long_of argument) false
 
--- an option comes first behind `run`
+-- the argument is `--readers`, with a value behind `=` or without
+abbrev pub is_drive_option : List ℕ → Bool
+is_drive_option argument = option_map_or (λ option. bytes_eq (codes "readers") option.0) (long_of argument) false
+
+-- an option comes first behind `run`, or behind `drive`
 abbrev pub begins_with_option : List (List ℕ) → Bool
-begins_with_option (command ∷ argument ∷ rest) = bytes_eq (codes "run") command && is_option argument
+begins_with_option (command ∷ argument ∷ rest) =
+    (bytes_eq (codes "run") command && is_option argument) || (bytes_eq (codes "drive") command && is_drive_option argument)
 begins_with_option arguments = false
 
 -- all other arguments are read as if there were no options
@@ -230,6 +270,10 @@ ReadsPlainly = (arguments : List (List ℕ)) → begins_with_option arguments �
 abbrev pub ServesWithinLimits : Type 0
 ServesWithinLimits = (arguments : List (List ℕ)) → (run : RunView) → asked arguments ≡ Serve run
     → IsWithinLimits run.sizes.workers run.sizes.blocks run.sizes.seats
+
+-- and a drive has one to four readers
+abbrev pub DrivesWithinLimits : Type 0
+DrivesWithinLimits = (arguments : List (List ℕ)) → (readers : ℕ) → asked arguments ≡ Drive readers → IsReaderCount readers
 
 -- the arguments of a line, which single blanks part
 abbrev pub arguments_from : List ℕ → List ℕ → List (List ℕ)
@@ -256,6 +300,10 @@ abbrev pub EachServesQuietly : ℕ → ℕ → ℕ → List (List ℕ) → Type 
 EachServesQuietly workers blocks seats lines =
     EachAsks (Serve (record { sizes = record { workers = workers; blocks = blocks; seats = seats }; quiet = true }))
     (map arguments_of lines)
+
+-- the arguments of each of these lines ask for a drive of so many readers
+abbrev pub EachDrives : ℕ → List (List ℕ) → Type 0
+EachDrives readers lines = EachAsks (Drive readers) (map arguments_of lines)
 
 -- the arguments of each of these lines ask for nothing that there is
 abbrev pub EachIsRefused : List (List ℕ) → Type 0
@@ -299,3 +347,27 @@ abbrev pub IsTold : (List ℕ → Type 0) → ℕ → ℕ → Option (List ℕ) 
 IsTold IsSaid told status old new =
     ((status ≡ told) × AppendsSome old new IsSaid)
     ⊎ ((status ≡ 1) × ((text : List ℕ) × IsSaid text × AppendsPart old new text))
+
+-- what a drive tells: the counts of its report, or its fault's word
+abbrev pub drive_line : Result DriveReport DriveFault → List ℕ
+drive_line (Ok report) =
+    codes "drive readers=" ++ (decimal report.readers
+    ++ (codes " batches=" ++ (decimal report.batches
+    ++ (codes " checked=" ++ (decimal report.checked
+    ++ (codes " wrong=" ++ (decimal report.wrong
+    ++ (codes " last=" ++ (decimal report.last ++ codes "\n")))))))))
+drive_line (Err fault) = codes "drive fault " ++ (word_text fault.word ++ codes "\n")
+
+-- its status: 0 where no answer was wrong and the last batch was seen
+abbrev pub drive_status : Result DriveReport DriveFault → ℕ
+drive_status (Ok report) = if (report.wrong == 0) && (report.last == 64) then 0 else 1
+drive_status (Err fault) = 1
+
+-- a drive of so many readers came to this: its report tells that it checked 80 answers of each reader, and that none was wrong.
+-- Its line was told with its status; or a part of that, with status 1, and the line on standard error for it
+pub record IsDriven {F : Type 0} (readers status : ℕ) (old new : Option (List ℕ)) (contents : F → Option (List ℕ))
+    (unwritten : List ℕ) (faults faults' : F) : Type 0 where
+  pub outcome : Result DriveReport DriveFault
+  pub report : IfOk outcome (IsReport readers)
+  pub told : IsTold (λ text. text ≡ drive_line outcome) (drive_status outcome) status old new
+  pub noted : (faults' ≡ faults) ⊎ ((status ≡ 1) × AppendsPart (contents faults) (contents faults') unwritten)

@@ -1,25 +1,30 @@
 //! The program over its arguments.
 
-ghost use Rattle.std.specs.Prelude.{◌≡◌, ◌≢◌, ◌⊎◌, ◌++◌, ◌∷◌, [], codes, false, IfOk, map, OnOk, OnErr};
+ghost use Rattle.std.specs.Prelude.{◌≡◌, ◌≢◌, ◌⊎◌, ◌++◌, ◌∷◌, ℕ, [], codes, false, IfOk, map, Ok, Err, OnOk, OnErr};
 ghost use Rattle.std.specs.Option.{option_map_or};
-ghost use Rattle.std.specs.Prelude.{option_and_then};
+ghost use Rattle.std.specs.Prelude.{option_and_then, string_bytes};
 ghost use Rattle.clap.specs.Words.{app_of, kind_of, rule_of, subcommand_rows_of};
-ghost use Rattle.stinger_program.specs.Program.{Asked, EachAsks, EachIsRefused, EachServes, EachServesQuietly, EndsWith, IsServed};
-ghost use Rattle.stinger_program.specs.Program.{IsTold, ReadsPlainly, RunView, ServesWithinLimits, arguments_of};
+ghost use Rattle.stinger_program.specs.Program.{Asked, DrivesWithinLimits, EachAsks, EachDrives, EachIsRefused, EachServes};
+ghost use Rattle.stinger_program.specs.Program.{EachServesQuietly, EndsWith, IsDriven, IsServed, IsTold, ReadsPlainly, RunView};
+ghost use Rattle.stinger_program.specs.Program.{ServesWithinLimits, arguments_of};
 ghost use Rattle.stream_store.specs.Configs.{ConfigView};
-ghost use Rattle.stinger_program.specs.Program.{asked, asked_by_kind, asked_for, asked_of_command, default_run, fault_line};
-ghost use Rattle.stinger_program.specs.Program.{flag_rule, help_words, is_quiet, is_served, is_version, program, run_in};
-ghost use Rattle.stinger_program.specs.Program.{shows_progress, size_rule, sizes_given, sizes_in, sizes_of, without_help};
+ghost use Rattle.stinger_program.specs.Program.{asked, asked_by_kind, asked_for, asked_if_any, asked_of_command};
+ghost use Rattle.stinger_program.specs.Program.{asked_of_subcommand, default_run, drive_app, drive_line, drive_status};
+ghost use Rattle.stinger_program.specs.Program.{fault_line};
+ghost use Rattle.stinger_program.specs.Program.{flag_rule, help_words, is_quiet, is_served, is_version, number_rule, program};
+ghost use Rattle.stinger_program.specs.Program.{readers_of, required_rule, run_app, run_in, shows_progress, size_rule};
+ghost use Rattle.stinger_program.specs.Program.{sizes_given, sizes_in, sizes_of, without_help};
 ghost use Rattle.stinger_server.specs.Writes.{AppendsPart};
 
 use clap::builder::ValueParser;
 use clap::error::ErrorKind;
 use clap::{Arg, ArgAction, ArgMatches, Command, Error};
-use std::alloc::AllocError;
+use std::alloc::{AllocError, Global};
 use std::io::{Read, Write};
 use std::sync::Wait;
 use std::thread::Threads;
 use stinger_server::{BadConfig, Config, ServeFault, Unwritten, serve, write_text};
+use store_drive::{DriveReport, DriveWord, drive};
 
 // The whole input was read and no record was refused, or the text that was asked for was written.
 const DONE: u8 = 0;
@@ -40,6 +45,8 @@ const BLOCKS: &str = "How many blocks hold edges, from 16 to 65536";
 const SEATS: &str = "How many slots there are, from 1 to 16";
 
 const QUIET: &str = "Don't show progress at a terminal";
+
+const READERS: &str = "How many threads read, from 1 to 4";
 
 const VERSION: &str = "stinger 0.1.0\n";
 
@@ -65,8 +72,10 @@ be quoted, and nothing is trimmed. Each record, and below it what it prints:
                                                the weight of the one that is there
   a,<kind>,<source>,<target>,<amount>,<time>   adds to an edge's weight, or inserts the edge
   r,<kind>,<source>,<target>                   removes an edge
+  x,<time>                                     removes each edge whose recent time is before this time
   commit                                       applies the pending batch, also an empty one
-      commit v=<version> ins=<n> upd=<n> rem=<n> abs=<n> ovf=<n>
+      commit v=<version> ins=<n> upd=<n> rem=<n> abs=<n> ovf=<n>, and behind it exp=<n>, how many edges
+      its expiries removed, where it has an x
   open,<slot>                                  holds the last version in a slot
       open <slot> v=<version>
   close,<slot>                                 releases it
@@ -93,19 +102,23 @@ be quoted, and nothing is trimmed. Each record, and below it what it prints:
   the end of the input
       end pending=<n>, where operations are pending
 
-A batch inserts, updates and removes edges in its order: a removal may find none (abs), and
+A batch inserts, updates, removes and expires edges in its order: a removal may find none (abs), and
 an edge whose weight would leave its limits stays as it was (ovf).
 
 Limits: a name has 1 to 64 bytes from ! to ~, and a kind is not *. A weight or an amount
 is from -1099511627776 to 1099511627776. A time is from 0 to 9223372036854775807. A slot is
 a whole number below that of the seats, which `--seats` gives (2 without it). A batch has at
-most 4,096 operations and needs as many free blocks, a graph has 65,536 names and 64 kinds. A
-run applies at most 65,536 batches. A script has fewer than 1,000,000 records.
+most 4,096 operations and needs as many free blocks, and with an x as many more as are used. A
+graph has at most 65,536 names and 64 kinds. A run applies at most 65,536 batches. A script has
+fewer than 1,000,000 records.
 
 Options of `run`, each at most once: `--workers <N>` (how many threads may work on a batch: 1 to
 8, else 4), `--blocks <N>` (16 to 65536, else 16384), `--seats <N>` (1 to 16, else 2) and `--quiet`:
 without it a line on standard error shows how far the script was read, where standard error is a
 terminal, and standard input and output are none.
+
+`drive --readers <N>` (1 to 4) reads no input: it checks a store on this machine, with so many threads that
+read while one feeds 64 batches, and prints `drive readers=<N> batches=64 checked=<n> wrong=<n> last=<n>`.
 
 A session, with what each record prints beside it:
 
@@ -121,8 +134,9 @@ BadWindow, NoKind, NoVertex, BatchFull, BatchLimit, NamesFull, KindsFull, PoolEm
 end the run: Read, where the input can't be read or has a record too many, and Memory.
 
 Status: 0 where the script was read to its end without an error line, 1 with an error line
-or where the run broke off, 2 for wrong arguments. `stinger help` is `stinger --help`,
-`stinger help run` is `stinger run --help`, and `stinger --version`, or `-V`, tells the version.
+or where the run broke off, 2 for wrong arguments; of `drive` 0 where wrong is 0 and last 64, else 1.
+`stinger help` is `stinger --help`, `stinger help run` is `stinger run --help`, `stinger help drive` is
+`stinger drive --help`, and `stinger --version`, or `-V`, tells the version.
 ";
 
 // What stands at the end of what is said of wrong arguments.
@@ -133,6 +147,8 @@ const HINT: &str = "\
 static HELP_FLAG: [&str; 1] = ["--help"];
 
 static RUN_HELP: [&str; 2] = ["run", "--help"];
+
+static DRIVE_HELP: [&str; 2] = ["drive", "--help"];
 
 /// How many workers, blocks and seats a run has, and whether its progress is not to be shown.
 #[derive(Clone, Copy, Debug, PartialEq, Eq)]
@@ -147,6 +163,7 @@ pub(crate) struct RunOptions {
 #[derive(Debug, Drop)]
 pub(crate) enum Order {
     Serve(RunOptions),
+    Drive(usize),
     Help(String),
     Version,
     Usage(String),
@@ -155,14 +172,16 @@ pub(crate) enum Order {
 /// The whole program over the arguments after its name, with `faults` as its standard error: `run` serves `reader`
 /// into `writer`; its options `--workers`, `--blocks` and `--seats`, each at most once, have a whole number from 1 to 8,
 /// from 16 to 65,536 and from 1 to 16, and 4, 16,384 and 2 where they are left out, and `--quiet`, at most once, changes nothing
-/// here (see [`shows_progress`]); `--help`, `-h`, `help`, `run --help` and `help run` write a text to `writer` which ends with the
-/// formats of records; `--version` and `-V` write the version.
+/// here (see [`shows_progress`]); `drive --readers N` (1 to 4, just once) reads nothing and has a store checked, with a line on
+/// `writer` that tells of it; `--help`, `-h`, `help`, `run --help`, `drive --help`, `help run` and `help drive` write a text to
+/// `writer` which ends with the formats of records; `--version` and `-V` write the version.
 ///
-/// The answer is the exit status: 0 where the script was read to its end without an error line, or the whole text
-/// was written; 1 where there was an error line or the run broke off, and where memory or a writer failed outside
-/// the run; and 2, with a text on `faults` alone, where the arguments are none of these. Where `writer` failed, where the
-/// store was not opened, and behind an error line with the word Read, a line on `faults` says so. That a write, a flush or a
-/// growth failed is told by the writers and the memory, so no clause says when 1 comes in place of 0 or 2.
+/// The answer is the exit status: 0 where the script was read to its end without an error line, the drive came to version 64
+/// without a wrong answer, or the whole text was written; 1 where there was an error line or the run or the drive broke off, and
+/// where memory or a writer failed outside the run; and 2, with a text on `faults` alone, where the arguments are none of these.
+/// Where `writer` failed, where the store was not opened, and behind an error line with the word Read, a line on `faults` says
+/// so. That a write, a flush or a growth failed is told by the writers and the memory, so no clause says when 1 comes in place
+/// of 0 or 2.
 pub fn stinger<'a, A: AllocGlobal + Threads + Wait + Sync, R: Read + Drop, W: Write, F: Write>(
     rt: &A,
     arguments: &'a [&'a str],
@@ -174,6 +193,9 @@ pub fn stinger<'a, A: AllocGlobal + Threads + Wait + Sync, R: Read + Drop, W: Wr
         → ((result ≡ 1) × (writer.new ≡ writer.old) × (faults.new ≡ faults.old))
         ⊎ IsServed run.sizes (R.remaining reader) result (W.contents writer.old) (W.contents writer.new)
         F.contents (fault_line UNWRITTEN.now UNOPENED.now UNREAD.now) faults.old faults.new }
+    ensures driven { (readers : ℕ) → asked (map (λ argument. argument.now) arguments.now) ≡ Asked.Drive readers
+        → ((result ≡ 1) × (writer.new ≡ writer.old) × (faults.new ≡ faults.old))
+        ⊎ IsDriven readers result (W.contents writer.old) (W.contents writer.new) F.contents UNWRITTEN.now faults.old faults.new }
     ensures helped { asked (map (λ argument. argument.now) arguments.now) ≡ Asked.Help
         → IsTold (EndsWith FORMATS.now) 0 result (W.contents writer.old) (W.contents writer.new) }
     ensures version { asked (map (λ argument. argument.now) arguments.now) ≡ Asked.Version
@@ -187,8 +209,9 @@ pub fn stinger<'a, A: AllocGlobal + Threads + Wait + Sync, R: Read + Drop, W: Wr
 {
     match read_arguments(rt, arguments) {
         Ok(Order::Serve(options)) => run_sizes(rt, options, reader, writer, faults),
-        Ok(Order::Help(text)) => show(writer, faults, text.as_str(), FORMATS),
-        Ok(Order::Version) => show(writer, faults, "", VERSION),
+        Ok(Order::Drive(readers)) => drive_readers(rt, readers, writer, faults),
+        Ok(Order::Help(text)) => show(writer, faults, text.as_str(), FORMATS, DONE),
+        Ok(Order::Version) => show(writer, faults, "", VERSION, DONE),
         Ok(Order::Usage(text)) => tell(faults, text.as_str(), HINT, USAGE),
         Err(_) => FAULTY,
     }
@@ -227,23 +250,26 @@ pub fn refuse_arguments<F: Write>(faults: &mut F) -> u8
 }
 
 /// What arguments ask for, at lists that are written out; that without options it is what our own words say; and that a
-/// script is served with sizes within their limits alone.
+/// script is served with sizes within their limits alone, and a drive has one to four readers.
 pub fn law_arguments()
     ensures serve { EachAsks (Asked.Serve default_run) ((codes "run" ∷ []) ∷ (codes "run" ∷ codes "--" ∷ []) ∷ []) }
     ensures help { EachAsks Asked.Help ((codes "--help" ∷ []) ∷ (codes "-h" ∷ []) ∷ (codes "help" ∷ [])
-        ∷ (codes "help" ∷ codes "run" ∷ []) ∷ (codes "run" ∷ codes "--help" ∷ []) ∷ (codes "run" ∷ codes "-h" ∷ []) ∷ []) }
+        ∷ (codes "help" ∷ codes "run" ∷ []) ∷ (codes "run" ∷ codes "--help" ∷ []) ∷ (codes "run" ∷ codes "-h" ∷ [])
+        ∷ (codes "help" ∷ codes "drive" ∷ []) ∷ (codes "drive" ∷ codes "--help" ∷ []) ∷ (codes "drive" ∷ codes "-h" ∷ []) ∷ []) }
     ensures version { EachAsks Asked.Version ((codes "--version" ∷ []) ∷ (codes "--version" ∷ codes "run" ∷ [])
         ∷ (codes "-V" ∷ []) ∷ []) }
     ensures usage { EachAsks Asked.Usage ([] ∷ (codes "fly" ∷ []) ∷ (codes "run" ∷ codes "now" ∷ [])
         ∷ (codes "run" ∷ codes "run" ∷ []) ∷ (codes "--" ∷ codes "run" ∷ []) ∷ (codes "--help=run" ∷ []) ∷ (codes "-w" ∷ [])
-        ∷ (codes "" ∷ []) ∷ (codes "run" ∷ codes "--version" ∷ []) ∷ []) }
+        ∷ (codes "" ∷ []) ∷ (codes "run" ∷ codes "--version" ∷ []) ∷ (codes "drive" ∷ []) ∷ (codes "drive" ∷ codes "--" ∷ [])
+        ∷ (codes "drive" ∷ codes "now" ∷ []) ∷ (codes "drive" ∷ codes "run" ∷ []) ∷ (codes "run" ∷ codes "drive" ∷ []) ∷ []) }
     ensures plain { ReadsPlainly }
     ensures limits { ServesWithinLimits }
+    ensures drive_limits { DrivesWithinLimits }
 {}
 
 /// What the options of `run` ask for: each by itself, in both its forms and at both its limits, those with a number in any order,
 /// `--quiet` before and behind them, and the mistakes: a number past a limit, no number, no value, an option twice, a value too
-/// many.
+/// many. And the same of `drive`, whose option is also missed where it is left out.
 pub fn law_options()
     ensures workers { EachServes 1 16384 2 (codes "run --workers 1" ∷ codes "run --workers=1" ∷ codes "run --workers 01 --"
         ∷ []) }
@@ -272,7 +298,20 @@ pub fn law_options()
         ∷ codes "run -- --workers 2" ∷ codes "run --worker 2" ∷ codes "run -w 2" ∷ codes "run --quiet=true" ∷ codes "run --quiet 1"
         ∷ codes "--quiet run" ∷ codes "run -q" ∷ []) }
     ensures help { EachAsks Asked.Help (arguments_of (codes "run --workers 2 --help") ∷ arguments_of (codes "run --seats=1 -h")
+        ∷ arguments_of (codes "drive --readers 2 --help") ∷ arguments_of (codes "drive --readers=1 -h") ∷ []) }
+    ensures one_reader { EachDrives 1 (codes "drive --readers 1" ∷ codes "drive --readers=1" ∷ codes "drive --readers 01 --"
         ∷ []) }
+    ensures two_readers { EachDrives 2 (codes "drive --readers 2" ∷ codes "drive --readers=2" ∷ []) }
+    ensures three_readers { EachDrives 3 (codes "drive --readers 3" ∷ codes "drive --readers=3 --" ∷ []) }
+    ensures four_readers { EachDrives 4 (codes "drive --readers 4" ∷ codes "drive --readers=4" ∷ []) }
+    ensures readers_past { EachIsRefused (codes "drive --readers 0" ∷ codes "drive --readers 5" ∷ codes "drive --readers=256"
+        ∷ codes "drive --readers -1" ∷ codes "drive --readers x" ∷ codes "drive --readers " ∷ codes "drive --readers=" ∷ []) }
+    ensures readers_twice { EachIsRefused (codes "drive --readers 2 --readers 2" ∷ codes "drive --readers=1 --readers 2" ∷ []) }
+    ensures no_readers { EachIsRefused (codes "drive" ∷ codes "drive --" ∷ codes "drive --readers" ∷ codes "drive -- --readers 2"
+        ∷ []) }
+    ensures drive_elsewhere { EachIsRefused (codes "--readers 2 drive" ∷ codes "run --readers 2" ∷ codes "drive --workers 2"
+        ∷ codes "drive --readers 2 3" ∷ codes "drive 2" ∷ codes "drive --reader 2" ∷ codes "drive -r 2" ∷ codes "drive --quiet"
+        ∷ codes "drive --readers 2 --quiet" ∷ []) }
 {}
 
 /// Serves the reader in a run of these sizes; sizes past their limits are none that a run has.
@@ -334,6 +373,65 @@ fn broke_off<F: Write>(faults: &mut F, line: &str) -> u8
     FAULTY
 }
 
+/// Has a store checked by so many readers and a feeder, and tells of it on the writer; numbers past their limits are none that a
+/// drive has. The line of a fault takes no memory, and where there is none for the line of a report, the fault of memory is told.
+fn drive_readers<A: AllocGlobal + Threads + Wait + Sync, W: Write, F: Write>(
+    rt: &A,
+    readers: usize,
+    writer: &mut W,
+    faults: &mut F,
+) -> u8
+    ensures { ((result ≡ 1) × (writer.new ≡ writer.old) × (faults.new ≡ faults.old))
+        ⊎ IsDriven readers result (W.contents writer.old) (W.contents writer.new) F.contents UNWRITTEN.now faults.old faults.new }
+{
+    if readers < 1 || 4 < readers {
+        return FAULTY;
+    }
+    match drive(rt, readers) {
+        Ok(report) => match report_line(rt.alloc(), report) {
+            Ok(line) => show(writer, faults, line.as_str(), "", report_status(report)),
+            Err(_) => show(writer, faults, "", word_line(DriveWord::Memory), FAULTY),
+        },
+        Err(fault) => show(writer, faults, "", word_line(fault.word), FAULTY),
+    }
+}
+
+/// The line of a drive that came to its end.
+fn report_line(alloc: Global, report: DriveReport) -> Result<String, AllocError>
+    ensures { IfOk result (λ line. string_bytes line ≡ drive_line (Ok report)) }
+{
+    let (readers, batches, checked) = (report.readers, report.batches, report.checked);
+    let (wrong, last) = (report.wrong, report.last);
+    format!(in alloc;
+        "drive readers={readers} batches={batches} checked={checked} wrong={wrong} last={last}\n"
+    )
+}
+
+/// Its status.
+fn report_status(report: DriveReport) -> u8
+    ensures { result ≡ drive_status (Ok report) }
+{
+    if report.wrong == 0 && report.last == 64 {
+        DONE
+    } else {
+        FAULTY
+    }
+}
+
+/// The line of a drive that broke off.
+fn word_line(word: DriveWord) -> &'static str
+    ensures { result.now ≡ drive_line (Err (record { word = word })) }
+{
+    match word {
+        DriveWord::Start => "drive fault Start\n",
+        DriveWord::Memory => "drive fault Memory\n",
+        DriveWord::BatchLimit => "drive fault BatchLimit\n",
+        DriveWord::NamesFull => "drive fault NamesFull\n",
+        DriveWord::KindsFull => "drive fault KindsFull\n",
+        DriveWord::PoolEmpty => "drive fault PoolEmpty\n",
+    }
+}
+
 /// What the arguments ask for.
 fn read_arguments<'a, A: AllocGlobal>(rt: &A, arguments: &'a [&'a str]) -> Result<Order, AllocError>
     ensures { IfOk result (λ order. asked_for order ≡ asked (map (λ argument. argument.now) arguments.now)) }
@@ -359,12 +457,35 @@ fn read_command<'a, A: AllocGlobal>(rt: &A, arguments: &'a [&'a str]) -> Result<
     ensures { IfOk result (λ order. asked_for order ≡ asked_of_command (map (λ argument. argument.now) arguments.now)) }
 {
     match command(rt)?.try_get_matches_from(without_help(arguments)) {
-        Ok(matches) => match configure(&matches) {
-            Ok(config) => Ok(Order::Serve(options_of(config, is_quiet(&matches)))),
+        Ok(matches) => match order_of(&matches) {
+            Ok(order) => Ok(order),
             Err(error) => Ok(Order::Usage(format!(in rt.alloc(); "error: {error}\n")?)),
         },
         Err(error) => explain(rt, &error),
     }
+}
+
+/// What a subcommand asks for; a fault where its options are none of its own, which clap has refused.
+fn order_of(matches: &ArgMatches<'_>) -> Result<Order, BadConfig>
+    ensures { asked_if_any result ≡ asked_of_subcommand (subcommand_rows_of matches.now) }
+{
+    if matches.subcommand_matches("drive").is_some() {
+        return Ok(Order::Drive(readers(matches).ok_or(BadConfig)?));
+    }
+    let config = configure(matches)?;
+    Ok(Order::Serve(options_of(config, is_quiet(matches))))
+}
+
+/// The readers that the option of a drive stands for.
+fn readers(matches: &ArgMatches<'_>) -> Option<usize>
+    ensures { result ≡ option_and_then (λ command. readers_of command.1) (subcommand_rows_of matches.now) }
+{
+    let (_, options) = matches.subcommand()?;
+    let readers: usize = options.get_one("readers")?;
+    if readers < 1 || 4 < readers {
+        return None;
+    }
+    Some(readers)
 }
 
 /// The configuration that the options of a run stand for.
@@ -407,7 +528,8 @@ fn explain<A: AllocGlobal>(rt: &A, error: &Error) -> Result<Order, AllocError>
     }
 }
 
-/// `help run` asks for what `run --help` does, and `help` for what `--help` does, whatever else follows it.
+/// `help run` asks for what `run --help` does, `help drive` for what `drive --help` does, and `help` for what `--help` does,
+/// whatever else follows it.
 fn without_help<'a>(arguments: &'a [&'a str]) -> &'a [&'a str]
     ensures { map (λ argument. argument.now) result.now ≡ without_help (map (λ argument. argument.now) arguments.now) }
 {
@@ -430,6 +552,9 @@ fn help_words<'a>(rest: &'a [&'a str]) -> &'a [&'a str]
     if "run" == *next {
         return RUN_HELP.as_slice();
     }
+    if "drive" == *next {
+        return DRIVE_HELP.as_slice();
+    }
     HELP_FLAG.as_slice()
 }
 
@@ -437,22 +562,39 @@ fn help_words<'a>(rest: &'a [&'a str]) -> &'a [&'a str]
 fn command<'a, A: AllocGlobal>(rt: &A) -> Result<Command<'a>, AllocError>
     ensures { IfOk result (λ command. app_of command ≡ program) }
 {
-    let workers = size(rt, "workers", 1, 8, "4", WORKERS);
-    let blocks = size(rt, "blocks", 16, 65_536, "16384", BLOCKS);
-    let seats = size(rt, "seats", 1, 16, "2", SEATS);
-    let run = Command::new(rt.alloc(), "run")
-        .about("Reads a script on standard input, and writes its lines on standard output")
-        .override_usage("stinger run [OPTIONS] < script")
-        .arg(workers)?
-        .arg(blocks)?
-        .arg(seats)?
-        .arg(flag(rt, "quiet", QUIET))?;
     Command::new(rt.alloc(), "stinger")
         .about(ABOUT)
         .no_binary_name(true)
         .disable_help_subcommand(true)
         .subcommand_required(true)
-        .subcommand(run)
+        .subcommand(run_command(rt)?)?
+        .subcommand(drive_command(rt)?)
+}
+
+/// The subcommand `run`.
+fn run_command<'a, A: AllocGlobal>(rt: &A) -> Result<Command<'a>, AllocError>
+    ensures { IfOk result (λ command. app_of command ≡ run_app) }
+{
+    let workers = size(rt, "workers", 1, 8, "4", WORKERS);
+    let blocks = size(rt, "blocks", 16, 65_536, "16384", BLOCKS);
+    let seats = size(rt, "seats", 1, 16, "2", SEATS);
+    Command::new(rt.alloc(), "run")
+        .about("Reads a script on standard input, and writes its lines on standard output")
+        .override_usage("stinger run [OPTIONS] < script")
+        .arg(workers)?
+        .arg(blocks)?
+        .arg(seats)?
+        .arg(flag(rt, "quiet", QUIET))
+}
+
+/// The subcommand `drive`.
+fn drive_command<'a, A: AllocGlobal>(rt: &A) -> Result<Command<'a>, AllocError>
+    ensures { IfOk result (λ command. app_of command ≡ drive_app) }
+{
+    Command::new(rt.alloc(), "drive")
+        .about("Checks a store on this machine, with readers and a feeder at once")
+        .override_usage("stinger drive --readers <N>")
+        .arg(required(rt, "readers", 1, 4, READERS))
 }
 
 /// An option whose value is a whole number from `least` to `most`.
@@ -467,11 +609,38 @@ fn size<'a, A: AllocGlobal>(
     ensures rule { rule_of result ≡ size_rule name.now least most default.now }
     ensures local { result.global ≡ false }
 {
+    number(rt, name, least, most, help).default_value(default)
+}
+
+/// The same of one that may not be left out.
+fn required<'a, A: AllocGlobal>(
+    rt: &A,
+    name: &'a str,
+    least: u64,
+    most: u64,
+    help: &'a str,
+) -> Arg<'a>
+    ensures rule { rule_of result ≡ required_rule name.now least most }
+    ensures local { result.global ≡ false }
+{
+    number(rt, name, least, most, help).required(true)
+}
+
+/// The same without a word on where it is left out.
+fn number<'a, A: AllocGlobal>(
+    rt: &A,
+    name: &'a str,
+    least: u64,
+    most: u64,
+    help: &'a str,
+) -> Arg<'a>
+    ensures rule { rule_of result ≡ number_rule name.now least most }
+    ensures local { result.global ≡ false }
+{
     Arg::new(rt.alloc(), name)
         .long(name)
         .value_name("N")
         .value_parser(ValueParser::unsigned(least, most))
-        .default_value(default)
         .help(help)
 }
 
@@ -486,15 +655,15 @@ fn flag<'a, A: AllocGlobal>(rt: &A, name: &'a str, help: &'a str) -> Arg<'a>
         .help(help)
 }
 
-/// Writes a text that was asked for, and then its end: the status is 0; or 1 where a write failed, and then a line on
+/// Writes a text that was asked for, and then its end: the status is this one; or 1 where a write failed, and then a line on
 /// `faults` says so.
-fn show<W: Write, F: Write>(writer: &mut W, faults: &mut F, text: &str, end: &str) -> u8
-    ensures told { IsTold (λ told. told ≡ text.now ++ end.now) 0 result (W.contents writer.old) (W.contents writer.new) }
+fn show<W: Write, F: Write>(writer: &mut W, faults: &mut F, text: &str, end: &str, status: u8) -> u8
+    ensures told { IsTold (λ told. told ≡ text.now ++ end.now) status result (W.contents writer.old) (W.contents writer.new) }
     ensures noted { (faults.new ≡ faults.old)
         ⊎ ((result ≡ 1) × AppendsPart (F.contents faults.old) (F.contents faults.new) UNWRITTEN.now) }
 {
     match write_text(writer, text, end) {
-        Ok(()) => DONE,
+        Ok(()) => status,
         Err(Unwritten) => {
             note(faults, UNWRITTEN);
             FAULTY

@@ -1,5 +1,6 @@
 -- A desk that shows a state: what batches, collections and counts come to.
 use Rattle.std.proofs.Common.{◌≡◌, ◌≢◌, ℕ, zero, suc, ◌+◌, ◌-◌, ◌<◌, ◌≤◌, Bool, true, false, cond, ◌&&◌, List, [], ◌∷◌, ◌++◌}
+use Rattle.std.proofs.Common.{subst}
 use Rattle.std.proofs.Common.{length, map, not}
 use Rattle.std.proofs.Common.{count_by, filter, replicate, refl, sym, ap, ◌∙◌, arith}
 use Rattle.std.specs.Prelude.{None, Some, Ok, Err, nat_le, nat_lt, if◌then◌else◌}
@@ -26,7 +27,7 @@ use Rattle.store_journal.specs.Opening.{opened_desk}
 use Rattle.store_journal.specs.Steps.{Accepts}
 use Rattle.store_journal.proofs.StatusCounts.{accepted_counts, collected_counts}
 use Rattle.stream_store.specs.Configs.{ConfigView}
-use Rattle.stream_store.specs.Refusals.{IsWithin, Refuses}
+use Rattle.stream_store.specs.Refusals.{IsWithin, Refuses, asked, block_count}
 use Rattle.stream_store.specs.declared.receipts.ApplyError.{ApplyError}
 use Rattle.stream_store.specs.declared.receipts.ApplyError.TheVariants as refused
 use Rattle.script_lines.specs.Lines.{collect_line, commit_line, stat_line}
@@ -34,7 +35,7 @@ use Rattle.stinger_server.proofs.SlotLaws.{floor_is}
 use Rattle.stinger_server.specs.Servers.{ShowsDesk, batch_word}
 use Rattle.stinger_server.specs.States.{Dates, IsDone, State, after_collect, after_commit, beginning, commit_refusal, copy_of, dates, dropped}
 use Rattle.stinger_server.specs.States.{floor_of}
-use Rattle.stinger_server.specs.States.{last_version, left_by_pending, recycled, set_up, taken}
+use Rattle.stinger_server.specs.States.{last_version, left_by_pending, recycled, set_up, taken, used}
 use Rattle.script_lines.specs.declared.words.Word.TheVariants.{BatchLimit, KindsFull, NamesFull, PoolEmpty}
 
 -- Counts
@@ -98,6 +99,18 @@ all_retired d s shows =
     same_counts is_retired (is_retired_by (λ birth since. true)) retired_any d.pool
     ∙ (shows.retired (λ birth since. true) ∙ all_counted_in s.retired)
 
+-- how many are used is how many are neither free nor retired
+all_used : (d : DeskView) (s : State) → ShowsDesk d s → count_by is_used d.pool ≡ used s
+all_used d s shows =
+    let whole = parts d.pool in
+    let gone = all_retired d s shows in
+    omega (arith, whole, gone, shows.free, shows.blocks)
+
+-- what a batch asks for behind the desk's last version, whose blocks are the used ones, is what it asks for in the state
+asked_is : (d : DeskView) (s : State) (ops : List NamedOp) → ShowsDesk d s → ops ≡ s.pending
+    → count_by is_used d.pool ≡ block_count d.last → asked ops (block_count d.last) ≡ asked s.pending (used s)
+asked_is d s ops shows pending many = λ i. asked (pending i) ((sym many ∙ all_used d s shows) i)
+
 -- The opening
 
 none_counted : (p : Status → Bool) → p Free ≡ false → (n : ℕ) → count_by p (replicate n Free) ≡ 0
@@ -139,7 +152,7 @@ left_is : (d : DeskView) (s : State) (ops : List NamedOp) → ShowsDesk d s → 
 left_is d s ops shows pending = λ i. after_all (pending i) (content_is d s shows i)
 
 refusal_none : (s : State) → length s.batches < batch_limit → length (left_by_pending s).names ≤ name_limit
-    → length (left_by_pending s).kinds ≤ kind_limit → length s.pending ≤ s.free → commit_refusal s ≡ None
+    → length (left_by_pending s).kinds ≤ kind_limit → asked s.pending (used s) ≤ s.free → commit_refusal s ≡ None
 refusal_none s batches names kinds blocks = grind (arith, nat_tests)
 
 refusal_batches : (s : State) → batch_limit ≤ length s.batches → commit_refusal s ≡ Some BatchLimit
@@ -154,7 +167,7 @@ refusal_kinds : (s : State) → length s.batches < batch_limit → length (left_
 refusal_kinds s batches names kinds = grind (arith, nat_tests)
 
 refusal_blocks : (s : State) → length s.batches < batch_limit → length (left_by_pending s).names ≤ name_limit
-    → length (left_by_pending s).kinds ≤ kind_limit → s.free < length s.pending → commit_refusal s ≡ Some PoolEmpty
+    → length (left_by_pending s).kinds ≤ kind_limit → s.free < asked s.pending (used s) → commit_refusal s ≡ Some PoolEmpty
 refusal_blocks s batches names kinds blocks = grind (arith, nat_tests)
 
 not_above : (m n : ℕ) → (m < n → ⊥) → n ≤ m
@@ -186,17 +199,20 @@ pub opening_after : (d e : DeskView) (ops : List NamedOp) → Accepts d ops e �
 opening_after d e ops accepts = accepts.accepted.opening
 
 pub commit_done : (s : State) (d e : DeskView) (ops : List NamedOp) (number : ℕ) (results : List Outcome) (lines : List ℕ)
-    → ShowsDesk d s → ops ≡ s.pending → IsWithin d.last (count_by is_free d.pool) ops → Accepts d ops e
+    → ShowsDesk d s → ops ≡ s.pending → count_by is_used d.pool ≡ block_count d.last
+    → IsWithin d.last (count_by is_free d.pool) ops → Accepts d ops e
     → number ≡ length e.last.batches → results ≡ outcomes ops (content d.last) → lines ≡ commit_line number results
     → IsDone Commit s (Ok lines)
-commit_done s d e ops number results lines shows pending within accepts number_is results_are lines_are =
+commit_done s d e ops number results lines shows pending many within accepts number_is results_are lines_are =
     let left : after_all ops (content d.last) ≡ left_by_pending s = left_is d s ops shows pending in
     let names : length (left_by_pending s).names ≤ name_limit =
     rw left at (not_above name_limit (length (after_all ops (content d.last)).names) within.limits.0) in
     let kinds : length (left_by_pending s).kinds ≤ kind_limit =
     rw left at (not_above kind_limit (length (after_all ops (content d.last)).kinds) within.limits.1) in
     let few : length s.batches < batch_limit = rw shows.batches at within.few in
-    let blocks : length s.pending ≤ s.free = rw (pending, shows.free) at within.blocks in
+    let blocks : asked s.pending (used s) ≤ s.free =
+    subst (λ n. n ≤ s.free) (asked_is d s ops shows pending many)
+    (subst (λ n. asked ops (block_count d.last) ≤ n) shows.free within.blocks) in
     let none : commit_refusal s ≡ None = refusal_none s few names kinds blocks in
     let count : number ≡ length s.batches + 1 =
     number_is ∙ (ap length (batches_after d e ops accepts) ∙ (length-append d.last.batches (ops ∷ [])
@@ -233,27 +249,29 @@ shows_committed s d e ops shows pending accepts =
     }
 
 refused_numbers : (s : State) (d : DeskView) (ops : List NamedOp) (error : ApplyError) → ShowsDesk d s → ops ≡ s.pending
-    → error ≢ refused.OutOfMemory → Refuses d.last (count_by is_free d.pool) ops error
-    → commit_refusal s ≡ Some (batch_word error)
-refused_numbers s d ops refused.BatchLimit shows pending known is = refusal_batches s (rw shows.batches at is)
-refused_numbers s d ops refused.NamesFull shows pending known is =
+    → count_by is_used d.pool ≡ block_count d.last → error ≢ refused.OutOfMemory
+    → Refuses d.last (count_by is_free d.pool) ops error → commit_refusal s ≡ Some (batch_word error)
+refused_numbers s d ops refused.BatchLimit shows pending many known is = refusal_batches s (rw shows.batches at is)
+refused_numbers s d ops refused.NamesFull shows pending many known is =
     refusal_names s (rw shows.batches at is.0) (rw (left_is d s ops shows pending) at is.1)
-refused_numbers s d ops refused.KindsFull shows pending known is =
+refused_numbers s d ops refused.KindsFull shows pending many known is =
     let left = left_is d s ops shows pending in
     refusal_kinds s (rw shows.batches at is.0)
     (rw left at (not_above name_limit (length (after_all ops (content d.last)).names) is.1)) (rw left at is.2)
-refused_numbers s d ops (refused.PoolEmpty needed free) shows pending known is =
+refused_numbers s d ops (refused.PoolEmpty needed free) shows pending many known is =
     let left = left_is d s ops shows pending in
     refusal_blocks s (rw shows.batches at is.0)
     (rw left at (not_above name_limit (length (after_all ops (content d.last)).names) is.1.0))
     (rw left at (not_above kind_limit (length (after_all ops (content d.last)).kinds) is.1.1))
-    (rw (shows.free, pending) at is.4)
-refused_numbers s d ops refused.OutOfMemory shows pending known is = absurd (known refl)
+    (subst (λ n. s.free < n) (asked_is d s ops shows pending many)
+    (subst (λ n. n < asked ops (block_count d.last)) shows.free is.4))
+refused_numbers s d ops refused.OutOfMemory shows pending many known is = absurd (known refl)
 
 pub commit_refused : (s : State) (d : DeskView) (ops : List NamedOp) (error : ApplyError) → ShowsDesk d s → ops ≡ s.pending
-    → error ≢ refused.OutOfMemory → Refuses d.last (count_by is_free d.pool) ops error
-    → IsDone Commit s (Err (batch_word error))
-commit_refused s d ops error shows pending known is = rw (refused_numbers s d ops error shows pending known is) refl
+    → count_by is_used d.pool ≡ block_count d.last → error ≢ refused.OutOfMemory
+    → Refuses d.last (count_by is_free d.pool) ops error → IsDone Commit s (Err (batch_word error))
+commit_refused s d ops error shows pending many known is =
+    rw (refused_numbers s d ops error shows pending many known is) refl
 
 -- a refused batch is given up, and nothing else changes
 pub shows_given_up : (s : State) (d : DeskView) → ShowsDesk d s → ShowsDesk d (record s { pending = [] })
@@ -306,11 +324,11 @@ collect_done s d e copy floor count left lines shows collected births same floor
 
 -- The counts
 
-pub stat_done : (s : State) (d : DeskView) (number names edges free retired used : ℕ) (lines : List ℕ) → ShowsDesk d s
+pub stat_done : (s : State) (d : DeskView) (number names edges free retired many : ℕ) (lines : List ℕ) → ShowsDesk d s
     → number ≡ length d.last.batches → names ≡ length (content d.last).names → edges ≡ edge_total d.last
-    → free ≡ count_by is_free d.pool → retired ≡ count_by is_retired d.pool → used ≡ count_by is_used d.pool
-    → lines ≡ stat_line number names edges free retired used → IsDone Stat s (Ok lines)
-stat_done s d number names edges free retired used lines shows number_is names_are edges_are free_are retired_are used_are
+    → free ≡ count_by is_free d.pool → retired ≡ count_by is_retired d.pool → many ≡ count_by is_used d.pool
+    → lines ≡ stat_line number names edges free retired many → IsDone Stat s (Ok lines)
+stat_done s d number names edges free retired many lines shows number_is names_are edges_are free_are retired_are used_are
     lines_are =
     let same = content_is d s shows in
     let a : number ≡ length s.batches = number_is ∙ ap length shows.batches in
@@ -318,7 +336,5 @@ stat_done s d number names edges free retired used lines shows number_is names_a
     let c : edges ≡ len (last_version s).edges = edges_are ∙ ap (λ g. len g.edges) same in
     let f : free ≡ s.free = free_are ∙ shows.free in
     let r : retired ≡ length s.retired = retired_are ∙ all_retired d s shows in
-    let whole = parts d.pool in
-    let u : used ≡ s.blocks - (s.free + length s.retired) =
-    omega (arith, whole, used_are, free_are, retired_are, f, r, shows.blocks) in
+    let u : many ≡ used s = used_are ∙ all_used d s shows in
     rw (lines_are, a, b, c, f, r, u) refl

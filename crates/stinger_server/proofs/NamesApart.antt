@@ -4,7 +4,7 @@ use Rattle.std.specs.Prelude.{AllPairs}
 use Rattle.graph_model.specs.Graph.{Graph}
 use Rattle.graph_model.specs.Step.{after, after_all, empty_graph, left_by}
 use Rattle.graph_model.specs.declared.batches.NamedOp.{NamedOp}
-use Rattle.graph_model.specs.declared.batches.NamedOp.TheVariants.{Insert, Incr, Remove}
+use Rattle.graph_model.specs.declared.batches.NamedOp.TheVariants.{Insert, Incr, Remove, Expire}
 use Rattle.graph_model.specs.declared.changes.EdgeChange.TheVariants.{Insert as ToInsert, Incr as ToIncr, Remove as ToRemove}
 use Rattle.graph_model.proofs.NameLists.{AllPairs-names_made}
 
@@ -15,6 +15,7 @@ after_one : (op : NamedOp) (g : Graph) → AreApart g.names → AreApart (after 
 after_one (Insert kind source target weight time) g apart = AllPairs-names_made (ToInsert weight time) source target g.names apart
 after_one (Incr kind source target amount time) g apart = AllPairs-names_made (ToIncr amount time) source target g.names apart
 after_one (Remove kind source target) g apart = AllPairs-names_made ToRemove source target g.names apart
+after_one (Expire time) g apart = apart
 
 after_batch : (ops : List NamedOp) (g : Graph) → AreApart g.names → AreApart (after_all ops g).names
 after_batch [] g apart = apart

@@ -28,6 +28,7 @@ use Rattle.feed_csv.specs.declared.command.Command.TheVariants.{Op, Commit, Open
 use Rattle.feed_csv.specs.declared.command.FeedWord.{FeedWord}
 use Rattle.feed_csv.specs.declared.command.FeedWord.TheVariants as feed
 use Rattle.stream_store.specs.Configs.{ConfigView}
+use Rattle.stream_store.specs.Refusals.{asked}
 use Rattle.script_lines.specs.declared.words.Word.{Word}
 use Rattle.script_lines.specs.declared.words.Word.TheVariants.{Feed, NotOpen, AlreadyOpen, BadWindow, NoKind, NoVertex}
 use Rattle.script_lines.specs.declared.words.Word.TheVariants.{BatchFull, BatchLimit, NamesFull, KindsFull, PoolEmpty}
@@ -133,14 +134,18 @@ taken s = taken_by s.pending (last_version s) s.layout (length (left_by_pending 
 abbrev pub dropped : State → List ℕ
 dropped s = dropped_births s.pending (last_version s) s.layout s.births (length (left_by_pending s).names)
 
+-- how many blocks are used: neither free nor retired, they are the last version's
+abbrev pub used : State → ℕ
+used s = s.blocks - (s.free + length s.retired)
+
 -- the pending batch is refused behind so many batches; else where it would leave more names than the limit; else where more
--- kinds; else where it has more operations than blocks are free
+-- kinds; else where it asks for more blocks than are free
 abbrev pub commit_refusal : State → Option Word
 commit_refusal s =
     if nat_le batch_limit (length s.batches) then Some BatchLimit
     else (if nat_lt name_limit (length (left_by_pending s).names) then Some NamesFull
     else (if nat_lt kind_limit (length (left_by_pending s).kinds) then Some KindsFull
-    else (if nat_lt s.free (length s.pending) then Some PoolEmpty else None)))
+    else (if nat_lt s.free (asked s.pending (used s)) then Some PoolEmpty else None)))
 
 -- the pending batch is accepted: the blocks that it takes are no longer free, and born with the new version's number, with which
 -- those that it drops are retired
@@ -236,7 +241,7 @@ IsDone (CloseSlot slot) s outcome = outcome ≡ close_result slot (version_in (s
 IsDone (Query slot request) s outcome = IsReplied slot request s (version_in (slice_get s.held slot)) outcome
 IsDone Collect s outcome = outcome ≡ Ok (collect_line (floor_of s) (recycled s) (length (after_collect s).retired))
 IsDone Stat s outcome = outcome ≡ Ok (stat_line (length s.batches) (length (last_version s).names)
-    (len (last_version s).edges) s.free (length s.retired) (s.blocks - (s.free + length s.retired)))
+    (len (last_version s).edges) s.free (length s.retired) (used s))
 
 -- the state that a command leaves: a refused one changes nothing, but a refused batch is given up
 abbrev pub after_command : Command → RecordResult → State → State

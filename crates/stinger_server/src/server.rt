@@ -120,6 +120,8 @@ impl Server {
         ensures kept { IsServer self.new }
         ensures obeys { IfOk result (λ response. Obeys Command.Commit self.old response (string_bytes lines.new) self.new) }
     {
+        // A desk's contract says with its journal that the used blocks are those of its last version.
+        let _journal = self.desk.journal();
         let batch = mem::replace(&mut self.pending, Batch::new(self.alloc));
         match self.desk.apply(rt, &PassAll, batch) {
             Ok(receipt) => {

@@ -36,7 +36,7 @@ pub enum DriveWord {
     NamesFull,
     #[error("a batch would leave more than 64 kinds")]
     KindsFull,
-    #[error("a batch has more operations than blocks are free")]
+    #[error("a batch asks for more blocks than are free")]
     PoolEmpty,
 }
 

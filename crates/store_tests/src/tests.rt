@@ -13,4 +13,6 @@ mod refused;
 mod seats;
 mod shared_answers;
 mod stores;
+mod texts;
 mod threads;
+mod told_readers;

@@ -2,18 +2,20 @@
 use Rattle.std.proofs.Common.{◌≡◌, ℕ, zero, suc, ◌+◌, ◌<◌, ◌≤◌, ◌==◌, true, false, List, [], ◌∷◌, ◌++◌, length, get_or, map, set}
 use Rattle.std.proofs.Common.{refl, sym, ap, subst, ◌∙◌, arith, count_by}
 use Rattle.std.specs.Prelude.{All}
+use Rattle.std.specs.List.{sum_by}
 use Rattle.std.specs.Arc.{arc_value}
 use Rattle.std.specs.declared.sync.Arc.{Arc}
 use Rattle.std.specs.declared.alloc.Global.{Global}
 use Rattle.std.proofs.lemmas.List.{map-append, length-map}
 use Rattle.std.proofs.lemmas.Bool.{eq-eqb, or_right}
+use Rattle.graph_model.specs.Limits.{batch_limit}
 use Rattle.graph_model.specs.declared.batches.NamedOp.{NamedOp}
 use Rattle.edge_block.specs.declared.blocks.Block.{Block}
 use Rattle.row_pages.specs.Rows as rows
 use Rattle.shard_work.specs.RowBlocks.{block_of, blocks_of, numbers_of}
 use Rattle.graph_version.specs.declared.versions.Version.{Version}
-use Rattle.graph_version.specs.Versions.{VersionView, is_in}
-use Rattle.block_pool.specs.Pools.{Status, Free, Granted, Used, is_retired, is_used, is_born, retired, marked, changed, AreFree}
+use Rattle.graph_version.specs.Versions.{VersionView, content, is_in}
+use Rattle.block_pool.specs.Pools.{Status, Free, Granted, Used, is_free, is_retired, is_used, is_born, retired, marked, changed, AreFree}
 use Rattle.version_shelf.specs.Shelves.{ShelfView, IsNext}
 use Rattle.store_journal.specs.Journal as journal
 use Rattle.store_journal.specs.Desks.{DeskView, IsDesk, FollowsLayout}
@@ -23,7 +25,9 @@ use Rattle.store_journal.proofs.Accepting.{moves_left, taken_granted, taken_mova
 use Rattle.store_journal.proofs.Accepting.{granted_movable, given_back, born_movable, born_given_back, granted_unlisted}
 use Rattle.store_journal.proofs.BatchLaws.{accepted_steps}
 use Rattle.store_journal.proofs.RetiredCounts.{retired_room}
+use Rattle.batch_plan.specs.Planned.{MeetsNeitherLimit}
 use Rattle.batch_plan.specs.declared.plans.Plan.{Plan}
+use Rattle.batch_apply.proofs.Asked.{needs_within}
 use Rattle.stream_store.specs.declared.entries.JournalEntry.{JournalEntry}
 use Rattle.stream_store.specs.declared.entries.JournalEntry.TheVariants as entries
 use Rattle.stream_store.specs.declared.applying.Prepared.{Prepared}
@@ -32,7 +36,8 @@ use Rattle.stream_store.specs.declared.receipts.ApplyError.TheVariants.{BatchLim
 use Rattle.stream_store.specs.Applying.{IsPrepared}
 use Rattle.stream_store.specs.Kept.{DeskState, IsKept, entry_of}
 use Rattle.stream_store.specs.Moves.{AreUsedOnce, AreBornOnce}
-use Rattle.stream_store.specs.Refusals.{Refuses, RefusesGrant, IsAdmitted}
+use Rattle.stream_store.specs.Refusals.{Refuses, RefusesGrant, IsAdmitted, IsWithin, asked, block_count, workers_for}
+use Rattle.stream_store.proofs.UsedBlocks.{used_blocks}
 
 pub record Handing : Type 0 where
   pub old : DeskView
@@ -76,6 +81,15 @@ application h = record {
     births = h.is_prepared.births;
   };
 }
+
+-- The grant is within what is asked for, since the used blocks are the last version's
+
+pub grant_within : (d : DeskView) (v : VersionView) (workers : ℕ) (ops : List NamedOp) (plan : Plan) → IsDesk d → v ≡ d.last
+    → IsAdmitted v workers ops plan → sum_by (λ n. n) plan.needs.items ≤ asked ops (count_by is_used d.pool)
+grant_within d v workers ops plan desk last admitted =
+    let used : block_count v ≡ count_by is_used d.pool = ap block_count last ∙ sym (used_blocks d desk) in
+    subst (λ n. sum_by (λ n. n) plan.needs.items ≤ asked ops n) used
+    (needs_within (workers_for workers (length ops + length admitted.old)) ops (content v) v.rows plan admitted.planned)
 
 -- The grant is given back
 
@@ -229,15 +243,32 @@ next_is h shelf opening posted =
 
 -- Refusals
 
-pub grant_refused : (v : VersionView) (free : ℕ) (workers : ℕ) (ops : List NamedOp) (plan : Plan) (e : ApplyError)
+grant_refused : (v : VersionView) (free : ℕ) (workers : ℕ) (ops : List NamedOp) (plan : Plan) (e : ApplyError)
     → IsAdmitted v workers ops plan
-    → RefusesGrant (length ops) free e → Refuses v free ops e
+    → RefusesGrant (asked ops (block_count v)) free e → Refuses v free ops e
 grant_refused v free workers ops plan BatchLimit admitted refuses = absurd refuses
 grant_refused v free workers ops plan NamesFull admitted refuses = absurd refuses
 grant_refused v free workers ops plan KindsFull admitted refuses = absurd refuses
 grant_refused v free workers ops plan (PoolEmpty needed left) admitted refuses =
     (admitted.few, admitted.limits, refuses.0, refuses.1, refuses.2)
 grant_refused v free workers ops plan OutOfMemory admitted refuses = refuses
+
+module _ (d : DeskView) (v : VersionView) (workers : ℕ) (ops : List NamedOp) (plan : Plan) (desk : IsDesk d) (last : v ≡ d.last)
+    (admitted : IsAdmitted v workers ops plan) where
+  pub desk_refuses : (e : ApplyError) → RefusesGrant (asked ops (count_by is_used d.pool)) (count_by is_free d.pool) e
+      → Refuses d.last (count_by is_free d.pool) ops e
+  desk_refuses e refuses =
+      let free : ℕ = count_by is_free d.pool in
+      subst (λ (w : VersionView). Refuses w free ops e) last (grant_refused v free workers ops plan e admitted
+      (subst (λ n. RefusesGrant (asked ops n) free e) (used_blocks d desk ∙ ap block_count (sym last)) refuses))
+
+  pub desk_admits : asked ops (count_by is_used d.pool) ≤ count_by is_free d.pool
+      → IsWithin d.last (count_by is_free d.pool) ops
+  desk_admits enough = record {
+    few = subst (λ (w : VersionView). length w.batches < batch_limit) last admitted.few;
+    limits = subst (λ (w : VersionView). MeetsNeitherLimit ops (content w)) last admitted.limits;
+    blocks = subst (λ n. asked ops n ≤ count_by is_free d.pool) (used_blocks d desk) enough;
+  }
 
 -- a batch handed over, by what is known of the version that was lent
 abbrev pub handing : (old : DeskView) (ops : List NamedOp) (numbers handed : List ℕ) (prepared : Prepared) (pool : List Status)

@@ -1,5 +1,6 @@
 pub mod Collections
 pub mod Moving
+pub mod UsedBlocks
 pub mod Handing
 pub mod ReceiptLaws
 pub mod Rows

@@ -3,22 +3,23 @@
 
 ghost use Rattle.std.specs.Prelude.{◌≡◌, ◌≢◌, ◌+◌, ◌<◌, ◌≤◌, ◌^◌, ◌++◌, ◌∷◌, [], ℕ, length, IfOk, IfErr, OnOk, OnErr, AllPairs};
 ghost use Rattle.std.specs.Prelude.{All, false, count_by, vec_capacity, vec_len};
+ghost use Rattle.std.specs.List.{sum_by};
 ghost use Rattle.std.specs.Arc.{arc_value};
 ghost use Rattle.graph_model.specs.Limits.{batch_limit};
 ghost use Rattle.row_pages.specs.Rows as rows;
 ghost use Rattle.shard_work.specs.RowBlocks.{numbers_of};
 ghost use Rattle.graph_version.specs.declared.versions.Version.{Version};
 ghost use Rattle.graph_version.specs.Versions.{is_in};
-ghost use Rattle.block_pool.specs.Pools.{Granted, AreFree, is_free, marked};
+ghost use Rattle.block_pool.specs.Pools.{Granted, AreFree, is_free, is_used, marked};
 ghost use Rattle.version_shelf.specs.Shelves.{IsNext};
 ghost use Rattle.stream_store.specs.Applying.{IsPrepared};
-ghost use Rattle.stream_store.specs.Refusals.{Refuses, RefusesGrant, IsAdmitted};
+ghost use Rattle.stream_store.specs.Refusals.{Refuses, RefusesGrant, IsAdmitted, asked, workers_for};
 
 use crate::entries::{JournalEntry, enter};
 use crate::receipts::ApplyError;
 use batch_apply::{Applied, Gate};
-use batch_plan::{Plan, PlanError, plan};
-use block_pool::{Grant, GrantError, Pool};
+use batch_plan::{Plan, PlanError, old_rows, plan};
+use block_pool::{Grant, Pool};
 use edge_block::Block;
 use graph_model::{Batch, List, Outcome};
 use graph_version::Version;
@@ -27,8 +28,20 @@ use std::sync::{Arc, Wait};
 use std::thread::Threads;
 use version_shelf::{ShelfWriter, Told};
 
-/// A batch with fewer operations is one worker's: to start a thread takes as long as some hundred operations.
+/// A batch with fewer operations, and rows to open for its expiries, is one worker's: to start a thread takes as long as some
+/// hundred operations.
 const SHARED_OPERATIONS: usize = 2048;
+
+/// How many of these workers share so many operations and rows.
+fn workers_for(workers: usize, operations: usize, rows: usize) -> usize
+    ensures { result ≡ workers_for workers (operations + rows) }
+{
+    if operations.saturating_add(rows) < SHARED_OPERATIONS {
+        1
+    } else {
+        workers
+    }
+}
 
 /// The plan of a batch after this version, for so many workers, or for one where it is small; what it leaves is the same for
 /// each number.
@@ -45,12 +58,11 @@ pub(crate) fn plan_next(
     if last.number() >= 65_536 {
         return Err(ApplyError::BatchLimit);
     }
-    let workers = if batch.len() < SHARED_OPERATIONS {
-        1
-    } else {
-        workers
+    let Ok(old) = old_rows(alloc, last, batch) else {
+        return Err(ApplyError::OutOfMemory);
     };
-    match plan(alloc, last, batch, workers) {
+    let workers = workers_for(workers, batch.len(), old.len());
+    match plan(alloc, last, batch, &old, workers) {
         Ok(plan) => Ok(plan),
         Err(PlanError::NamesFull) => Err(ApplyError::NamesFull),
         Err(PlanError::KindsFull) => Err(ApplyError::KindsFull),
@@ -58,21 +70,40 @@ pub(crate) fn plan_next(
     }
 }
 
-/// Grants so many blocks.
-pub(crate) fn grant_blocks(pool: &mut Pool, count: usize) -> Result<Grant, ApplyError>
-    requires { count ≤ 4096 }
-    ensures numbers { IfOk result (λ g. AreFree pool.old g.numbers.items × (length g.numbers.items ≡ count)) }
+/// How many blocks a batch asks for behind a version that uses so many.
+fn asked_by(batch: &Batch, used: u32) -> u32
+    requires { used ≤ 65536 }
+    ensures { result ≡ asked batch.now used }
+{
+    let more = if batch.has_expire() { used } else { 0 };
+    batch.len() as u32 + more
+}
+
+/// Grants as many blocks as a plan's shards may take, where all those are free that its batch asks for behind the version
+/// that uses the used ones.
+pub(crate) fn grant_blocks(pool: &mut Pool, batch: &Batch, plan: &Plan) -> Result<Grant, ApplyError>
+    requires { sum_by (λ n. n) plan.now.needs.items ≤ asked batch.now (count_by is_used pool.old) }
+    ensures numbers { IfOk result (λ g. AreFree pool.old g.numbers.items
+        × (length g.numbers.items ≡ sum_by (λ n. n) plan.now.needs.items)) }
     ensures blocks { IfOk result (λ g. numbers_of g.blocks.items ≡ g.numbers.items) }
     ensures used { IfOk result (λ g. pool.new ≡ marked g.numbers.items Granted pool.old) }
-    ensures enough { OnOk result (count ≤ count_by is_free pool.old) }
-    ensures refused { IfErr result (RefusesGrant count (count_by is_free pool.old)) }
+    ensures enough { OnOk result (asked batch.now (count_by is_used pool.old) ≤ count_by is_free pool.old) }
+    ensures refused { IfErr result (RefusesGrant (asked batch.now (count_by is_used pool.old)) (count_by is_free pool.old)) }
     ensures unchanged { OnErr result (pool.new ≡ pool.old) }
 {
-    match pool.grant(count as u32) {
-        Ok(grant) => Ok(grant),
-        Err(GrantError::PoolEmpty { needed, free }) => Err(ApplyError::PoolEmpty { needed, free }),
-        Err(GrantError::OutOfMemory) => Err(ApplyError::OutOfMemory),
+    let free = pool.free();
+    let asked = asked_by(batch, pool.used());
+    if asked > free {
+        return Err(ApplyError::PoolEmpty {
+            needed: asked,
+            free,
+        });
     }
+    // So many are free, and so memory alone can be wanting.
+    let Ok(grant) = pool.grant(plan.blocks_needed() as u32) else {
+        return Err(ApplyError::OutOfMemory);
+    };
+    Ok(grant)
 }
 
 /// The number of the version after this one.
@@ -117,7 +148,7 @@ pub(crate) fn prepare<R: Threads + Sync, G: Gate + Sync>(
     blocks: Vec<Arc<Block>>,
 ) -> Result<Prepared, AllocError>
     requires admitted { (workers : ℕ) × IsAdmitted last.now workers batch plan }
-    requires blocks { length blocks.items ≡ length batch }
+    requires blocks { sum_by (λ n. n) plan.needs.items ≤ length blocks.items }
     requires distinct { AllPairs ◌≢◌ (numbers_of blocks.items) }
     requires unlisted { All (λ n. is_in n (rows.numbers_of (rows.blocks_of last.now.rows)) ≡ false) (numbers_of blocks.items) }
     ensures { IfOk result (IsPrepared last.now batch (numbers_of blocks.items)) }

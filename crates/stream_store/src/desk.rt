@@ -16,7 +16,7 @@ ghost use Rattle.store_journal.specs.Dates.{AreDated};
 ghost use Rattle.store_journal.specs.Opening.{opened_desk};
 ghost use Rattle.store_journal.specs.Steps.{Accepts, TakesAt, recycling};
 ghost use Rattle.stream_store.specs.Applying.{IsReceipt};
-ghost use Rattle.stream_store.specs.Refusals.{Refuses, IsWithin};
+ghost use Rattle.stream_store.specs.Refusals.{Refuses, IsWithin, block_count};
 ghost use Rattle.stream_store.specs.Kept.{entry_of};
 
 use crate::applying::{Prepared, grant_blocks, next_number, plan_next, prepare, publish};
@@ -130,7 +130,7 @@ impl Desk {
     /// once and tell `gate` of themselves; no outcome depends on how many there are.
     ///
     /// Refused are, in this order: a batch after 65,536 others, one that would leave more than 65,536 vertex names, one
-    /// that would leave more than 64 kinds, and one with more operations than blocks are free. Want of memory refuses it
+    /// that would leave more than 64 kinds, and one that asks for more blocks than are free. Want of memory refuses it
     /// too, at any place.
     pub fn apply<R: Threads + Wait + Sync, G: Gate + Sync>(
         &mut self,
@@ -148,7 +148,7 @@ impl Desk {
     {
         let plan = plan_next(self.alloc, &self.last, &batch, self.workers)?;
         let number = next_number(&self.last);
-        let Grant { numbers, blocks } = grant_blocks(&mut self.pool, batch.len())?;
+        let Grant { numbers, blocks } = grant_blocks(&mut self.pool, &batch, &plan)?;
         let Ok(prepared) = prepare(rt, self.alloc, gate, &self.last, plan, batch, blocks) else {
             give_back_numbers(&mut self.pool, numbers);
             return Err(ApplyError::OutOfMemory);
@@ -257,11 +257,12 @@ impl Desk {
     }
 
     /// What the desk did, in order. It replays legally, to the last version's batches and to what each block is. So no block
-    /// was born or retired with a number above the last version's.
+    /// was born or retired with a number above the last version's, and the used blocks are those of the last version.
     pub fn journal(&self) -> &[JournalEntry]
         ensures entries { map entry_of result.now ≡ self.now.desk.journal }
         ensures replays { IsDesk self.now.desk }
         ensures dated { AreDated (length self.now.desk.last.batches) self.now.desk.pool }
+        ensures used { count_by is_used self.now.desk.pool ≡ block_count self.now.desk.last }
     {
         self.journal.as_slice()
     }

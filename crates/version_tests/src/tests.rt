@@ -2,6 +2,7 @@
 
 mod analyses;
 mod answers;
+mod expiries;
 mod gates;
 mod limits;
 mod long_rows;
@@ -13,3 +14,4 @@ mod sames;
 mod sizes;
 mod steps;
 mod tables;
+mod texts;

@@ -4,6 +4,7 @@ ghost use Rattle.std.specs.Prelude.{◌≡◌, IfOk, length};
 
 use super::growths::refused;
 use super::parts::{LineError, names, numbers, push, write_names};
+use super::texts::push_item;
 use epoch_posts::{
     Opening, Status, Step, Version, blocks_at, content_with, edges_at, fill_block, recycle_block,
     take_block,
@@ -218,7 +219,7 @@ fn content_text(alloc: Global, content: &Content) -> Result<String, AllocError> 
     write_names(&mut text, content.kinds.as_slice())?;
     text.push_str("; weights")?;
     for edge in content.edges.as_slice() {
-        write!(text, " {}", edge.weight)?;
+        push_item(&mut text, " ", edge.weight)?;
     }
     Ok(text)
 }

@@ -19,7 +19,7 @@ pub(super) fn refused(rt: &impl Print) -> Result<(), Fail> {
 /// What is seen of session 0 and of the floor.
 type Shown = (u64, Option<u64>, Option<u64>, usize);
 
-fn shown(core: &Core) -> Shown
+pub(super) fn shown(core: &Core) -> Shown
     requires { 0 < length core.now.world.sessions }
 {
     (

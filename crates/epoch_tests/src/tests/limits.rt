@@ -2,6 +2,7 @@
 
 use super::lines::check_new;
 use super::parts::event;
+use super::texts::push_item;
 use epoch_core::{Core, Step};
 use std::alloc::{AllocError, Global};
 use std::process::Abort;
@@ -19,24 +20,21 @@ const KIND_LINES: [(&str, u8, u8, &str); 6] = [
 ];
 
 // The edge of a kind: its insertion in a Post, and itself in a Fill.
-fn push_edge(alloc: Global, text: &mut String, begin: &str, kind: u8) -> Result<(), AllocError> {
-    let edge = if begin == "post" {
-        format!(in alloc; " i,kind{kind},a,b,1,1")?
+fn push_edge(text: &mut String, begin: &str, kind: u8) -> Result<(), AllocError> {
+    if begin == "post" {
+        push_item(text, " i,kind", kind)?;
+        text.push_str(",a,b,1,1")
     } else {
-        format!(in alloc; " {kind},0,1,1,1,1")?
-    };
-    text.push_str(edge.as_str())
+        push_item(text, " ", kind)?;
+        text.push_str(",0,1,1,1,1")
+    }
 }
 
-fn push_line(
-    alloc: Global,
-    text: &mut String,
-    line: (&str, u8, u8, &str),
-) -> Result<(), AllocError> {
+fn push_line(text: &mut String, line: (&str, u8, u8, &str)) -> Result<(), AllocError> {
     let (begin, first, last, end) = line;
     text.push_str(begin)?;
     for kind in first..=last {
-        push_edge(alloc, text, begin, kind)?;
+        push_edge(text, begin, kind)?;
     }
     text.push_str(end)
 }
@@ -44,7 +42,7 @@ fn push_line(
 fn kind_lines(alloc: Global) -> Result<String, AllocError> {
     let mut text = String::from_str(alloc, "take 0 => done\ntake 1 => done\n")?;
     for line in KIND_LINES {
-        push_line(alloc, &mut text, line)?;
+        push_line(&mut text, line)?;
     }
     Ok(text)
 }

@@ -2,6 +2,7 @@
 
 ghost use Rattle.std.specs.Prelude.{◌<◌, length};
 
+use super::texts::push_item;
 use epoch_core::{Core, Event, PinCopy};
 use feed_csv::{Command, Feed, FeedWord};
 use graph_model::{
@@ -52,7 +53,7 @@ pub(super) fn names(alloc: Global, text: &str) -> Result<List<Name>, AllocError>
 /// Each name behind a blank.
 pub(super) fn write_names(text: &mut String, names: &[Name]) -> Result<(), AllocError> {
     for name in names {
-        write!(text, " {}", name.as_str())?;
+        push_item(text, " ", name.as_str())?;
     }
     Ok(())
 }
@@ -134,7 +135,8 @@ fn push_op(batch: &mut Batch, op: NamedOp) -> Result<(), LineError> {
     }
 }
 
-fn batch(alloc: Global, text: &str) -> Result<Batch, LineError> {
+/// A batch of operations with a blank between them, each as a script has it.
+pub(super) fn batch(alloc: Global, text: &str) -> Result<Batch, LineError> {
     let mut batch = Batch::new(alloc);
     for word in text.split_whitespace() {
         push_op(&mut batch, op(alloc, word)?)?;
@@ -201,7 +203,7 @@ pub(super) fn event(alloc: Global, line: &str) -> Result<Event, LineError> {
 // A number, and `-` where there is none.
 fn write_number(text: &mut String, number: Option<u64>) -> Result<(), AllocError> {
     match number {
-        Some(number) => write!(text, " {number}"),
+        Some(number) => push_item(text, " ", number),
         None => text.push_str(" -"),
     }
 }
@@ -210,10 +212,10 @@ fn write_seen(text: &mut String, core: &Core, session: usize) -> Result<(), Allo
     requires { session < length core.now.world.sessions }
 {
     let replies = core.replies(session).len();
-    write!(text, "{}", core.floor())?;
+    push_item(text, "", core.floor())?;
     write_number(text, core.pin_of(session))?;
     write_number(text, core.held(session))?;
-    write!(text, " {replies}")
+    push_item(text, " ", replies)
 }
 
 /// The floor, and of a session its pin, the number of the version that it holds, and how many replies it has.
@@ -229,24 +231,33 @@ pub(super) fn seen(alloc: Global, core: &Core, session: usize) -> Result<String,
 fn write_pins(text: &mut String, pins: &[Option<u64>]) -> Result<(), AllocError> {
     for (seat, pin) in pins.iter().enumerate() {
         if let Some(pin) = pin {
-            write!(text, " {seat}:{pin}")?;
+            push_item(text, " ", seat)?;
+            push_item(text, ":", *pin)?;
         }
     }
     Ok(())
 }
 
+fn write_copy(text: &mut String, copy: &PinCopy) -> Result<(), AllocError> {
+    push_item(text, "last ", copy.last)?;
+    text.push_str("; settled")?;
+    write_pins(text, &copy.settled)?;
+    text.push_str("; unsettled")?;
+    write_pins(text, &copy.unsettled)
+}
+
 /// The last number of a copy of the pins, and the seats that have a settled and an unsettled pin.
 pub(super) fn copy_text(alloc: Global, copy: &PinCopy) -> Result<String, AllocError> {
-    let mut text = format!(in alloc; "last {}; settled", copy.last)?;
-    write_pins(&mut text, &copy.settled)?;
-    text.push_str("; unsettled")?;
-    write_pins(&mut text, &copy.unsettled)?;
+    let mut text = String::new(alloc);
+    write_copy(&mut text, copy)?;
     Ok(text)
 }
 
 fn write_degree(text: &mut String, name: &Name, degree: &Degree) -> Result<(), AllocError> {
-    let (outgoing, incoming, weight) = (degree.outgoing, degree.incoming, degree.out_weight);
-    write!(text, " {} {outgoing} {incoming} {weight}", name.as_str())
+    push_item(text, " ", name.as_str())?;
+    push_item(text, " ", degree.outgoing)?;
+    push_item(text, " ", degree.incoming)?;
+    push_item(text, " ", degree.out_weight)
 }
 
 // Each vertex with its degrees out and in, and its weight out.
@@ -262,7 +273,8 @@ fn table_text(alloc: Global, rows: &[(Name, Degree)]) -> Result<String, AllocErr
 fn numbers_text(alloc: Global, word: &str, rows: &[(Name, u32)]) -> Result<String, AllocError> {
     let mut text = String::from_str(alloc, word)?;
     for (name, number) in rows {
-        write!(text, " {} {number}", name.as_str())?;
+        push_item(&mut text, " ", name.as_str())?;
+        push_item(&mut text, " ", *number)?;
     }
     Ok(text)
 }
@@ -271,8 +283,22 @@ fn numbers_text(alloc: Global, word: &str, rows: &[(Name, u32)]) -> Result<Strin
 fn labels_text(alloc: Global, rows: &[(Name, Name)]) -> Result<String, AllocError> {
     let mut text = String::from_str(alloc, "comp")?;
     for (name, label) in rows {
-        write!(text, " {} {}", name.as_str(), label.as_str())?;
+        push_item(&mut text, " ", name.as_str())?;
+        push_item(&mut text, " ", label.as_str())?;
     }
+    Ok(text)
+}
+
+fn write_edge(text: &mut String, edge: (i64, u64, u64)) -> Result<(), AllocError> {
+    let (weight, first, recent) = edge;
+    push_item(text, "edge ", weight)?;
+    push_item(text, " ", first)?;
+    push_item(text, " ", recent)
+}
+
+fn edge_text(alloc: Global, edge: (i64, u64, u64)) -> Result<String, AllocError> {
+    let mut text = String::new(alloc);
+    write_edge(&mut text, edge)?;
     Ok(text)
 }
 
@@ -291,9 +317,7 @@ pub(super) fn reply_text(
     reply: &Result<Reply, AskError>,
 ) -> Result<String, AllocError> {
     match reply {
-        Ok(Reply::OneEdge(Some((weight, first, recent)))) => {
-            format!(in alloc; "edge {weight} {first} {recent}")
-        }
+        Ok(Reply::OneEdge(Some(edge))) => edge_text(alloc, *edge),
         Ok(Reply::OneEdge(None)) => String::from_str(alloc, "edge none"),
         Ok(Reply::Levels(rows)) => numbers_text(alloc, "bfs", rows.as_slice()),
         Ok(Reply::Labels(rows)) => labels_text(alloc, rows.as_slice()),

@@ -5,6 +5,7 @@ ghost use Rattle.epoch_core.specs.Worlds.{empty_opening};
 
 use super::growths::refused;
 use super::parts::{LineError, edges, event, push, write_names};
+use super::texts::push_item;
 use epoch_core::Event;
 use epoch_posts::{Opening, Status, Version, plan_post};
 use graph_model::{Batch, Content, Edge, List};
@@ -42,8 +43,11 @@ fn write_status(text: &mut String, status: Status) -> Result<(), AllocError> {
     match status {
         Status::Free => text.push_str("free"),
         Status::Fresh => text.push_str("fresh"),
-        Status::Used { birth } => write!(text, "used by {birth}"),
-        Status::Retired { birth, since } => write!(text, "retired by {since}, used by {birth}"),
+        Status::Used { birth } => push_item(text, "used by ", birth),
+        Status::Retired { birth, since } => {
+            push_item(text, "retired by ", since)?;
+            push_item(text, ", used by ", birth)
+        }
     }
 }
 
@@ -62,13 +66,13 @@ fn write_statuses(text: &mut String, status: &[Status]) -> Result<(), AllocError
 fn write_version(text: &mut String, version: &Version) -> Result<(), AllocError> {
     text.push_str(";")?;
     for block in version.blocks.as_slice() {
-        write!(text, " {block}")?;
+        push_item(text, " ", *block)?;
     }
     text.push_str(";")?;
     write_names(text, version.names.as_slice())?;
     text.push_str(";")?;
     write_names(text, version.kinds.as_slice())?;
-    write!(text, "; {}", version.batch.len())
+    push_item(text, "; ", version.batch.len())
 }
 
 fn plan_text(alloc: Global, status: &[Status], version: &Version) -> Result<String, AllocError> {

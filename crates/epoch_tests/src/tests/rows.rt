@@ -4,6 +4,7 @@ ghost use Rattle.std.specs.Prelude.{◌≡◌, length};
 
 use super::lines::{check_new, check_table};
 use super::parts::event;
+use super::runs::TWO_VERSIONS;
 use epoch_core::{Core, Step};
 use std::alloc::Global;
 use std::process::Abort;
@@ -186,6 +187,30 @@ fn skips_what_is_out_of_range_in_each_state(rt: HostRuntime) -> Result<(), Fail>
     for state in ["idle", "pinned", "holding", "asking", "reading", "settled"] {
         let setup = session_setup(state);
         check_new(&rt, alloc, 1, 1, &[VERSION, setup, OUT_OF_RANGE])?;
+    }
+    Ok(())
+}
+
+// So many events of a story, and then those out of range.
+fn check_after(rt: &impl Abort, alloc: Global, core: &mut Core, events: usize) -> Result<(), Fail>
+    requires { length core.old.world.sessions ≡ 1 }
+{
+    for line in TWO_VERSIONS.lines().take(events) {
+        check_table(rt, alloc, core, 1, line)?;
+    }
+    check_table(rt, alloc, core, 1, OUT_OF_RANGE)
+}
+
+fn check_story(rt: &impl Abort, alloc: Global, events: usize) -> Result<(), Fail> {
+    let mut core = Core::new(alloc, 1, 2)?;
+    check_after(rt, alloc, &mut core, events)
+}
+
+// In its 18 events a block is retired, kept for a pin and recycled, and a session goes through all its states.
+#[test]
+fn skips_what_is_out_of_range_in_a_story(rt: HostRuntime) -> Result<(), Fail> {
+    for events in 0..=18 {
+        check_story(&rt, rt.alloc(), events)?;
     }
     Ok(())
 }

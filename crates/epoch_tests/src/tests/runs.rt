@@ -11,7 +11,7 @@ use std::test::Fail;
 
 // A session pinned before the second version was posted; it holds that one, settles, and the first one's block is
 // recycled before it reads.
-const TWO_VERSIONS: &str = "take 0 => done
+pub(super) const TWO_VERSIONS: &str = "take 0 => done
 fill 0 0,0,1,1,1,1 => done
 post i,k,a,b,1,1 | 0 => done
 pin 0 => done: 0 0 - 0

@@ -4,7 +4,7 @@ ghost use Rattle.graph_version.specs.Drafts.{ReplacesRow, IsWhole, drafted_over,
 ghost use Rattle.graph_version.specs.Versions.{empty_version};
 ghost use Rattle.layer_tests.specs.OneEdge as edge;
 
-use batch_plan::plan;
+use batch_plan::{old_rows, plan};
 use block_pool::Pool;
 use edge_block::Block;
 use graph_model::{Batch, KindId, Name, NamedOp, VertexId};
@@ -184,7 +184,8 @@ fn with_books(
 fn with_names(alloc: Global, before: &Version, batch: &Batch) -> Result<VersionDraft, AllocError>
     ensures { IfOk result (λ draft. draft ≡ edge.named_over batch.now before.now) }
 {
-    match plan(alloc, before, batch, 1) {
+    let old = old_rows(alloc, before, batch)?;
+    match plan(alloc, before, batch, &old, 1) {
         Ok(planned) => with_books(before, planned.names, planned.kinds),
         Err(_) => Err(AllocError),
     }

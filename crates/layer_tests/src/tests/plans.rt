@@ -1,9 +1,9 @@
 ghost use Rattle.std.specs.Prelude.{◌<◌, ◌≤◌};
 
-use batch_plan::{Plan, PlanError, law_sources_within, plan, resolve_batch};
+use batch_plan::{Plan, PlanError, law_sources_within, old_rows, plan, resolve_batch};
 use graph_model::{Batch, Name, NamedOp, PushError, VertexId};
 use graph_version::Version;
-use shard_work::{Shard, Step};
+use shard_work::{Act, Shard, Step};
 use std::alloc::{AllocError, Global};
 use std::io::Print;
 use std::process::Abort;
@@ -89,7 +89,8 @@ fn plan_for(
     workers: usize,
 ) -> Result<Plan, PlanError> {
     if workers > 0 {
-        plan(alloc, version, batch, workers)
+        let old = old_rows(alloc, version, batch)?;
+        plan(alloc, version, batch, &old, workers)
     } else {
         Err(PlanError::OutOfMemory)
     }
@@ -108,12 +109,13 @@ fn planned(
     }
 }
 
-/// Adds an operation's place in the batch and its source's place in the shard, `-` where a name is unknown.
+/// Adds an operation's place in the batch and its source's place in the shard, `-` where a name is unknown, `*` for all.
 fn push_step(alloc: Global, text: &mut String, step: &Step) -> Result<(), AllocError> {
     let op = step.op;
-    let word = match step.place {
-        Some(place) => format!(in alloc; "{op}@{} ", place.row)?,
-        None => format!(in alloc; "{op}@- ")?,
+    let word = match step.act {
+        Act::Edge(Some(place), _) => format!(in alloc; "{op}@{} ", place.row)?,
+        Act::Edge(None, _) => format!(in alloc; "{op}@- ")?,
+        Act::Expire(_) => format!(in alloc; "{op}@* ")?,
     };
     text.push_str(word.as_str())
 }
@@ -183,6 +185,32 @@ fn plans_by_source(rt: HostRuntime) -> Result<(), Fail> {
         check_plan(&rt, rt.alloc(), workers, table)?;
     }
     Ok(())
+}
+
+/// An insertion, an expiry, and a removal whose source is unknown.
+fn expiring_batch(alloc: Global) -> Result<Batch, PushError> {
+    let mut batch = Batch::new(alloc);
+    push(&mut batch, operation(alloc, false, "k", "a", "b"))?;
+    push(&mut batch, Ok(NamedOp::Expire { time: 5 }))?;
+    push(&mut batch, operation(alloc, true, "k", "z", "a"))?;
+    Ok(batch)
+}
+
+// The batch's shards for two workers are these, and may take so many blocks together.
+fn check_expiring(rt: &impl Abort, alloc: Global, blocks: usize, table: &str) -> Result<(), Fail> {
+    match planned(alloc, &Version::empty(alloc), expiring_batch(alloc), 2) {
+        Ok(plan) => {
+            assert_eq!(rt; plan.blocks_needed(), blocks);
+            check_shards(rt, alloc, &plan, table)
+        }
+        Err(error) => Err(Fail::from(error)),
+    }
+}
+
+/// An expiry is every worker's, and asks for no block where no edge is from before its time.
+#[test]
+fn plans_an_expiry_for_each_worker(rt: HostRuntime) -> Result<(), Fail> {
+    check_expiring(&rt, rt.alloc(), 2, "0@0 1@* 2@- of 0\n1@* of")
 }
 
 /// How many vertex names, kinds and shards a plan has.

@@ -1,12 +1,13 @@
-ghost use Rattle.std.specs.Prelude.{◌≡◌, IfOk, length};
-ghost use Rattle.shard_work.specs.Shards.{AreSteps};
+ghost use Rattle.std.specs.Prelude.{◌≡◌, [], IfOk, length};
+ghost use Rattle.row_pages.specs.Rows.{row_of};
+ghost use Rattle.shard_work.specs.Shards.{IsAct, AreSteps};
 ghost use Rattle.batch_apply.specs.Jobs.{IsShard};
 ghost use Rattle.graph_model.specs.Changes.{IsChange};
 
 use edge_block::Block;
 use graph_model::{EdgeChange, KindId, Outcome, VertexId};
 use graph_version::Version;
-use shard_work::{Place, Shard, ShardDone, Step, work_on};
+use shard_work::{Act, Place, Shard, ShardDone, Step, work_on};
 use std::alloc::{AllocError, Global};
 use std::io::Print;
 use std::process::Abort;
@@ -36,6 +37,24 @@ fn change_by(letter: u8, number: i8) -> EdgeChange
     }
 }
 
+/// What a letter says of one source's edge to a target, with a number, or with `x` that the edges go which were last touched
+/// before a time, which then stands in the target's place.
+fn act_by(letter: u8, target: u32, number: i8) -> Act
+    ensures { IsAct 1 result }
+{
+    match letter {
+        b'x' => Act::Expire(u64::from(target)),
+        _ => Act::Edge(
+            Some(Place {
+                row: 0,
+                kind: KindId(0),
+                target,
+            }),
+            change_by(letter, number),
+        ),
+    }
+}
+
 /// A fresh block for each operation.
 fn fresh_for(alloc: Global, steps: &[Step]) -> Result<Vec<Arc<Block>>, AllocError>
     ensures { IfOk result (λ fresh. length fresh.items ≡ length steps.now) }
@@ -47,10 +66,11 @@ fn fresh_for(alloc: Global, steps: &[Step]) -> Result<Vec<Arc<Block>>, AllocErro
     Ok(fresh)
 }
 
-/// The shard of one source, with these operations.
+/// The shard of one source, with these operations, over the version without batches.
+#[tactic(auto, using(crate::proofs::NoRows::few_needed))]
 pub(super) fn shard_with(alloc: Global, source: u32, steps: Vec<Step>) -> Result<Shard, AllocError>
     requires { AreSteps 1 steps.items }
-    ensures { IfOk result IsShard }
+    ensures { IfOk result (IsShard (row_of [])) }
 {
     let fresh = fresh_for(alloc, steps.as_slice())?;
     let mut sources = Vec::new(alloc);
@@ -71,12 +91,7 @@ fn steps_of(alloc: Global, table: &[(u8, u32, i8)]) -> Result<Vec<Step>, AllocEr
     for (letter, target, number) in table {
         steps.push(Step {
             op,
-            place: Some(Place {
-                row: 0,
-                kind: KindId(0),
-                target: *target,
-            }),
-            change: change_by(*letter, *number),
+            act: act_by(*letter, *target, *number),
         })?;
         op = op.wrapping_add(1);
     }
@@ -85,7 +100,7 @@ fn steps_of(alloc: Global, table: &[(u8, u32, i8)]) -> Result<Vec<Step>, AllocEr
 
 /// The shard of one source, of such a table.
 fn shard_of(alloc: Global, table: &[(u8, u32, i8)]) -> Result<Shard, AllocError>
-    ensures { IfOk result IsShard }
+    ensures { IfOk result (IsShard (row_of [])) }
 {
     shard_with(alloc, 7, steps_of(alloc, table)?)
 }
@@ -161,15 +176,45 @@ const OUTCOMES: [(u32, Outcome); 6] = [
     (5, Outcome::Absent),
 ];
 
-// The work has these outcomes, and takes one of six blocks.
-fn check_outcomes(rt: &impl Abort, done: &ShardDone) {
-    assert_eq!(rt; done.outcomes.as_slice(), OUTCOMES.as_slice());
-    assert_eq!(rt; (done.left.taken.len(), done.left.unused.len()), (1, 5));
+// The work has these outcomes, and takes one block of those that it got.
+fn check_outcomes(rt: &impl Abort, done: &ShardDone, outcomes: &[(u32, Outcome)], unused: usize) {
+    assert_eq!(rt; done.outcomes.as_slice(), outcomes);
+    assert_eq!(rt; blocks_left(done), (1, unused, 0));
 }
 
 #[test]
 fn works_by_the_operation_rule(rt: HostRuntime) -> Result<(), Fail> {
-    check_outcomes(&rt, &work(rt.alloc(), OPERATIONS.as_slice())?);
+    let done = work(rt.alloc(), OPERATIONS.as_slice())?;
+    check_outcomes(&rt, &done, OUTCOMES.as_slice(), 5);
+    Ok(())
+}
+
+/// Expiries between other operations: the first takes the edge to 5, and the second those to 6 and 7.
+const EXPIRING: [(u8, u32, i8); 7] = [
+    (b'i', 5, 1),
+    (b'+', 6, 2),
+    (b'x', 2, 0),
+    (b'i', 7, 1),
+    (b'x', 3, 0),
+    (b'm', 5, 0),
+    (b'x', 3, 0),
+];
+
+/// Their outcomes, each with its operation's place in the batch.
+const EXPIRED: [(u32, Outcome); 7] = [
+    (0, Outcome::Inserted),
+    (1, Outcome::Inserted),
+    (2, Outcome::Expired(1)),
+    (3, Outcome::Inserted),
+    (4, Outcome::Expired(2)),
+    (5, Outcome::Inserted),
+    (6, Outcome::Expired(0)),
+];
+
+#[test]
+fn expires_edges_that_the_batch_has_put(rt: HostRuntime) -> Result<(), Fail> {
+    let done = work(rt.alloc(), EXPIRING.as_slice())?;
+    check_outcomes(&rt, &done, EXPIRED.as_slice(), 6);
     Ok(())
 }
 

@@ -97,7 +97,7 @@ fn change(alloc: Global, text: &str) -> Result<((Name, Name, Name), i64, u64), L
     Ok((three_names(alloc, text)?, weight, time))
 }
 
-// `i,kind,source,target,weight,time`, `a,kind,source,target,amount,time` or `r,kind,source,target`.
+// `i,kind,source,target,weight,time`, `a,kind,source,target,amount,time`, `r,kind,source,target` or `x,time`.
 fn op(alloc: Global, text: &str) -> Result<NamedOp, LineError> {
     let (letter, rest) = text.split_once(',').ok_or(LineError::Wrong)?;
     match letter {
@@ -129,6 +129,9 @@ fn op(alloc: Global, text: &str) -> Result<NamedOp, LineError> {
                 target,
             })
         }
+        "x" => Ok(NamedOp::Expire {
+            time: rest.parse()?,
+        }),
         _ => Err(LineError::Wrong),
     }
 }

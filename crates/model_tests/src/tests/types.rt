@@ -6,8 +6,9 @@ ghost use Rattle.graph_model.specs.Changes.{AreMarks, IsChange};
 use super::parts::{LineError, batch, name, names, only_refused, push_op, refused, request};
 use graph_model::{
     Batch, Content, Edge, EdgeChange, EdgeMarks, KindId, List, Outcome, PushError, VertexId,
-    change_edge, is_kind_name, is_name, law_edge_order, law_first_time_stays, law_names_stay_names,
-    law_one_answer, law_one_table, law_some_answer, law_some_table, law_within_limits,
+    change_edge, is_kind_name, is_name, law_edge_order, law_expiry, law_first_time_stays,
+    law_names_stay_names, law_one_answer, law_one_table, law_some_answer, law_some_table,
+    law_within_limits,
 };
 use std::alloc::{AllocError, Global};
 use std::fmt::Debug;
@@ -79,6 +80,7 @@ fn laws_can_be_called() {
     law_within_limits();
     law_names_stay_names();
     law_first_time_stays();
+    law_expiry();
     law_one_table();
     law_some_table();
 }
@@ -216,6 +218,24 @@ fn a_batch_keeps_its_operations_in_order(rt: HostRuntime) -> Result<(), Fail> {
     check_kept(&rt, rt.alloc(), &batch(rt.alloc(), ONE_OF_EACH)?)
 }
 
+/// The batch of these operations expires edges, or doesn't.
+fn check_expires(rt: &impl Abort, alloc: Global, ops: &str, wanted: bool) -> Result<(), Fail> {
+    assert_eq!(rt; batch(alloc, ops)?.has_expire(), wanted, "{ops}");
+    Ok(())
+}
+
+#[test]
+fn a_batch_tells_whether_it_expires_edges(rt: HostRuntime) -> Result<(), Fail> {
+    check_expires(&rt, rt.alloc(), "", false)?;
+    check_expires(&rt, rt.alloc(), ONE_OF_EACH, false)?;
+    check_expires(
+        &rt,
+        rt.alloc(),
+        "r,knows,ann,bob x,9223372036854775807",
+        true,
+    )
+}
+
 /// The batch refuses the operation.
 fn check_refused(rt: &impl Abort, alloc: Global, batch: &mut Batch, op: &str, refusal: PushError) {
     assert_eq!(rt;
@@ -226,7 +246,7 @@ fn check_refused(rt: &impl Abort, alloc: Global, batch: &mut Batch, op: &str, re
 }
 
 // Weights and times past their limits, of which the first refusal is told.
-const BAD_OPERATIONS: [(&str, PushError); 6] = [
+const BAD_OPERATIONS: [(&str, PushError); 7] = [
     (
         "i,*,ann,bob,1099511627777,9223372036854775808",
         PushError::BadName,
@@ -239,6 +259,7 @@ const BAD_OPERATIONS: [(&str, PushError); 6] = [
     ("a,knows,ann,bob,-1099511627777,0", PushError::BadWeight),
     ("i,knows,ann,bob,0,9223372036854775808", PushError::BadTime),
     ("a,knows,ann,bob,0,9223372036854775808", PushError::BadTime),
+    ("x,9223372036854775808", PushError::BadTime),
 ];
 
 #[test]

@@ -37,7 +37,7 @@ fn batch(alloc: Global, time: u64) -> Result<Arc<Batch>, AllocError> {
 // Adds batches of the times up to this one.
 fn fill(alloc: Global, list: &mut BatchList, times: u64) -> Result<(), AllocError> {
     for time in 0..times {
-        if list.len() < 1000 {
+        if list.len() < 2000 {
             list.push(batch(alloc, time)?)?;
         }
     }
@@ -72,7 +72,7 @@ fn check_list(rt: &impl Abort, list: &BatchList, times: usize) {
 // One batch more in a list that shares the pages; the list before is as it was.
 fn check_next(rt: &impl Abort, alloc: Global, list: &BatchList, times: usize) -> Result<(), Fail> {
     let mut next = list.share()?;
-    if next.len() < 1000 {
+    if next.len() < 2000 {
         next.push(batch(alloc, times as u64)?)?;
     }
     check_list(rt, &next, times.saturating_add(1));
@@ -88,8 +88,8 @@ fn check_size(rt: &impl Abort, alloc: Global, times: u64) -> Result<(), Fail> {
 }
 
 #[test]
-fn adds_a_batch_at_the_ends_of_pages(rt: HostRuntime) -> Result<(), Fail> {
-    for times in [0, 1, 254, 255, 256, 257] {
+fn adds_a_batch_at_the_ends_of_pages_and_groups(rt: HostRuntime) -> Result<(), Fail> {
+    for times in [0, 1, 31, 32, 33, 1023, 1024] {
         check_size(&rt, rt.alloc(), times)?;
     }
     assert!(&rt; BatchList::new(rt.alloc()).last().is_none());
@@ -98,7 +98,7 @@ fn adds_a_batch_at_the_ends_of_pages(rt: HostRuntime) -> Result<(), Fail> {
 
 // Whether the batch was added.
 fn is_added(list: &mut BatchList, batch: Arc<Batch>) -> bool {
-    list.len() < 1000 && list.push(batch).is_ok()
+    list.len() < 2000 && list.push(batch).is_ok()
 }
 
 // Where a growth is refused, the list is as it was, and so is the one that shares its pages.

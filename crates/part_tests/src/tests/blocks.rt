@@ -114,6 +114,51 @@ fn fills_the_lowest_free_slot(rt: HostRuntime) {
     is_full(&rt, &block, false);
 }
 
+/// So many edges were touched before the time, and are gone; the others keep their slots.
+fn expires(rt: &impl Abort, block: &mut Block, time: u64, count: u32) {
+    assert_eq!(rt; block.has_before(time), count > 0);
+    assert_eq!(rt; block.expire(time), count);
+    assert_eq!(rt; block.has_before(time), false);
+}
+
+#[test]
+fn expires_what_was_touched_before_a_time(rt: HostRuntime) {
+    let mut block = Block::blank(4);
+    expires(&rt, &mut block, u64::MAX, 0);
+    put(&rt, &mut block, 7, 10);
+    put(&rt, &mut block, 8, 20);
+    put(&rt, &mut block, 9, 30);
+    put(&rt, &mut block, 5, 15);
+
+    // neither at time 0 nor at the least time there is one, and an edge of the time itself stays
+    expires(&rt, &mut block, 0, 0);
+    expires(&rt, &mut block, 10, 0);
+    has(&rt, &block, 4, 4, Some((10, 30)));
+    expires(&rt, &mut block, 20, 2);
+    has(&rt, &block, 4, 2, Some((20, 30)));
+    let mut slots = block.select(&ALL);
+    leads_to(&rt, slots.next(), Some(8));
+    leads_to(&rt, slots.next(), Some(9));
+    leads_to(&rt, slots.next(), None);
+
+    // what was freed is filled again, the lowest slot first
+    put(&rt, &mut block, 6, 25);
+    leads_to(&rt, block.select(&ALL).next(), Some(6));
+    expires(&rt, &mut block, 31, 3);
+    has(&rt, &block, 4, 0, None);
+}
+
+#[test]
+fn expires_a_full_block(rt: HostRuntime) {
+    let mut block = Block::blank(0);
+    for target in 0..32 {
+        put(&rt, &mut block, target, 1);
+    }
+    expires(&rt, &mut block, 2, 32);
+    is_full(&rt, &block, false);
+    has(&rt, &block, 0, 0, None);
+}
+
 /// The edge of kind 3, weight -40, first time 50 and recent time 20.
 fn is_edge(rt: &impl Abort, edge: Option<EdgeRef<'_>>) {
     let stamp = edge.map(|edge| (edge.kind, *edge.weight, *edge.first, *edge.recent));

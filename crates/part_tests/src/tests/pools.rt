@@ -106,6 +106,10 @@ impl Hand {
     fn first(&self) -> Option<&Block> {
         self.blocks.first().map(|block| &**block)
     }
+
+    fn last(&self) -> Option<&Block> {
+        self.blocks.last().map(|block| &**block)
+    }
 }
 
 /// So many blocks are free, used and retired.
@@ -272,7 +276,7 @@ fn grants_the_very_block_that_was_given_back(rt: HostRuntime) -> Result<(), Fail
     Ok(())
 }
 
-/// A block that was retired and recycled is granted as it was.
+/// A block that was retired and recycled is granted as it was, after those that were free before.
 #[test]
 fn grants_the_very_block_that_was_retired(rt: HostRuntime) -> Result<(), Fail> {
     check_retired(&rt, rt.alloc(), &mut Hand::new(rt.alloc())?);
@@ -283,8 +287,9 @@ fn check_retired(rt: &impl Abort, alloc: Global, hand: &mut Hand) {
     check_exchange(rt, alloc, hand);
     hand.retire(1, 2);
     recycled(rt, hand, 2, 1);
-    granted(rt, hand, 1);
-    assert_eq!(rt; hand.first().map(|block| block.len()), Some(1));
+    granted(rt, hand, 16);
+    assert_eq!(rt; hand.first().map(|block| block.len()), Some(0));
+    assert_eq!(rt; hand.last().map(|block| block.len()), Some(1));
 }
 
 /// A new pool of 16 blocks; where a growth was refused, once no more is refused.

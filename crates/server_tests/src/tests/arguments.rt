@@ -13,7 +13,8 @@ A store of a directed graph that changes by batches, with held snapshots (STINGE
 Usage: stinger <COMMAND>
 
 Commands:
-  run  Reads a script on standard input, and writes its lines on standard output
+  run    Reads a script on standard input, and writes its lines on standard output
+  drive  Checks a store on this machine, with readers and a feeder at once
 
 Options:
   -h, --help  Print help
@@ -49,6 +50,7 @@ fn serves_a_script_at_run_alone(rt: HostRuntime) {
     assert_eq!(rt; serves(&rt, &["run", "--seats", "17"]), Ok(false));
     assert_eq!(rt; serves(&rt, &["help", "run"]), Ok(false));
     assert_eq!(rt; serves(&rt, &["-V"]), Ok(false));
+    assert_eq!(rt; serves(&rt, &["drive", "--readers", "1"]), Ok(false));
 }
 
 // Into writers with so much room, the program at the argument ends with status 1, and this much was written.
@@ -76,7 +78,7 @@ fn breaks_off(
     );
 }
 
-const UNWRITTEN: &[u8] = b"error: the output can't be written\n";
+pub(super) const UNWRITTEN: &[u8] = b"error: the output can't be written\n";
 
 #[test]
 fn says_that_the_output_was_not_written(rt: HostRuntime) {

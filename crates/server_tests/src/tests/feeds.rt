@@ -28,7 +28,8 @@ close,3
 bfs,3,a,k,5,6
 comp,3,k,5,6
 core,3,k,5,6
-x,0123456789,0123456789,0123456789,0123456789,0123456789,0123456789,x,x,x,x,x,x,x,x,x,x,x,x,x,x,x,x,x,x,x,x,x,x,x,x,x
+x,7
+y,0123456789,0123456789,0123456789,0123456789,0123456789,0123456789,x,x,x,x,x,x,x,x,x,x,x,x,x,x,x,x,x,x,x,x,x,x,x,x,x
 ";
 
 fn is_edge(kind: &Name, source: &Name, target: &Name) -> bool {
@@ -56,6 +57,7 @@ fn is_op(call: u64, op: &NamedOp) -> bool {
             amount,
             time,
         } => call == 5 && is_edge(kind, source, target) && *amount == -3 && *time == 4,
+        NamedOp::Expire { time } => call == 12 && *time == 7,
     }
 }
 
@@ -90,8 +92,8 @@ fn is_given(call: u64, outcome: &Result<Option<Command>, FeedFault>) -> bool {
         Ok(Some(Command::Query(slot, request))) => *slot == 3 && is_request(call, request),
         Ok(Some(Command::CloseSlot(slot))) => call == 8 && *slot == 3,
         Ok(Some(Command::Commit | Command::Stat | Command::Collect)) => false,
-        Err(_) => (call == 3 || call == 12) && is_fault(outcome, call, FeedWord::BadCommand),
-        Ok(None) => call >= 13,
+        Err(_) => (call == 3 || call == 13) && is_fault(outcome, call, FeedWord::BadCommand),
+        Ok(None) => call >= 14,
     }
 }
 

@@ -31,13 +31,27 @@ fn holds(rt: &impl Abort, appended: Result<(), AllocError>, lines: &str, text: &
 }
 
 // A line of each kind that is no answer, one behind another.
-const EACH_LINE: &str = "commit v=65536 ins=1 upd=2 rem=1 abs=3 ovf=1\nopen 15 v=12\nclose 15\n\
+const EACH_LINE: &str = "commit v=65536 ins=1 upd=2 rem=1 abs=3 ovf=1\n\
+     commit v=7 ins=1 upd=0 rem=0 abs=0 ovf=0 exp=42\ncommit v=8 ins=0 upd=0 rem=0 abs=0 ovf=0 exp=0\n\
+     open 15 v=12\nclose 15\n\
      collect floor=3 recycled=40 retired=500\n\
      stat v=9 names=80 edges=700 free=6000 retired=50000 used=4\n";
 
 const LEVEL_LINES: &str = "bfs 1 reached=2\nann 1\ncat 0\n";
 
 const LABEL_LINES: &str = "comp 1 parts=2\nann ann\nbob bob\ncat ann\n";
+
+// The lines of two batches with expiries.
+fn append_expiries(lines: &mut String) -> Result<(), AllocError> {
+    let outcomes = [
+        Outcome::Expired(2),
+        Outcome::Inserted,
+        Outcome::Expired(0),
+        Outcome::Expired(40),
+    ];
+    commit_line(lines, 7, outcomes.as_slice())?;
+    commit_line(lines, 8, &outcomes[2..3])
+}
 
 // Appends these lines.
 fn append_each(lines: &mut String) -> Result<(), AllocError> {
@@ -52,6 +66,7 @@ fn append_each(lines: &mut String) -> Result<(), AllocError> {
         Outcome::Inserted,
     ];
     commit_line(lines, 65_536, outcomes.as_slice())?;
+    append_expiries(lines)?;
     open_line(lines, 15, 12)?;
     close_line(lines, 15)?;
     let collected = Collected {

@@ -4,6 +4,7 @@ use super::batches::{Op, batch_of, ends_of, name, tell_refused};
 use super::desks::is_applied;
 use super::opened::{Opened, new_store};
 use super::seats::{lent, let_go};
+use super::texts::push_item;
 use graph_model::{AskError, Degree, Name, NamedFilter, Reply, Request};
 use seat_board::Board;
 use std::alloc::{AllocError, Global};
@@ -56,7 +57,8 @@ fn request_of(alloc: Global, text: &str) -> Result<Request, AllocError> {
 fn numbers_text(alloc: Global, rows: &[(Name, u32)]) -> Result<String, AllocError> {
     let mut text = String::new(alloc);
     for row in rows {
-        write!(text, "{} {},", row.0.as_str(), row.1)?;
+        push_item(&mut text, row.0.as_str(), " ")?;
+        push_item(&mut text, row.1, ",")?;
     }
     Ok(text)
 }
@@ -64,7 +66,8 @@ fn numbers_text(alloc: Global, rows: &[(Name, u32)]) -> Result<String, AllocErro
 fn names_text(alloc: Global, rows: &[(Name, Name)]) -> Result<String, AllocError> {
     let mut text = String::new(alloc);
     for row in rows {
-        write!(text, "{} {},", row.0.as_str(), row.1.as_str())?;
+        push_item(&mut text, row.0.as_str(), " ")?;
+        push_item(&mut text, row.1.as_str(), ",")?;
     }
     Ok(text)
 }
@@ -72,25 +75,29 @@ fn names_text(alloc: Global, rows: &[(Name, Name)]) -> Result<String, AllocError
 fn degrees_text(alloc: Global, rows: &[(Name, Degree)]) -> Result<String, AllocError> {
     let mut text = String::new(alloc);
     for row in rows {
-        let Degree {
-            outgoing,
-            incoming,
-            out_weight,
-        } = row.1;
-        write!(
-            text,
-            "{} {outgoing} {incoming} {out_weight},",
-            row.0.as_str()
-        )?;
+        push_item(&mut text, row.0.as_str(), " ")?;
+        push_item(&mut text, row.1.outgoing, " ")?;
+        push_item(&mut text, row.1.incoming, " ")?;
+        push_item(&mut text, row.1.out_weight, ",")?;
     }
     Ok(text)
 }
 
-fn edge_text(alloc: Global, edge: &Edge) -> Result<String, AllocError> {
+fn push_edge(text: &mut String, edge: &Edge) -> Result<(), AllocError> {
     match edge {
-        Some((weight, first, recent)) => format!(in alloc; "{weight} {first} {recent}"),
-        None => String::from_str(alloc, "none"),
+        Some((weight, first, recent)) => {
+            push_item(text, *weight, " ")?;
+            push_item(text, *first, " ")?;
+            push_item(text, *recent, "")
+        }
+        None => text.push_str("none"),
     }
+}
+
+fn edge_text(alloc: Global, edge: &Edge) -> Result<String, AllocError> {
+    let mut text = String::new(alloc);
+    push_edge(&mut text, edge)?;
+    Ok(text)
 }
 
 fn reply_text(alloc: Global, reply: &Reply) -> Result<String, AllocError> {

@@ -4,7 +4,8 @@ use graph_model::{Batch, Name, NamedOp};
 use std::alloc::{AllocError, Global};
 use std::io::Print;
 
-/// An operation: `i` inserts, `a` adds to the weight, `r` removes; its source and target, its weight or amount, its time.
+/// An operation: `i` inserts, `a` adds to the weight, `r` removes, `x` expires; its source and target, its weight or amount, its
+/// time.
 pub(super) type Op = (&'static str, &'static str, &'static str, i64, u64);
 
 /// The edges a to b and b to c.
@@ -37,6 +38,39 @@ const TAIL: [Op; 4] = [
 /// The tail goes.
 const UNTAIL: [Op; 1] = [("r", "c", "d", 0, 0)];
 
+/// Nine sources.
+const NINE: [Op; 9] = [
+    ("i", "a", "j", 1, 1),
+    ("i", "b", "j", 1, 1),
+    ("i", "c", "j", 1, 1),
+    ("i", "d", "j", 1, 1),
+    ("i", "e", "j", 1, 1),
+    ("i", "f", "j", 1, 1),
+    ("i", "g", "j", 1, 1),
+    ("i", "h", "j", 1, 1),
+    ("i", "i", "j", 1, 1),
+];
+
+/// No edge is from before that time.
+const NONE_OLD: [Op; 1] = [("x", "", "", 0, 0)];
+
+/// Edges of two sources, with three times.
+const AGED: [Op; 3] = [
+    ("i", "a", "b", 1, 10),
+    ("i", "a", "c", 2, 20),
+    ("i", "b", "a", 3, 15),
+];
+
+/// Edges from before 15 go, and then an older one comes.
+const EXPIRED: [Op; 2] = [("x", "", "", 0, 15), ("i", "a", "d", 4, 5)];
+
+/// The same, and edges from before 21 go too, after one that stays.
+const EXPIRED_TWICE: [Op; 3] = [
+    ("x", "", "", 0, 15),
+    ("i", "a", "b", 6, 30),
+    ("x", "", "", 0, 21),
+];
+
 /// The operations of that name, and else none.
 pub(super) fn ops_of(name: &str) -> &'static [Op] {
     match name {
@@ -48,6 +82,11 @@ pub(super) fn ops_of(name: &str) -> &'static [Op] {
         "seventeen" => &SEVENTEEN,
         "tail" => &TAIL,
         "untail" => &UNTAIL,
+        "nine" => &NINE,
+        "none old" => &NONE_OLD,
+        "aged" => &AGED,
+        "expired" => &EXPIRED,
+        "expired twice" => &EXPIRED_TWICE,
         _ => &[],
     }
 }
@@ -99,6 +138,9 @@ fn named_operation(op: Op, kind: Name, source: Name, target: Name) -> NamedOp {
 }
 
 fn operation(alloc: Global, kind: &str, op: Op) -> Result<NamedOp, AllocError> {
+    if op.0 == "x" {
+        return Ok(NamedOp::Expire { time: op.4 });
+    }
     let kind = name(alloc, kind)?;
     match ends_of(alloc, op.1, op.2) {
         Ok((source, target)) => Ok(named_operation(op, kind, source, target)),

@@ -1,17 +1,25 @@
 // Drives: readers in threads beside a feeder, which compare what they are answered with the plain answers.
 
+use super::texts::push_item;
 use std::alloc::{AllocError, Global};
 use std::process::Abort;
 use std::sync::Wait;
 use std::thread::Threads;
 use store_drive::{DriveFault, DriveReport, drive};
 
+fn push_report(text: &mut String, report: DriveReport) -> Result<(), AllocError> {
+    text.push_str("readers ")?;
+    push_item(text, report.readers, ", batches ")?;
+    push_item(text, report.batches, ", checked ")?;
+    push_item(text, report.checked, ", wrong ")?;
+    push_item(text, report.wrong, ", last ")?;
+    push_item(text, report.last, "")
+}
+
 fn report_text(alloc: Global, report: DriveReport) -> Result<String, AllocError> {
-    let (readers, batches, last) = (report.readers, report.batches, report.last);
-    let (checked, wrong) = (report.checked, report.wrong);
-    format!(in alloc;
-        "readers {readers}, batches {batches}, checked {checked}, wrong {wrong}, last {last}"
-    )
+    let mut text = String::new(alloc);
+    push_report(&mut text, report)?;
+    Ok(text)
 }
 
 /// What a drive tells: its report, or the word of its fault.

@@ -6,6 +6,7 @@ ghost use Rattle.graph_model.specs.Step.{empty_graph};
 use super::answers::answer_text;
 use super::batches::{batch_of, ops_of};
 use super::stores::apply_to;
+use super::texts::push_item;
 use batch_apply::PassAll;
 use graph_model::Outcome;
 use seat_board::{Board, SeatNo};
@@ -38,11 +39,17 @@ fn moved<J: Naming, R: Wait>(rt: &R, store: &Store<J>, place: Place) -> Place {
     }
 }
 
+fn holds_text(alloc: Global, number: u64) -> Result<String, AllocError> {
+    let mut text = String::from_str(alloc, "holds ")?;
+    push_item(&mut text, number, "")?;
+    Ok(text)
+}
+
 fn place_text(alloc: Global, place: &Place) -> Option<String> {
     match place {
         Place::Free(_) => String::from_str(alloc, "free").ok(),
         Place::Pinned(_) => String::from_str(alloc, "pinned").ok(),
-        Place::Held(session) => { format!(in alloc; "holds {}", session.version().number()).ok() }
+        Place::Held(session) => holds_text(alloc, session.version().number()).ok(),
         Place::Nowhere => None,
     }
 }
@@ -79,26 +86,33 @@ fn letter(outcome: Outcome) -> char {
         Outcome::Removed => 'r',
         Outcome::Absent => 'a',
         Outcome::Overflow => 'o',
+        Outcome::Expired(_) => 'x',
     }
 }
 
-fn letters(alloc: Global, outcomes: &[Outcome]) -> Result<String, AllocError> {
+/// The first letter of an outcome, and behind that of an expiry how many edges it took.
+fn push_outcome(text: &mut String, outcome: Outcome) -> Result<(), AllocError> {
+    text.push(letter(outcome))?;
+    match outcome {
+        Outcome::Expired(count) => push_item(text, count, ""),
+        _ => Ok(()),
+    }
+}
+
+/// A number, and the first letters of outcomes.
+fn receipt_text(alloc: Global, number: u64, outcomes: &[Outcome]) -> Result<String, AllocError> {
     let mut text = String::new(alloc);
+    push_item(&mut text, number, " ")?;
     for outcome in outcomes {
-        text.push(letter(*outcome))?;
+        push_outcome(&mut text, *outcome)?;
     }
     Ok(text)
-}
-
-fn receipt_text(alloc: Global, receipt: &Receipt) -> Option<String> {
-    let letters = letters(alloc, receipt.outcomes.as_slice()).ok()?;
-    format!(in alloc; "{} {}", receipt.number, letters.as_str()).ok()
 }
 
 /// The number of a receipt and the first letters of its outcomes, or the refusal.
 fn receipt_told(alloc: Global, told: Result<Receipt, ApplyError>) -> Option<String> {
     match told {
-        Ok(receipt) => receipt_text(alloc, &receipt),
+        Ok(receipt) => receipt_text(alloc, receipt.number, receipt.outcomes.as_slice()).ok(),
         Err(error) => format!(in alloc; "{error}").ok(),
     }
 }
@@ -115,15 +129,32 @@ fn applied<J: Naming, R: Threads + Wait + Sync>(
 }
 
 /// The floor, how many blocks were recycled, and how many stay retired.
+fn push_collected(text: &mut String, told: Collected) -> Result<(), AllocError> {
+    push_item(text, told.floor, " ")?;
+    push_item(text, told.recycled, " ")?;
+    push_item(text, told.retired, "")
+}
+
 fn collected_text(alloc: Global, told: Collected) -> Option<String> {
-    format!(in alloc; "{} {} {}", told.floor, told.recycled, told.retired).ok()
+    let mut text = String::new(alloc);
+    push_collected(&mut text, told).ok()?;
+    Some(text)
 }
 
 /// The number, how many names and edges there are, and how many blocks are free, retired and used.
+fn push_stat(text: &mut String, told: Stat) -> Result<(), AllocError> {
+    push_item(text, told.number, " ")?;
+    push_item(text, told.names, " ")?;
+    push_item(text, told.edges, " ")?;
+    push_item(text, told.free, " ")?;
+    push_item(text, told.retired, " ")?;
+    push_item(text, told.used, "")
+}
+
 fn stat_text(alloc: Global, told: Stat) -> Option<String> {
-    let (names, edges) = (told.names, told.edges);
-    let (free, retired, used) = (told.free, told.retired, told.used);
-    format!(in alloc; "{} {names} {edges} {free} {retired} {used}", told.number).ok()
+    let mut text = String::new(alloc);
+    push_stat(&mut text, told).ok()?;
+    Some(text)
 }
 
 /// What is told of a line.
@@ -189,6 +220,8 @@ enum Play {
     LentBefore,
     FourVersions,
     Full,
+    Expiring,
+    UsedBlocks,
     Answers,
 }
 
@@ -201,6 +234,8 @@ fn lines_of(play: Play) -> &'static str {
         Play::LentBefore => LENT,
         Play::FourVersions => FOUR_VERSIONS,
         Play::Full => FULL,
+        Play::Expiring => EXPIRING,
+        Play::UsedBlocks => USED_BLOCKS,
         Play::Answers => ANSWERS,
     }
 }
@@ -417,6 +452,48 @@ stat => 5 4 4 12 0 4";
 #[test]
 fn refuses_more_operations_than_free_blocks_until_a_collection(rt: HostRuntime) {
     check_play(&rt, rt.alloc(), Play::Full);
+}
+
+/// Expiries by two workers. Version 2 replaces a's block, and version 3 replaces that one and leaves b without an edge. Both seats
+/// keep what their version has; once they let go, all three replaced blocks are freed. The last expiry finds nothing old.
+const EXPIRING: &str = "apply aged => 1 iii
+seat 1 => pinned
+seat 1 => holds 1
+apply expired => 2 x1i
+stat => 2 4 3 13 1 2
+seat 2 => pinned
+seat 2 => holds 2
+ask 2 edge => none
+ask 2 degrees => a 2 1 6,b 1 0 3,c 0 1 0,d 0 1 0,
+apply expired twice => 3 x1ix2
+stat => 3 4 1 12 3 1
+collect => 1 0 3
+ask 1 edge => 1 10 10
+ask 2 degrees => a 2 1 6,b 1 0 3,c 0 1 0,d 0 1 0,
+seat 1 => free
+seat 2 => free
+collect => 3 3 0
+apply expired => 4 x0i
+stat => 4 4 2 14 1 1";
+
+#[test]
+fn expires_old_edges(rt: HostRuntime) {
+    check_play(&rt, rt.alloc(), Play::Expiring);
+}
+
+/// A batch with an expiry asks for as many blocks more as the last version has: one of the nine sources' blocks is too many for the
+/// seven that are free, though it would take none.
+const USED_BLOCKS: &str = "apply nine => 1 iiiiiiiii
+apply none old => 10 blocks are needed and 7 are free
+stat => 1 10 9 7 0 9
+apply expired => 11 blocks are needed and 7 are free
+apply first => 2 i
+collect => 2 1 0
+stat => 2 10 10 7 0 9";
+
+#[test]
+fn refuses_an_expiry_of_more_used_blocks_than_free_ones(rt: HostRuntime) {
+    check_play(&rt, rt.alloc(), Play::UsedBlocks);
 }
 
 /// A triangle with a tail. Its session is answered of it after the tail was taken away.

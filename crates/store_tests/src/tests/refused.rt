@@ -2,10 +2,11 @@
 // session, which answers rightly then.
 
 use super::answers::answer_text;
-use super::batches::{batch_of, ops_of, tell_refused};
+use super::batches::{Op, batch_of, ops_of, tell_refused};
 use super::desks::{FOUR, apply_to, is_applied};
 use super::opened::{Opened, new_store};
 use super::seats::{lent, let_go};
+use super::texts::push_item;
 use graph_model::{List, Outcome};
 use seat_board::Board;
 use std::alloc::{AllocError, Global};
@@ -15,8 +16,9 @@ use std::sync::Wait;
 use std::thread::Threads;
 use stream_store::{ApplyError, Desk, JournalEntry, Receipt, Seat, Session, Stat};
 
-/// The counts before a batch and after it, and its receipt: its number and its outcomes.
+/// A batch of four operations, the counts before it and after it, and its receipt: its number and its outcomes.
 struct Applied {
+    ops: [Op; 4],
     before: Stat,
     after: Stat,
     number: u64,
@@ -41,8 +43,16 @@ const FILLED: Stat = Stat {
     used: 2,
 };
 
+const REPLACED: Stat = Stat {
+    number: 2,
+    free: 12,
+    retired: 2,
+    ..FILLED
+};
+
 /// The four operations on an empty store.
 const FIRST: Applied = Applied {
+    ops: FOUR,
     before: EMPTY,
     after: FILLED,
     number: 1,
@@ -56,13 +66,9 @@ const FIRST: Applied = Applied {
 
 /// The same once more: both blocks are replaced.
 const SECOND: Applied = Applied {
+    ops: FOUR,
     before: FILLED,
-    after: Stat {
-        number: 2,
-        free: 12,
-        retired: 2,
-        ..FILLED
-    },
+    after: REPLACED,
     number: 2,
     outcomes: [
         Outcome::Updated,
@@ -72,8 +78,34 @@ const SECOND: Applied = Applied {
     ],
 };
 
+/// Both edges expire, and so does the one that comes behind them: the two blocks are dropped, and no block is taken.
+const THIRD: Applied = Applied {
+    ops: [
+        ("x", "", "", 0, 2),
+        ("i", "a", "b", 1, 3),
+        ("r", "b", "c", 0, 0),
+        ("x", "", "", 0, 4),
+    ],
+    before: REPLACED,
+    after: Stat {
+        number: 3,
+        edges: 0,
+        retired: 4,
+        used: 0,
+        ..REPLACED
+    },
+    number: 3,
+    outcomes: [
+        Outcome::Expired(2),
+        Outcome::Inserted,
+        Outcome::Absent,
+        Outcome::Expired(1),
+    ],
+};
+
 fn push_number(text: &mut String, number: u64) -> Result<(), AllocError> {
-    write!(text, " {number}")
+    text.push_str(" ")?;
+    push_item(text, number, "")
 }
 
 fn push_blocks(text: &mut String, blocks: &List<u32>) -> Result<(), AllocError> {
@@ -143,7 +175,8 @@ fn check_accepted<R: Threads + Wait + Sync + Abort>(
     desk: &mut Desk,
     applied: &Applied,
 ) {
-    let receipt = apply_to(rt, desk, batch_of(alloc, FOUR.as_slice())).expect(rt, "a receipt");
+    let batch = batch_of(alloc, applied.ops.as_slice());
+    let receipt = apply_to(rt, desk, batch).expect(rt, "a receipt");
     check_receipt(rt, &receipt, applied);
 }
 
@@ -155,7 +188,7 @@ fn check_batch<R: Threads + Wait + Sync + Abort + Print>(
     journal: &str,
     applied: &Applied,
 ) {
-    match apply_to(rt, desk, batch_of(alloc, FOUR.as_slice())) {
+    match apply_to(rt, desk, batch_of(alloc, applied.ops.as_slice())) {
         Ok(receipt) => check_receipt(rt, &receipt, applied),
         Err(error) => {
             tell_refused(rt);
@@ -179,16 +212,17 @@ fn check_next<R: Threads + Wait + Sync + Abort + Print>(
     }
 }
 
-fn check_both<R: Threads + Wait + Sync + Abort + Print>(rt: &R, alloc: Global, opened: Opened) {
+fn check_all<R: Threads + Wait + Sync + Abort + Print>(rt: &R, alloc: Global, opened: Opened) {
     let Opened { mut desk, .. } = opened;
     check_batch(rt, alloc, &mut desk, "", &FIRST);
     check_next(rt, alloc, &mut desk, &SECOND);
+    check_next(rt, alloc, &mut desk, &THIRD);
 }
 
 #[test]
 fn refused_batches_leave_the_desk(rt: HostRuntime) {
     match new_store(&rt, rt.alloc(), 4, 16) {
-        Some(opened) => check_both(&rt, rt.alloc(), opened),
+        Some(opened) => check_all(&rt, rt.alloc(), opened),
         // The store wasn't opened.
         None => tell_refused(&rt),
     }

@@ -25,8 +25,8 @@ const TURNS: u32 = 10_000_000;
 
 /// A receipt that one thread hands to another.
 #[derive(Drop)]
-struct Handed<J: Naming> {
-    receipt: Receipt,
+pub(super) struct Handed<J: Naming> {
+    pub(super) receipt: Receipt,
     of: PhantomData<J>,
     ghost book_is: { receipt.told.book ≡ J.book },
     ghost opening_is: { receipt.told.version.opening ≡ empty_graph } by { Prim.hlevel (codes, graph_code) },
@@ -49,7 +49,7 @@ struct Sights {
 }
 
 /// Applies a batch, and hands over its receipt where there is one.
-fn feed<J: Naming, R: Threads + Wait + Sync>(
+pub(super) fn feed<J: Naming, R: Threads + Wait + Sync>(
     rt: &R,
     store: &Store<J>,
     slot: &OnceLock<Option<Handed<J>>>,

@@ -4,8 +4,9 @@ ghost use Rattle.graph_model.specs.Graph.{IsContent};
 
 use super::ops::batch_of;
 use super::sames::check_same;
-use super::steps::{empty, first};
-use batch_plan::{PlanError, plan};
+use super::steps::{empty, first, plan_of};
+use super::texts::push_item;
+use batch_plan::PlanError;
 use graph_model::{Batch, Content};
 use graph_version::Version;
 use plain_graph::{PlainError, plain_apply};
@@ -17,7 +18,8 @@ use std::thread::Threads;
 fn kinds(alloc: Global, count: u32) -> Result<String, AllocError> {
     let mut text = String::from_str(alloc, "r,none,a,b ")?;
     for number in 0..count {
-        write!(text, "i,k{number},a,b,1,1 ")?;
+        text.push_str("i,k")?;
+        push_item(&mut text, number, ",a,b,1,1 ")?;
     }
     Ok(text)
 }
@@ -34,7 +36,7 @@ fn check_refused(
     ensures { IsContent content.new }
 {
     assert_eq!(rt;
-        plan(alloc, version, batch, 2).err(),
+        plan_of(alloc, version, batch, 2).err(),
         Some(PlanError::KindsFull)
     );
     assert_eq!(rt;

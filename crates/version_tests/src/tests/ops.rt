@@ -22,7 +22,17 @@ fn push(batch: &mut Batch, op: NamedOp) -> Result<(), FeedWord> {
     }
 }
 
+fn expire(batch: &mut Batch, time: &str) -> Result<(), FeedWord> {
+    match time.parse::<u64>() {
+        Ok(time) => push(batch, NamedOp::Expire { time }),
+        Err(_) => Err(FeedWord::BadTime),
+    }
+}
+
 fn add(alloc: Global, batch: &mut Batch, record: &str) -> Result<(), FeedWord> {
+    if let Some(time) = record.strip_prefix("x,") {
+        return expire(batch, time);
+    }
     match command_of(alloc, record)? {
         Command::Op(op) => push(batch, op),
         _ => Err(FeedWord::BadCommand),

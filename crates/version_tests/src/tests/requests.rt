@@ -1,6 +1,7 @@
 // Requests from text, and replies as text.
 
 use super::ops::command_of;
+use super::texts::push_item;
 use feed_csv::{Command, FeedWord};
 use graph_model::{Degree, Name, Reply, Request, VertexId};
 use std::alloc::{AllocError, Global};
@@ -17,7 +18,8 @@ pub(super) fn request_of(alloc: Global, record: &str) -> Result<Request, FeedWor
 fn named_numbers(alloc: Global, rows: &[(Name, u32)]) -> Result<String, AllocError> {
     let mut text = String::new(alloc);
     for row in rows {
-        write!(text, "{} {},", row.0.as_str(), row.1)?;
+        push_item(&mut text, row.0.as_str(), " ")?;
+        push_item(&mut text, row.1, ",")?;
     }
     Ok(text)
 }
@@ -25,33 +27,42 @@ fn named_numbers(alloc: Global, rows: &[(Name, u32)]) -> Result<String, AllocErr
 fn named_names(alloc: Global, rows: &[(Name, Name)]) -> Result<String, AllocError> {
     let mut text = String::new(alloc);
     for row in rows {
-        write!(text, "{} {},", row.0.as_str(), row.1.as_str())?;
+        push_item(&mut text, row.0.as_str(), " ")?;
+        push_item(&mut text, row.1.as_str(), ",")?;
     }
     Ok(text)
 }
 
 fn write_degree(text: &mut String, degree: &Degree) -> Result<(), AllocError> {
-    write!(
-        text,
-        "{} {} {},",
-        degree.outgoing, degree.incoming, degree.out_weight
-    )
+    push_item(text, degree.outgoing, " ")?;
+    push_item(text, degree.incoming, " ")?;
+    push_item(text, degree.out_weight, ",")
 }
 
 fn named_degrees(alloc: Global, rows: &[(Name, Degree)]) -> Result<String, AllocError> {
     let mut text = String::new(alloc);
     for row in rows {
-        write!(text, "{} ", row.0.as_str())?;
+        push_item(&mut text, row.0.as_str(), " ")?;
         write_degree(&mut text, &row.1)?;
     }
     Ok(text)
 }
 
-fn edge_text(alloc: Global, edge: &Option<(i64, u64, u64)>) -> Result<String, AllocError> {
+fn write_edge(text: &mut String, edge: &Option<(i64, u64, u64)>) -> Result<(), AllocError> {
     match edge {
-        Some((weight, first, recent)) => format!(in alloc; "{weight} {first} {recent}"),
-        None => String::from_str(alloc, "none"),
+        Some((weight, first, recent)) => {
+            push_item(text, *weight, " ")?;
+            push_item(text, *first, " ")?;
+            push_item(text, *recent, "")
+        }
+        None => text.push_str("none"),
     }
+}
+
+fn edge_text(alloc: Global, edge: &Option<(i64, u64, u64)>) -> Result<String, AllocError> {
+    let mut text = String::new(alloc);
+    write_edge(&mut text, edge)?;
+    Ok(text)
 }
 
 /// A reply's rows.
@@ -69,7 +80,7 @@ pub(super) fn reply_text(alloc: Global, reply: &Reply) -> Result<String, AllocEr
 pub(super) fn write_levels(text: &mut String, levels: &[Option<u32>]) -> Result<(), AllocError> {
     for level in levels {
         match level {
-            Some(level) => write!(text, "{level},")?,
+            Some(level) => push_item(text, *level, ",")?,
             None => text.push_str("-,")?,
         }
     }
@@ -78,14 +89,14 @@ pub(super) fn write_levels(text: &mut String, levels: &[Option<u32>]) -> Result<
 
 pub(super) fn write_labels(text: &mut String, labels: &[VertexId]) -> Result<(), AllocError> {
     for label in labels {
-        write!(text, "{},", label.0)?;
+        push_item(text, label.0, ",")?;
     }
     Ok(())
 }
 
 pub(super) fn write_numbers(text: &mut String, numbers: &[u32]) -> Result<(), AllocError> {
     for number in numbers {
-        write!(text, "{number},")?;
+        push_item(text, *number, ",")?;
     }
     Ok(())
 }

@@ -1,5 +1,6 @@
 // A version against the content that the plain application leaves.
 
+use super::texts::push_item;
 use edge_block::Block;
 use graph_model::{Content, Edge, Filter, Name, VertexId};
 use graph_version::Version;
@@ -119,9 +120,10 @@ const EVERY: Filter = Filter {
 
 // A block's kind and its targets, in slot order.
 fn block_text(alloc: Global, block: &Block) -> Result<String, AllocError> {
-    let mut text = format!(in alloc; " {}:", block.kind().0)?;
+    let mut text = String::from_str(alloc, " ")?;
+    push_item(&mut text, block.kind().0, ":")?;
     for edge in block.select(&EVERY) {
-        text.push_str(format!(in alloc; "{},", edge.target)?.as_str())?;
+        push_item(&mut text, edge.target, ",")?;
     }
     Ok(text)
 }

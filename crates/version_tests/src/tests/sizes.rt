@@ -5,6 +5,7 @@ ghost use Rattle.graph_model.specs.Graph.{IsContent};
 
 use super::sames::{check_same, row_text};
 use super::steps::{empty, first, next, plain};
+use super::texts::push_item;
 use graph_model::{Batch, Content, NamedOp, VertexId};
 use graph_version::Version;
 use std::alloc::{AllocError, Global};
@@ -14,7 +15,9 @@ use std::thread::Threads;
 // The edge from the vertex of a number to the next one.
 fn write_link(text: &mut String, number: u32) -> Result<(), AllocError> {
     let target = number.saturating_add(1);
-    write!(text, "i,k,v{number},v{target},1,7 ")
+    text.push_str("i,k,v")?;
+    push_item(text, number, ",v")?;
+    push_item(text, target, ",1,7 ")
 }
 
 // Links from these vertices.
@@ -142,7 +145,8 @@ fn shares_names_and_rows_at_the_ends_of_pieces(rt: HostRuntime) {
 pub(super) fn star(alloc: Global, targets: u32) -> Result<String, AllocError> {
     let mut text = String::new(alloc);
     for number in 0..targets {
-        write!(text, "i,k,a,v{number},1,7 ")?;
+        text.push_str("i,k,a,v")?;
+        push_item(&mut text, number, ",1,7 ")?;
     }
     Ok(text)
 }
@@ -264,7 +268,9 @@ fn shares_batches_at_the_ends_of_pieces(rt: HostRuntime) {
 // The removal of the link before that of a number.
 fn write_cut(text: &mut String, number: u32) -> Result<(), AllocError> {
     let source = number.saturating_sub(1);
-    write!(text, "r,k,v{source},v{number} ")
+    text.push_str("r,k,v")?;
+    push_item(text, source, ",v")?;
+    push_item(text, number, " ")
 }
 
 // So many operations: links from one vertex after another, and in every third's place the removal of the one before it.

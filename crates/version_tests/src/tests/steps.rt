@@ -1,12 +1,16 @@
 // Lines of batches: each is planned and applied by workers, and applied plainly.
 
-ghost use Rattle.std.specs.Prelude.{◌<◌};
+ghost use Rattle.std.specs.Prelude.{◌<◌, IfOk, OnOk};
+ghost use Rattle.row_pages.specs.Rows.{row_of};
+ghost use Rattle.graph_version.specs.Versions.{content};
+ghost use Rattle.batch_plan.specs.Planned.{IsPlan, MeetsNeitherLimit};
 ghost use Rattle.graph_model.specs.Graph.{IsContent};
 
 use super::ops::batch_of;
 use super::sames::{check_same, row_text};
+use super::texts::push_item;
 use batch_apply::{Applied, Gate, PassAll, apply};
-use batch_plan::plan;
+use batch_plan::{Plan, PlanError, old_rows, plan};
 use blank_blocks::fresh_blocks;
 use graph_model::{Batch, Content, List, Outcome, VertexId};
 use graph_version::Version;
@@ -28,6 +32,21 @@ pub(super) fn empty(alloc: Global) -> Content
     }
 }
 
+/// The plan of a batch over a version for so many workers.
+pub(super) fn plan_of(
+    alloc: Global,
+    version: &Version,
+    batch: &Batch,
+    workers: usize,
+) -> Result<Plan, PlanError>
+    requires workers { 0 < workers }
+    ensures plan { IfOk result (IsPlan workers batch.now (content version.now) (row_of version.now.rows)) }
+    ensures limits { OnOk result (MeetsNeitherLimit batch.now (content version.now)) }
+{
+    let old = old_rows(alloc, version, batch)?;
+    plan(alloc, version, batch, &old, workers)
+}
+
 /// What a batch leaves of a version, planned for so many workers, which pass a gate.
 pub(super) fn applied_batch<R: Threads + Sync, G: Gate + Sync>(
     rt: &R,
@@ -42,10 +61,12 @@ pub(super) fn applied_batch<R: Threads + Sync, G: Gate + Sync>(
     if version.number() >= 65_536 {
         return None;
     }
-    let blocks = fresh_blocks(alloc, version, batch.len())?;
-    let Ok(plan) = plan(alloc, version, &batch, workers) else {
+    let plan = plan_of(alloc, version, &batch, workers).ok()?;
+    let count = plan.blocks_needed();
+    if count > 4096 {
         return None;
-    };
+    }
+    let blocks = fresh_blocks(alloc, version, count)?;
     let Ok(batch) = Arc::new(alloc, batch) else {
         return None;
     };
@@ -156,14 +177,18 @@ fn letter(outcome: Outcome) -> char {
         Outcome::Removed => 'r',
         Outcome::Absent => 'a',
         Outcome::Overflow => 'o',
+        Outcome::Expired(_) => 'x',
     }
 }
 
-/// The first letters of outcomes, in order.
+/// The first letters of outcomes, in order, an expiry's with how many edges it took.
 pub(super) fn letters(alloc: Global, outcomes: &[Outcome]) -> Result<String, AllocError> {
     let mut text = String::new(alloc);
     for outcome in outcomes {
         text.push(letter(*outcome))?;
+        if let Outcome::Expired(count) = outcome {
+            text.push_str(format!(in alloc; "{count}")?.as_str())?;
+        }
     }
     Ok(text)
 }
@@ -172,7 +197,10 @@ pub(super) fn letters(alloc: Global, outcomes: &[Outcome]) -> Result<String, All
 fn told(alloc: Global, next: &Applied) -> Result<String, AllocError> {
     let mut text = letters(alloc, &next.outcomes)?;
     let (taken, dropped, unused) = (next.taken.len(), next.dropped.len(), next.unused.len());
-    text.push_str(format!(in alloc; " {taken} {dropped} {unused}")?.as_str())?;
+    text.push_str(" ")?;
+    push_item(&mut text, taken, " ")?;
+    push_item(&mut text, dropped, " ")?;
+    push_item(&mut text, unused, "")?;
     text.push_str(row_text(alloc, &next.version, VertexId(0))?.as_str())?;
     Ok(text)
 }

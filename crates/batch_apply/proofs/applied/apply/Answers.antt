@@ -1,38 +1,39 @@
-use Rattle.std.proofs.Common.{◌≡◌, ℕ, ◌+◌, ◌%◌, ◌^◌, List, length, replicate, arith, sym, ap, ◌∙◌, subst}
+use Rattle.std.proofs.Common.{◌≡◌, ℕ, ◌+◌, ◌%◌, ◌^◌, ◌≤◌, List, length, replicate, zip, sym, ap, ◌∙◌, subst}
 use Rattle.std.specs.Prelude.{count_by}
+use Rattle.std.specs.List.{sum_by, AllZip}
+use Rattle.std.proofs.lemmas.List.{length-map}
+use Rattle.graph_model.specs.Limits.{operation_limit}
 use Rattle.std.specs.FinMap.{len}
 use Rattle.graph_model.specs.declared.batches.NamedOp.{NamedOp}
 use Rattle.graph_model.specs.Step.{after_all, outcomes}
 use Rattle.graph_model.specs.declared.batches.Outcome.TheVariants.{Absent}
-use Rattle.block_layout.specs.Batches.{Resolved, resolved}
+use Rattle.block_layout.specs.Batches.{resolved}
+use Rattle.row_pages.specs.Rows.{row_of}
 use Rattle.batch_pages.specs.Batches.{batch_value}
 use Rattle.shard_work.specs.RowBlocks.{numbers_of}
-use Rattle.graph_version.specs.Versions.{VersionView, content}
+use Rattle.graph_version.specs.Versions.{VersionView, content, layout_of}
 use Rattle.graph_version.specs.Drafts.{DraftView}
-use Rattle.batch_apply.specs.Counts.{is_inserted, is_removed}
+use Rattle.batch_apply.specs.Counts.{is_inserted, taken_away}
 use Rattle.batch_apply.specs.Applied.{ReplacesRows, written_from}
 use Rattle.batch_apply.proofs.EdgeCounts.{len_after_all}
-use Rattle.batch_apply.proofs.Dealt.{few_steps, length-resolved, dealt_ready}
+use Rattle.batch_apply.specs.Jobs.{IsDealt}
+use Rattle.batch_apply.proofs.Dealt.{needs_of, dealt_ready}
 use Rattle.batch_apply.proofs.Applying.{rows_left, version_made, outcomes_made, applied_made}
 use Rattle.batch_apply.proofs.Applying.{draft_is, draft_among, draft_whole, edges_left}
 use Rattle.batch_apply.proofs.applied.apply.Goals as goal
 
-pub deal-requires : goal.deal-requires
-deal-requires g c =
-    let v : VersionView = c.args.version.now in
-    let ops : List NamedOp = batch_value c.args.batch in
-    let rs : List Resolved = resolved ops (content v).names (content v).kinds in
-    let n : ℕ = c.requires.plan.0 in
-    let few = few_steps n rs 0 n c.args.plan.shards.items c.requires.plan.2.shards in
-    let long = length-resolved ops (content v).names (content v).kinds in
-    omega (arith, few, long, c.requires.blocks)
+pub deal-requires-clause-long : goal.deal-requires-clause-long
+deal-requires-clause-long g c = ap length (c.as_slice.ensures.value ∙ c.requires.plan.2.needs)
+    ∙ length-map c.args.plan.shards.items (needs_of (row_of c.args.version.now.rows))
 
 pub do_all-requires-after_bounds : goal.do_all-requires-after_bounds
 do_all-requires-after_bounds g c κs within =
     let v : VersionView = c.args.version.now in
     let n : ℕ = c.requires.plan.0 in
-    dealt_ready n (resolved (batch_value c.args.batch) (content v).names (content v).kinds) 0 n c.args.plan.shards.items
-    c.in_ok-jobs.jobs.items c.requires.plan.2.shards c.in_ok-jobs.ensures.jobs
+    dealt_ready n (resolved (batch_value c.args.batch) (content v).names (content v).kinds) (layout_of v.rows) (row_of v.rows) 0 n
+    c.args.plan.shards.items c.args.plan.needs.items c.in_ok-jobs.jobs.items c.requires.plan.2.needs c.requires.plan.2.shards
+    (subst (λ ns. AllZip IsDealt (zip c.args.plan.shards.items ns) c.in_ok-jobs.jobs.items) c.as_slice.ensures.value
+    c.in_ok-jobs.ensures.jobs)
 
 pub finish_counted-requires-clause-whole : goal.finish_counted-requires-clause-whole
 finish_counted-requires-clause-whole g c =
@@ -49,11 +50,15 @@ finish_counted-requires-clause-whole g c =
     draft_whole v ops c.args.plan.names c.args.plan.kinds values d0 d1 d2 c.in_ok-draft.draft c.in_ok-over.ensures
     c.set_names-draft.ensures e2 c.in_ok-draft.ensures
     c.requires.plan.2.names c.requires.plan.2.kinds
-    (version_made v ops c.requires.plan.0 c.args.plan.shards.items c.in_ok-jobs.jobs.items c.in_ok-dones.dones.items
+    (version_made v ops c.requires.plan.0 c.args.plan.shards.items c.args.plan.needs.items c.in_ok-jobs.jobs.items
+    c.in_ok-dones.dones.items
     (numbers_of c.args.blocks.items) (numbers_of c.deal.new.blocks.items)
-    c.requires.plan.1 c.number-number.ensures.version c.requires.plan.2.shards c.in_ok-jobs.ensures.jobs c.in_ok-dones.ensures
+    c.requires.plan.1 c.number-number.ensures.version c.requires.plan.2.shards c.requires.plan.2.needs
+    (subst (λ ns. AllZip IsDealt (zip c.args.plan.shards.items ns) c.in_ok-jobs.jobs.items) c.as_slice.ensures.value
+    c.in_ok-jobs.ensures.jobs) c.in_ok-dones.ensures
     c.in_ok-jobs.ensures.numbers
-    c.requires.distinct c.requires.unlisted c.requires.limits c.requires.few d2.version.rows among)
+    c.requires.distinct c.requires.unlisted c.requires.limits c.requires.few (subst (λ ops. length ops ≤ operation_limit) c.deref.ensures
+    c.len-operations.ensures.batch.few) d2.version.rows among)
 
 pub finish_counted-requires-clause-edges : goal.finish_counted-requires-clause-edges
 finish_counted-requires-clause-edges g c =
@@ -72,12 +77,16 @@ finish_counted-requires-clause-edges g c =
     let told : c.in_ok-all.all.outcomes.items ≡ outcomes ops (content v) = c.in_ok-all.ensures.outcomes
     ∙ ap (λ n. written_from c.in_ok-dones.dones.items (replicate n Absent))
     (c.len-operations.ensures.count ∙ ap length c.deref.ensures)
-    ∙ outcomes_made v ops c.requires.plan.0 c.args.plan.shards.items c.in_ok-jobs.jobs.items c.in_ok-dones.dones.items
+    ∙ outcomes_made v ops c.requires.plan.0 c.args.plan.shards.items c.args.plan.needs.items c.in_ok-jobs.jobs.items
+    c.in_ok-dones.dones.items
     (numbers_of c.args.blocks.items) (numbers_of c.deal.new.blocks.items)
-    c.requires.plan.1 c.number-number.ensures.version c.requires.plan.2.shards c.in_ok-jobs.ensures.jobs c.in_ok-dones.ensures
+    c.requires.plan.1 c.number-number.ensures.version c.requires.plan.2.shards c.requires.plan.2.needs
+    (subst (λ ns. AllZip IsDealt (zip c.args.plan.shards.items ns) c.in_ok-jobs.jobs.items) c.as_slice.ensures.value
+    c.in_ok-jobs.ensures.jobs) c.in_ok-dones.ensures
     c.in_ok-jobs.ensures.numbers
-    c.requires.distinct c.requires.unlisted c.requires.limits c.requires.few d2.version.rows among in
-    let as_many : len (after_all ops (content v)).edges + count_by is_removed c.deref-2.result.now
+    c.requires.distinct c.requires.unlisted c.requires.limits c.requires.few (subst (λ ops. length ops ≤ operation_limit) c.deref.ensures
+    c.len-operations.ensures.batch.few) d2.version.rows among in
+    let as_many : len (after_all ops (content v)).edges + sum_by taken_away c.deref-2.result.now
     ≡ c.edge_count.result + count_by is_inserted c.deref-2.result.now
     = rw (c.deref-2.ensures.value, told, c.edge_count.ensures) (len_after_all ops (content v)) in
     c.edges_after-edges.ensures (len (after_all ops (content v)).edges) as_many ∙ ap (λ (n : ℕ). n % 2 ^ 64) (sym left)
@@ -96,11 +105,15 @@ returns g c =
     c.set_names-draft.ensures e2 c.in_ok-draft.ensures in
     let made = draft_is v ops c.args.plan.names c.args.plan.kinds values d0 d1 d2 c.in_ok-draft.draft c.in_ok-over.ensures
     c.set_names-draft.ensures e2 c.in_ok-draft.ensures in
-    applied_made v ops c.requires.plan.0 c.args.plan.shards.items c.in_ok-jobs.jobs.items c.in_ok-dones.dones.items
+    applied_made v ops c.requires.plan.0 c.args.plan.shards.items c.args.plan.needs.items c.in_ok-jobs.jobs.items
+    c.in_ok-dones.dones.items
     (numbers_of c.args.blocks.items) (numbers_of c.deal.new.blocks.items)
-    c.requires.plan.1 c.number-number.ensures.version c.requires.plan.2.shards c.in_ok-jobs.ensures.jobs c.in_ok-dones.ensures
+    c.requires.plan.1 c.number-number.ensures.version c.requires.plan.2.shards c.requires.plan.2.needs
+    (subst (λ ns. AllZip IsDealt (zip c.args.plan.shards.items ns) c.in_ok-jobs.jobs.items) c.as_slice.ensures.value
+    c.in_ok-jobs.ensures.jobs) c.in_ok-dones.ensures
     c.in_ok-jobs.ensures.numbers
-    c.requires.distinct c.requires.unlisted c.requires.limits c.requires.few d2.version.rows among
+    c.requires.distinct c.requires.unlisted c.requires.limits c.requires.few (subst (λ ops. length ops ≤ operation_limit) c.deref.ensures
+    c.len-operations.ensures.batch.few) d2.version.rows among
     _
     (c.finish_counted.ensures ∙ ap (λ (d : DraftView). d.version) made)
     (c.in_ok-all.ensures.outcomes ∙ ap (λ n. written_from c.in_ok-dones.dones.items (replicate n Absent))

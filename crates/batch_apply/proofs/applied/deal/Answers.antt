@@ -1,17 +1,57 @@
-use Rattle.std.proofs.Common.{◌≡◌, ◌+◌, ◌++◌, ◌∷◌, [], ℕ, List, flat_map, count_by, arith, refl}
-use Rattle.std.proofs.Common.{sym, ap, ◌∙◌, subst}
-use Rattle.std.specs.List.{AllZip}
-use Rattle.std.proofs.lemmas.List.Sums.{sum_by-append, sum_by-cons}
+use Rattle.std.proofs.Common.{◌≡◌, ◌<◌, ◌+◌, ◌++◌, ◌∷◌, [], ℕ, List, flat_map, count_by, length, length-append, zip, take, get_or}
+use Rattle.std.proofs.Common.{slice_index_or, arith, refl, sym, ap, ◌∙◌, subst}
+use Rattle.std.specs.List.{sum_by, AllZip}
+use Rattle.std.proofs.lemmas.Iterator.Adapters.{YieldsList-from_vec}
+use Rattle.std.proofs.lemmas.Iterator.Consumers.{YieldsList-turn}
+use Rattle.std.proofs.lemmas.List.Sums.{sum_by-take-le}
 use Rattle.shard_work.specs.RowBlocks.{numbers_of}
-use Rattle.batch_apply.specs.Jobs.{steps_of, IsDealt}
+use Rattle.shard_work.specs.declared.shard.Shard.{Shard}
+use Rattle.batch_apply.specs.Jobs.{IsDealt}
 use Rattle.batch_apply.specs.declared.workers.Job.{Job}
+use Rattle.batch_apply.proofs.Dealt.{sum_taken, zip_push}
 use Rattle.batch_apply.proofs.Halves.{zip_more}
 use Rattle.batch_apply.proofs.Kept.{count_append}
 use Rattle.batch_apply.proofs.Loops.{flat_more}
 use Rattle.batch_apply.proofs.applied.deal.Goals as goal
 
+-- what the plan's next shard needs is left
+pub take_last-requires : goal.take_last-requires
+take_last-requires c =
+    let needs : List ℕ = c.args.needs.now in
+    let i : ℕ = length c.loop-shard.yielded in
+    let start = c.into_iter-shard-iterator.ensures.into_iter_gives in
+    let turn = YieldsList-turn (YieldsList-from_vec {s = c.into_iter-shard-iterator.result} c.args.shards.items start.0
+    (start.1 ∙ c.args.shards.ok.0))
+    c.loop-shard.yielded c.loop-shard.shard-iterator c.loop-shard.yielded_by c.next.result c.next.new.self
+    c.in-Some.shard c.in-Some.is c.next.ensures.steps in
+    let place : c.len-in-loop-shard.result ≡ i =
+    omega (arith, c.len-in-loop-shard.ensures, c.loop-shard.jobs.ok.0, c.loop-shard.invariant.many) in
+    let need : slice_index_or needs c.len-in-loop-shard.result 0 ≡ get_or needs i 0 = ap (λ (n : ℕ). slice_index_or needs n 0) place in
+    omega (
+      arith,
+      need,
+      sum_taken i needs 0 (omega (arith, turn.0, c.requires.long)),
+      sum_by-take-le (λ (n : ℕ). n) needs (i + 1),
+      c.loop-shard.invariant.left,
+      c.requires.blocks,
+    )
+
 pub loop-shard-preserved : goal.loop-shard-preserved
 loop-shard-preserved c =
+    let needs : List ℕ = c.args.needs.now in
+    let yielded : List Shard = c.loop-shard.yielded in
+    let s : Shard = c.in-Some.shard in
+    let i : ℕ = length yielded in
+    let start = c.into_iter-shard-iterator.ensures.into_iter_gives in
+    let turn = YieldsList-turn (YieldsList-from_vec {s = c.into_iter-shard-iterator.result} c.args.shards.items start.0
+    (start.1 ∙ c.args.shards.ok.0))
+    yielded c.loop-shard.shard-iterator c.loop-shard.yielded_by c.next.result c.next.new.self s c.in-Some.is
+    c.next.ensures.steps in
+    let within : i < length needs = omega (arith, turn.0, c.requires.long) in
+    let place : c.len-in-loop-shard.result ≡ i =
+    omega (arith, c.len-in-loop-shard.ensures, c.loop-shard.jobs.ok.0, c.loop-shard.invariant.many) in
+    let need : slice_index_or needs c.len-in-loop-shard.result 0 ≡ get_or needs i 0 = ap (λ (n : ℕ). slice_index_or needs n 0) place in
+    let more : length (yielded ++ s ∷ []) ≡ i + 1 = length-append yielded (s ∷ []) in
     let job : Job = record {
       worker = c.len-in-loop-shard-2.result;
       shard =
@@ -19,26 +59,29 @@ loop-shard-preserved c =
     } in
     let fresh_of : Job → List ℕ = λ j. numbers_of j.shard.fresh.items in
     record {
-      jobs = subst (λ js. AllZip IsDealt (c.loop-shard.yielded ++ c.in-Some.shard ∷ []) js) (sym c.in_ok-push.ensures.items)
-          (zip_more IsDealt c.loop-shard.yielded c.loop-shard.jobs.items c.in-Some.shard job c.loop-shard.invariant.jobs
+      jobs = subst (λ js. AllZip IsDealt (zip (yielded ++ s ∷ []) needs) js) (sym c.in_ok-push.ensures.items)
+          (subst (λ ps. AllZip IsDealt ps (c.loop-shard.jobs.items ++ job ∷ [])) (sym (zip_push yielded s needs 0 within))
+          (zip_more IsDealt (zip yielded needs) c.loop-shard.jobs.items (s, get_or needs i 0) job c.loop-shard.invariant.jobs
           (record {
             sources_are = refl;
             steps_are = refl;
-            fresh =
-                omega (arith, c.in_ok-fresh.ensures.taken, c.len-in-loop-shard.ensures, c.in-Some.shard.steps.ok.0);
-          }));
-      left =
-          (let one = sum_by-append steps_of c.loop-shard.yielded (c.in-Some.shard ∷ []) in
-          let two = sum_by-cons steps_of c.in-Some.shard [] in
-          omega (
-            arith,
-            one,
-            two,
-            c.in_ok-fresh.ensures.left,
-            c.loop-shard.invariant.left,
-            c.len-in-loop-shard.ensures,
-            c.in-Some.shard.steps.ok.0,
-          ));
+            fresh = c.in_ok-fresh.ensures.taken ∙ need;
+          })));
+      many = omega (
+        arith,
+        more,
+        ap length c.in_ok-push.ensures.items,
+        length-append c.loop-shard.jobs.items (job ∷ []),
+        c.loop-shard.invariant.many,
+      );
+      left = omega (
+        arith,
+        need,
+        ap (λ (n : ℕ). sum_by (λ k. k) (take n needs)) more,
+        sum_taken i needs 0 within,
+        c.in_ok-fresh.ensures.left,
+        c.loop-shard.invariant.left,
+      );
       numbers = λ q.
           (let jobs : count_by q (flat_map fresh_of c.push.new.self.items)
           ≡ count_by q (flat_map fresh_of c.loop-shard.jobs.items) + count_by q (numbers_of c.in_ok-fresh.fresh.items) =

@@ -1,13 +1,14 @@
-use Rattle.std.proofs.Common.{◌≡◌, ◌+◌, ℕ, Bool, length, flat_map, count_by}
+use Rattle.std.proofs.Common.{◌≡◌, ◌+◌, ℕ, Bool, length, flat_map, count_by, zip, take}
 use Rattle.std.specs.List.{sum_by, AllZip}
 use Rattle.shard_work.specs.RowBlocks.{numbers_of}
-use Rattle.batch_apply.specs.Jobs.{steps_of, IsDealt}
+use Rattle.batch_apply.specs.Jobs.{IsDealt}
 use Rattle.batch_apply.proofs.applied.deal.Given as goal
 
 abbrev pub invariant-loop-shard : goal.invariant-loop-shard
 invariant-loop-shard l = record {
-  jobs : AllZip IsDealt l.yielded l.jobs.items;
-  left : length l.blocks.items + sum_by steps_of l.yielded ≡ length l.initial.blocks.items;
+  jobs : AllZip IsDealt (zip l.yielded l.needs) l.jobs.items;
+  many : length l.jobs.items ≡ length l.yielded;
+  left : length l.blocks.items + sum_by (λ n. n) (take (length l.yielded) l.needs) ≡ length l.initial.blocks.items;
   numbers : (q : ℕ → Bool) → count_by q (flat_map (λ j. numbers_of j.shard.fresh.items) l.jobs.items) + count_by q
       (numbers_of l.blocks.items) ≡ count_by q (numbers_of l.initial.blocks.items);
 }

@@ -1,7 +1,9 @@
+use Rattle.std.proofs.Common.{rules, All, sym, subst}
 use Rattle.std.proofs.lemmas.Result.{IfOk-at_ok}
+use Rattle.std.proofs.lemmas.List.Elements.{All-take, All-drop}
 use Rattle.row_pages.specs.Rows.{row_of}
 use Rattle.shard_work.specs.Done.{IsShardDone}
-use Rattle.batch_apply.specs.Jobs.{AreDone}
+use Rattle.batch_apply.specs.Jobs.{IsShard, AreDone}
 use Rattle.batch_apply.specs.declared.workers.Job.{Job}
 use Rattle.shard_work.specs.declared.shard.ShardDone.{ShardDone}
 use Rattle.batch_apply.proofs.Halves.{zip_halves}
@@ -15,3 +17,16 @@ returns g t c =
     c.in_ok-done.ensures
     (IfOk-at_ok (λ v. AreDone rows c.split_off.new.self.items v.items) c.in_ok-all.was c.join-b.ensures.second)
     (IfOk-at_ok (λ v. AreDone rows c.in_ok-high.high.items v.items) c.in_ok-rest.was c.join-b.ensures.first)
+
+-- the shards of each part of the jobs can be worked on
+pub join-b-requires-after_bounds : goal.join-b-requires-after_bounds
+join-b-requires-after_bounds g t c κs within =
+    let rows = row_of c.args.version.now.rows in
+    let cut = c.in_ok-high.ensures in
+    let high : All (λ j. IsShard rows j.shard) c.in_ok-high.high.items =
+    subst (λ js. All (λ (j : Job). IsShard rows j.shard) js) (sym cut.tail)
+    (All-drop (λ (j : Job). IsShard rows j.shard) c.in-Some.place c.args.low.items c.requires) in
+    let low : All (λ j. IsShard rows j.shard) c.split_off.new.self.items =
+    subst (λ js. All (λ (j : Job). IsShard rows j.shard) js) (sym cut.items)
+    (All-take (λ (j : Job). IsShard rows j.shard) c.in-Some.place c.args.low.items c.requires) in
+    search rules

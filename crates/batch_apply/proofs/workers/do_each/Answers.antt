@@ -1,16 +1,27 @@
-use Rattle.std.proofs.Common.{◌++◌, ◌∷◌, [], sym, subst}
+use Rattle.std.proofs.Common.{◌++◌, ◌∷◌, [], length, sym, ◌∙◌, subst}
+use Rattle.std.proofs.lemmas.Iterator.Adapters.{YieldsList-from_vec}
+use Rattle.std.proofs.lemmas.Iterator.Consumers.{YieldsList-turn}
 use Rattle.row_pages.specs.Rows.{row_of}
 use Rattle.shard_work.specs.Done.{IsShardDone}
 use Rattle.shard_work.specs.declared.shard.ShardDone.{ShardDone}
-use Rattle.batch_apply.specs.Jobs.{AreDone}
+use Rattle.batch_apply.specs.Jobs.{IsShard, AreDone}
 use Rattle.batch_apply.specs.declared.workers.Job.{Job}
 use Rattle.batch_apply.proofs.Halves.{zip_more}
 use Rattle.batch_apply.proofs.workers.do_each.Goals as goal
+
+pub do_one-requires : goal.do_one-requires
+do_one-requires g c =
+    let start = c.into_iter-job-iterator.ensures.into_iter_gives in
+    let turn = YieldsList-turn (YieldsList-from_vec {s = c.into_iter-job-iterator.result} c.args.jobs.items start.0
+    (start.1 ∙ c.args.jobs.ok.0)) c.loop-job.yielded c.loop-job.job-iterator c.loop-job.yielded_by c.next.result
+    c.next.new.self c.in-Some.job c.in-Some.is c.next.ensures.steps in
+    subst (λ (j : Job). IsShard (row_of c.args.version.now.rows) j.shard) (sym turn.1)
+    (c.requires (length c.loop-job.yielded) c.in-Some.job turn.0)
 
 pub loop-job-preserved : goal.loop-job-preserved
 loop-job-preserved g c =
     subst (λ ds. AreDone (row_of c.args.version.now.rows) (c.loop-job.yielded ++ c.in-Some.job ∷ []) ds)
     (sym c.in_ok-push.ensures.items)
     (zip_more (λ (j : Job) (d : ShardDone). IsShardDone (row_of c.args.version.now.rows) j.shard d) c.loop-job.yielded
-    c.loop-job.done.items c.in-Some.job c.in_ok-work_on.field-0
-    c.loop-job.invariant c.in_ok-work_on.ensures)
+    c.loop-job.done.items c.in-Some.job c.in_ok-do_one.field-0
+    c.loop-job.invariant c.in_ok-do_one.ensures)

@@ -1,8 +1,14 @@
-use Rattle.std.proofs.Common.{map}
+use Rattle.std.proofs.Common.{◌≡◌, ◌-◌, ◌^◌, ℕ, List, map, min}
 use Rattle.std.specs.List.{range_with_len, AllZip}
+use Rattle.edge_block.specs.Slots.{BlockView}
+use Rattle.shard_work.specs.Done.{layout_by, sources_in}
+use Rattle.shard_work.specs.Spending.{needed}
 use Rattle.batch_plan.specs.Plan.{shown}
-use Rattle.batch_plan.specs.Shards.{IsShardOf}
+use Rattle.batch_plan.specs.Shards.{IsShardOf, latest}
+use Rattle.batch_plan.specs.OldRows.{AreOldRows}
 use Rattle.batch_plan.proofs.planning.shards_for.Given as goal
 
 abbrev pub invariant-loop-worker : goal.invariant-loop-worker
-invariant-loop-worker l = AllZip (IsShardOf l.workers (map shown l.ops)) (range_with_len 0 l.worker) l.shards.items
+invariant-loop-worker l = (rows : ℕ → List BlockView) → AreOldRows (latest (map shown l.ops)) rows l.old
+    → AllZip (IsShardOf l.workers (map shown l.ops) (layout_by rows)) (range_with_len 0 l.worker) l.shards.items
+    × (l.needs.items ≡ map (λ shard. min (needed rows (sources_in shard) shard.steps.items) (2 ^ 64 - 1)) l.shards.items)

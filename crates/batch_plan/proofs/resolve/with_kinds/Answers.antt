@@ -1,19 +1,15 @@
 use Rattle.std.proofs.Common.{◌≡◌, ◌∷◌, ◌++◌, ◌+◌, ℕ, List, [], map, append_assoc, drop, drop-cons, get_or, rules, sym, ap, ap₂}
 use Rattle.std.proofs.Common.{◌∙◌}
 use Rattle.std.proofs.lemmas.List.{map-append}
-use Rattle.std.specs.declared.option.Option.{Option}
 use Rattle.std.specs.declared.option.Option.TheVariants.{None}
 use Rattle.std.proofs.lemmas.List.Elements.{All-push}
-use Rattle.graph_model.specs.Changes.{IsChange}
-use Rattle.graph_model.specs.Graph.{Key}
 use Rattle.graph_model.specs.declared.batches.NamedOp.{NamedOp}
-use Rattle.graph_model.specs.declared.changes.EdgeChange.{EdgeChange}
-use Rattle.block_layout.specs.Operations.{Parts, OfEdge, parts_of, kinds_after}
-use Rattle.block_layout.specs.Batches.{Resolved, AtKey}
+use Rattle.block_layout.specs.Operations.{parts_of, kinds_after}
+use Rattle.block_layout.specs.Batches.{Resolved}
 use Rattle.vertex_names.specs.Book.{Book}
 use Rattle.batch_plan.specs.declared.resolve.Ends.{Ends}
 use Rattle.batch_plan.specs.declared.resolve.ResolvedOp.{ResolvedOp}
-use Rattle.batch_plan.specs.Plan.{kinds_all, key_from, kind_by, IsChangeOf, shown, with_kind, with_kinds, with_names, IsRefusal}
+use Rattle.batch_plan.specs.Plan.{kinds_all, shown, with_kind, with_kinds, with_names, IsInRange, IsRefusal}
 use Rattle.batch_plan.proofs.Names.{refused_kinds, err_then}
 use Rattle.batch_plan.proofs.resolve.with_kinds.Goals as goal
 
@@ -25,13 +21,6 @@ returns-in_err-kind-clause-refused c =
     (kinds_all c.args.ops.now c.args.kinds.now.names)) c.in_err-kind.field-0.0 c.from_residual-in_err-kind.ensures.1
     (refused_kinds c.in_err-kind.field-0.0 c.args.kinds.now c.loop-k.kinds c.args.ops.now c.loop-k.k c.index-ops-k.result step
     c.loop-k.invariant.kinds c.loop-k.invariant.limit c.in_err-kind.ensures.refused)
-
--- an operation's values show it by its kind
-shows_op : (e : Ends) (op : Parts) (kinds : List (List ℕ)) (key : Option Key) (kind : Option ℕ) (change : EdgeChange)
-    → key ≡ key_from kind e.source e.target → kind ≡ kind_by kinds op → IsChangeOf change op
-    → AtKey e.source key change ≡ with_kind kinds e op
-shows_op e (OfEdge does name source target) kinds key kind change key_is kind_is change_is =
-    λ i. AtKey e.source ((key_is ∙ ap (λ k. key_from k e.source e.target) kind_is) i) (change_is i)
 
 -- one more operation is found
 one_more : (ends rest_ends : List Ends) (ops rest_ops : List NamedOp) (e : Ends) (op : NamedOp) (found : List ResolvedOp)
@@ -54,13 +43,13 @@ loop-k-preserved c =
     let none : Ends = record { source = None; target = None } in
     let e : Ends = get_or c.args.ends.now k none in
     let kinds : List (List ℕ) = c.loop-k.kinds.names in
-    let r : ResolvedOp = record { source = e.source; key = c.key_by.result; change = c.change_by.result } in
+    let r : ResolvedOp = c.resolved_op.result in
     let ops_step : drop k c.args.ops.now ≡ op ∷ drop (k + 1) c.args.ops.now = search (rules, drop-cons) in
     let ends_step : drop k c.args.ends.now ≡ e ∷ drop (k + 1) c.args.ends.now = search (rules, drop-cons) in
     let book : c.op_kind.new.kinds ≡ with_names c.loop-k.kinds (kinds_after op kinds) = c.in_ok-kind.ensures.kinds in
     let names : c.op_kind.new.kinds.names ≡ kinds_after op kinds = ap (λ (b : Book). b.names) book in
-    let same = shows_op e (parts_of op) (kinds_after op kinds) _ _ c.change_by.result c.key_by.ensures c.in_ok-kind.ensures.kind
-    c.change_by.ensures.change in
+    let same : shown r ≡ with_kind (kinds_after op kinds) e (parts_of op) =
+    c.resolved_op.ensures.shown (kinds_after op kinds) c.in_ok-kind.ensures.kind in
     record {
       kinds = ap (kinds_all (drop (k + 1) c.args.ops.now)) names ∙ ap (λ l. kinds_all l kinds) (sym ops_step)
           ∙ c.loop-k.invariant.kinds;
@@ -70,7 +59,7 @@ loop-k-preserved c =
           ∙ one_more (drop k c.args.ends.now) (drop (k + 1) c.args.ends.now) (drop k c.args.ops.now)
           (drop (k + 1) c.args.ops.now) e op c.loop-k.found.items r kinds _
           ends_step ops_step same c.loop-k.invariant.found;
-      changes = rw c.in_ok-push.ensures.items (All-push (λ (o : ResolvedOp). IsChange o.change) c.loop-k.found.items r
-          c.loop-k.invariant.changes c.change_by.ensures.valid);
+      changes = rw c.in_ok-push.ensures.items (All-push IsInRange c.loop-k.found.items r
+          c.loop-k.invariant.changes c.resolved_op.ensures.valid);
       limit = ap (λ (b : Book). b.limit) book ∙ c.loop-k.invariant.limit;
     }

@@ -1,60 +1,135 @@
-use Rattle.std.proofs.Common.{◌≡◌, ◌+◌, ◌<◌, ◌==◌, true, false, ℕ, List, [], ◌∷◌, ◌++◌, length, map, get_or, take, refl, ap}
+use Rattle.std.proofs.Common.{◌≡◌, ◌+◌, ◌-◌, ◌^◌, ◌<◌, true, false, ℕ, List, [], ◌∷◌, ◌++◌, length, map, get_or, take, min, cond, ap}
 use Rattle.std.proofs.Common.{sym, subst, ◌∙◌, arith}
-use Rattle.std.specs.Prelude.{pos}
-use Rattle.std.specs.Option.{option_map}
+use mir.Val.{bool_byte}
+use Rattle.std.specs.Prelude.{pos, count_by, not, Bool}
+use Rattle.std.specs.List.{sum_by}
 use Rattle.std.specs.declared.option.Option.TheVariants.{None}
-use Rattle.std.proofs.lemmas.List.{length-map, length-take-le, take_more, get_or-map}
+use Rattle.std.proofs.lemmas.List.{length-map, length-take-le, take_all, take_more, get_or-map}
+use Rattle.std.proofs.lemmas.List.Sums.{sum_by_push}
 use Rattle.graph_model.specs.declared.changes.EdgeChange.TheVariants.{Insert}
+use Rattle.graph_model.specs.declared.ids.VertexId.{VertexId}
 use Rattle.block_layout.specs.Batches.{Resolved, IsPlaced, is_in_shard}
+use Rattle.shard_work.specs.Done.{layout_by}
+use Rattle.shard_work.specs.Groups.{is_expiry}
+use Rattle.shard_work.specs.Spending.{old_blocks, latest as latest_step}
+use Rattle.shard_work.specs.declared.shard.Act.{Act}
 use Rattle.shard_work.specs.declared.shard.Step.{Step}
-use Rattle.batch_plan.specs.Plan.{key_of, shown}
-use Rattle.batch_plan.specs.Shards.{AreShardSteps}
+use Rattle.batch_plan.specs.Plan.{shown}
+use Rattle.batch_plan.specs.Shards.{AreShardSteps, is_old_row, latest}
+use Rattle.batch_plan.specs.OldRows.{own_rows, blocks_in}
+use Rattle.batch_plan.specs.declared.old.OldRow.{OldRow}
 use Rattle.batch_plan.specs.declared.resolve.ResolvedOp.{ResolvedOp}
-use Rattle.batch_plan.proofs.Growth.{passed, added, same_number, other_number}
-use Rattle.batch_plan.proofs.shards.shard_for.Goals.{then-worker_of-worker+in_ok-place+in_ok-push, else-worker_of-worker}
+use Rattle.batch_plan.specs.declared.resolve.ResolvedOp.TheVariants.{Edge}
+use Rattle.batch_plan.proofs.Growth.{passed, added, same_sum}
+use Rattle.batch_plan.proofs.Listing.{is_listed, listed_blocks, not_listed, start, own_few, own_blocks, same_old, same_latest, listed_agrees}
+use Rattle.batch_plan.proofs.Listing.{sum_agrees}
+use Rattle.batch_plan.proofs.shards.shard_for.Goals.{then-is_in_shard+in_ok-act+in_ok-push, else-is_in_shard}
 use Rattle.batch_plan.proofs.shards.shard_for.Goals as goal
+
+byte_is : (b : Bool) (n : ℕ) → n ≡ bool_byte b → n ≡ cond b 1 0
+byte_is true n is = is
+byte_is false n is = is
+
+pub loop-k-init : goal.loop-k-init
+loop-k-init c =
+    let old : List OldRow = c.args.old.now in
+    let (rows, are) = c.requires.old in
+    let first : ℕ = blocks_in (own_rows c.args.workers c.args.worker old) in
+    let none : first ≡ first + 0 = omega arith in
+    record {
+      steps = rw (c.in_ok-sources.ensures.own, c.new-steps.ensures.items) (start c.args.workers c.args.worker old are.distinct);
+      same = c.in_ok-sources.ensures.same;
+      old_blocks = rw c.in_ok-sources.ensures.own (own_blocks (latest (map shown c.args.ops.now)) rows old are c.args.workers
+          c.args.worker);
+      blocks = rw c.new-steps.ensures.items (c.in_ok-sources.ensures.blocks ∙ ap (λ n. min n (2 ^ 64 - 1)) none);
+      few = rw c.in_ok-sources.ensures.own (let few = own_few c.args.workers c.args.worker old in omega arith);
+    }
 
 pub loop-k-preserved : goal.loop-k-preserved
 loop-k-preserved c =
+    let workers : ℕ = c.args.workers in
+    let worker : ℕ = c.args.worker in
+    let old : List OldRow = c.args.old.now in
     let i : ℕ = c.loop-k.k in
     let ops : List ResolvedOp = c.args.ops.now in
     let rs : List Resolved = map shown ops in
-    let d : ResolvedOp = record { source = None; key = None; change = Insert (pos 0) 0 } in
-    let op : ResolvedOp = get_or ops i d in
-    let r : Resolved = shown op in
+    let d : ResolvedOp = Edge None None (Insert (pos 0) 0) in
+    let r : Resolved = shown (get_or ops i d) in
     let lt : i < length ops = omega arith in
     let long : length rs ≡ length ops = length-map ops shown in
     let within : i < length rs = omega arith in
     let at : get_or rs i (shown d) ≡ r = get_or-map shown ops i d (shown d) lt in
     let step : take (i + 1) rs ≡ take i rs ++ r ∷ [] = take_more rs i (shown d) within ∙ ap (λ x. take i rs ++ x ∷ []) at in
-    elim c.if-worker_of-worker.branch [
-      | then-worker_of-worker+in_ok-place+in_ok-push w ↦
-          let same : c.worker_of.result ≡ c.args.worker = omega (arith, w.if-worker_of-worker.true) in
-          let mine : is_in_shard c.args.workers c.args.worker r ≡ true = ap (λ n. n == c.args.worker) (sym c.worker_of.ensures ∙ same)
-          ∙ same_number c.args.worker in
+    let keys : List ℕ = c.loop-k.places.keys in
+    let steps : List Step = c.loop-k.steps.items in
+    elim c.if-is_in_shard.branch [
+      | then-is_in_shard+in_ok-act+in_ok-push w ↦
+          let mine : is_in_shard workers worker r ≡ true = sym c.is_in_shard.ensures ∙ w.if-is_in_shard.true in
           let placed : IsPlaced r = subst IsPlaced at (c.requires.placed i (shown d) within) in
-          let s : Step = record { op = i; place = w.in_ok-place.place; change = op.change } in
-          let next : List ℕ = w.place_in.new.places.keys in
-          let done : AreShardSteps c.args.workers (take i rs ++ r ∷ []) c.args.worker next (c.loop-k.steps.items ++ s ∷ []) =
-          added c.args.workers c.args.worker (take i rs) op.source (option_map key_of op.key) op.change c.loop-k.places.keys
-          c.loop-k.steps.items c.loop-k.invariant.steps
-          mine placed next s w.in_ok-place.ensures.sources
-          (sym (length-take-le i rs (omega arith))) w.in_ok-place.ensures.key w.in_ok-place.ensures.place refl
-          (c.requires.changes i d lt) in
+          let act : Act = w.in_ok-act.act in
+          let s : Step = record { op = i; act = act } in
+          let next : List ℕ = w.act_in.new.places.keys in
+          let done : AreShardSteps workers (take i rs ++ r ∷ []) worker (is_listed old) next (steps ++ s ∷ []) =
+          added workers worker (take i rs) r (is_listed old) keys steps c.loop-k.invariant.steps mine placed next i act
+          w.in_ok-act.ensures.sources (sym (length-take-le i rs (omega arith))) w.in_ok-act.ensures.act
+          w.in_ok-act.ensures.in_rows in
+          let sums : sum_by (listed_blocks old) next ≡ sum_by (listed_blocks old) keys =
+          same_sum workers worker (take i rs) r (is_listed old) keys steps c.loop-k.invariant.steps mine placed
+          (listed_blocks old) (not_listed old) next w.in_ok-act.ensures.sources in
+          let one = sum_by_push (λ (t : Step). cond (not (is_expiry t.act)) 1 0) steps s in
+          let takes : w.from.result ≡ cond (not (is_expiry act)) 1 0 =
+          byte_is (not (is_expiry act)) w.from.result (w.from.ensures ∙ ap (λ b. bool_byte (not b)) w.is_expiry.ensures) in
+          let so_far = c.loop-k.invariant.blocks in
+          let more = w.saturating_add-blocks.ensures in
+          let sum : w.saturating_add-blocks.result ≡ min (blocks_in (own_rows workers worker old)
+          + count_by (λ (t : Step). not (is_expiry t.act)) (steps ++ s ∷ [])) (2 ^ 64 - 1) = omega arith in
           record {
             steps = rw (w.places-is, w.steps-is, w.in_ok-push.ensures.items, step) done;
-            same = rw (w.sources-is, w.places-is) w.in_ok-place.ensures.same;
-            few = rw w.places-is (omega (arith, w.in_ok-place.ensures.few, c.loop-k.invariant.few));
+            same = rw (w.sources-is, w.places-is) w.in_ok-act.ensures.same;
+            old_blocks = rw w.places-is (sums ∙ c.loop-k.invariant.old_blocks);
+            blocks = rw (w.blocks-is, w.steps-is, w.in_ok-push.ensures.items) sum;
+            few = rw w.places-is (omega (arith, w.in_ok-act.ensures.few, c.loop-k.invariant.few));
           }
-      | else-worker_of-worker w ↦
-          let other : is_in_shard c.args.workers c.args.worker r ≡ false = ap (λ n. n == c.args.worker) (sym c.worker_of.ensures)
-          ∙ other_number c.worker_of.result c.args.worker (λ e. omega (arith, w.if-worker_of-worker.false, e)) in
-          let done : AreShardSteps c.args.workers (take i rs ++ r ∷ []) c.args.worker c.loop-k.places.keys c.loop-k.steps.items =
-          passed c.args.workers c.args.worker (take i rs) r c.loop-k.places.keys c.loop-k.steps.items c.loop-k.invariant.steps
-          other in
+      | else-is_in_shard w ↦
+          let other : is_in_shard workers worker r ≡ false = sym c.is_in_shard.ensures ∙ w.if-is_in_shard.false in
+          let done : AreShardSteps workers (take i rs ++ r ∷ []) worker (is_listed old) keys steps =
+          passed workers worker (take i rs) r (is_listed old) keys steps c.loop-k.invariant.steps other in
           record {
             steps = rw (w.places-is, w.steps-is, step) done;
             same = rw (w.sources-is, w.places-is) c.loop-k.invariant.same;
+            old_blocks = rw w.places-is c.loop-k.invariant.old_blocks;
+            blocks = rw (w.blocks-is, w.steps-is) c.loop-k.invariant.blocks;
             few = rw w.places-is (omega (arith, c.loop-k.invariant.few));
           }
     ]
+
+pub returns-clause-shard : goal.returns-clause-shard
+returns-clause-shard c rows are =
+    let rs : List Resolved = map shown c.args.ops.now in
+    let sources : List ℕ = map (λ (s : VertexId). s.0) c.loop-k.sources.items in
+    let long : length rs ≡ length c.args.ops.now = length-map c.args.ops.now shown in
+    let whole : take c.loop-k.k rs ≡ rs = take_all c.loop-k.k rs (omega (arith, long, c.loop-k-test.false)) in
+    let done : AreShardSteps c.args.workers rs c.args.worker (is_listed c.args.old.now) sources c.loop-k.steps.items =
+    rw (sym whole, c.loop-k.invariant.same) c.loop-k.invariant.steps in
+    same_old c.args.workers c.args.worker rs (is_listed c.args.old.now) (λ s. is_old_row (latest rs) (layout_by rows s)) sources
+    c.loop-k.steps.items (listed_agrees (latest rs) rows c.args.old.now are) done
+
+pub returns-clause-blocks : goal.returns-clause-blocks
+returns-clause-blocks c rows are =
+    let rs : List Resolved = map shown c.args.ops.now in
+    let sources : List ℕ = map (λ (s : VertexId). s.0) c.loop-k.sources.items in
+    let steps : List Step = c.loop-k.steps.items in
+    let long : length rs ≡ length c.args.ops.now = length-map c.args.ops.now shown in
+    let whole : take c.loop-k.k rs ≡ rs = take_all c.loop-k.k rs (omega (arith, long, c.loop-k-test.false)) in
+    let done : AreShardSteps c.args.workers rs c.args.worker (is_listed c.args.old.now) sources steps =
+    rw (sym whole, c.loop-k.invariant.same) c.loop-k.invariant.steps in
+    let time : latest_step steps ≡ latest rs = same_latest c.args.workers c.args.worker rs (is_listed c.args.old.now) sources steps
+    done in
+    let old : sum_by (λ s. old_blocks (latest_step steps) (rows s)) sources
+    ≡ blocks_in (own_rows c.args.workers c.args.worker c.args.old.now) =
+    ap (λ t. sum_by (λ s. old_blocks t (rows s)) sources) time ∙ sym (sum_agrees (latest rs) rows c.args.old.now are sources)
+    ∙ ap (sum_by (listed_blocks c.args.old.now)) c.loop-k.invariant.same ∙ c.loop-k.invariant.old_blocks in
+    let edges : ℕ = count_by (λ (s : Step). not (is_expiry s.act)) steps in
+    let both : blocks_in (own_rows c.args.workers c.args.worker c.args.old.now) + edges
+    ≡ edges + sum_by (λ s. old_blocks (latest_step steps) (rows s)) sources = omega arith in
+    c.loop-k.invariant.blocks ∙ ap (λ n. min n (2 ^ 64 - 1)) both

@@ -1,11 +1,19 @@
-use Rattle.std.proofs.Common.{◌≡◌, ◌≤◌, length, map, take}
+use Rattle.std.proofs.Common.{◌≡◌, ◌+◌, ◌-◌, ◌^◌, ◌≤◌, length, map, min, take}
+use Rattle.std.specs.Prelude.{count_by, not}
+use Rattle.std.specs.List.{sum_by}
+use Rattle.shard_work.specs.Groups.{is_expiry}
 use Rattle.batch_plan.specs.Plan.{shown}
 use Rattle.batch_plan.specs.Shards.{AreShardSteps}
+use Rattle.batch_plan.specs.OldRows.{own_rows, blocks_in}
+use Rattle.batch_plan.proofs.Listing.{is_listed, listed_blocks}
 use Rattle.batch_plan.proofs.shards.shard_for.Given as goal
 
 abbrev pub invariant-loop-k : goal.invariant-loop-k
 invariant-loop-k l = record {
-  steps : AreShardSteps l.workers (take l.k (map shown l.ops)) l.worker l.places.keys l.steps.items;
+  steps : AreShardSteps l.workers (take l.k (map shown l.ops)) l.worker (is_listed l.old) l.places.keys l.steps.items;
   same : map (λ s. s.0) l.sources.items ≡ l.places.keys;
-  few : length l.places.keys ≤ l.k;
+  old_blocks : sum_by (listed_blocks l.old) l.places.keys ≡ blocks_in (own_rows l.workers l.worker l.old);
+  blocks : l.blocks ≡ min (blocks_in (own_rows l.workers l.worker l.old)
+      + count_by (λ s. not (is_expiry s.act)) l.steps.items) (2 ^ 64 - 1);
+  few : length l.places.keys ≤ length l.old + l.k;
 }

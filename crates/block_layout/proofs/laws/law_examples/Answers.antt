@@ -8,5 +8,8 @@ returns c = record {
   lowest_free = refl;
   emptied = record { edges_are = refl; taken_are = refl; dropped_are = refl };
   put_anew = record { edges_are = refl; taken_are = refl; dropped_are = refl };
+  expires_later = record { edges_are = refl; taken_are = refl; dropped_are = refl };
+  expires = record { edges_are = refl; taken_are = refl; dropped_are = refl };
+  expires_none = record { edges_are = refl; taken_are = refl; dropped_are = refl };
   untouched_row = record { edges_are = refl; taken_are = refl; dropped_are = refl };
 }

@@ -106,6 +106,40 @@ fn inserts_anew_after_a_removal(rt: HostRuntime) -> Result<(), Fail> {
     )
 }
 
+// Expiries among other operations: what is told of each, and the edges that are left.
+const EXPIRIES: [(&str, &str, &str); 4] = [
+    (
+        "x,0 x,9223372036854775807",
+        "[Expired(0), Expired(0)];;; 0",
+        "",
+    ),
+    (
+        "i,k,a,b,1,10 i,k,a,c,2,20 i,k,b,a,3,15 x,15",
+        "[Inserted, Inserted, Inserted, Expired(1)]; a b c; k; 2",
+        "edge k,a,c => edge 2 20 20\nedge k,b,a => edge 3 15 15",
+    ),
+    // by the recent time, and not the first
+    (
+        "i,k,a,b,1,10 a,k,a,b,1,30 i,k,b,a,3,40 a,k,b,a,1,5 x,30 x,30",
+        "[Inserted, Updated, Inserted, Updated, Expired(1), Expired(0)]; a b; k; 1",
+        "edge k,a,b => edge 2 10 30",
+    ),
+    // one that went is inserted anew
+    (
+        "i,k,a,b,1,1 x,2 a,k,a,b,4,7",
+        "[Inserted, Expired(1), Inserted]; a b; k; 1",
+        "edge k,a,b => edge 4 7 7",
+    ),
+];
+
+#[test]
+fn expires_what_was_touched_before_a_time(rt: HostRuntime) -> Result<(), Fail> {
+    for (ops, wanted, edges) in EXPIRIES {
+        check_first(&rt, rt.alloc(), ops, wanted, edges)?;
+    }
+    Ok(())
+}
+
 // Operations, and the edge that they leave.
 const OVERFLOWS: [(&str, &str); 3] = [
     (

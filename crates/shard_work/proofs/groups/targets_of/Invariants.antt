@@ -6,7 +6,7 @@ use Rattle.shard_work.proofs.groups.targets_of.Given as goal
 abbrev pub invariant-loop-index : goal.invariant-loop-index
 invariant-loop-index l = record {
   within : l.index ≤ length l.steps;
-  there : (s : Step) → l.index < length l.steps → is_at l.row (get_or l.steps l.index s).place ≡ true;
+  there : (s : Step) → l.index < length l.steps → is_at l.row (get_or l.steps l.index s).act ≡ true;
 }
 
 abbrev pub decreases-loop-index : goal.decreases-loop-index

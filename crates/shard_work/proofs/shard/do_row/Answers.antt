@@ -2,10 +2,10 @@ use Rattle.std.proofs.Common.{◌≡◌, ℕ, ◌++◌, List, [], ◌∷◌, ari
 use Rattle.std.proofs.lemmas.List.{get_or-map, length-map, map-append}
 use Rattle.graph_model.specs.declared.ids.VertexId.{VertexId}
 use Rattle.edge_block.specs.Slots.{BlockView}
-use Rattle.block_layout.specs.Rows.{untouched, shape_of}
+use Rattle.block_layout.specs.Rows.{OpenBlock, untouched, shape_of}
 use Rattle.block_layout.specs.Batches.{opened}
 use Rattle.row_pages.specs.Rows.{row_of}
-use Rattle.shard_work.specs.RowBlocks.{blocks_of, opens}
+use Rattle.shard_work.specs.RowBlocks.{blocks_of, kept_of, opens}
 use Rattle.shard_work.specs.Groups.{IsSourceRow}
 use Rattle.std.specs.declared.sync.Arc.{Arc}
 use Rattle.std.specs.declared.alloc.Global.{Global}
@@ -17,15 +17,36 @@ use Rattle.shard_work.specs.Done.{layout_by}
 use Rattle.shard_work.specs.declared.shard.OpenRow.{OpenRow}
 use Rattle.shard_work.proofs.Finish.{kept_all}
 use Rattle.shard_work.proofs.SourceSteps.{past_more}
+use Rattle.shard_work.proofs.Expiring.{opened_owes, needed_row}
+use Rattle.shard_work.specs.Spending.{latest, unspent, old_blocks}
 use Rattle.shard_work.proofs.SourceRows.{outcomes_more, row_done}
 use Rattle.shard_work.proofs.shard.do_row.Goals as goal
 
+-- the row that is opened owes its old blocks
+owed : (t : ℕ) (bs : List (Arc Block Global)) (row : List OpenBlock) (blocks : List BlockView) → row ≡ map kept_of bs
+    → blocks_of bs ≡ blocks → unspent t row ≡ old_blocks t blocks
+owed t bs row blocks e same =
+    ap (unspent t) (e ∙ kept_all bs) ∙ opened_owes t (blocks_of bs) ∙ ap (old_blocks t) same
+
 pub do_steps-requires-clause-fresh : goal.do_steps-requires-clause-fresh
-do_steps-requires-clause-fresh c = let more = past_more c.args.row c.args.steps.now in omega (arith, more, c.requires.fresh)
+do_steps-requires-clause-fresh c =
+    let v : ℕ → List BlockView = row_of c.args.version.now.rows in
+    let more = past_more c.args.row c.args.steps.now in
+    let t : ℕ = latest c.args.steps.now in
+    let left = needed_row (λ s. old_blocks t (v s)) c.args.sources.now c.args.row c.requires.row in
+    let here = owed t c.blocks_at-blocks.result.now (opens c.in_ok-opened.opened.blocks.items)
+    (v (get_or c.args.sources.now c.args.row (record { 0 = 0 })).0) c.in_ok-opened.ensures.blocks c.blocks_at-blocks.ensures.row in
+    omega (arith, more, left, here, c.requires.fresh)
 
 pub returns-clause-fresh : goal.returns-clause-fresh
 returns-clause-fresh c =
-    let more = past_more c.args.row c.args.steps.now in omega (arith, more, c.requires.fresh, c.in_ok-do_steps.ensures.few)
+    let v : ℕ → List BlockView = row_of c.args.version.now.rows in
+    let more = past_more c.args.row c.args.steps.now in
+    let t : ℕ = latest c.args.steps.now in
+    let left = needed_row (λ s. old_blocks t (v s)) c.args.sources.now c.args.row c.requires.row in
+    let here = owed t c.blocks_at-blocks.result.now (opens c.in_ok-opened.opened.blocks.items)
+    (v (get_or c.args.sources.now c.args.row (record { 0 = 0 })).0) c.in_ok-opened.ensures.blocks c.blocks_at-blocks.ensures.row in
+    omega (arith, more, left, here, c.requires.fresh, c.in_ok-do_steps.ensures.few)
 
 pub returns-clause-done : goal.returns-clause-done
 returns-clause-done c =
@@ -54,7 +75,7 @@ returns-clause-done c =
     ∙ ap (λ (s : VertexId). v s.0) (sym c.in_ok-opened.ensures.source))
     (λ q. let none = ap (count_by q) c.in_ok-opened.ensures.none_own in let same = c.in_ok-do_steps.ensures.numbers q in
     omega arith)
-    (outcomes_more v sources c.args.steps.now c.args.row c.args.done.now.outcomes.items c.do_steps.new.outcomes.items
+    (outcomes_more v sources c.args.steps.now c.args.row start.source.0 is c.args.done.now.outcomes.items c.do_steps.new.outcomes.items
     c.in_ok-do_steps.ensures.places (c.in_ok-do_steps.ensures.written sources (opened (layout_by v)) is shown)
     c.in_ok-do_steps.ensures.others)
     (ap row_values c.in_ok-push.ensures.items

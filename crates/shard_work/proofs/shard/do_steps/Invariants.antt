@@ -5,22 +5,26 @@ use Rattle.graph_model.specs.declared.batches.Outcome.{Outcome}
 use Rattle.shard_work.specs.RowBlocks.{opens, had_in, own_in, numbers_of, HaveSame, IsOf}
 use Rattle.shard_work.specs.Room.{AreHints}
 use Rattle.shard_work.specs.Shards.{resolved_in}
-use Rattle.shard_work.specs.Groups.{is_at, IsSourceRow, IsOutcome}
+use Rattle.shard_work.specs.Groups.{is_at, does_act, IsNext, IsSourceRow, IsOneMore}
+use Rattle.shard_work.specs.Spending.{latest, unspent}
 use Rattle.shard_work.specs.declared.shard.Step.{Step}
 use Rattle.shard_work.proofs.shard.do_steps.Given as goal
 
 abbrev pub invariant-loop-index : goal.invariant-loop-index
 invariant-loop-index l = record {
   within : l.index ≤ length l.steps;
-  there : (s : Step) → l.index < length l.steps → is_at l.row (get_or l.steps l.index s).place ≡ true;
+  there : (s : Step) → l.index < length l.steps → does_act l.row (get_or l.steps l.index s).act ≡ true;
+  edge : IsNext (is_at l.row) l.steps l.index l.edge;
   rows : (sources : List ℕ) (rows : ℕ → List OpenBlock) → IsSourceRow sources l.steps l.row l.initial.opened.source.0
       → opens l.initial.opened.blocks.items ≡ rows l.initial.opened.source.0
       → opens l.opened.blocks.items ≡ rows_all (resolved_in sources (take l.index l.steps)) rows l.initial.opened.source.0;
   written : (sources : List ℕ) (rows : ℕ → List OpenBlock) → IsSourceRow sources l.steps l.row l.initial.opened.source.0
       → opens l.initial.opened.blocks.items ≡ rows l.initial.opened.source.0
-      → (k : ℕ) (s : Step) (o : ℕ × Outcome) → k < l.index → is_at l.row (get_or l.steps k s).place ≡ true
-      → IsOutcome sources l.steps rows k (get_or l.outcomes.items k o).1;
-  others : (k : ℕ) (s : Step) (o : ℕ × Outcome) → k < length l.steps → is_at l.row (get_or l.steps k s).place ≡ false
+      → (k : ℕ) (s : Step) (o : ℕ × Outcome) → k < l.index → does_act l.row (get_or l.steps k s).act ≡ true
+      → IsOneMore sources l.steps rows l.initial.opened.source.0 k (get_or l.initial.outcomes.items k o).1
+      (get_or l.outcomes.items k o).1;
+  later : (k : ℕ) (o : ℕ × Outcome) → l.index ≤ k → get_or l.outcomes.items k o ≡ get_or l.initial.outcomes.items k o;
+  others : (k : ℕ) (s : Step) (o : ℕ × Outcome) → k < length l.steps → does_act l.row (get_or l.steps k s).act ≡ false
       → get_or l.outcomes.items k o ≡ get_or l.initial.outcomes.items k o;
   places : map (λ o. o.0) l.outcomes.items ≡ map (λ o. o.0) l.initial.outcomes.items;
   length : length l.outcomes.items ≡ length l.steps;
@@ -30,7 +34,9 @@ invariant-loop-index l = record {
   own : All (IsOf l.opened.source.0) l.opened.blocks.items;
   numbers : HaveSame (own_in l.opened.blocks.items) (numbers_of l.fresh.items) (own_in l.initial.opened.blocks.items)
       (numbers_of l.initial.fresh.items);
-  few : vec_len l.initial.fresh ≤ vec_len l.fresh + count_by (λ s. is_at l.row s.place) (take l.index l.steps);
+  few : vec_len l.initial.fresh + unspent (latest l.steps) (opens l.opened.blocks.items)
+      ≤ vec_len l.fresh + (count_by (λ s. is_at l.row s.act) (take l.index l.steps)
+      + unspent (latest l.steps) (opens l.initial.opened.blocks.items));
 }
 
 abbrev pub decreases-loop-index : goal.decreases-loop-index

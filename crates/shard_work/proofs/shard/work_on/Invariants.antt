@@ -1,13 +1,13 @@
-use Rattle.std.proofs.Common.{◌≤◌, map, count_by, vec_len}
+use Rattle.std.proofs.Common.{◌≤◌, map, vec_len}
 use Rattle.row_pages.specs.Rows.{row_of}
 use Rattle.shard_work.specs.RowBlocks.{numbers_of}
-use Rattle.shard_work.specs.Groups.{is_past}
+use Rattle.shard_work.specs.Spending.{needed_past}
 use Rattle.shard_work.specs.Progress.{AreRowsDone}
 use Rattle.shard_work.proofs.shard.work_on.Given as goal
 
 abbrev pub invariant-loop-row : goal.invariant-loop-row
 invariant-loop-row l = record {
-  fresh : count_by (λ s. is_past l.row s.place) l.steps.items ≤ vec_len l.fresh;
+  fresh : needed_past l.row (row_of l.version.rows) (map (λ s. s.0) l.sources.items) l.steps.items ≤ vec_len l.fresh;
   done : AreRowsDone (row_of l.version.rows) (map (λ s. s.0) l.sources.items) l.steps.items
       (numbers_of l.initial.fresh.items) l.row l.fresh.items l.done;
 }

@@ -1,12 +1,11 @@
-use Rattle.std.proofs.Common.{◌≡◌, ◌∙◌, ◌||◌, [], Bool, ap, ap₂, codes, false, rules, true}
+use Rattle.std.proofs.Common.{◌≡◌, ◌∙◌, ◌&&◌, [], Bool, ap, ap₂, codes, false, refl, rules, true}
+use Rattle.std.specs.Prelude.{is_some, not}
 use Rattle.std.proofs.lemmas.Result.{IfOk-weaker}
-use Rattle.clap.specs.Simple.{App, app_of, new_app, new_shape, with_rule, with_subcommand}
+use Rattle.clap.specs.Simple.{App, app_of, new_shape, with_subcommand}
+use Rattle.clap.specs.Walk.{is_empty}
 use Rattle.clap.specs.declared.builder.command.Command.{Command}
 use Rattle.clap.specs.declared.builder.command.Command.TheViews.{out-Command}
 use Rattle.stinger_program.proofs.program.command.Goals as goal
-
-abbrev has_globals : Command → Bool
-has_globals c = (out-Command c).has_globals
 
 abbrev top_app : App
 top_app = record {
@@ -18,18 +17,31 @@ top_app = record {
   subs = [];
 }
 
+third : (a b h rest : Bool) → (a && (b && (not h && rest))) ≡ true → h ≡ false
+third a b false rest e = refl
+third true true true rest e = cc
+third true false true rest e = cc
+third false b true rest e = cc
+
+-- a command that is plain has no global argument
+no_globals : (c : Command) → (app_of c).top.is_plain ≡ true → (out-Command c).has_globals ≡ false
+no_globals c plain =
+    let f = out-Command c in
+    third (is_empty f.groups.items) (not f.allow_external_subcommands) f.has_globals (not f.infer_long_args
+    && (not f.allow_missing_positional
+    && (not f.infer_subcommands && (not f.args_conflicts_with_subcommands
+    && (not f.subcommand_precedence_over_arg
+    && (not (is_some f.long_flag)
+    && (not (is_some f.short_flag) && (is_empty f.long_flag_aliases.items
+    && is_empty f.short_flag_aliases.items)))))))) plain
+
 pub returns : goal.returns
 returns g c =
-    let start : app_of c.override_usage.result ≡ new_app (codes "run") = search rules in
-    let workers = c.in_ok-arg.ensures.shape c.size-workers.ensures.local ∙ ap₂ with_rule start c.size-workers.ensures.rule in
-    let blocks = c.in_ok-arg-2.ensures.shape c.size-blocks.ensures.local ∙ ap₂ with_rule workers c.size-blocks.ensures.rule in
-    let seats = c.in_ok-arg-3.ensures.shape c.size-seats.ensures.local ∙ ap₂ with_rule blocks c.size-seats.ensures.rule in
-    let run = c.in_ok-run.ensures.shape c.flag.ensures.local ∙ ap₂ with_rule seats c.flag.ensures.rule in
-    let none : has_globals c.override_usage.result ≡ false = search rules in
-    let one = c.in_ok-arg.ensures.globals ∙ ap₂ (λ a b. a || b) none c.size-workers.ensures.local in
-    let two = c.in_ok-arg-2.ensures.globals ∙ ap₂ (λ a b. a || b) one c.size-blocks.ensures.local in
-    let three = c.in_ok-arg-3.ensures.globals ∙ ap₂ (λ a b. a || b) two c.size-seats.ensures.local in
-    let few = c.in_ok-run.ensures.globals ∙ ap₂ (λ a b. a || b) three c.flag.ensures.local in
     let top : app_of c.subcommand_required.result ≡ top_app = search rules in
-    IfOk-weaker c.subcommand.result _ _
-    (λ command h. h.shape few ∙ ap₂ with_subcommand top (ap (λ (a : App). a.top) run)) c.subcommand.ensures
+    let run = c.in_ok-run_command.ensures in
+    let drive = c.in_ok-drive_command.ensures in
+    let first = c.in_ok-subcommand.ensures.shape (no_globals _ (ap (λ (a : App). a.top.is_plain) run))
+    ∙ ap₂ with_subcommand top (ap (λ (a : App). a.top) run) in
+    IfOk-weaker c.subcommand-2.result _ _
+    (λ command h. h.shape (no_globals _ (ap (λ (a : App). a.top.is_plain) drive))
+    ∙ ap₂ with_subcommand first (ap (λ (a : App). a.top) drive)) c.subcommand-2.ensures

@@ -20,5 +20,13 @@ returns c = record {
   twice = (refl, (refl, (refl, (refl, tt))));
   without_value = (refl, (refl, (refl, (refl, tt))));
   elsewhere = (refl, (refl, (refl, (refl, (refl, (refl, (refl, (refl, (refl, (refl, (refl, tt)))))))))));
-  help = (refl, (refl, tt));
+  help = (refl, (refl, (refl, (refl, tt))));
+  one_reader = (refl, (refl, (refl, tt)));
+  two_readers = (refl, (refl, tt));
+  three_readers = (refl, (refl, tt));
+  four_readers = (refl, (refl, tt));
+  readers_past = (refl, (refl, (refl, (refl, (refl, (refl, (refl, tt)))))));
+  readers_twice = (refl, (refl, tt));
+  no_readers = (refl, (refl, (refl, (refl, tt))));
+  drive_elsewhere = (refl, (refl, (refl, (refl, (refl, (refl, (refl, (refl, (refl, tt)))))))));
 }

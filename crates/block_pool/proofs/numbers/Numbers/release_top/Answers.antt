@@ -1,12 +1,14 @@
-use Rattle.std.proofs.Common.{◌≡◌, ◌∙◌, ◌+◌, ◌<◌, ℕ, length, set, count_by, sym, ap, subst, refl, take, arith, length-take, true}
+use Rattle.std.proofs.Common.{◌≡◌, ◌∙◌, ◌+◌, ◌<◌, ℕ, length, get_or, set, count_by, sym, ap, subst, refl, take, arith, length-take, true}
 use Rattle.std.proofs.Math.ListN.{length-set}
-use Rattle.std.proofs.lemmas.List.{map-set, take_more_set, length-map}
+use Rattle.std.proofs.lemmas.List.{map-set, length-map, get_or_read}
 use Rattle.linked_stacks.specs.Stacks.{Stacks, stack_of}
+use Rattle.block_pool.specs.declared.numbers.Numbers.{Numbers}
 use Rattle.block_pool.specs.declared.numbers.TheConstants.{LOOSE}
 use Rattle.block_pool.specs.Pools.{Free, Granted, is_free, is_retired}
-use Rattle.block_pool.specs.Kept.{statuses, status_from, status_of, Lists, IsSorted, top_of, taken_off}
+use Rattle.block_pool.specs.Kept.{statuses, status_from, status_of, Lists, IsKept, IsSorted, top_of, taken_off}
 use Rattle.block_pool.specs.declared.numbers.Place.TheVariants as places
 use Rattle.block_pool.proofs.Tallies.{lists_more, lists_room, count_at, count_here, retired_not_free}
+use Rattle.block_pool.proofs.Grants.{placed}
 use Rattle.block_pool.proofs.Stacking.{top_listed, sorted_freed}
 use Rattle.block_pool.proofs.numbers.Numbers.release_top.Goals as goal
 
@@ -32,16 +34,31 @@ index_mut-requires c =
     let num : c.top-number.result ≡ top_of (stack_of n.retired.lists LOOSE) = sym (ap top_of c.top-number.ensures) in
     omega (arith, is.0, num, length-map n.places.items status_from)
 
-pub index_mut-requires-2 : goal.index_mut-requires-2
-index_mut-requires-2 c =
-    let n = c.args.self.now in
-    let k = c.requires.kept in
+-- there is room for one more free number
+room_left : (n : Numbers) → IsKept n → 0 < length (stack_of n.retired.lists LOOSE) → n.free_len < length n.free.items
+room_left n k some =
     let r : ℕ = top_of (stack_of n.retired.lists LOOSE) in
-    let is = top_listed (statuses n) n.pins n.least n.retired.lists k.sorted LOOSE (omega arith) c.requires.some in
+    let is = top_listed (statuses n) n.pins n.least n.retired.lists k.sorted LOOSE (omega arith) some in
     let room = lists_room is_free (statuses n) (take n.free_len n.free.items) k.free_are r Free is.0
     (retired_not_free (status_of (statuses n) r) is.1) in
     let long = length-map n.places.items status_from in
     omega (arith, length-take n.free_len n.free.items, k.free_in, k.free_room, room, long)
+
+pub index-next-requires : goal.index-next-requires
+index-next-requires c = omega (arith, c.requires.place, room_left c.args.self.now c.requires.kept c.requires.some)
+
+pub index_mut-requires-2 : goal.index_mut-requires-2
+index_mut-requires-2 c = omega (arith, room_left c.args.self.now c.requires.kept c.requires.some)
+
+pub index_mut-requires-3 : goal.index_mut-requires-3
+index_mut-requires-3 c =
+    let n = c.args.self.now in
+    omega (
+      arith,
+      c.requires.place,
+      room_left n c.requires.kept c.requires.some,
+      length-set n.free.items n.free_len c.index-next.result.now,
+    )
 
 pub returns-clause-kept : goal.returns-clause-kept
 returns-clause-kept c =
@@ -53,14 +70,14 @@ returns-clause-kept c =
     let is = top_listed (statuses n) n.pins n.least n.retired.lists k.sorted LOOSE (omega arith) c.requires.some in
     let within : num < length (statuses n) = omega (arith, is.0, same) in
     let st : is_retired (status_of (statuses n) num) ≡ true = ap (λ j. is_retired (status_of (statuses n) j)) same ∙ is.1 in
-    let room = lists_room is_free (statuses n) (take n.free_len n.free.items) k.free_are num Free within
-    (retired_not_free (status_of (statuses n) num) st) in
-    let long = length-map n.places.items status_from in
-    let lt : n.free_len < length n.free.items =
-    omega (arith, length-take n.free_len n.free.items, k.free_in, k.free_room, room, long) in
+    let lt : n.free_len < length n.free.items = room_left n k c.requires.some in
+    let next : ℕ = c.index-next.result.now in
+    let is_next : next ≡ get_or n.free.items c.args.place 0 =
+    get_or_read n.free.items c.args.place next (omega (arith, c.requires.place, lt)) c.index-next.ensures 0 in
     let long_places = length-set n.places.items num places.Free in
     let after = map-set status_from n.places.items num places.Free in
-    let free = length-set n.free.items n.free_len num in
+    let free = length-set n.free.items n.free_len next in
+    let free_after = length-set (set n.free.items n.free_len next) c.args.place num in
     let count = rw st at (count_here is_retired (statuses n) num Free Granted within) in
     let told = ap (count_by is_retired) after in
     record {
@@ -69,10 +86,12 @@ returns-clause-kept c =
       bound = ap (λ (s : Stacks). s.bound) c.pop.ensures ∙ k.bound ∙ sym long_places;
       seats = k.seats;
       free_in = omega (arith, k.free_room);
-      free_are = subst (λ pool. Lists is_free pool (take (n.free_len + 1) (set n.free.items n.free_len num))) (sym after)
-          (subst (Lists is_free (set (statuses n) num Free)) (sym (take_more_set n.free.items n.free_len num lt))
-          (lists_more is_free (statuses n) (take n.free_len n.free.items) k.free_are num Free within
-          (retired_not_free (status_of (statuses n) num) st) refl));
+      free_are = subst (λ pool. Lists is_free pool (take (n.free_len + 1) (set (set n.free.items n.free_len next) c.args.place num)))
+          (sym after) (λ q.
+          ap (λ (i : ℕ). count_by q (take (n.free_len + 1) (set (set n.free.items n.free_len i) c.args.place num))) is_next
+          ∙ placed n.free.items n.free_len c.args.place num c.requires.place lt q
+          ∙ lists_more is_free (statuses n) (take n.free_len n.free.items) k.free_are num Free within
+          (retired_not_free (status_of (statuses n) num) st) refl q);
       retired_in = omega (arith, k.retired_in);
       sorted = subst (λ pool. IsSorted pool n.pins n.least c.pop.new.self.lists) (sym after)
           (subst (IsSorted (set (statuses n) num Free) n.pins n.least) (sym (ap (λ (s : Stacks). s.lists) c.pop.ensures))

@@ -16,6 +16,16 @@ sort-init c = record {
   late = c.requires.late;
   after = refl;
   counted = omega arith;
+  free = omega arith;
+}
+
+pub sort_top-count-requires : goal.sort_top-count-requires
+sort_top-count-requires c = record {
+  kept = c.sort.invariant.kept;
+  place = c.sort.invariant.free;
+  pins = c.sort.invariant.pins;
+  late = c.sort.invariant.late;
+  some = omega (arith, c.height.ensures, c.sort-test.true);
 }
 
 pub overflow_add-count : goal.overflow_add-count
@@ -31,6 +41,7 @@ sort-preserved c = record {
   late = c.sort_top-count.ensures.late;
   after = c.sort_top-count.ensures.recycled ∙ c.sort.invariant.after;
   counted = omega (arith, c.sort.invariant.counted, c.sort_top-count.ensures.count);
+  free = omega (arith, c.sort.invariant.free, c.sort_top-count.ensures.free);
 }
 
 pub returns-clause-statuses : goal.returns-clause-statuses

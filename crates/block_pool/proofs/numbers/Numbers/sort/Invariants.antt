@@ -1,4 +1,4 @@
-use Rattle.std.proofs.Common.{◌≡◌, ◌+◌, map, count_by, length}
+use Rattle.std.proofs.Common.{◌≡◌, ◌≤◌, ◌+◌, map, count_by, length}
 use Rattle.linked_stacks.specs.Stacks.{stack_of}
 use Rattle.block_pool.specs.declared.numbers.TheConstants.{LOOSE, LATE}
 use Rattle.block_pool.specs.Pools.{recycled, is_past}
@@ -12,6 +12,7 @@ invariant-sort l = record {
   late : AreNeeded l.copy (statuses l.self) (stack_of l.self.retired.lists LATE);
   after : map (recycled l.copy) (statuses l.self) ≡ map (recycled l.copy) (statuses l.initial.self);
   counted : l.count + count_by (is_past l.copy) (statuses l.self) ≡ count_by (is_past l.copy) (statuses l.initial.self);
+  free : l.count ≤ l.self.free_len;
 }
 
 abbrev pub decreases-sort : goal.decreases-sort

@@ -10,10 +10,10 @@ use Rattle.version_shelf.specs.Shelves.{ToldView}
 use Rattle.store_journal.specs.Steps.{Accepts}
 use Rattle.stream_store.specs.Kept.{DeskState, state_of}
 use Rattle.stream_store.specs.Moves.{AreUsedOnce}
-use Rattle.stream_store.specs.Refusals.{Refuses}
+use Rattle.stream_store.specs.Refusals.{Refuses, IsWithin}
 use Rattle.stream_store.proofs.Collections.{kept_same}
 use Rattle.stream_store.proofs.Handing.{Handing, handing, desk_of, back_used, back_same, taken_once, dropped_once, unused_once}
-use Rattle.stream_store.proofs.Handing.{born_used, born_same, end_pool}
+use Rattle.stream_store.proofs.Handing.{born_used, born_same, end_pool, grant_within, desk_refuses, desk_admits}
 use Rattle.stream_store.proofs.Handing.{end_desk}
 use Rattle.stream_store.proofs.Handing.{end_accepts, end_room, end_kept}
 use Rattle.stream_store.proofs.desk.Desk.apply.Goals as goal
@@ -26,6 +26,25 @@ returns-in_err-plan-clause-refused g c =
     c.from_residual.ensures.1
     (subst (λ (v : VersionView). Refuses v free c.args.batch c.in_err-plan.field-0.0)
     (last ∙ ap (λ (s : DeskState). s.desk.last) c.self.view_is) (c.in_err-plan.ensures.refused free))
+
+pub grant_blocks-requires : goal.grant_blocks-requires
+grant_blocks-requires g c =
+    let last : c.deref.result.now ≡ arc_value {X = Version} c.self.inside.last = search rules in
+    grant_within (desk_of (arc_value {X = Version} c.self.inside.last) c.self.inside.journal.items c.self.inside.pool)
+    c.deref.result.now c.self.inside.workers c.args.batch c.in_ok-plan.plan c.self.invariant.desk last
+    c.in_ok-plan.ensures.admitted
+
+pub returns-in_err-numbers-clause-refused : goal.returns-in_err-numbers-clause-refused
+returns-in_err-numbers-clause-refused g c =
+    let last : c.deref.result.now ≡ arc_value {X = Version} c.self.inside.last = search rules in
+    let free = count_by is_free c.args.self.now.desk.pool in
+    err_then c.from_residual-in_err-numbers.result (Refuses c.args.self.now.desk.last free c.args.batch) c.in_err-numbers.field-0.0
+    c.from_residual-in_err-numbers.ensures.1
+    (subst (λ (s : DeskState). Refuses s.desk.last (count_by is_free s.desk.pool) c.args.batch c.in_err-numbers.field-0.0)
+    c.self.view_is
+    (desk_refuses (desk_of (arc_value {X = Version} c.self.inside.last) c.self.inside.journal.items c.self.inside.pool)
+    c.deref.result.now c.self.inside.workers c.args.batch c.in_ok-plan.plan c.self.invariant.desk last
+    c.in_ok-plan.ensures.admitted c.in_err-numbers.field-0.0 c.in_err-numbers.ensures.refused))
 
 pub give_back_numbers-requires : goal.give_back_numbers-requires
 give_back_numbers-requires g c =
@@ -155,7 +174,15 @@ invariant_of-self-2 g c =
     let ok = c.in-Ok.prepared.dropped.ok in
     end_kept h _ c.publish.new.shelf _ _ end refl (p.same.1 ∙ c.self.invariant.opening_is) p.posted
     c.self.invariant.workers_some c.self.invariant.workers_few
-    (omega (arith, room, p.room, c.retired.ensures.count, c.len-2.ensures, ok.0))
+    (omega (arith, room, p.room, c.retired.ensures.count, c.len.ensures, ok.0))
+
+pub returns-clause-within : goal.returns-clause-within
+returns-clause-within g c =
+    let last : c.deref.result.now ≡ arc_value {X = Version} c.self.inside.last = search rules in
+    subst (λ (s : DeskState). IsWithin s.desk.last (count_by is_free s.desk.pool) c.args.batch) c.self.view_is
+    (desk_admits (desk_of (arc_value {X = Version} c.self.inside.last) c.self.inside.journal.items c.self.inside.pool)
+    c.deref.result.now c.self.inside.workers c.args.batch c.in_ok-plan.plan c.self.invariant.desk last
+    c.in_ok-plan.ensures.admitted c.in_ok-numbers.ensures.enough)
 
 pub returns-clause-accepted : goal.returns-clause-accepted
 returns-clause-accepted g c =

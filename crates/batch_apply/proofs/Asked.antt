@@ -1,0 +1,270 @@
+-- What the shards of a plan may take is within what the batch asks for: a block for each operation, and, where an operation
+-- expires edges, as many more as the version has.
+use Rattle.std.proofs.Common.{◌≡◌, ℕ, zero, suc, ◌+◌, ◌<◌, ◌≤◌, ◌==◌, ◌||◌, Bool, true, false, cond, not, List, [], ◌∷◌}
+use Rattle.std.proofs.Common.{length, map, flat_map, count_by, max, refl, sym, ap, ap₂, ◌∙◌, arith, Option, All}
+use Rattle.std.specs.List.{sum_by, range_with_len, AllZip, list_any}
+use Rattle.std.proofs.lemmas.Bool.{eqb-true, true≢false, le-ltb}
+use Rattle.std.proofs.lemmas.List.Sums.{sum_by-cons, sum_by-append, count_by-le-length}
+use Rattle.std.proofs.lemmas.List.Elements.{All-nil, All-cons}
+use Rattle.graph_model.specs.Graph.{Graph, Key}
+use Rattle.graph_model.specs.Step.{is_before, is_expire}
+use Rattle.graph_model.specs.declared.batches.NamedOp.{NamedOp}
+use Rattle.graph_model.specs.declared.batches.NamedOp.TheVariants.{Insert, Incr, Remove, Expire}
+use Rattle.graph_model.specs.declared.changes.EdgeChange.{EdgeChange}
+use Rattle.edge_block.specs.Slots.{BlockView, Slot, edges_in, has_before}
+use Rattle.block_layout.specs.Operations.{names_after, kinds_after}
+use Rattle.block_layout.specs.Batches.{Resolved, AtKey, InAll, resolved, shard_of, shard_ops}
+use Rattle.row_pages.specs.Rows.{row_of, blocks_of}
+use Rattle.shard_work.specs.Done.{layout_by, sources_in, steps_in}
+use Rattle.shard_work.specs.Groups.{is_expiry}
+use Rattle.shard_work.specs.Shards.{resolved_at, resolved_in}
+use Rattle.shard_work.specs.Spending.{time_of, old_blocks}
+use Rattle.shard_work.specs.Spending as spending
+use Rattle.shard_work.specs.declared.shard.Act.{Act}
+use Rattle.shard_work.specs.declared.shard.Act.TheVariants as act
+use Rattle.shard_work.specs.declared.shard.Shard.{Shard}
+use Rattle.shard_work.specs.declared.shard.Step.{Step}
+use Rattle.batch_plan.specs.Planned.{IsPlan}
+use Rattle.batch_plan.specs.Shards.{acts, unsourced, latest, IsShardOf}
+use Rattle.batch_plan.specs.declared.plans.Plan.{Plan}
+use Rattle.batch_plan.proofs.Growth.{other_number}
+use Rattle.batch_apply.proofs.Totals.{count_more}
+use Rattle.batch_apply.proofs.Together.{all_once}
+use Rattle.batch_apply.proofs.Placed.{times}
+use Rattle.batch_apply.proofs.Kept.{sum_lists, split_rows}
+use Rattle.batch_apply.proofs.Dealt.{length-resolved, needs_of}
+
+-- Operations on edges, each of which is in one shard
+
+abbrev is_on_edge : Resolved → Bool
+is_on_edge (AtKey own key change) = true
+is_on_edge (InAll time) = false
+
+abbrev on_edges : List Resolved → ℕ
+on_edges rs = count_by is_on_edge rs
+
+one_act : (r : Resolved) → is_on_edge (unsourced r) ≡ is_on_edge r
+one_act (AtKey own key change) = refl
+one_act (InAll time) = refl
+
+edges_acts : (rs : List Resolved) → on_edges (acts rs) ≡ on_edges rs
+edges_acts [] = refl
+edges_acts (r ∷ rs) =
+    count_more is_on_edge (unsourced r) (acts rs) ∙ ap₂ (λ (b : Bool) (n : ℕ). cond b 1 0 + n) (one_act r) (edges_acts rs)
+    ∙ sym (count_more is_on_edge r rs)
+
+one_step : (sources : List ℕ) (a : Act) → not (is_expiry a) ≡ is_on_edge (resolved_at sources a)
+one_step sources (act.Edge place change) = refl
+one_step sources (act.Expire time) = refl
+
+edges_steps : (sources : List ℕ) (steps : List Step)
+    → count_by (λ s. not (is_expiry s.act)) steps ≡ on_edges (resolved_in sources steps)
+edges_steps sources [] = refl
+edges_steps sources (s ∷ steps) =
+    count_more (λ (s : Step). not (is_expiry s.act)) s steps
+    ∙ ap₂ (λ (b : Bool) (n : ℕ). cond b 1 0 + n) (one_step sources s.act) (edges_steps sources steps)
+    ∙ sym (count_more is_on_edge (resolved_at sources s.act) (resolved_in sources steps))
+
+abbrev hits : ℕ → ℕ → ℕ → ℕ
+hits m a k = sum_by (λ w. cond (m == w) 1 0) (range_with_len a k)
+
+hits_past : (m a k : ℕ) → m < a → hits m a k ≡ 0
+hits_past m a zero lt = refl
+hits_past m a (suc k) lt =
+    let c = sum_by-cons (λ w. cond {A = ℕ} (m == w) 1 0) a (range_with_len (a + 1) k) in
+    let no : (let n : ℕ = cond (m == a) 1 0 in n) ≡ 0 = ap (λ b. cond b 1 0) (other_number m a (λ e. omega (arith, e, lt))) in
+    omega (arith, c, no, hits_past m (a + 1) k (omega (arith, lt)))
+
+hits_few : (m a k : ℕ) → hits m a k ≤ 1
+hits_few m a zero = omega arith
+hits_few m a (suc k) =
+    elim (m == a) as (λ b. m == a ≡ b → hits m a (suc k) ≡ cond b 1 0 + hits m (a + 1) k → hits m a (suc k) ≤ 1) [
+      | true ↦ λ t c. omega (arith, c, hits_past m (a + 1) k (omega (arith, eqb-true m a t)))
+      | false ↦ λ t c. omega (arith, c, hits_few m (a + 1) k)
+    ] refl (sum_by-cons (λ w. cond {A = ℕ} (m == w) 1 0) a (range_with_len (a + 1) k))
+
+module _ (workers : ℕ) where
+  abbrev in_shards : List Resolved → ℕ → ℕ → ℕ
+  in_shards rs a k = sum_by (λ w. on_edges (shard_ops workers w rs)) (range_with_len a k)
+
+  edge_here : (own : Option ℕ) (key : Option Key) (change : EdgeChange) (rs : List Resolved) (w : ℕ)
+      → on_edges (shard_ops workers w (AtKey own key change ∷ rs))
+      ≡ cond (shard_of workers own == w) 1 0 + on_edges (shard_ops workers w rs)
+  edge_here own key change rs w =
+      let ss : List Resolved = shard_ops workers w rs in
+      elim (shard_of workers own == w) as (λ b. on_edges (cond b (AtKey own key change ∷ ss) ss) ≡ cond b 1 0 + on_edges ss) [
+        | true ↦ count_more is_on_edge (AtKey own key change) ss
+        | false ↦ omega arith
+      ]
+
+  edge_more : (own : Option ℕ) (key : Option Key) (change : EdgeChange) (rs : List Resolved) (a k : ℕ)
+      → in_shards (AtKey own key change ∷ rs) a k ≡ hits (shard_of workers own) a k + in_shards rs a k
+  edge_more own key change rs a zero = refl
+  edge_more own key change rs a (suc k) =
+      omega (
+        arith,
+        sum_by-cons (λ w. on_edges (shard_ops workers w (AtKey own key change ∷ rs))) a (range_with_len (a + 1) k),
+        sum_by-cons (λ w. on_edges (shard_ops workers w rs)) a (range_with_len (a + 1) k),
+        sum_by-cons (λ w. cond {A = ℕ} (shard_of workers own == w) 1 0) a (range_with_len (a + 1) k),
+        edge_here own key change rs a,
+        edge_more own key change rs (a + 1) k,
+      )
+
+  expiry_more : (time : ℕ) (rs : List Resolved) (a k : ℕ) → in_shards (InAll time ∷ rs) a k ≡ in_shards rs a k
+  expiry_more time rs a zero = refl
+  expiry_more time rs a (suc k) =
+      omega (
+        arith,
+        sum_by-cons (λ w. on_edges (shard_ops workers w (InAll time ∷ rs))) a (range_with_len (a + 1) k),
+        sum_by-cons (λ w. on_edges (shard_ops workers w rs)) a (range_with_len (a + 1) k),
+        count_more is_on_edge (InAll time) (shard_ops workers a rs),
+        expiry_more time rs (a + 1) k,
+      )
+
+  none_in : (a k : ℕ) → in_shards [] a k ≡ 0
+  none_in a zero = refl
+  none_in a (suc k) =
+      omega (arith, sum_by-cons (λ w. on_edges (shard_ops workers w [])) a (range_with_len (a + 1) k), none_in (a + 1) k)
+
+  few_edges : (rs : List Resolved) (a k : ℕ) → in_shards rs a k ≤ length rs
+  few_edges [] a k = omega (arith, none_in a k)
+  few_edges (AtKey own key change ∷ rs) a k =
+      omega (arith, edge_more own key change rs a k, hits_few (shard_of workers own) a k, few_edges rs a k)
+  few_edges (InAll time ∷ rs) a k = omega (arith, expiry_more time rs a k, few_edges rs a k)
+
+  -- The greatest time of the expiries, each of which is in every shard
+
+  latest_shard : (w : ℕ) (rs : List Resolved) → latest (shard_ops workers w rs) ≡ latest rs
+  latest_shard w [] = refl
+  latest_shard w (AtKey own key change ∷ rs) =
+      let ss : List Resolved = shard_ops workers w rs in
+      elim (shard_of workers own == w) as (λ b. latest (cond b (AtKey own key change ∷ ss) ss) ≡ latest ss) [
+        | true ↦ refl
+        | false ↦ refl
+      ] ∙ latest_shard w rs
+  latest_shard w (InAll time ∷ rs) = ap (max time) (latest_shard w rs)
+
+latest_acts : (rs : List Resolved) → latest (acts rs) ≡ latest rs
+latest_acts [] = refl
+latest_acts (AtKey own key change ∷ rs) = latest_acts rs
+latest_acts (InAll time ∷ rs) = ap (max time) (latest_acts rs)
+
+one_latest : (sources : List ℕ) (a : Act) (rs : List Resolved) → max (time_of a) (latest rs) ≡ latest (resolved_at sources a ∷ rs)
+one_latest sources (act.Edge place change) rs = omega arith
+one_latest sources (act.Expire time) rs = refl
+
+latest_steps : (sources : List ℕ) (steps : List Step) → spending.latest steps ≡ latest (resolved_in sources steps)
+latest_steps sources [] = refl
+latest_steps sources (s ∷ steps) =
+    ap (max (time_of s.act)) (latest_steps sources steps) ∙ one_latest sources s.act (resolved_in sources steps)
+
+one_time : (ops : List NamedOp) (names kinds : List (List ℕ)) → list_any is_expire ops ≡ false
+    → latest (resolved ops names kinds) ≡ 0
+one_time [] names kinds none = refl
+one_time (Insert kind source target weight time ∷ ops) names kinds none =
+    let op : NamedOp = Insert kind source target weight time in one_time ops (names_after op names) (kinds_after op kinds) none
+one_time (Incr kind source target amount time ∷ ops) names kinds none =
+    let op : NamedOp = Incr kind source target amount time in one_time ops (names_after op names) (kinds_after op kinds) none
+one_time (Remove kind source target ∷ ops) names kinds none =
+    let op : NamedOp = Remove kind source target in one_time ops (names_after op names) (kinds_after op kinds) none
+one_time (Expire time ∷ ops) names kinds none = absurd (true≢false none)
+
+-- Old blocks
+
+none_before : (es : List Slot) → list_any (λ e. is_before 0 e.stamp) es ≡ false
+none_before [] = refl
+none_before (e ∷ es) = ap₂ (λ a b. a || b) (le-ltb e.stamp.recent 0 (omega arith)) (none_before es)
+
+none_old : (row : List BlockView) → old_blocks 0 row ≡ 0
+none_old [] = refl
+none_old (b ∷ row) =
+    count_more (λ (b : BlockView). has_before 0 b.slots) b row
+    ∙ ap₂ (λ (t : Bool) (n : ℕ). cond t 1 0 + n) (none_before (edges_in b.slots)) (none_old row)
+
+sum_zero : (f : ℕ → ℕ) → ((s : ℕ) → f s ≡ 0) → (xs : List ℕ) → sum_by f xs ≡ 0
+sum_zero f zeros [] = refl
+sum_zero f zeros (x ∷ xs) = omega (arith, sum_by-cons f x xs, zeros x, sum_zero f zeros xs)
+
+below_sum : (n : ℕ) (xs : List ℕ) → sum_by (λ x. x) xs < n → All (λ x. x < n) xs
+below_sum n [] lt = All-nil (λ x. x < n)
+below_sum n (x ∷ xs) lt =
+    let c = sum_by-cons (λ (x : ℕ). x) x xs in
+    All-cons (λ x. x < n) x xs (omega (arith, c, lt)) (below_sum n xs (omega (arith, c, lt)))
+
+-- different sources have no more old blocks than there are blocks
+few_old : (time : ℕ) (rows : List (List BlockView)) (xs : List ℕ) → ((m : ℕ) → times m xs ≤ 1)
+    → sum_by (λ s. old_blocks time (row_of rows s)) xs ≤ length (blocks_of rows)
+few_old time rows xs once =
+    let p : BlockView → Bool = λ b. has_before time b.slots in
+    let n : ℕ = length rows + suc (sum_by (λ x. x) xs) in
+    omega (
+      arith,
+      split_rows xs once p rows n (omega arith) (below_sum n xs (omega arith)),
+      sum_lists p (row_of rows) xs,
+      count_by-le-length p (blocks_of rows),
+    )
+
+-- All shards together
+
+sum_map : {A : Type 0} (f : A → ℕ) (xs : List A) → sum_by (λ n. n) (map f xs) ≡ sum_by f xs
+sum_map f [] = refl
+sum_map f (x ∷ xs) = sum_by-cons (λ (n : ℕ). n) (f x) (map f xs) ∙ ap (λ k. f x + k) (sum_map f xs) ∙ sym (sum_by-cons f x xs)
+
+module _ (workers : ℕ) (ops : List NamedOp) (g : Graph) (rows : List (List BlockView)) where
+  abbrev rs : List Resolved
+  rs = resolved ops g.names g.kinds
+
+  abbrev old : ℕ → ℕ
+  old s = old_blocks (latest rs) (row_of rows s)
+
+  shard_needs : (w : ℕ) (s : Shard) → IsShardOf workers rs (layout_by (row_of rows)) w s
+      → needs_of (row_of rows) s ≡ on_edges (shard_ops workers w rs) + sum_by old (sources_in s)
+  shard_needs w s is =
+      ap₂ (λ (n : ℕ) (k : ℕ). n + k)
+      (edges_steps (sources_in s) s.steps.items ∙ sym (edges_acts (steps_in s)) ∙ ap on_edges is.acts_are
+      ∙ edges_acts (shard_ops workers w rs))
+      (ap (λ (t : ℕ). sum_by (λ source. old_blocks t (row_of rows source)) (sources_in s))
+      (latest_steps (sources_in s) s.steps.items ∙ sym (latest_acts (steps_in s)) ∙ ap latest is.acts_are
+      ∙ latest_acts (shard_ops workers w rs) ∙ latest_shard workers w rs))
+
+  sum_needs : (a k : ℕ) (shards : List Shard)
+      → AllZip (IsShardOf workers rs (layout_by (row_of rows))) (range_with_len a k) shards
+      → sum_by (needs_of (row_of rows)) shards ≡ in_shards workers rs a k + sum_by old (flat_map sources_in shards)
+  sum_needs a zero [] z = refl
+  sum_needs a zero (s ∷ shards) z = absurd z
+  sum_needs a (suc k) [] z = absurd z
+  sum_needs a (suc k) (s ∷ shards) z =
+      omega (
+        arith,
+        sum_by-cons (needs_of (row_of rows)) s shards,
+        sum_by-cons (λ w. on_edges (shard_ops workers w rs)) a (range_with_len (a + 1) k),
+        sum_by-append old (sources_in s) (flat_map sources_in shards),
+        shard_needs a s z.0,
+        sum_needs (a + 1) k shards z.1,
+      )
+
+  pub needs_within : (plan : Plan) → IsPlan workers ops g (row_of rows) plan
+      → sum_by (λ n. n) plan.needs.items ≤ length ops + cond (list_any is_expire ops) (length (blocks_of rows)) 0
+  needs_within plan is =
+      let shards : List Shard = plan.shards.items in
+      let all : sum_by (λ n. n) plan.needs.items ≡ in_shards workers rs 0 workers + sum_by old (flat_map sources_in shards) =
+      ap (sum_by (λ n. n)) is.needs ∙ sum_map (needs_of (row_of rows)) shards ∙ sum_needs 0 workers shards is.shards in
+      let edges : in_shards workers rs 0 workers ≤ length ops =
+      omega (arith, few_edges workers rs 0 workers, length-resolved ops g.names g.kinds) in
+      elim (list_any is_expire ops) as (λ b. list_any is_expire ops ≡ b
+      → sum_by (λ n. n) plan.needs.items ≤ length ops + cond b (length (blocks_of rows)) 0) [
+        | true ↦ λ t. omega (
+          arith,
+          all,
+          edges,
+          few_old (latest rs) rows (flat_map sources_in shards)
+              (λ m. all_once workers ops g (layout_by (row_of rows)) 0 workers m shards is.shards),
+        )
+        | false ↦ λ t. omega (
+          arith,
+          all,
+          edges,
+          sum_zero old (λ s. ap (λ (n : ℕ). old_blocks n (row_of rows s)) (one_time ops g.names g.kinds t)
+              ∙ none_old (row_of rows s)) (flat_map sources_in shards),
+        )
+      ] refl

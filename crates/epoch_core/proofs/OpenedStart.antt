@@ -1,0 +1,120 @@
+-- The start over an opening content is one from which a run may start.
+use Rattle.std.proofs.Common.{◌≡◌, ◌≢◌, ℕ, zero, suc, ◌<◌, ◌==◌, ◌||◌, Bool, true, false, cond, List, [], ◌∷◌, ◌++◌, length}
+use Rattle.std.proofs.Common.{set, replicate, refl, sym, ap, subst, ◌∙◌, arith, All, AllPairs}
+use Rattle.std.specs.Prelude.{slice_get}
+use Rattle.std.specs.List.{flat_map}
+use Rattle.std.specs.declared.option.Option.TheVariants.{Some}
+use Rattle.std.proofs.lemmas.Bool.{eqb-true, eqb-false}
+use Rattle.std.proofs.lemmas.List.{length-replicate, length-set, get_or-set_same, get_or-set_other}
+use Rattle.std.proofs.lemmas.List.Elements.{All-head, All-tail, All-nil, All-cons}
+use Rattle.graph_model.specs.Graph.{graph_of}
+use Rattle.graph_model.specs.declared.ids.Edge.{Edge}
+use Rattle.graph_model.specs.declared.contents.Content.{Content}
+use Rattle.epoch_posts.specs.declared.states.Status.{Status}
+use Rattle.epoch_posts.specs.declared.states.Status.TheVariants.{Free, Used}
+use Rattle.epoch_posts.specs.Blocks.{is_listed}
+use Rattle.epoch_posts.specs.Versions.{Shows, edges_at}
+use Rattle.epoch_posts.proofs.Lists.{set_same, set_else}
+use Rattle.epoch_core.specs.declared.states.SessionState.TheVariants.{Idle}
+use Rattle.epoch_core.specs.Worlds.{IsStart, HasContents}
+use Rattle.epoch_core.specs.Sound.{IsCore}
+use Rattle.epoch_core.specs.Opened.{Lists, numbers_in, heap_with, status_with, opened_state, IsOpening}
+use Rattle.epoch_core.proofs.Steps.{sound_start, free_at}
+
+length-heap_with : (lists : Lists) (heap : List (List Edge)) → length (heap_with lists heap) ≡ length heap
+length-heap_with [] heap = refl
+length-heap_with (l ∷ lists) heap = length-heap_with lists (set heap l.0 l.1) ∙ length-set heap l.0 l.1
+
+length-status_with : (lists : Lists) (status : List Status) → length (status_with lists status) ≡ length status
+length-status_with [] status = refl
+length-status_with (l ∷ lists) status = length-status_with lists (set status l.0 (Used 0)) ∙ length-set status l.0 (Used 0)
+
+same_either : (b : Bool) → cond b (Used 0) (Used 0) ≡ Used 0
+same_either true = refl
+same_either false = refl
+
+-- what each block is
+status_at : (lists : Lists) (status : List Status) (b : ℕ) (s : Status) → slice_get status b ≡ Some s
+    → slice_get (status_with lists status) b ≡ Some (cond (is_listed b (numbers_in lists)) (Used 0) s)
+status_at [] status b s at = at
+status_at (l ∷ lists) status b s at =
+    elim (l.0 == b) as (λ t. l.0 == b ≡ t → slice_get (status_with lists (set status l.0 (Used 0))) b
+    ≡ Some (cond (t || is_listed b (numbers_in lists)) (Used 0) s)) [
+      | true ↦ λ t.
+          let same : l.0 ≡ b = eqb-true l.0 b t in
+          status_at lists (set status l.0 (Used 0)) b (Used 0)
+          (ap (slice_get (set status l.0 (Used 0))) (sym same) ∙ set_same status l.0 s (Used 0) (ap (slice_get status) same ∙ at))
+          ∙ ap (λ x. Some x) (same_either (is_listed b (numbers_in lists)))
+      | false ↦ λ t.
+          status_at lists (set status l.0 (Used 0)) b s
+          (set_else status l.0 b (Used 0) (λ e. eqb-false l.0 b t (sym e)) ∙ at)
+    ] refl
+
+-- a block that isn't listed keeps its edges
+heap_else : (lists : Lists) (heap : List (List Edge)) (b : ℕ) → All (λ c. b ≢ c) (numbers_in lists)
+    → edges_at (heap_with lists heap) b ≡ edges_at heap b
+heap_else [] heap b apart = refl
+heap_else (l ∷ lists) heap b apart =
+    heap_else lists (set heap l.0 l.1) b (All-tail (λ c. b ≢ c) l.0 (numbers_in lists) apart)
+    ∙ get_or-set_other heap l.0 b l.1 [] (All-head (λ c. b ≢ c) l.0 (numbers_in lists) apart)
+
+apart_head : (b : ℕ) (bs : List ℕ) → AllPairs ◌≢◌ (b ∷ bs) → All (λ c. b ≢ c) bs
+apart_head b bs different k d h = different 0 (suc k) d (omega arith) (omega arith)
+
+apart_tail : (b : ℕ) (bs : List ℕ) → AllPairs ◌≢◌ (b ∷ bs) → AllPairs ◌≢◌ bs
+apart_tail b bs different i j d h g = different (suc i) (suc j) d (omega arith) (omega arith)
+
+heap_all : (lists : Lists) (heap : List (List Edge)) → All (λ l. l.0 < length heap) lists → AllPairs ◌≢◌ (numbers_in lists)
+    → flat_map (edges_at (heap_with lists heap)) (numbers_in lists) ≡ flat_map (λ l. l.1) lists
+heap_all [] heap within different = refl
+heap_all (l ∷ lists) heap within different =
+    let In : ℕ → ℕ × List Edge → Type 0 = λ n x. x.0 < n in
+    let here : l.0 < length heap = All-head (In (length heap)) l lists within in
+    let next = set heap l.0 l.1 in
+    (λ i. (heap_else lists next l.0 (apart_head l.0 (numbers_in lists) different) ∙ get_or-set_same heap l.0 l.1 [] here) i
+    ++ heap_all lists next
+    (subst (λ n. All (In n) lists) (sym (length-set heap l.0 l.1)) (All-tail (In (length heap)) l lists within))
+    (apart_tail l.0 (numbers_in lists) different) i)
+
+numbers_within : (blocks : ℕ) (lists : Lists) → All (λ l. l.0 < blocks) lists → All (λ b. b < blocks) (numbers_in lists)
+numbers_within blocks [] within = All-nil (λ b. b < blocks)
+numbers_within blocks (l ∷ lists) within =
+    let In : ℕ × List Edge → Type 0 = λ x. x.0 < blocks in
+    All-cons (λ b. b < blocks) l.0 (numbers_in lists) (All-head In l lists within)
+    (numbers_within blocks lists (All-tail In l lists within))
+
+module _ (sessions blocks : ℕ) (content : Content) (lists : Lists) (is : IsOpening blocks content lists) where
+  long_status : length (status_with lists (replicate blocks Free)) ≡ blocks
+  long_status = length-status_with lists (replicate blocks Free) ∙ length-replicate blocks Free
+
+  long_heap : length (heap_with lists (replicate blocks [])) ≡ blocks
+  long_heap = length-heap_with lists (replicate blocks []) ∙ length-replicate blocks []
+
+  pub opened_is_start : IsStart (opened_state sessions blocks content lists)
+  opened_is_start = record {
+    alone = refl;
+    within = subst (λ n. All (λ b. b < n) (numbers_in lists)) (sym long_status) (numbers_within blocks lists is.within);
+    different = is.different;
+    shown = subst (λ edges. Shows edges (graph_of content))
+        (sym (heap_all lists (replicate blocks [])
+        (subst (λ n. All (λ l. l.0 < n) lists) (sym (length-replicate blocks [])) is.within) is.different)) is.shown;
+    status = λ b low. let h : b < blocks = omega (arith, low, long_status) in
+        status_at lists (replicate blocks Free) b Free (free_at blocks b h);
+    heap = long_heap ∙ sym long_status;
+    floor = refl;
+    copy = refl;
+    idle = ap (λ n. replicate n Idle) (sym (length-replicate sessions Idle));
+    replies = ap (λ n. replicate n []) (sym (length-replicate sessions Idle));
+  }
+
+  opened_contents : HasContents (record { content = content; blocks = numbers_in lists }) []
+  opened_contents zero h = (content, is.content_is, refl)
+  opened_contents (suc n) h = absurd (omega arith)
+
+  pub opened_is_core : sessions < 17 → IsCore (opened_state sessions blocks content lists)
+  opened_is_core few = record {
+    sound = sound_start (opened_state sessions blocks content lists) opened_is_start;
+    contents = opened_contents;
+    few = omega (arith, few, length-replicate sessions Idle);
+    replies = length-replicate sessions [] ∙ sym (length-replicate sessions Idle);
+  }

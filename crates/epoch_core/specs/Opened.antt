@@ -1,0 +1,43 @@
+-- The machine's start over an opening content, whose edges stand in blocks.
+use Rattle.std.specs.Prelude.{◌≢◌, ℕ, ◌<◌, List, [], ◌∷◌, map, replicate, slice_set, All, AllPairs}
+use Rattle.std.specs.List.{flat_map}
+use Rattle.graph_model.specs.Graph.{graph_of, IsContent}
+use Rattle.graph_model.specs.declared.ids.Edge.{Edge}
+use Rattle.graph_model.specs.declared.contents.Content.{Content}
+use Rattle.epoch_posts.specs.declared.states.Status.{Status}
+use Rattle.epoch_posts.specs.declared.states.Status.TheVariants.{Free, Used}
+use Rattle.epoch_posts.specs.Versions.{Shows}
+use Rattle.epoch_core.specs.Worlds.{State, start_world}
+
+-- block numbers, each with the edges in its block
+abbrev pub Lists : Type 0
+Lists = List (ℕ × List Edge)
+
+abbrev pub numbers_in : Lists → List ℕ
+numbers_in lists = map (λ l. l.0) lists
+
+-- the heap with these edges, and the blocks that version 0 lists, with birth 0
+abbrev pub heap_with : Lists → List (List Edge) → List (List Edge)
+heap_with [] heap = heap
+heap_with (l ∷ lists) heap = heap_with lists (slice_set heap l.0 l.1)
+
+abbrev pub status_with : Lists → List Status → List Status
+status_with [] status = status
+status_with (l ∷ lists) status = status_with lists (slice_set status l.0 (Used 0))
+
+abbrev pub opened_state : ℕ → ℕ → Content → Lists → State
+opened_state sessions blocks content lists = record {
+  world = record (start_world sessions blocks) {
+    opening = record { content = content; blocks = numbers_in lists };
+    heap = heap_with lists (replicate blocks []);
+    status = status_with lists (replicate blocks Free);
+  };
+  replies = replicate sessions [];
+}
+
+-- a content, and different blocks whose edges taken together are each once the content's
+pub record IsOpening (blocks : ℕ) (content : Content) (lists : Lists) : Type 0 where
+  pub content_is : IsContent content
+  pub within : All (λ l. l.0 < blocks) lists
+  pub different : AllPairs ◌≢◌ (numbers_in lists)
+  pub shown : Shows (flat_map (λ l. l.1) lists) (graph_of content)
