@@ -13,7 +13,8 @@ V = TypeVar("V")
 
 class Commit(NamedTuple):
     """What batches did: the last version's number; how many operations inserted an edge, updated one, removed one, found none
-    to remove, and left a weight as it was since it would have left its limits; and how many batches they were cut into."""
+    to remove, and left a weight as it was since it would have left its limits; how many batches they were cut into; and how
+    many edges expired."""
 
     version: int
     inserted: int
@@ -22,6 +23,7 @@ class Commit(NamedTuple):
     absent: int
     overflowed: int
     batches: int = 1
+    expired: int = 0
 
 
 class Collected(NamedTuple):
@@ -79,6 +81,12 @@ class Answer(Dict[str, V]):
     def most(self, count: int = 10) -> "list[Tuple[str, V]]":
         """The rows with the greatest values, greatest first; equal ones in the order of the table."""
         return sorted(self.items(), key=lambda it: it[1], reverse=True)[:count]  # type: ignore[arg-type, return-value]
+
+
+def committed(head: str) -> Commit:
+    """What the line of a commit says; edges expired only where it says how many."""
+    receipt = Commit(*numbers(head, "commit", 6))
+    return receipt._replace(expired=numbers(head, "commit", 7)[6]) if " exp=" in head else receipt
 
 
 def numbers(head: str, command: str, fields: int) -> "list[int]":

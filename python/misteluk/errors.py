@@ -128,7 +128,8 @@ class KindsFull(Refused):
 
 
 class PoolEmpty(Refused):
-    """A batch needs as many free blocks as it has operations. `needed` and `free` say how many those are."""
+    """A batch needs as many free blocks as it has operations, and with an expiry as many more as are used. `needed` and `free`
+    say how many those are."""
 
     word = "PoolEmpty"
     advice = ("Collect, close a session that holds an old version, make batches smaller, or give the store more blocks (65,536 "
@@ -174,6 +175,7 @@ class BadRows(StoreError):
         lines = [it.told for it in self.faults]
         lines += [f"and {count - len(self.faults)} more"] if count > len(self.faults) else []
         lines += dict.fromkeys(it.advice for it in self.faults if it.advice)
+        lines += ["The others can be loaded without them: skip_bad=True (--skip-bad)"] if count < rows else []
         super().__init__("\n  ".join([f"{feed}: {count} of {rows} rows can't be taken, and none was sent", *lines]))
 
 

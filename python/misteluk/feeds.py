@@ -9,6 +9,8 @@ import pathlib
 import urllib.parse
 from datetime import datetime, timezone
 from decimal import Decimal, InvalidOperation
+from itertools import count, repeat
+from operator import attrgetter
 from typing import IO, Any, Callable, Dict, Iterable, Iterator, List, NamedTuple, Optional, Sequence, Tuple, Union
 
 from .errors import FeedFault
@@ -111,22 +113,27 @@ def _delimited_rows(path: Union[str, "os.PathLike[str]"], columns: Columns, deli
         names: List[str] = next(reader, []) if header or header is None and named else []
         if named and not names:
             raise FeedFault(f"{path}: columns are named, and there is no header: name them by number (from 1)")
-        rows = ((reader.line_num, it) for it in reader if it)
+        lines = map(attrgetter("line_num"), repeat(reader))
         try:
-            yield from _picked(os.fspath(path), rows, names, columns)
+            yield from _picked(os.fspath(path), zip(filter(None, reader), lines), names, columns)  # (a blank line is no row)
         except csv.Error as fault:
             raise FeedFault(f"{path}:{reader.line_num}: {fault}") from fault
 
 
-def _picked(feed: str, rows: Iterable[Tuple[int, Sequence[str]]], names: Sequence[str], columns: Columns) -> Iterator[Row]:
-    """The fields of each row that the columns are for."""
+def _picked(feed: str, rows: Iterable[Tuple[Sequence[str], int]], names: Sequence[str], columns: Columns) -> Iterator[Row]:
+    """The fields of each row that the columns are for. A first row that is too short tells of another form; a later one is a bad
+    row, whose missing fields are empty, which none may be."""
     places = [_place(feed, it, names) for it in columns[:5]]
     source, target, kind, weight, time = places
     least = max(it for it in places if it is not None) + 1
     usual_kind, usual_time = columns.usual_kind, columns.usual_time
-    for line, row in rows:
+    is_first = True
+    for row, line in rows:
         if len(row) < least:
-            raise FeedFault(f"{feed}:{line}: {len(row)} fields, where the columns need {least}")
+            if is_first:
+                raise FeedFault(f"{feed}:{line}: {len(row)} fields, where the columns need {least}")
+            row = [*row, *[""] * (least - len(row))]
+        is_first = False
         yield (line, usual_kind if kind is None else row[kind], row[source or 0], row[target or 0],
                "1" if weight is None else row[weight], usual_time if time is None else row[time])
 
@@ -137,7 +144,8 @@ def _place(feed: str, column: Optional[Column], names: Sequence[str]) -> Optiona
             raise ValueError(f"columns are numbered from 1, and there is no column {column}")
         return None if column is None else column - 1
     if column not in names:
-        raise FeedFault(f"{feed}: no column {column!r}; the header has {', '.join(map(repr, names))}")
+        raise FeedFault(f"{feed}: no column {column!r}; the header has {', '.join(map(repr, names))}. Say which columns to take: "
+                        "--source, --target, --weight, --time, or Columns(..)")
     return names.index(column)
 
 
@@ -181,19 +189,19 @@ def _matrix_rows(path: Union[str, "os.PathLike[str]"], kind: str) -> Iterator[Ro
         size = next(lines, none)[1]
         if len(size) != 3:
             raise FeedFault(f"{path}: no line of its sizes")
-        count, wanted = 0, 2 if field == "pattern" else 3
+        entries, wanted = 0, 2 if field == "pattern" else 3
         for line, fields in lines:
             if len(fields) != wanted:
                 raise FeedFault(f"{path}:{line}: {len(fields)} fields, where an entry has {wanted}")
-            count += 1
+            entries += 1
             weight = fields[2] if wanted == 3 else "1"
             weight = weight[:-2] if weight.endswith(".0") else weight
             yield line, kind, fields[0], fields[1], weight, "0"
             if form != "general" and fields[0] != fields[1]:
                 other = weight if form == "symmetric" else weight[1:] if weight.startswith("-") else f"-{weight}"
                 yield line, kind, fields[1], fields[0], other, "0"
-        if str(count) != size[2]:
-            raise FeedFault(f"{path}: {count} entries, where its sizes say {size[2]}")
+        if str(entries) != size[2]:
+            raise FeedFault(f"{path}: {entries} entries, where its sizes say {size[2]}")
 
 
 def from_networkx(graph: Any, *, kind: str = USUAL_KIND, weight: str = "weight", time: str = "time", kind_of: str = "kind",
@@ -215,10 +223,8 @@ def from_networkx(graph: Any, *, kind: str = USUAL_KIND, weight: str = "weight",
 
 def from_pandas(frame: Any, columns: Columns = Columns()) -> Feed:
     """A pandas frame."""
-    def rows() -> Iterator[Tuple[int, List[str]]]:
-        for at, row in enumerate(frame.itertuples(index=False, name=None), 1):
-            yield at, [_text(it) for it in row]
-    return Feed("frame", _picked("frame", rows(), [str(it) for it in frame.columns], columns))
+    rows = ([_text(it) for it in row] for row in frame.itertuples(index=False, name=None))
+    return Feed("frame", _picked("frame", zip(rows, count(1)), [str(it) for it in frame.columns], columns))
 
 
 def open_feed(data: Any, *, format: Optional[str] = None, columns: Columns = Columns(), delimiter: Optional[str] = None,

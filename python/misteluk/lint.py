@@ -21,7 +21,7 @@ STATE_REASONS = {
     "BatchFull": "the pending batch has 4,096 operations: this one is not in it", "BatchLimit": "65,536 batches were applied",
     "NamesFull": "the graph would have more than 65,536 names; the whole batch is given up",
     "KindsFull": "the graph would have more than 64 kinds; the whole batch is given up",
-    "PoolEmpty": "the batch has more operations than blocks are free; the whole batch is given up",
+    "PoolEmpty": "the batch asks for more blocks than are free; the whole batch is given up",
     "Read": "the input can't be read, or has its 1,000,000th record; the run ended here",
     "Memory": "there was no memory for it; the run ended here"}
 

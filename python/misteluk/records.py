@@ -6,7 +6,7 @@ The program is the judge. These rules say beforehand what it will say, and name 
 from __future__ import annotations
 
 import re
-from typing import Dict, Iterable, List, NamedTuple, Optional, Sequence, Tuple
+from typing import Dict, List, NamedTuple, Optional, Sequence, Tuple
 
 ANY = "*"
 MOST_NAME = 64
@@ -27,6 +27,7 @@ FORMATS: Dict[str, Tuple[str, ...]] = {
     "i": ("kind", "source", "target", "weight", "time"),
     "a": ("kind", "source", "target", "amount", "time"),
     "r": ("kind", "source", "target"),
+    "x": ("time",),
     "commit": (),
     "open": ("slot",),
     "close": ("slot",),
@@ -38,14 +39,14 @@ FORMATS: Dict[str, Tuple[str, ...]] = {
     "collect": (),
     "stat": (),
 }
-OPERATIONS = ("i", "a", "r")
+OPERATIONS = ("i", "a", "r", "x")
 NAME_FIELDS = ("kind", "kind or *", "source", "target")
 WEIGHT_FIELDS = ("weight", "amount")
 TIME_FIELDS = ("time", "lo", "hi")
 
 _NAME = re.compile(r"[!-~]{1,64}")
 _DIGITS = re.compile(r"[0-9]{1,19}")
-_TO_BE_QUOTED = re.compile(r'[",\r\n]')
+_TO_BE_QUOTED, _QUOTES_AND_ENDS = re.compile(r'[",\r\n]'), re.compile(r'["\r\n]')
 _ONE_LINE = re.compile(r"[!-~]+\n")
 # Insertions or additions that keep every rule, none of them with a quoted field; numbers a digit short of their limits, so that
 # what doesn't match is looked at one by one.
@@ -153,9 +154,12 @@ def quoted(field: str) -> str:
     return '"' + field.replace('"', '""') + '"' if _TO_BE_QUOTED.search(field) else field
 
 
-def record(fields: Iterable[str]) -> str:
+def record(fields: Sequence[str]) -> str:
     """The record of these fields, with the end of its line; a lone empty field is quoted, since a blank line is no record."""
-    return (",".join(map(quoted, fields)) or '""') + "\n"
+    text = ",".join(fields)
+    if text.count(",") != len(fields) - 1 or _QUOTES_AND_ENDS.search(text):
+        text = ",".join(map(quoted, fields))
+    return (text or '""') + "\n"
 
 
 def is_plain(text: str) -> bool:

@@ -7,8 +7,8 @@ from types import TracebackType
 from typing import TYPE_CHECKING, Any, Callable, Dict, Iterable, List, NamedTuple, Optional, Sequence, Tuple, Type, TypeVar
 
 from . import records
-from .answers import Answer, Collected, Commit, Degree, Edge, Stat, numbers
-from .errors import (NoKind, NoSeat, NoVertex, OperationsRefused, Place, PoolEmpty, ProgramEnded, RecordLimit, Refused,
+from .answers import Answer, Collected, Commit, Degree, Edge, Stat, committed, numbers
+from .errors import (Misread, NoKind, NoSeat, NoVertex, OperationsRefused, Place, PoolEmpty, ProgramEnded, RecordLimit, Refused,
                      SessionClosed, StoreError, Uncommitted, refusal)
 from .program import Awaited, Conversation, Path, find_program, one_line
 
@@ -39,6 +39,11 @@ class Flight(NamedTuple):
     last: Awaited
     place: Optional[Callable[[int], Place]]
     from_pending: bool
+
+    @property
+    def expires(self) -> bool:
+        """Whether an operation expires edges; then the batch asks for the used blocks too."""
+        return any(line.startswith(b"x,") for line in self.operations.split(b"\n"))
 
     def refusal_of(self, number: int, word: str) -> Refused:
         at = number - self.before - 1
@@ -104,6 +109,18 @@ class Store:
     def remove(self, kind: str, source: str, target: str) -> None:
         """Takes the edge away; that there was none the receipt of `commit` counts."""
         self._keep(("r", kind, source, target), "")
+
+    def expire(self, time: int) -> None:
+        """Takes away each edge whose recent time is before this time; the receipt of `commit` counts them.
+
+        Its batch asks for as many free blocks more as are used.
+        """
+        fields = ["x", str(time)]
+        faults = records.faults_of(fields)
+        if faults:
+            raise refusal(faults[0].word, fault=faults[0])
+        with self._lock:
+            self._pending.append(records.record(fields))
 
     def _keep(self, fields: Sequence[object], plain: str) -> None:
         """Keeps an operation. `plain` is its record, where that needs no quotes; most are seen to be right so."""
@@ -198,7 +215,7 @@ class Store:
             raise self._refused_commit(flight)
         if flight.from_pending:
             del self._pending[:flight.size]
-        receipt = Commit(*numbers(flight.done.head or "", "commit", 6))
+        receipt = committed(flight.done.head or "")
         if refused:
             raise OperationsRefused(receipt.version, [flight.refusal_of(number, word) for number, word in refused])
         return receipt
@@ -206,7 +223,9 @@ class Store:
     def _refused_commit(self, flight: "Flight") -> Refused:
         place = flight.place(0) if flight.place and flight.size else None
         if flight.done.word == PoolEmpty.word:
-            return PoolEmpty(needed=flight.size, free=self.stat().free, record=flight.done.number, place=place)
+            stat = self.stat()
+            needed = flight.size + (stat.used if flight.expires else 0)
+            return PoolEmpty(needed=needed, free=stat.free, record=flight.done.number, place=place)
         left = f"the batch of {flight.size} operations is pending still" if flight.from_pending else ""
         return refusal(flight.done.word or "", left, record=flight.done.number, place=place)
 
@@ -361,24 +380,26 @@ class Session:
     def levels(self, source: str, kind: Optional[str] = None, since: int = 0, until: int = records.MOST_TIME) -> Answer[int]:
         """The least number of edges on a walk from the source, for each vertex that one reaches."""
         asked = ("bfs", str(self.slot), source, kind or records.ANY, str(since), str(until))
-        rows = self._table(asked, lambda head: numbers(head, "bfs", 1)[0])
-        return self._answer("level", asked, {name: int(level) for name, level in map(str.split, rows)})
+        names, levels = _columns(self._table(asked, lambda head: numbers(head, "bfs", 1)[0]), 2)
+        return self._answer("level", asked, dict(zip(names, map(int, levels))))
 
     def components(self, kind: Optional[str] = None, since: int = 0, until: int = records.MOST_TIME) -> Answer[str]:
         """A label for each vertex: the first of the vertices that walks join to it, direction ignored."""
         asked = ("comp", str(self.slot), kind or records.ANY, str(since), str(until))
-        return self._answer("label", asked, {name: label for name, label in map(str.split, self._table(asked))})
+        names, labels = _columns(self._table(asked), 2)
+        return self._answer("label", asked, dict(zip(names, labels)))
 
     def cores(self, kind: Optional[str] = None, since: int = 0, until: int = records.MOST_TIME) -> Answer[int]:
         """Core numbers (Seidman 1983): the greatest k so that the vertex is in a set of which each has k neighbors in it."""
         asked = ("core", str(self.slot), kind or records.ANY, str(since), str(until))
-        return self._answer("core", asked, {name: int(core) for name, core in map(str.split, self._table(asked))})
+        names, cores = _columns(self._table(asked), 2)
+        return self._answer("core", asked, dict(zip(names, map(int, cores))))
 
     def degrees(self, kind: Optional[str] = None, since: int = 0, until: int = records.MOST_TIME) -> Answer[Degree]:
         """For each vertex how many edges go out and come in, and the weight that goes out."""
         asked = ("deg", str(self.slot), kind or records.ANY, str(since), str(until))
-        rows = (it.split() for it in self._table(asked))
-        return self._answer("degree", asked, {name: Degree(int(out), int(into), int(weight)) for name, out, into, weight in rows})
+        names, *counts = _columns(self._table(asked), 4)
+        return self._answer("degree", asked, dict(zip(names, map(Degree, *(map(int, it) for it in counts)))))
 
     def edge(self, kind: str, source: str, target: str) -> Optional[Edge]:
         """One edge, or `None`. Raises `NoKind` or `NoVertex` for names that the version doesn't have."""
@@ -450,6 +471,14 @@ class Session:
 
     def __repr__(self) -> str:
         return f"<Session of version {self.version} in slot {self.slot}: {'open' if self._is_open else 'closed'}>"
+
+
+def _columns(rows: List[str], count: int) -> List[List[str]]:
+    """A table's rows by column; each has so many fields."""
+    fields = " ".join(rows).split(" ") if rows else []
+    if len(fields) != len(rows) * count:
+        raise Misread(f"a table whose rows haven't all {count} fields")
+    return [fields[at::count] for at in range(count)]
 
 
 def _edge(head: str) -> Optional[Edge]:

@@ -83,6 +83,7 @@ class Commands(Case):
 
     @unittest.skipUnless(optional("matplotlib"), "matplotlib is not there")
     def test_pictures(self):
+        __import__("matplotlib.font_manager")  # (which says on a new machine that it looks for fonts)
         path = self.file("p.csv", PAIRS)
         for what, more, told in (("degrees", (), "vertices"), ("components", (), "components"), ("cores", (), "core number"),
                                  ("edge", ("--edge", "link,a,b", "--batch", "1"), "a to b (link)"),

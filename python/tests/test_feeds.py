@@ -69,9 +69,9 @@ class Feeds(Case):
         self.assertIn(told, str(fault.exception))
 
     def test_files_of_another_form(self):
-        self.fault("a.csv: no column 'too'; the header has 'from', 'to', 'amount', 'when'", "a.csv", TRANSFERS,
+        self.fault("a.csv: no column 'too'; the header has 'from', 'to', 'amount', 'when'. Say which", "a.csv", TRANSFERS,
                    columns=Columns("from", "too"))
-        self.fault("a.csv:3: 1 fields, where the columns need 2", "a.csv", "a,b\nc,d\ne\n", columns=Columns(1, 2))
+        self.fault("a.csv:1: 1 fields, where the columns need 2", "a.csv", "a b\nc,d\n", columns=Columns(1, 2))
         self.fault("there is no header", "a.csv", "a,b\n", header=False)
         self.fault("a.csv: columns are named, and there is no header", "a.csv", "")
         self.fault("a.txt:2: 1 fields, where an edge list has 2", "a.txt", "# x\n7\n")
@@ -92,7 +92,7 @@ class Loads(Case):
         for by, weight in (("set", 20), ("add", 1000)):
             store = self.store()
             loaded = store.load(path, by=by, columns=OF_TRANSFERS)
-            self.assertEqual(loaded.commit, (1, 2, 1, 0, 0, 0, 1))
+            self.assertEqual(loaded.commit, (1, 2, 1, 0, 0, 0, 1, 0))
             self.assertEqual(store.open().edge("transfer", "ana", "funnel"), Edge(weight, 1, 5))
         with self.assertRaisesRegex(ValueError, "by is 'set'"):
             store.load(path, by="sum")
@@ -126,18 +126,20 @@ class Loads(Case):
         self.assertEqual(told.exception.needed, found.needed)
 
     def test_bad_rows(self):
-        path = self.file("a.csv", "s,t,w\na,b,1\nc d,b,1\na,b,1.5\n,b,2\na,b,9999999999999\nb,c,2\n")
+        path = self.file("a.csv", "s,t,w\na,b,1\nc d,b,1\na,b,1.5\n,b,2\na,b,9999999999999\nb,c,2\nb\n")
         columns = Columns("s", "t", weight="w")
         store = self.store()
         with self.assertRaises(misteluk.BadRows) as told:
             store.load(path, by="add", columns=columns)
-        self.assertEqual((told.exception.count, told.exception.rows, store.stat().version), (4, 6, 0))
-        self.assertEqual([it.place.line for it in told.exception.faults], [3, 4, 5, 6])
-        self.assertEqual([it.word for it in told.exception.faults], ["BadName", "BadWeight", "BadName", "BadWeight"])
+        self.assertEqual((told.exception.count, told.exception.rows, store.stat().version), (5, 7, 0))
+        self.assertEqual([it.place.line for it in told.exception.faults], [3, 4, 5, 6, 8])
+        self.assertEqual([it.word for it in told.exception.faults], ["BadName", "BadWeight", "BadName", "BadWeight", "BadName"])
+        self.assertIn("a.csv:8: BadName: target '': a name has at least one byte", str(told.exception))
+        self.assertIn("can be loaded without them: skip_bad=True", str(told.exception))
         self.assertIn("a.csv:4: BadWeight: amount '1.5': a weight is a whole number", str(told.exception))
         loaded = store.load(path, by="add", columns=columns, skip_bad=True)
         self.assertEqual((loaded.commit.inserted, store.stat().edges), (2, 2))
-        self.assertIn("4 bad rows passed over", str(loaded))
+        self.assertIn("5 bad rows passed over", str(loaded))
 
     def test_weights_that_would_leave_their_limits_are_told(self):
         loaded = self.store().load(Feed("f", [(1, "k", "a", "b", "1099511627776", "0")] * 2), by="add")

@@ -30,7 +30,7 @@ class Lint(Case):
                    "open,0\ndeg,0,*,5,4\n")
         self.found("1: record 1: BadSlot: slot '2': the slots are 0 to 1. " + misteluk.BadSlot.advice, "open,2\n")
         self.found("", "open,2\n", seats=3)
-        self.found("18: record 18: PoolEmpty: the batch has more operations than blocks are free; the whole batch is given up. "
+        self.found("18: record 18: PoolEmpty: the batch asks for more blocks than are free; the whole batch is given up. "
                    + misteluk.PoolEmpty.advice, "i,k,a,b,1,1\n" * 17 + "commit\n", blocks=16)
         self.found(f"3: record 2: BadName: source 'a\\nb': {signs} '\\n'", 'r,k,a,"b"\n\nr,k,"a\nb",c\n')
 

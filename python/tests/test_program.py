@@ -110,7 +110,7 @@ class Programs(Case):
         self.assertEqual((store.pending, store.discard(), store.pending), (2, 1, 1))
         store.add("k", "a", "c", 1)
         self.go_on(store)
-        self.assertEqual(store.commit(), (2, 2, 0, 0, 0, 0, 2))
+        self.assertEqual(store.commit(), (2, 2, 0, 0, 0, 0, 2, 0))
         self.assertEqual((store.open().edge("k", "a", "b").weight, store.pending), (5, 0))
 
     def test_a_batch_that_was_sent_is_not_lost_at_the_end(self):

@@ -83,6 +83,32 @@ class Stores(Case):
             it()
         self.assertEqual(store.commit(), Commit(2, 0, 0, 1, 1, 1, 1))
 
+    def test_old_edges_expire(self):
+        store = self.store("insert k a b 1 10", "insert k a c 2 20", "insert k b a 3 15")
+        held = store.open()
+        store.expire(15)
+        store.insert("k", "a", "d", 4, 5)
+        self.assertEqual(store.commit(), Commit(2, 1, 0, 0, 0, 0, 1, 1))
+        last = store.open()
+        self.assertEqual((held.edge("k", "a", "b"), last.edge("k", "a", "b")), (Edge(1, 10, 10), None))
+        self.assertEqual(store.commit(), Commit(3, 0, 0, 0, 0, 0, 1, 0))
+        store.expire(0)
+        self.assertEqual(store.commit(), Commit(4, 0, 0, 0, 0, 0, 1, 0))
+
+    def test_an_expiry_asks_for_the_used_blocks_too(self):
+        store = self.store(*(f"insert k s{it} t 1 1" for it in range(9)), blocks=16)
+        store.expire(0)
+        with self.assertRaises(misteluk.PoolEmpty) as told:
+            store.commit()
+        self.assertEqual((told.exception.needed, told.exception.free, store.pending), (10, 7, 1))
+
+    def test_no_time_to_expire_by(self):
+        store = self.store()
+        for time in (-1, 2 ** 63):
+            with self.assertRaises(misteluk.BadTime):
+                store.expire(time)
+        self.assertEqual(store.pending, 0)
+
     def test_a_refused_batch_stays_pending(self):
         store = self.store(*(f"insert k s{it} t 1 1" for it in range(10)), blocks=16)
         session = store.open()
