@@ -35,6 +35,8 @@ pub enum Shape {
     Rmat(u32),
     Hub(u32),
     Path,
+    /// Each vertex but the first has one edge to it, as often from the one before as from any earlier: 1.5 edges a block.
+    Tree,
     Turns(u32),
 }
 
@@ -69,6 +71,10 @@ impl Edges {
             }
             Shape::Hub(scale) => (0, self.draw(1 << scale)),
             Shape::Path => (number, number + 1),
+            Shape::Tree => {
+                let follows = self.draw(2) == 0;
+                (if follows { number } else { self.draw(number + 1) }, number + 1)
+            }
             Shape::Turns(vertices) => (number % vertices, (number % vertices + number / vertices + 2) % vertices),
         }
     }

@@ -1,5 +1,5 @@
-// Writes a script of records for `bench/compare`: a load, then requests. Arguments: the load (`rmat`, `hub`, `mixed`,
-// `empty` or `none`), then pairs of a request and how often it stands. Operations come in batches of 4,096, with a
+// Writes a script of records for `bench/compare`: a load, then requests. Arguments: the load (`rmat`, `sparse`, `hub`,
+// `mixed`, `empty` or `none`), then pairs of a request and how often it stands. Operations come in batches of 4,096, with a
 // collection behind each.
 mod graphs;
 
@@ -36,6 +36,16 @@ impl Script {
             self.operation(format_args!("i,link,v{source},v{target},{},{time}", time % 100))?;
         }
         Ok(())
+    }
+
+    /// A tree of 65,536 vertices, of which most have one edge or none.
+    fn sparse(&mut self) -> io::Result<()> {
+        let mut edges = Edges::new(Shape::Tree);
+        for time in 1..1 << 16 {
+            let (source, target) = edges.next_edge();
+            self.operation(format_args!("i,link,v{source},v{target},1,{time}"))?;
+        }
+        self.commit()
     }
 
     /// 60,000 edges of one source, and then an addition to the weight of each, in another order.
@@ -83,6 +93,7 @@ fn main() -> io::Result<()> {
     let mut script = Script { out: BufWriter::new(io::stdout().lock()), operations: 0 };
     match words[0].as_str() {
         "rmat" => script.rmat()?,
+        "sparse" => script.sparse()?,
         "hub" => script.hub()?,
         "mixed" => script.mixed()?,
         "empty" => script.empty()?,
