@@ -24,12 +24,12 @@ use Rattle.block_layout.specs.Batches.{IsWithin, IsLayoutOf}
 use Rattle.block_layout.proofs.GraphLaws.{batch_layout}
 use Rattle.row_pages.specs.Rows as rows
 use Rattle.row_pages.specs.Rows.{row_of}
-use Rattle.shard_work.specs.RowBlocks.{block_of, blocks_of, numbers_of}
-use Rattle.shard_work.specs.Closing.{row_values}
-use Rattle.shard_work.specs.Done.{IsShardDone, Exchanges, sources_in, rows_by}
-use Rattle.shard_work.specs.Births.{births_end, births_dropped, later_births, open_row, births_after, dropped_births}
-use Rattle.shard_work.specs.declared.shard.Shard.{Shard}
-use Rattle.shard_work.specs.declared.shard.ShardDone.{ShardDone}
+use Rattle.batch_shards.specs.RowBlocks.{block_of, blocks_of, numbers_of}
+use Rattle.batch_shards.specs.Closing.{row_values}
+use Rattle.batch_shards.specs.Done.{IsShardDone, Exchanges, sources_in, rows_by}
+use Rattle.batch_shards.specs.Births.{births_end, births_dropped, later_births, open_row, births_after, dropped_births}
+use Rattle.batch_shards.specs.declared.shard.Shard.{Shard}
+use Rattle.batch_shards.specs.declared.shard.ShardDone.{ShardDone}
 use Rattle.graph_version.specs.Versions.{VersionView, IsVersion, IsBlockOf, AreRowsOf, content, layout_of, is_in}
 use Rattle.graph_version.specs.Kept.{vertex_book, kind_book, edge_total}
 use Rattle.graph_version.specs.Drafts.{DraftView, drafted_over, with_batch, IsWhole}
@@ -37,7 +37,7 @@ use Rattle.graph_version.proofs.Few.{few_total}
 use Rattle.batch_plan.specs.Shards.{IsShardOf}
 use Rattle.batch_plan.specs.Planned.{MeetsNeitherLimit}
 use Rattle.batch_apply.specs.Plans.{written, written_all}
-use Rattle.shard_work.specs.Groups.{told}
+use Rattle.batch_shards.specs.Groups.{told}
 use Rattle.batch_apply.specs.Sums.{ArePlanned}
 use Rattle.batch_apply.specs.Applied.{IsApplied, ReplacesRows, row_among, written_from}
 use Rattle.batch_apply.specs.declared.applied.Applied.{Applied}

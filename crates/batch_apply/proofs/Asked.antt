@@ -15,15 +15,15 @@ use Rattle.edge_block.specs.Slots.{BlockView, Slot, edges_in, has_before}
 use Rattle.block_layout.specs.Operations.{names_after, kinds_after}
 use Rattle.block_layout.specs.Batches.{Resolved, AtKey, InAll, resolved, shard_of, shard_ops}
 use Rattle.row_pages.specs.Rows.{row_of, blocks_of}
-use Rattle.shard_work.specs.Done.{layout_by, sources_in, steps_in}
-use Rattle.shard_work.specs.Groups.{is_expiry}
-use Rattle.shard_work.specs.Shards.{resolved_at, resolved_in}
-use Rattle.shard_work.specs.Spending.{time_of, old_blocks}
-use Rattle.shard_work.specs.Spending as spending
-use Rattle.shard_work.specs.declared.shard.Act.{Act}
-use Rattle.shard_work.specs.declared.shard.Act.TheVariants as act
-use Rattle.shard_work.specs.declared.shard.Shard.{Shard}
-use Rattle.shard_work.specs.declared.shard.Step.{Step}
+use Rattle.batch_shards.specs.Done.{layout_by, sources_in, steps_in}
+use Rattle.batch_shards.specs.Groups.{is_expiry}
+use Rattle.batch_shards.specs.Shards.{resolved_at, resolved_in}
+use Rattle.batch_shards.specs.Spending.{time_of, old_blocks}
+use Rattle.batch_shards.specs.Spending as spending
+use Rattle.batch_shards.specs.declared.shard.Act.{Act}
+use Rattle.batch_shards.specs.declared.shard.Act.TheVariants as act
+use Rattle.batch_shards.specs.declared.shard.Shard.{Shard}
+use Rattle.batch_shards.specs.declared.shard.Step.{Step}
 use Rattle.batch_plan.specs.Planned.{IsPlan}
 use Rattle.batch_plan.specs.Shards.{acts, unsourced, latest, IsShardOf}
 use Rattle.batch_plan.specs.declared.plans.Plan.{Plan}

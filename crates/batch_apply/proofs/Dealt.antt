@@ -11,13 +11,13 @@ use Rattle.edge_block.specs.Slots.{BlockView}
 use Rattle.block_layout.specs.Operations.{names_after, kinds_after}
 use Rattle.block_layout.specs.Rows.{Shape}
 use Rattle.block_layout.specs.Batches.{Resolved, resolved}
-use Rattle.shard_work.specs.RowBlocks.{numbers_of}
-use Rattle.shard_work.specs.Shards.{AreSteps}
-use Rattle.shard_work.specs.Done.{IsShardDone, sources_in}
-use Rattle.shard_work.specs.Spending.{needed}
-use Rattle.shard_work.specs.declared.shard.Shard.{Shard}
-use Rattle.shard_work.specs.declared.shard.ShardDone.{ShardDone}
-use Rattle.shard_work.specs.declared.shard.Step.{Step}
+use Rattle.batch_shards.specs.RowBlocks.{numbers_of}
+use Rattle.batch_shards.specs.Shards.{AreSteps}
+use Rattle.batch_shards.specs.Done.{IsShardDone, sources_in}
+use Rattle.batch_shards.specs.Spending.{needed}
+use Rattle.batch_shards.specs.declared.shard.Shard.{Shard}
+use Rattle.batch_shards.specs.declared.shard.ShardDone.{ShardDone}
+use Rattle.batch_shards.specs.declared.shard.Step.{Step}
 use Rattle.batch_plan.specs.Shards.{latest, is_old_row, AreShardSteps, IsShardOf}
 use Rattle.batch_apply.specs.Jobs.{IsDealt, IsShard, AreDone}
 use Rattle.batch_apply.specs.declared.workers.Job.{Job}

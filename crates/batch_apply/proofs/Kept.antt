@@ -8,7 +8,7 @@ use Rattle.std.proofs.lemmas.List.Elements.{All-head, All-tail}
 use Rattle.edge_block.specs.Slots.{BlockView}
 use Rattle.block_layout.specs.Batches.{sum_below}
 use Rattle.row_pages.specs.Rows.{row_of, blocks_of}
-use Rattle.shard_work.specs.Done.{Exchanges}
+use Rattle.batch_shards.specs.Done.{Exchanges}
 use Rattle.batch_plan.proofs.Growth.{same_number, other_number}
 use Rattle.batch_apply.specs.Applied.{row_among}
 use Rattle.batch_apply.proofs.Totals.{count_more, sum_all}

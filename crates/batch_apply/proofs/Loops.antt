@@ -10,14 +10,14 @@ use Rattle.graph_model.specs.declared.ids.VertexId.{VertexId}
 use Rattle.graph_model.specs.declared.batches.Outcome.{Outcome}
 use Rattle.edge_block.specs.declared.blocks.Block.{Block}
 use Rattle.row_pages.specs.Rows.{row_of}
-use Rattle.shard_work.specs.RowBlocks.{block_of, blocks_of, numbers_of}
-use Rattle.shard_work.specs.Closing.{row_values}
-use Rattle.shard_work.specs.declared.shard.ShardDone.{ShardDone}
+use Rattle.batch_shards.specs.RowBlocks.{block_of, blocks_of, numbers_of}
+use Rattle.batch_shards.specs.Closing.{row_values}
+use Rattle.batch_shards.specs.declared.shard.ShardDone.{ShardDone}
 use Rattle.graph_version.specs.Drafts.{DraftView, ReplacesRow}
 use Rattle.graph_model.specs.declared.batches.Outcome.TheVariants.{Absent}
 use Rattle.block_layout.specs.Batches.{together}
 use Rattle.batch_apply.specs.Plans.{written}
-use Rattle.shard_work.specs.Groups.{told}
+use Rattle.batch_shards.specs.Groups.{told}
 use Rattle.batch_apply.specs.Applied.{ReplacesRows, written_from, row_among}
 use Rattle.batch_apply.proofs.Kept.{count_append}
 use Rattle.batch_apply.proofs.Placed.{among_more}

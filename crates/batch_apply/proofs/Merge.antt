@@ -10,7 +10,7 @@ use Rattle.block_layout.specs.Batches.{opened, layout_after}
 use Rattle.block_layout.proofs.ShardLaws.{shard_rows, shard_outcomes}
 use Rattle.graph_model.specs.declared.batches.Outcome.{Outcome}
 use Rattle.batch_apply.specs.Plans.{placed_ops, shard_at, ops_of}
-use Rattle.shard_work.specs.Groups.{told}
+use Rattle.batch_shards.specs.Groups.{told}
 
 -- a shard of placed operations is the shard of the operations
 shard_is : (p : Resolved → Bool) (rs : List Resolved) (k : ℕ) → map (λ x. x.1) (filter (λ x. p x.1) (enumerate_from k rs))

@@ -13,16 +13,16 @@ use Rattle.graph_model.specs.declared.batches.NamedOp.{NamedOp}
 use Rattle.block_layout.specs.Rows.{Shape, OpenBlock, untouched, taken_in, dropped_in, shape_of, row_end}
 use Rattle.block_layout.specs.Batches.{Resolved, AtKey, InAll, resolved, is_in_shard, shard_ops, rows_all, opened, key_is_of}
 use Rattle.block_layout.specs.Batches.{taken_by, dropped_by, outcomes_all, layout_after, sum_below, IsWithin, IsLayoutOf}
-use Rattle.shard_work.specs.Births.{births_end}
+use Rattle.batch_shards.specs.Births.{births_end}
 use Rattle.graph_version.specs.Versions.{is_in}
-use Rattle.shard_work.specs.Shards.{IsAct, IsPlace, key_at, resolved_at}
-use Rattle.shard_work.specs.declared.shard.Act.{Act}
-use Rattle.shard_work.specs.declared.shard.Act.TheVariants.{Edge, Expire}
-use Rattle.shard_work.specs.Done.{IsShardDone, sources_in, steps_in, rows_by, layout_by, sum_of}
-use Rattle.shard_work.specs.declared.shard.Shard.{Shard}
-use Rattle.shard_work.specs.declared.shard.ShardDone.{ShardDone}
-use Rattle.shard_work.specs.declared.shard.Step.{Step}
-use Rattle.shard_work.specs.declared.shard.Place.{Place}
+use Rattle.batch_shards.specs.Shards.{IsAct, IsPlace, key_at, resolved_at}
+use Rattle.batch_shards.specs.declared.shard.Act.{Act}
+use Rattle.batch_shards.specs.declared.shard.Act.TheVariants.{Edge, Expire}
+use Rattle.batch_shards.specs.Done.{IsShardDone, sources_in, steps_in, rows_by, layout_by, sum_of}
+use Rattle.batch_shards.specs.declared.shard.Shard.{Shard}
+use Rattle.batch_shards.specs.declared.shard.ShardDone.{ShardDone}
+use Rattle.batch_shards.specs.declared.shard.Step.{Step}
+use Rattle.batch_shards.specs.declared.shard.Place.{Place}
 use Rattle.std.specs.Prelude.{nat_eq}
 use Rattle.batch_plan.specs.Shards.{acts, unsourced, latest, is_old_row, IsShardOf}
 use Rattle.batch_apply.specs.Plans.{results, told}
@@ -33,7 +33,7 @@ use Rattle.batch_apply.specs.Sums.{ArePlanned}
 use Rattle.batch_apply.proofs.Totals.{sum_all, worker_rows, none_taken, none_dropped, count_more, same_outcomes}
 use Rattle.batch_plan.proofs.Sources.{sources_within}
 use Rattle.batch_apply.proofs.Merge.{same_ops, shard_places, kept_all}
-use Rattle.shard_work.specs.Closing.{row_values}
+use Rattle.batch_shards.specs.Closing.{row_values}
 use Rattle.edge_block.specs.Slots.{BlockView}
 use Rattle.graph_model.specs.declared.batches.Outcome.{Outcome}
 

@@ -16,7 +16,7 @@ use Rattle.graph_model.specs.declared.batches.Outcome.TheVariants.{Updated, Over
 use Rattle.graph_model.specs.declared.changes.EdgeChange.{EdgeChange}
 use Rattle.graph_model.specs.declared.changes.EdgeChange.TheVariants.{Insert as ToInsert, Incr as ToIncr, Remove as ToRemove}
 use Rattle.graph_model.proofs.Expiry.{fewer}
-use Rattle.shard_work.specs.Groups.{told}
+use Rattle.batch_shards.specs.Groups.{told}
 use Rattle.batch_apply.specs.Counts.{is_inserted}
 use Rattle.batch_apply.proofs.EdgeCounts.{op_len}
 

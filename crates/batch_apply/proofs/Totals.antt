@@ -13,8 +13,8 @@ use Rattle.block_layout.specs.Batches.{Resolved, AtKey, InAll, resolved, shard_o
 use Rattle.block_layout.specs.Batches.{outcomes_all}
 use Rattle.block_layout.proofs.ShardLaws.{shard_rows}
 use Rattle.batch_plan.specs.Shards.{acts, unsourced, IsShardOf}
-use Rattle.shard_work.specs.Done.{steps_in}
-use Rattle.shard_work.specs.declared.shard.Shard.{Shard}
+use Rattle.batch_shards.specs.Done.{steps_in}
+use Rattle.batch_shards.specs.declared.shard.Shard.{Shard}
 
 -- rows and outcomes don't depend on the sources' numbers beside the keys
 unsourced_rows : (r : Resolved) (rows : ℕ → List OpenBlock) → rows_step (unsourced r) rows ≡ rows_step r rows

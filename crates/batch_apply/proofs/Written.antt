@@ -13,7 +13,7 @@ use Rattle.block_layout.specs.Rows.{OpenBlock, old_in_row}
 use Rattle.block_layout.specs.Batches.{Resolved, AtKey, InAll, shard_of, is_in_shard, together, outcome_in, outcomes_all, rows_step}
 use Rattle.block_layout.specs.Batches.{key_outcome}
 use Rattle.batch_apply.specs.Plans.{written, results, written_all}
-use Rattle.shard_work.specs.Groups.{told}
+use Rattle.batch_shards.specs.Groups.{told}
 
 -- what stands after a shard: the results of the operations that pass are put together with it
 abbrev mixed : (Resolved → Bool) → List Resolved → List Outcome → List Outcome → List Outcome

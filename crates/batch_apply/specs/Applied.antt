@@ -4,14 +4,14 @@ use Rattle.graph_model.specs.Step.{after_all, outcomes}
 use Rattle.graph_model.specs.declared.batches.NamedOp.{NamedOp}
 use Rattle.edge_block.specs.Slots.{BlockView}
 use Rattle.block_layout.specs.Batches.{layout_after, taken_by, dropped_by}
-use Rattle.shard_work.specs.Births.{CarriesBirths}
+use Rattle.batch_shards.specs.Births.{CarriesBirths}
 use Rattle.row_pages.specs.Rows.{row_of, blocks_of}
-use Rattle.shard_work.specs.RowBlocks as shared
-use Rattle.shard_work.specs.Done.{Exchanges}
+use Rattle.batch_shards.specs.RowBlocks as shared
+use Rattle.batch_shards.specs.Done.{Exchanges}
 use Rattle.graph_version.specs.Versions.{VersionView, IsVersion, content, layout_of}
 use Rattle.graph_version.specs.Drafts.{DraftView}
 use Rattle.graph_model.specs.declared.batches.Outcome.{Outcome}
-use Rattle.shard_work.specs.declared.shard.ShardDone.{ShardDone}
+use Rattle.batch_shards.specs.declared.shard.ShardDone.{ShardDone}
 use Rattle.batch_apply.specs.Plans.{written}
 use Rattle.batch_apply.specs.declared.applied.Applied.{Applied}
 

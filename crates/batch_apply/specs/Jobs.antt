@@ -2,11 +2,11 @@
 use Rattle.std.specs.Prelude.{◌≡◌, ◌≢◌, ℕ, ◌≤◌, List, map, length, AllPairs}
 use Rattle.std.specs.List.{AllZip}
 use Rattle.edge_block.specs.Slots.{BlockView}
-use Rattle.shard_work.specs.Shards.{AreSteps}
-use Rattle.shard_work.specs.Done.{IsShardDone, sources_in}
-use Rattle.shard_work.specs.Spending.{needed}
-use Rattle.shard_work.specs.declared.shard.Shard.{Shard}
-use Rattle.shard_work.specs.declared.shard.ShardDone.{ShardDone}
+use Rattle.batch_shards.specs.Shards.{AreSteps}
+use Rattle.batch_shards.specs.Done.{IsShardDone, sources_in}
+use Rattle.batch_shards.specs.Spending.{needed}
+use Rattle.batch_shards.specs.declared.shard.Shard.{Shard}
+use Rattle.batch_shards.specs.declared.shard.ShardDone.{ShardDone}
 use Rattle.batch_apply.specs.declared.workers.Job.{Job}
 
 -- a shard that can be worked on over these rows: its sources are distinct, and it has as many fresh blocks as it may take

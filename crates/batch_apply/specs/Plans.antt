@@ -7,7 +7,7 @@ use Rattle.graph_model.specs.declared.batches.Outcome.{Outcome}
 use Rattle.graph_model.specs.declared.batches.Outcome.TheVariants.{Absent}
 use Rattle.block_layout.specs.Rows.{OpenBlock}
 use Rattle.block_layout.specs.Batches.{Resolved, resolved, is_in_shard, outcomes_all, picked, together}
-pub use Rattle.shard_work.specs.Groups.{told}
+pub use Rattle.batch_shards.specs.Groups.{told}
 
 -- the batch's operations, each with its place
 abbrev pub placed_ops : List NamedOp → Graph → List (ℕ × Resolved)

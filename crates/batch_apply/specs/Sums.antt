@@ -6,7 +6,7 @@ use Rattle.graph_model.specs.declared.batches.NamedOp.{NamedOp}
 use Rattle.block_layout.specs.Rows.{Shape}
 use Rattle.block_layout.specs.Batches.{resolved}
 use Rattle.batch_plan.specs.Shards.{IsShardOf}
-use Rattle.shard_work.specs.declared.shard.Shard.{Shard}
+use Rattle.batch_shards.specs.declared.shard.Shard.{Shard}
 
 -- one shard for each worker, in order, each with the batch's operations on the worker's sources, over a version's layout
 abbrev pub ArePlanned : ℕ → List NamedOp → Graph → (ℕ → List Shape) → List Shard → Type 0

@@ -5,7 +5,7 @@ ghost use Rattle.std.specs.Prelude.{if◌then◌else◌};
 ghost use Rattle.std.specs.List.{sum_by, list_any, AllZip};
 ghost use Rattle.graph_model.specs.Step.{after_all, is_expire};
 ghost use Rattle.edge_block.specs.Slots.{BlockView};
-ghost use Rattle.shard_work.specs.declared.shard.ShardDone.{ShardDone};
+ghost use Rattle.batch_shards.specs.declared.shard.ShardDone.{ShardDone};
 ghost use Rattle.graph_model.specs.Graph.{Graph};
 ghost use Rattle.graph_model.specs.declared.batches.NamedOp.{NamedOp};
 ghost use Rattle.graph_model.specs.declared.batches.Outcome.TheVariants.{Absent};
@@ -17,11 +17,11 @@ ghost use Rattle.batch_plan.specs.Shards.{IsShardOf};
 ghost use Rattle.batch_plan.specs.Planned.{IsPlan};
 ghost use Rattle.batch_plan.specs.declared.plans.Plan.{Plan};
 ghost use Rattle.batch_apply.specs.Sums.{ArePlanned};
-ghost use Rattle.shard_work.specs.Done.{IsShardDone, layout_by, sources_in, steps_in};
-ghost use Rattle.shard_work.specs.declared.shard.Shard.{Shard};
+ghost use Rattle.batch_shards.specs.Done.{IsShardDone, layout_by, sources_in, steps_in};
+ghost use Rattle.batch_shards.specs.declared.shard.Shard.{Shard};
 ghost use Rattle.batch_apply.specs.Plans.{written_all, results};
-ghost use Rattle.shard_work.specs.Groups.{told};
-ghost use Rattle.shard_work.specs.Closing.{row_values};
+ghost use Rattle.batch_shards.specs.Groups.{told};
+ghost use Rattle.batch_shards.specs.Closing.{row_values};
 
 /// The outcomes of all shards, put together at their places, are the batch's, where an expiry counts the edges of all their
 /// sources, and the program tells counts modulo 2^64.

@@ -3,11 +3,11 @@
 ghost use Rattle.std.specs.Prelude.{◌≡◌, ◌+◌, ◌++◌, ◌<◌, ◌≤◌, map, IfOk, IfSome, MatchBool, vec_len, length, [], All, List, ℕ};
 ghost use Rattle.std.specs.Thread.{IsSync};
 ghost use Rattle.row_pages.specs.Rows.{row_of};
-ghost use Rattle.shard_work.specs.Done.{IsShardDone};
+ghost use Rattle.batch_shards.specs.Done.{IsShardDone};
 ghost use Rattle.batch_apply.specs.Jobs.{IsShard, AreDone};
 
+use batch_shards::{Shard, ShardDone, work_on};
 use graph_version::Version;
-use shard_work::{Shard, ShardDone, work_on};
 use std::alloc::{AllocError, Global};
 use std::thread::{Threads, join};
 

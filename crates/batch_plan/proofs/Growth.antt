@@ -14,11 +14,11 @@ use Rattle.std.proofs.lemmas.List.Elements.{All-head, All-tail, All-nil, All-con
 use Rattle.std.proofs.lemmas.List.Quantifiers.{all_pairs_push}
 use Rattle.graph_model.specs.Graph.{Key}
 use Rattle.block_layout.specs.Batches.{Resolved, AtKey, InAll, IsPlaced, shard_of, is_in_shard, shard_ops}
-use Rattle.shard_work.specs.Shards.{AreSteps, IsAct, IsPlace, key_at, resolved_at, resolved_in}
-use Rattle.shard_work.specs.declared.shard.Act.{Act}
-use Rattle.shard_work.specs.declared.shard.Act.TheVariants.{Edge, Expire}
-use Rattle.shard_work.specs.declared.shard.Place.{Place}
-use Rattle.shard_work.specs.declared.shard.Step.{Step}
+use Rattle.batch_shards.specs.Shards.{AreSteps, IsAct, IsPlace, key_at, resolved_at, resolved_in}
+use Rattle.batch_shards.specs.declared.shard.Act.{Act}
+use Rattle.batch_shards.specs.declared.shard.Act.TheVariants.{Edge, Expire}
+use Rattle.batch_shards.specs.declared.shard.Place.{Place}
+use Rattle.batch_shards.specs.declared.shard.Step.{Step}
 use Rattle.batch_plan.specs.Shards.{acts, unsourced, IsSourceBelow, AreShardSteps, with_source, with_op}
 
 no_more : {A : Type 0} (xs : List A) → xs ++ [] ≡ xs

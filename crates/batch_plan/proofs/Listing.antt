@@ -10,11 +10,11 @@ use Rattle.std.proofs.lemmas.List.Elements.{All-nil, All-head, All-tail, All-map
 use Rattle.edge_block.specs.Slots.{BlockView, has_before}
 use Rattle.block_layout.specs.Rows.{shape_of}
 use Rattle.block_layout.specs.Batches.{Resolved, AtKey, InAll, is_in_shard, shard_ops}
-use Rattle.shard_work.specs.Shards.{IsAct, resolved_at, resolved_in}
-use Rattle.shard_work.specs.Spending.{time_of, old_blocks, latest as latest_step}
-use Rattle.shard_work.specs.declared.shard.Act.{Act}
-use Rattle.shard_work.specs.declared.shard.Act.TheVariants.{Edge, Expire}
-use Rattle.shard_work.specs.declared.shard.Step.{Step}
+use Rattle.batch_shards.specs.Shards.{IsAct, resolved_at, resolved_in}
+use Rattle.batch_shards.specs.Spending.{time_of, old_blocks, latest as latest_step}
+use Rattle.batch_shards.specs.declared.shard.Act.{Act}
+use Rattle.batch_shards.specs.declared.shard.Act.TheVariants.{Edge, Expire}
+use Rattle.batch_shards.specs.declared.shard.Step.{Step}
 use Rattle.batch_plan.specs.Shards.{acts, is_old_row, latest, AreShardSteps}
 use Rattle.batch_plan.specs.OldRows.{AreOldRows, old_sources, own_rows, blocks_in}
 use Rattle.batch_plan.specs.declared.old.OldRow.{OldRow}

@@ -17,11 +17,11 @@ use Rattle.row_pages.specs.Rows.{row_of, blocks_of}
 use Rattle.graph_version.specs.Versions.{VersionView, IsBlockOf, IsVersion}
 use Rattle.graph_version.specs.Edges.{edge_from, edges_in_block, edges_in_blocks}
 use Rattle.graph_version.proofs.Few.{count_is_total, few_total}
-use Rattle.shard_work.specs.Done.{layout_by, sources_in}
-use Rattle.shard_work.specs.Groups.{is_expiry}
-use Rattle.shard_work.specs.Spending.{old_blocks, needed, latest as latest_step}
-use Rattle.shard_work.specs.declared.shard.Shard.{Shard}
-use Rattle.shard_work.specs.declared.shard.Step.{Step}
+use Rattle.batch_shards.specs.Done.{layout_by, sources_in}
+use Rattle.batch_shards.specs.Groups.{is_expiry}
+use Rattle.batch_shards.specs.Spending.{old_blocks, needed, latest as latest_step}
+use Rattle.batch_shards.specs.declared.shard.Shard.{Shard}
+use Rattle.batch_shards.specs.declared.shard.Step.{Step}
 use Rattle.batch_plan.specs.Shards.{AreShardSteps, IsShardOf, latest}
 use Rattle.batch_plan.specs.OldRows.{AreOldRows, old_sources, time_in, expiry_time}
 use Rattle.batch_plan.specs.declared.old.OldRow.{OldRow}

@@ -15,7 +15,7 @@ use Rattle.block_layout.specs.Rows.{Shape, shape_of, block_at, row_at}
 use Rattle.block_layout.specs.Batches.{IsWithin, IsLayoutOf}
 use Rattle.row_pages.specs.Rows.{row_of}
 use Rattle.graph_version.specs.Versions.{VersionView, content, layout_of, IsVersion}
-use Rattle.shard_work.specs.Spending.{old_blocks}
+use Rattle.batch_shards.specs.Spending.{old_blocks}
 use Rattle.batch_plan.specs.Shards.{is_old_row}
 use Rattle.batch_plan.specs.OldRows.{AreOldRows, old_sources}
 use Rattle.batch_plan.specs.declared.old.OldRow.{OldRow}

@@ -9,8 +9,8 @@ use Rattle.graph_model.proofs.NameLists.{number_of-lt}
 use Rattle.block_layout.specs.Rows.{Shape}
 use Rattle.block_layout.specs.Batches.{is_known, resolve_parts, resolved, IsWithin, IsLayoutOf}
 use Rattle.block_layout.specs.Operations.{Parts, OfEdge, OfAll, parts_of, names_after, kinds_after}
-use Rattle.shard_work.specs.Done.{sources_in}
-use Rattle.shard_work.specs.declared.shard.Shard.{Shard}
+use Rattle.batch_shards.specs.Done.{sources_in}
+use Rattle.batch_shards.specs.declared.shard.Shard.{Shard}
 use Rattle.batch_plan.specs.Plan.{names_all}
 use Rattle.batch_plan.specs.Shards.{IsSourceBelow, IsShardOf, latest}
 use Rattle.batch_plan.proofs.OldRows.{old_within}

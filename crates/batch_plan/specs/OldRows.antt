@@ -5,7 +5,7 @@ use Rattle.std.specs.List.{list_any, sum_by}
 use Rattle.graph_model.specs.declared.batches.NamedOp.{NamedOp}
 use Rattle.edge_block.specs.Slots.{BlockView}
 use Rattle.block_layout.specs.Operations.{Parts, OfEdge, OfAll, parts_of}
-use Rattle.shard_work.specs.Spending.{old_blocks}
+use Rattle.batch_shards.specs.Spending.{old_blocks}
 use Rattle.batch_plan.specs.declared.old.OldRow.{OldRow}
 
 -- the greatest time of a batch's expiries, 0 where it has none

@@ -7,8 +7,8 @@ use Rattle.graph_model.specs.Step.{after_all}
 use Rattle.graph_model.specs.declared.batches.NamedOp.{NamedOp}
 use Rattle.edge_block.specs.Slots.{BlockView}
 use Rattle.block_layout.specs.Batches.{resolved}
-use Rattle.shard_work.specs.Done.{layout_by, sources_in}
-use Rattle.shard_work.specs.Spending.{needed}
+use Rattle.batch_shards.specs.Done.{layout_by, sources_in}
+use Rattle.batch_shards.specs.Spending.{needed}
 use Rattle.graph_version.specs.Kept.{vertex_book, kind_book}
 use Rattle.batch_plan.specs.Shards.{IsShardOf}
 use Rattle.batch_plan.specs.declared.plans.Plan.{Plan}

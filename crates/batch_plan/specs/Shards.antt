@@ -8,10 +8,10 @@ use Rattle.graph_model.specs.Graph.{Key}
 use Rattle.edge_block.specs.Slots.{has_before}
 use Rattle.block_layout.specs.Rows.{Shape}
 use Rattle.block_layout.specs.Batches.{Resolved, AtKey, InAll, is_in_shard, shard_ops}
-use Rattle.shard_work.specs.Shards.{AreSteps, resolved_in}
-use Rattle.shard_work.specs.Done.{sources_in}
-use Rattle.shard_work.specs.declared.shard.Shard.{Shard}
-use Rattle.shard_work.specs.declared.shard.Step.{Step}
+use Rattle.batch_shards.specs.Shards.{AreSteps, resolved_in}
+use Rattle.batch_shards.specs.Done.{sources_in}
+use Rattle.batch_shards.specs.declared.shard.Shard.{Shard}
+use Rattle.batch_shards.specs.declared.shard.Step.{Step}
 
 -- an operation without its source's number, on which neither rows nor outcomes depend
 abbrev pub unsourced : Resolved → Resolved

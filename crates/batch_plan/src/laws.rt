@@ -6,8 +6,8 @@ ghost use Rattle.graph_model.specs.Step.{after_all};
 ghost use Rattle.graph_model.specs.declared.batches.NamedOp.{NamedOp};
 ghost use Rattle.block_layout.specs.Rows.{Shape};
 ghost use Rattle.block_layout.specs.Batches.{resolved, IsWithin, IsLayoutOf};
-ghost use Rattle.shard_work.specs.Done.{sources_in};
-ghost use Rattle.shard_work.specs.declared.shard.Shard.{Shard};
+ghost use Rattle.batch_shards.specs.Done.{sources_in};
+ghost use Rattle.batch_shards.specs.declared.shard.Shard.{Shard};
 ghost use Rattle.batch_plan.specs.Shards.{IsShardOf};
 
 /// The sources of a batch's shards are vertices of the graph that the batch leaves.

@@ -4,7 +4,7 @@ ghost use Rattle.std.specs.Prelude.{◌≡◌, IfOk};
 ghost use Rattle.block_layout.specs.Operations.{parts_of};
 ghost use Rattle.row_pages.specs.Rows.{row_of};
 ghost use Rattle.row_pages.specs.Sharing.{block_values};
-ghost use Rattle.shard_work.specs.Spending.{old_blocks};
+ghost use Rattle.batch_shards.specs.Spending.{old_blocks};
 ghost use Rattle.batch_plan.specs.OldRows.{AreOldRows, expiry_time, time_in};
 
 use edge_block::Block;

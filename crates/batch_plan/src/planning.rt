@@ -6,8 +6,8 @@ ghost use Rattle.edge_block.specs.Slots.{BlockView};
 ghost use Rattle.block_layout.specs.Batches.{IsPlaced};
 ghost use Rattle.graph_version.specs.Versions.{content};
 ghost use Rattle.row_pages.specs.Rows.{row_of};
-ghost use Rattle.shard_work.specs.Done.{layout_by, sources_in};
-ghost use Rattle.shard_work.specs.Spending.{needed};
+ghost use Rattle.batch_shards.specs.Done.{layout_by, sources_in};
+ghost use Rattle.batch_shards.specs.Spending.{needed};
 ghost use Rattle.batch_plan.specs.Plan.{shown, IsInRange};
 ghost use Rattle.batch_plan.specs.Planned.{IsPlan, MeetsNeitherLimit, IsPlanRefusal};
 ghost use Rattle.batch_plan.specs.Shards.{IsShardOf, latest};
@@ -18,9 +18,9 @@ use crate::old::OldRow;
 use crate::plans::{Plan, PlanError};
 use crate::resolve::ResolvedOp;
 use crate::shards::{Needing, shard_for};
+use batch_shards::Shard;
 use graph_model::Batch;
 use graph_version::Version;
-use shard_work::Shard;
 use std::alloc::{AllocError, Global};
 
 /// Plans a batch over a version for so many workers: a vertex's operations are those of the worker whose number is the

@@ -3,7 +3,7 @@
 ghost use Rattle.std.specs.Prelude.{◌≡◌, ◌-◌, ◌^◌, min};
 ghost use Rattle.std.specs.List.{sum_by};
 
-use shard_work::Shard;
+use batch_shards::Shard;
 use std::alloc::AllocError;
 use thiserror::Error;
 use vertex_names::NameBook;

@@ -6,18 +6,18 @@ ghost use Rattle.indexmap.specs.IndexSet.{keys};
 ghost use Rattle.edge_block.specs.Slots.{BlockView};
 ghost use Rattle.block_layout.specs.Batches as layout;
 ghost use Rattle.block_layout.specs.Batches.{IsPlaced};
-ghost use Rattle.shard_work.specs.Shards.{IsPlace, IsAct, key_at, resolved_at};
-ghost use Rattle.shard_work.specs.Done.{layout_by, sources_in};
-ghost use Rattle.shard_work.specs.Spending.{needed};
+ghost use Rattle.batch_shards.specs.Shards.{IsPlace, IsAct, key_at, resolved_at};
+ghost use Rattle.batch_shards.specs.Done.{layout_by, sources_in};
+ghost use Rattle.batch_shards.specs.Spending.{needed};
 ghost use Rattle.batch_plan.specs.Plan.{key_of, shown, IsInRange};
 ghost use Rattle.batch_plan.specs.OldRows.{AreOldRows, old_sources, own_rows, blocks_in};
 ghost use Rattle.batch_plan.specs.Shards.{IsShardOf, latest, unsourced, with_source, with_op};
 
 use crate::old::OldRow;
 use crate::resolve::{EdgeKey, ResolvedOp};
+use batch_shards::{Act, Place, Shard, Step};
 use graph_model::VertexId;
 use indexmap::IndexSet;
-use shard_work::{Act, Place, Shard, Step};
 use std::alloc::{AllocError, Global};
 
 /// The worker of an operation on an edge: its source's number by the number of workers. One on an unknown source is worker

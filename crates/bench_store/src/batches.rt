@@ -5,7 +5,6 @@ use crate::edges::{Edges, Shape};
 use crate::times::Times;
 use batch_apply::{PassAll, apply};
 use batch_plan::{old_rows, plan};
-use blank_blocks::fresh_blocks;
 use graph_model::Batch;
 use graph_version::Version;
 use std::io;
@@ -13,6 +12,7 @@ use std::sync::{Arc, Wait};
 use std::thread::Threads;
 use std::time::{Clock, CpuClock};
 use stream_store::Desk;
+use tests_blocks::fresh_blocks;
 
 /// How many operations a line's batches have together.
 const OPERATIONS: u32 = 4096;

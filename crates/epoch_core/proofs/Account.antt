@@ -11,8 +11,8 @@ use Rattle.std.proofs.lemmas.List.{take_all, length-replicate}
 use Rattle.graph_model.specs.Graph.{Graph, map_of}
 use Rattle.graph_model.specs.declared.ids.Edge.{Edge}
 use Rattle.graph_model.specs.declared.requests.Request.{Request}
-use Rattle.epoch_posts.specs.declared.states.Status.{Status}
-use Rattle.epoch_posts.specs.declared.states.Version.{Version}
+use Rattle.epoch_blocks.specs.declared.states.Status.{Status}
+use Rattle.epoch_blocks.specs.declared.states.Version.{Version}
 use Rattle.epoch_core.specs.declared.states.Hold.{Hold}
 use Rattle.epoch_core.specs.declared.states.Inquiry.{Inquiry}
 use Rattle.epoch_core.specs.declared.states.SessionState.{SessionState}
@@ -20,12 +20,12 @@ use Rattle.epoch_core.specs.declared.states.SessionState.TheVariants.{Idle, Pinn
 use Rattle.epoch_core.specs.declared.events.Event.{Event}
 use Rattle.epoch_core.specs.declared.events.Event.TheVariants.{Take, Fill, Post, Floor, Recycle, Pin, Enter, Settle, Ask, Read}
 use Rattle.epoch_core.specs.declared.events.Event.TheVariants.{Reply, Release}
-use Rattle.epoch_posts.specs.Blocks.{changed_at, filled, put, recycled, taken}
-use Rattle.epoch_posts.specs.declared.states.Opening.{Opening}
+use Rattle.epoch_blocks.specs.Blocks.{changed_at, filled, put, recycled, taken}
+use Rattle.epoch_blocks.specs.declared.states.Opening.{Opening}
 use Rattle.epoch_core.specs.Worlds.{Answer, IsStart, State, World, graph_with, held_in, last_graph, last_number, replies_of}
 use Rattle.epoch_core.specs.Worlds.{session_of, start}
-use Rattle.epoch_posts.specs.Versions.{blocks_at, edges_of, graph_at, version_at}
-use Rattle.epoch_posts.specs.Posting.{can_post, version_by}
+use Rattle.epoch_blocks.specs.Versions.{blocks_at, edges_of, graph_at, version_at}
+use Rattle.epoch_blocks.specs.Posting.{can_post, version_by}
 use Rattle.epoch_core.specs.Posts.{posted}
 use Rattle.epoch_core.specs.Machine.{Answers, Question, is_all_read, move, question_in, question_of, read_on, settled_at, to_ask}
 use Rattle.epoch_core.specs.Machine.{to_enter, to_pin, to_read, to_release, to_reply, to_settle, with_heap, with_sessions}
@@ -34,7 +34,7 @@ use Rattle.epoch_core.specs.Runs.{Runs, is_done, next_world}
 use Rattle.epoch_core.specs.Holdings.{Agree, Entered, Holding, Observation, Released, Replied, answered_first, holdings}
 use Rattle.epoch_core.specs.Holdings.{holdings_of, observations, observed_at, questions, questions_in, request_in}
 use Rattle.epoch_core.specs.Sound.{IsNamed, IsSessionSound, IsSound}
-use Rattle.epoch_posts.proofs.Lists.{option_map_some}
+use Rattle.epoch_blocks.proofs.Lists.{option_map_some}
 use Rattle.epoch_core.proofs.Changes.{graph_before}
 use Rattle.epoch_core.proofs.Moves.{Moved, moved, session_after, session_else, replying}
 use Rattle.epoch_core.proofs.Steps.{sound_next, sound_start, idle_at}

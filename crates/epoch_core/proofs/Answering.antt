@@ -15,7 +15,7 @@ use Rattle.epoch_core.specs.declared.events.Event.TheVariants.{Reply, Release}
 use Rattle.epoch_core.specs.Worlds.{Answer, World}
 use Rattle.epoch_core.specs.Machine.{Answers, IsAnswered, Question, Replies, question_in, question_of}
 use Rattle.epoch_core.specs.Runs.{AllReplies, next_world}
-use Rattle.epoch_posts.proofs.Lists.{and_then_some, within}
+use Rattle.epoch_blocks.proofs.Lists.{and_then_some, within}
 use Rattle.epoch_core.proofs.Sizes.{size_next}
 
 pub same_answers : (qs : List Question) (xs ys : List Answer) → AllZip Answers qs xs → AllZip Answers qs ys → xs ≡ ys

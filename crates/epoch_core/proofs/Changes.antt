@@ -7,9 +7,9 @@ use Rattle.std.proofs.lemmas.List.{take-append-le, take_all, map-append, length_
 use Rattle.graph_model.specs.Graph.{Graph}
 use Rattle.graph_model.specs.Step.{left_by, after_all}
 use Rattle.graph_model.specs.declared.batches.NamedOp.{NamedOp}
-use Rattle.epoch_posts.specs.declared.states.Version.{Version}
-use Rattle.epoch_posts.specs.declared.states.Opening.{Opening}
-use Rattle.epoch_posts.specs.Versions.{opening_graph, batches_at, graph_at, left, version_at, version_zero}
+use Rattle.epoch_blocks.specs.declared.states.Version.{Version}
+use Rattle.epoch_blocks.specs.declared.states.Opening.{Opening}
+use Rattle.epoch_blocks.specs.Versions.{opening_graph, batches_at, graph_at, left, version_at, version_zero}
 
 pub length_next : (vs : List Version) (v : Version) → length (vs ++ v ∷ []) ≡ suc (length vs)
 length_next vs v = length_push vs v ∙ add-one (length vs)

@@ -10,19 +10,19 @@ use Rattle.std.proofs.lemmas.Bool.{cases_eq}
 use Rattle.std.proofs.lemmas.Bool.Decides.{nat_tests}
 use Rattle.pin_copy.specs.declared.copies.PinCopy.{PinCopy}
 use Rattle.pin_copy.specs.Copies.{needs, is_between, is_before}
-use Rattle.epoch_posts.specs.declared.states.Status.{Status}
-use Rattle.epoch_posts.specs.declared.states.Status.TheVariants.{Free, Fresh, Used, Retired}
+use Rattle.epoch_blocks.specs.declared.states.Status.{Status}
+use Rattle.epoch_blocks.specs.declared.states.Status.TheVariants.{Free, Fresh, Used, Retired}
 use Rattle.epoch_core.specs.declared.states.SessionState.{SessionState}
 use Rattle.epoch_core.specs.declared.states.SessionState.TheVariants.{Idle, Pinned, Holding, Asking}
 use Rattle.epoch_core.specs.declared.events.Event.TheVariants.{Recycle}
 use Rattle.epoch_core.specs.Worlds.{World, last_number, session_of, pin_in, settled_in, unsettled_in, copy_of}
 use Rattle.epoch_core.specs.Machine.{step, with_status}
-use Rattle.epoch_posts.specs.Blocks.{is_at, is_listed, is_retired, recycled, put}
+use Rattle.epoch_blocks.specs.Blocks.{is_at, is_listed, is_retired, recycled, put}
 use Rattle.epoch_core.specs.Runs.{next_world, run}
 use Rattle.epoch_core.specs.Sound.{IsDatedAt, IsSound}
 use Rattle.epoch_core.specs.Collections.{IsSettledNeed, IsUnsettledNeed, IsPinned, collecting}
 use Rattle.epoch_core.specs.Collections.{LeavesWhatPinsNeed, LeavesNoneUnpinned}
-use Rattle.epoch_posts.proofs.Lists.{option_map_some, ChangedAt, changed_at-some, set_same, set_else}
+use Rattle.epoch_blocks.proofs.Lists.{option_map_some, ChangedAt, changed_at-some, set_same, set_else}
 use Rattle.epoch_core.proofs.Moves.{floored, settled_needs, unsettled_needs}
 
 -- a block was born and retired with these numbers

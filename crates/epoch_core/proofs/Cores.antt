@@ -10,17 +10,17 @@ use Rattle.std.proofs.lemmas.List.{length-replicate}
 use Rattle.graph_model.specs.Graph.{IsContent}
 use Rattle.graph_model.specs.declared.batches.NamedOp.{NamedOp}
 use Rattle.graph_model.specs.declared.contents.Content.{Content}
-use Rattle.epoch_posts.specs.declared.states.Version.{Version}
+use Rattle.epoch_blocks.specs.declared.states.Version.{Version}
 use Rattle.epoch_core.specs.declared.states.SessionState.TheVariants.{Idle}
 use Rattle.epoch_core.specs.declared.events.Event.{Event}
-use Rattle.epoch_posts.specs.declared.steps.Step.{Step}
-use Rattle.epoch_posts.specs.declared.states.Opening.{Opening}
+use Rattle.epoch_blocks.specs.declared.steps.Step.{Step}
+use Rattle.epoch_blocks.specs.declared.states.Opening.{Opening}
 use Rattle.epoch_core.specs.Worlds.{Answer, HasContents, State, World, empty_opening, start}
-use Rattle.epoch_posts.specs.Versions.{IsContentGraph, graph_at}
-use Rattle.epoch_posts.specs.Posting.{graph_after, version_by}
+use Rattle.epoch_blocks.specs.Versions.{IsContentGraph, graph_at}
+use Rattle.epoch_blocks.specs.Posting.{graph_after, version_by}
 use Rattle.epoch_core.specs.Machine.{Replies, step}
 use Rattle.epoch_core.specs.Runs.{AllReplies, Runs, Steps, count_of, done_in, is_done, next_world, run}
-use Rattle.epoch_posts.specs.Blocks.{Stepped}
+use Rattle.epoch_blocks.specs.Blocks.{Stepped}
 use Rattle.epoch_core.specs.Sound.{IsCore, IsSound}
 use Rattle.epoch_core.proofs.Changes.{graph_before, graph_next, length_next}
 use Rattle.epoch_core.proofs.Steps.{sound_next, sound_start, start_is_start}

@@ -6,17 +6,17 @@ use Rattle.std.specs.Option.{option_map}
 use Rattle.std.specs.declared.option.Option.{Option}
 use Rattle.std.specs.declared.option.Option.TheVariants.{None, Some}
 use Rattle.std.proofs.lemmas.Bool.Decides.{nat_tests}
-use Rattle.epoch_posts.specs.declared.states.Status.{Status}
-use Rattle.epoch_posts.specs.declared.states.Status.TheVariants.{Free, Fresh, Used, Retired}
+use Rattle.epoch_blocks.specs.declared.states.Status.{Status}
+use Rattle.epoch_blocks.specs.declared.states.Status.TheVariants.{Free, Fresh, Used, Retired}
 use Rattle.epoch_core.specs.declared.states.SessionState.{SessionState}
 use Rattle.epoch_core.specs.declared.states.SessionState.TheVariants.{Idle, Pinned, Holding, Asking}
-use Rattle.epoch_posts.specs.Blocks.{filled, is_at, is_free, is_fresh, is_listed, is_retired, is_used}
+use Rattle.epoch_blocks.specs.Blocks.{filled, is_at, is_free, is_fresh, is_listed, is_retired, is_used}
 use Rattle.epoch_core.specs.Worlds.{World, held_in, pin_in, session_of}
-use Rattle.epoch_posts.specs.Versions.{blocks_at}
+use Rattle.epoch_blocks.specs.Versions.{blocks_at}
 use Rattle.epoch_core.specs.Machine.{with_heap}
 use Rattle.epoch_core.specs.Epochs.{FillsNoHeldBlock, IsPartition, PinsInOrder}
 use Rattle.epoch_core.specs.Sound.{IsKeptAt, IsSessionSound, IsSound}
-use Rattle.epoch_posts.proofs.Lists.{true_or_false}
+use Rattle.epoch_blocks.proofs.Lists.{true_or_false}
 use Rattle.epoch_core.proofs.Keeping.{Fills, fills}
 
 some_of_map : {A B : Type 0} (f : A → B) (o : Option A) → is_some (option_map f o) ≡ true → (x : A) × (o ≡ Some x)

@@ -16,14 +16,14 @@ use Rattle.epoch_core.specs.declared.events.Event.{Event}
 use Rattle.epoch_core.specs.declared.events.Event.TheVariants.{Take, Fill, Post, Floor, Pin, Enter, Settle, Ask, Read, Reply}
 use Rattle.epoch_core.specs.declared.events.Event.TheVariants.{Release}
 use Rattle.epoch_core.specs.Worlds.{World, empty_opening, start_world}
-use Rattle.epoch_posts.specs.Versions.{left}
-use Rattle.epoch_posts.specs.Posting.{can_post, are_edges_of}
+use Rattle.epoch_blocks.specs.Versions.{left}
+use Rattle.epoch_blocks.specs.Posting.{can_post, are_edges_of}
 use Rattle.epoch_core.specs.Posts.{posted}
 use Rattle.epoch_core.specs.Runs.{run}
 use Rattle.epoch_core.specs.Holdings.{Agree, Holding, holdings_of, observations}
 use Rattle.epoch_core.specs.Examples.{AreExamples, name_a, name_b, kind_k, put_edge, add_to_edge, edge_of, ask_edge}
 use Rattle.epoch_core.specs.Examples.{short_batches, long_batches, of_short, of_long}
-use Rattle.epoch_posts.proofs.Edges.{Decides-edges}
+use Rattle.epoch_blocks.proofs.Edges.{Decides-edges}
 
 -- The graph of one edge, and what batches make of it
 

@@ -7,19 +7,19 @@ use Rattle.std.specs.declared.option.Option.TheVariants.{None, Some}
 use Rattle.std.proofs.lemmas.Bool.{cases_eq}
 use Rattle.std.proofs.lemmas.List.{get_or-set_other, length-set}
 use Rattle.graph_model.specs.declared.ids.Edge.{Edge}
-use Rattle.epoch_posts.specs.declared.states.Status.{Status}
-use Rattle.epoch_posts.specs.declared.states.Status.TheVariants.{Free, Fresh, Used, Retired}
+use Rattle.epoch_blocks.specs.declared.states.Status.{Status}
+use Rattle.epoch_blocks.specs.declared.states.Status.TheVariants.{Free, Fresh, Used, Retired}
 use Rattle.epoch_core.specs.declared.states.Hold.{Hold}
 use Rattle.epoch_core.specs.declared.states.SessionState.{SessionState}
 use Rattle.epoch_core.specs.declared.states.SessionState.TheVariants.{Idle, Pinned, Holding, Asking}
 use Rattle.pin_copy.specs.declared.copies.PinCopy.{PinCopy}
 use Rattle.pin_copy.specs.Copies.{needs}
-use Rattle.epoch_posts.specs.Blocks.{filled, is_at, is_fresh, is_listed, is_used, recycled, taken}
-use Rattle.epoch_posts.specs.Versions.{Shows, blocks_at, edges_at, edges_of, graph_at, version_at}
+use Rattle.epoch_blocks.specs.Blocks.{filled, is_at, is_fresh, is_listed, is_used, recycled, taken}
+use Rattle.epoch_blocks.specs.Versions.{Shows, blocks_at, edges_at, edges_of, graph_at, version_at}
 use Rattle.epoch_core.specs.Worlds.{World, last_blocks, last_graph, last_number, session_of}
 use Rattle.epoch_core.specs.Machine.{with_heap, with_status}
 use Rattle.epoch_core.specs.Sound.{IsCovered, IsDated, IsDatedAt, IsHeld, IsKept, IsKeptAt, IsNamed, IsSessionSound, IsSound}
-use Rattle.epoch_posts.proofs.Lists.{and_then_some, set_same, set_else, same_pieces, listed_take}
+use Rattle.epoch_blocks.proofs.Lists.{and_then_some, set_same, set_else, same_pieces, listed_take}
 
 -- what a change of the world owes to each holder
 pub record Carries (old new : World) : Type 0 where

@@ -5,9 +5,9 @@ use Rattle.std.specs.Option.{option_and_then}
 use Rattle.std.specs.declared.option.Option.{Option}
 use Rattle.std.specs.declared.option.Option.TheVariants.{None, Some}
 use Rattle.std.proofs.lemmas.List.{set-get_or}
-use Rattle.epoch_posts.specs.Blocks.{changed_at, put, Stepped}
-use Rattle.epoch_posts.specs.declared.steps.Step.{Step}
-use Rattle.epoch_posts.proofs.Lists.{at_from_within}
+use Rattle.epoch_blocks.specs.Blocks.{changed_at, put, Stepped}
+use Rattle.epoch_blocks.specs.declared.steps.Step.{Step}
+use Rattle.epoch_blocks.proofs.Lists.{at_from_within}
 
 put_at : {A : Type 0} (o : Option A) (xs : List A) (i : ℕ) (d : A) (outcome : Step) (new : A)
     → Stepped o outcome (get_or xs i d) new → Stepped (put xs i o) outcome xs (set xs i new)

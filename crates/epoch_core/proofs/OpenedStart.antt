@@ -10,11 +10,11 @@ use Rattle.std.proofs.lemmas.List.Elements.{All-head, All-tail, All-nil, All-con
 use Rattle.graph_model.specs.Graph.{graph_of}
 use Rattle.graph_model.specs.declared.ids.Edge.{Edge}
 use Rattle.graph_model.specs.declared.contents.Content.{Content}
-use Rattle.epoch_posts.specs.declared.states.Status.{Status}
-use Rattle.epoch_posts.specs.declared.states.Status.TheVariants.{Free, Used}
-use Rattle.epoch_posts.specs.Blocks.{is_listed}
-use Rattle.epoch_posts.specs.Versions.{Shows, edges_at}
-use Rattle.epoch_posts.proofs.Lists.{set_same, set_else}
+use Rattle.epoch_blocks.specs.declared.states.Status.{Status}
+use Rattle.epoch_blocks.specs.declared.states.Status.TheVariants.{Free, Used}
+use Rattle.epoch_blocks.specs.Blocks.{is_listed}
+use Rattle.epoch_blocks.specs.Versions.{Shows, edges_at}
+use Rattle.epoch_blocks.proofs.Lists.{set_same, set_else}
 use Rattle.epoch_core.specs.declared.states.SessionState.TheVariants.{Idle}
 use Rattle.epoch_core.specs.Worlds.{IsStart, HasContents}
 use Rattle.epoch_core.specs.Sound.{IsCore}

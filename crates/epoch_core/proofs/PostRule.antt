@@ -9,17 +9,17 @@ use Rattle.std.proofs.lemmas.Bool.Decides.{Decides-ltb, leb_tells}
 use Rattle.std.proofs.lemmas.List.Kept.{AllPairs-cons}
 use Rattle.graph_model.specs.Limits.{batch_limit, name_limit, kind_limit}
 use Rattle.graph_model.specs.declared.batches.NamedOp.{NamedOp}
-use Rattle.epoch_posts.specs.declared.states.Status.{Status}
-use Rattle.epoch_posts.specs.declared.states.Status.TheVariants.{Free, Fresh, Used, Retired}
+use Rattle.epoch_blocks.specs.declared.states.Status.{Status}
+use Rattle.epoch_blocks.specs.declared.states.Status.TheVariants.{Free, Fresh, Used, Retired}
 use Rattle.epoch_core.specs.declared.events.Event.TheVariants.{Post}
-use Rattle.epoch_posts.specs.Blocks.{all_differ, is_at, is_fresh, is_listed}
+use Rattle.epoch_blocks.specs.Blocks.{all_differ, is_at, is_fresh, is_listed}
 use Rattle.epoch_core.specs.Worlds.{World, last_blocks, last_number}
-use Rattle.epoch_posts.specs.Versions.{edges_of}
+use Rattle.epoch_blocks.specs.Versions.{edges_of}
 use Rattle.epoch_core.specs.Posts.{MayPost, posted}
-use Rattle.epoch_posts.specs.Posting.{all_listable, can_post, graph_after, is_listable}
+use Rattle.epoch_blocks.specs.Posting.{all_listable, can_post, graph_after, is_listable}
 use Rattle.epoch_core.specs.Runs.{is_done}
-use Rattle.epoch_posts.proofs.Lists.{and_left, and_right, neither}
-use Rattle.epoch_posts.proofs.Edges.{Decides-edges}
+use Rattle.epoch_blocks.proofs.Lists.{and_left, and_right, neither}
+use Rattle.epoch_blocks.proofs.Edges.{Decides-edges}
 
 Decides-fresh : (o : Option Status) → Decides (is_at is_fresh o) (o ≡ Some Fresh)
 Decides-fresh None = (λ e. cc, λ e. cc)

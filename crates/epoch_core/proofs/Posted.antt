@@ -7,16 +7,16 @@ use Rattle.std.specs.declared.option.Option.{Option}
 use Rattle.std.specs.declared.option.Option.TheVariants.{None, Some}
 use Rattle.std.proofs.lemmas.Bool.{cases_eq}
 use Rattle.graph_model.specs.declared.batches.NamedOp.{NamedOp}
-use Rattle.epoch_posts.specs.declared.states.Status.{Status}
-use Rattle.epoch_posts.specs.declared.states.Status.TheVariants.{Free, Fresh, Used, Retired}
-use Rattle.epoch_posts.specs.declared.states.Version.{Version}
-use Rattle.epoch_posts.specs.Blocks.{after_post, is_at, is_fresh, is_listed, is_used, status_after}
-use Rattle.epoch_posts.specs.Versions.{Shows, edges_of, graph_at, version_at}
+use Rattle.epoch_blocks.specs.declared.states.Status.{Status}
+use Rattle.epoch_blocks.specs.declared.states.Status.TheVariants.{Free, Fresh, Used, Retired}
+use Rattle.epoch_blocks.specs.declared.states.Version.{Version}
+use Rattle.epoch_blocks.specs.Blocks.{after_post, is_at, is_fresh, is_listed, is_used, status_after}
+use Rattle.epoch_blocks.specs.Versions.{Shows, edges_of, graph_at, version_at}
 use Rattle.epoch_core.specs.Worlds.{World, last_blocks, last_graph, last_number, session_of}
 use Rattle.epoch_core.specs.Posts.{MayPost, posted}
-use Rattle.epoch_posts.specs.Posting.{all_listable, can_post, graph_after, is_listable, version_by}
+use Rattle.epoch_blocks.specs.Posting.{all_listable, can_post, graph_after, is_listable, version_by}
 use Rattle.epoch_core.specs.Sound.{IsDatedAt, IsKeptAt, IsNamed, IsSound}
-use Rattle.epoch_posts.proofs.Lists.{get_enumerated, length_enumerated, all_listed}
+use Rattle.epoch_blocks.proofs.Lists.{get_enumerated, length_enumerated, all_listed}
 use Rattle.epoch_core.proofs.Changes.{length_next, version_before, graph_before, version_next, graph_next}
 use Rattle.epoch_core.proofs.PostRule.{Decides-post, listable_of}
 use Rattle.epoch_core.proofs.Keeping.{Carries, carry}

@@ -8,21 +8,21 @@ use Rattle.std.specs.declared.option.Option.TheVariants.{None, Some}
 use Rattle.std.proofs.lemmas.List.{length-replicate}
 use Rattle.std.proofs.lemmas.Option.{slice_get_past}
 use Rattle.graph_model.specs.declared.ids.Edge.{Edge}
-use Rattle.epoch_posts.specs.declared.states.Status.{Status}
-use Rattle.epoch_posts.specs.declared.states.Status.TheVariants.{Free, Used}
+use Rattle.epoch_blocks.specs.declared.states.Status.{Status}
+use Rattle.epoch_blocks.specs.declared.states.Status.TheVariants.{Free, Used}
 use Rattle.epoch_core.specs.declared.states.SessionState.TheVariants.{Idle}
 use Rattle.epoch_core.specs.declared.events.Event.{Event}
 use Rattle.epoch_core.specs.declared.events.Event.TheVariants.{Take, Fill, Post, Floor, Recycle, Pin, Enter, Settle, Ask, Read}
 use Rattle.epoch_core.specs.declared.events.Event.TheVariants.{Reply, Release}
-use Rattle.epoch_posts.specs.Blocks.{changed_at, is_at, is_listed, is_used, recycled, taken}
-use Rattle.epoch_posts.specs.Versions.{opening_graph, blocks_at, edges_of, graph_at, Shows}
+use Rattle.epoch_blocks.specs.Blocks.{changed_at, is_at, is_listed, is_used, recycled, taken}
+use Rattle.epoch_blocks.specs.Versions.{opening_graph, blocks_at, edges_of, graph_at, Shows}
 use Rattle.epoch_core.specs.Worlds.{IsStart, World, last_blocks, last_graph, last_number, session_of, start, State}
-use Rattle.epoch_posts.specs.Posting.{can_post}
+use Rattle.epoch_blocks.specs.Posting.{can_post}
 use Rattle.epoch_core.specs.Posts.{posted}
 use Rattle.epoch_core.specs.Machine.{step, with_heap, with_status}
 use Rattle.epoch_core.specs.Runs.{next_world, run}
 use Rattle.epoch_core.specs.Sound.{IsDated, IsDatedAt, IsNamed, IsSessionSound, IsSound}
-use Rattle.epoch_posts.proofs.Lists.{true_or_false, below_or_past, option_map_some, ChangedAt, changed_at-some}
+use Rattle.epoch_blocks.proofs.Lists.{true_or_false, below_or_past, option_map_some, ChangedAt, changed_at-some}
 use Rattle.graph_model.proofs.Keys.{once_none}
 use Rattle.epoch_core.proofs.Keeping.{FreesNone, frees_taken, frees_recycled, sound_status, Fills, fills, sound_fill}
 use Rattle.epoch_core.proofs.Posted.{sound_posted}

@@ -1,8 +1,8 @@
 -- What a whole collection leaves.
 use Rattle.std.specs.Prelude.{◌≡◌, ◌↔◌, ◌⊎◌, ℕ, ◌≤◌, ◌<◌, List, ◌∷◌, map, slice_get, IsTrue, IsFalse}
 use Rattle.std.specs.declared.option.Option.TheVariants.{None, Some}
-use Rattle.epoch_posts.specs.declared.states.Status.TheVariants.{Retired}
-use Rattle.epoch_posts.specs.Blocks.{is_at, is_listed, is_retired}
+use Rattle.epoch_blocks.specs.declared.states.Status.TheVariants.{Retired}
+use Rattle.epoch_blocks.specs.Blocks.{is_at, is_listed, is_retired}
 use Rattle.epoch_core.specs.declared.events.Event.{Event}
 use Rattle.epoch_core.specs.declared.events.Event.TheVariants.{Floor, Recycle}
 use Rattle.epoch_core.specs.Worlds.{World, session_of, pin_in, settled_in, unsettled_in}

@@ -4,9 +4,9 @@ use Rattle.std.specs.Prelude.{AllPairs}
 use Rattle.std.specs.declared.option.Option.TheVariants.{Some}
 use Rattle.graph_model.specs.declared.ids.Edge.{Edge}
 use Rattle.epoch_core.specs.declared.events.Event.TheVariants.{Fill}
-use Rattle.epoch_posts.specs.Blocks.{is_at, is_free, is_fresh, is_retired, is_listed}
+use Rattle.epoch_blocks.specs.Blocks.{is_at, is_free, is_fresh, is_retired, is_listed}
 use Rattle.epoch_core.specs.Worlds.{World, last_number, last_blocks, pin_in, held_in, session_of}
-use Rattle.epoch_posts.specs.Versions.{blocks_at}
+use Rattle.epoch_blocks.specs.Versions.{blocks_at}
 use Rattle.epoch_core.specs.Runs.{is_done}
 
 -- no Fill that is done names a block in the list of a version that some session holds

@@ -6,13 +6,13 @@ use Rattle.graph_model.specs.declared.batches.NamedOp.{NamedOp}
 use Rattle.graph_model.specs.declared.batches.NamedOp.TheVariants.{Insert, Incr}
 use Rattle.graph_model.specs.declared.requests.Request.{Request}
 use Rattle.graph_model.specs.declared.requests.Request.TheVariants.{OneEdge}
-use Rattle.epoch_posts.specs.declared.states.Status.TheVariants.{Free, Fresh, Used, Retired}
+use Rattle.epoch_blocks.specs.declared.states.Status.TheVariants.{Free, Fresh, Used, Retired}
 use Rattle.epoch_core.specs.declared.events.Event.{Event}
 use Rattle.epoch_core.specs.declared.events.Event.TheVariants.{Take, Fill, Post, Floor, Pin, Enter, Settle, Ask, Read, Reply}
 use Rattle.epoch_core.specs.declared.events.Event.TheVariants.{Release}
-use Rattle.epoch_posts.specs.Blocks.{status_after}
+use Rattle.epoch_blocks.specs.Blocks.{status_after}
 use Rattle.epoch_core.specs.Worlds.{empty_opening, start_world}
-use Rattle.epoch_posts.specs.Versions.{left}
+use Rattle.epoch_blocks.specs.Versions.{left}
 use Rattle.epoch_core.specs.Holdings.{Agree, Holding, holdings}
 
 -- one edge from a to b of kind k

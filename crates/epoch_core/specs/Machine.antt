@@ -8,8 +8,8 @@ use Rattle.graph_model.specs.Graph.{Graph, IsContent}
 use Rattle.graph_model.specs.Answer.{IsAnswer}
 use Rattle.graph_model.specs.declared.ids.Edge.{Edge}
 use Rattle.graph_model.specs.declared.requests.Request.{Request}
-use Rattle.epoch_posts.specs.declared.states.Status.{Status}
-use Rattle.epoch_posts.specs.declared.states.Version.{Version}
+use Rattle.epoch_blocks.specs.declared.states.Status.{Status}
+use Rattle.epoch_blocks.specs.declared.states.Version.{Version}
 use Rattle.epoch_core.specs.declared.states.Hold.{Hold}
 use Rattle.epoch_core.specs.declared.states.Inquiry.{Inquiry}
 use Rattle.epoch_core.specs.declared.states.SessionState.{SessionState}
@@ -17,11 +17,11 @@ use Rattle.epoch_core.specs.declared.states.SessionState.TheVariants.{Idle, Pinn
 use Rattle.epoch_core.specs.declared.events.Event.{Event}
 use Rattle.epoch_core.specs.declared.events.Event.TheVariants.{Take, Fill, Post, Floor, Recycle, Pin, Enter, Settle, Ask, Read}
 use Rattle.epoch_core.specs.declared.events.Event.TheVariants.{Reply, Release}
-use Rattle.epoch_posts.specs.Blocks.{changed_at, taken, recycled, filled}
-use Rattle.epoch_posts.specs.declared.states.Opening.{Opening}
+use Rattle.epoch_blocks.specs.Blocks.{changed_at, taken, recycled, filled}
+use Rattle.epoch_blocks.specs.declared.states.Opening.{Opening}
 use Rattle.epoch_core.specs.Worlds.{Answer, World, last_number, graph_with, pin_in, copy_of}
-use Rattle.epoch_posts.specs.Versions.{version_at, blocks_at, edges_at, content_with}
-use Rattle.epoch_posts.specs.Posting.{can_post}
+use Rattle.epoch_blocks.specs.Versions.{version_at, blocks_at, edges_at, content_with}
+use Rattle.epoch_blocks.specs.Posting.{can_post}
 use Rattle.epoch_core.specs.Posts.{posted}
 
 -- Sessions

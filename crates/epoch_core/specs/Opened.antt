@@ -4,9 +4,9 @@ use Rattle.std.specs.List.{flat_map}
 use Rattle.graph_model.specs.Graph.{graph_of, IsContent}
 use Rattle.graph_model.specs.declared.ids.Edge.{Edge}
 use Rattle.graph_model.specs.declared.contents.Content.{Content}
-use Rattle.epoch_posts.specs.declared.states.Status.{Status}
-use Rattle.epoch_posts.specs.declared.states.Status.TheVariants.{Free, Used}
-use Rattle.epoch_posts.specs.Versions.{Shows}
+use Rattle.epoch_blocks.specs.declared.states.Status.{Status}
+use Rattle.epoch_blocks.specs.declared.states.Status.TheVariants.{Free, Used}
+use Rattle.epoch_blocks.specs.Versions.{Shows}
 use Rattle.epoch_core.specs.Worlds.{State, start_world}
 
 -- block numbers, each with the edges in its block

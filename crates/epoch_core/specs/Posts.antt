@@ -4,10 +4,10 @@ use Rattle.std.specs.declared.option.Option.TheVariants.{Some}
 use Rattle.graph_model.specs.Limits.{batch_limit}
 use Rattle.graph_model.specs.GraphLimits.{MeetsNameLimit, MeetsKindLimit}
 use Rattle.graph_model.specs.declared.batches.NamedOp.{NamedOp}
-use Rattle.epoch_posts.specs.declared.states.Status.TheVariants.{Fresh}
-use Rattle.epoch_posts.specs.Blocks.{is_listed, status_after}
-use Rattle.epoch_posts.specs.Versions.{Shows, edges_of}
-use Rattle.epoch_posts.specs.Posting.{graph_after, version_by}
+use Rattle.epoch_blocks.specs.declared.states.Status.TheVariants.{Fresh}
+use Rattle.epoch_blocks.specs.Blocks.{is_listed, status_after}
+use Rattle.epoch_blocks.specs.Versions.{Shows, edges_of}
+use Rattle.epoch_blocks.specs.Posting.{graph_after, version_by}
 use Rattle.epoch_core.specs.Worlds.{World, last_number, last_blocks, last_graph}
 
 -- a Post is done only where all this holds

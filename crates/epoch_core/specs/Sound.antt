@@ -1,16 +1,16 @@
 -- What holds of the machine at every moment, and carries the laws.
 use Rattle.std.specs.Prelude.{true, ◌≡◌, ◌≢◌, ℕ, ◌≤◌, ◌<◌, length, take, slice_get, AllPairs, MatchOption, IsTrue}
 use Rattle.std.specs.declared.option.Option.{Option}
-use Rattle.epoch_posts.specs.declared.states.Status.{Status}
-use Rattle.epoch_posts.specs.declared.states.Status.TheVariants.{Free, Fresh, Used, Retired}
+use Rattle.epoch_blocks.specs.declared.states.Status.{Status}
+use Rattle.epoch_blocks.specs.declared.states.Status.TheVariants.{Free, Fresh, Used, Retired}
 use Rattle.epoch_core.specs.declared.states.Hold.{Hold}
 use Rattle.epoch_core.specs.declared.states.SessionState.{SessionState}
 use Rattle.epoch_core.specs.declared.states.SessionState.TheVariants.{Idle, Pinned, Holding, Asking}
 use Rattle.pin_copy.specs.declared.copies.PinCopy.{PinCopy}
 use Rattle.pin_copy.specs.Copies.{needs}
-use Rattle.epoch_posts.specs.Blocks.{is_at, is_used, is_listed}
+use Rattle.epoch_blocks.specs.Blocks.{is_at, is_used, is_listed}
 use Rattle.epoch_core.specs.Worlds.{World, State, HasContents, last_number, last_blocks, last_graph, session_of}
-use Rattle.epoch_posts.specs.Versions.{Shows, graph_at, version_at, blocks_at, edges_of}
+use Rattle.epoch_blocks.specs.Versions.{Shows, graph_at, version_at, blocks_at, edges_of}
 
 -- a block was born at latest with this version, and retired after its birth and at latest with this version
 abbrev pub IsDated : ℕ → Status → Type 0

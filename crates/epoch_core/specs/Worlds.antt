@@ -10,17 +10,17 @@ use Rattle.graph_model.specs.Graph.{Graph, map_of, content_of}
 use Rattle.graph_model.specs.declared.ids.Edge.{Edge}
 use Rattle.graph_model.specs.declared.requests.Reply.{Reply}
 use Rattle.graph_model.specs.declared.requests.AskError.{AskError}
-use Rattle.epoch_posts.specs.declared.states.Status.{Status}
-use Rattle.epoch_posts.specs.declared.states.Status.TheVariants.{Free, Used}
-use Rattle.epoch_posts.specs.declared.states.Version.{Version}
-use Rattle.epoch_posts.specs.declared.states.Opening.{Opening}
+use Rattle.epoch_blocks.specs.declared.states.Status.{Status}
+use Rattle.epoch_blocks.specs.declared.states.Status.TheVariants.{Free, Used}
+use Rattle.epoch_blocks.specs.declared.states.Version.{Version}
+use Rattle.epoch_blocks.specs.declared.states.Opening.{Opening}
 use Rattle.epoch_core.specs.declared.states.SessionState.{SessionState}
 use Rattle.epoch_core.specs.declared.states.SessionState.TheVariants.{Idle, Pinned, Holding, Asking}
-use Rattle.epoch_posts.specs.Blocks.{is_listed}
+use Rattle.epoch_blocks.specs.Blocks.{is_listed}
 use Rattle.pin_copy.specs.declared.copies.PinCopy.{PinCopy}
 use Rattle.pin_copy.specs.declared.copies.TheConstants.{SEATS}
 use Rattle.pin_copy.specs.Copies.{no_copy}
-use Rattle.epoch_posts.specs.Versions.{IsContentGraph, Shows, blocks_at, edges_of, graph_at, opening_graph}
+use Rattle.epoch_blocks.specs.Versions.{IsContentGraph, Shows, blocks_at, edges_of, graph_at, opening_graph}
 
 -- a reply, or the refusal that stands in its place
 abbrev pub Answer : Type 0

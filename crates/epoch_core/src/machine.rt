@@ -9,7 +9,7 @@ ghost use Rattle.epoch_core.specs.Runs.{Steps, Runs, done_in, count_of};
 ghost use Rattle.epoch_core.specs.Sound.{IsCore};
 ghost use Rattle.epoch_core.specs.Cores.{state_of};
 ghost use Rattle.epoch_core.specs.Opened.{IsOpening, opened_state, heap_with, status_with};
-ghost use Rattle.epoch_posts.specs.declared.states.Status.TheVariants.{Free};
+ghost use Rattle.epoch_blocks.specs.declared.states.Status.TheVariants.{Free};
 ghost use Rattle.epoch_core.specs.declared.states.SessionState.TheVariants.{Idle};
 
 use crate::replying::{replies_at, reply};
@@ -18,7 +18,7 @@ use crate::sessions::{
 };
 use crate::states::{Parts, SessionState};
 use crate::{Event, OutOfMemory};
-use epoch_posts::{Opening, Status, Step, fill_block, plan_post, recycle_block, take_block};
+use epoch_blocks::{Opening, Status, Step, fill_block, plan_post, recycle_block, take_block};
 use graph_model::{AskError, Batch, Content, Edge, List, Reply};
 use pin_copy::PinCopy;
 use std::alloc::{AllocError, Global};

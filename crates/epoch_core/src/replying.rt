@@ -4,13 +4,13 @@ ghost use Rattle.std.specs.Prelude.{◌≡◌, ◌<◌, ◌++◌, ◌∷◌, [],
 ghost use Rattle.std.specs.Prelude.{slice_get, slice_set, slice_index_or};
 ghost use Rattle.std.specs.Option.{option_and_then};
 ghost use Rattle.epoch_core.specs.Machine as machine;
-ghost use Rattle.epoch_posts.specs.Blocks.{Stepped, changed_at};
+ghost use Rattle.epoch_blocks.specs.Blocks.{Stepped, changed_at};
 ghost use Rattle.epoch_core.specs.declared.states.SessionState.TheVariants.{Idle};
 
 use crate::states::{Answer, Hold, Inquiry, SessionState};
-use epoch_posts::{Opening, Step, Version, blocks_at, content_with};
+use epoch_blocks::{Opening, Step, Version, blocks_at, content_with};
 use graph_model::{AskError, List, Reply};
-use plain_graph::plain_reply;
+use reference_graph::plain_reply;
 use std::alloc::{AllocError, Global};
 use std::mem;
 

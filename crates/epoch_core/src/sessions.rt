@@ -3,11 +3,11 @@
 ghost use Rattle.std.specs.Prelude.{◌≡◌, ◌<◌, ◌≤◌, ◌++◌, IfOk, OnErr, length, slice_index_or};
 ghost use Rattle.epoch_core.specs.Machine as machine;
 ghost use Rattle.epoch_core.specs.Worlds as worlds;
-ghost use Rattle.epoch_posts.specs.Blocks.{Stepped, changed_at};
+ghost use Rattle.epoch_blocks.specs.Blocks.{Stepped, changed_at};
 ghost use Rattle.epoch_core.specs.declared.states.SessionState.TheVariants.{Idle};
 
 use crate::states::{Hold, Inquiry, SessionState};
-use epoch_posts::{Opening, Step, Version, blocks_at, edges_at};
+use epoch_blocks::{Opening, Step, Version, blocks_at, edges_at};
 use graph_model::{Edge, List, Request};
 use pin_copy::{PinCopy, SEATS};
 use std::alloc::{AllocError, Global};

@@ -1,6 +1,6 @@
 //! The parts of the machine's state.
 
-use epoch_posts::{Opening, Status, Version};
+use epoch_blocks::{Opening, Status, Version};
 use graph_model::{AskError, Edge, List, Reply, Request};
 use pin_copy::PinCopy;
 use std::alloc::Global;

@@ -5,8 +5,8 @@ ghost use Rattle.std.specs.List.{Contains};
 ghost use Rattle.graph_model.specs.Arcs.{AreWithin};
 ghost use Rattle.graph_cores.specs.Links.{AreLinks, IsLinked};
 
+use graph_views::ViewEdges;
 use std::alloc::{AllocError, Global};
-use view_edges::ViewEdges;
 
 /// Links the source and each of the targets, both ways. A loop links nothing.
 fn link(links: &mut Vec<(u32, u32)>, source: u32, targets: &[u32]) -> Result<(), AllocError>

@@ -10,9 +10,9 @@ ghost use Rattle.graph_cores.specs.Rows.{IsRows, row_of};
 ghost use Rattle.graph_cores.specs.Peel.{IsPeeling, is_alive, is_high, is_low, lowered};
 
 use crate::rows::{Rows, neighbor_rows};
+use graph_views::ViewEdges;
 use std::alloc::{AllocError, Global};
 use std::mem;
-use view_edges::ViewEdges;
 
 /// The core number of each vertex, in number order: the greatest k for which it is in a set of vertices of which each has
 /// at least k different others of the set as neighbors, by edges of the view in either direction (Seidman, Network

@@ -7,8 +7,8 @@ ghost use Rattle.graph_version.specs.Versions.{content};
 use crate::peeling::cores_over;
 use graph_model::Filter;
 use graph_version::Version;
+use graph_views::VersionEdges;
 use std::alloc::{AllocError, Global};
-use view_edges::VersionEdges;
 
 /// The core number of each vertex of a version, in number order, over the edges of the view: direction, kind and loops don't
 /// matter. The error is want of memory. A window that ends before it begins is an empty view.

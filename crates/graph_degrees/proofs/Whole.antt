@@ -32,8 +32,8 @@ use Rattle.graph_version.specs.Versions.{VersionView, content, IsVersion, IsBloc
 use Rattle.graph_version.specs.Edges.{AreEachOnce, edges_in_blocks}
 use Rattle.graph_version.proofs.Shown.{rows_each_once}
 use Rattle.graph_version.proofs.Totals.{same_blocks}
-use Rattle.view_edges.proofs.Members.{in_rows}
-use Rattle.view_edges.proofs.Rows.{stands}
+use Rattle.graph_views.proofs.Members.{in_rows}
+use Rattle.graph_views.proofs.Rows.{stands}
 use Rattle.graph_degrees.specs.Tallies.{passes, shown_edges, IsCounted, AreViewEdges}
 use Rattle.graph_degrees.proofs.Parts.{first_edges}
 

@@ -6,8 +6,8 @@ ghost use Rattle.graph_levels.specs.Visit.{visited};
 ghost use Rattle.graph_levels.specs.Search.{IsSearch, unreached};
 
 use graph_model::VertexId;
+use graph_views::ViewEdges;
 use std::alloc::{AllocError, Global};
-use view_edges::ViewEdges;
 
 /// Gives the level to each target that has none, and adds it to the next frontier.
 fn visit(

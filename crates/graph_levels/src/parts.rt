@@ -7,8 +7,8 @@ ghost use Rattle.graph_model.specs.Graph.{Graph};
 ghost use Rattle.graph_model.specs.declared.ids.Filter.{Filter};
 ghost use Rattle.graph_levels.specs.Forest.{parent, IsForest, IsSound, Respects};
 
+use graph_views::ViewEdges;
 use std::alloc::{AllocError, Global};
-use view_edges::ViewEdges;
 
 /// The root of a vertex. The path to it gets shorter: each vertex on it is put below its parent's parent.
 fn find(parents: &mut [u32], start: u32) -> u32

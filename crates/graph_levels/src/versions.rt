@@ -10,9 +10,9 @@ use crate::distances::levels_over;
 use crate::parts::labels_over;
 use graph_model::{Filter, VertexId};
 use graph_version::Version;
+use graph_views::{VersionEdges, ViewEdges};
 use std::alloc::{AllocError, Global};
 use thiserror::Error;
-use view_edges::{VersionEdges, ViewEdges};
 
 /// Why there are no levels.
 #[derive(Clone, Copy, Debug, PartialEq, Eq, Error)]

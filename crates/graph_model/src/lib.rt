@@ -1,6 +1,6 @@
 //! The graph that the whole workspace speaks of: names, edges with a weight and two times, batches of
 //! operations, contents and the answers to requests, as STINGER has them (Ediger, McColl, Riedy, Bader;
-//! IEEE HPEC 2012). The definitions stand in `specs/`; the crate `plain_graph` has slow functions that do what
+//! IEEE HPEC 2012). The definitions stand in `specs/`; the crate `reference_graph` has slow functions that do what
 //! they say, with which the fast layers are compared.
 #![tactic(auto)]
 

@@ -9,7 +9,7 @@ use std::process::ExitCode;
 use std::sync::Wait;
 use std::thread::Threads;
 use std::time::Clock;
-use stinger_program::{refuse_arguments, serves, shows_progress, stinger};
+use stinger_cli::{refuse_arguments, serves, shows_progress, stinger};
 
 // What stands on standard error where somebody at a terminal is to give the script.
 const AWAITED: &str = "\

@@ -14,7 +14,7 @@ use Rattle.block_pool.proofs.Tallies.{count_more}
 use Rattle.pin_copy.specs.declared.copies.PinCopy.{PinCopy}
 use Rattle.pin_copy.specs.Copies as copies
 use Rattle.pin_copy.specs.Copies.{needs}
-use Rattle.shard_work.specs.Births.{births_after, dropped_births}
+use Rattle.batch_shards.specs.Births.{births_after, dropped_births}
 use Rattle.feed_csv.specs.declared.command.Command.TheVariants.{Collect, Commit, Stat}
 use Rattle.graph_model.specs.Limits.{batch_limit, kind_limit, name_limit}
 use Rattle.graph_model.specs.Step.{after_all, left_by, outcomes}
@@ -22,10 +22,10 @@ use Rattle.graph_model.specs.declared.batches.NamedOp.{NamedOp}
 use Rattle.graph_model.specs.declared.batches.Outcome.{Outcome}
 use Rattle.graph_version.specs.Kept.{edge_total}
 use Rattle.graph_version.specs.Versions.{content, layout_of}
-use Rattle.store_journal.specs.Desks.{DeskView, IsCollected, AcceptedCounts, CollectedCounts, births_in, is_retired_by}
-use Rattle.store_journal.specs.Opening.{opened_desk}
-use Rattle.store_journal.specs.Steps.{Accepts}
-use Rattle.store_journal.proofs.StatusCounts.{accepted_counts, collected_counts}
+use Rattle.store_steps.specs.Desks.{DeskView, IsCollected, AcceptedCounts, CollectedCounts, births_in, is_retired_by}
+use Rattle.store_steps.specs.Opening.{opened_desk}
+use Rattle.store_steps.specs.Steps.{Accepts}
+use Rattle.store_steps.proofs.StatusCounts.{accepted_counts, collected_counts}
 use Rattle.stream_store.specs.Configs.{ConfigView}
 use Rattle.stream_store.specs.Refusals.{IsWithin, Refuses, asked, block_count}
 use Rattle.stream_store.specs.declared.receipts.ApplyError.{ApplyError}

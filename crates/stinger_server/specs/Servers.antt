@@ -3,7 +3,7 @@ use Rattle.std.specs.Prelude.{◌≡◌, ℕ, List, length, count_by, Ok, Err, B
 use Rattle.graph_model.specs.Step.{empty_graph}
 use Rattle.graph_version.specs.Versions.{layout_of}
 use Rattle.block_pool.specs.Pools.{is_free}
-use Rattle.store_journal.specs.Desks.{DeskView, births_in, is_retired_by}
+use Rattle.store_steps.specs.Desks.{DeskView, births_in, is_retired_by}
 use Rattle.feed_csv.specs.declared.command.Command.{Command}
 use Rattle.feed_csv.specs.declared.command.FeedWord.TheVariants as feed
 use Rattle.stream_store.specs.declared.receipts.ApplyError.{ApplyError}

@@ -7,7 +7,7 @@ use Rattle.block_layout.specs.Rows.{Shape}
 use Rattle.pin_copy.specs.declared.copies.PinCopy.{PinCopy}
 use Rattle.pin_copy.specs.declared.copies.TheConstants.{SEATS}
 use Rattle.pin_copy.specs.Copies.{needs}
-use Rattle.shard_work.specs.Births.{births_after, dropped_births}
+use Rattle.batch_shards.specs.Births.{births_after, dropped_births}
 use Rattle.graph_model.specs.Graph.{Graph}
 use Rattle.graph_model.specs.Limits.{batch_limit, kind_limit, name_limit}
 use Rattle.graph_model.specs.Step.{after_all, empty_graph, left_by, outcomes}

@@ -8,7 +8,7 @@ ghost use Rattle.script_lines.specs.Lines.{end_line, error_line};
 ghost use Rattle.std.specs.Prelude.{map};
 ghost use Rattle.std.specs.List.{range_with_len};
 ghost use Rattle.seat_board.specs.Board.{no_pins};
-ghost use Rattle.store_journal.specs.Opening.{opened_desk};
+ghost use Rattle.store_steps.specs.Opening.{opened_desk};
 ghost use Rattle.stream_store.specs.Configs.{ConfigView};
 ghost use Rattle.stream_store.specs.Seats.{SeatView};
 ghost use Rattle.stinger_server.specs.States.{Setup, beginning, printed, set_up};

@@ -4,7 +4,7 @@ ghost use Rattle.std.specs.Prelude.{◌≡◌, ℕ, ◌≢◌, ◌≤◌, [], le
 ghost use Rattle.std.specs.Prelude.{OnOk, None, Ok, Err};
 ghost use Rattle.std.specs.List.{range_with_len};
 ghost use Rattle.seat_board.specs.Board.{no_pins};
-ghost use Rattle.store_journal.specs.Opening.{opened_desk};
+ghost use Rattle.store_steps.specs.Opening.{opened_desk};
 ghost use Rattle.stream_store.specs.Configs.{ConfigView};
 ghost use Rattle.stream_store.specs.Seats.{SeatView};
 ghost use Rattle.stinger_server.specs.Servers.{IsServer, Obeys, Shows, batch_word};

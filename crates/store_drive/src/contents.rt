@@ -7,7 +7,7 @@ ghost use Rattle.graph_model.specs.Step.{empty_graph, left_by};
 use crate::reports::DriveWord;
 use graph_model::{Batch, Content, List};
 use graph_version::Version;
-use plain_graph::{PlainError, plain_apply};
+use reference_graph::{PlainError, plain_apply};
 use std::alloc::Global;
 
 impl From<PlainError> for DriveWord {

@@ -14,7 +14,7 @@ use crate::reports::DriveWord;
 use crate::sames::Answer;
 use crate::tally::Tally;
 use graph_model::{AskError, Content, Request};
-use plain_graph::plain_reply;
+use reference_graph::plain_reply;
 use std::alloc::{AllocError, Global};
 use std::marker::PhantomData;
 use std::sync::Wait;

@@ -5,9 +5,9 @@ use Rattle.graph_version.specs.Versions.{empty_version}
 use Rattle.block_pool.specs.Pools.{Free, is_retired}
 use Rattle.pin_copy.specs.declared.copies.PinCopy.{PinCopy}
 use Rattle.version_shelf.specs.Shelves.{ShelfView, opened_shelf}
-use Rattle.store_journal.specs.Opening.{opened_desk}
-use Rattle.store_journal.proofs.CollectedDesk.{desk_collected, is_collected, collected_is_desk}
-use Rattle.store_journal.proofs.OpeningShown.{opened_is_desk}
+use Rattle.store_steps.specs.Opening.{opened_desk}
+use Rattle.store_steps.proofs.CollectedDesk.{desk_collected, is_collected, collected_is_desk}
+use Rattle.store_steps.proofs.OpeningShown.{opened_is_desk}
 use Rattle.stream_store.specs.Kept.{DeskState, IsKept}
 
 -- what is kept holds of equal values too

@@ -12,19 +12,19 @@ use Rattle.graph_model.specs.Limits.{batch_limit}
 use Rattle.graph_model.specs.declared.batches.NamedOp.{NamedOp}
 use Rattle.edge_block.specs.declared.blocks.Block.{Block}
 use Rattle.row_pages.specs.Rows as rows
-use Rattle.shard_work.specs.RowBlocks.{block_of, blocks_of, numbers_of}
+use Rattle.batch_shards.specs.RowBlocks.{block_of, blocks_of, numbers_of}
 use Rattle.graph_version.specs.declared.versions.Version.{Version}
 use Rattle.graph_version.specs.Versions.{VersionView, content, is_in}
 use Rattle.block_pool.specs.Pools.{Status, Free, Granted, Used, is_free, is_retired, is_used, is_born, retired, marked, changed, AreFree}
 use Rattle.version_shelf.specs.Shelves.{ShelfView, IsNext}
-use Rattle.store_journal.specs.Journal as journal
-use Rattle.store_journal.specs.Desks.{DeskView, IsDesk, FollowsLayout}
-use Rattle.store_journal.specs.Steps.{Accepts}
-use Rattle.store_journal.proofs.Accepting.{Application, next_desk, granted_pool, born_pool, retired_pool, made_accepted, made_desk}
-use Rattle.store_journal.proofs.Accepting.{moves_left, taken_granted, taken_movable, dropped_movable, unused_movable}
-use Rattle.store_journal.proofs.Accepting.{granted_movable, given_back, born_movable, born_given_back, granted_unlisted}
-use Rattle.store_journal.proofs.BatchLaws.{accepted_steps}
-use Rattle.store_journal.proofs.RetiredCounts.{retired_room}
+use Rattle.store_steps.specs.Journal as journal
+use Rattle.store_steps.specs.Desks.{DeskView, IsDesk, FollowsLayout}
+use Rattle.store_steps.specs.Steps.{Accepts}
+use Rattle.store_steps.proofs.Accepting.{Application, next_desk, granted_pool, born_pool, retired_pool, made_accepted, made_desk}
+use Rattle.store_steps.proofs.Accepting.{moves_left, taken_granted, taken_movable, dropped_movable, unused_movable}
+use Rattle.store_steps.proofs.Accepting.{granted_movable, given_back, born_movable, born_given_back, granted_unlisted}
+use Rattle.store_steps.proofs.BatchLaws.{accepted_steps}
+use Rattle.store_steps.proofs.RetiredCounts.{retired_room}
 use Rattle.batch_plan.specs.Planned.{MeetsNeitherLimit}
 use Rattle.batch_plan.specs.declared.plans.Plan.{Plan}
 use Rattle.batch_apply.proofs.Asked.{needs_within}

@@ -7,16 +7,16 @@ use Rattle.std.proofs.lemmas.List.{map-append}
 use Rattle.std.specs.declared.sync.Arc.{Arc}
 use Rattle.std.specs.declared.alloc.Global.{Global}
 use Rattle.edge_block.specs.declared.blocks.Block.{Block}
-use Rattle.shard_work.specs.RowBlocks.{block_of, numbers_of}
+use Rattle.batch_shards.specs.RowBlocks.{block_of, numbers_of}
 use Rattle.graph_version.specs.Versions.{is_in}
 use Rattle.block_pool.specs.Pools.{Status, Granted, Used, is_used, is_born, is_used_at, is_born_at, marked, changed, passes, retired}
 use Rattle.block_pool.proofs.Tallies.{count_more}
-use Rattle.epoch_posts.specs.Blocks.{all_differ}
-use Rattle.epoch_posts.proofs.Lists.{all_listed}
-use Rattle.store_journal.proofs.NumberLists.{all_by}
-use Rattle.store_journal.proofs.ChangedLists.{marked_at, changed_at, same_list}
-use Rattle.store_journal.proofs.Counting.{times, is_some_times, in_times, once_at_most, apart_if}
-use Rattle.store_journal.proofs.BlockMoves.{AreMovable, moving}
+use Rattle.epoch_blocks.specs.Blocks.{all_differ}
+use Rattle.epoch_blocks.proofs.Lists.{all_listed}
+use Rattle.store_steps.proofs.NumberLists.{all_by}
+use Rattle.store_steps.proofs.ChangedLists.{marked_at, changed_at, same_list}
+use Rattle.store_steps.proofs.Counting.{times, is_some_times, in_times, once_at_most, apart_if}
+use Rattle.store_steps.proofs.BlockMoves.{AreMovable, moving}
 use Rattle.stream_store.specs.Moves.{AreOnce, AreUsedOnce, AreBornOnce}
 
 -- a list with its last number first has each number as often

@@ -7,8 +7,8 @@ use Rattle.graph_model.specs.declared.batches.NamedOp.{NamedOp}
 use Rattle.graph_model.specs.declared.batches.Outcome.{Outcome}
 use Rattle.batch_plan.specs.Planned.{MeetsNeitherLimit}
 use Rattle.version_shelf.specs.Shelves.{ToldView}
-use Rattle.store_journal.specs.Journal.{Ledger}
-use Rattle.store_journal.specs.Steps.{Accepts}
+use Rattle.store_steps.specs.Journal.{Ledger}
+use Rattle.store_steps.specs.Steps.{Accepts}
 use Rattle.stream_store.specs.Applying.{IsReceipt}
 use Rattle.stream_store.specs.Kept.{DeskState}
 use Rattle.stream_store.specs.Refusals.{IsWithin}

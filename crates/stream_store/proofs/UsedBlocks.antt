@@ -10,12 +10,12 @@ use Rattle.row_pages.specs.Rows.{blocks_of}
 use Rattle.graph_version.specs.Versions.{is_in}
 use Rattle.block_pool.specs.Pools.{Status, Free, Granted, Used, Retired, is_born, is_used, is_born_at, passes}
 use Rattle.block_pool.proofs.Tallies.{count_more}
-use Rattle.epoch_posts.specs.Blocks.{all_differ}
-use Rattle.epoch_posts.proofs.Lists.{set_else}
-use Rattle.store_journal.specs.Dates.{IsDated, AreDated}
-use Rattle.store_journal.specs.Desks.{DeskView, IsDesk, last_numbers}
-use Rattle.store_journal.proofs.NumberLists.{differ_from, differ_head, differ_tail}
-use Rattle.store_journal.proofs.Dated.{desk_dated}
+use Rattle.epoch_blocks.specs.Blocks.{all_differ}
+use Rattle.epoch_blocks.proofs.Lists.{set_else}
+use Rattle.store_steps.specs.Dates.{IsDated, AreDated}
+use Rattle.store_steps.specs.Desks.{DeskView, IsDesk, last_numbers}
+use Rattle.store_steps.proofs.NumberLists.{differ_from, differ_head, differ_tail}
+use Rattle.store_steps.proofs.Dated.{desk_dated}
 use Rattle.stream_store.specs.Refusals.{block_count}
 
 -- none is born

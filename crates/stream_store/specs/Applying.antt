@@ -6,13 +6,13 @@ use Rattle.graph_model.specs.declared.batches.Batch.{Batch}
 use Rattle.graph_model.specs.declared.batches.NamedOp.{NamedOp}
 use Rattle.graph_model.specs.declared.batches.Outcome.{Outcome}
 use Rattle.row_pages.specs.Rows as rows
-use Rattle.shard_work.specs.RowBlocks.{blocks_of, numbers_of}
-use Rattle.shard_work.specs.Births.{CarriesBirths}
-use Rattle.shard_work.specs.Done.{Exchanges}
+use Rattle.batch_shards.specs.RowBlocks.{blocks_of, numbers_of}
+use Rattle.batch_shards.specs.Births.{CarriesBirths}
+use Rattle.batch_shards.specs.Done.{Exchanges}
 use Rattle.graph_version.specs.declared.versions.Version.{Version}
 use Rattle.graph_version.specs.Versions.{VersionView, IsVersion, content}
 use Rattle.version_shelf.specs.Shelves.{ToldView}
-use Rattle.store_journal.specs.Desks.{FollowsLayout}
+use Rattle.store_steps.specs.Desks.{FollowsLayout}
 use Rattle.stream_store.specs.Kept.{DeskState}
 use Rattle.stream_store.specs.declared.applying.Prepared.{Prepared}
 

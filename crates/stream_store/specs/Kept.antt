@@ -6,8 +6,8 @@ use Rattle.graph_model.specs.declared.batches.Batch.{Batch}
 use Rattle.graph_version.specs.Versions.{VersionView}
 use Rattle.block_pool.specs.Pools.{Status, is_retired}
 use Rattle.version_shelf.specs.Shelves.{ShelfView}
-use Rattle.store_journal.specs.Journal.{Entry, Applied, Collected}
-use Rattle.store_journal.specs.Desks.{DeskView, IsDesk}
+use Rattle.store_steps.specs.Journal.{Entry, Applied, Collected}
+use Rattle.store_steps.specs.Desks.{DeskView, IsDesk}
 use Rattle.stream_store.specs.declared.entries.JournalEntry.{JournalEntry}
 use Rattle.stream_store.specs.declared.entries.JournalEntry.TheVariants as entries
 

@@ -1,7 +1,7 @@
 -- Blocks that are moved between the pool's sets.
 use Rattle.std.specs.Prelude.{◌≡◌, ℕ, List, Bool, true, slice_get}
 use Rattle.std.specs.List.{list_all}
-use Rattle.epoch_posts.specs.Blocks.{all_differ}
+use Rattle.epoch_blocks.specs.Blocks.{all_differ}
 use Rattle.block_pool.specs.Pools.{Status, is_used, is_born, passes}
 
 -- each of the numbers has a status that passes, and none stands twice

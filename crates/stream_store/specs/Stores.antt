@@ -10,7 +10,7 @@ use Rattle.batch_plan.specs.Planned.{MeetsNeitherLimit}
 use Rattle.version_shelf.specs.Shelves.{ToldView}
 use Rattle.pin_copy.specs.declared.copies.PinCopy.{PinCopy}
 use Rattle.seat_board.specs.Board.{BoardState, copy_of}
-use Rattle.store_journal.specs.Desks.{DeskView}
+use Rattle.store_steps.specs.Desks.{DeskView}
 use Rattle.stream_store.specs.Refusals.{Refuses}
 use Rattle.stream_store.specs.declared.receipts.ApplyError.{ApplyError}
 

@@ -7,7 +7,7 @@ ghost use Rattle.std.specs.List.{sum_by};
 ghost use Rattle.std.specs.Arc.{arc_value};
 ghost use Rattle.graph_model.specs.Limits.{batch_limit};
 ghost use Rattle.row_pages.specs.Rows as rows;
-ghost use Rattle.shard_work.specs.RowBlocks.{numbers_of};
+ghost use Rattle.batch_shards.specs.RowBlocks.{numbers_of};
 ghost use Rattle.graph_version.specs.declared.versions.Version.{Version};
 ghost use Rattle.graph_version.specs.Versions.{is_in};
 ghost use Rattle.block_pool.specs.Pools.{Granted, AreFree, is_free, is_used, marked};

@@ -11,10 +11,10 @@ ghost use Rattle.block_pool.specs.Pools.{Free, is_free, is_used, is_retired, is_
 ghost use Rattle.pin_copy.specs.Copies.{floor_of};
 ghost use Rattle.pin_copy.specs.declared.copies.PinCopy.{PinCopy};
 ghost use Rattle.version_shelf.specs.Shelves.{opened_shelf};
-ghost use Rattle.store_journal.specs.Desks.{IsDesk, IsCollected, births_in, collections};
-ghost use Rattle.store_journal.specs.Dates.{AreDated};
-ghost use Rattle.store_journal.specs.Opening.{opened_desk};
-ghost use Rattle.store_journal.specs.Steps.{Accepts, TakesAt, recycling};
+ghost use Rattle.store_steps.specs.Desks.{IsDesk, IsCollected, births_in, collections};
+ghost use Rattle.store_steps.specs.Dates.{AreDated};
+ghost use Rattle.store_steps.specs.Opening.{opened_desk};
+ghost use Rattle.store_steps.specs.Steps.{Accepts, TakesAt, recycling};
 ghost use Rattle.stream_store.specs.Applying.{IsReceipt};
 ghost use Rattle.stream_store.specs.Refusals.{Refuses, IsWithin, block_count};
 ghost use Rattle.stream_store.specs.Kept.{entry_of};

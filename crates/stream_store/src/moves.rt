@@ -2,7 +2,7 @@
 
 ghost use Rattle.std.specs.Prelude.{◌≡◌};
 ghost use Rattle.block_pool.specs.Pools.{Free, Used, marked, changed, retired};
-ghost use Rattle.shard_work.specs.RowBlocks.{numbers_of};
+ghost use Rattle.batch_shards.specs.RowBlocks.{numbers_of};
 ghost use Rattle.stream_store.specs.Moves.{AreUsedOnce, AreBornOnce};
 
 use block_pool::Pool;

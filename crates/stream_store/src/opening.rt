@@ -3,7 +3,7 @@
 ghost use Rattle.std.specs.Prelude.{◌≡◌, ◌≤◌, length, map, IfOk, All, vec_len};
 ghost use Rattle.std.specs.List.{range_with_len};
 ghost use Rattle.seat_board.specs.Board.{no_pins};
-ghost use Rattle.store_journal.specs.Opening.{opened_desk};
+ghost use Rattle.store_steps.specs.Opening.{opened_desk};
 ghost use Rattle.stream_store.specs.Seats.{SeatView, IsNewSeat};
 
 use crate::config::Config;

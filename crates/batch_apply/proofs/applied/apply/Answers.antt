@@ -10,7 +10,7 @@ use Rattle.graph_model.specs.declared.batches.Outcome.TheVariants.{Absent}
 use Rattle.block_layout.specs.Batches.{resolved}
 use Rattle.row_pages.specs.Rows.{row_of}
 use Rattle.batch_pages.specs.Batches.{batch_value}
-use Rattle.shard_work.specs.RowBlocks.{numbers_of}
+use Rattle.batch_shards.specs.RowBlocks.{numbers_of}
 use Rattle.graph_version.specs.Versions.{VersionView, content, layout_of}
 use Rattle.graph_version.specs.Drafts.{DraftView}
 use Rattle.batch_apply.specs.Counts.{is_inserted, taken_away}

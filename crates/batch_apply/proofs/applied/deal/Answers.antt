@@ -4,8 +4,8 @@ use Rattle.std.specs.List.{sum_by, AllZip}
 use Rattle.std.proofs.lemmas.Iterator.Adapters.{YieldsList-from_vec}
 use Rattle.std.proofs.lemmas.Iterator.Consumers.{YieldsList-turn}
 use Rattle.std.proofs.lemmas.List.Sums.{sum_by-take-le}
-use Rattle.shard_work.specs.RowBlocks.{numbers_of}
-use Rattle.shard_work.specs.declared.shard.Shard.{Shard}
+use Rattle.batch_shards.specs.RowBlocks.{numbers_of}
+use Rattle.batch_shards.specs.declared.shard.Shard.{Shard}
 use Rattle.batch_apply.specs.Jobs.{IsDealt}
 use Rattle.batch_apply.specs.declared.workers.Job.{Job}
 use Rattle.batch_apply.proofs.Dealt.{sum_taken, zip_push}

@@ -1,6 +1,6 @@
 use Rattle.std.proofs.Common.{◌≡◌, ◌+◌, ℕ, Bool, length, flat_map, count_by, zip, take}
 use Rattle.std.specs.List.{sum_by, AllZip}
-use Rattle.shard_work.specs.RowBlocks.{numbers_of}
+use Rattle.batch_shards.specs.RowBlocks.{numbers_of}
 use Rattle.batch_apply.specs.Jobs.{IsDealt}
 use Rattle.batch_apply.proofs.applied.deal.Given as goal
 

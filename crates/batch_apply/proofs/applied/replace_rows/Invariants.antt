@@ -1,4 +1,4 @@
-use Rattle.shard_work.specs.Closing.{row_values}
+use Rattle.batch_shards.specs.Closing.{row_values}
 use Rattle.batch_apply.specs.Applied.{ReplacesRows}
 use Rattle.batch_apply.proofs.applied.replace_rows.Given as goal
 

@@ -2,7 +2,7 @@ use Rattle.std.proofs.Common.{◌≡◌, List, set, get_or, sym, ap, ◌∙◌, 
 use Rattle.graph_model.specs.declared.batches.Outcome.{Outcome}
 use Rattle.graph_model.specs.declared.batches.Outcome.TheVariants.{Absent}
 use Rattle.block_layout.specs.Batches.{together}
-use Rattle.shard_work.specs.Groups.{told}
+use Rattle.batch_shards.specs.Groups.{told}
 use Rattle.std.proofs.lemmas.List.{get_or_default}
 use Rattle.batch_apply.proofs.Loops.{written_more}
 use Rattle.batch_apply.proofs.applied.write_outcomes.Goals as goal

@@ -2,8 +2,8 @@ use Rattle.std.proofs.Common.{◌++◌, ◌∷◌, [], length, sym, ◌∙◌, s
 use Rattle.std.proofs.lemmas.Iterator.Adapters.{YieldsList-from_vec}
 use Rattle.std.proofs.lemmas.Iterator.Consumers.{YieldsList-turn}
 use Rattle.row_pages.specs.Rows.{row_of}
-use Rattle.shard_work.specs.Done.{IsShardDone}
-use Rattle.shard_work.specs.declared.shard.ShardDone.{ShardDone}
+use Rattle.batch_shards.specs.Done.{IsShardDone}
+use Rattle.batch_shards.specs.declared.shard.ShardDone.{ShardDone}
 use Rattle.batch_apply.specs.Jobs.{IsShard, AreDone}
 use Rattle.batch_apply.specs.declared.workers.Job.{Job}
 use Rattle.batch_apply.proofs.Halves.{zip_more}

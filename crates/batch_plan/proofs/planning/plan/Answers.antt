@@ -8,8 +8,8 @@ use Rattle.block_layout.specs.Batches.{Resolved, resolved}
 use Rattle.row_pages.specs.Rows.{row_of}
 use Rattle.graph_version.specs.Kept.{vertex_book, kind_book}
 use Rattle.graph_version.specs.Versions.{VersionView, content}
-use Rattle.shard_work.specs.Done.{layout_by}
-use Rattle.shard_work.specs.declared.shard.Shard.{Shard}
+use Rattle.batch_shards.specs.Done.{layout_by}
+use Rattle.batch_shards.specs.declared.shard.Shard.{Shard}
 use Rattle.batch_plan.specs.Plan.{shown, names_all, kinds_all, with_names}
 use Rattle.batch_plan.specs.Shards.{IsShardOf, latest}
 use Rattle.batch_plan.specs.OldRows.{AreOldRows, expiry_time}

@@ -1,8 +1,8 @@
 use Rattle.std.proofs.Common.{◌≡◌, ◌-◌, ◌^◌, ℕ, List, [], ◌∷◌, ◌++◌, map, min, ap₂, sym, ◌∙◌}
 use Rattle.std.proofs.lemmas.List.{map-append}
-use Rattle.shard_work.specs.Done.{layout_by, sources_in}
-use Rattle.shard_work.specs.Spending.{needed}
-use Rattle.shard_work.specs.declared.shard.Shard.{Shard}
+use Rattle.batch_shards.specs.Done.{layout_by, sources_in}
+use Rattle.batch_shards.specs.Spending.{needed}
+use Rattle.batch_shards.specs.declared.shard.Shard.{Shard}
 use Rattle.batch_plan.specs.Plan.{shown}
 use Rattle.batch_plan.specs.Shards.{IsShardOf}
 use Rattle.batch_plan.proofs.Leaving.{one_more_shard}

@@ -9,11 +9,11 @@ use Rattle.std.proofs.lemmas.List.Sums.{sum_by_push}
 use Rattle.graph_model.specs.declared.changes.EdgeChange.TheVariants.{Insert}
 use Rattle.graph_model.specs.declared.ids.VertexId.{VertexId}
 use Rattle.block_layout.specs.Batches.{Resolved, IsPlaced, is_in_shard}
-use Rattle.shard_work.specs.Done.{layout_by}
-use Rattle.shard_work.specs.Groups.{is_expiry}
-use Rattle.shard_work.specs.Spending.{old_blocks, latest as latest_step}
-use Rattle.shard_work.specs.declared.shard.Act.{Act}
-use Rattle.shard_work.specs.declared.shard.Step.{Step}
+use Rattle.batch_shards.specs.Done.{layout_by}
+use Rattle.batch_shards.specs.Groups.{is_expiry}
+use Rattle.batch_shards.specs.Spending.{old_blocks, latest as latest_step}
+use Rattle.batch_shards.specs.declared.shard.Act.{Act}
+use Rattle.batch_shards.specs.declared.shard.Step.{Step}
 use Rattle.batch_plan.specs.Plan.{shown}
 use Rattle.batch_plan.specs.Shards.{AreShardSteps, is_old_row, latest}
 use Rattle.batch_plan.specs.OldRows.{own_rows, blocks_in}

@@ -1,7 +1,7 @@
 use Rattle.std.proofs.Common.{◌≡◌, ◌+◌, ◌-◌, ◌^◌, ◌≤◌, length, map, min, take}
 use Rattle.std.specs.Prelude.{count_by, not}
 use Rattle.std.specs.List.{sum_by}
-use Rattle.shard_work.specs.Groups.{is_expiry}
+use Rattle.batch_shards.specs.Groups.{is_expiry}
 use Rattle.batch_plan.specs.Plan.{shown}
 use Rattle.batch_plan.specs.Shards.{AreShardSteps}
 use Rattle.batch_plan.specs.OldRows.{own_rows, blocks_in}

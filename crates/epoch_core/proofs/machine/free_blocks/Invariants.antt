@@ -1,5 +1,5 @@
 use Rattle.std.proofs.Common.{◌≡◌, ◌≤◌, ◌-◌, length, replicate}
-use Rattle.epoch_posts.specs.declared.states.Status.TheVariants.{Free}
+use Rattle.epoch_blocks.specs.declared.states.Status.TheVariants.{Free}
 use Rattle.epoch_core.proofs.machine.free_blocks.Given as goal
 
 abbrev pub invariant-loop-status : goal.invariant-loop-status

@@ -2,11 +2,11 @@ use Rattle.std.proofs.Common.{◌≡◌, List, ◌∷◌, [], ◌++◌, sym, ap,
 use Rattle.std.specs.Option.{option_map}
 use Rattle.std.specs.declared.option.Option.TheVariants.{Some}
 use Rattle.graph_model.specs.Graph.{IsContent}
-use Rattle.epoch_posts.specs.declared.states.Version.{Version}
-use Rattle.epoch_posts.specs.declared.states.Opening.{Opening}
+use Rattle.epoch_blocks.specs.declared.states.Version.{Version}
+use Rattle.epoch_blocks.specs.declared.states.Opening.{Opening}
 use Rattle.epoch_core.specs.Worlds.{HasContents}
-use Rattle.epoch_posts.specs.Versions.{IsContentGraph}
-use Rattle.epoch_posts.specs.Posting.{IsPlanOf, graph_after, last_content, version_by}
+use Rattle.epoch_blocks.specs.Versions.{IsContentGraph}
+use Rattle.epoch_blocks.specs.Posting.{IsPlanOf, graph_after, last_content, version_by}
 use Rattle.epoch_core.specs.Cores.{state_of}
 use Rattle.epoch_core.proofs.Read.{last_is_content}
 use Rattle.epoch_core.proofs.Cores.{contents_posted}

@@ -1,5 +1,5 @@
 use Rattle.std.proofs.Common.{◌≡◌, take}
-use Rattle.shard_work.specs.RowBlocks.{numbers_of}
+use Rattle.batch_shards.specs.RowBlocks.{numbers_of}
 use Rattle.stream_store.proofs.applying.numbers_in.Given as goal
 
 abbrev pub invariant-loop-block : goal.invariant-loop-block

@@ -1,5 +1,5 @@
 use Rattle.block_pool.specs.Pools.{Free, marked}
-use Rattle.shard_work.specs.RowBlocks.{numbers_of}
+use Rattle.batch_shards.specs.RowBlocks.{numbers_of}
 use Rattle.stream_store.proofs.Moving.{IsMoving}
 use Rattle.stream_store.proofs.moves.give_back_blocks.Given as goal
 

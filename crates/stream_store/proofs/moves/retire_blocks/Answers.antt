@@ -1,4 +1,4 @@
-use Rattle.shard_work.specs.RowBlocks.{block_of, numbers_of}
+use Rattle.batch_shards.specs.RowBlocks.{block_of, numbers_of}
 use Rattle.stream_store.proofs.Moving.{rest_retiring, last_born, last_number}
 use Rattle.stream_store.proofs.moves.retire_blocks.Goals as goal
 

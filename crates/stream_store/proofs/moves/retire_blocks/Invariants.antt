@@ -1,5 +1,5 @@
 use Rattle.block_pool.specs.Pools.{changed, retired}
-use Rattle.shard_work.specs.RowBlocks.{numbers_of}
+use Rattle.batch_shards.specs.RowBlocks.{numbers_of}
 use Rattle.stream_store.proofs.Moving.{IsRetiring}
 use Rattle.stream_store.proofs.moves.retire_blocks.Given as goal
 

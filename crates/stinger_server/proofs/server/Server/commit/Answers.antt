@@ -1,5 +1,5 @@
 use Rattle.std.proofs.Common.{rules, ◌≡◌, [], ap, sym, subst}
-use Rattle.store_journal.specs.Desks.{DeskView}
+use Rattle.store_steps.specs.Desks.{DeskView}
 use Rattle.stream_store.specs.Kept.{DeskState}
 use Rattle.stinger_server.specs.Servers.{ShowsDesk}
 use Rattle.stinger_server.proofs.DeskLaws.{commit_done, commit_refused, shows_committed, shows_given_up}

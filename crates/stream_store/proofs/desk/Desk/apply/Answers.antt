@@ -7,7 +7,7 @@ use Rattle.graph_version.specs.Versions.{VersionView, content}
 use Rattle.block_pool.specs.Pools.{Used, is_free, marked}
 use Rattle.batch_plan.proofs.Names.{err_then}
 use Rattle.version_shelf.specs.Shelves.{ToldView}
-use Rattle.store_journal.specs.Steps.{Accepts}
+use Rattle.store_steps.specs.Steps.{Accepts}
 use Rattle.stream_store.specs.Kept.{DeskState, state_of}
 use Rattle.stream_store.specs.Moves.{AreUsedOnce}
 use Rattle.stream_store.specs.Refusals.{Refuses, IsWithin}

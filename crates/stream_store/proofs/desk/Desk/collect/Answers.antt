@@ -2,10 +2,10 @@ use Rattle.std.proofs.Common.{◌≡◌, ℕ, ◌≤◌, ◌++◌, length, sym, 
 use Rattle.std.specs.Arc.{arc_value}
 use Rattle.graph_version.specs.declared.versions.Version.{Version}
 use Rattle.block_pool.specs.Pools.{is_past, is_retired}
-use Rattle.store_journal.specs.Desks.{IsCollected, births_in, collections}
-use Rattle.store_journal.specs.Steps.{TakesAt, recycling}
-use Rattle.store_journal.proofs.Collecting.{collected_takes}
-use Rattle.store_journal.proofs.CollectedDesk.{past_and_left, is_collected, births_collected}
+use Rattle.store_steps.specs.Desks.{IsCollected, births_in, collections}
+use Rattle.store_steps.specs.Steps.{TakesAt, recycling}
+use Rattle.store_steps.proofs.Collecting.{collected_takes}
+use Rattle.store_steps.proofs.CollectedDesk.{past_and_left, is_collected, births_collected}
 use Rattle.stream_store.specs.Kept.{DeskState, state_of, entry_of}
 use Rattle.stream_store.proofs.Collections.{collection_kept, state_collected}
 use Rattle.stream_store.proofs.desk.Desk.collect.Goals as goal

@@ -1,6 +1,6 @@
 use Rattle.std.proofs.Common.{subst, rules}
-use Rattle.store_journal.specs.Desks.{IsDesk}
-use Rattle.store_journal.proofs.Dated.{desk_dated}
+use Rattle.store_steps.specs.Desks.{IsDesk}
+use Rattle.store_steps.proofs.Dated.{desk_dated}
 use Rattle.stream_store.specs.Kept.{DeskState}
 use Rattle.stream_store.proofs.UsedBlocks.{used_blocks}
 use Rattle.stream_store.proofs.desk.Desk.journal.Goals as goal

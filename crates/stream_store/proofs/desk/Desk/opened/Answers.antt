@@ -1,7 +1,7 @@
 use Rattle.std.proofs.Common.{◌≡◌, [], length, map, arith, rules, vec_len}
 use Rattle.graph_version.specs.Versions.{empty_version}
 use Rattle.version_shelf.specs.Shelves.{opened_shelf}
-use Rattle.store_journal.specs.Opening.{opened_desk}
+use Rattle.store_steps.specs.Opening.{opened_desk}
 use Rattle.stream_store.specs.Kept.{entry_of}
 use Rattle.stream_store.proofs.Collections.{kept_same, opened_kept}
 use Rattle.stream_store.proofs.desk.Desk.opened.Goals as goal

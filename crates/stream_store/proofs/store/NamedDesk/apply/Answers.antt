@@ -2,7 +2,7 @@ use Rattle.std.proofs.Common.{ℕ}
 use Rattle.std.specs.Prelude.{count_by}
 use Rattle.std.proofs.lemmas.Result.{IfErr-weaker}
 use Rattle.block_pool.specs.Pools.{is_free}
-use Rattle.store_journal.specs.Steps.{Accepts}
+use Rattle.store_steps.specs.Steps.{Accepts}
 use Rattle.stream_store.specs.Applying.{IsReceipt}
 use Rattle.stream_store.specs.Kept.{DeskState}
 use Rattle.stream_store.specs.Refusals.{Refuses, IsWithin}

@@ -1,0 +1,390 @@
+-- An expiry, block by block, and how many fresh blocks operations need.
+use Rattle.std.proofs.Common.{◌≡◌, ℕ, zero, suc, ◌+◌, ◌*◌, ◌%◌, ◌^◌, ◌<◌, ◌≤◌, Bool, true, false, cond, not, ◌&&◌, ◌||◌, List, [], ◌∷◌, ◌++◌}
+use Rattle.std.proofs.Common.{map, length, get_or, set, take, drop, count_by, refl, sym, ap, ap₂, ◌∙◌, arith, subst, All, max}
+use Rattle.std.proofs.lemmas.Bool.{false≢true, lt-ltb, le-ltb, ltb-true}
+use Rattle.std.proofs.lemmas.List.Sums.{sum_by-cons, sum_by-append, count_by-le-length}
+use Rattle.std.proofs.lemmas.List.Elements.{All-head, All-tail}
+use Rattle.std.specs.List.{list_any, sum_by}
+use Rattle.std.specs.declared.option.Option.{Option}
+use Rattle.std.specs.declared.option.Option.TheVariants.{None, Some}
+use Rattle.std.specs.Prelude.{◌+ℤ◌}
+use Rattle.graph_model.specs.Graph.{Stamp, Key}
+use Rattle.graph_model.specs.Limits.{is_weight}
+use Rattle.graph_model.specs.Step.{is_before, outcome_at, stamp_after}
+use Rattle.graph_model.specs.declared.changes.EdgeChange.{EdgeChange}
+use Rattle.graph_model.specs.declared.changes.EdgeChange.TheVariants.{Insert, Incr, Remove}
+use Rattle.graph_model.specs.declared.batches.Outcome.{Outcome}
+use Rattle.graph_model.specs.declared.batches.Outcome.TheVariants.{Inserted, Updated, Removed, Absent, Overflow, Expired}
+use Rattle.edge_block.specs.Slots.{Slot, slot_since, slots_since, has_before, old_in, edges_in, holds, at_first, BlockView}
+use Rattle.block_layout.specs.Rows.{OpenBlock, has_old, touch, expire_block, expire_row, old_in_row, put_edge, take_edge, set_edge}
+use Rattle.block_layout.specs.Rows.{edge_at, untouched, shape_of, has_edge, has_room, new_block, touches}
+use Rattle.block_layout.specs.Batches.{key_step, key_outcome, together}
+use Rattle.batch_shards.specs.Groups.{told, is_expiry}
+use Rattle.batch_shards.specs.Spending.{is_unspent, unspent, old_blocks, needed, time_of, latest, spends, takes}
+use Rattle.batch_shards.specs.declared.shard.Act.{Act}
+use Rattle.batch_shards.specs.declared.shard.Act.TheVariants.{Edge, Expire}
+use Rattle.batch_shards.specs.declared.shard.Step.{Step}
+use Rattle.graph_model.specs.declared.ids.VertexId.{VertexId}
+
+-- f of so many first elements
+abbrev pub map_first : {A : Type 0} → (A → A) → ℕ → List A → List A
+map_first f zero xs = xs
+map_first f (suc k) [] = []
+map_first f (suc k) (x ∷ xs) = f x ∷ map_first f k xs
+
+map_first_next : {A : Type 0} (f : A → A) (k : ℕ) (xs : List A) (y d : A) → k < length xs → y ≡ f (get_or xs k d)
+    → set (map_first f k xs) k y ≡ map_first f (suc k) xs
+map_first_next f k [] y d lt e = absurd (omega arith)
+map_first_next f zero (x ∷ xs) y d lt e = ap (λ z. z ∷ xs) e
+map_first_next f (suc k) (x ∷ xs) y d lt e = ap (λ ys. f x ∷ ys) (map_first_next f k xs y d (omega arith) e)
+
+pub map_first_more : {A : Type 0} (f : A → A) (k : ℕ) (xs : List A) (y d : A) → k < length xs → y ≡ f (get_or xs k d)
+    → set (map_first f k xs) k y ≡ map_first f (k + 1) xs
+map_first_more f k xs y d lt e =
+    let same : suc k ≡ k + 1 = omega arith in
+    map_first_next f k xs y d lt e ∙ ap (λ n. map_first f n xs) same
+
+pub map_first_there : {A : Type 0} (f : A → A) (k : ℕ) (xs : List A) (d : A) → get_or (map_first f k xs) k d ≡ get_or xs k d
+map_first_there f zero xs d = refl
+map_first_there f (suc k) [] d = refl
+map_first_there f (suc k) (x ∷ xs) d = map_first_there f k xs d
+
+pub map_first_all : {A : Type 0} (f : A → A) (k : ℕ) (xs : List A) → length xs ≤ k → map_first f k xs ≡ map f xs
+map_first_all f zero [] le = refl
+map_first_all f zero (x ∷ xs) le = absurd (omega arith)
+map_first_all f (suc k) [] le = refl
+map_first_all f (suc k) (x ∷ xs) le = ap (λ ys. f x ∷ ys) (map_first_all f k xs (omega arith))
+
+pub map_first_long : {A : Type 0} (f : A → A) (k : ℕ) (xs : List A) → length (map_first f k xs) ≡ length xs
+map_first_long f zero xs = refl
+map_first_long f (suc k) [] = refl
+map_first_long f (suc k) (x ∷ xs) = ap suc (map_first_long f k xs)
+
+-- a sum over one element more
+sum_next : {A : Type 0} (f : A → ℕ) (k : ℕ) (xs : List A) (d : A) → k < length xs
+    → sum_by f (take (suc k) xs) ≡ sum_by f (take k xs) + f (get_or xs k d)
+sum_next f k [] d lt = absurd (omega arith)
+sum_next f zero (x ∷ xs) d lt = let a = sum_by-cons f x [] in omega arith
+sum_next f (suc k) (x ∷ xs) d lt =
+    sum_by-cons f x (take (suc k) xs)
+    ∙ added (f x) (sum_by f (take (suc k) xs)) (sum_by f (take k xs)) (f (get_or xs k d)) (sum_next f k xs d (omega arith))
+    ∙ ap (λ n. n + f (get_or xs k d)) (sym (sum_by-cons f x (take k xs))) where
+      added : (a b c e : ℕ) → b ≡ c + e → a + b ≡ a + c + e
+      added a b c e h = omega arith
+
+pub sum_more : {A : Type 0} (f : A → ℕ) (k : ℕ) (xs : List A) (d : A) → k < length xs
+    → sum_by f (take (k + 1) xs) ≡ sum_by f (take k xs) + f (get_or xs k d)
+sum_more f k xs d lt =
+    let same : k + 1 ≡ suc k = omega arith in
+    ap (λ n. sum_by f (take n xs)) same ∙ sum_next f k xs d lt
+
+-- a count modulo m, with another one added
+pub mod_more : (a b m : ℕ) → (a % m + b) % m ≡ (a + b) % m
+mod_more a b m =
+    Rattle.std.proofs.Math.Nat.add-mod (a % m) b m
+    ∙ ap (λ x. (x + b % m) % m) (Rattle.std.proofs.Math.Nat.mod-mod a m)
+    ∙ sym (Rattle.std.proofs.Math.Nat.add-mod a b m)
+
+-- a count with one element changed
+pub count_set : {A : Type 0} (p : A → Bool) (xs : List A) (k : ℕ) (y d : A) → k < length xs
+    → count_by p (set xs k y) + cond (p (get_or xs k d)) 1 0 ≡ count_by p xs + cond (p y) 1 0
+count_set p [] k y d lt = absurd (omega arith)
+count_set p (x ∷ xs) zero y d lt =
+    let a = sum_by-cons (λ x. cond (p x) 1 0) y xs in
+    let b = sum_by-cons (λ x. cond (p x) 1 0) x xs in
+    omega arith
+count_set p (x ∷ xs) (suc k) y d lt =
+    let a = sum_by-cons (λ x. cond (p x) 1 0) x (set xs k y) in
+    let b = sum_by-cons (λ x. cond (p x) 1 0) x xs in
+    let c = count_set p xs k y d (omega arith) in
+    omega arith
+
+pub count_there : {A : Type 0} (p : A → Bool) (xs : List A) (k : ℕ) (d : A) → k < length xs → p (get_or xs k d) ≡ true
+    → 0 < count_by p xs
+count_there p [] k d lt e = absurd (omega arith)
+count_there p (x ∷ xs) zero d lt e =
+    let a = sum_by-cons (λ x. cond (p x) 1 0) x xs in
+    let b : (let n : ℕ = cond (p x) 1 0 in n) ≡ 1 = ap (λ t. let n : ℕ = cond t 1 0 in n) e in
+    omega arith
+count_there p (x ∷ xs) (suc k) d lt e =
+    let a = sum_by-cons (λ x. cond (p x) 1 0) x xs in
+    let b = count_there p xs k d (omega arith) e in
+    omega arith
+
+-- an edge that is old at a time is old at each later one
+older : (s t : ℕ) (x : Stamp) → s ≤ t → is_before s x ≡ true → is_before t x ≡ true
+older s t x le e = let lt : x.recent < s = ltb-true x.recent s e in lt-ltb x.recent t (omega arith)
+
+pub old_later : (s t : ℕ) (slots : List (Option Slot)) → s ≤ t → has_before s slots ≡ true → has_before t slots ≡ true
+old_later s t [] le e = e
+old_later s t (None ∷ slots) le e = old_later s t slots le e
+old_later s t (Some x ∷ slots) le e =
+    elim (is_before s x.stamp) as (λ b. is_before s x.stamp ≡ b → (b || has_before s slots) ≡ true
+    → (is_before t x.stamp || has_before t slots) ≡ true) [
+      | true ↦ λ here _. ap (λ b. b || has_before t slots) (older s t x.stamp le here)
+      | false ↦ λ _ rest. Rattle.std.proofs.lemmas.Bool.or_right (is_before t x.stamp) (has_before t slots)
+          (old_later s t slots le rest)
+    ] refl e
+
+and_both : (a b c : Bool) → (b ≡ true → c ≡ true) → (a && b) ≡ true → (a && c) ≡ true
+and_both true b c h e = h e
+and_both false b c h e = e
+
+pub unspent_later : (s t : ℕ) (b : OpenBlock) → s ≤ t → is_unspent s b ≡ true → is_unspent t b ≡ true
+unspent_later s t b le e =
+    and_both (not b.touched) (has_old s b) (has_old t b) (old_later s t b.shape.slots le) e
+
+one_more : (a b : Bool) → (a ≡ true → b ≡ true) → cond a 1 0 ≤ cond b 1 0
+one_more true b h = let e = h refl in subst (λ x. 1 ≤ cond x 1 0) (sym e) (omega arith)
+one_more false b h = omega arith
+
+-- what passes a test passes a wider one
+pub count_wider : {A : Type 0} (p q : A → Bool) → ((x : A) → p x ≡ true → q x ≡ true) → (xs : List A)
+    → count_by p xs ≤ count_by q xs
+count_wider p q h [] = omega arith
+count_wider p q h (x ∷ xs) =
+    let a = sum_by-cons (λ x. cond (p x) 1 0) x xs in
+    let b = sum_by-cons (λ x. cond (q x) 1 0) x xs in
+    let c = count_wider p q h xs in
+    let d = one_more (p x) (q x) (h x) in
+    omega arith
+
+pub fewer_earlier : (s t : ℕ) (row : List OpenBlock) → s ≤ t → unspent s row ≤ unspent t row
+fewer_earlier s t row le = count_wider (is_unspent s) (is_unspent t) (λ b. unspent_later s t b le) row
+
+-- one block of an expiry: what is taken of the fresh ones is no longer owed to a later time
+pub expired_owes : (s t : ℕ) (b : OpenBlock) → s ≤ t
+    → cond (is_unspent s b) 1 0 + cond (is_unspent t (expire_block s b)) 1 0 ≤ cond (is_unspent t b) 1 0
+expired_owes s t b le =
+    elim (has_old s b) as (λ x. has_old s b ≡ x → cond (not b.touched && x) 1 0
+    + cond (is_unspent t (cond x (touch (slots_since s) b) b)) 1 0 ≤ cond (is_unspent t b) 1 0) [
+      | true ↦ λ old. elim b.touched as (λ y. cond (not y && true) 1 0 + 0 ≤ cond (not y && has_old t b) 1 0) [
+        | true ↦ omega arith
+        | false ↦ subst (λ z. 1 + 0 ≤ cond z 1 0) (sym (old_later s t b.shape.slots le old)) (omega arith)
+      ]
+      | false ↦ λ young. elim b.touched as (λ y. cond (not y && false) 1 0 + cond (not y && has_old t b) 1 0
+          ≤ cond (not y && has_old t b) 1 0) [
+            | true ↦ omega arith
+            | false ↦ omega arith
+          ]
+    ] refl
+
+-- a block with no edge of before a time has none in count, either
+pub none_old : (time : ℕ) (slots : List (Option Slot)) → has_before time slots ≡ false → old_in time slots ≡ 0
+none_old time [] e = refl
+none_old time (None ∷ slots) e = none_old time slots e
+none_old time (Some x ∷ slots) e =
+    elim (is_before time x.stamp) as (λ b. is_before time x.stamp ≡ b → (b || has_before time slots) ≡ false
+    → old_in time (Some x ∷ slots) ≡ 0) [
+      | true ↦ λ _ rest. absurd (false≢true (sym rest))
+      | false ↦ λ here rest.
+          let a = sum_by-cons (λ (e : Slot). cond (is_before time e.stamp) 1 0) x (edges_in slots) in
+          let b = none_old time slots rest in
+          let c : (let n : ℕ = cond (is_before time x.stamp) 1 0 in n) ≡ 0 = ap (λ t. let n : ℕ = cond t 1 0 in n) here in
+          omega arith
+    ] refl e
+
+-- an expiry adds no target
+pub holds_since : (time target : ℕ) (slots : List (Option Slot)) → list_any (holds target) (slots_since time slots) ≡ true
+    → list_any (holds target) slots ≡ true
+holds_since time target [] e = e
+holds_since time target (None ∷ slots) e = holds_since time target slots e
+holds_since time target (Some x ∷ slots) e =
+    elim (is_before time x.stamp) as (λ b. (holds target (cond b None (Some x))
+    || list_any (holds target) (slots_since time slots)) ≡ true
+    → (holds target (Some x) || list_any (holds target) slots) ≡ true) [
+      | true ↦ λ rest. Rattle.std.proofs.lemmas.Bool.or_right (holds target (Some x)) (list_any (holds target) slots)
+          (holds_since time target slots rest)
+      | false ↦ λ both. either (holds target (Some x)) (list_any (holds target) (slots_since time slots))
+          (list_any (holds target) slots) (holds_since time target slots) both
+    ] e where
+      either : (a b c : Bool) → (b ≡ true → c ≡ true) → (a || b) ≡ true → (a || c) ≡ true
+      either true b c h e = e
+      either false b c h e = h e
+
+-- a change of an edge touches a block that was there, or a new one
+touched_owes : (t : ℕ) (p : OpenBlock → Bool) (f : List (Option Slot) → List (Option Slot)) (row : List OpenBlock)
+    → unspent t (at_first p (touch f) row) ≤ unspent t row
+touched_owes t p f [] = omega arith
+touched_owes t p f (b ∷ row) =
+    let a = sum_by-cons (λ x. cond (is_unspent t x) 1 0) (touch f b) row in
+    let c = sum_by-cons (λ x. cond (is_unspent t x) 1 0) b (at_first p (touch f) row) in
+    let d = sum_by-cons (λ x. cond (is_unspent t x) 1 0) b row in
+    let e = touched_owes t p f row in
+    elim (p b) as (λ x. unspent t (cond x (touch f b ∷ row) (b ∷ at_first p (touch f) row)) ≤ unspent t (b ∷ row)) [
+      | true ↦ omega arith
+      | false ↦ omega arith
+    ]
+
+put_owes : (t kind : ℕ) (e : Slot) (row : List OpenBlock) → unspent t (put_edge kind e row) ≤ unspent t row
+put_owes t kind e row =
+    elim (list_any (has_edge (kind, e.target)) row) as (λ x. unspent t (cond x
+    (at_first (has_edge (kind, e.target)) (touch (Rattle.edge_block.specs.Slots.put_slot e)) row)
+    (cond (list_any (λ b. has_room kind b.shape) row)
+    (at_first (λ b. has_room kind b.shape) (touch (Rattle.edge_block.specs.Slots.put_slot e)) row) (row ++ new_block kind e ∷ [])))
+    ≤ unspent t row) [
+      | true ↦ touched_owes t (has_edge (kind, e.target)) (Rattle.edge_block.specs.Slots.put_slot e) row
+      | false ↦ elim (list_any (λ b. has_room kind b.shape) row) as (λ y. unspent t (cond y
+          (at_first (λ b. has_room kind b.shape) (touch (Rattle.edge_block.specs.Slots.put_slot e)) row)
+          (row ++ new_block kind e ∷ [])) ≤ unspent t row) [
+            | true ↦ touched_owes t (λ b. has_room kind b.shape) (Rattle.edge_block.specs.Slots.put_slot e) row
+            | false ↦
+                let a = sum_by-append (λ x. cond (is_unspent t x) 1 0) row (new_block kind e ∷ []) in
+                omega arith
+          ]
+    ]
+
+set_owes : (t : ℕ) (place : ℕ × ℕ) (s : Option Stamp) (row : List OpenBlock) → unspent t (set_edge place s row) ≤ unspent t row
+set_owes t place None row = touched_owes t (has_edge place) (Rattle.edge_block.specs.Slots.take_slot place.1) row
+set_owes t place (Some s) row = put_owes t place.0 (record { target = place.1; stamp = s }) row
+
+key_owes : (t : ℕ) (change : EdgeChange) (key : Option Key) (row : List OpenBlock)
+    → unspent t (key_step change key row) ≤ unspent t row
+key_owes t change None row = omega arith
+key_owes t change (Some k) row =
+    elim (touches (outcome_at change (edge_at row (k.kind, k.target)))) as (λ b. unspent t (cond b
+    (set_edge (k.kind, k.target) (stamp_after change (edge_at row (k.kind, k.target))) row) row) ≤ unspent t row) [
+      | true ↦ set_owes t (k.kind, k.target) (stamp_after change (edge_at row (k.kind, k.target))) row
+      | false ↦ omega arith
+    ]
+
+pub edge_owes : (t : ℕ) (change : EdgeChange) (key : Option Key) (row new : List OpenBlock) → new ≡ key_step change key row
+    → unspent t new ≤ unspent t row
+edge_owes t change key row new e = subst (λ r. unspent t r ≤ unspent t row) (sym e) (key_owes t change key row)
+
+-- the row before the batch owes its old blocks
+pub opened_owes : (t : ℕ) (row : List BlockView) → unspent t (map untouched (map shape_of row)) ≡ old_blocks t row
+opened_owes t [] = refl
+opened_owes t (b ∷ row) =
+    let a = sum_by-cons (λ x. cond (is_unspent t x) 1 0) (untouched (shape_of b)) (map untouched (map shape_of row)) in
+    let c = sum_by-cons (λ (x : BlockView). cond (has_before t x.slots) 1 0) b row in
+    let d = opened_owes t row in
+    omega arith
+
+-- no expiry is later than the latest
+pub not_later : (steps : List Step) (k : ℕ) (s : Step) → k < length steps → time_of (get_or steps k s).act ≤ latest steps
+not_later [] k s lt = absurd (omega arith)
+not_later (x ∷ steps) zero s lt = Rattle.std.proofs.Math.Nat.le-max_left (time_of x.act) (latest steps)
+not_later (x ∷ steps) (suc k) s lt =
+    let a = not_later steps k s (omega arith) in
+    let b = Rattle.std.proofs.Math.Nat.le-max_right (time_of x.act) (latest steps) in
+    omega arith
+
+-- what is needed of a row is what it takes and owes
+pub spends_least : (act : Act) (t : ℕ) (row : List OpenBlock) → time_of act ≤ t → spends act row ≤ takes act + unspent t row
+spends_least (Edge place change) t row le = omega arith
+spends_least (Expire time) t row le = let few = fewer_earlier time t row le in omega arith
+
+-- outcomes put together: that of an edge stands
+abbrev is_counted : Outcome → Bool
+is_counted Inserted = false
+is_counted Updated = false
+is_counted Removed = false
+is_counted Absent = false
+is_counted Overflow = false
+is_counted (Expired count) = true
+
+last_stands : (x y : Outcome) → is_counted y ≡ false → together x y ≡ y
+last_stands Inserted y e = refl
+last_stands Updated y e = refl
+last_stands Removed y e = refl
+last_stands Absent y e = refl
+last_stands Overflow y e = refl
+last_stands (Expired a) Inserted e = refl
+last_stands (Expired a) Updated e = refl
+last_stands (Expired a) Removed e = refl
+last_stands (Expired a) Absent e = refl
+last_stands (Expired a) Overflow e = refl
+last_stands (Expired a) (Expired b) e = absurd (false≢true (sym e))
+
+not_counted : (change : EdgeChange) (s : Option Stamp) → is_counted (outcome_at change s) ≡ false
+not_counted (Insert weight time) None = refl
+not_counted (Insert weight time) (Some e) = refl
+not_counted (Incr amount time) None = refl
+not_counted (Incr amount time) (Some e) =
+    elim (is_weight (e.weight +ℤ amount)) as (λ b. is_counted (cond b Updated Overflow) ≡ false) [
+      | true ↦ refl
+      | false ↦ refl
+    ]
+not_counted Remove None = refl
+not_counted Remove (Some e) = refl
+
+pub edge_stands : (x : Outcome) (change : EdgeChange) (key : Option Key) (rows : ℕ → List OpenBlock)
+    → together x (key_outcome change key rows) ≡ key_outcome change key rows
+edge_stands x change None rows = last_stands x Absent refl
+edge_stands x change (Some k) rows =
+    last_stands x (outcome_at change (edge_at (rows k.source) (k.kind, k.target)))
+    (not_counted change (edge_at (rows k.source) (k.kind, k.target)))
+
+told_as : (o : Outcome) → is_counted o ≡ false → told o ≡ o
+told_as Inserted e = refl
+told_as Updated e = refl
+told_as Removed e = refl
+told_as Absent e = refl
+told_as Overflow e = refl
+told_as (Expired a) e = absurd (false≢true (sym e))
+
+pub edge_told : (change : EdgeChange) (key : Option Key) (rows : ℕ → List OpenBlock)
+    → told (key_outcome change key rows) ≡ key_outcome change key rows
+edge_told change None rows = refl
+edge_told change (Some k) rows = told_as (outcome_at change (edge_at (rows k.source) (k.kind, k.target)))
+    (not_counted change (edge_at (rows k.source) (k.kind, k.target)))
+
+-- counts told one after another
+pub told_more : (a b : ℕ) → told (together (told (Expired a)) (Expired b)) ≡ told (Expired (a + b))
+told_more a b = ap Expired (mod_more a b (2 ^ 64))
+
+-- a sum over the sources from one on
+needed_next : (f : ℕ → ℕ) (sources : List VertexId) (row : ℕ) → row < length sources
+    → sum_by f (drop row (map (λ s. s.0) sources))
+    ≡ f (get_or sources row (record { 0 = 0 })).0 + sum_by f (drop (suc row) (map (λ s. s.0) sources))
+needed_next f [] row lt = absurd (omega arith)
+needed_next f (s ∷ sources) zero lt = sum_by-cons f s.0 (map (λ (s : VertexId). s.0) sources)
+needed_next f (s ∷ sources) (suc row) lt = needed_next f sources row (omega arith)
+
+pub needed_row : (f : ℕ → ℕ) (sources : List VertexId) (row : ℕ) → row < length sources
+    → sum_by f (drop row (map (λ s. s.0) sources))
+    ≡ f (get_or sources row (record { 0 = 0 })).0 + sum_by f (drop (row + 1) (map (λ s. s.0) sources))
+needed_row f sources row lt =
+    let same : suc row ≡ row + 1 = omega arith in
+    needed_next f sources row lt
+    ∙ ap (λ n. f (get_or sources row (record { 0 = 0 })).0 + sum_by f (drop n (map (λ (s : VertexId). s.0) sources))) same
+
+-- where no operation is an expiry, they need one block each
+pub needed_edges : (rows : ℕ → List BlockView) (sources : List ℕ) (steps : List Step)
+    → All (λ s. is_expiry s.act ≡ false) steps → needed rows sources steps ≤ length steps
+needed_edges rows sources steps edges =
+    let a = count_by-le-length (λ (s : Step). not (is_expiry s.act)) steps in
+    let b = none_old_yet sources in
+    omega arith where
+      never : (steps : List Step) → All (λ s. is_expiry s.act ≡ false) steps → latest steps ≡ 0
+      never [] all = refl
+      never (s ∷ steps) all =
+          let here = no_time s.act (All-head (λ (s : Step). is_expiry s.act ≡ false) s steps all) in
+          let rest = never steps (All-tail (λ (s : Step). is_expiry s.act ≡ false) s steps all) in
+          omega arith where
+            no_time : (act : Act) → is_expiry act ≡ false → time_of act ≡ 0
+            no_time (Edge place change) e = refl
+            no_time (Expire time) e = absurd (false≢true (sym e))
+
+      young : (slots : List (Option Slot)) → has_before 0 slots ≡ false
+      young [] = refl
+      young (None ∷ slots) = young slots
+      young (Some x ∷ slots) =
+          ap (λ b. b || has_before 0 slots) (le-ltb x.stamp.recent 0 (omega arith)) ∙ young slots
+
+      none_in : (row : List BlockView) → old_blocks 0 row ≡ 0
+      none_in [] = refl
+      none_in (b ∷ row) =
+          let c = sum_by-cons (λ (x : BlockView). cond (has_before 0 x.slots) 1 0) b row in
+          let d : (let n : ℕ = cond (has_before 0 b.slots) 1 0 in n) ≡ 0 = ap (λ t. let n : ℕ = cond t 1 0 in n) (young b.slots) in
+          let e = none_in row in
+          omega arith
+
+      none_old_yet : (sources : List ℕ) → sum_by (λ source. old_blocks (latest steps) (rows source)) sources ≡ 0
+      none_old_yet [] = refl
+      none_old_yet (s ∷ sources) =
+          let c = sum_by-cons (λ source. old_blocks (latest steps) (rows source)) s sources in
+          let d = ap (λ t. old_blocks t (rows s)) (never steps edges) ∙ none_in (rows s) in
+          let e = none_old_yet sources in
+          omega arith

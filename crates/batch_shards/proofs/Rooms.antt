@@ -1,0 +1,45 @@
+-- Where a row may have room, and what a change leaves of it.
+use Rattle.std.proofs.Common.{◌≡◌, ℕ, ◌<◌, ◌==◌, true, false, List, [], ◌∷◌, ◌++◌, length, get_or, set, refl, sym, ap, ◌∙◌}
+use Rattle.std.proofs.Common.{arith}
+use Rattle.std.specs.List.{position}
+use Rattle.std.specs.declared.option.Option.TheVariants.{None, Some}
+use Rattle.std.proofs.lemmas.Bool.{true≢false, false_from_ne_true, eqb-true, eqb-false}
+use Rattle.std.proofs.lemmas.List.{get_or-set_same, get_or-set_other, get_or_append_left}
+use Rattle.std.proofs.lemmas.List.Quantifiers.{position-Some}
+use Rattle.std.proofs.Math.ListN.{length-set}
+use Rattle.batch_shards.specs.Room.{IsFull}
+use Rattle.batch_shards.specs.declared.row_blocks.RowBlock.{RowBlock}
+use Rattle.batch_shards.proofs.RowSteps.{at_room}
+
+-- the row behind a change of one block, at which the test on its room fails where it matters
+pub full_set : (kind place p : ℕ) (row : List RowBlock) (y : RowBlock) → IsFull kind place row
+    → (p < place → p < length row → at_room kind y ≡ false) → IsFull kind place (set row p y)
+full_set kind place p row y is fails = record {
+  full = λ i d below within.
+      let short : i < length row = omega (arith, length-set row p y) in
+      elim (i == p) as (λ b. i == p ≡ b → at_room kind (get_or (set row p y) i d) ≡ false) [
+        | true ↦ λ s.
+            let same : i ≡ p = eqb-true i p s in
+            ap (λ k. at_room kind (get_or (set row p y) k d)) same
+            ∙ ap (at_room kind) (get_or-set_same row p y d (omega arith))
+            ∙ fails (omega arith) (omega arith)
+        | false ↦ λ s. ap (at_room kind) (get_or-set_other row p i y d (eqb-false i p s)) ∙ is.full i d below short
+      ] refl;
+}
+
+-- no block before the first with room has room
+pub full_before : (kind p : ℕ) (row : List RowBlock) (d : RowBlock) → position (at_room kind) row ≡ Some p → IsFull kind p row
+full_before kind p row d found = record {
+  full = λ i x below within. (position-Some (at_room kind) row p x found).2 i below;
+}
+
+-- none has where there is no first
+pub full_all : (kind : ℕ) (row : List RowBlock) (y : RowBlock) → position (at_room kind) row ≡ None
+    → IsFull kind (length row) (row ++ y ∷ [])
+full_all kind row y none = record {
+  full = λ i d below within.
+      ap (at_room kind) (get_or_append_left row (y ∷ []) d i below)
+      ∙ false_from_ne_true (at_room kind (get_or row i d))
+      (λ has. true≢false (sym (Rattle.edge_block.proofs.Firsts.list_any_at (at_room kind) row i d below has)
+      ∙ Rattle.batch_shards.proofs.Places.none_passes (at_room kind) row none));
+}

@@ -1,0 +1,170 @@
+-- One operation on a row of the program's blocks.
+use Rattle.std.proofs.Common.{◌≡◌, ℕ, ◌<◌, ◌==◌, Bool, true, false, cond, List, [], ◌∷◌, ◌++◌, length, get_or, set, flat_map}
+use Rattle.std.proofs.Common.{refl, sym, ap, ◌∙◌, arith, rules, w64, FitsSigned, ℤ, subst, All}
+use Rattle.std.proofs.lemmas.List.{map-append}
+use Rattle.std.specs.List.{list_any, position}
+use Rattle.std.specs.Option.{is_some, option_or}
+use Rattle.std.specs.declared.option.Option.{Option}
+use Rattle.std.specs.declared.option.Option.TheVariants.{None, Some}
+use Rattle.std.proofs.lemmas.Bool.{false≢true, and_parts}
+use Rattle.std.proofs.lemmas.List.Elements.{All-head, All-tail}
+use Rattle.std.proofs.lemmas.List.Quantifiers.{position-Some}
+use Rattle.graph_model.specs.Graph.{Stamp, IsWeight, IsTime}
+use Rattle.graph_model.specs.Step.{stamp_after, outcome_at}
+use Rattle.graph_model.specs.declared.changes.EdgeChange.{EdgeChange}
+use Rattle.graph_model.specs.declared.changes.EdgeChange.TheVariants.{Insert, Incr, Remove}
+use Rattle.edge_block.proofs.Entries.{list_any-holds}
+use Rattle.edge_block.specs.Slots.{Slot, holds, stamp_at, is_free, put_slot, has_room_for, IsSlot, first_some, at_first}
+use Rattle.block_layout.specs.Rows.{OpenBlock, has_edge, has_room, open_at, edge_at, touch, touches, put_edge, set_edge}
+use Rattle.block_layout.specs.Rows.{new_block, change_row}
+use Rattle.batch_shards.specs.RowBlocks.{block_of, open_of, opens, set_slot, IsChanged, HaveSame}
+use Rattle.batch_shards.specs.declared.row_blocks.RowBlock.{RowBlock}
+use Rattle.batch_shards.proofs.Places.{list_any-map, none_passes, one_passes, first_changed, first_has, none_has, count_by-set}
+
+-- an edge in a slot has a weight and times in range
+pub stamped_at : (slots : List (Option Slot)) (target : ℕ) (s : Stamp) → All IsSlot slots → stamp_at slots target ≡ Some s
+    → IsWeight s.weight × IsTime s.first × IsTime s.recent
+stamped_at [] target s all h = cc
+stamped_at (None ∷ slots) target s all h = stamped_at slots target s (All-tail IsSlot None slots all) h
+stamped_at (Some e ∷ slots) target s all h =
+    let here : IsSlot (Some e) = All-head IsSlot (Some e) slots all in
+    elim (target == e.target) as (λ b. option_or (cond b (Some e.stamp) None) (stamp_at slots target) ≡ Some s
+    → IsWeight s.weight × IsTime s.first × IsTime s.recent) [
+      | true ↦ λ i. let same : e.stamp ≡ s = cc in subst (λ (t : Stamp). IsWeight t.weight × IsTime t.first × IsTime t.recent)
+          same here
+      | false ↦ λ i. stamped_at slots target s (All-tail IsSlot (Some e) slots all) i
+    ] h
+
+pub weight_fits : (z : ℤ) → IsWeight z → FitsSigned w64 z
+weight_fits z h = search rules
+
+abbrev pub at_edge : ℕ → ℕ → RowBlock → Bool
+at_edge kind target h = has_edge (kind, target) (open_of h)
+
+abbrev pub at_room : ℕ → RowBlock → Bool
+at_room kind h = has_room kind (open_of h).shape
+
+-- a block with the edge is of the kind, and its slots have it
+edge_kind : (kind target : ℕ) (h : OpenBlock) → has_edge (kind, target) h ≡ true
+    → open_at h (kind, target) ≡ stamp_at h.shape.slots target
+edge_kind kind target h is =
+    elim (kind == h.shape.kind) as (λ b. is_some (cond b (stamp_at h.shape.slots target) None) ≡ true
+    → cond b (stamp_at h.shape.slots target) None ≡ stamp_at h.shape.slots target) [
+      | true ↦ λ i. refl
+      | false ↦ λ i. absurd (false≢true i)
+    ] is
+
+pub edge_target : (kind target : ℕ) (h : RowBlock) → at_edge kind target h ≡ true
+    → list_any (holds target) (block_of h.block).slots ≡ true
+edge_target kind target h is = list_any-holds target (block_of h.block).slots
+    ∙ ap is_some (sym (edge_kind kind target (open_of h) is)) ∙ is
+
+module _ (kind target : ℕ) (row : List RowBlock) where
+  module _ (i : ℕ) (d : RowBlock) (found : position (at_edge kind target) row ≡ Some i) where
+    abbrev here : RowBlock
+    here = get_or row i d
+
+    stands : at_edge kind target here ≡ true
+    stands = (position-Some (at_edge kind target) row i d found).1
+
+    pub found_within : i < length row
+    found_within = (position-Some (at_edge kind target) row i d found).0
+
+    -- the row's edge is the block's
+    pub found_edge : edge_at (opens row) (kind, target) ≡ stamp_at (block_of here.block).slots target
+    found_edge = mapped row ∙ first_has (λ h. open_at (open_of h) (kind, target)) row i d found
+        ∙ edge_kind kind target (open_of here) stands where
+          mapped : (row : List RowBlock) → edge_at (opens row) (kind, target)
+              ≡ first_some (λ h. open_at (open_of h) (kind, target))
+              row
+          mapped [] = refl
+          mapped (h ∷ row) = ap (option_or (open_at (open_of h) (kind, target))) (mapped row)
+
+    pub found_some : is_some (stamp_at (block_of here.block).slots target) ≡ true
+    found_some = ap is_some (sym (edge_kind kind target (open_of here) stands)) ∙ stands
+
+    found_any : list_any (has_edge (kind, target)) (opens row) ≡ true
+    found_any = list_any-map open_of (has_edge (kind, target)) row ∙ one_passes (at_edge kind target) row i d found
+
+    abbrev at_first_of : Option Stamp → List OpenBlock
+    at_first_of o = at_first (has_edge (kind, target)) (touch (set_slot target o)) (opens row)
+
+    sets : (o : Option Stamp) → set_edge (kind, target) o (opens row) ≡ at_first_of o
+    sets None = refl
+    sets (Some stamp) =
+        let e : Slot = record { target = target; stamp = stamp } in
+        ap (λ b. cond b (at_first_of (Some stamp))
+        (cond (list_any (λ h. has_room kind h.shape) (opens row))
+        (at_first (λ h. has_room kind h.shape) (touch (put_slot e)) (opens row)) (opens row ++ new_block kind e ∷ [])))
+        found_any
+
+    -- the operation changes the block where the edge stands
+    pub found_changed : (change : EdgeChange) (y : RowBlock) → IsChanged change target here y
+        → change_row change (kind, target) (opens row) ≡ opens (set row i y)
+    found_changed change y is =
+        let before : Option Stamp = stamp_at (block_of here.block).slots target in
+        rw found_edge
+        (elim (touches (outcome_at change before)) as
+        (λ b. open_of y ≡ cond b (touch (set_slot target (stamp_after change before)) (open_of here)) (open_of here)
+        → cond b (set_edge (kind, target) (stamp_after change before) (opens row)) (opens row) ≡ opens (set row i y)) [
+          | true ↦ λ e. sets (stamp_after change before)
+              ∙ first_changed open_of (has_edge (kind, target)) (touch (set_slot target (stamp_after change before))) row i y d
+              found e
+          | false ↦ λ e. sym (Rattle.std.proofs.Math.Seq.map-set_same open_of row i y d e)
+        ] is.shown)
+
+  module _ (none : position (at_edge kind target) row ≡ None) where
+    pub absent_any : list_any (has_edge (kind, target)) (opens row) ≡ false
+    absent_any = list_any-map open_of (has_edge (kind, target)) row ∙ none_passes (at_edge kind target) row none
+
+    pub absent_edge : edge_at (opens row) (kind, target) ≡ None
+    absent_edge = none_has (λ h. open_at h (kind, target)) (opens row) absent_any
+
+-- an edge goes into the first block with room
+pub put_into : (kind : ℕ) (e : Slot) (row : List RowBlock) (i : ℕ) (y d : RowBlock)
+    → list_any (has_edge (kind, e.target)) (opens row) ≡ false → position (at_room kind) row ≡ Some i
+    → open_of y ≡ touch (put_slot e) (open_of (get_or row i d)) → put_edge kind e (opens row) ≡ opens (set row i y)
+put_into kind e row i y d absent room is =
+    rw (absent, list_any-map open_of (λ h. has_room kind h.shape) row ∙ one_passes (at_room kind) row i d room)
+    (first_changed open_of (λ h. has_room kind h.shape) (touch (put_slot e)) row i y d room is)
+
+-- else into a block that is appended
+pub put_last : (kind : ℕ) (e : Slot) (row : List RowBlock) (y : RowBlock)
+    → list_any (has_edge (kind, e.target)) (opens row) ≡ false → position (at_room kind) row ≡ None
+    → open_of y ≡ new_block kind e → put_edge kind e (opens row) ≡ opens (row ++ y ∷ [])
+put_last kind e row y absent room is =
+    rw (absent, list_any-map open_of (λ h. has_room kind h.shape) row ∙ none_passes (at_room kind) row room)
+    (ap (λ h. opens row ++ h ∷ []) (sym is) ∙ sym (map-append open_of row (y ∷ [])))
+
+-- a block with room takes an edge
+pub room_is : (kind target : ℕ) (row : List RowBlock) (i : ℕ) (d : RowBlock) → position (at_room kind) row ≡ Some i
+    → has_room_for target (block_of (get_or row i d).block).slots ≡ true
+room_is kind target row i d room =
+    let at = position-Some (at_room kind) row i d room in
+    let h : RowBlock = get_or row i d in
+    Rattle.edge_block.proofs.Room.room_free target (block_of h.block).slots
+    (and_parts (kind == (block_of h.block).kind) (list_any is_free (block_of h.block).slots) at.1).1
+
+pub room_within : (kind : ℕ) (row : List RowBlock) (i : ℕ) (d : RowBlock) → position (at_room kind) row ≡ Some i → i < length row
+room_within kind row i d room = (position-Some (at_room kind) row i d room).0
+
+-- one block's numbers change as the row's
+pub row_numbers : (f : RowBlock → List ℕ) (row : List RowBlock) (i : ℕ) (y d : RowBlock) (fresh others : List ℕ) → i < length row
+    → HaveSame (f y) fresh (f (get_or row i d)) others → HaveSame (flat_map f (set row i y)) fresh (flat_map f row) others
+row_numbers f row i y d fresh others lt same q = let one = count_by-set f q row i y d lt in let here = same q in omega arith
+
+-- an operation on an edge that is absent
+pub absent_puts : (change : EdgeChange) (place : ℕ × ℕ) (row : List OpenBlock) (s : Stamp) → Some s ≡ stamp_after change None
+    → cond (touches (outcome_at change None)) (set_edge place (stamp_after change None) row) row ≡ put_edge place.0
+    (record { target = place.1; stamp = s }) row
+absent_puts (Insert weight time) place row s e = let same : s ≡ record { weight = weight; first = time; recent = time } = cc in
+    ap (λ t. put_edge place.0 (record { target = place.1; stamp = t }) row) (sym same)
+absent_puts (Incr amount time) place row s e = let same : s ≡ record { weight = amount; first = time; recent = time } = cc in ap
+    (λ t. put_edge place.0 (record { target = place.1; stamp = t }) row) (sym same)
+absent_puts Remove place row s e = cc
+
+pub absent_stays : (change : EdgeChange) (place : ℕ × ℕ) (row : List OpenBlock) → None ≡ stamp_after change None
+    → cond (touches (outcome_at change None)) (set_edge place (stamp_after change None) row) row ≡ row
+absent_stays (Insert weight time) place row e = cc
+absent_stays (Incr amount time) place row e = cc
+absent_stays Remove place row e = refl

@@ -1,0 +1,60 @@
+-- The operations of a shard, one after another.
+use Rattle.std.proofs.Common.{◌≡◌, ◌≢◌, ℕ, zero, suc, ◌+◌, ◌<◌, ◌≤◌, ◌==◌, Bool, true, false, cond, List, [], ◌∷◌, ◌++◌, length}
+use Rattle.std.proofs.Common.{get_or, set, map, flat_map, count_by, refl, sym, ap, ◌∙◌, arith, subst, All, AllPairs, nat_eq}
+use Rattle.std.proofs.Common.{zip, take, ap₂}
+use Rattle.std.proofs.lemmas.Bool.{true≢false, false≢true, eqb-true, false_from_ne_true}
+use Rattle.std.proofs.lemmas.List.{map-append, take_more}
+use Rattle.block_layout.specs.Rows.{OpenBlock}
+use Rattle.block_layout.specs.Batches.{Resolved, rows_step, rows_all, outcomes_all}
+use Rattle.batch_shards.specs.Shards.{resolved_at, resolved_in}
+use Rattle.batch_shards.specs.declared.shard.Step.{Step}
+use Rattle.batch_shards.specs.declared.shard.Act.TheVariants.{Edge}
+use Rattle.std.specs.Prelude.{pos}
+use Rattle.std.specs.declared.option.Option.TheVariants.{None}
+use Rattle.graph_model.specs.declared.changes.EdgeChange.TheVariants.{Insert}
+
+pub same_number : (a : ℕ) → (a == a) ≡ true
+same_number a = Rattle.std.proofs.lemmas.Bool.true_from_ne_false (a == a)
+    (λ e. Rattle.std.proofs.lemmas.Bool.eqb-false a a e refl)
+
+pub other_number : (a b : ℕ) → (a ≡ b → ⊥) → (a == b) ≡ false
+other_number a b n = false_from_ne_true (a == b) (λ e. n (eqb-true a b e))
+
+-- two places of distinct numbers
+pub apart : (xs : List ℕ) (i j d : ℕ) → AllPairs (λ a b. a ≢ b) xs → i < length xs → j < length xs → (i ≡ j → ⊥)
+    → get_or xs i d ≡ get_or xs j d → ⊥
+apart xs i j d distinct a b n e =
+    elim (Rattle.std.proofs.Common.ltb i j) as (λ t. Rattle.std.proofs.Common.ltb i j ≡ t → ⊥) [
+      | true ↦ λ t. distinct i j d (Rattle.std.proofs.lemmas.Bool.ltb-true i j t) b e
+      | false ↦ λ t. let ge = Rattle.std.proofs.lemmas.Bool.ltb-false i j t in distinct j i d (omega arith) a (sym e)
+    ] refl
+
+-- operations one after another
+pub rows_more : (rs : List Resolved) (r : Resolved) (rows : ℕ → List OpenBlock)
+    → rows_all (rs ++ r ∷ []) rows ≡ rows_step r (rows_all rs rows)
+rows_more [] r rows = refl
+rows_more (x ∷ rs) r rows = rows_more rs r (rows_step x rows)
+
+pub length-outcomes_all : (sources : List ℕ) (rs : List Resolved) (rows : ℕ → List OpenBlock)
+    → length (outcomes_all sources rs rows) ≡ length rs
+length-outcomes_all sources [] rows = refl
+length-outcomes_all sources (r ∷ rs) rows = ap suc (length-outcomes_all sources rs (rows_step r rows))
+
+abbrev pub first_step : Step
+first_step = record { op = 0; act = Edge None (Insert (pos 0) 0) }
+
+module _ (sources : List ℕ) (steps : List Step) (k : ℕ) (lt : k < length steps) where
+  abbrev s : Step
+  s = get_or steps k first_step
+
+  pub resolved_more : resolved_in sources (take (k + 1) steps) ≡ resolved_in sources (take k steps)
+      ++ resolved_at sources s.act ∷ []
+  resolved_more =
+      ap (resolved_in sources) (take_more steps k first_step lt)
+      ∙ map-append (λ (t : Step). resolved_at sources t.act) (take k steps) (s ∷ [])
+
+  pub all_rows_more : (rows : ℕ → List OpenBlock)
+      → rows_step (resolved_at sources s.act) (rows_all (resolved_in sources (take k steps)) rows)
+      ≡ rows_all (resolved_in sources (take (k + 1) steps)) rows
+  all_rows_more rows = sym (ap (λ rs. rows_all rs rows) resolved_more
+      ∙ rows_more (resolved_in sources (take k steps)) (resolved_at sources s.act) rows)

@@ -1,0 +1,142 @@
+-- For each place, the first expiry that is not before it.
+use Rattle.std.proofs.Common.{◌≡◌, ℕ, ◌+◌, ◌<◌, ◌≤◌, ◌==◌, Bool, true, false, cond, List, length, get_or, set, replicate, refl, sym, ap, ◌∙◌, arith}
+use Rattle.std.proofs.Common.{subst}
+use Rattle.std.proofs.Common.{ltb}
+use Rattle.std.specs.declared.option.Option.TheVariants.{Some}
+use Rattle.std.proofs.lemmas.Bool.{eqb-true, eqb-false, ltb-true, ltb-false, false≢true}
+use Rattle.std.proofs.lemmas.List.{get_or-set_same, get_or-set_other, get_or_default}
+use Rattle.std.proofs.Math.ListN.{length-set}
+use Rattle.batch_shards.specs.Groups.{is_at, is_expiry, IsNext, AreGroups, AreExpiries}
+use Rattle.batch_shards.specs.declared.shard.Step.{Step}
+use Rattle.batch_shards.proofs.ShardSteps.{first_step, same_number, other_number}
+use Rattle.graph_model.specs.declared.changes.EdgeChange.{EdgeChange}
+use Rattle.batch_shards.specs.declared.shard.Place.{Place}
+use Rattle.batch_shards.specs.declared.shard.Act.{Act}
+use Rattle.batch_shards.specs.declared.shard.Act.TheVariants.{Edge}
+
+further : (k i : ℕ) → i ≤ k → (k ≡ i → ⊥) → i + 1 ≤ k
+further k i le n = elim (ltb i k) as (λ t. ltb i k ≡ t → i + 1 ≤ k) [
+  | true ↦ λ t. let lt = ltb-true i k t in omega arith
+  | false ↦ λ t. let ge = ltb-false i k t in absurd (n (omega arith))
+] refl
+
+-- the next operation of a kind is here, or it is the next behind
+module _ (of : Act → Bool) (steps : List Step) (i : ℕ) (lt : i < length steps) where
+  pub next_here : of (get_or steps i first_step).act ≡ true → IsNext of steps i i
+  next_here here = record {
+    ahead = omega arith;
+    within = omega arith;
+    between = λ k s ge below. absurd (omega arith);
+    there = λ s inside. ap (λ (t : Step). of t.act) (get_or_default steps i s first_step lt) ∙ here;
+  }
+
+  pub next_past : (behind : ℕ) → of (get_or steps i first_step).act ≡ false → IsNext of steps (i + 1) behind
+      → IsNext of steps i behind
+  next_past behind none x = record {
+    ahead = (let a = x.ahead in omega arith);
+    within = x.within;
+    between = λ k s ge below.
+        elim (k == i) as (λ b. (k == i) ≡ b → of (get_or steps k s).act ≡ false) [
+          | true ↦ λ t. ap (λ j. of (get_or steps j s).act) (eqb-true k i t)
+              ∙ ap (λ (t : Step). of t.act) (get_or_default steps i s first_step lt) ∙ none
+          | false ↦ λ t. x.between k s (further k i ge (eqb-false k i t)) below
+        ] refl;
+    there = x.there;
+  }
+
+one_further : (steps : List Step) (i behind n : ℕ) → i < length steps → IsNext is_expiry steps (i + 1) behind
+    → n ≡ cond (is_expiry (get_or steps i first_step).act) i behind → IsNext is_expiry steps i n
+one_further steps i behind n lt x is =
+    subst (IsNext is_expiry steps i) (sym is)
+    (elim (is_expiry (get_or steps i first_step).act) as (λ b. is_expiry (get_or steps i first_step).act ≡ b
+    → IsNext is_expiry steps i (cond b i behind)) [
+      | true ↦ λ here. next_here is_expiry steps i lt here
+      | false ↦ λ none. next_past is_expiry steps i lt behind none x
+    ] refl)
+
+-- the groups with one operation more in front, which is on an edge of a row, or of none
+pub groups_pass : (steps : List Step) (i : ℕ) (first next : List ℕ) → i < length steps
+    → ((row : ℕ) → is_at row (get_or steps i first_step).act ≡ false) → AreGroups (i + 1) steps first next
+    → AreGroups i steps first next
+groups_pass steps i first next lt none x = record {
+  firsts = λ row inside. next_past (is_at row) steps i lt (get_or first row 0) (none row) (x.firsts row inside);
+  nexts = λ row k s ge inside at.
+      elim (k == i) as (λ b. (k == i) ≡ b → IsNext (is_at row) steps (k + 1) (get_or next k 0)) [
+        | true ↦ λ t.
+            let same : k ≡ i = eqb-true k i t in
+            absurd (false≢true (sym (none row) ∙ ap (λ (t : Step). is_at row t.act) (get_or_default steps i first_step s lt)
+            ∙ ap (λ j. is_at row (get_or steps j s).act) (sym same) ∙ at))
+        | false ↦ λ t. x.nexts row k s (further k i ge (eqb-false k i t)) inside at
+      ] refl;
+}
+
+pub groups_more : (steps : List Step) (i : ℕ) (first next : List ℕ) (p : Place) (change : EdgeChange) → i < length steps
+    → (get_or steps i first_step).act ≡ Edge (Some p) change → p.row < length first → i < length next
+    → AreGroups (i + 1) steps first next → AreGroups i steps (set first p.row i) (set next i (get_or first p.row 0))
+groups_more steps i first next p change lt is row_in next_in x = record {
+  firsts = λ row inside.
+      elim (row == p.row) as (λ b. (row == p.row) ≡ b → IsNext (is_at row) steps i (get_or (set first p.row i) row 0)) [
+        | true ↦ λ t.
+            let same : row ≡ p.row = eqb-true row p.row t in
+            subst (λ n. IsNext (is_at row) steps i n)
+            (sym (ap (λ r. get_or (set first p.row i) r 0) same ∙ get_or-set_same first p.row i 0 row_in))
+            (next_here (is_at row) steps i lt (ap (is_at row) is ∙ ap (λ r. p.row == r) same ∙ same_number p.row))
+        | false ↦ λ t.
+            let ne = eqb-false row p.row t in
+            let long = length-set first p.row i in
+            subst (λ n. IsNext (is_at row) steps i n) (sym (get_or-set_other first p.row row i 0 ne))
+            (next_past (is_at row) steps i lt (get_or first row 0)
+            (ap (is_at row) is ∙ other_number p.row row (λ e. ne (sym e))) (x.firsts row (omega arith)))
+      ] refl;
+  nexts = λ row k s ge inside at.
+      elim (k == i) as (λ b. (k == i) ≡ b
+      → IsNext (is_at row) steps (k + 1) (get_or (set next i (get_or first p.row 0)) k 0)) [
+        | true ↦ λ t.
+            let same : k ≡ i = eqb-true k i t in
+            let here : (p.row == row) ≡ true = sym (ap (λ (t : Step). is_at row t.act) (get_or_default steps i s first_step lt)
+            ∙ ap (is_at row) is) ∙ ap (λ j. is_at row (get_or steps j s).act) (sym same) ∙ at in
+            let mine : p.row ≡ row = eqb-true p.row row here in
+            subst (λ j. IsNext (is_at row) steps (j + 1) (get_or (set next i (get_or first p.row 0)) j 0)) (sym same)
+            (subst (λ n. IsNext (is_at row) steps (i + 1) n)
+            (sym (get_or-set_same next i (get_or first p.row 0) 0 next_in ∙ ap (λ r. get_or first r 0) mine))
+            (x.firsts row (omega arith)))
+        | false ↦ λ t.
+            let ne = eqb-false k i t in
+            subst (λ n. IsNext (is_at row) steps (k + 1) n) (sym (get_or-set_other next i k (get_or first p.row 0) 0 ne))
+            (x.nexts row k s (further k i ge ne) inside at)
+      ] refl;
+}
+
+pub expiry_more : (steps : List Step) (i n : ℕ) (v : List ℕ) → i < length steps → AreExpiries (i + 1) steps v
+    → n ≡ cond (is_expiry (get_or steps i first_step).act) i (get_or v (i + 1) 0) → AreExpiries i steps (set v i n)
+expiry_more steps i n v lt x is = record {
+  long = length-set v i n ∙ x.long;
+  are = λ k ge le.
+      elim (k == i) as (λ b. (k == i) ≡ b → IsNext is_expiry steps k (get_or (set v i n) k 0)) [
+        | true ↦ λ t.
+            let same : k ≡ i = eqb-true k i t in
+            subst (λ j. IsNext is_expiry steps j (get_or (set v i n) j 0)) (sym same)
+            (subst (IsNext is_expiry steps i) (sym (get_or-set_same v i n 0 (omega (arith, x.long))))
+            (one_further steps i (get_or v (i + 1) 0) n lt (x.are (i + 1) (omega arith) (omega arith)) is))
+        | false ↦ λ t.
+            let other = eqb-false k i t in
+            subst (IsNext is_expiry steps k) (sym (get_or-set_other v i k n 0 other))
+            (x.are k (further k i ge other) le)
+      ] refl;
+}
+
+pub no_expiry : (steps : List Step) (v : List ℕ) → v ≡ replicate (length steps + 1) (length steps)
+    → AreExpiries (length steps) steps v
+no_expiry steps v e = record {
+  long = ap length e ∙ Rattle.std.proofs.lemmas.List.length-replicate (length steps + 1) (length steps);
+  are = λ k ge le.
+      let last : k ≡ length steps = omega arith in
+      let there : get_or v k 0 ≡ length steps = ap (λ l. get_or l k 0) e
+      ∙ Rattle.std.proofs.lemmas.List.get_or-replicate (length steps + 1) k (length steps) 0 (omega arith) in
+      record {
+        ahead = omega (arith, there);
+        within = omega (arith, there);
+        between = λ j s from below. absurd (omega (arith, there));
+        there = λ s inside. absurd (omega (arith, there));
+      };
+}

@@ -1,0 +1,14 @@
+use Rattle.std.proofs.Common.{◌≡◌, ◌≤◌, length}
+use Rattle.batch_shards.specs.Groups.{AreGroups}
+use Rattle.batch_shards.proofs.groups.group_steps.Given as goal
+
+abbrev pub invariant-loop-index : goal.invariant-loop-index
+invariant-loop-index l = record {
+  within : l.index ≤ length l.steps;
+  firsts : length l.first.items ≡ l.rows;
+  nexts : length l.next.items ≡ length l.steps;
+  groups : AreGroups l.index l.steps l.first.items l.next.items;
+}
+
+abbrev pub decreases-loop-index : goal.decreases-loop-index
+decreases-loop-index l = l.index

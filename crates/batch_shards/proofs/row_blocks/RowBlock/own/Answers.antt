@@ -1,0 +1,55 @@
+use Rattle.std.proofs.Common.{◌≡◌, ◌+◌, ◌++◌, ◌∷◌, ◌||◌, not, [], ℕ, List, Bool, true, false, cond, map, count_by, sym, ap, ◌∙◌}
+use Rattle.std.proofs.Common.{arith, rules}
+use Rattle.std.proofs.lemmas.List.{map-append}
+use Rattle.std.specs.Option.{is_some, option_to_list}
+use Rattle.std.specs.Prelude.{Some}
+use Rattle.std.specs.declared.sync.Arc.{Arc}
+use Rattle.std.specs.declared.alloc.Global.{Global}
+use Rattle.edge_block.specs.declared.blocks.Block.{Block}
+use Rattle.block_layout.specs.Rows.{shape_of, touch}
+use Rattle.batch_shards.specs.RowBlocks.{block_of, open_of, had_here, numbers_of, own_here}
+use Rattle.batch_shards.specs.declared.row_blocks.RowBlock.{RowBlock}
+use Rattle.batch_shards.proofs.Places.{count_by-append}
+use Rattle.batch_shards.proofs.row_blocks.RowBlock.own.Goals as goal
+
+-- a block with the same edges stands in the place of one that the batch had not touched
+owned : (h : RowBlock) (b : Arc Block Global) (before : Arc Block Global) → h.touched ≡ false
+    → shape_of (block_of b) ≡ shape_of (block_of h.block)
+    → open_of (let g : RowBlock = record { block = b; touched = true; before = Some before } in g)
+    ≡ touch (λ slots. slots) (open_of h)
+owned h b before fresh same =
+    let had : true ≡ (not h.touched || is_some h.before) = ap (λ t. not t || is_some h.before) (sym fresh) in
+    λ i. record { shape = same i; touched = true; had = had i }
+
+had_before : (h : RowBlock) → h.touched ≡ false → had_here h ≡ block_of h.block ∷ []
+had_before h untouched = ap (λ t. cond t (map block_of (option_to_list h.before)) (block_of h.block ∷ [])) untouched
+
+-- the fresh block's number is the row's now
+one_taken : (q : ℕ → Bool) (h : RowBlock) (own : Arc Block Global) (fresh rest : List (Arc Block Global)) (number : ℕ)
+    → h.touched ≡ false → fresh ≡ rest ++ own ∷ [] → number ≡ (block_of own).number
+    → count_by q (number ∷ []) + count_by q (numbers_of rest) ≡ count_by q (own_here h) + count_by q (numbers_of fresh)
+one_taken q h own fresh rest number untouched split same =
+    let number_of : Arc Block Global → ℕ = λ b. (block_of b).number in
+    let none : count_by q (own_here h) ≡ 0 =
+    ap (λ t. count_by q (cond t ((block_of h.block).number ∷ []) [])) untouched in
+    let parts : count_by q (numbers_of fresh) ≡ count_by q (numbers_of rest) + count_by q (numbers_of (own ∷ [])) =
+    ap (λ l. count_by q (numbers_of l)) split ∙ ap (count_by q) (map-append number_of rest (own ∷ []))
+    ∙ count_by-append q (numbers_of rest) (numbers_of (own ∷ [])) in
+    let one : count_by q (number ∷ []) ≡ count_by q (numbers_of (own ∷ [])) = ap (λ n. count_by q (n ∷ [])) same in
+    omega (arith, none, parts, one)
+
+pub returns-clause-touched : goal.returns-clause-touched
+returns-clause-touched c =
+    let h : RowBlock = c.args.self.now in
+    let same : shape_of (block_of c.replace-before.new.dest) ≡ shape_of (block_of h.block) = search rules in
+    record {
+      shown = owned h c.replace-before.new.dest c.replace-before.result c.if-self.false same;
+      had = ap (λ (b : Arc Block Global). block_of b ∷ []) c.replace-before.ensures.value ∙ sym (had_before h c.if-self.false);
+      source = search rules;
+    }
+
+pub returns-clause-numbers : goal.returns-clause-numbers
+returns-clause-numbers c q =
+    let split : c.args.fresh.now.items ≡ c.pop.new.self.items ++ c.in-Some.own ∷ [] = search rules in
+    let same : (block_of c.replace-before.new.dest).number ≡ (block_of c.in-Some.own).number = search rules in
+    one_taken q c.args.self.now c.in-Some.own c.args.fresh.now.items c.pop.new.self.items _ c.if-self.false split same

@@ -1,0 +1,12 @@
+use Rattle.std.proofs.Common.{◌≡◌, ◌++◌, map}
+use Rattle.batch_shards.specs.RowBlocks.{blocks_of, numbers_of}
+use Rattle.batch_shards.specs.Closing.{after_of, written_of, dropped_of, unused_of}
+use Rattle.batch_shards.proofs.shard.close_row.Given as goal
+
+abbrev pub invariant-loop-block : goal.invariant-loop-block
+invariant-loop-block l = record {
+  row : blocks_of l.row.items ≡ after_of l.yielded;
+  taken : l.left.taken.items ≡ l.initial.left.taken.items ++ map (λ b. b.number) (written_of l.yielded);
+  dropped : blocks_of l.left.dropped.items ≡ blocks_of l.initial.left.dropped.items ++ dropped_of l.yielded;
+  unused : numbers_of l.left.unused.items ≡ numbers_of l.initial.left.unused.items ++ unused_of l.yielded;
+}

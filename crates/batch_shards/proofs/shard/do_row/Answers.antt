@@ -1,0 +1,89 @@
+use Rattle.std.proofs.Common.{◌≡◌, ℕ, ◌++◌, List, [], ◌∷◌, arith, ap, sym, subst, ap₂, ◌∙◌, map, length, get_or, count_by}
+use Rattle.std.proofs.lemmas.List.{get_or-map, length-map, map-append}
+use Rattle.graph_model.specs.declared.ids.VertexId.{VertexId}
+use Rattle.edge_block.specs.Slots.{BlockView}
+use Rattle.block_layout.specs.Rows.{OpenBlock, untouched, shape_of}
+use Rattle.block_layout.specs.Batches.{opened}
+use Rattle.row_pages.specs.Rows.{row_of}
+use Rattle.batch_shards.specs.RowBlocks.{blocks_of, kept_of, opens}
+use Rattle.batch_shards.specs.Groups.{IsSourceRow}
+use Rattle.std.specs.declared.sync.Arc.{Arc}
+use Rattle.std.specs.declared.alloc.Global.{Global}
+use Rattle.std.specs.declared.vec.Vec.{Vec}
+use Rattle.edge_block.specs.declared.blocks.Block.{Block}
+use Rattle.batch_shards.specs.Shards.{AreSteps}
+use Rattle.batch_shards.specs.Closing.{row_values}
+use Rattle.batch_shards.specs.Done.{layout_by}
+use Rattle.batch_shards.specs.declared.shard.OpenRow.{OpenRow}
+use Rattle.batch_shards.proofs.Finish.{kept_all}
+use Rattle.batch_shards.proofs.SourceSteps.{past_more}
+use Rattle.batch_shards.proofs.Expiring.{opened_owes, needed_row}
+use Rattle.batch_shards.specs.Spending.{latest, unspent, old_blocks}
+use Rattle.batch_shards.proofs.SourceRows.{outcomes_more, row_done}
+use Rattle.batch_shards.proofs.shard.do_row.Goals as goal
+
+-- the row that is opened owes its old blocks
+owed : (t : ℕ) (bs : List (Arc Block Global)) (row : List OpenBlock) (blocks : List BlockView) → row ≡ map kept_of bs
+    → blocks_of bs ≡ blocks → unspent t row ≡ old_blocks t blocks
+owed t bs row blocks e same =
+    ap (unspent t) (e ∙ kept_all bs) ∙ opened_owes t (blocks_of bs) ∙ ap (old_blocks t) same
+
+pub do_steps-requires-clause-fresh : goal.do_steps-requires-clause-fresh
+do_steps-requires-clause-fresh c =
+    let v : ℕ → List BlockView = row_of c.args.version.now.rows in
+    let more = past_more c.args.row c.args.steps.now in
+    let t : ℕ = latest c.args.steps.now in
+    let left = needed_row (λ s. old_blocks t (v s)) c.args.sources.now c.args.row c.requires.row in
+    let here = owed t c.blocks_at-blocks.result.now (opens c.in_ok-opened.opened.blocks.items)
+    (v (get_or c.args.sources.now c.args.row (record { 0 = 0 })).0) c.in_ok-opened.ensures.blocks c.blocks_at-blocks.ensures.row in
+    omega (arith, more, left, here, c.requires.fresh)
+
+pub returns-clause-fresh : goal.returns-clause-fresh
+returns-clause-fresh c =
+    let v : ℕ → List BlockView = row_of c.args.version.now.rows in
+    let more = past_more c.args.row c.args.steps.now in
+    let t : ℕ = latest c.args.steps.now in
+    let left = needed_row (λ s. old_blocks t (v s)) c.args.sources.now c.args.row c.requires.row in
+    let here = owed t c.blocks_at-blocks.result.now (opens c.in_ok-opened.opened.blocks.items)
+    (v (get_or c.args.sources.now c.args.row (record { 0 = 0 })).0) c.in_ok-opened.ensures.blocks c.blocks_at-blocks.ensures.row in
+    omega (arith, more, left, here, c.requires.fresh, c.in_ok-do_steps.ensures.few)
+
+pub returns-clause-done : goal.returns-clause-done
+returns-clause-done c =
+    let v : ℕ → List BlockView = row_of c.args.version.now.rows in
+    let sources : List ℕ = map (λ (s : VertexId). s.0) c.args.sources.now in
+    let long : length sources ≡ length c.args.sources.now = length-map c.args.sources.now (λ (s : VertexId). s.0) in
+    let source : VertexId = get_or c.args.sources.now c.args.row (record { 0 = 0 }) in
+    let start : OpenRow = c.in_ok-opened.opened in
+    let r : OpenRow = c.do_steps.new.opened in
+    let is : IsSourceRow sources c.args.steps.now c.args.row start.source.0 = record {
+      steps_are = subst (λ n. AreSteps n c.args.steps.now) (sym long) c.requires.steps;
+      distinct = c.requires.distinct;
+      within = omega (arith, c.requires.row, long);
+      source_is = get_or-map (λ (s : VertexId). s.0) c.args.sources.now c.args.row (record { 0 = 0 }) 0 c.requires.row
+          ∙ ap (λ (s : VertexId). s.0) (sym c.in_ok-opened.ensures.source);
+    } in
+    let shown : opens start.blocks.items ≡ opened (layout_by v) start.source.0 =
+    c.in_ok-opened.ensures.blocks ∙ kept_all c.blocks_at-blocks.result.now
+    ∙ ap (λ b. map untouched (map shape_of b))
+    (c.blocks_at-blocks.ensures.row ∙ ap (λ (s : VertexId). v s.0) (sym c.in_ok-opened.ensures.source)) in
+    λ handed. row_done v sources c.args.steps.now c.args.row start r is c.in_ok-do_steps.ensures.source handed
+    c.args.fresh.now.items c.do_steps.new.fresh.items c.args.done.now _
+    (c.in_ok-do_steps.ensures.rows sources (opened (layout_by v)) is shown)
+    c.in_ok-do_steps.ensures.own
+    (c.in_ok-do_steps.ensures.had ∙ c.in_ok-opened.ensures.had ∙ c.blocks_at-blocks.ensures.row
+    ∙ ap (λ (s : VertexId). v s.0) (sym c.in_ok-opened.ensures.source))
+    (λ q. let none = ap (count_by q) c.in_ok-opened.ensures.none_own in let same = c.in_ok-do_steps.ensures.numbers q in
+    omega arith)
+    (outcomes_more v sources c.args.steps.now c.args.row start.source.0 is c.args.done.now.outcomes.items c.do_steps.new.outcomes.items
+    c.in_ok-do_steps.ensures.places (c.in_ok-do_steps.ensures.written sources (opened (layout_by v)) is shown)
+    c.in_ok-do_steps.ensures.others)
+    (ap row_values c.in_ok-push.ensures.items
+    ∙ map-append (λ (r : VertexId × Vec (Arc Block Global) Global). (r.0.0, blocks_of r.1.items)) c.args.done.now.rows.items
+    ((source, c.in_ok-closed.closed) ∷ [])
+    ∙ ap₂ (λ a b. row_values c.args.done.now.rows.items ++ (a, b) ∷ [])
+    (ap (λ (s : VertexId). s.0) (sym (c.in_ok-do_steps.ensures.source ∙ c.in_ok-opened.ensures.source)))
+    c.in_ok-closed.ensures.row)
+    c.in_ok-closed.ensures.taken
+    c.in_ok-closed.ensures.dropped
+    c.in_ok-closed.ensures.unused

@@ -1,0 +1,130 @@
+use Rattle.std.proofs.Common.{◌≡◌, ℕ, ◌+◌, ◌-◌, ◌<◌, ◌≤◌, true, rules, arith, ap, sym, refl, subst, ◌∙◌, get_or, length, min}
+use Rattle.std.proofs.lemmas.Bool.{false≢true}
+use Rattle.std.proofs.lemmas.List.{get_or-set_other, get_or_default}
+use Rattle.std.proofs.Math.Seq.{map-set_same}
+use Rattle.std.proofs.lemmas.Grind.{get_or_default_zero}
+use Rattle.graph_model.specs.declared.ids.VertexId.{VertexId}
+use Rattle.batch_shards.specs.RowBlocks.{opens}
+use Rattle.graph_model.specs.declared.batches.Outcome.{Outcome}
+use Rattle.block_layout.specs.Batches.{together}
+use Rattle.batch_shards.specs.Groups.{is_at, is_expiry, does_act, IsNext, IsOneMore, told, act_step, act_outcome}
+use Rattle.batch_shards.specs.Spending.{latest, unspent, time_of}
+use Rattle.batch_shards.specs.declared.shard.Act.{Act}
+use Rattle.batch_shards.proofs.ShardSteps.{first_step}
+use Rattle.batch_shards.proofs.SourceSteps.{stepped, outcome_here, skipped, skipped_count, at_row, wrote, before_it}
+use Rattle.batch_shards.proofs.SourceSteps.{earlier_next, next_from, edge_behind}
+use Rattle.batch_shards.proofs.Expiring.{not_later, spends_least}
+use Rattle.batch_shards.proofs.shard.do_steps.Goals as goal
+
+pub loop-index-init : goal.loop-index-init
+loop-index-init c =
+    let e : ℕ = c.index-edge.result.now in
+    let x : ℕ = c.index.result.now in
+    let n : ℕ = c.min-index.result in
+    let edge : IsNext (is_at c.args.row) c.args.steps.now 0 e = subst (IsNext (is_at c.args.row) c.args.steps.now 0)
+    (sym (c.index-edge.ensures ∙ get_or_default_zero c.args.groups.now.first.items c.args.row e c.requires.row))
+    (c.requires.groups.firsts c.args.row c.requires.row) in
+    let expiry : IsNext is_expiry c.args.steps.now 0 x = subst (IsNext is_expiry c.args.steps.now 0)
+    (sym (c.index.ensures ∙ get_or_default_zero c.args.groups.now.expiries.items 0 x
+    (omega (arith, c.requires.expiries.long)))) (c.requires.expiries.are 0 (omega arith) (omega arith)) in
+    let next : IsNext (does_act c.args.row) c.args.steps.now 0 n =
+    subst (IsNext (does_act c.args.row) c.args.steps.now 0) (sym c.min-index.ensures) (earlier_next edge expiry) in
+    record {
+      within = next.within;
+      there = next.there;
+      edge = next_from edge n (omega arith) (omega (arith, c.min-index.ensures));
+      rows = λ sources rows is e. e ∙ sym (skipped sources c.args.steps.now c.args.row c.args.opened.now.source.0 is rows n 0 n
+          (omega arith) next.within next.between);
+      written = λ sources rows is e k s o lt at. absurd (false≢true (sym (next.between k s (omega arith) lt) ∙ at));
+      later = λ k o ge. refl;
+      others = λ k s o lt at. refl;
+      places = refl;
+      length = c.requires.outcomes;
+      source = refl;
+      hinted = c.requires.hinted;
+      had = refl;
+      own = c.requires.own;
+      numbers = λ q. refl;
+      few = omega arith;
+    }
+
+pub do_act-requires-clause-fresh : goal.do_act-requires-clause-fresh
+do_act-requires-clause-fresh c =
+    let i : ℕ = c.loop-index.index in
+    let act : Act = (get_or c.args.steps.now i first_step).act in
+    let more = at_row c.args.steps.now c.args.row i c.loop-index-test.true
+    (c.loop-index.invariant.there first_step c.loop-index-test.true) in
+    let least = spends_least act (latest c.args.steps.now) (opens c.loop-index.opened.blocks.items)
+    (not_later c.args.steps.now i first_step c.loop-index-test.true) in
+    omega (arith, more.0, more.1, least, c.loop-index.invariant.few, c.requires.fresh)
+
+pub loop-index-preserved : goal.loop-index-preserved
+loop-index-preserved c =
+    let i : ℕ = c.loop-index.index in
+    let e : ℕ = c.edge_after-edge.result in
+    let x : ℕ = c.index-in-loop-index-2.result.now in
+    let n : ℕ = c.min-index-in-loop-index.result in
+    let lt : i < length c.args.steps.now = c.loop-index-test.true in
+    let act : Act = (get_or c.args.steps.now i first_step).act in
+    let at : does_act c.args.row act ≡ true = c.loop-index.invariant.there first_step lt in
+    let edge : IsNext (is_at c.args.row) c.args.steps.now (i + 1) e =
+    edge_behind c.args.steps.now c.args.row i c.loop-index.edge (get_or c.args.groups.now.next.items i 0) e lt
+    c.loop-index.invariant.edge (λ s here. c.requires.groups.nexts c.args.row i s (omega arith) lt here)
+    c.edge_after-edge.ensures in
+    let expiry : IsNext is_expiry c.args.steps.now (i + 1) x = subst (IsNext is_expiry c.args.steps.now (i + 1))
+    (sym (c.index-in-loop-index-2.ensures ∙ get_or_default_zero c.args.groups.now.expiries.items (i + 1) x
+    (omega (arith, lt, c.requires.expiries.long)))) (c.requires.expiries.are (i + 1) (omega arith) (omega (arith, lt))) in
+    let next : IsNext (does_act c.args.row) c.args.steps.now (i + 1) n =
+    subst (IsNext (does_act c.args.row) c.args.steps.now (i + 1)) (sym c.min-index-in-loop-index.ensures)
+    (earlier_next edge expiry) in
+    let r : ℕ × Outcome = c.index-in-loop-index.result.now in
+    let read : (o : ℕ × Outcome) → r ≡ get_or c.args.outcomes.now.items i o =
+    λ o. c.index-in-loop-index.ensures ∙ c.loop-index.invariant.later i r (omega arith)
+    ∙ get_or_default c.args.outcomes.now.items i r o (omega (arith, lt, c.requires.outcomes)) in
+    record {
+      within = next.within;
+      there = next.there;
+      edge = next_from edge n next.ahead (omega (arith, c.min-index-in-loop-index.ensures));
+      rows = λ sources rows is e.
+          c.in_ok-outcome.ensures.row ∙ ap (λ (s : VertexId). act_step s.0 act (opens c.loop-index.opened.blocks.items))
+          c.loop-index.invariant.source ∙ stepped sources c.args.steps.now c.args.row c.args.opened.now.source.0 is rows i
+          (opens c.loop-index.opened.blocks.items) lt at
+          (c.loop-index.invariant.rows sources rows is e)
+          ∙ sym (skipped sources c.args.steps.now c.args.row c.args.opened.now.source.0 is rows (n - (i + 1)) (i + 1) n
+          (omega (arith, next.ahead)) next.within next.between);
+      written = λ sources rows is e k s o k_lt k_at.
+          wrote c.loop-index.outcomes.items i k (c.index_mut.result.now.0, c.in_ok-outcome.outcome) o
+          (λ j a. IsOneMore sources c.args.steps.now rows c.args.opened.now.source.0 j
+          (get_or c.args.outcomes.now.items j o).1 a) (omega (arith, lt, c.loop-index.invariant.length))
+          (outcome_here sources c.args.steps.now c.args.row c.args.opened.now.source.0 is rows i
+          (opens c.loop-index.opened.blocks.items) (get_or c.args.outcomes.now.items i o).1 c.in_ok-outcome.outcome lt at
+          (c.loop-index.invariant.rows sources rows is e)
+          (c.in_ok-outcome.ensures.outcome
+          ∙ ap (λ (p : ℕ × Outcome). told (together p.1 (act_outcome c.loop-index.opened.source.0 act
+          (opens c.loop-index.opened.blocks.items)))) (read o)
+          ∙ ap (λ (s : VertexId). told (together (get_or c.args.outcomes.now.items i o).1 (act_outcome s.0 act
+          (opens c.loop-index.opened.blocks.items)))) c.loop-index.invariant.source))
+          (λ ne. c.loop-index.invariant.written sources rows is e k s o (before_it next k s ne k_lt k_at) k_at);
+      later = λ k o ge. get_or-set_other c.loop-index.outcomes.items i k
+          (c.index_mut.result.now.0, c.in_ok-outcome.outcome) o (omega (arith, next.ahead))
+          ∙ c.loop-index.invariant.later k o (omega (arith, next.ahead));
+      others = λ k s o k_lt out. get_or-set_other c.loop-index.outcomes.items i k
+          (c.index_mut.result.now.0, c.in_ok-outcome.outcome) o
+          (λ same. false≢true (sym out ∙ ap (λ j. does_act c.args.row (get_or c.args.steps.now j s).act) same
+          ∙ c.loop-index.invariant.there s lt)) ∙ c.loop-index.invariant.others k s o k_lt out;
+      places = map-set_same (λ (o : ℕ × Outcome). o.0) c.loop-index.outcomes.items i
+          (c.index_mut.result.now.0, c.in_ok-outcome.outcome) c.index_mut.result.now
+          (ap (λ (o : ℕ × Outcome). o.0) c.index_mut.ensures.value) ∙ c.loop-index.invariant.places;
+      length = search rules;
+      source = search rules;
+      hinted = c.in_ok-outcome.ensures.hinted;
+      had = search rules;
+      own = c.in_ok-outcome.ensures.own;
+      numbers = λ q. (let a = c.in_ok-outcome.ensures.numbers q in let b = c.loop-index.invariant.numbers q in omega arith);
+      few =
+          let more = at_row c.args.steps.now c.args.row i lt at in
+          let same = skipped_count c.args.steps.now c.args.row (n - (i + 1)) (i + 1) n (omega (arith, next.ahead)) next.within
+          next.between in
+          let took = c.in_ok-outcome.ensures.few (latest c.args.steps.now) (not_later c.args.steps.now i first_step lt) in
+          omega (arith, more.0, same, took, c.loop-index.invariant.few);
+    }

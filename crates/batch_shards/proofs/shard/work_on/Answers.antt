@@ -1,0 +1,76 @@
+use Rattle.std.proofs.Common.{◌≡◌, ◌≤◌, ◌+◌, ℕ, List, map, refl, ap, sym, subst, ◌∙◌, arith, length, vec_len}
+use Rattle.std.proofs.lemmas.List.{length-map, map-append}
+use Rattle.edge_block.specs.Slots.{BlockView}
+use Rattle.row_pages.specs.Rows.{row_of}
+use Rattle.batch_shards.specs.RowBlocks.{block_of, numbers_of}
+use Rattle.batch_shards.specs.Shards.{AreSteps}
+use Rattle.batch_shards.specs.Done.{sources_in}
+use Rattle.batch_shards.specs.Progress.{AreRowsDone}
+use Rattle.batch_shards.specs.Spending.{needed_past}
+use Rattle.batch_shards.specs.declared.shard.Step.{Step}
+use Rattle.graph_model.specs.declared.ids.VertexId.{VertexId}
+use Rattle.graph_model.specs.declared.batches.Outcome.{Outcome}
+use Rattle.batch_shards.specs.Groups.{none_told}
+use Rattle.std.specs.declared.sync.Arc.{Arc}
+use Rattle.std.specs.declared.alloc.Global.{Global}
+use Rattle.edge_block.specs.declared.blocks.Block.{Block}
+use Rattle.batch_shards.proofs.Finish.{finish, few_past, none_yet}
+use Rattle.batch_shards.proofs.shard.work_on.Goals as goal
+
+pub loop-row-init : goal.loop-row-init
+loop-row-init c = record {
+  fresh =
+      let few = few_past (row_of c.args.version.now.rows) (sources_in c.args.shard) c.args.shard.steps.items in
+      omega (arith, few, c.requires.fresh);
+  done = none_yet (row_of c.args.version.now.rows) (sources_in c.args.shard) c.args.shard.steps.items c.args.shard.fresh.items
+      c.in_ok-done.done
+      (c.in_ok-done.ensures.outcomes ∙ ap (map (λ (s : Step). (s.op, none_told s.act))) c.as_slice-2.ensures.value)
+      c.in_ok-done.ensures.rows c.in_ok-done.ensures.taken c.in_ok-done.ensures.dropped c.in_ok-done.ensures.unused;
+}
+
+-- the same of slices as of what they show
+both : {A B : Type 0} (P : A → B → Type 0) (a x : A) (b y : B) → a ≡ x → b ≡ y → P a b → P x y
+both P a x b y e f p = subst (λ z. P z y) e (subst (λ z. P a z) f p)
+
+pub do_row-requires-clause-fresh : goal.do_row-requires-clause-fresh
+do_row-requires-clause-fresh c =
+    both (λ (ss : List VertexId) (st : List Step). needed_past c.loop-row.row (row_of c.args.version.now.rows)
+    (map (λ (s : VertexId). s.0) ss) st ≤ vec_len c.loop-row.fresh)
+    _ _ _ _ (sym c.as_slice-in-loop-row.ensures.value) (sym c.as_slice-in-loop-row-2.ensures.value) c.loop-row.invariant.fresh
+
+pub loop-row-preserved : goal.loop-row-preserved
+loop-row-preserved c =
+    let v : ℕ → List BlockView = row_of c.args.version.now.rows in
+    let handed : List ℕ = numbers_of c.args.shard.fresh.items in
+    let there = c.as_slice-in-loop-row.ensures.value in
+    let here = c.as_slice-in-loop-row-2.ensures.value in
+    record {
+      fresh = both (λ (ss : List VertexId) (st : List Step). needed_past (c.loop-row.row + 1) v (map (λ (s : VertexId). s.0) ss) st
+          ≤ vec_len c.do_row.new.fresh) _ _ _ _ there here c.in_ok-do_row.ensures.fresh;
+      done = both (λ (ss : List VertexId) (st : List Step). AreRowsDone v (map (λ (s : VertexId). s.0) ss) st handed
+          (c.loop-row.row + 1) c.do_row.new.fresh.items c.do_row.new.done) _ _ _ _ there here
+          (c.in_ok-do_row.ensures.done handed
+          (both (λ (ss : List VertexId) (st : List Step). AreRowsDone v (map (λ (s : VertexId). s.0) ss) st handed
+          c.loop-row.row c.loop-row.fresh.items c.loop-row.done) _ _ _ _ (sym there) (sym here) c.loop-row.invariant.done));
+    }
+
+pub do_row-requires-clause-outcomes : goal.do_row-requires-clause-outcomes
+do_row-requires-clause-outcomes c =
+    sym (length-map c.loop-row.done.outcomes.items (λ (o : ℕ × Outcome). o.0))
+    ∙ ap length c.loop-row.invariant.done.outcomes.places ∙ length-map c.args.shard.steps.items (λ (s : Step). s.op)
+    ∙ ap length (sym c.as_slice-in-loop-row-2.ensures.value)
+
+pub returns : goal.returns
+returns c =
+    let v : ℕ → List BlockView = row_of c.args.version.now.rows in
+    let long : length (sources_in c.args.shard) ≡ length c.args.shard.sources.items =
+    length-map c.args.shard.sources.items (λ (s : VertexId). s.0) in
+    let last : c.loop-row.row ≡ length (sources_in c.args.shard) =
+    omega (arith, c.loop-row.auto.row-end, c.loop-row-test.false, c.len-row-end.ensures, c.args.shard.sources.ok.0, long) in
+    finish v c.args.shard c.loop-row.done _ c.loop-row.fresh.items c.number-number.ensures.version.rows.blocks
+    (subst (λ n. AreSteps n c.args.shard.steps.items) (sym long) c.requires.steps)
+    (subst (λ n. AreRowsDone v (sources_in c.args.shard) c.args.shard.steps.items (numbers_of c.args.shard.fresh.items) n
+    c.loop-row.fresh.items c.loop-row.done) last c.loop-row.invariant.done)
+    refl refl refl refl
+    (ap numbers_of c.in_ok-append.ensures.items ∙ map-append (λ (b : Arc Block Global). (block_of b).number)
+    c.loop-row.done.left.unused.items c.loop-row.fresh.items)

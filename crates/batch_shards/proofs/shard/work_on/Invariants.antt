@@ -1,0 +1,13 @@
+use Rattle.std.proofs.Common.{◌≤◌, map, vec_len}
+use Rattle.row_pages.specs.Rows.{row_of}
+use Rattle.batch_shards.specs.RowBlocks.{numbers_of}
+use Rattle.batch_shards.specs.Spending.{needed_past}
+use Rattle.batch_shards.specs.Progress.{AreRowsDone}
+use Rattle.batch_shards.proofs.shard.work_on.Given as goal
+
+abbrev pub invariant-loop-row : goal.invariant-loop-row
+invariant-loop-row l = record {
+  fresh : needed_past l.row (row_of l.version.rows) (map (λ s. s.0) l.sources.items) l.steps.items ≤ vec_len l.fresh;
+  done : AreRowsDone (row_of l.version.rows) (map (λ s. s.0) l.sources.items) l.steps.items
+      (numbers_of l.initial.fresh.items) l.row l.fresh.items l.done;
+}

@@ -1,0 +1,93 @@
+-- The operations on each row of a shard, one after another.
+use Rattle.std.specs.Prelude.{◌≡◌, ◌≢◌, ℕ, ◌+◌, ◌%◌, ◌^◌, ◌<◌, ◌≤◌, ◌==◌, nat_lt, List, [], ◌∷◌, length, get_or, slice_index}
+use Rattle.std.specs.Prelude.{AllPairs, Bool, true, false, not, ◌||◌}
+use Rattle.std.specs.declared.option.Option.{Option}
+use Rattle.std.specs.declared.option.Option.TheVariants.{None, Some}
+use Rattle.graph_model.specs.Graph.{Key}
+use Rattle.graph_model.specs.declared.batches.Outcome.{Outcome}
+use Rattle.graph_model.specs.declared.batches.Outcome.TheVariants.{Absent, Expired}
+use Rattle.block_layout.specs.Rows.{OpenBlock, expire_row, old_in_row}
+use Rattle.block_layout.specs.Batches.{outcomes_all, together, key_step, key_outcome}
+use Rattle.batch_shards.specs.Shards.{AreSteps, resolved_in}
+use Rattle.batch_shards.specs.declared.shard.Place.{Place}
+use Rattle.batch_shards.specs.declared.shard.Act.{Act}
+use Rattle.batch_shards.specs.declared.shard.Act.TheVariants.{Edge, Expire}
+use Rattle.batch_shards.specs.declared.shard.Step.{Step}
+
+-- whether an operation is on an edge of a row
+abbrev pub is_at : ℕ → Act → Bool
+is_at row (Edge None change) = false
+is_at row (Edge (Some p) change) = p.row == row
+is_at row (Expire time) = false
+
+-- whether it is on an edge of a row that is not one of so many first ones
+abbrev pub is_past : ℕ → Act → Bool
+is_past rows (Edge None change) = false
+is_past rows (Edge (Some p) change) = not (nat_lt p.row rows)
+is_past rows (Expire time) = false
+
+abbrev pub is_expiry : Act → Bool
+is_expiry (Edge place change) = false
+is_expiry (Expire time) = true
+
+-- whether it acts on a row: an expiry does on every one
+abbrev pub does_act : ℕ → Act → Bool
+does_act row act = is_at row act || is_expiry act
+
+-- an operation's edge, by the source of its row
+abbrev pub key_of : ℕ → Option Place → Option Key
+key_of source None = None
+key_of source (Some p) = Some (record { kind = p.kind.0; source = source; target = p.target })
+
+-- the first operation of a kind that is not before a place, or else the end
+pub record IsNext (of : Act → Bool) (steps : List Step) (place next : ℕ) : Type 0 where
+  pub ahead : place ≤ next
+  pub within : next ≤ length steps
+  pub between : (k : ℕ) (s : Step) → place ≤ k → k < next → of (get_or steps k s).act ≡ false
+  pub there : (s : Step) → next < length steps → of (get_or steps next s).act ≡ true
+
+-- of the operations from a place on, the first on each row's edges, and after each of them the next on its row
+pub record AreGroups (place : ℕ) (steps : List Step) (first next : List ℕ) : Type 0 where
+  pub firsts : (row : ℕ) → row < length first → IsNext (is_at row) steps place (get_or first row 0)
+  pub nexts : (row k : ℕ) (s : Step) → place ≤ k → k < length steps → is_at row (get_or steps k s).act ≡ true
+      → IsNext (is_at row) steps (k + 1) (get_or next k 0)
+
+-- for each place from one on, the first expiry that is not before it
+pub record AreExpiries (place : ℕ) (steps : List Step) (expiries : List ℕ) : Type 0 where
+  pub long : length expiries ≡ length steps + 1
+  pub are : (k : ℕ) → place ≤ k → k ≤ length steps → IsNext is_expiry steps k (get_or expiries k 0)
+
+-- the row is this source's, and no other source's
+pub record IsSourceRow (sources : List ℕ) (steps : List Step) (row source : ℕ) : Type 0 where
+  pub steps_are : AreSteps (length sources) steps
+  pub distinct : AllPairs (λ a b. a ≢ b) sources
+  pub within : row < length sources
+  pub source_is : slice_index sources row ≡ source
+
+-- an outcome as the program tells it: it counts edges modulo 2 ^ 64
+abbrev pub told : Outcome → Outcome
+told (Expired count) = Expired (count % 2 ^ 64)
+told other = other
+
+-- the outcome of the k-th operation, where an expiry counts the edges of some of the sources
+abbrev pub outcome_over : List ℕ → List ℕ → List Step → (ℕ → List OpenBlock) → ℕ → Outcome
+outcome_over counted sources steps rows k = get_or (outcomes_all counted (resolved_in sources steps) rows) k Absent
+
+-- what is told of an operation before the first row
+abbrev pub none_told : Act → Outcome
+none_told (Edge place change) = Absent
+none_told (Expire time) = Expired 0
+
+-- what an operation on a source's row leaves of it, and its outcome there
+abbrev pub act_step : ℕ → Act → List OpenBlock → List OpenBlock
+act_step source (Edge place change) row = key_step change (key_of source place) row
+act_step source (Expire time) row = expire_row time row
+
+abbrev pub act_outcome : ℕ → Act → List OpenBlock → Outcome
+act_outcome source (Edge place change) row = key_outcome change (key_of source place) (λ _. row)
+act_outcome source (Expire time) row = Expired (old_in_row time row)
+
+-- the operation's outcome in one more row is put together with that in the rows before
+abbrev pub IsOneMore : List ℕ → List Step → (ℕ → List OpenBlock) → ℕ → ℕ → Outcome → Outcome → Type 0
+IsOneMore sources steps rows source k before after =
+    after ≡ told (together before (outcome_over (source ∷ []) sources steps rows k))

@@ -1,0 +1,48 @@
+-- How many fresh blocks operations may need.
+use Rattle.std.specs.Prelude.{ℕ, ◌+◌, max, List, [], ◌∷◌, count_by, drop, Bool, not, ◌&&◌}
+use Rattle.std.specs.List.{sum_by}
+use Rattle.edge_block.specs.Slots.{BlockView, has_before}
+use Rattle.block_layout.specs.Rows.{OpenBlock, has_old}
+use Rattle.batch_shards.specs.Groups.{is_past, is_expiry}
+use Rattle.batch_shards.specs.declared.shard.Act.{Act}
+use Rattle.batch_shards.specs.declared.shard.Act.TheVariants.{Edge, Expire}
+use Rattle.batch_shards.specs.declared.shard.Step.{Step}
+
+-- the greatest time of the expiries, 0 where there is none
+abbrev pub time_of : Act → ℕ
+time_of (Edge place change) = 0
+time_of (Expire time) = time
+
+abbrev pub latest : List Step → ℕ
+latest [] = 0
+latest (s ∷ steps) = max (time_of s.act) (latest steps)
+
+-- the blocks with an edge that was last touched before a time
+abbrev pub old_blocks : ℕ → List BlockView → ℕ
+old_blocks time row = count_by (λ b. has_before time b.slots) row
+
+-- operations on edges of rows that are not among so many first ones, and old blocks in these rows
+abbrev pub needed_past : ℕ → (ℕ → List BlockView) → List ℕ → List Step → ℕ
+needed_past done rows sources steps = count_by (λ s. is_past done s.act) steps
+    + sum_by (λ source. old_blocks (latest steps) (rows source)) (drop done sources)
+
+-- an operation on an edge needs a block, and the expiries together one for each old block
+abbrev pub needed : (ℕ → List BlockView) → List ℕ → List Step → ℕ
+needed rows sources steps = count_by (λ s. not (is_expiry s.act)) steps
+    + sum_by (λ source. old_blocks (latest steps) (rows source)) sources
+
+-- an old block that the batch has not touched yet, which an expiry would touch
+abbrev pub is_unspent : ℕ → OpenBlock → Bool
+is_unspent time b = not b.touched && has_old time b
+
+abbrev pub unspent : ℕ → List OpenBlock → ℕ
+unspent time row = count_by (is_unspent time) row
+
+-- what an operation needs on a row, and what it may take beside the old blocks
+abbrev pub spends : Act → List OpenBlock → ℕ
+spends (Edge place change) row = 1
+spends (Expire time) row = unspent time row
+
+abbrev pub takes : Act → ℕ
+takes (Edge place change) = 1
+takes (Expire time) = 0

@@ -1,0 +1,107 @@
+//! The operations of a shard by the row of their source.
+
+ghost use Rattle.std.specs.Prelude.{◌≡◌, ◌<◌, ◌^◌, ◌==◌, IfOk, length, get_or, cond};
+ghost use Rattle.batch_shards.specs.Shards.{AreSteps};
+ghost use Rattle.batch_shards.specs.Groups.{AreGroups, AreExpiries};
+
+use crate::shard::{Act, Step};
+use std::alloc::{AllocError, Global};
+
+/// The places of the operations on each row, in the batch's order.
+///
+/// The number of all operations stands where there is no further one.
+#[derive(Drop)]
+pub struct Groups {
+    /// For each row, the first operation on its edges.
+    pub first: Vec<usize>,
+    /// For each operation on an edge, the next one on the same row.
+    pub next: Vec<usize>,
+    /// For each place, and for the end, the first expiry that is not before it.
+    pub expiries: Vec<usize>,
+}
+
+impl Groups {
+    /// The next operation on an edge of the row, behind the one at a place, where this was the last one found.
+    pub fn edge_after(&self, place: usize, edge: usize) -> usize
+        requires { place < length self.now.next.items }
+        ensures { result ≡ cond (place == edge) (get_or self.now.next.items place 0) edge }
+    {
+        if place == edge {
+            self.next[place]
+        } else {
+            edge
+        }
+    }
+}
+
+/// The operations on so many rows.
+pub fn group_steps(alloc: Global, rows: usize, steps: &[Step]) -> Result<Groups, AllocError>
+    requires { AreSteps rows steps.now }
+    ensures rows { IfOk result (λ g. length g.first.items ≡ rows) }
+    ensures steps { IfOk result (λ g. length g.next.items ≡ length steps.now) }
+    ensures groups { IfOk result (λ g. AreGroups 0 steps.now g.first.items g.next.items) }
+    ensures expiries { IfOk result (λ g. AreExpiries 0 steps.now g.expiries.items) }
+{
+    let expiries = expiries_of(alloc, steps)?;
+    let mut first = vec![in alloc; steps.len(); rows]?;
+    let mut next = vec![in alloc; steps.len(); steps.len()]?;
+    let mut index = steps.len();
+    while index > 0 {
+        index -= 1;
+        match steps[index].act {
+            Act::Edge(Some(place), _) => {
+                let row = place.row as usize;
+                next[index] = first[row];
+                first[row] = index;
+            }
+            Act::Edge(None, _) => {}
+            Act::Expire(_) => {}
+        }
+    }
+    Ok(Groups {
+        first,
+        next,
+        expiries,
+    })
+}
+
+/// For each place, and for the end, the first expiry that is not before it.
+fn expiries_of(alloc: Global, steps: &[Step]) -> Result<Vec<usize>, AllocError>
+    requires { length steps.now < 2 ^ 63 }
+    ensures { IfOk result (λ v. AreExpiries 0 steps.now v.items) }
+{
+    let mut expiries = vec![in alloc; steps.len(); steps.len() + 1]?;
+    let mut index = steps.len();
+    while index > 0 {
+        index -= 1;
+        let behind = expiries[index + 1];
+        expiries[index] = if steps[index].is_expiry() {
+            index
+        } else {
+            behind
+        };
+    }
+    Ok(expiries)
+}
+
+/// The targets of the operations on a row, in order.
+pub fn targets_of(
+    alloc: Global,
+    groups: &Groups,
+    steps: &[Step],
+    row: usize,
+) -> Result<Vec<u32>, AllocError>
+    requires groups { AreGroups 0 steps.now groups.now.first.items groups.now.next.items }
+    requires row { row < length groups.now.first.items }
+    requires steps { length groups.now.next.items ≡ length steps.now }
+{
+    let mut targets = Vec::new(alloc);
+    let mut index = groups.first[row];
+    while index < steps.len() {
+        if let Act::Edge(Some(place), _) = steps[index].act {
+            targets.push(place.target)?;
+        }
+        index = groups.next[index];
+    }
+    Ok(targets)
+}

@@ -1,0 +1,131 @@
+//! One block of a row.
+
+ghost use Rattle.std.specs.Prelude.{◌≡◌, ◌+◌, ◌<◌, ◌≤◌, IsTrue, OnOk, IfOk, vec_len, true, false, cond};
+ghost use Rattle.graph_model.specs.Graph.{IsWeight, IsTime};
+ghost use Rattle.edge_block.specs.Slots.{has_room_for, put_slot, take_slot, edge_slot, slots_since, old_in};
+ghost use Rattle.block_layout.specs.Rows as layout;
+
+use edge_block::Block;
+use graph_model::KindId;
+use std::alloc::AllocError;
+use std::sync::Arc;
+
+/// A block of a row while a batch goes on.
+#[derive(Drop)]
+pub struct RowBlock {
+    pub block: Arc<Block>,
+    /// Whether the batch has touched it: then it is one of the batch's fresh blocks.
+    pub touched: bool,
+    /// The block that stood here before the batch, where the batch has touched it.
+    pub before: Option<Arc<Block>>,
+}
+
+impl RowBlock {
+    ghost use Rattle.batch_shards.specs.RowBlocks.{block_of, open_of, numbers_of, had_here, own_here, untouched_here, IsTouched, HaveSame};
+    ghost use Rattle.batch_shards.specs.Spending.{is_unspent};
+
+    /// Whether it has an edge of the kind to the target.
+    pub fn has_edge(&self, kind: KindId, target: u32) -> bool
+        ensures { result ≡ layout.has_edge (kind.0, target) (open_of self.now) }
+    {
+        self.block.kind() == kind && self.block.find(target).is_some()
+    }
+
+    /// Whether it is a block of the kind with a free slot.
+    pub fn has_room(&self, kind: KindId) -> bool
+        ensures { result ≡ layout.has_room kind.0 (open_of self.now).shape }
+    {
+        self.block.kind() == kind && !self.block.is_full()
+    }
+
+    /// Puts a fresh block in the block's place, with the same edges, where the batch has not yet done so.
+    fn own(&mut self, fresh: &mut Vec<Arc<Block>>) -> Result<(), AllocError>
+        requires { self.old.touched ≡ false → 0 < vec_len fresh.old }
+        ensures touched { OnOk result (IsTouched (λ slots. slots) self.old self.new) }
+        ensures numbers { OnOk result (HaveSame (own_here self.new) (numbers_of fresh.new.items) (own_here self.old)
+            (numbers_of fresh.old.items)) }
+        ensures few { OnOk result (vec_len fresh.old ≤ vec_len fresh.new + untouched_here self.old) }
+    {
+        if self.touched {
+            return Ok(());
+        }
+        let Some(mut own) = fresh.pop() else {
+            return Ok(());
+        };
+        Arc::make_mut(&mut own)?.copy_from(&self.block);
+        let before = std::mem::replace(&mut self.block, own);
+        self.before = Some(before);
+        self.touched = true;
+        Ok(())
+    }
+
+    /// Writes an edge, as [`Block::put`].
+    pub fn put(
+        &mut self,
+        fresh: &mut Vec<Arc<Block>>,
+        target: u32,
+        weight: i64,
+        first: u64,
+        recent: u64,
+    ) -> Result<(), AllocError>
+        requires fresh { 0 < vec_len fresh.old }
+        requires room { IsTrue (has_room_for target (block_of self.old.block).slots) }
+        requires weight { IsWeight weight }
+        requires first { IsTime first }
+        requires recent { IsTime recent }
+        ensures touched { OnOk result (IsTouched (put_slot (edge_slot target weight first recent)) self.old self.new) }
+        ensures numbers { OnOk result (HaveSame (own_here self.new) (numbers_of fresh.new.items) (own_here self.old)
+            (numbers_of fresh.old.items)) }
+        ensures few { OnOk result (vec_len fresh.old ≤ vec_len fresh.new + 1) }
+    {
+        self.own(fresh)?;
+        Arc::make_mut(&mut self.block)?.put(target, weight, first, recent);
+        Ok(())
+    }
+
+    /// Takes the edge to a target out.
+    pub fn take(&mut self, fresh: &mut Vec<Arc<Block>>, target: u32) -> Result<(), AllocError>
+        requires { 0 < vec_len fresh.old }
+        ensures touched { OnOk result (IsTouched (take_slot target) self.old self.new) }
+        ensures numbers { OnOk result (HaveSame (own_here self.new) (numbers_of fresh.new.items) (own_here self.old)
+            (numbers_of fresh.old.items)) }
+        ensures few { OnOk result (vec_len fresh.old ≤ vec_len fresh.new + 1) }
+    {
+        self.own(fresh)?;
+        let _ = Arc::make_mut(&mut self.block)?.take(target);
+        Ok(())
+    }
+
+    /// Takes out the edges that were last touched before a time, and answers how many they were. A block without such an
+    /// edge isn't touched.
+    pub fn expire(&mut self, fresh: &mut Vec<Arc<Block>>, time: u64) -> Result<u32, AllocError>
+        requires { is_unspent time (open_of self.old) ≡ true → 0 < vec_len fresh.old }
+        ensures shown { OnOk result (open_of self.new ≡ layout.expire_block time (open_of self.old)) }
+        ensures had { OnOk result (had_here self.new ≡ had_here self.old) }
+        ensures source { OnOk result ((block_of self.new.block).source ≡ (block_of self.old.block).source) }
+        ensures count { IfOk result (λ n. n ≡ old_in time (block_of self.old.block).slots) }
+        ensures numbers { OnOk result (HaveSame (own_here self.new) (numbers_of fresh.new.items) (own_here self.old)
+            (numbers_of fresh.old.items)) }
+        ensures few { OnOk result (vec_len fresh.old ≤ vec_len fresh.new
+            + cond (is_unspent time (open_of self.old)) 1 0) }
+    {
+        if !self.block.has_before(time) {
+            return Ok(0);
+        }
+        self.expire_old(fresh, time)
+    }
+
+    /// The same of a block that has such an edge.
+    fn expire_old(&mut self, fresh: &mut Vec<Arc<Block>>, time: u64) -> Result<u32, AllocError>
+        requires { self.old.touched ≡ false → 0 < vec_len fresh.old }
+        ensures touched { OnOk result (IsTouched (slots_since time) self.old self.new) }
+        ensures count { IfOk result (λ n. n ≡ old_in time (block_of self.old.block).slots) }
+        ensures numbers { OnOk result (HaveSame (own_here self.new) (numbers_of fresh.new.items) (own_here self.old)
+            (numbers_of fresh.old.items)) }
+        ensures few { OnOk result (vec_len fresh.old ≤ vec_len fresh.new + untouched_here self.old) }
+    {
+        self.own(fresh)?;
+        let count = Arc::make_mut(&mut self.block)?.expire(time);
+        Ok(count)
+    }
+}

@@ -1,0 +1,50 @@
+//! A view of a version.
+
+ghost use Rattle.std.specs.Prelude.{◌≡◌, ◌++◌, OnOk};
+ghost use Rattle.graph_version.specs.Versions.{content};
+ghost use Rattle.graph_views.specs.Shown.{shown, targets_of};
+
+use crate::source::ViewEdges;
+use edge_block::Block;
+use graph_model::{Filter, VertexId};
+use graph_version::Version;
+use std::alloc::AllocError;
+
+/// The edges of a version that a filter lets through. A window that ends before it begins lets none through, nor does a
+/// kind that the version doesn't have.
+#[derive(Clone, Copy)]
+pub struct VersionEdges<'v> {
+    pub version: &'v Version,
+    pub filter: Filter,
+}
+
+impl ViewEdges for VersionEdges<'_> {
+    ghost filter = { λ edges. edges.filter };
+
+    ghost graph = { λ edges. content edges.version.now };
+
+    fn vertex_count(&self) -> usize {
+        // A version's contract says with its number that its edges join its vertices, and that these are few.
+        let _number = self.version.number();
+        self.version.names().len()
+    }
+
+    fn list_targets(&self, source: u32, targets: &mut Vec<u32>) -> Result<(), AllocError> {
+        let _number = self.version.number();
+        targets.clear();
+        for block in self.version.row_blocks(VertexId(source)) {
+            add_targets(block, &self.filter, targets)?;
+        }
+        Ok(())
+    }
+}
+
+/// Adds the targets of a block's edges that the filter lets through, in slot order.
+fn add_targets(block: &Block, view: &Filter, targets: &mut Vec<u32>) -> Result<(), AllocError>
+    ensures { OnOk result (targets.new.items ≡ targets.old.items ++ targets_of (shown view.now block.now)) }
+{
+    for edge in block.select(view) {
+        targets.push(*edge.target)?;
+    }
+    Ok(())
+}

@@ -1,0 +1,14 @@
+use Rattle.std.proofs.Common.{◌≡◌, length}
+use Rattle.std.specs.Prelude.{sum}
+use Rattle.graph_model.specs.Graph.{graph_of}
+use Rattle.graph_model.specs.Arcs.{AreUpper}
+use Rattle.reference_analyses.proofs.cores.plain_cores.Given as goal
+
+abbrev pub invariant-rounds : goal.invariant-rounds
+invariant-rounds l = record {
+  size : length l.numbers.items ≡ length l.content.names;
+  upper : AreUpper l.fn.filter (graph_of l.content) (length l.content.names) l.numbers.items;
+}
+
+abbrev pub decreases-rounds : goal.decreases-rounds
+decreases-rounds l = sum l.numbers.items

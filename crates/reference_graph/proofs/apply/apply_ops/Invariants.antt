@@ -1,0 +1,14 @@
+-- The outcomes so far and those of the operations that are left are those of all, and these leave what all leave.
+use Rattle.std.proofs.Common.{◌≡◌, ◌++◌, drop}
+use Rattle.graph_model.specs.Graph.{graph_of, IsContent}
+use Rattle.graph_model.specs.Step.{after_all, outcomes}
+use Rattle.reference_graph.specs.Drafts.{shown_by}
+use Rattle.reference_graph.proofs.apply.apply_ops.Given as goal
+
+abbrev pub invariant-loop-op : goal.invariant-loop-op
+invariant-loop-op l = record {
+  told : l.outcomes.items ++ outcomes (drop l.op-index l.ops) (graph_of (shown_by l.draft))
+      ≡ outcomes l.ops (graph_of (shown_by l.fn.draft));
+  rest : after_all (drop l.op-index l.ops) (graph_of (shown_by l.draft)) ≡ after_all l.ops (graph_of (shown_by l.fn.draft));
+  content : IsContent (shown_by l.draft);
+}

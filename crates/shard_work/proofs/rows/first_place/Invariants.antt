@@ -1,7 +1,0 @@
-use Rattle.std.proofs.Common.{take}
-use Rattle.shard_work.proofs.RowSteps.{at_edge}
-use Rattle.shard_work.proofs.Noting.{IsFirstOf}
-use Rattle.shard_work.proofs.rows.first_place.Given as goal
-
-abbrev pub invariant-loop-place : goal.invariant-loop-place
-invariant-loop-place l = IsFirstOf (at_edge l.kind.0 l.target) l.row (take l.place-index l.places) l.first

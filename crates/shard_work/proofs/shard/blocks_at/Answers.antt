@@ -1,8 +1,0 @@
-use Rattle.row_pages.specs.Rows.{row_of}
-use Rattle.shard_work.proofs.Finish.{own_blocks}
-use Rattle.shard_work.proofs.shard.blocks_at.Goals as goal
-
-pub returns-clause-own : goal.returns-clause-own
-returns-clause-own c =
-    own_blocks c.row_blocks.result.now (row_of c.args.version.now.rows c.args.source.0) c.args.source.0 c.row_blocks.ensures
-    (c.requires c.args.source.0)

@@ -1,5 +1,0 @@
-use Rattle.shard_work.proofs.Closings.{bare_is}
-use Rattle.shard_work.proofs.shard.is_bare.Goals as goal
-
-pub returns : goal.returns
-returns c = bare_is c.is_empty.result c.args.block.now c.is_empty.ensures

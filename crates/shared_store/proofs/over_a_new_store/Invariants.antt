@@ -1,5 +1,0 @@
-use Rattle.shared_store.proofs.over_a_new_store.Given as goal
-
--- the store is of the opening that was just made
-abbrev pub ghosts-report_over : goal.ghosts-report_over
-ghosts-report_over g a = record { book = a.desk.book }

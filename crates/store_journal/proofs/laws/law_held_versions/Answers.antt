@@ -1,5 +1,0 @@
-use Rattle.store_journal.proofs.Held.{held_is_snapshot}
-use Rattle.store_journal.proofs.laws.law_held_versions.Goals as goal
-
-pub returns : goal.returns
-returns c = held_is_snapshot

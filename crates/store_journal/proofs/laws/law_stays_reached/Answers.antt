@@ -1,5 +1,0 @@
-use Rattle.store_journal.proofs.Reached.{stays_reached}
-use Rattle.store_journal.proofs.laws.law_stays_reached.Goals as goal
-
-pub returns : goal.returns
-returns c = stays_reached

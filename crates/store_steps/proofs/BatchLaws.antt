@@ -1,0 +1,80 @@
+-- The laws in the words of their clauses.
+use Rattle.std.proofs.Common.{◌≡◌, ℕ, ◌+◌, Bool, true, false, List, length, refl, sym, ap, ◌∙◌}
+use Rattle.std.specs.Prelude.{if◌then◌else◌}
+use Rattle.std.specs.declared.option.Option.TheVariants.{None, Some}
+use Rattle.graph_model.specs.declared.batches.NamedOp.{NamedOp}
+use Rattle.edge_block.specs.Slots.{BlockView}
+use Rattle.row_pages.specs.Rows.{numbers_of}
+use Rattle.graph_version.specs.Versions.{VersionView, is_in}
+use Rattle.block_pool.specs.Pools.{Free, Granted, Used, retired, is_free_at, is_born_at, marked, changed}
+use Rattle.epoch_blocks.proofs.Lists.{all_listed}
+use Rattle.store_steps.specs.Journal.{Entry, Applied, Ledger, is_legal, after_entry, entered}
+use Rattle.store_steps.specs.Desks.{DeskView, IsDesk, IsAppliedTo, IsAccepted, desk_after}
+use Rattle.store_steps.specs.Steps.{Takes, posting}
+use Rattle.store_steps.proofs.Accepting.{Application, made_accepted, made_desk, moves_left}
+use Rattle.store_steps.proofs.Posting.{legal_batch, accepted_takes}
+
+-- an entry that isn't legal isn't entered
+pub not_entered : (l : Ledger) (e : Entry) → is_legal l e ≡ false → entered l e ≡ None
+not_entered l e is = ap (λ t. if t then Some (after_entry l e) else None) is
+
+not_if : (b : Bool) → (b ≡ true → false ≡ true) → b ≡ false
+not_if true h = sym (h refl)
+not_if false h = refl
+
+-- a batch that takes what isn't free, or drops what isn't the last version's, isn't entered
+pub taken_is_free : (l : Ledger) (batch : List NamedOp) (taken dropped : List ℕ) (n : ℕ) → is_in n taken ≡ true
+    → is_free_at l.pool n ≡ false → entered l (Applied batch taken dropped) ≡ None
+taken_is_free l batch taken dropped n is none =
+    not_entered l (Applied batch taken dropped)
+    (not_if (is_legal l (Applied batch taken dropped)) (λ legal. sym none
+    ∙ all_listed (is_free_at l.pool) taken n (legal_batch l batch taken dropped legal).free is))
+
+pub dropped_is_born : (l : Ledger) (batch : List NamedOp) (taken dropped : List ℕ) (n : ℕ) → is_in n dropped ≡ true
+    → is_born_at l.pool n ≡ false → entered l (Applied batch taken dropped) ≡ None
+dropped_is_born l batch taken dropped n is none =
+    not_entered l (Applied batch taken dropped)
+    (not_if (is_legal l (Applied batch taken dropped)) (λ legal. sym none
+    ∙ all_listed (is_born_at l.pool) dropped n (legal_batch l batch taken dropped legal).born is))
+
+module _ (old : DeskView) (ops : List NamedOp) (numbers : List ℕ) (version : VersionView) (taken : List ℕ)
+    (dropped : List BlockView) (unused : List ℕ) (desk : IsDesk old)
+    (is : IsAppliedTo old ops numbers version taken dropped unused) where
+  abbrev application : Application
+  application = record {
+    old = old;
+    ops = ops;
+    numbers = numbers;
+    version = version;
+    taken = taken;
+    dropped = dropped;
+    unused = unused;
+    before = desk;
+    applied = is;
+  }
+
+  pub applied_accepted : IsAccepted old ops taken (numbers_of dropped) (desk_after old ops version taken dropped)
+  applied_accepted = made_accepted application
+
+  pub applied_desk : IsDesk (desk_after old ops version taken dropped)
+  applied_desk = made_desk application
+
+  pub applied_moves :
+      marked unused Free (changed (retired (length old.last.batches + 1)) (numbers_of dropped)
+      (marked taken (Used (length old.last.batches + 1)) (marked numbers Granted old.pool)))
+      ≡ (desk_after old ops version taken dropped).pool
+  applied_moves = moves_left application
+
+pub accepted_steps : (old new : DeskView) (ops : List NamedOp) (taken dropped : List ℕ) → IsDesk old → IsDesk new
+    → IsAccepted old ops taken dropped new → Takes old (posting new.last ops taken) new
+accepted_steps old new ops taken dropped before after accepted =
+    accepted_takes (record {
+      old = old;
+      ops = ops;
+      taken = taken;
+      dropped = dropped;
+      new = new;
+      before = before;
+      after = after;
+      accepted = accepted;
+    })

@@ -1,0 +1,90 @@
+-- Lists with some elements changed: what stands at a place afterwards.
+use Rattle.std.proofs.Common.{◌≡◌, ℕ, zero, suc, ◌==◌, Bool, true, false, ◌||◌, List, [], ◌∷◌, length, get_or, set, refl, sym, ap}
+use Rattle.std.proofs.Common.{subst, ◌∙◌, arith}
+use Rattle.std.specs.Prelude.{slice_get, if◌then◌else◌}
+use Rattle.std.specs.Option.{option_map}
+use Rattle.std.specs.declared.option.Option.{Option}
+use Rattle.std.specs.declared.option.Option.TheVariants.{None, Some}
+use Rattle.std.proofs.lemmas.List.{length-set}
+use Rattle.std.proofs.lemmas.Bool.{eq-eqb, eqb-true, true≢false}
+use Rattle.graph_version.specs.Versions.{is_in}
+use Rattle.block_pool.specs.Pools.{Status, Granted, marked, changed}
+use Rattle.epoch_blocks.specs.Blocks.{all_differ}
+use Rattle.store_steps.proofs.NumberLists.{apart_test, differ_head, differ_tail}
+
+suc_test : (m n : ℕ) → (suc m == suc n) ≡ (m == n)
+suc_test m n = elim (m == n) as (λ t. (m == n) ≡ t → (suc m == suc n) ≡ t) [
+  | true ↦ λ e. eq-eqb (suc m) (suc n) (ap suc (eqb-true m n e))
+  | false ↦ λ e. apart_test (suc m) (suc n) (λ q. true≢false (sym (eq-eqb m n (omega arith)) ∙ e))
+] refl
+
+none_if : {A : Type 0} (b : Bool) (o : Option A) → o ≡ None → o ≡ (if b then o else o)
+none_if true o e = refl
+none_if false o e = refl
+
+abbrev changed_if : {A : Type 0} → (A → A) → Bool → Option A → Option A
+changed_if f b o = if b then option_map f o else o
+
+-- one place is set to what a function makes of what stood there
+set_at : {A : Type 0} (f : A → A) (xs : List A) (m n : ℕ) (d : A)
+    → slice_get (set xs m (f (get_or xs m d))) n ≡ changed_if f (m == n) (slice_get xs n)
+set_at f [] m n d = none_if (m == n) None refl
+set_at f (y ∷ ys) zero zero d = refl
+set_at f (y ∷ ys) zero (suc n) d = let apart : (0 == suc n) ≡ false =
+    apart_test 0 (suc n) (λ e. absurd (omega arith)) in rw apart refl
+set_at f (y ∷ ys) (suc m) zero d = let apart : (suc m == 0) ≡ false =
+    apart_test (suc m) 0 (λ e. absurd (omega arith)) in rw apart refl
+set_at f (y ∷ ys) (suc m) (suc n) d = set_at f ys m n d ∙ ap (λ t. changed_if f t (slice_get ys n)) (sym (suc_test m n))
+
+twice : {A : Type 0} (a b : Bool) (x : A) (o : Option A) → changed_if (λ _. x) b (changed_if (λ _. x) a o)
+    ≡ changed_if (λ _. x) (a || b) o
+twice true true x None = refl
+twice true true x (Some y) = refl
+twice true false x o = refl
+twice false true x o = refl
+twice false false x o = refl
+
+-- what stands at a place, once some are marked
+pub marked_at : {A : Type 0} (ns : List ℕ) (x : A) (xs : List A) (n : ℕ)
+    → slice_get (marked ns x xs) n ≡ (if is_in n ns then option_map (λ _. x) (slice_get xs n) else slice_get xs n)
+marked_at [] x xs n = refl
+marked_at (m ∷ ns) x xs n =
+    marked_at ns x (set xs m x) n
+    ∙ ap (changed_if (λ _. x) (is_in n ns)) (set_at (λ _. x) xs m n x)
+    ∙ twice (m == n) (is_in n ns) x (slice_get xs n)
+
+pub length-marked : {A : Type 0} (ns : List ℕ) (x : A) (xs : List A) → length (marked ns x xs) ≡ length xs
+length-marked [] x xs = refl
+length-marked (m ∷ ns) x xs = length-marked ns x (set xs m x) ∙ length-set xs m x
+
+once : {A : Type 0} (f : A → A) (a b : Bool) (o : Option A) → (a ≡ true → b ≡ false)
+    → changed_if f b (changed_if f a o) ≡ changed_if f (a || b) o
+once f true true o apart = absurd (true≢false (apart refl))
+once f true false o apart = refl
+once f false true o apart = refl
+once f false false o apart = refl
+
+-- what stands at a number, once different numbers' statuses are changed
+pub changed_at : (f : Status → Status) (ns : List ℕ) (pool : List Status) (n : ℕ) → all_differ ns ≡ true
+    → slice_get (changed f ns pool) n ≡ (if is_in n ns then option_map f (slice_get pool n) else slice_get pool n)
+changed_at f [] pool n apart = refl
+changed_at f (m ∷ ns) pool n apart =
+    changed_at f ns (set pool m (f (get_or pool m Granted))) n (differ_tail m ns apart)
+    ∙ ap (changed_if f (is_in n ns)) (set_at f pool m n Granted)
+    ∙ once f (m == n) (is_in n ns) (slice_get pool n) (λ e. subst (λ x. is_in x ns
+    ≡ false) (eqb-true m n e) (differ_head m ns apart))
+
+pub length-changed : (f : Status → Status) (ns : List ℕ) (pool : List Status) → length (changed f ns pool) ≡ length pool
+length-changed f [] pool = refl
+length-changed f (m ∷ ns) pool = length-changed f ns (set pool m (f (get_or pool m Granted)))
+    ∙ length-set pool m (f (get_or pool m Granted))
+
+-- lists with the same at each place are the same
+pub same_list : {A : Type 0} (xs ys : List A) → ((n : ℕ) → slice_get xs n ≡ slice_get ys n) → xs ≡ ys
+same_list [] [] same = refl
+same_list [] (y ∷ ys) same = let no = same 0 in cc
+same_list (x ∷ xs) [] same = let no = same 0 in cc
+same_list (x ∷ xs) (y ∷ ys) same =
+    let heads : Some x ≡ Some y = same 0 in
+    let rest : xs ≡ ys = same_list xs ys (λ n. same (suc n)) in
+    cc

@@ -1,0 +1,142 @@
+-- A collection leaves a desk.
+use Rattle.std.proofs.Common.{◌≡◌, ℕ, zero, suc, ◌+◌, ◌<◌, ◌≤◌, ◌==◌, true, false, cond, List, [], ◌∷◌, ◌++◌, length, map}
+use Rattle.std.proofs.Common.{count_by, refl, sym, ap, ap₂, subst, ◌∙◌, arith, ◌||◌}
+use Rattle.std.specs.Prelude.{slice_get, if◌then◌else◌, nat_le, nat_lt}
+use Rattle.std.specs.Option.{option_map, option_and_then}
+use Rattle.std.specs.declared.option.Option.{Option}
+use Rattle.std.specs.declared.option.Option.TheVariants.{None, Some}
+use Rattle.std.proofs.lemmas.List.{append-nil, length-map}
+use Rattle.std.proofs.lemmas.Bool.{eq-eqb, or_right}
+use Rattle.std.proofs.lemmas.Bool.Decides.{nat_tests}
+use Rattle.edge_block.specs.Slots.{BlockView}
+use Rattle.row_pages.specs.Rows.{row_of, numbers_of}
+use Rattle.graph_version.specs.Versions.{VersionView, is_in}
+use Rattle.pin_copy.specs.declared.copies.PinCopy.{PinCopy}
+use Rattle.block_pool.specs.Pools.{Status, Free, Granted, Used, Retired, is_retired, is_past, is_born, passes, recycled}
+use Rattle.block_pool.proofs.Tallies.{count_more}
+use Rattle.epoch_blocks.proofs.Lists.{get_map}
+use Rattle.store_steps.specs.Journal.{Collected, Ledger, empty_ledger, is_legal, after_entry, entered, replay}
+use Rattle.store_steps.specs.Desks.{DeskView, IsDesk, IsCollected, birth_at, births_in, ledger_of, collections}
+use Rattle.store_steps.proofs.NumberLists.{apart_test}
+use Rattle.store_steps.proofs.Accepting.{replay_more}
+use Rattle.store_steps.proofs.Births.{birth_in, birth_from, row_listed}
+
+-- one status is freed, or retired still, or was never retired
+past_one : (copy : PinCopy) (x : Status) → cond (is_past copy x) 1 0 + cond (is_retired (recycled copy x)) 1 0
+    ≡ cond (is_retired x) 1 0
+past_one copy Free = refl
+past_one copy Granted = refl
+past_one copy (Used b) = refl
+past_one copy (Retired b v) =
+    elim (is_past copy (Retired b v)) as (λ t. cond t 1 0 + cond (is_retired (if t then Free else Retired b v)) 1 0
+    ≡ 1) [ true ↦ refl | false ↦ refl ]
+
+-- what is freed and what is left are the retired blocks
+pub past_and_left : (copy : PinCopy) (xs : List Status) → count_by (is_past copy) xs + count_by is_retired (map (recycled copy) xs)
+    ≡ count_by is_retired xs
+past_and_left copy [] = omega arith
+past_and_left copy (x ∷ xs) =
+    let a = count_more (is_past copy) x xs in
+    let b = count_more is_retired (recycled copy x) (map (recycled copy) xs) in
+    let c = count_more is_retired x xs in
+    let rest = past_and_left copy xs in
+    let one = past_one copy x in
+    omega arith
+
+same_if_none : (copy : PinCopy) (xs : List Status) → count_by (is_past copy) xs ≡ 0 → map (recycled copy) xs ≡ xs
+same_if_none copy [] none = refl
+same_if_none copy (x ∷ xs) none =
+    let a = count_more (is_past copy) x xs in
+    let rest : map (recycled copy) xs ≡ xs = same_if_none copy xs (omega arith) in
+    let here : cond {A = ℕ} (is_past copy x) 1 0 ≡ 0 = omega arith in
+    let stays : recycled copy x ≡ x = elim (is_past copy x) as (λ t. cond {A = ℕ} t 1 0 ≡ 0
+    → (if t then Free else x) ≡ x) [ true ↦ λ e. absurd (omega arith) | false ↦ λ e. refl ] here in
+    cc
+
+born_recycled : (copy : PinCopy) (o : Option Status) → passes is_born (option_map (recycled copy) o) ≡ passes is_born o
+born_recycled copy None = refl
+born_recycled copy (Some Free) = refl
+born_recycled copy (Some Granted) = refl
+born_recycled copy (Some (Used b)) = refl
+born_recycled copy (Some (Retired b v)) =
+    elim (is_past copy (Retired b v)) as (λ t. passes is_born (Some (if t then Free else Retired b v))
+    ≡ false) [ true ↦ refl | false ↦ refl ]
+
+legal_if : (l : Ledger) (copy : PinCopy) (count : ℕ) → copy.last ≤ length l.batches → 0 < count → count ≡ count_by (is_past copy) l.pool
+    → is_legal l (Collected copy count) ≡ true
+legal_if l copy count low some is =
+    let a : nat_le copy.last (length l.batches) ≡ true = grind (arith, nat_tests) in
+    let b : nat_lt 0 count ≡ true = grind (arith, nat_tests) in
+    let c : (count == count_by (is_past copy) l.pool) ≡ true = eq-eqb count (count_by (is_past copy) l.pool) is in
+    rw (a, b, c) refl
+
+-- the desk after a collection
+abbrev pub desk_collected : DeskView → PinCopy → DeskView
+desk_collected d copy = record {
+  last = d.last;
+  journal = d.journal ++ collections copy (count_by (is_past copy) d.pool);
+  pool = map (recycled copy) d.pool;
+}
+
+replays_on : (d : DeskView) (copy : PinCopy) → IsDesk d → copy.last ≤ length d.last.batches → (n : ℕ) → count_by (is_past copy) d.pool ≡ n
+    → replay (d.journal ++ collections copy n) (empty_ledger (length d.pool))
+    ≡ Some (record { batches = d.last.batches; pool = map (recycled copy) d.pool })
+replays_on d copy desk low zero is =
+    ap (λ es. replay es (empty_ledger (length d.pool))) (append-nil d.journal) ∙ desk.replays
+    ∙ ap (λ p. Some (record { batches = d.last.batches; pool = p })) (sym (same_if_none copy d.pool is))
+replays_on d copy desk low (suc n) is =
+    let some : (suc n == 0) ≡ false = apart_test (suc n) 0 (λ e. absurd (omega arith)) in
+    ap (λ t. replay (d.journal ++ (if t then [] else Collected copy (suc n) ∷ [])) (empty_ledger (length d.pool))) some
+    ∙ replay_more d.journal (Collected copy (suc n)) (empty_ledger (length d.pool))
+    ∙ ap (option_and_then (λ m. entered m (Collected copy (suc n)))) desk.replays
+    ∙ ap (λ t. if t then Some (after_entry (ledger_of d) (Collected copy (suc n))) else None)
+    (legal_if (ledger_of d) copy (suc n) low (omega arith) (sym is))
+
+pub collected_desk : (d : DeskView) (copy : PinCopy) → IsDesk d → copy.last ≤ length d.last.batches → IsDesk (desk_collected d copy)
+collected_desk d copy desk low = record {
+  version = desk.version;
+  replays =
+      ap (λ n. replay (d.journal ++ collections copy (count_by (is_past copy) d.pool)) (empty_ledger n))
+      (length-map d.pool (recycled copy))
+      ∙ replays_on d copy desk low (count_by (is_past copy) d.pool) refl;
+  listed = λ n. ap (passes is_born) (get_map (recycled copy) d.pool n) ∙ born_recycled copy (slice_get d.pool n)
+      ∙ desk.listed n;
+}
+
+pub is_collected : (d e : DeskView) (copy : PinCopy) → e ≡ desk_collected d copy → IsCollected d copy e
+is_collected d e copy is = record { last = ap (λ x. x.last) is; pool = ap (λ x. x.pool) is; journal = ap (λ x. x.journal) is }
+
+is_desk_collected : (d e : DeskView) (copy : PinCopy) → IsCollected d copy e → e ≡ desk_collected d copy
+is_desk_collected d e copy is = λ i. record { last = is.last i; journal = is.journal i; pool = is.pool i }
+
+pub collected_is_desk : (d e : DeskView) (copy : PinCopy) → IsDesk d → copy.last ≤ length d.last.batches → IsCollected d copy e → IsDesk e
+collected_is_desk d e copy desk low is = subst IsDesk (sym (is_desk_collected d e copy is)) (collected_desk d copy desk low)
+
+-- Births: none of the last version's blocks is recycled
+
+birth_recycled : (copy : PinCopy) (p : Option Status) → passes is_born p ≡ true
+    → birth_in (option_map (recycled copy) p) ≡ birth_in p
+birth_recycled copy None born = cc
+birth_recycled copy (Some Free) born = cc
+birth_recycled copy (Some Granted) born = cc
+birth_recycled copy (Some (Used b)) born = refl
+birth_recycled copy (Some (Retired b v)) born = cc
+
+same_births : (p q : List Status) (bs : List BlockView)
+    → ((m : ℕ) → is_in m (numbers_of bs) ≡ true → birth_at p m ≡ birth_at q m)
+    → map (λ b. birth_at p b.number) bs ≡ map (λ b. birth_at q b.number) bs
+same_births p q [] same = refl
+same_births p q (b ∷ bs) same =
+    let here : (b.number == b.number) ≡ true = eq-eqb b.number b.number refl in
+    ap₂ (λ x xs. x ∷ xs) (same b.number (rw here refl))
+    (same_births p q bs (λ m is. same m (or_right (b.number == m) (is_in m (numbers_of bs)) is)))
+
+pub births_collected : (d e : DeskView) (copy : PinCopy) → IsDesk d → IsCollected d copy e
+    → (source : ℕ) → births_in e source ≡ births_in d source
+births_collected d e copy desk collected source =
+    ap (λ (v : VersionView). map (λ b. birth_at e.pool b.number) (row_of v.rows source)) collected.last
+    ∙ same_births e.pool d.pool (row_of d.last.rows source) (λ m is.
+    birth_from e.pool m ∙ ap (λ p. birth_in (slice_get p m)) collected.pool
+    ∙ ap birth_in (get_map (recycled copy) d.pool m)
+    ∙ birth_recycled copy (slice_get d.pool m) (desk.listed m ∙ row_listed d.last.rows source m is)
+    ∙ sym (birth_from d.pool m))

@@ -1,0 +1,130 @@
+-- How often a number or a block stands in a list.
+use Rattle.std.proofs.Common.{◌≡◌, ℕ, zero, suc, ◌+◌, ◌<◌, ◌≤◌, ◌==◌, Bool, true, false, cond, ◌&&◌, ◌||◌, List, [], ◌∷◌, length}
+use Rattle.std.proofs.Common.{get_or, count_by, Decides, refl, sym, ap, subst, ◌∙◌, arith}
+use Rattle.std.specs.Prelude.{Contains}
+use Rattle.std.specs.Cmp.Lexicographic.{pointwise}
+use Rattle.std.specs.declared.option.Option.{Option}
+use Rattle.std.specs.declared.option.Option.TheVariants.{None, Some}
+use Rattle.std.proofs.lemmas.Bool.{eq-eqb, eqb-true}
+use Rattle.std.proofs.lemmas.Bool.Decides.{Decides-and, Decides-eqb, Decides-int_eq, Decides-like}
+use Rattle.std.proofs.lemmas.Slice.Eq.{slice_eq-Decides}
+use Rattle.graph_model.specs.Graph.{Stamp}
+use Rattle.edge_block.specs.Slots.{BlockView, Slot}
+use Rattle.row_pages.specs.Rows.{numbers_of}
+use Rattle.graph_version.specs.Versions.{is_in}
+use Rattle.block_pool.proofs.Tallies.{count_more}
+use Rattle.epoch_blocks.specs.Blocks.{all_differ}
+use Rattle.epoch_blocks.specs.Posting.{same_stamp}
+use Rattle.store_steps.proofs.NumberLists.{differ_head, differ_tail}
+
+-- how often a number stands in a list
+abbrev pub times : ℕ → List ℕ → ℕ
+times m ns = count_by (λ n. n == m) ns
+
+abbrev pub is_some_times : ℕ → Bool
+is_some_times zero = false
+is_some_times (suc n) = true
+
+pub in_times : (m : ℕ) (ns : List ℕ) → is_in m ns ≡ is_some_times (times m ns)
+in_times m [] = refl
+in_times m (n ∷ ns) =
+    elim (n == m) as (λ t. (t || is_in m ns) ≡ is_some_times (cond t 1 0 + times m ns)) [
+      | true ↦ (let one : 1 + times m ns ≡ suc (times m ns) = omega arith in sym (ap is_some_times one))
+      | false ↦ (let same : 0 + times m ns ≡ times m ns = omega arith in in_times m ns ∙ sym (ap is_some_times same))
+    ] ∙ sym (ap is_some_times (count_more (λ x. x == m) n ns))
+
+pub times_numbers : (m : ℕ) (bs : List BlockView) → times m (numbers_of bs) ≡ count_by (λ b. b.number == m) bs
+times_numbers m [] = refl
+times_numbers m (b ∷ bs) =
+    count_more (λ n. n == m) b.number (numbers_of bs) ∙ ap (λ k. cond (b.number == m) 1 0 + k) (times_numbers m bs)
+    ∙ sym (count_more (λ (x : BlockView). x.number == m) b bs)
+
+none_times : (t : ℕ) → is_some_times t ≡ false → t ≡ 0
+none_times zero e = refl
+none_times (suc t) e = cc
+
+pub once_at_most : (m : ℕ) (ns : List ℕ) → all_differ ns ≡ true → times m ns ≤ 1
+once_at_most m [] apart = omega arith
+once_at_most m (n ∷ ns) apart =
+    let more = count_more (λ x. x == m) n ns in
+    let rest : times m ns ≤ 1 = once_at_most m ns (differ_tail n ns apart) in
+    let none : times n ns ≡ 0 = none_times (times n ns) (sym (in_times n ns) ∙ differ_head n ns apart) in
+    let whole : cond (n == m) 1 0 + times m ns ≤ 1 = elim (n == m) as (λ t. (n == m) ≡ t → cond t 1 0 + times m ns ≤ 1) [
+      | true ↦ λ e. (let same : times m ns ≡ 0 = subst (λ x. times x ns ≡ 0) (eqb-true n m e) none in omega arith)
+      | false ↦ λ e. omega arith
+    ] refl in
+    omega arith
+
+zero_times : (t : ℕ) → t ≡ 0 → is_some_times t ≡ false
+zero_times zero e = refl
+zero_times (suc t) e = cc
+
+pub apart_if : (ns : List ℕ) → ((m : ℕ) → times m ns ≤ 1) → all_differ ns ≡ true
+apart_if [] once = refl
+apart_if (n ∷ ns) once =
+    let here : (n == n) ≡ true = eq-eqb n n refl in
+    let twice : times n (n ∷ ns) ≤ 1 = once n in
+    let count : times n (n ∷ ns) ≡ 1 + times n ns = count_more (λ x. x == n) n ns ∙ ap (λ t. cond t 1 0 + times n ns) here in
+    let none : is_in n ns ≡ false = in_times n ns ∙ zero_times (times n ns) (omega arith) in
+    rw none (apart_if ns (λ m. let whole : times m (n ∷ ns) ≤ 1 = once m in let more =
+    count_more (λ x. x == m) n ns in omega arith))
+
+-- Blocks by their whole value
+
+Decides-same_stamp : (a b : Stamp) → Decides (same_stamp a b) (a ≡ b)
+Decides-same_stamp a b =
+    Decides-like _ (λ p i. record { weight = p.0.0 i; first = p.0.1 i; recent = p.1 i })
+    (λ q. ((ap (λ s. s.weight) q, ap (λ s. s.first) q), ap (λ s. s.recent) q))
+    (Decides-and _ _ (Decides-and _ _ (Decides-int_eq a.weight b.weight) (Decides-eqb a.first b.first))
+    (Decides-eqb a.recent b.recent))
+
+abbrev same_slot : Option Slot → Option Slot → Bool
+same_slot None None = true
+same_slot None (Some b) = false
+same_slot (Some a) None = false
+same_slot (Some a) (Some b) = (a.target == b.target) && same_stamp a.stamp b.stamp
+
+Decides-same_slot : (a b : Option Slot) → Decides (same_slot a b) (a ≡ b)
+Decides-same_slot None None = (λ _. refl, λ _. refl)
+Decides-same_slot None (Some b) = (λ e. cc, λ e. cc)
+Decides-same_slot (Some a) None = (λ e. cc, λ e. cc)
+Decides-same_slot (Some a) (Some b) =
+    Decides-like _ (λ p. let e : a ≡ b = λ i. record { target = p.0 i; stamp = p.1 i } in ap Some e)
+    (λ q. let e : a ≡ b = cc in (ap (λ x. x.target) e, ap (λ x. x.stamp) e))
+    (Decides-and _ _ (Decides-eqb a.target b.target) (Decides-same_stamp a.stamp b.stamp))
+
+-- whether two blocks are equal in all
+abbrev pub same_block : BlockView → BlockView → Bool
+same_block a b = (a.number == b.number) && (a.source == b.source) && (a.kind == b.kind) && pointwise same_slot a.slots b.slots
+
+pub Decides-same_block : (a b : BlockView) → Decides (same_block a b) (a ≡ b)
+Decides-same_block a b =
+    Decides-like _ (λ p i. record { number = p.0.0.0 i; source = p.0.0.1 i; kind = p.0.1 i; slots = p.1 i })
+    (λ q. (((ap (λ x. x.number) q, ap (λ x. x.source) q), ap (λ x. x.kind) q), ap (λ x. x.slots) q))
+    (Decides-and _ _ (Decides-and _ _ (Decides-and _ _ (Decides-eqb a.number b.number) (Decides-eqb a.source b.source))
+    (Decides-eqb a.kind b.kind))
+    (slice_eq-Decides Decides-same_slot a.slots b.slots (pointwise same_slot a.slots b.slots) refl))
+
+-- a block that is listed is counted
+pub counted : (b : BlockView) (bs : List BlockView) (k : ℕ) → k < length bs → get_or bs k b ≡ b
+    → 1 ≤ count_by (λ x. same_block x b) bs
+counted b [] k h at = absurd (omega arith)
+counted b (c ∷ cs) zero h at =
+    let is : same_block c b ≡ true = (Decides-same_block c b).1 at in
+    let one : (let n : ℕ = cond (same_block c b) 1 0 in n) ≡ 1 = ap (λ t. cond t 1 0) is in
+    let more = count_more (λ x. same_block x b) c cs in
+    omega arith
+counted b (c ∷ cs) (suc k) h at =
+    let rest = counted b cs k (omega arith) at in
+    let more = count_more (λ x. same_block x b) c cs in
+    omega arith
+
+-- a block that is counted is listed
+pub listed : (b : BlockView) (bs : List BlockView) → 1 ≤ count_by (λ x. same_block x b) bs → Contains bs b
+listed b [] h = absurd (omega arith)
+listed b (c ∷ cs) h =
+    elim (same_block c b) as (λ t. same_block c b ≡ t → count_by (λ x. same_block x b) (c ∷ cs)
+    ≡ cond t 1 0 + count_by (λ x. same_block x b) cs → Contains (c ∷ cs) b) [
+      | true ↦ λ is e. (0, omega arith, (Decides-same_block c b).0 is)
+      | false ↦ λ is e. (let rest = listed b cs (omega arith) in (suc rest.0, omega (arith, rest.1), rest.2))
+    ] refl (count_more (λ x. same_block x b) c cs)

@@ -1,0 +1,92 @@
+-- Small stores, computed.
+use Rattle.std.proofs.Common.{◌≡◌, ℕ, zero, suc, Bool, false, [], ◌∷◌, get_or, refl, sym, ap, ◌∙◌, arith}
+use Rattle.std.specs.Prelude.{All, slice_get, Option, Some, None}
+use Rattle.std.proofs.lemmas.Bool.{true≢false}
+use Rattle.std.proofs.lemmas.List.Elements.{All-cons}
+use Rattle.graph_version.specs.Edges.{edges_in_block}
+use Rattle.epoch_core.specs.declared.states.SessionState.TheVariants.{Idle}
+use Rattle.epoch_core.specs.Worlds.{session_of}
+use Rattle.epoch_blocks.specs.Versions.{edges_at}
+use Rattle.seat_board.specs.Board.{pin_at, no_pins, with_pin, unsettled}
+use Rattle.seat_board.specs.declared.board.Pin.{Pin as SeatPin}
+use Rattle.epoch_core.specs.declared.events.Event.TheVariants.{Pin}
+use Rattle.store_steps.specs.Reached.{world_by}
+use Rattle.store_steps.specs.Shown.{SameStatus}
+use Rattle.store_steps.specs.Boards.{seat_pin}
+use Rattle.store_steps.specs.Examples.{AreExamples, block_one, desk_of_edge, world_of_edge, board_of_two, world_of_two}
+use Rattle.store_steps.proofs.OpeningShown.{no_pin}
+
+status_shown : (n : ℕ) → SameStatus (slice_get desk_of_edge.pool n) (slice_get world_of_edge.status n)
+status_shown zero = tt
+status_shown (suc zero) = refl
+status_shown (suc (suc zero)) = tt
+status_shown (suc (suc (suc n))) = tt
+
+edges_shown : All (λ b. edges_at world_of_edge.heap b.number ≡ edges_in_block b) (block_one ∷ [])
+edges_shown = All-cons (λ b. edges_at world_of_edge.heap b.number
+    ≡ edges_in_block b) block_one [] refl (λ k d h. absurd (omega arith))
+
+one_idle : (s : ℕ) → get_or (Idle ∷ []) s Idle ≡ Idle
+one_idle zero = refl
+one_idle (suc s) = refl
+
+pins_shown : (s : ℕ) → seat_pin (session_of world_of_two s) ≡ pin_at board_of_two.pins s
+pins_shown zero = refl
+pins_shown (suc zero) = refl
+pins_shown (suc (suc s)) = ap seat_pin (one_idle s) ∙ sym (no_pin 14 s)
+
+none_idle : (s : ℕ) → get_or [] s Idle ≡ Idle
+none_idle s = refl
+
+pin_shown : (s : ℕ) → seat_pin (session_of (world_by 1 3 (Pin 0 ∷ [])) s)
+    ≡ pin_at (with_pin no_pins 0 (Some (unsettled 0))).pins s
+pin_shown zero = refl
+pin_shown (suc s) = ap seat_pin (none_idle s) ∙ sym (no_pin 15 s)
+
+abbrev is_settled_in : Option SeatPin → Bool
+is_settled_in None = false
+is_settled_in (Some p) = p.is_settled
+
+pub are_examples : AreExamples
+are_examples = record {
+  batches = refl;
+  collection = refl;
+  taken_used = refl;
+  taken_past = refl;
+  taken_twice = refl;
+  dropped_retired = refl;
+  collected_early = refl;
+  collected_settled = refl;
+  collected_unsettled = refl;
+  collected_late = refl;
+  collected_nothing = refl;
+  desk = record {
+    opening = refl;
+    batches = refl;
+    blocks = refl;
+    edges = edges_shown;
+    status = status_shown;
+    sizes = refl;
+  };
+  later = λ w shows. let no : 2 ≡ 1 = shows.status 1 in absurd (omega arith);
+  fresh = λ w shows. shows.status 1;
+  posted = refl;
+  filled = refl;
+  kept = refl;
+  recycled = refl;
+  recycled_behind = refl;
+  none_recycled = refl;
+  freed = refl;
+  needed = refl;
+  accepted = refl;
+  entry = refl;
+  no_entry = refl;
+  touched = record { births_are = refl; dropped_are = refl };
+  appended = record { births_are = refl; dropped_are = refl };
+  emptied = record { births_are = refl; dropped_are = refl };
+  untouched = record { births_are = refl; dropped_are = refl };
+  pinned = record { floor = refl; pins = pin_shown };
+  entered = refl;
+  board = record { floor = refl; pins = pins_shown };
+  settled = λ w shows. true≢false (sym (ap is_settled_in (shows.pins 1)));
+}

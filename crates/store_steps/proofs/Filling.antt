@@ -1,0 +1,119 @@
+-- Take and Fill of several blocks.
+use Rattle.std.proofs.Common.{◌≡◌, ◌≢◌, ℕ, ◌<◌, ◌==◌, true, false, List, [], ◌∷◌, ◌++◌, length, set, refl, sym, ap, ◌∙◌, arith}
+use Rattle.std.proofs.Common.{get_or-set_same, get_or-set_other}
+use Rattle.std.specs.Prelude.{slice_get, if◌then◌else◌, All}
+use Rattle.std.specs.List.{flat_map}
+use Rattle.std.specs.Option.{option_map, option_and_then}
+use Rattle.std.specs.declared.option.Option.TheVariants.{None, Some}
+use Rattle.std.proofs.lemmas.List.{length-set}
+use Rattle.std.proofs.lemmas.List.Elements.{All-head, All-tail, All-cons}
+use Rattle.std.proofs.lemmas.Bool.{eq-eqb, true≢false}
+use Rattle.graph_model.specs.declared.ids.Edge.{Edge}
+use Rattle.edge_block.specs.Slots.{BlockView}
+use Rattle.row_pages.specs.Rows.{numbers_of}
+use Rattle.graph_version.specs.Versions.{is_in}
+use Rattle.graph_version.specs.Edges.{edges_in_block, edges_in_blocks}
+use Rattle.block_pool.specs.Pools.{marked}
+use Rattle.epoch_blocks.specs.declared.states.Status.{Status}
+use Rattle.epoch_blocks.specs.declared.states.Status.TheVariants.{Free, Fresh}
+use Rattle.epoch_core.specs.declared.events.Event.{Event}
+use Rattle.epoch_core.specs.declared.events.Event.TheVariants.{Take, Fill}
+use Rattle.epoch_blocks.specs.Blocks.{taken, is_fresh, put, all_differ}
+use Rattle.epoch_core.specs.Worlds.{World}
+use Rattle.epoch_blocks.specs.Versions.{edges_at, edges_of}
+use Rattle.epoch_core.specs.Machine.{step, with_status, with_heap}
+use Rattle.epoch_blocks.proofs.Lists.{set_same, set_else, or_false}
+use Rattle.store_steps.specs.Steps.{all_done, filling}
+use Rattle.store_steps.proofs.NumberLists.{differ_head, differ_tail}
+
+-- the heap with the edges of these blocks at their numbers
+abbrev pub heap_with : List BlockView → List (List Edge) → List (List Edge)
+heap_with [] heap = heap
+heap_with (b ∷ bs) heap = heap_with bs (set heap b.number (edges_in_block b))
+
+-- the world in which these blocks are fresh and filled
+abbrev pub filled_world : World → List BlockView → World
+filled_world w bs = record w { status = marked (numbers_of bs) Fresh w.status; heap = heap_with bs w.heap }
+
+pub step_then : (e : Event) (es : List Event) (w next : World) → step w e ≡ Some next → all_done (e ∷ es) w ≡ all_done es next
+step_then e es w next is = ap (option_and_then (all_done es)) is
+
+take_done : (w : World) (n : ℕ) → slice_get w.status n ≡ Some Free → step w (Take n) ≡ Some (with_status w (set w.status n Fresh))
+take_done w n is = ap (λ o. option_map (with_status w) (put w.status n (option_and_then taken o))) is
+
+fill_done : (w : World) (n : ℕ) (edges : List Edge) → slice_get w.status n ≡ Some Fresh
+    → step w (Fill n edges) ≡ Some (with_heap w (set w.heap n edges))
+fill_done w n edges is = ap (λ o. option_map (with_heap w) (option_and_then
+    (λ s. if is_fresh s then Some (set w.heap n edges) else None) o)) is
+
+-- the blocks of these numbers are all in this state
+abbrev pub AllAre : Status → List Status → List BlockView → Type 0
+AllAre s status bs = All (λ b. slice_get status b.number ≡ Some s) bs
+
+still : (status : List Status) (s x : Status) (b : BlockView) (bs : List BlockView) → is_in b.number (numbers_of bs) ≡ false
+    → AllAre s status bs
+    → AllAre s (set status b.number x) bs
+still status s x b [] apart all = λ k d h. absurd (omega arith)
+still status s x b (c ∷ cs) apart all =
+    let parts : ((c.number == b.number) ≡ false) × (is_in b.number (numbers_of cs) ≡ false) =
+    or_false (c.number == b.number) (is_in b.number (numbers_of cs)) apart in
+    All-cons (λ y. slice_get (set status b.number x) y.number ≡ Some s) c cs
+    (set_else status b.number c.number x (λ e. absurd (true≢false (sym (eq-eqb c.number b.number e) ∙ parts.0)))
+    ∙ All-head (λ y. slice_get status y.number ≡ Some s) c cs all)
+    (still status s x b cs parts.1 (All-tail (λ y. slice_get status y.number ≡ Some s) c cs all))
+
+-- all Takes and Fills are done
+pub fills_done : (bs : List BlockView) (rest : List Event) (w : World) → AllAre Free w.status bs
+    → all_differ (numbers_of bs) ≡ true
+    → all_done (flat_map filling bs ++ rest) w ≡ all_done rest (filled_world w bs)
+fills_done [] rest w free apart = refl
+fills_done (b ∷ bs) rest w free apart =
+    let here : slice_get w.status b.number ≡ Some Free = All-head (λ y. slice_get w.status y.number ≡ Some Free) b bs free in
+    let w1 : World = with_status w (set w.status b.number Fresh) in
+    let w2 : World = with_heap w1 (set w.heap b.number (edges_in_block b)) in
+    step_then (Take b.number) (Fill b.number (edges_in_block b) ∷ (flat_map filling bs ++ rest)) w w1 (take_done w b.number here)
+    ∙ step_then (Fill b.number (edges_in_block b)) (flat_map filling bs ++ rest) w1 w2
+    (fill_done w1 b.number (edges_in_block b) (set_same w.status b.number Free Fresh here))
+    ∙ fills_done bs rest w2
+    (still w.status Free Fresh b bs (differ_head b.number (numbers_of bs) apart) (All-tail (λ y. slice_get w.status y.number
+    ≡ Some Free) b bs free))
+    (differ_tail b.number (numbers_of bs) apart)
+
+pub length-heap_with : (bs : List BlockView) (heap : List (List Edge)) → length (heap_with bs heap) ≡ length heap
+length-heap_with [] heap = refl
+length-heap_with (b ∷ bs) heap = length-heap_with bs (set heap b.number (edges_in_block b))
+    ∙ length-set heap b.number (edges_in_block b)
+
+-- other blocks keep their edges
+pub heap_else : (bs : List BlockView) (heap : List (List Edge)) (n : ℕ) → is_in n (numbers_of bs) ≡ false
+    → edges_at (heap_with bs heap) n ≡ edges_at heap n
+heap_else [] heap n apart = refl
+heap_else (b ∷ bs) heap n apart =
+    let parts : ((b.number == n) ≡ false) × (is_in n (numbers_of bs) ≡ false) =
+    or_false (b.number == n) (is_in n (numbers_of bs)) apart in
+    let ne : n ≢ b.number = λ e. absurd (true≢false (sym (eq-eqb b.number n (sym e)) ∙ parts.0)) in
+    heap_else bs (set heap b.number (edges_in_block b)) n parts.1 ∙ rw get_or-set_other refl
+
+-- these blocks have theirs
+pub heap_here : (bs : List BlockView) (heap : List (List Edge)) → All (λ b. b.number < length heap) bs
+    → all_differ (numbers_of bs) ≡ true
+    → All (λ b. edges_at (heap_with bs heap) b.number ≡ edges_in_block b) bs
+heap_here [] heap within apart = λ k d h. absurd (omega arith)
+heap_here (b ∷ bs) heap within apart =
+    let lt : b.number < length heap = All-head (λ y. y.number < length heap) b bs within in
+    let heap1 : List (List Edge) = set heap b.number (edges_in_block b) in
+    let len : length heap1 ≡ length heap = length-set heap b.number (edges_in_block b) in
+    All-cons (λ y. edges_at (heap_with (b ∷ bs) heap) y.number ≡ edges_in_block y) b bs
+    (heap_else bs heap1 b.number (differ_head b.number (numbers_of bs) apart) ∙ rw get_or-set_same refl)
+    (heap_here bs heap1 (λ k d h. omega (arith, All-tail (λ y. y.number < length heap) b bs within k d h))
+    (differ_tail b.number (numbers_of bs) apart))
+
+-- a heap with the edges of blocks at their numbers has the edges of them all
+pub edges_from : (heap : List (List Edge)) (bs : List BlockView) → All (λ b. edges_at heap b.number ≡ edges_in_block b) bs
+    → edges_of heap (numbers_of bs) ≡ edges_in_blocks bs
+edges_from heap [] all = refl
+edges_from heap (b ∷ bs) all =
+    let here : edges_at heap b.number ≡ edges_in_block b = All-head (λ y. edges_at heap y.number ≡ edges_in_block y) b bs all in
+    let rest : edges_of heap (numbers_of bs) ≡ edges_in_blocks bs =
+    edges_from heap bs (All-tail (λ y. edges_at heap y.number ≡ edges_in_block y) b bs all) in
+    ap (λ es. es ++ edges_of heap (numbers_of bs)) here ∙ ap (λ es. edges_in_block b ++ es) rest

@@ -1,0 +1,113 @@
+-- The steps of the store's calls inside whole runs of the machine.
+use Rattle.std.proofs.Common.{◌≡◌, ℕ, inl, inr, true, false, List, [], ◌∷◌, get_or, set, refl, sym, ap, subst, ◌∙◌}
+use Rattle.std.specs.Prelude.{if◌then◌else◌, slice_get}
+use Rattle.std.specs.Option.{unwrap_or, option_and_then, option_map}
+use Rattle.std.specs.declared.option.Option.{Option}
+use Rattle.std.specs.declared.option.Option.TheVariants.{None, Some}
+use Rattle.std.proofs.lemmas.Bool.{cases_eq}
+use Rattle.graph_model.specs.declared.requests.Request.{Request}
+use Rattle.epoch_blocks.specs.declared.states.Version.{Version}
+use Rattle.epoch_blocks.specs.declared.states.Opening.{Opening}
+use Rattle.epoch_core.specs.declared.states.Hold.{Hold}
+use Rattle.epoch_core.specs.declared.states.Inquiry.{Inquiry}
+use Rattle.epoch_core.specs.declared.states.SessionState.{SessionState}
+use Rattle.epoch_core.specs.declared.states.SessionState.TheVariants.{Idle, Pinned, Holding, Asking}
+use Rattle.epoch_core.specs.Worlds.{World, session_of, last_number}
+use Rattle.epoch_blocks.specs.Versions.{blocks_at}
+use Rattle.epoch_core.specs.Machine.{step, read_on, is_all_read, to_enter, to_ask, to_read, to_reply}
+use Rattle.epoch_core.specs.Runs.{run}
+use Rattle.epoch_core.proofs.Moves.{Moved, moved, session_after, session_else}
+use Rattle.seat_board.specs.Board.{BoardState}
+use Rattle.store_steps.specs.Desks.{DeskView}
+use Rattle.store_steps.specs.Shown.{Shows}
+use Rattle.store_steps.specs.Boards.{seat_pin, ShowsBoard}
+use Rattle.store_steps.specs.Steps.{all_done}
+use Rattle.store_steps.specs.Histories.{DoneIsRun, ReadersAreUnseen}
+use Rattle.store_steps.proofs.BoardSteps.{shows_sessions}
+
+pub done_is_run : DoneIsRun
+done_is_run [] w after is = cc
+done_is_run (e ∷ es) w after is =
+    elim (step w e) as (λ o. step w e ≡ o → option_and_then (all_done es) o ≡ Some after → run es (unwrap_or o w) ≡ after) [
+      | None ↦ λ at h. cc
+      | Some next ↦ λ at h. done_is_run es next after h
+    ] refl is
+
+-- a session's move that keeps its pin is unseen
+unseen : (d : DeskView) (b : BoardState) (w after : World) (s : ℕ) (change : SessionState → Option SessionState)
+    → Moved w s change after
+    → ((session next : SessionState) → change session ≡ Some next → seat_pin next ≡ seat_pin session)
+    → Shows d w → ShowsBoard b w → Shows d after × ShowsBoard b after × (after.copy ≡ w.copy)
+unseen d b w after s change m keeps shown shows = (
+  subst (Shows d) (sym m.result) (shows_sessions d w (set w.sessions s m.next) shown),
+  record {
+    floor = ap (λ v. v.floor) m.result ∙ shows.floor;
+    pins = λ t. ap (λ v. seat_pin (session_of v t)) m.result ∙ elim (cases_eq t s) [
+      | inl e ↦
+          ap (λ r. seat_pin (get_or (set w.sessions s m.next) r Idle)) e
+          ∙ ap seat_pin (session_after w s m.session m.next m.found) ∙ keeps m.session m.next m.changed
+          ∙ ap seat_pin (sym m.at) ∙ ap (λ r. seat_pin (session_of w r)) (sym e) ∙ shows.pins t
+      | inr ne ↦ ap seat_pin (session_else w s t m.next ne) ∙ shows.pins t
+    ];
+  },
+  ap (λ v. v.copy) m.result,
+)
+
+keeps_enter : (last : ℕ) (session next : SessionState) → to_enter last session ≡ Some next → seat_pin next ≡ seat_pin session
+keeps_enter last Idle next is = cc
+keeps_enter last (Pinned pin) next is = ap seat_pin (sym (let e : Holding (record {
+  pin = pin;
+  settled = false;
+  version = last;
+}) ≡ next = cc in e))
+keeps_enter last (Holding hold) next is = cc
+keeps_enter last (Asking hold inquiry) next is = cc
+
+keeps_ask : (request : Request) (session next : SessionState) → to_ask request session ≡ Some next
+    → seat_pin next ≡ seat_pin session
+keeps_ask request Idle next is = cc
+keeps_ask request (Pinned pin) next is = cc
+keeps_ask request (Holding hold) next is = ap seat_pin (sym (let e : Asking hold (record {
+  request = request;
+  next = 0;
+  read = [];
+}) ≡ next = cc in e))
+keeps_ask request (Asking hold inquiry) next is = cc
+
+keeps_reply : (o : Opening) (versions : List Version) (session next : SessionState) → to_reply o versions session ≡ Some next
+    → seat_pin next ≡ seat_pin session
+keeps_reply o versions Idle next is = cc
+keeps_reply o versions (Pinned pin) next is = cc
+keeps_reply o versions (Holding hold) next is = cc
+keeps_reply o versions (Asking hold inquiry) next is =
+    elim (is_all_read o versions hold inquiry) as (λ t. (if t then Some (Holding hold) else None) ≡ Some next
+    → seat_pin next ≡ seat_pin (Asking hold inquiry)) [
+      | true ↦ λ h. ap seat_pin (sym (let e : Holding hold ≡ next = cc in e))
+      | false ↦ λ h. cc
+    ] is
+
+read_if : (w : World) (hold : Hold) (inquiry : Inquiry) (o : Option ℕ) (next : SessionState)
+    → option_map (λ b. Asking hold (read_on w.heap inquiry b)) o ≡ Some next
+    → seat_pin next ≡ seat_pin (Asking hold inquiry)
+read_if w hold inquiry None next is = cc
+read_if w hold inquiry (Some b) next is = ap seat_pin (sym (let e : Asking hold (read_on w.heap inquiry b) ≡ next = cc in e))
+
+keeps_reading : (w : World) (session next : SessionState) → to_read w.opening w.heap w.versions session ≡ Some next
+    → seat_pin next ≡ seat_pin session
+keeps_reading w Idle next is = cc
+keeps_reading w (Pinned pin) next is = cc
+keeps_reading w (Holding hold) next is = cc
+keeps_reading w (Asking hold inquiry) next is = read_if w hold inquiry
+    (slice_get (blocks_at w.opening w.versions hold.version) inquiry.next) next is
+
+pub readers_are_unseen : ReadersAreUnseen
+readers_are_unseen = record {
+  enter = λ s d b w after is. unseen d b w after s (to_enter (last_number w)) (moved w s (to_enter (last_number w)) after is)
+      (keeps_enter (last_number w));
+  ask = λ s request d b w after is. unseen d b w after s (to_ask request) (moved w s (to_ask request) after is)
+      (keeps_ask request);
+  read = λ s d b w after is. unseen d b w after s (to_read w.opening w.heap w.versions)
+      (moved w s (to_read w.opening w.heap w.versions) after is) (keeps_reading w);
+  reply = λ s d b w after is. unseen d b w after s (to_reply w.opening w.versions)
+      (moved w s (to_reply w.opening w.versions) after is) (keeps_reply w.opening w.versions);
+}

@@ -1,0 +1,155 @@
+-- Numbers in lists, and blocks that are picked by their numbers.
+use Rattle.std.proofs.Common.{◌≡◌, ◌≢◌, ℕ, zero, suc, ◌<◌, ◌==◌, Bool, true, false, not, ◌&&◌, ◌||◌, List, [], ◌∷◌, length}
+use Rattle.std.proofs.Common.{get_or, refl, sym, ap, ◌∙◌, arith}
+use Rattle.std.specs.Prelude.{if◌then◌else◌, All, AllPairs, filter}
+use Rattle.std.specs.List.{list_all}
+use Rattle.std.proofs.lemmas.List.Elements.{All-head, All-tail, All-cons}
+use Rattle.std.proofs.lemmas.Bool.{eq-eqb, eqb-true, true≢false, or_right}
+use Rattle.edge_block.specs.Slots.{BlockView}
+use Rattle.row_pages.specs.Rows.{numbers_of}
+use Rattle.graph_version.specs.Versions.{is_in}
+use Rattle.epoch_blocks.specs.Blocks.{all_differ}
+
+-- the test of two numbers that differ
+pub apart_test : (m n : ℕ) → m ≢ n → (m == n) ≡ false
+apart_test m n ne = go (m == n) refl where
+  go : (b : Bool) → (m == n) ≡ b → b ≡ false
+  go true e = absurd (ne (eqb-true m n e))
+  go false e = refl
+
+pub same_bool : (a b : Bool) → (a ≡ true → b ≡ true) → (b ≡ true → a ≡ true) → a ≡ b
+same_bool true b f g = sym (f refl)
+same_bool false true f g = g refl
+same_bool false false f g = refl
+
+pub all_from : {A : Type 0} (p : A → Bool) (xs : List A) → All (λ x. p x ≡ true) xs → list_all p xs ≡ true
+all_from p [] all = refl
+all_from p (x ∷ xs) all = rw (All-head (λ y. p y ≡ true) x xs all) (all_from p xs (All-tail (λ y. p y ≡ true) x xs all))
+
+-- a test that holds of whatever is listed
+pub all_by : (p : ℕ → Bool) (ns : List ℕ) → ((m : ℕ) → is_in m ns ≡ true → p m ≡ true) → list_all p ns ≡ true
+all_by p [] each = refl
+all_by p (n ∷ ns) each =
+    let here : (n == n) ≡ true = eq-eqb n n refl in
+    let first : p n ≡ true = each n (rw here refl) in
+    rw first (all_by p ns (λ m is. each m (or_right (n == m) (is_in m ns) is)))
+
+-- Numbers that differ
+
+not_in : (n : ℕ) (ns : List ℕ) → ((k : ℕ) → k < length ns → n ≢ get_or ns k 0) → is_in n ns ≡ false
+not_in n [] apart = refl
+not_in n (m ∷ ns) apart =
+    let rest : is_in n ns ≡ false = not_in n ns (λ k h. apart (suc k) (omega arith)) in
+    let here : (m == n) ≡ false = apart_test m n (λ e. apart 0 (omega arith) (sym e)) in
+    rw (here, rest) refl
+
+apart_head : (n : ℕ) (ns : List ℕ) → AllPairs ◌≢◌ (n ∷ ns) → (k : ℕ) → k < length ns → n ≢ get_or ns k 0
+apart_head n ns apart k h = apart 0 (suc k) 0 (omega arith) (omega arith)
+
+apart_tail : (n : ℕ) (ns : List ℕ) → AllPairs ◌≢◌ (n ∷ ns) → AllPairs ◌≢◌ ns
+apart_tail n ns apart = λ i j d h g. apart (suc i) (suc j) d (omega arith) (omega arith)
+
+pub differ_from : (ns : List ℕ) → AllPairs ◌≢◌ ns → all_differ ns ≡ true
+differ_from [] apart = refl
+differ_from (n ∷ ns) apart =
+    let none : is_in n ns ≡ false = not_in n ns (apart_head n ns apart) in
+    rw none (differ_from ns (apart_tail n ns apart))
+
+-- the first of different numbers is none of the rest
+pub differ_head : (n : ℕ) (ns : List ℕ) → all_differ (n ∷ ns) ≡ true → is_in n ns ≡ false
+differ_head n ns is = go (is_in n ns) is where
+  go : (b : Bool) → (not b && all_differ ns) ≡ true → b ≡ false
+  go true h = cc
+  go false h = refl
+
+pub differ_tail : (n : ℕ) (ns : List ℕ) → all_differ (n ∷ ns) ≡ true → all_differ ns ≡ true
+differ_tail n ns is = go (is_in n ns) is where
+  go : (b : Bool) → (not b && all_differ ns) ≡ true → all_differ ns ≡ true
+  go true h = cc
+  go false h = h
+
+-- Blocks
+
+-- the number of a block that is listed is listed
+pub number_in : (bs : List BlockView) (b : BlockView) (k : ℕ) → k < length bs → get_or bs k b ≡ b
+    → is_in b.number (numbers_of bs) ≡ true
+number_in [] b k h at = absurd (omega arith)
+number_in (c ∷ cs) b zero h at = let same : (c.number == b.number) ≡ true =
+    eq-eqb c.number b.number (ap (λ x. x.number) at) in rw same refl
+number_in (c ∷ cs) b (suc k) h at = or_right (c.number == b.number) (is_in b.number (numbers_of cs))
+    (number_in cs b k (omega arith) at)
+
+pub numbers_all : (p : ℕ → Bool) (bs : List BlockView) → All (λ b. p b.number ≡ true) bs → list_all p (numbers_of bs) ≡ true
+numbers_all p [] all = refl
+numbers_all p (b ∷ bs) all = rw (All-head (λ x. p x.number ≡ true) b bs all)
+    (numbers_all p bs (All-tail (λ x. p x.number ≡ true) b bs all))
+
+-- Blocks that are picked by number
+
+abbrev pub picked : (ℕ → Bool) → List BlockView → List BlockView
+picked p bs = filter (λ b. p b.number) bs
+
+in_cond : (t : Bool) (b : BlockView) (bs : List BlockView) (n : ℕ)
+    → is_in n (numbers_of (if t then b ∷ bs else bs)) ≡ (if t then (b.number == n) || is_in n (numbers_of bs) else is_in n
+    (numbers_of bs))
+in_cond true b bs n = refl
+in_cond false b bs n = refl
+
+picks : (p : ℕ → Bool) (m n : ℕ) (rest t u : Bool) → p m ≡ t → (m == n) ≡ u → (rest ≡ true → p n ≡ true)
+    → (if t then u || rest else rest) ≡ true → p n ≡ true
+picks p m n rest true true e f more is = ap p (sym (eqb-true m n f)) ∙ e
+picks p m n rest true false e f more is = more is
+picks p m n rest false u e f more is = more is
+
+pub in_picked : (p : ℕ → Bool) (bs : List BlockView) (n : ℕ) → is_in n (numbers_of (picked p bs)) ≡ true → p n ≡ true
+in_picked p [] n is = cc
+in_picked p (b ∷ bs) n is =
+    picks p b.number n _ (p b.number) (b.number == n) refl refl (in_picked p bs n) (sym (in_cond (p b.number) b (picked p bs) n)
+    ∙ is)
+
+picked_by : (p : ℕ → Bool) (m n : ℕ) (rest more t u : Bool) → p m ≡ t → (m == n) ≡ u → p n ≡ true → (more ≡ true → rest ≡ true)
+    → (u || more) ≡ true
+    → (if t then u || rest else rest) ≡ true
+picked_by p m n rest more true true e f pass h is = refl
+picked_by p m n rest more true false e f pass h is = h is
+picked_by p m n rest more false true e f pass h is = absurd (true≢false (sym (ap p (eqb-true m n f) ∙ pass) ∙ e))
+picked_by p m n rest more false false e f pass h is = h is
+
+pub picked_in : (p : ℕ → Bool) (bs : List BlockView) (n : ℕ) → p n ≡ true → is_in n (numbers_of bs) ≡ true
+    → is_in n (numbers_of (picked p bs)) ≡ true
+picked_in p [] n pass is = is
+picked_in p (b ∷ bs) n pass is =
+    in_cond (p b.number) b (picked p bs) n
+    ∙ picked_by p b.number n _ _ (p b.number) (b.number == n) refl refl pass (picked_in p bs n pass) is
+
+none_of : (t u rest more : Bool) → (more ≡ false → rest ≡ false) → (u || more) ≡ false → (if t then u || rest else rest) ≡ false
+none_of true true rest more h is = is
+none_of true false rest more h is = h is
+none_of false true rest more h is = cc
+none_of false false rest more h is = h is
+
+not_picked : (p : ℕ → Bool) (bs : List BlockView) (n : ℕ) → is_in n (numbers_of bs) ≡ false
+    → is_in n (numbers_of (picked p bs)) ≡ false
+not_picked p [] n is = refl
+not_picked p (b ∷ bs) n is = in_cond (p b.number) b (picked p bs) n
+    ∙ none_of (p b.number) (b.number == n) _ _ (not_picked p bs n) is
+
+-- those picked are different where all are
+pub picked_apart : (p : ℕ → Bool) (bs : List BlockView) → all_differ (numbers_of bs) ≡ true
+    → all_differ (numbers_of (picked p bs)) ≡ true
+picked_apart p [] is = refl
+picked_apart p (b ∷ bs) is = elim (p b.number) as (λ t. all_differ (numbers_of (if t then b ∷ picked p bs else picked p bs))
+    ≡ true) [
+      | true ↦ rw (not_picked p bs b.number (differ_head b.number (numbers_of bs) is))
+          (picked_apart p bs (differ_tail b.number (numbers_of bs) is))
+      | false ↦ picked_apart p bs (differ_tail b.number (numbers_of bs) is)
+    ]
+
+-- each block picked passes
+pub picked_all : (p : ℕ → Bool) (bs : List BlockView) → All (λ b. p b.number ≡ true) (picked p bs)
+picked_all p [] = λ k d h. absurd (omega arith)
+picked_all p (b ∷ bs) = elim (p b.number) as (λ t. p b.number ≡ t
+    → All (λ x. p x.number ≡ true) (if t then b ∷ picked p bs else picked p bs)) [
+      | true ↦ λ e. All-cons (λ x. p x.number ≡ true) b (picked p bs) e (picked_all p bs)
+      | false ↦ λ e. picked_all p bs
+    ] refl

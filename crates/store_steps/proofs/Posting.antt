@@ -1,0 +1,301 @@
+-- An accepted batch is Take and Fill of each taken block and then one Post, all done.
+use Rattle.std.proofs.Common.{◌≡◌, ℕ, zero, suc, ◌+◌, ◌<◌, ◌≤◌, Bool, true, false, ◌&&◌, ◌||◌, List, [], ◌∷◌, ◌++◌, length}
+use Rattle.std.proofs.Common.{get_or, refl, sym, ap, subst, ◌∙◌, arith, length-append}
+use Rattle.std.specs.Prelude.{slice_get, if◌then◌else◌, All, Contains, nat_lt, nat_le}
+use Rattle.std.specs.List.{list_all}
+use Rattle.std.specs.Option.{option_map}
+use Rattle.std.specs.declared.option.Option.TheVariants.{None, Some}
+use Rattle.std.proofs.lemmas.List.{map-append, length-map}
+use Rattle.std.proofs.lemmas.Bool.{or_right}
+use Rattle.std.proofs.lemmas.Bool.Decides.{nat_tests}
+use Rattle.graph_model.specs.Graph.{Graph}
+use Rattle.graph_model.specs.Limits.{batch_limit}
+use Rattle.graph_model.specs.GraphLimits.{is_within_limits}
+use Rattle.graph_model.specs.Step.{left_by, after_all}
+use Rattle.graph_model.specs.declared.batches.NamedOp.{NamedOp}
+use Rattle.edge_block.specs.Slots.{BlockView}
+use Rattle.row_pages.specs.Rows.{blocks_of, numbers_of}
+use Rattle.graph_version.specs.Versions.{content, is_in}
+use Rattle.graph_version.specs.Edges.{edges_in_block, edges_in_blocks, AreEachOnce}
+use Rattle.graph_version.proofs.Shown.{rows_each_once}
+use Rattle.block_pool.specs.Pools.{Status as PoolStatus, is_born, passes, is_free_at, is_born_at}
+use Rattle.epoch_blocks.specs.declared.states.Status.TheVariants.{Free, Fresh}
+use Rattle.epoch_blocks.specs.declared.states.Version.{Version}
+use Rattle.epoch_core.specs.declared.events.Event.TheVariants.{Post}
+use Rattle.epoch_blocks.specs.Blocks.{is_at, is_fresh, is_listed, all_differ, after_post}
+use Rattle.epoch_core.specs.Worlds.{World, last_blocks}
+use Rattle.epoch_blocks.specs.Versions.{Shows as ShowsGraph, opening_graph, edges_at, edges_of}
+use Rattle.epoch_blocks.specs.Posting.{is_listable, version_by, can_post, graph_after, are_edges_of}
+use Rattle.epoch_core.specs.Posts.{posted}
+use Rattle.epoch_blocks.proofs.Edges.{Decides-edges}
+use Rattle.epoch_blocks.proofs.Lists.{within, and_left, and_right, all_listed, length_enumerated}
+use Rattle.epoch_core.proofs.Changes.{version_next, batches_all}
+use Rattle.epoch_core.proofs.Posted.{status_at}
+use Rattle.store_steps.specs.Journal.{Applied, Ledger, is_legal}
+use Rattle.store_steps.specs.Desks.{DeskView, IsDesk, IsAccepted, last_numbers, ledger_of}
+use Rattle.store_steps.specs.Shown.{SameStatus, Shows}
+use Rattle.store_steps.specs.Steps.{fresh_in, posting, Takes}
+use Rattle.store_steps.proofs.NumberLists.{same_bool, differ_from, number_in, numbers_all, picked, in_picked, picked_in}
+use Rattle.store_steps.proofs.NumberLists.{picked_apart, picked_all}
+use Rattle.store_steps.proofs.ChangedLists.{marked_at, length-marked}
+use Rattle.store_steps.proofs.OneNumber.{number_after}
+use Rattle.store_steps.proofs.Accepting.{exchanged_at}
+use Rattle.store_steps.proofs.OneStatus.{status_by, same_after, free_there, born_mark}
+use Rattle.store_steps.proofs.Filling.{filled_world, fills_done, step_then, AllAre, length-heap_with, heap_else, heap_here}
+use Rattle.store_steps.proofs.Filling.{edges_from}
+
+-- what a legal batch asks of the pool
+pub record IsLegalBatch (pool : List PoolStatus) (taken dropped : List ℕ) : Type 0 where
+  pub free : list_all (is_free_at pool) taken ≡ true
+  pub apart : all_differ taken ≡ true
+  pub born : list_all (is_born_at pool) dropped ≡ true
+  pub dropped_apart : all_differ dropped ≡ true
+
+pub legal_batch : (l : Ledger) (ops : List NamedOp) (taken dropped : List ℕ) → is_legal l (Applied ops taken dropped) ≡ true
+    → IsLegalBatch l.pool taken dropped
+legal_batch l ops taken dropped is = record {
+  free = and_left _ _ (and_left _ _ (and_left _ _ is));
+  apart = and_right _ _ (and_left _ _ (and_left _ _ is));
+  born = and_right _ _ (and_left _ _ is);
+  dropped_apart = and_right _ _ is;
+}
+
+left_more : (bs : List (List NamedOp)) (b : List NamedOp) (g : Graph) → left_by (bs ++ b ∷ []) g ≡ after_all b (left_by bs g)
+left_more [] b g = refl
+left_more (c ∷ cs) b g = left_more cs b (after_all c g)
+
+five : (a b c d e : Bool) → a ≡ true → b ≡ true → c ≡ true → d ≡ true → e ≡ true → (a && b && c && d && e) ≡ true
+five a b c d e p q r s t = rw (p, q, r, s, t) refl
+
+lt_test : (m n : ℕ) → m < n → nat_lt m n ≡ true
+lt_test m n h = grind (arith, nat_tests)
+
+le_test : (m n : ℕ) → m ≤ n → nat_le m n ≡ true
+le_test m n h = grind (arith, nat_tests)
+
+two : (a b : Bool) → a ≡ true → b ≡ true → (a && b) ≡ true
+two a b p q = rw (p, q) refl
+
+left_or : (a b : Bool) → a ≡ true → (a || b) ≡ true
+left_or true b e = refl
+left_or false b e = cc
+
+-- One batch that was accepted
+
+pub record Acceptance : Type 0 where
+  pub old : DeskView
+  pub ops : List NamedOp
+  pub taken : List ℕ
+  pub dropped : List ℕ
+  pub new : DeskView
+  pub before : IsDesk old
+  pub after : IsDesk new
+  pub accepted : IsAccepted old ops taken dropped new
+
+abbrev number_in_desk : Acceptance → ℕ
+number_in_desk a = length a.old.last.batches + 1
+
+abbrev fresh_blocks : Acceptance → List BlockView
+fresh_blocks a = fresh_in a.new.last a.taken
+
+abbrev new_blocks : Acceptance → List BlockView
+new_blocks a = blocks_of a.new.last.rows
+
+legal_in : (a : Acceptance) → IsLegalBatch a.old.pool a.taken a.dropped
+legal_in a = legal_batch (ledger_of a.old) a.ops a.taken a.dropped a.accepted.legal
+
+new_pool : (a : Acceptance) (n : ℕ) → slice_get a.new.pool n ≡ number_after (number_in_desk a) (slice_get a.old.pool n)
+    (is_in n a.taken) (is_in n a.dropped)
+new_pool a n = ap (λ l. slice_get l.pool n) a.accepted.ledger
+    ∙ exchanged_at (number_in_desk a) a.taken a.dropped a.old.pool n (legal_in a).dropped_apart
+
+taken_free : (a : Acceptance) (n : ℕ) → is_in n a.taken ≡ true → is_free_at a.old.pool n ≡ true
+taken_free a n is = all_listed (is_free_at a.old.pool) a.taken n (legal_in a).free is
+
+dropped_born : (a : Acceptance) (n : ℕ) → is_in n a.dropped ≡ true → is_born_at a.old.pool n ≡ true
+dropped_born a n is = all_listed (is_born_at a.old.pool) a.dropped n (legal_in a).born is
+
+-- a taken number is one of the new version's
+taken_listed : (a : Acceptance) (n : ℕ) → is_in n a.taken ≡ true → is_in n (last_numbers a.new) ≡ true
+taken_listed a n is =
+    sym (a.after.listed n) ∙ ap (passes is_born) (new_pool a n)
+    ∙ born_mark (number_in_desk a) (slice_get a.old.pool n) (is_in n a.taken) (is_in n a.dropped) (taken_free a n)
+    (dropped_born a n) is
+
+-- the fresh blocks' numbers are those taken
+fresh_taken : (a : Acceptance) (n : ℕ) → is_in n (numbers_of (fresh_blocks a)) ≡ is_in n a.taken
+fresh_taken a n =
+    same_bool _ _ (in_picked (λ m. is_in m a.taken) (new_blocks a) n)
+    (λ is. picked_in (λ m. is_in m a.taken) (new_blocks a) n is (taken_listed a n is))
+
+fresh_apart : (a : Acceptance) → all_differ (numbers_of (fresh_blocks a)) ≡ true
+fresh_apart a = picked_apart (λ m. is_in m a.taken) (new_blocks a)
+    (differ_from (numbers_of (new_blocks a)) a.after.version.rows.numbers)
+
+-- The machine beside it
+
+abbrev ready : Acceptance → World → World
+ready a w = filled_world w (fresh_blocks a)
+
+fresh_free : (a : Acceptance) (w : World) → Shows a.old w → AllAre Free w.status (fresh_blocks a)
+fresh_free a w shows k d h =
+    let n : ℕ = (get_or (fresh_blocks a) k d).number in
+    free_there (slice_get a.old.pool n) (slice_get w.status n) (shows.status n)
+    (taken_free a n (picked_all (λ m. is_in m a.taken) (new_blocks a) k d h))
+
+fresh_within : (a : Acceptance) (w : World) → Shows a.old w → All (λ b. b.number < length w.heap) (fresh_blocks a)
+fresh_within a w shows k d h =
+    let lt = within w.status (get_or (fresh_blocks a) k d).number Free (fresh_free a w shows k d h) in let same =
+    shows.sizes in omega arith
+
+ready_status : (a : Acceptance) (w : World) (n : ℕ) → slice_get (ready a w).status n
+    ≡ (if is_in n a.taken then option_map (λ _. Fresh) (slice_get w.status n) else slice_get w.status n)
+ready_status a w n =
+    marked_at (numbers_of (fresh_blocks a)) Fresh w.status n
+    ∙ ap (λ t. if t then option_map (λ _. Fresh) (slice_get w.status n) else slice_get w.status n) (fresh_taken a n)
+
+-- a block of the new version has its edges in the machine, and may be listed
+pub record IsPlaced (a : Acceptance) (w : World) (b : BlockView) : Type 0 where
+  pub edges : edges_at (ready a w).heap b.number ≡ edges_in_block b
+  pub listable : is_listable (ready a w).status (last_blocks w) b.number ≡ true
+
+taken_placed : (a : Acceptance) (w : World) → Shows a.old w → (b : BlockView) → Contains (fresh_blocks a) b
+    → is_in b.number a.taken ≡ true → IsPlaced a w b
+taken_placed a w shows b (k, h, at) is = record {
+  edges = subst (λ x. edges_at (ready a w).heap x.number ≡ edges_in_block x) at
+      (heap_here (fresh_blocks a) w.heap (fresh_within a w shows) (fresh_apart a) k b h);
+  listable =
+      let free : slice_get w.status b.number ≡ Some Free =
+      free_there (slice_get a.old.pool b.number) (slice_get w.status b.number) (shows.status b.number)
+      (taken_free a b.number is) in
+      let fresh : slice_get (ready a w).status b.number ≡ Some Fresh = ready_status a w b.number ∙ rw (is, free) refl in
+      left_or (is_at is_fresh (slice_get (ready a w).status b.number)) (is_listed b.number (last_blocks w))
+      (ap (is_at is_fresh) fresh);
+}
+
+contains_picked : (p : ℕ → Bool) (bs : List BlockView) (b : BlockView) (k : ℕ) → k < length bs → get_or bs k b ≡ b
+    → p b.number ≡ true → Contains (picked p bs) b
+contains_picked p [] b k h at is = absurd (omega arith)
+contains_picked p (c ∷ cs) b zero h at is =
+    let same : p c.number ≡ true = ap (λ x. p x.number) at ∙ is in
+    rw same (0, omega arith, at)
+contains_picked p (c ∷ cs) b (suc k) h at is =
+    let rest : Contains (picked p cs) b = contains_picked p cs b k (omega arith) at is in
+    elim (p c.number) as (λ t. Contains (if t then c ∷ picked p cs else picked p cs) b) [
+      | true ↦ (suc rest.0, omega (arith, rest.1), rest.2)
+      | false ↦ rest
+    ]
+
+kept_placed : (a : Acceptance) (w : World) → Shows a.old w → (b : BlockView) → Contains (blocks_of a.old.last.rows) b
+    → is_in b.number a.taken ≡ false → IsPlaced a w b
+kept_placed a w shows b (k, h, at) is = record {
+  edges =
+      heap_else (fresh_blocks a) w.heap b.number (fresh_taken a b.number ∙ is)
+      ∙ subst (λ x. edges_at w.heap x.number ≡ edges_in_block x) at (shows.edges k b h);
+  listable = or_right (is_at is_fresh (slice_get (ready a w).status b.number)) (is_listed b.number (last_blocks w))
+      (ap (is_in b.number) shows.blocks ∙ number_in (blocks_of a.old.last.rows) b k h at);
+}
+
+get_or_default : (bs : List BlockView) (k : ℕ) (d e : BlockView) → k < length bs → get_or bs k d ≡ get_or bs k e
+get_or_default [] k d e h = absurd (omega arith)
+get_or_default (b ∷ bs) zero d e h = refl
+get_or_default (b ∷ bs) (suc k) d e h = get_or_default bs k d e (omega arith)
+
+placed : (a : Acceptance) (w : World) → Shows a.old w → All (IsPlaced a w) (new_blocks a)
+placed a w shows k d h =
+    let b : BlockView = get_or (new_blocks a) k d in
+    let at : get_or (new_blocks a) k b ≡ b = get_or_default (new_blocks a) k b d h in
+    elim (is_in b.number a.taken) as (λ t. is_in b.number a.taken ≡ t → IsPlaced a w b) [
+      | true ↦ λ is. taken_placed a w shows b (contains_picked (λ m. is_in m a.taken) (new_blocks a) b k h at is) is
+      | false ↦ λ is. kept_placed a w shows b (a.accepted.kept k d h is) is
+    ] refl
+
+same_count : (a : Acceptance) (w : World) → Shows a.old w → length w.versions ≡ length a.old.last.batches
+same_count a w shows = sym (length-map w.versions (λ v. v.batch)) ∙ ap length shows.batches
+
+new_batches : (a : Acceptance) → a.new.last.batches ≡ a.old.last.batches ++ a.ops ∷ []
+new_batches a = ap (λ l. l.batches) a.accepted.ledger
+
+-- the graph that the batch leaves
+graph_left : (a : Acceptance) (w : World) → Shows a.old w → graph_after w.opening w.versions a.ops ≡ content a.new.last
+graph_left a w shows =
+    ap (λ bs. after_all a.ops (left_by bs (opening_graph w.opening))) (batches_all w.versions ∙ shows.batches)
+    ∙ ap (λ g. after_all a.ops (left_by a.old.last.batches g)) (shows.opening ∙ sym a.accepted.opening)
+    ∙ sym (left_more a.old.last.batches a.ops a.new.last.opening)
+    ∙ ap (λ bs. left_by bs a.new.last.opening) (sym (new_batches a))
+
+posts : (a : Acceptance) (w : World) → Shows a.old w → can_post w.opening (ready a w).heap (ready a w).status w.versions a.ops
+    (last_numbers a.new) ≡ true
+posts a w shows =
+    let all = placed a w shows in
+    let same = same_count a w shows in
+    let longer : length a.new.last.batches ≡ length a.old.last.batches + 1 = ap length (new_batches a)
+    ∙ length-append a.old.last.batches (a.ops ∷ []) in
+    let few = a.after.version.small.count in
+    let graph = graph_left a w shows in
+    let each : AreEachOnce (edges_in_blocks (new_blocks a)) (content a.new.last) =
+    rows_each_once (content a.new.last) a.new.last.rows a.after.version.rows in
+    let there : edges_of (ready a w).heap (last_numbers a.new) ≡ edges_in_blocks (new_blocks a) =
+    edges_from (ready a w).heap (new_blocks a) (λ k d h. (all k d h).edges) in
+    let shown : ShowsGraph (edges_in_blocks (new_blocks a)) (content a.new.last) =
+    record { once = each.once; same = each.same } in
+    five _ _ _ _ _ (lt_test (length w.versions) batch_limit (omega arith))
+    (numbers_all (is_listable (ready a w).status (last_blocks w)) (new_blocks a) (λ k d h. (all k d h).listable))
+    (differ_from (last_numbers a.new) a.after.version.rows.numbers)
+    (ap is_within_limits graph ∙ two _ _ (le_test _ _ a.after.version.small.names) (le_test _ _ a.after.version.small.kinds))
+    (ap (λ x. are_edges_of x (edges_of (ready a w).heap (last_numbers a.new))) graph
+    ∙ ap (are_edges_of (content a.new.last)) there
+    ∙ (Decides-edges (content a.new.last) (edges_in_blocks (new_blocks a))).1 shown)
+
+abbrev posted_world : Acceptance → World → World
+posted_world a w = posted (ready a w) a.ops (last_numbers a.new)
+
+status_posted : (a : Acceptance) (w : World) → Shows a.old w → (n : ℕ)
+    → SameStatus (slice_get a.new.pool n) (slice_get (posted_world a w).status n)
+status_posted a w shows n =
+    let listed : is_in n (last_numbers a.new) ≡ passes is_born
+    (number_after (number_in_desk a) (slice_get a.old.pool n) (is_in n a.taken) (is_in n a.dropped)) =
+    sym (a.after.listed n) ∙ ap (passes is_born) (new_pool a n) in
+    let machine : slice_get (posted_world a w).status n
+    ≡ status_by (number_in_desk a) (passes is_born (number_after (number_in_desk a) (slice_get a.old.pool n) (is_in n a.taken)
+    (is_in n a.dropped))) (slice_get w.status n) (is_in n a.taken) =
+    status_at (length w.versions + 1) (last_numbers a.new) (ready a w).status n
+    ∙ ap (option_map (after_post (length w.versions + 1) (is_in n (last_numbers a.new)))) (ready_status a w n)
+    ∙ ap (λ m. status_by (m + 1) (is_in n (last_numbers a.new)) (slice_get w.status n) (is_in n a.taken)) (same_count a w shows)
+    ∙ ap (λ t. status_by (number_in_desk a) t (slice_get w.status n) (is_in n a.taken)) listed in
+    subst (λ o. SameStatus o (slice_get (posted_world a w).status n)) (sym (new_pool a n))
+    (subst (SameStatus (number_after (number_in_desk a) (slice_get a.old.pool n) (is_in n a.taken) (is_in n a.dropped)))
+    (sym machine)
+    (same_after (number_in_desk a) (slice_get a.old.pool n) (slice_get w.status n) (is_in n a.taken) (is_in n a.dropped)
+    (shows.status n) (taken_free a n) (dropped_born a n)))
+
+shows_posted : (a : Acceptance) (w : World) → Shows a.old w → Shows a.new (posted_world a w)
+shows_posted a w shows =
+    let v : Version = version_by w.opening w.versions a.ops (last_numbers a.new) in
+    let all = placed a w shows in
+    record {
+      opening = shows.opening ∙ sym a.accepted.opening;
+      batches = map-append (λ u. u.batch) w.versions (v ∷ []) ∙ ap (λ bs. bs ++ a.ops ∷ []) shows.batches ∙ sym (new_batches a);
+      blocks = ap (λ u. u.blocks) (version_next w.opening w.versions v);
+      edges = λ k d h. (all k d h).edges;
+      status = status_posted a w shows;
+      sizes =
+          length-heap_with (fresh_blocks a) w.heap ∙ shows.sizes
+          ∙ sym (length-marked (numbers_of (fresh_blocks a)) Fresh w.status)
+          ∙ sym (length_enumerated (λ p. after_post (length w.versions + 1) (is_listed p.0 (last_numbers a.new)) p.1) 0
+          (ready a w).status);
+    }
+
+-- an accepted batch is Take and Fill of each taken block, and then one Post of it over kept and taken blocks, all done
+pub accepted_takes : (a : Acceptance) → Takes a.old (posting a.new.last a.ops a.taken) a.new
+accepted_takes a w shows = record {
+  after = posted_world a w;
+  done =
+      fills_done (fresh_blocks a) (Post a.ops (last_numbers a.new) ∷ []) w (fresh_free a w shows) (fresh_apart a)
+      ∙ step_then (Post a.ops (last_numbers a.new)) [] (ready a w) (posted_world a w)
+      (ap (λ t. if t then Some (posted_world a w) else None) (posts a w shows));
+  shown = shows_posted a w shows;
+  floor = refl;
+  copy = refl;
+  sessions = refl;
+}

@@ -1,0 +1,5 @@
+use Rattle.store_steps.proofs.Reached.{stays_reached}
+use Rattle.store_steps.proofs.laws.law_stays_reached.Goals as goal
+
+pub returns : goal.returns
+returns c = stays_reached

@@ -1,0 +1,169 @@
+-- Small stores worked out by hand: journals that replay and journals that don't, a desk and a world that it shows, the
+-- events of a batch and of a collection, and a board beside sessions.
+use Rattle.std.specs.Prelude.{◌≡◌, pos, ℕ, List, [], ◌∷◌, ◌++◌, map, replicate, true, false, Some, None}
+use Rattle.std.specs.List.{range_with_len}
+use Rattle.graph_model.specs.Step.{empty_graph}
+use Rattle.edge_block.specs.Slots.{BlockView, edge_slot}
+use Rattle.block_layout.specs.Rows.{OpenBlock, Shape, row_end}
+use Rattle.block_layout.specs.Examples.{insert_at, remove_at, row_by, many}
+use Rattle.batch_shards.specs.Births.{births_end, births_dropped}
+use Rattle.block_pool.specs.Pools.{Status as PoolStatus, Free as PoolFree, Granted as PoolGranted, Used as PoolUsed}
+use Rattle.block_pool.specs.Pools.{Retired as PoolRetired}
+use Rattle.pin_copy.specs.declared.copies.PinCopy.{PinCopy}
+use Rattle.pin_copy.specs.Copies.{no_copy}
+use Rattle.epoch_blocks.specs.declared.states.Status.TheVariants.{Free, Fresh, Used, Retired}
+use Rattle.epoch_core.specs.declared.states.SessionState.TheVariants.{Idle, Pinned, Holding}
+use Rattle.epoch_core.specs.declared.events.Event.TheVariants.{Take, Fill, Post, Recycle, Pin, Enter}
+use Rattle.epoch_core.specs.Examples.{name_a, name_b, kind_k, put_edge, edge_of}
+use Rattle.epoch_core.specs.Worlds.{World, empty_opening, start_world, session_of, held_in}
+use Rattle.seat_board.specs.Board.{BoardState, no_pins, with_pin, unsettled}
+use Rattle.store_steps.specs.Journal.{Entry, Applied, Collected, empty_ledger, replay}
+use Rattle.store_steps.specs.Desks.{DeskView, desk_after, collections}
+use Rattle.store_steps.specs.Shown.{Shows}
+use Rattle.store_steps.specs.Boards.{ShowsBoard}
+use Rattle.store_steps.specs.Steps.{all_done, posting, recycling}
+use Rattle.store_steps.specs.Opening.{opened_desk}
+use Rattle.store_steps.specs.Reached.{world_by}
+
+-- a copy without pins
+abbrev pub unpinned : ℕ → PinCopy
+unpinned last = record no_copy { last = last }
+
+-- a copy with one settled pin, and one with an unsettled pin
+abbrev pub settled_at : ℕ → ℕ → PinCopy
+settled_at last pin = record no_copy { last = last; settled = Some pin ∷ replicate 15 None }
+
+abbrev pub unsettled_at : ℕ → ℕ → PinCopy
+unsettled_at last pin = record no_copy { last = last; unsettled = Some pin ∷ replicate 15 None }
+
+-- Journals, over four blocks
+
+-- the first batch takes blocks 0 and 1; the second takes 2 and drops 0, which version 2 so retires
+abbrev pub two_batches : List Entry
+two_batches = Applied (put_edge (pos 1) 1) (0 ∷ 1 ∷ []) [] ∷ Applied (put_edge (pos 2) 2) (2 ∷ []) (0 ∷ []) ∷ []
+
+-- Desks
+
+-- the edge from a to b, in block 1
+abbrev pub block_one : BlockView
+block_one = record { number = 1; source = 0; kind = 0; slots = Some (edge_slot 1 (pos 1) 1 1) ∷ replicate 31 None }
+
+-- a desk of three blocks that has accepted the edge, in block 1
+abbrev pub desk_of_edge : DeskView
+desk_of_edge = record {
+  last = record { opening = empty_graph; batches = put_edge (pos 1) 1 ∷ []; rows = (block_one ∷ []) ∷ [] };
+  journal = Applied (put_edge (pos 1) 1) (1 ∷ []) [] ∷ [];
+  pool = PoolFree ∷ PoolUsed 1 ∷ PoolFree ∷ [];
+}
+
+-- the machine's world after the edge was posted; block 1 was born with version 1
+abbrev pub world_of_edge : World
+world_of_edge = record {
+  opening = empty_opening;
+  heap = [] ∷ edge_of (pos 1) 1 ∷ [] ∷ [];
+  status = Free ∷ Used 1 ∷ Free ∷ [];
+  versions = record { batch = put_edge (pos 1) 1; blocks = 1 ∷ []; names = name_a ∷ name_b ∷ []; kinds = kind_k ∷ [] } ∷ [];
+  floor = 0;
+  copy = no_copy;
+  sessions = Idle ∷ [];
+}
+
+-- Births, of the rows that batches leave; each of them is version 7's
+
+-- a row of one full block
+abbrev pub full : List Shape
+full = row_end (row_by (map insert_at (range_with_len 0 32)) [])
+
+-- the births that operations leave of a row, and those of the blocks that they drop
+pub record Bears (row : List OpenBlock) (births after dropped : List ℕ) : Type 0 where
+  pub births_are : births_end 7 row births ≡ after
+  pub dropped_are : births_dropped row births ≡ dropped
+
+-- Collections
+
+-- a pool in which version 2 retired block 0, and version 3 block 2, which was born with it
+abbrev pub retired_pool : List PoolStatus
+retired_pool = PoolRetired 1 2 ∷ PoolUsed 1 ∷ PoolRetired 2 3 ∷ PoolFree ∷ []
+
+abbrev pub retired_world : World
+retired_world = record (start_world 0 0) {
+  status = Retired 1 2 ∷ Used 1 ∷ Retired 2 3 ∷ Free ∷ [];
+  copy = settled_at 3 1;
+}
+
+-- Boards
+
+-- seat 0 is pinned at floor 1, and seat 1 settled at 2
+abbrev pub board_of_two : BoardState
+board_of_two = record {
+  floor = 1;
+  pins = Some (record { number = 1; is_settled = false }) ∷ Some (record { number = 2; is_settled = true }) ∷ replicate 14 None;
+}
+
+abbrev pub world_of_two : World
+world_of_two = record (start_world 0 0) {
+  floor = 1;
+  sessions = Pinned 1 ∷ Holding (record { pin = 2; settled = true; version = 2 }) ∷ Idle ∷ [];
+}
+
+pub record AreExamples : Type 0 where
+  -- two batches leave block 0 retired with number 2; a collection without pins frees it
+  pub batches : replay two_batches (empty_ledger 4)
+      ≡ Some (record {
+        batches = put_edge (pos 1) 1 ∷ put_edge (pos 2) 2 ∷ [];
+        pool = PoolRetired 1 2 ∷ PoolUsed 1 ∷ PoolUsed 2 ∷ PoolFree ∷ [];
+      })
+  pub collection : replay (two_batches ++ Collected (unpinned 2) 1 ∷ []) (empty_ledger 4)
+      ≡ Some (record {
+        batches = put_edge (pos 1) 1 ∷ put_edge (pos 2) 2 ∷ [];
+        pool = PoolFree ∷ PoolUsed 1 ∷ PoolUsed 2 ∷ PoolFree ∷ [];
+      })
+  -- no journal: a block taken that is used, or past the last; one taken twice; one dropped that isn't the last version's
+  pub taken_used : replay (two_batches ++ Applied [] (1 ∷ []) [] ∷ []) (empty_ledger 4) ≡ None
+  pub taken_past : replay (two_batches ++ Applied [] (4 ∷ []) [] ∷ []) (empty_ledger 4) ≡ None
+  pub taken_twice : replay (two_batches ++ Applied [] (3 ∷ 3 ∷ []) [] ∷ []) (empty_ledger 4) ≡ None
+  pub dropped_retired : replay (two_batches ++ Applied [] [] (0 ∷ []) ∷ []) (empty_ledger 4) ≡ None
+  -- nor: a collection by a copy made before the block was retired, or with a pin that needs it, one past the last version, one
+  -- that recycles nothing
+  pub collected_early : replay (two_batches ++ Collected (unpinned 1) 1 ∷ []) (empty_ledger 4) ≡ None
+  pub collected_settled : replay (two_batches ++ Collected (settled_at 2 1) 1 ∷ []) (empty_ledger 4) ≡ None
+  pub collected_unsettled : replay (two_batches ++ Collected (unsettled_at 2 0) 1 ∷ []) (empty_ledger 4) ≡ None
+  pub collected_late : replay (two_batches ++ Collected (unpinned 3) 1 ∷ []) (empty_ledger 4) ≡ None
+  pub collected_nothing : replay (two_batches ++ Collected (unpinned 1) 0 ∷ []) (empty_ledger 4) ≡ None
+  -- the desk shows the world after the edge; not one in which block 1 is fresh, or was born later
+  pub desk : Shows desk_of_edge world_of_edge
+  pub later : (w : World) → Shows desk_of_edge (record w { status = Free ∷ Used 2 ∷ Free ∷ [] }) → ⊥
+  pub fresh : (w : World) → Shows desk_of_edge (record w { status = Free ∷ Fresh ∷ Free ∷ [] }) → ⊥
+  -- the events of the batch, of which Take and Fill are done from the start
+  pub posted : posting desk_of_edge.last (put_edge (pos 1) 1) (1 ∷ [])
+      ≡ Take 1 ∷ Fill 1 (edge_of (pos 1) 1) ∷ Post (put_edge (pos 1) 1) (1 ∷ []) ∷ []
+  pub filled : all_done (Take 1 ∷ Fill 1 (edge_of (pos 1) 1) ∷ []) (start_world 1 3)
+      ≡ Some (record (start_world 1 3) { heap = [] ∷ edge_of (pos 1) 1 ∷ [] ∷ []; status = Free ∷ Fresh ∷ Free ∷ [] })
+  -- a block that was kept is neither taken nor filled again
+  pub kept : posting desk_of_edge.last [] [] ≡ Post [] (1 ∷ []) ∷ []
+  -- under a pin settled at 1 block 2 alone goes, which was born later; under one settled at 2 block 0 alone, which was retired
+  -- by then; under one unsettled at 1 none
+  pub recycled : recycling (settled_at 3 1) retired_pool ≡ Recycle 2 ∷ []
+  pub recycled_behind : recycling (settled_at 3 2) retired_pool ≡ Recycle 0 ∷ []
+  pub none_recycled : recycling (unsettled_at 3 1) retired_pool ≡ []
+  pub freed : all_done (recycling (settled_at 3 1) retired_pool) retired_world
+      ≡ Some (record retired_world { status = Retired 1 2 ∷ Used 1 ∷ Free ∷ Free ∷ [] })
+  pub needed : all_done (recycling (settled_at 3 2) retired_pool) retired_world ≡ None
+  -- the batch, applied to the opening, leaves that desk; a collection that recycles nothing has no entry
+  pub accepted : desk_after (opened_desk 3) (put_edge (pos 1) 1) desk_of_edge.last (1 ∷ []) [] ≡ desk_of_edge
+  pub entry : collections (unpinned 2) 1 ≡ Collected (unpinned 2) 1 ∷ []
+  pub no_entry : collections (unpinned 2) 0 ≡ []
+  -- a touched block is dropped and born anew, and the one behind it keeps its birth
+  pub touched : Bears (row_by (remove_at 0 ∷ insert_at 33 ∷ []) (row_end many)) (3 ∷ 5 ∷ []) (7 ∷ 5 ∷ []) (3 ∷ [])
+  -- a block that is appended is born, and none is dropped
+  pub appended : Bears (row_by (insert_at 32 ∷ []) full) (3 ∷ []) (3 ∷ 7 ∷ []) []
+  -- a block that is emptied is dropped, and the one behind it comes first
+  pub emptied : Bears (row_by (map remove_at (range_with_len 0 32)) (row_end many)) (3 ∷ 5 ∷ []) (5 ∷ []) (3 ∷ [])
+  -- an operation without effect drops nothing
+  pub untouched : Bears (row_by (remove_at 40 ∷ []) (row_end many)) (3 ∷ 5 ∷ []) (3 ∷ 5 ∷ []) []
+  -- Pin is what pinning a seat of the opening leaves; Enter then takes hold of version 0
+  pub pinned : ShowsBoard (with_pin no_pins 0 (Some (unsettled 0))) (world_by 1 3 (Pin 0 ∷ []))
+  pub entered : held_in (session_of (world_by 1 3 (Pin 0 ∷ Enter 0 ∷ [])) 0) ≡ Some 0
+  -- the board shows the sessions' pins, settled and unsettled
+  pub board : ShowsBoard board_of_two world_of_two
+  pub settled : (w : World) → ShowsBoard board_of_two (record w { sessions = Pinned 1 ∷ Pinned 2 ∷ [] }) → ⊥

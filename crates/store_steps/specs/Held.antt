@@ -1,0 +1,28 @@
+-- What a session holds, where the desk and the board show a run of the machine.
+use Rattle.std.specs.Prelude.{◌≡◌, ℕ, ◌≤◌, false, List, length, take, slice_get, Some, IsTrue}
+use Rattle.graph_model.specs.Step.{left_by}
+use Rattle.block_pool.specs.Pools.{is_free, is_past, passes}
+use Rattle.epoch_core.specs.declared.events.Event.{Event}
+use Rattle.epoch_blocks.specs.Blocks.{is_listed}
+use Rattle.epoch_core.specs.Worlds.{World, session_of, held_in}
+use Rattle.epoch_blocks.specs.Versions.{Shows as ShowsGraph, blocks_at, edges_of}
+use Rattle.pin_copy.specs.declared.copies.PinCopy.{PinCopy}
+use Rattle.seat_board.specs.Board.{BoardState}
+use Rattle.store_steps.specs.Desks.{DeskView}
+use Rattle.store_steps.specs.Reached.{world_by, IsReached}
+
+-- version n as the desk and the machine show it now: its blocks have, each once, the edges that the desk's first n
+-- batches leave; and none of its blocks is free, or freed by a collection by the copy made last
+pub record IsSnapshot (d : DeskView) (copy : PinCopy) (w : World) (n : ℕ) : Type 0 where
+  pub within : n ≤ length d.last.batches
+  pub shown : ShowsGraph (edges_of w.heap (blocks_at w.opening w.versions n)) (left_by (take n d.last.batches) d.last.opening)
+  pub in_use : (c : ℕ) → IsTrue (is_listed c (blocks_at w.opening w.versions n)) → passes is_free (slice_get d.pool c) ≡ false
+  pub kept : (c : ℕ) → IsTrue (is_listed c (blocks_at w.opening w.versions n))
+      → passes (is_past copy) (slice_get d.pool c) ≡ false
+
+-- whatever the run: the version that a session holds is such a one
+abbrev pub HeldIsSnapshot : Type 0
+HeldIsSnapshot =
+    (sessions blocks : ℕ) (events : List Event) (d : DeskView) (b : BoardState) (copy : PinCopy) (s n : ℕ)
+    → IsReached sessions blocks events d b copy → held_in (session_of (world_by sessions blocks events) s) ≡ Some n
+    → IsSnapshot d copy (world_by sessions blocks events) n

@@ -1,0 +1,31 @@
+-- The steps of the store's calls inside whole runs of the machine.
+use Rattle.std.specs.Prelude.{◌≡◌, ℕ, List}
+use Rattle.std.specs.declared.option.Option.TheVariants.{Some}
+use Rattle.epoch_core.specs.declared.events.Event.{Event}
+use Rattle.epoch_core.specs.declared.events.Event.TheVariants.{Enter, Ask, Read, Reply}
+use Rattle.epoch_core.specs.Worlds.{World}
+use Rattle.epoch_core.specs.Machine.{step}
+use Rattle.epoch_core.specs.Runs.{run}
+use Rattle.graph_model.specs.declared.requests.Request.{Request}
+use Rattle.seat_board.specs.Board.{BoardState}
+use Rattle.store_steps.specs.Desks.{DeskView}
+use Rattle.store_steps.specs.Shown.{Shows}
+use Rattle.store_steps.specs.Boards.{ShowsBoard}
+use Rattle.store_steps.specs.Steps.{all_done}
+
+-- events that are all done are a run of the machine
+abbrev pub DoneIsRun : Type 0
+DoneIsRun = (events : List Event) (w after : World) → all_done events w ≡ Some after → run events w ≡ after
+
+-- a step that neither the desk nor the board sees
+abbrev pub IsUnseen : Event → Type 0
+IsUnseen event =
+    (d : DeskView) (b : BoardState) (w after : World) → step w event ≡ Some after → Shows d w → ShowsBoard b w
+    → Shows d after × ShowsBoard b after × (after.copy ≡ w.copy)
+
+-- entering, asking, reading and replying are such steps
+pub record ReadersAreUnseen : Type 0 where
+  pub enter : (s : ℕ) → IsUnseen (Enter s)
+  pub ask : (s : ℕ) (request : Request) → IsUnseen (Ask s request)
+  pub read : (s : ℕ) → IsUnseen (Read s)
+  pub reply : (s : ℕ) → IsUnseen (Reply s)

@@ -1,0 +1,128 @@
+//! The laws of the journal, the desk and the board, as contracts of functions that do nothing.
+
+ghost use Rattle.std.specs.Prelude.{◌≡◌, ℕ, ◌+◌, ◌≤◌, List, [], ◌∷◌, ◌++◌, length, true, false, None};
+ghost use Rattle.std.specs.Option.{option_and_then};
+ghost use Rattle.graph_model.specs.declared.batches.NamedOp.{NamedOp};
+ghost use Rattle.edge_block.specs.Slots.{BlockView};
+ghost use Rattle.row_pages.specs.Rows.{numbers_of};
+ghost use Rattle.graph_version.specs.Versions.{VersionView, is_in};
+ghost use Rattle.pin_copy.specs.declared.copies.PinCopy.{PinCopy};
+ghost use Rattle.block_pool.specs.Pools.{Free, Granted, Used, retired, is_free_at, is_born_at, marked, changed};
+ghost use Rattle.store_steps.specs.Journal.{Entry, Applied, Ledger, entered, replay};
+ghost use Rattle.store_steps.specs.Desks.{DeskView, IsDesk, IsAppliedTo, IsAccepted, IsCollected, AcceptedCounts};
+ghost use Rattle.store_steps.specs.Desks.{CollectedCounts, desk_after};
+ghost use Rattle.store_steps.specs.Steps.{Takes, TakesAt, posting, recycling};
+ghost use Rattle.store_steps.specs.Boards.{PinsAsMachine, SettlesAsMachine, UnpinsAsMachine, RaisesAsMachine};
+ghost use Rattle.store_steps.specs.Histories.{DoneIsRun, ReadersAreUnseen};
+ghost use Rattle.store_steps.specs.Opening.{OpensAsMachine};
+ghost use Rattle.store_steps.specs.Reached.{StaysReached};
+ghost use Rattle.store_steps.specs.Held.{HeldIsSnapshot};
+ghost use Rattle.store_steps.specs.Dates.{AreDated};
+ghost use Rattle.store_steps.specs.Examples.{AreExamples};
+
+/// Replay of a journal.
+///
+/// - `appended`: a journal with one entry more replays to that entry entered into what the journal leaves.
+/// - `taken_is_free`, `dropped_is_listed`: no batch is entered that takes a block that isn't free, or drops one that
+///   isn't the last version's.
+pub fn law_journal()
+    ensures appended { (es : List Entry) (e : Entry) (l : Ledger) → replay (es ++ e ∷ []) l
+        ≡ option_and_then (λ m. entered m e) (replay es l) }
+    ensures taken_is_free { (l : Ledger) (batch : List NamedOp) (taken dropped : List ℕ) (n : ℕ)
+        → is_in n taken ≡ true → is_free_at l.pool n ≡ false → entered l (Applied batch taken dropped) ≡ None }
+    ensures dropped_is_listed { (l : Ledger) (batch : List NamedOp) (taken dropped : List ℕ) (n : ℕ)
+        → is_in n dropped ≡ true → is_born_at l.pool n ≡ false → entered l (Applied batch taken dropped) ≡ None }
+{}
+
+/// A batch that was applied to a desk's last version with granted blocks.
+///
+/// - `accepted`: the desk with the new version, the journal's entry and the blocks exchanged has accepted the batch, and
+///   nothing else: its layout is the layout rule's, and it took and dropped as many blocks as the rule says.
+/// - `desk`: it is a desk: its journal replays to what it shows.
+/// - `moves`: its pool is what the moves of blocks leave, one set after another: all the blocks granted, the taken ones born
+///   with the new version's number, the dropped ones retired with it, the unused ones given back.
+/// - `steps`: in each world of the machine that the desk showed, Take and Fill of each taken block and one Post of the
+///   batch are all done, and leave a world that the new desk shows.
+/// - `counts`: free falls by as many blocks as it takes, and retired grows by as many as it drops, each with its birth
+///   and the new version's number.
+pub fn law_accepted()
+    ensures accepted { (old : DeskView) (ops : List NamedOp) (numbers : List ℕ) (version : VersionView) (taken : List ℕ)
+        (dropped : List BlockView) (unused : List ℕ) → IsDesk old → IsAppliedTo old ops numbers version taken dropped unused
+        → IsAccepted old ops taken (numbers_of dropped) (desk_after old ops version taken dropped) }
+    ensures desk { (old : DeskView) (ops : List NamedOp) (numbers : List ℕ) (version : VersionView) (taken : List ℕ)
+        (dropped : List BlockView) (unused : List ℕ) → IsDesk old → IsAppliedTo old ops numbers version taken dropped unused
+        → IsDesk (desk_after old ops version taken dropped) }
+    ensures moves { (old : DeskView) (ops : List NamedOp) (numbers : List ℕ) (version : VersionView) (taken : List ℕ)
+        (dropped : List BlockView) (unused : List ℕ) → IsDesk old → IsAppliedTo old ops numbers version taken dropped unused
+        → marked unused Free (changed (retired (length old.last.batches + 1)) (numbers_of dropped)
+        (marked taken (Used (length old.last.batches + 1)) (marked numbers Granted old.pool)))
+        ≡ (desk_after old ops version taken dropped).pool }
+    ensures steps { (old new : DeskView) (ops : List NamedOp) (taken dropped : List ℕ) → IsDesk old → IsDesk new
+        → IsAccepted old ops taken dropped new → Takes old (posting new.last ops taken) new }
+    ensures counts { (old new : DeskView) (ops : List NamedOp) (taken dropped : List ℕ)
+        → IsAccepted old ops taken dropped new → AcceptedCounts old taken dropped new }
+{}
+
+/// A collection by a copy of the pins.
+///
+/// - `desk`: it leaves a desk, where the copy's last number is at most the number of batches.
+/// - `steps`: in each world of the machine with this copy that the desk showed, Recycle of each retired block that the copy
+///   doesn't need is done, which leaves a world that the new desk shows, and no further block goes.
+/// - `counts`: free grows, and retired falls, by as many retired blocks as the copy doesn't need; it needs those that stay.
+pub fn law_collected()
+    ensures desk { (old new : DeskView) (copy : PinCopy) → IsDesk old → copy.last ≤ length old.last.batches
+        → IsCollected old copy new → IsDesk new }
+    ensures steps { (old new : DeskView) (copy : PinCopy)
+        → IsCollected old copy new → TakesAt copy old (recycling copy old.pool) new }
+    ensures counts { (old new : DeskView) (copy : PinCopy) → IsCollected old copy new → CollectedCounts old copy new }
+{}
+
+/// What `Board::pin`, `settle` with the number that the session holds, `unpin` and `raise` with the last number leave of
+/// a board is what Pin, Settle, Release and Floor leave of each world that the board shows, where these are done.
+pub fn law_board_steps()
+    ensures pins { PinsAsMachine }
+    ensures settles { SettlesAsMachine }
+    ensures unpins { UnpinsAsMachine }
+    ensures raises { RaisesAsMachine }
+{}
+
+/// At its opening the desk is one, and desk and board show the machine's start, whatever the numbers of sessions and
+/// blocks.
+pub fn law_opening_shown()
+    ensures { OpensAsMachine }
+{}
+
+/// Events that are all done are a run of the machine; and a session's entering, asking, reading and replying change
+/// nothing of what the desk and the board show.
+pub fn law_histories()
+    ensures runs { DoneIsRun }
+    ensures readers { ReadersAreUnseen }
+{}
+
+/// From the opening on the desk and the board together show a world that a run of the machine leaves, whose events are
+/// those of the calls: after each accepted batch, each collection by the copy made last, each raised floor, each seat
+/// pinned, settled at the number that its session holds, or unpinned, and each step of a reader.
+pub fn law_stays_reached()
+    ensures { (sessions blocks : ℕ) → StaysReached sessions blocks }
+{}
+
+/// Held snapshots: where the desk and the board show what a run of the machine leaves, the blocks of the version that a
+/// session holds have, each once, the edges that the desk's first batches leave, as many batches as the version's number
+/// says, however many were accepted since; and none of these blocks is free, or would be freed by a collection by the
+/// copy made last.
+pub fn law_held_versions()
+    ensures { HeldIsSnapshot }
+{}
+
+/// The numbers that a desk's blocks carry: no block is left granted, a birth is the number of a version that a batch left,
+/// and a retirement comes after the birth and is never above the last version's number. So a copy of the pins whose last
+/// number is the desk's needs a retired block for its pins alone.
+pub fn law_dated()
+    ensures { (d : DeskView) → IsDesk d → AreDated (length d.last.batches) d.pool }
+{}
+
+/// Small stores worked out by hand: journals that replay and journals that don't, a desk and a world that it shows, the
+/// events of a batch and of a collection, and a board beside sessions.
+pub fn law_examples()
+    ensures { AreExamples }
+{}

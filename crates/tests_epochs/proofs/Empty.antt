@@ -1,0 +1,23 @@
+-- The opening without names, kinds, edges and blocks.
+use Rattle.std.proofs.Common.{◌≡◌, List, [], refl, arith}
+use Rattle.graph_model.specs.Graph.{IsContent, graph_of}
+use Rattle.graph_model.specs.declared.ids.Edge.{Edge}
+use Rattle.epoch_blocks.specs.Versions.{graph_at}
+use Rattle.epoch_blocks.specs.Posting.{last_content}
+use Rattle.epoch_core.specs.Worlds.{empty_opening}
+
+pub no_content : IsContent (record { names = []; kinds = []; edges = [] })
+no_content = record {
+  names_distinct = λ i j d lt h. omega (arith, h);
+  kinds_distinct = λ i j d lt h. omega (arith, h);
+  names_few = omega arith;
+  kinds_few = omega arith;
+  keys_distinct = λ i j d lt h. omega (arith, h);
+  edges_within = λ j d h. omega (arith, h);
+}
+
+pub empty_content : (heap : List (List Edge)) → IsContent (last_content empty_opening heap [])
+empty_content heap = no_content
+
+pub empty_graph : (heap : List (List Edge)) → graph_of (last_content empty_opening heap []) ≡ graph_at empty_opening [] 0
+empty_graph heap = refl

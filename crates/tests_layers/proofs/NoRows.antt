@@ -1,0 +1,21 @@
+-- Rows without blocks need none.
+use Rattle.std.proofs.Common.{◌≡◌, ℕ, ◌+◌, ◌≤◌, not, List, [], ◌∷◌, length, refl, arith}
+use Rattle.std.specs.List.{sum_by}
+use Rattle.std.proofs.lemmas.List.Sums.{sum_by-cons, count_by-le-length}
+use Rattle.row_pages.specs.Rows.{row_of}
+use Rattle.batch_shards.specs.Groups.{is_expiry}
+use Rattle.batch_shards.specs.Spending.{needed, old_blocks, latest}
+use Rattle.batch_shards.specs.declared.shard.Step.{Step}
+
+none_old : (time : ℕ) (sources : List ℕ) → sum_by (λ source. old_blocks time (row_of [] source)) sources ≡ 0
+none_old time [] = refl
+none_old time (s ∷ sources) =
+    let c = sum_by-cons (λ source. old_blocks time (row_of [] source)) s sources in
+    let d : old_blocks time (row_of [] s) ≡ 0 = refl in
+    let e = none_old time sources in
+    omega arith
+
+-- over the version without batches, operations need at most a block each
+pub few_needed : (sources : List ℕ) (steps : List Step) → needed (row_of []) sources steps ≤ length steps
+few_needed sources steps =
+    omega (arith, count_by-le-length (λ (s : Step). not (is_expiry s.act)) steps, none_old (latest steps) sources)

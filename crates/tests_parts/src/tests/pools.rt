@@ -1,0 +1,334 @@
+// Pools of blocks.
+
+ghost use Rattle.std.specs.Prelude.{◌≡◌};
+
+use block_pool::{Grant, GrantError, Pool};
+use edge_block::Block;
+use pin_copy::PinCopy;
+use std::alloc::{AllocError, Global};
+use std::io::Print;
+use std::marker::Model;
+use std::process::Abort;
+use std::sync::Arc;
+use std::test::Fail;
+
+/// A pool of 16 blocks, the numbers of the last grant, and those of its blocks that were neither given back nor retired
+/// since.
+pub(super) struct Hand {
+    pool: Pool,
+    numbers: Vec<u32>,
+    blocks: Vec<Arc<Block>>,
+}
+
+// Written by hand: who lets one go rests on this function, and not on how each part is let go.
+impl Drop for Hand {
+    fn drop(self) {
+        let Hand {
+            pool: _pool,
+            numbers: _numbers,
+            blocks: _blocks,
+        } = self;
+    }
+}
+
+impl Model for Hand {
+    ghost use Rattle.std.specs.Prelude.{List};
+    ghost use Rattle.block_pool.specs.Pools.{Status};
+    ghost use Rattle.tests_parts.specs.Held.{numbers_of, AreHeld};
+
+    ghost Value = { List Status };
+
+    ghost view = { λ h. h.pool };
+
+    ghost invariant = { λ h. AreHeld (numbers_of h.blocks.items) h.pool };
+}
+
+impl Hand {
+    pub(super) fn new(alloc: Global) -> Result<Hand, AllocError> {
+        Ok(Hand {
+            pool: Pool::new(alloc, 16)?,
+            numbers: Vec::new(alloc),
+            blocks: Vec::new(alloc),
+        })
+    }
+
+    /// Grants so many blocks.
+    fn grant(&mut self, count: u32) -> Option<GrantError> {
+        match self.pool.grant(count) {
+            Ok(Grant { numbers, blocks }) => {
+                self.numbers = numbers;
+                self.blocks = blocks;
+                None
+            }
+            Err(error) => Some(error),
+        }
+    }
+
+    /// Retires the first block, first listed by version `birth`, with the number of a version.
+    pub(super) fn retire(&mut self, birth: u64, version: u64) {
+        if !self.blocks.is_empty() {
+            let block = self.blocks.remove(0);
+            self.pool.born(block.number(), birth);
+            self.pool.retire(block, version);
+        }
+    }
+
+    /// Gives the first block back.
+    fn give_back(&mut self) {
+        if !self.blocks.is_empty() {
+            let block = self.blocks.remove(0);
+            self.pool.give_back(block.number(), Some(block));
+        }
+    }
+
+    /// Gives the first block's number back without the block, and tells it.
+    fn give_number_back(&mut self) -> Option<u32> {
+        if self.blocks.is_empty() {
+            return None;
+        }
+        let number = self.blocks.remove(0).number();
+        self.pool.give_back(number, None);
+        Some(number)
+    }
+
+    /// Gives another block of the first one's number back.
+    fn exchange(&mut self, block: Arc<Block>) {
+        if !self.blocks.is_empty() && self.blocks[0].number() == block.number() {
+            let _first = self.blocks.remove(0);
+            self.pool.give_back(block.number(), Some(block));
+        }
+    }
+
+    fn recycle(&mut self, copy: &PinCopy) -> u32 {
+        self.pool.recycle(copy)
+    }
+
+    fn first(&self) -> Option<&Block> {
+        self.blocks.first().map(|block| &**block)
+    }
+
+    fn last(&self) -> Option<&Block> {
+        self.blocks.last().map(|block| &**block)
+    }
+}
+
+/// So many blocks are free, used and retired.
+pub(super) fn counts(rt: &impl Abort, hand: &Hand, free: u32, used: u32, retired: u32) {
+    let pool = &hand.pool;
+    assert_eq!(rt;
+        (pool.free(), pool.used(), pool.retired()),
+        (free, used, retired)
+    );
+}
+
+pub(super) fn granted(rt: &impl Abort, hand: &mut Hand, count: u32) {
+    assert_eq!(rt; hand.grant(count), None);
+}
+
+/// So many blocks are freed by a copy.
+pub(super) fn freed(rt: &impl Abort, hand: &mut Hand, copy: PinCopy, count: u32) {
+    assert_eq!(rt; hand.recycle(&copy), count, "by {copy:?}");
+}
+
+/// So many blocks are freed by a copy without pins.
+fn recycled(rt: &impl Abort, hand: &mut Hand, last: u64, count: u32) {
+    freed(rt, hand, unpinned(last), count);
+}
+
+/// A copy without pins.
+fn unpinned(last: u64) -> PinCopy {
+    PinCopy {
+        last,
+        ..PinCopy::none()
+    }
+}
+
+/// A copy with a settled pin.
+fn settled(last: u64, pin: u64) -> PinCopy {
+    let mut copy = unpinned(last);
+    copy.settled[0] = Some(pin);
+    copy
+}
+
+/// A copy with an unsettled pin.
+fn unsettled(last: u64, pin: u64) -> PinCopy {
+    let mut copy = unpinned(last);
+    copy.unsettled[15] = Some(pin);
+    copy
+}
+
+/// Tells `tools/refuse-each-growth` that a growth was refused.
+fn tell_refused(rt: &impl Print) {
+    let _ = println!(rt; "refused");
+}
+
+fn check_lives(rt: &impl Abort, hand: &mut Hand) {
+    let refused = GrantError::PoolEmpty {
+        needed: 17,
+        free: 16,
+    };
+    assert_eq!(rt; hand.grant(17), Some(refused));
+    granted(rt, hand, 2);
+    counts(rt, hand, 14, 2, 0);
+    hand.retire(1, 3);
+    counts(rt, hand, 14, 1, 1);
+    recycled(rt, hand, 2, 0);
+    recycled(rt, hand, 3, 1);
+    counts(rt, hand, 15, 1, 0);
+    hand.give_back();
+    counts(rt, hand, 16, 0, 0);
+}
+
+#[test]
+fn counts_through_the_life_of_two_blocks(rt: HostRuntime) -> Result<(), Fail> {
+    check_lives(&rt, &mut Hand::new(rt.alloc())?);
+    Ok(())
+}
+
+fn check_last_numbers(rt: &impl Abort, hand: &mut Hand) {
+    granted(rt, hand, 4);
+    hand.retire(1, 3);
+    hand.retire(2, 9);
+    hand.retire(2, 3);
+    hand.retire(4, 5);
+    recycled(rt, hand, 2, 0);
+    recycled(rt, hand, 3, 2);
+    recycled(rt, hand, 4, 0);
+    recycled(rt, hand, 8, 1);
+    recycled(rt, hand, 8, 0);
+    recycled(rt, hand, u64::MAX, 1);
+    counts(rt, hand, 16, 0, 0);
+}
+
+#[test]
+fn recycles_up_to_the_last_number_without_pins(rt: HostRuntime) -> Result<(), Fail> {
+    check_last_numbers(&rt, &mut Hand::new(rt.alloc())?);
+    Ok(())
+}
+
+fn check_pins(rt: &impl Abort, hand: &mut Hand) {
+    granted(rt, hand, 4);
+    hand.retire(1, 3);
+    hand.retire(2, 5);
+    hand.retire(4, 6);
+    hand.retire(8, 9);
+    freed(rt, hand, settled(8, 3), 2);
+    freed(rt, hand, settled(8, 4), 0);
+    freed(rt, hand, unsettled(9, 4), 0);
+    freed(rt, hand, unsettled(9, 5), 1);
+    freed(rt, hand, settled(9, 8), 0);
+    freed(rt, hand, settled(9, 9), 1);
+    counts(rt, hand, 16, 0, 0);
+}
+
+/// A settled pin keeps what was born at most with it and retired after it, and an unsettled one all that was retired after it.
+#[test]
+fn recycles_what_no_pin_needs(rt: HostRuntime) -> Result<(), Fail> {
+    check_pins(&rt, &mut Hand::new(rt.alloc())?);
+    Ok(())
+}
+
+fn first_is(rt: &impl Abort, hand: &Hand, number: Option<u32>) {
+    assert_eq!(rt; hand.first().map(|block| block.number()), number);
+    assert_eq!(rt; hand.numbers.first().copied(), number);
+}
+
+fn check_last_back(rt: &impl Abort, hand: &mut Hand) {
+    granted(rt, hand, 3);
+    hand.give_number_back();
+    hand.give_number_back();
+    let last = hand.give_number_back();
+    granted(rt, hand, 1);
+    first_is(rt, hand, last);
+    counts(rt, hand, 15, 1, 0);
+}
+
+#[test]
+fn grants_first_what_was_given_back_last(rt: HostRuntime) -> Result<(), Fail> {
+    check_last_back(&rt, &mut Hand::new(rt.alloc())?);
+    Ok(())
+}
+
+/// A block of this number with one edge.
+#[tactic(auto, using(edge_block::proofs::Room::room_free))]
+fn filled(rt: &impl Abort, number: u32) -> Block
+    ensures { result.number ≡ number }
+{
+    let mut block = Block::blank(number);
+    assert!(rt; !block.is_full());
+    block.put(5, 1, 1, 1);
+    block
+}
+
+/// Grants a block, gives a filled one back in its place, and grants one more.
+fn check_exchange(rt: &impl Abort, alloc: Global, hand: &mut Hand) {
+    granted(rt, hand, 1);
+    let number = hand.first().expect(rt, "a block").number();
+    hand.exchange(Arc::new(alloc, filled(rt, number)).expect(rt, "memory for a block"));
+    counts(rt, hand, 16, 0, 0);
+    granted(rt, hand, 1);
+    assert_eq!(rt; hand.first().map(|block| block.len()), Some(1));
+}
+
+#[test]
+fn grants_the_very_block_that_was_given_back(rt: HostRuntime) -> Result<(), Fail> {
+    check_exchange(&rt, rt.alloc(), &mut Hand::new(rt.alloc())?);
+    Ok(())
+}
+
+/// A block that was retired and recycled is granted as it was, after those that were free before.
+#[test]
+fn grants_the_very_block_that_was_retired(rt: HostRuntime) -> Result<(), Fail> {
+    check_retired(&rt, rt.alloc(), &mut Hand::new(rt.alloc())?);
+    Ok(())
+}
+
+fn check_retired(rt: &impl Abort, alloc: Global, hand: &mut Hand) {
+    check_exchange(rt, alloc, hand);
+    hand.retire(1, 2);
+    recycled(rt, hand, 2, 1);
+    granted(rt, hand, 16);
+    assert_eq!(rt; hand.first().map(|block| block.len()), Some(0));
+    assert_eq!(rt; hand.last().map(|block| block.len()), Some(1));
+}
+
+/// A new pool of 16 blocks; where a growth was refused, once no more is refused.
+fn new_pool(rt: &(impl Abort + Print), alloc: Global) -> Pool {
+    match Pool::new(alloc, 16) {
+        Ok(pool) => pool,
+        Err(_) => {
+            tell_refused(rt);
+            Pool::new(alloc, 16).expect(rt, "one growth alone is refused")
+        }
+    }
+}
+
+fn pool_counts(rt: &impl Abort, pool: &Pool, free: u32, used: u32) {
+    assert_eq!(rt; (pool.free(), pool.used(), pool.retired()), (free, used, 0));
+}
+
+#[test]
+fn refused_new(rt: HostRuntime) {
+    pool_counts(&rt, &new_pool(&rt, rt.alloc()), 16, 0);
+}
+
+fn lengths(grant: Result<Grant, GrantError>) -> Result<(usize, usize), GrantError> {
+    let Grant { numbers, blocks } = grant?;
+    Ok((numbers.len(), blocks.len()))
+}
+
+fn check_grant(rt: &(impl Abort + Print), pool: &mut Pool) {
+    let mut granted = lengths(pool.grant(4));
+    if granted.is_err() {
+        tell_refused(rt);
+        pool_counts(rt, pool, 16, 0);
+        granted = lengths(pool.grant(4));
+    }
+    assert_eq!(rt; granted, Ok((4, 4)));
+    pool_counts(rt, pool, 12, 4);
+}
+
+#[test]
+fn refused_grant(rt: HostRuntime) {
+    check_grant(&rt, &mut new_pool(&rt, rt.alloc()));
+}

@@ -1,0 +1,310 @@
+//! Expected lines were worked out by hand from the rules. Plain scripts, and what the program says of its arguments, stand in
+//! `examples/`.
+
+mod arguments;
+mod drives;
+mod faults;
+mod feeds;
+mod growths;
+mod lines;
+mod progress;
+mod scripts;
+
+use std::io;
+use std::io::{ErrorKind, Read, Write};
+use std::process::Abort;
+use std::sync::Wait;
+use std::thread::Threads;
+use stinger_cli::stinger;
+use stinger_server::{Config, ServeFault, Summary, serve};
+
+const FIRST: &str = "\
+i,knows,ann,bob,5,10
+i,knows,bob,cat,2,11
+commit
+open,0
+deg,0,*,0,100
+edge,0,knows,ann,bob
+";
+
+const FIRST_TEXT: &str = "\
+commit v=1 ins=2 upd=0 rem=0 abs=0 ovf=0
+open 0 v=1
+deg 0 edges=2
+ann 1 0 5
+bob 1 1 2
+cat 0 1 0
+edge 0 5 10 10
+";
+
+// How many bytes of `FIRST_TEXT` stand before each record of `FIRST`, and at its end.
+const FIRST_ENDS: [usize; 7] = [0, 0, 0, 41, 52, 96, 111];
+
+// Levels in a session that is held while an edge goes, and in one that is opened behind it; and what is printed.
+const HELD: &str = "\
+i,knows,ann,bob,5,10
+i,knows,bob,cat,2,11
+commit
+open,0
+bfs,0,ann,*,0,100
+r,knows,ann,bob
+commit
+bfs,0,ann,*,0,100
+open,1
+bfs,1,ann,*,0,100
+";
+
+const HELD_TEXT: &str = "\
+commit v=1 ins=2 upd=0 rem=0 abs=0 ovf=0
+open 0 v=1
+bfs 0 reached=3
+ann 0
+bob 1
+cat 2
+commit v=2 ins=0 upd=0 rem=1 abs=0 ovf=0
+bfs 0 reached=3
+ann 0
+bob 1
+cat 2
+open 1 v=2
+bfs 1 reached=1
+ann 0
+";
+
+// How many bytes of `HELD_TEXT` stand before each record of `HELD`, and at its end.
+const HELD_ENDS: [usize; 11] = [0, 0, 0, 41, 52, 86, 86, 127, 161, 172, 194];
+
+// A script with refusals and a pending operation, and what it prints.
+const REFUSED: &str = "\
+hello
+i,k,a,b,1,1
+open,7
+";
+
+const REFUSED_TEXT: &str = "\
+error 1 BadCommand
+error 3 BadSlot
+end pending=1
+";
+
+// A script of levels, labels and core numbers without refusals, and what it prints.
+const TABLES: &str = "\
+i,k,a,b,1,1
+commit
+open,0
+bfs,0,a,*,0,9
+comp,0,*,0,9
+core,0,*,0,9
+";
+
+const TABLES_TEXT: &str = "\
+commit v=1 ins=1 upd=0 rem=0 abs=0 ovf=0
+open 0 v=1
+bfs 0 reached=2
+a 0
+b 1
+comp 0 parts=1
+a a
+b a
+core 0 max=1
+a 1
+b 1
+";
+
+// How many bytes of `TABLES_TEXT` stand before each record of `TABLES`, and at its end.
+const TABLES_ENDS: [usize; 7] = [0, 0, 41, 52, 76, 99, 120];
+
+fn two_seats(rt: &impl Abort) -> Config {
+    Config::new(4, 16, 2).expect(rt, "within the limits")
+}
+
+// A run of the script over a store of two seats.
+fn served(
+    rt: &(impl Abort + AllocGlobal + Threads + Wait + Sync),
+    script: &str,
+    writer: &mut impl Write,
+) -> Result<Summary, ServeFault> {
+    serve(rt, two_seats(rt), script.as_bytes(), writer)
+}
+
+// A run of the script over such a store, from a reader that gives a byte a read and fails after so many reads.
+fn served_torn(
+    rt: &(impl Abort + AllocGlobal + Threads + Wait + Sync),
+    script: &[u8],
+    reads: usize,
+    writer: &mut impl Write,
+) -> Result<Summary, ServeFault> {
+    serve(
+        rt,
+        two_seats(rt),
+        torn(script, reads, Some(ErrorKind::Other)),
+        writer,
+    )
+}
+
+// The status of the program at the arguments, over the script.
+fn status_of(
+    rt: &(impl Abort + AllocGlobal + Threads + Wait + Sync),
+    arguments: &[&str],
+    script: &str,
+    output: &mut impl Write,
+    faults: &mut impl Write,
+) -> u8 {
+    stinger(rt, arguments, script.as_bytes(), output, faults)
+}
+
+// The bytes begin with the text, and are none where it is empty.
+fn begins(bytes: &[u8], text: &str) -> bool {
+    let n = text.len();
+    if n == 0 {
+        bytes.is_empty()
+    } else {
+        bytes.len() >= n && &bytes[..n] == text.as_bytes()
+    }
+}
+
+// Takes at most so many bytes a call and so many in all; then it fails, or takes nothing.
+#[derive(Drop)]
+struct FakeWriter {
+    held: Vec<u8>,
+    piece: usize,
+    room: usize,
+    // A write past the room fails, and else takes nothing.
+    fails: bool,
+    flush_fails: bool,
+    // The calls of `write`; the first call that was refused, and each call after that.
+    writes: u64,
+    refusals: u64,
+    // The last call was a flush.
+    flushed: bool,
+}
+
+impl FakeWriter {
+    fn new(rt: &impl AllocGlobal, room: usize, fails: bool) -> FakeWriter {
+        FakeWriter {
+            held: Vec::new(rt.alloc()),
+            piece: usize::MAX,
+            room,
+            fails,
+            flush_fails: false,
+            writes: 0,
+            refusals: 0,
+            flushed: false,
+        }
+    }
+}
+
+impl Write for FakeWriter {
+    ghost use Rattle.std.specs.Prelude.{Some};
+
+    ghost contents = { λ w. Some w.held.items };
+
+    fn write(&mut self, buf: &[u8]) -> io::Result<usize> {
+        self.flushed = false;
+        self.writes = self.writes.saturating_add(1);
+        let n = buf.len().min(self.room).min(self.piece);
+        if n == 0 {
+            self.refusals = self.refusals.saturating_add(1);
+            return if self.fails {
+                Err(io::Error::from(ErrorKind::StorageFull))
+            } else {
+                Ok(0)
+            };
+        }
+        self.held.extend_from_slice(&buf[..n])?;
+        self.room -= n;
+        Ok(n)
+    }
+
+    fn flush(&mut self) -> io::Result<()> {
+        if self.refusals > 0 {
+            self.refusals = self.refusals.saturating_add(1);
+        }
+        if self.flush_fails {
+            return Err(io::Error::from(ErrorKind::Other));
+        }
+        self.flushed = true;
+        Ok(())
+    }
+}
+
+// Gives one byte a read; once, after so many reads, it fails with the kind, or gives nothing where there is none.
+#[derive(Drop)]
+struct TornReader<'a> {
+    bytes: &'a [u8],
+    reads: usize,
+    kind: Option<ErrorKind>,
+}
+
+fn torn(bytes: &[u8], reads: usize, kind: Option<ErrorKind>) -> TornReader<'_> {
+    TornReader { bytes, reads, kind }
+}
+
+impl Read for TornReader<'_> {
+    fn read(&mut self, buf: &mut [u8]) -> io::Result<usize> {
+        if self.reads == 0 {
+            self.reads = usize::MAX;
+            return match self.kind {
+                Some(kind) => Err(io::Error::from(kind)),
+                None => Ok(0),
+            };
+        }
+        self.reads -= 1;
+        let n = buf.len().min(self.bytes.len()).min(1);
+        let (given, rest) = self.bytes.split_at(n);
+        buf[..n].copy_from_slice(given);
+        self.bytes = rest;
+        Ok(n)
+    }
+}
+
+// How many lines end in the bytes.
+fn lines_in(bytes: &[u8]) -> usize {
+    let mut lines: usize = 0;
+    for byte in bytes {
+        lines = lines.saturating_add(usize::from(*byte == b'\n'));
+    }
+    lines
+}
+
+// Tells `tools/refuse-each-growth` that a growth was refused, which the test accepted.
+fn tell_refused(rt: &impl Print) {
+    let _ = println!(rt; "refused");
+}
+
+// Whether these are the lines of the first records of `FIRST`, so many, and then the error line of the next.
+fn is_cut(output: &[u8], given: usize, word: &str) -> bool {
+    is_cut_of(FIRST_TEXT, FIRST_ENDS.as_slice(), output, given, word)
+}
+
+// The same of a text, where so many bytes of it stand before each record and at the end.
+fn is_cut_of(text: &str, ends: &[usize], output: &[u8], given: usize, word: &str) -> bool {
+    let Some(end) = ends.get(given) else {
+        return false;
+    };
+    let lines = &text.as_bytes()[..(*end).min(text.len())];
+    match output.strip_prefix(lines) {
+        Some(line) => is_error(line, given, word),
+        None => false,
+    }
+}
+
+const NUMBERS: [&str; 11] = ["1", "2", "3", "4", "5", "6", "7", "8", "9", "10", "11"];
+
+// What stands behind the number in the error line of the record behind so many, fewer than eleven.
+fn behind_number(line: &[u8], given: usize) -> Option<&[u8]> {
+    let number = NUMBERS.get(given)?;
+    line.strip_prefix(b"error ".as_slice())?
+        .strip_prefix(number.as_bytes())
+}
+
+// Whether this is the error line of that record with the word.
+fn is_error(line: &[u8], given: usize, word: &str) -> bool {
+    let Some(rest) = behind_number(line, given) else {
+        return false;
+    };
+    let Some(told) = rest.strip_prefix(b" ".as_slice()) else {
+        return false;
+    };
+    told.strip_prefix(word.as_bytes()) == Some(b"\n".as_slice())
+}
