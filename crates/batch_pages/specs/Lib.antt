@@ -1,5 +1,4 @@
 pub mod Batches
-pub mod Pieces
 pub mod Pages
 pub mod Groups
 pub mod Lending

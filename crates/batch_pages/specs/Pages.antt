@@ -4,7 +4,7 @@ use Rattle.std.specs.Arc.{arc_value}
 use Rattle.std.specs.declared.sync.Arc.{Arc}
 use Rattle.std.specs.declared.alloc.Global.{Global}
 use Rattle.graph_model.specs.declared.batches.NamedOp.{NamedOp}
-use Rattle.batch_pages.specs.Pieces.{ArePieces}
+use Rattle.list_pieces.specs.Pieces.{ArePieces}
 use Rattle.batch_pages.specs.declared.pages.BatchPage.{BatchPage}
 
 abbrev pub in_page : Arc BatchPage Global → List (List NamedOp)

@@ -10,10 +10,10 @@ use Rattle.edge_block.specs.Slots.{Slot, slot_at, stamp_at, AreDistinct, NoKeyTw
 use Rattle.edge_block.specs.Slots.{has_before}
 use Rattle.block_layout.specs.Rows.{OpenBlock, open_at, edge_at, touch, has_old, expire_block, expire_row}
 use Rattle.edge_block.proofs.Changes.{or_none}
-use Rattle.block_layout.proofs.RowLaws.{IsOpenRow}
+use Rattle.block_layout.proofs.RowLaws.{IsOpenRow, Within}
 
 -- what stays is there before
-was_there : (time : ℕ) (o : Option Stamp) → is_some (stays_from time o) ≡ true → is_some o ≡ true
+pub was_there : (time : ℕ) (o : Option Stamp) → is_some (stays_from time o) ≡ true → is_some o ≡ true
 was_there time None is = is
 was_there time (Some s) is = refl
 
@@ -111,9 +111,6 @@ block_stays time b u q =
     (λ i. cond (q.0 == expired_kind time b i) (stamp_at (expired_slots time b i) q.1) None)
     ∙ ap (λ o. cond (q.0 == b.shape.kind) o None) (slots_stay time b.shape.slots u q.1)
     ∙ within_kind time (q.0 == b.shape.kind) (stamp_at b.shape.slots q.1)
-
-abbrev Within : OpenBlock → Type 0
-Within b = AreDistinct b.shape.slots
 
 every_block : (time : ℕ) (row : List OpenBlock) → All Within row → All (Stays open_at (expire_block time) time) row
 every_block time [] all = All-nil (Stays open_at (expire_block time) time)

@@ -6,7 +6,7 @@ use Rattle.std.specs.List.{sum_by, range_with_len}
 use Rattle.std.specs.Option.{is_some, option_or}
 use Rattle.std.specs.Ordering.{nat_cmp, ordering_then, eq_by_cmp, is_eq}
 use Rattle.std.specs.Cmp.{unsigned_tied, tied_then}
-use Rattle.std.specs.FinMap.{FinMap, get, same_map, get-empty, get-insert}
+use Rattle.std.specs.FinMap.{FinMap, get, same_map, get-empty}
 use Rattle.std.proofs.lemmas.Bool.{eq-eqb, eqb-true, true≢false}
 use Rattle.std.proofs.lemmas.Bool.Decides.{eqb_tells, leb_tells}
 use Rattle.std.proofs.lemmas.List.{map-append}
@@ -15,7 +15,7 @@ use Rattle.std.proofs.lemmas.List.Sums.{sum_by-cons, sum_by-append}
 use Rattle.graph_model.specs.Graph.{Key, Stamp, key_cmp, key_of, stamp_of, map_of}
 use Rattle.graph_model.specs.Step.{is_before, was_before, count_before}
 use Rattle.graph_model.specs.declared.ids.Edge.{Edge}
-use Rattle.graph_model.proofs.Keys.{keys_total, exact_keys, is_key_of, is_key_of_at, HasKeysOnce, once_none, once_cons}
+use Rattle.graph_model.proofs.Keys.{keys_total, exact_keys, is_key_of, is_key_of_at, HasKeysOnce, once_none, once_cons, get_cons}
 use Rattle.graph_model.proofs.Expiry.{count_before-map_of}
 use Rattle.edge_block.specs.Slots.{Slot, slot_at, stamp_at, edges_in, old_in, AreDistinct, NoKeyTwice}
 use Rattle.edge_block.proofs.Changes.{or_none}
@@ -55,10 +55,6 @@ slot_entry source kind e = (record { kind = kind; source = source; target = e.ta
 
 abbrev slot_edges : ℕ → ℕ → List (Option Slot) → List Edge
 slot_edges source kind slots = map edge_from (map (slot_entry source kind) (edges_in slots))
-
-get_cons : (e : Edge) (es : List Edge) (key : Key)
-    → get (map_of (e ∷ es)) key ≡ cond (is_key_of key e) (Some (stamp_of e)) (get (map_of es) key)
-get_cons e es key = get-insert keys_total (map_of es) (key_of e) (stamp_of e) key
 
 nothing : (s t : Bool) (y : Option Stamp) → y ≡ option_or (cond s (cond t None None) None) y
 nothing true true y = refl

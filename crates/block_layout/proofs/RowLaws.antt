@@ -2,7 +2,7 @@
 use Rattle.std.proofs.Common.{◌≡◌, ℕ, zero, suc, ◌==◌, List, [], ◌∷◌, ◌++◌, Bool, true, false, cond, ◌&&◌, refl, sym, ap, ◌∙◌}
 use Rattle.std.proofs.Common.{subst, Option, Some, None, is_some, All, replicate, ◌+ℤ◌}
 use Rattle.std.specs.List.{list_any}
-use Rattle.std.proofs.lemmas.Bool.{true≢false, false≢true, and_parts}
+use Rattle.std.proofs.lemmas.Bool.{true≢false, false≢true, and_parts, eqb-true, or_left, or_right}
 use Rattle.std.proofs.lemmas.List.Elements.{All-head, All-tail, All-cons, All-push}
 use Rattle.graph_model.specs.Graph.{Stamp}
 use Rattle.graph_model.specs.Limits.{is_weight}
@@ -16,8 +16,11 @@ use Rattle.block_layout.specs.Rows.{OpenBlock, open_at, edge_at, has_edge, has_r
 use Rattle.block_layout.specs.Rows.{set_edge, touches, change_row}
 use Rattle.std.specs.Option.{option_or}
 use Rattle.edge_block.proofs.Changes.{or_none, set_first, set_unique, set_last, unique_last, Fits, Puts, fits_key, fits_room}
-use Rattle.edge_block.proofs.Changes.{any_key, none_is, at_first_none}
-use Rattle.block_layout.proofs.SlotLaws.{same_number, put_at, put_distinct, take_at, take_distinct}
+use Rattle.edge_block.proofs.Changes.{any_key, none_is}
+use Rattle.edge_block.proofs.Entries.{stamp_at-put_slot, stamp_at-take_slot}
+use Rattle.edge_block.proofs.KeptColumns.{distinct_none}
+use Rattle.edge_block.proofs.SlotLaws.{AreDistinct-put_slot, AreDistinct-take_slot}
+use Rattle.edge_block.proofs.Firsts.{at_first-none}
 
 abbrev pub same_place : ℕ × ℕ → ℕ × ℕ → Bool
 same_place a b = (a.0 == b.0) && (a.1 == b.1)
@@ -25,7 +28,7 @@ same_place a b = (a.0 == b.0) && (a.1 == b.1)
 pub place_is : (a b : ℕ × ℕ) → same_place a b ≡ true → a ≡ b
 place_is a b h =
     let parts = and_parts (a.0 == b.0) (a.1 == b.1) h in
-    λ i. (same_number a.0 b.0 parts.0 i, same_number a.1 b.1 parts.1 i)
+    λ i. (eqb-true a.0 b.0 parts.0 i, eqb-true a.1 b.1 parts.1 i)
 
 both : (a b : Bool) (x y : Option Stamp) → cond a (cond b x y) None ≡ cond (a && b) x (cond a y None)
 both true true x y = refl
@@ -49,7 +52,7 @@ edge_kind place h is =
     elim (place.0 == h.shape.kind) as (λ b. place.0 == h.shape.kind ≡ b
     → is_some (cond b (stamp_at h.shape.slots place.1) None) ≡ true
     → (place.0 ≡ h.shape.kind) × (list_any (holds place.1) h.shape.slots ≡ true)) [
-      | true ↦ λ t i. (same_number place.0 h.shape.kind t, any_key slot_at ◌==◌ same_number place.1 None h.shape.slots ∙ i)
+      | true ↦ λ t i. (eqb-true place.0 h.shape.kind t, any_key slot_at ◌==◌ eqb-true place.1 None h.shape.slots ∙ i)
       | false ↦ λ t i. absurd (false≢true i)
     ] refl is
 
@@ -62,7 +65,7 @@ at_first_all P p f (x ∷ xs) h g =
       | false ↦ λ t. All-cons P x (at_first p f xs) (All-head P x xs h) (at_first_all P p f xs (All-tail P x xs h) g)
     ] refl
 
-abbrev Within : OpenBlock → Type 0
+abbrev pub Within : OpenBlock → Type 0
 Within h = AreDistinct h.shape.slots
 
 -- no two slots of an open row have edges of one kind to one target
@@ -83,10 +86,6 @@ any_at place o row = any_key open_at same_place place_is place o row
 pub empty_at : (n target : ℕ) → stamp_at (replicate n None) target ≡ None
 empty_at zero target = refl
 empty_at (suc n) target = empty_at n target
-
-pub empty_distinct : (n : ℕ) → AreDistinct (replicate n None)
-empty_distinct zero = tt
-empty_distinct (suc n) = (λ k i. absurd (false≢true i), empty_distinct n)
 
 one_at : (a b : Bool) (x : Option Stamp) → cond a (cond b x None) None ≡ cond (a && b) x None
 one_at true b x = refl
@@ -120,11 +119,11 @@ module _ (place : ℕ × ℕ) (row : List OpenBlock) (u : IsOpenRow row) where
         (all_with Within (λ x. has_edge place x ≡ true
         → Puts open_at same_place place_is place (Some stamp) (touch (put_slot e) x) x) row u.within
         (λ x d i. touch_puts place (Some stamp) (put_slot e) x (edge_kind place x i).0
-        (put_at e x.shape.slots d (λ no'. absurd (true≢false (sym (edge_kind place x i).1 ∙ no')))))) in (
+        (stamp_at-put_slot e x.shape.slots d (or_left _ (list_any is_free x.shape.slots) (edge_kind place x i).1)))) in (
           set_first open_at same_place place_is place (Some stamp) (has_edge place) (touch (put_slot e)) row fits,
           record {
             within = at_first_all Within (has_edge place) (touch (put_slot e)) row u.within
-                (λ x i d. put_distinct e x.shape.slots d (λ no'. absurd (true≢false (sym (edge_kind place x i).1 ∙ no'))));
+                (λ x i d. AreDistinct-put_slot e x.shape.slots d);
             between = set_unique open_at same_place place_is place (Some stamp) (has_edge place)
                 (touch (put_slot e)) row fits u.between;
           },
@@ -140,12 +139,12 @@ module _ (place : ℕ × ℕ) (row : List OpenBlock) (u : IsOpenRow row) where
         fits_room open_at same_place place_is place (Some stamp) room (touch (put_slot e)) row h none
         (all_with Within (λ x. room x ≡ true → open_at x place ≡ None
         → Puts open_at same_place place_is place (Some stamp) (touch (put_slot e) x) x) row u.within
-        (λ x d i n. touch_puts place (Some stamp) (put_slot e) x (same_number place.0 x.shape.kind (parts x i).0)
-        (put_at e x.shape.slots d (λ _. (parts x i).1)))) in (
+        (λ x d i n. touch_puts place (Some stamp) (put_slot e) x (eqb-true place.0 x.shape.kind (parts x i).0)
+        (stamp_at-put_slot e x.shape.slots d (or_right (list_any (holds place.1) x.shape.slots) _ (parts x i).1)))) in (
           set_first open_at same_place place_is place (Some stamp) room (touch (put_slot e)) row fits,
           record {
             within = at_first_all Within room (touch (put_slot e)) row u.within
-                (λ x i d. put_distinct e x.shape.slots d (λ _. (parts x i).1));
+                (λ x i d. AreDistinct-put_slot e x.shape.slots d);
             between = set_unique open_at same_place place_is place (Some stamp) room (touch (put_slot e)) row fits u.between;
           },
         )
@@ -160,7 +159,7 @@ module _ (place : ℕ × ℕ) (row : List OpenBlock) (u : IsOpenRow row) where
     put_last none = (
       set_last open_at same_place place_is place (Some stamp) row (new_block place.0 e) none new_at,
       record {
-        within = All-push Within row (new_block place.0 e) u.within (λ k i. empty_at 31 k, empty_distinct 31);
+        within = All-push Within row (new_block place.0 e) u.within (λ k i. empty_at 31 k, distinct_none 31);
         between = unique_last open_at same_place place_is place (Some stamp) row (new_block place.0 e) none new_at u.between;
       },
     )
@@ -209,17 +208,17 @@ module _ (place : ℕ × ℕ) (row : List OpenBlock) (u : IsOpenRow row) where
             fits_key open_at same_place place_is place None (touch (take_slot place.1)) row t u.between
             (all_with Within (λ x. has_edge place x ≡ true
             → Puts open_at same_place place_is place None (touch (take_slot place.1) x) x) row u.within
-            (λ x d i. touch_puts place None (take_slot place.1) x (edge_kind place x i).0 (take_at place.1 x.shape.slots d))) in (
+            (λ x d i. touch_puts place None (take_slot place.1) x (edge_kind place x i).0 (stamp_at-take_slot place.1 x.shape.slots d))) in (
               set_first open_at same_place place_is place None (has_edge place) (touch (take_slot place.1)) row fits,
               record {
                 within = at_first_all Within (has_edge place) (touch (take_slot place.1)) row u.within
-                    (λ x i d. take_distinct place.1 x.shape.slots d);
+                    (λ x i d. AreDistinct-take_slot place.1 x.shape.slots d);
                 between = set_unique open_at same_place place_is place None (has_edge place)
                     (touch (take_slot place.1)) row fits u.between;
               },
             )
         | false ↦ λ t.
-            subst (Sets place None row) (sym (at_first_none (has_edge place) (touch (take_slot place.1)) row t))
+            subst (Sets place None row) (sym (at_first-none (has_edge place) (touch (take_slot place.1)) row t))
             (none_sets (none_is (edge_at row place) (sym (any_at place None row) ∙ t)))
       ] refl
 

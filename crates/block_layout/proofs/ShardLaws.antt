@@ -17,7 +17,8 @@ use Rattle.graph_model.specs.declared.changes.EdgeChange.TheVariants.{Insert, In
 use Rattle.block_layout.specs.Rows.{OpenBlock, edge_at, old_in_row}
 use Rattle.block_layout.specs.Batches.{Resolved, AtKey, InAll, key_is_of, acts_on, key_step, row_step, key_outcome, outcome_in}
 use Rattle.block_layout.specs.Batches.{rows_step, rows_all, outcomes_all, picked, together, joined, IsPlaced, shard_of}
-use Rattle.block_layout.specs.Batches.{is_in_shard, shard_ops, resolve_parts, resolved, is_known}
+use Rattle.block_layout.specs.Batches.{is_in_shard, shard_ops, resolve_parts, resolved}
+use Rattle.graph_model.specs.Answer.{is_listed}
 
 sum_same : (own : ℕ → Bool) (f g : ℕ → ℕ) → ((s : ℕ) → own s ≡ true → f s ≡ g s) → (xs : List ℕ)
     → All (λ s. own s ≡ true) xs → sum_by f xs ≡ sum_by g xs
@@ -103,11 +104,11 @@ placed names kinds (OfAll time) = tt
 placed names kinds (OfEdge change kind source target) = λ k.
     let at : Bool → Bool → Bool → Type 0 = λ a b c. cond (a && (b && c)) (Some (key_in names kinds kind source target)) None
     ≡ Some k → cond b (Some (number_of names source)) None ≡ Some k.source in
-    elim (is_known kinds kind) as (λ a. at a (is_known names source) (is_known names target)) [
+    elim (is_listed kinds kind) as (λ a. at a (is_listed names source) (is_listed names target)) [
       | false ↦ λ e. cc
-      | true ↦ elim (is_known names source) as (λ b. at true b (is_known names target)) [
+      | true ↦ elim (is_listed names source) as (λ b. at true b (is_listed names target)) [
         | false ↦ λ e. cc
-        | true ↦ elim (is_known names target) as (λ c. at true true c) [
+        | true ↦ elim (is_listed names target) as (λ c. at true true c) [
           | false ↦ λ e. cc
           | true ↦ λ e. let same : key_in names kinds kind source target ≡ k = cc in ap Some (ap (λ (q : Key). q.source) same)
         ]

@@ -1,7 +1,7 @@
 -- The rows of all sources, and what a batch does to them.
 use Rattle.std.specs.Prelude.{◌≡◌, ℕ, zero, suc, ◌+◌, ◌%◌, ◌<◌, ◌==◌, List, [], ◌∷◌, map, length, filter, Bool, true, false, ◌&&◌}
-use Rattle.std.specs.Prelude.{if◌then◌else◌, bytes_eq}
-use Rattle.std.specs.List.{list_any, sum_by}
+use Rattle.std.specs.Prelude.{if◌then◌else◌}
+use Rattle.std.specs.List.{sum_by}
 use Rattle.std.specs.Option.{is_some}
 use Rattle.std.specs.FinMap.{FinMap, get}
 use Rattle.std.specs.declared.option.Option.{Option}
@@ -15,6 +15,8 @@ use Rattle.graph_model.specs.declared.changes.EdgeChange.{EdgeChange}
 use Rattle.block_layout.specs.Operations.{Parts, OfEdge, OfAll, parts_of, names_after, kinds_after}
 use Rattle.block_layout.specs.Rows.{Shape, OpenBlock, row_at, edge_at, untouched, change_row, expire_row, old_in_row, row_end}
 use Rattle.block_layout.specs.Rows.{taken_in, dropped_in, IsRow}
+use Rattle.graph_model.specs.Answer.{is_listed}
+pub use Rattle.graph_model.specs.Answer.{is_listed as is_known}
 
 -- what an operation does, with the numbers of its names, none where a name is unknown at its place: it changes the edge at
 -- its key, or expires edges of every row
@@ -22,14 +24,11 @@ pub data Resolved : Type 0 where
   AtKey : (source : Option ℕ) (key : Option Key) (change : EdgeChange) → Resolved
   InAll : (time : ℕ) → Resolved
 
-abbrev pub is_known : List (List ℕ) → List ℕ → Bool
-is_known names name = list_any (bytes_eq name) names
-
 -- an operation by the names and kinds that it leaves
 abbrev pub resolve_parts : List (List ℕ) → List (List ℕ) → Parts → Resolved
 resolve_parts names kinds (OfEdge change kind source target) =
-    AtKey (if is_known names source then Some (number_of names source) else None)
-    (if is_known kinds kind && (is_known names source && is_known names target)
+    AtKey (if is_listed names source then Some (number_of names source) else None)
+    (if is_listed kinds kind && (is_listed names source && is_listed names target)
     then Some (key_in names kinds kind source target) else None)
     change
 resolve_parts names kinds (OfAll time) = InAll time
@@ -143,12 +142,10 @@ together other b = b
 
 -- the same for each operation
 abbrev pub joined : List Outcome → List Outcome → List Outcome
-joined [] ys = []
-joined (x ∷ xs) [] = []
 joined (x ∷ xs) (y ∷ ys) = together x y ∷ joined xs ys
+joined _ _ = []
 
 -- of results, those of the elements that pass the test
 abbrev pub picked : {A B : Type 0} → (A → Bool) → List A → List B → List B
-picked p [] ys = []
-picked p (x ∷ xs) [] = []
 picked p (x ∷ xs) (y ∷ ys) = if p x then y ∷ picked p xs ys else picked p xs ys
+picked p _ _ = []

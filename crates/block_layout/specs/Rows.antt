@@ -9,7 +9,7 @@ use Rattle.graph_model.specs.Graph.{Key, Stamp}
 use Rattle.graph_model.specs.declared.changes.EdgeChange.{EdgeChange}
 use Rattle.graph_model.specs.Step.{stamp_after, outcome_at}
 use Rattle.graph_model.specs.declared.batches.Outcome.{Outcome}
-use Rattle.graph_model.specs.declared.batches.Outcome.TheVariants.{Inserted, Updated, Removed, Absent, Overflow, Expired}
+use Rattle.graph_model.specs.declared.batches.Outcome.TheVariants.{Inserted, Updated, Removed}
 use Rattle.edge_block.specs.Slots.{BlockView, Slot, is_free, stamp_at, AreDistinct, at_first, put_slot, take_slot, edges_in}
 use Rattle.edge_block.specs.Slots.{first_some, NoKeyTwice, slots_since, old_in, has_before}
 
@@ -97,9 +97,7 @@ abbrev pub touches : Outcome → Bool
 touches Inserted = true
 touches Updated = true
 touches Removed = true
-touches Absent = false
-touches Overflow = false
-touches (Expired count) = false
+touches _ = false
 
 -- one change to the row's edge of a kind to a target
 abbrev pub change_row : EdgeChange → ℕ × ℕ → List OpenBlock → List OpenBlock

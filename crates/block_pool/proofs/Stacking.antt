@@ -1,8 +1,9 @@
 -- Stacks of the retired numbers.
-use Rattle.std.proofs.Common.{◌≡◌, ◌≢◌, ◌⊎◌, inl, inr, ℕ, zero, suc, ◌+◌, ◌-◌, ◌<◌, ◌≤◌, ◌==◌, List, [], ◌∷◌, length, get_or, set, count_by}
+use Rattle.std.proofs.Common.{◌≡◌, ◌≢◌, inl, inr, ℕ, zero, suc, ◌+◌, ◌-◌, ◌<◌, ◌≤◌, ◌==◌, List, [], ◌∷◌, length, get_or, set}
+use Rattle.std.proofs.Common.{count_by}
 use Rattle.std.proofs.Common.{replicate, Bool, true, false, cond, ◌||◌, refl, sym, ap, subst, ◌∙◌, arith, Option, None}
 use Rattle.std.specs.Prelude.{sum_by}
-use Rattle.std.proofs.lemmas.Bool.{true≢false, false≢true, eqb-true, cases_eq, cases_lt, false_from_ne_true}
+use Rattle.std.proofs.lemmas.Bool.{true≢false, false≢true, eqb-true, cases_eq, cases_lt, false_from_ne_true, or_cases, or_right}
 use Rattle.std.proofs.lemmas.List.{get_or-set_same, get_or-set_other, get_or_past, length-replicate}
 use Rattle.std.proofs.lemmas.List.Sums.{sum_by-cons, sum_by-set, get_or-le-sum_by, count_by-le-length}
 use Rattle.std.proofs.lemmas.List.Folds.{sum_by-replicate}
@@ -13,17 +14,10 @@ use Rattle.linked_stacks.specs.Stacks.{stack_of, below_top, is_in, AreAbsent}
 use Rattle.block_pool.specs.declared.numbers.TheConstants.{LOOSE, LATE}
 use Rattle.block_pool.specs.Pools.{Status, Free, Granted, is_retired, is_past}
 use Rattle.block_pool.specs.Kept.{status_of, tally, AreNeeded, HasPins, IsSorted, Fits, top_of, put_on, taken_off, moved}
-use Rattle.block_pool.proofs.Tallies.{count_more, count_true, count_lt, same_number, tally_at, tally_has_one, tally_true, tally_here}
+use Rattle.block_pool.proofs.Tallies.{count_more, count_true, count_lt, same_number, tally_at, tally_has_one, tally_true}
+use Rattle.block_pool.proofs.Tallies.{tally_here}
 use Rattle.block_pool.proofs.Tallies.{past_retired, none_retired}
 use Rattle.block_pool.proofs.Grants.{tally_once}
-
-or_cases : (a b : Bool) → (a || b) ≡ true → (a ≡ true) ⊎ (b ≡ true)
-or_cases true b e = inl refl
-or_cases false b e = inr e
-
-or_right : (a b : Bool) → b ≡ true → (a || b) ≡ true
-or_right true b e = refl
-or_right false b e = e
 
 -- a list with its first number
 pub top_first : (ns : List ℕ) → 0 < length ns → ns ≡ top_of ns ∷ below_top ns

@@ -81,7 +81,7 @@ abbrev pub moved : ℕ → ℕ → List (List ℕ) → List (List ℕ)
 moved from to lists = put_on to (top_of (stack_of lists from)) (taken_off from lists)
 
 -- the list has the free numbers, and the stacks the retired ones
-pub record IsKept (n : Numbers) : Type 0 where
+pub record IsNumbers (n : Numbers) : Type 0 where
   pub few : length n.places.items ≤ 65536
   pub free_room : length n.free.items ≡ length n.places.items
   pub bound : n.retired.bound ≡ length n.places.items

@@ -14,28 +14,21 @@ pub data Status : Type 0 where
 
 abbrev pub is_free : Status → Bool
 is_free Free = true
-is_free Granted = false
-is_free (Used birth) = false
-is_free (Retired birth since) = false
+is_free _ = false
 
 -- granted, or in the last version
 abbrev pub is_used : Status → Bool
-is_used Free = false
 is_used Granted = true
 is_used (Used birth) = true
-is_used (Retired birth since) = false
+is_used _ = false
 
 abbrev pub is_born : Status → Bool
-is_born Free = false
-is_born Granted = false
 is_born (Used birth) = true
-is_born (Retired birth since) = false
+is_born _ = false
 
 abbrev pub is_retired : Status → Bool
-is_retired Free = false
-is_retired Granted = false
-is_retired (Used birth) = false
 is_retired (Retired birth since) = true
+is_retired _ = false
 
 -- a test of the status at a number: false past the last number
 abbrev pub passes : (Status → Bool) → Option Status → Bool
@@ -61,10 +54,8 @@ retired version (Retired birth since) = Retired birth since
 
 -- a retired block that the copy doesn't need
 abbrev pub is_past : PinCopy → Status → Bool
-is_past copy Free = false
-is_past copy Granted = false
-is_past copy (Used birth) = false
 is_past copy (Retired birth since) = not (needs copy birth since)
+is_past copy _ = false
 
 -- what recycling makes of a status
 abbrev pub recycled : PinCopy → Status → Status

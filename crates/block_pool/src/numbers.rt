@@ -68,12 +68,12 @@ pub(crate) struct Numbers {
 }
 
 impl Numbers {
-    ghost use Rattle.block_pool.specs.Kept.{statuses, IsKept, IsSame, Fits};
+    ghost use Rattle.block_pool.specs.Kept.{statuses, IsNumbers, IsSame, Fits};
 
     /// The numbers 0 to `count` - 1, all free.
     pub fn all_free(alloc: Global, count: u32) -> Result<Numbers, AllocError>
         requires { count ≤ 65536 }
-        ensures kept { IfOk result (λ n. IsKept n) }
+        ensures kept { IfOk result (λ n. IsNumbers n) }
         ensures statuses { IfOk result (λ n. statuses n ≡ replicate count Free) }
     {
         let len = count as usize;
@@ -90,7 +90,7 @@ impl Numbers {
 
     /// How many are free.
     pub fn free(&self) -> usize
-        requires { IsKept self.now }
+        requires { IsNumbers self.now }
         ensures { result ≡ count_by is_free (statuses self.now) }
     {
         self.free_len
@@ -98,7 +98,7 @@ impl Numbers {
 
     /// How many are retired.
     pub fn retired(&self) -> usize
-        requires { IsKept self.now }
+        requires { IsNumbers self.now }
         ensures { result ≡ count_by is_retired (statuses self.now) }
     {
         self.retired_len
@@ -106,7 +106,7 @@ impl Numbers {
 
     /// How many are used.
     pub fn used(&self) -> usize
-        requires { IsKept self.now }
+        requires { IsNumbers self.now }
         ensures { result ≡ count_by is_used (statuses self.now) }
     {
         self.places.len() - self.free_len - self.retired_len
@@ -114,9 +114,9 @@ impl Numbers {
 
     /// Grants the last `count` of the free numbers.
     pub fn use_last(&mut self, count: usize)
-        requires kept { IsKept self.old }
+        requires kept { IsNumbers self.old }
         requires enough { count ≤ self.old.free_len }
-        ensures kept { IsKept self.new }
+        ensures kept { IsNumbers self.new }
         ensures statuses { statuses self.new ≡ marked (popped self.old.free.items self.old.free_len count) Granted
             (statuses self.old) }
     {
@@ -129,9 +129,9 @@ impl Numbers {
 
     /// Grants the last of the free numbers.
     fn use_one(&mut self)
-        requires kept { IsKept self.old }
+        requires kept { IsNumbers self.old }
         requires some { 0 < self.old.free_len }
-        ensures kept { IsKept self.new }
+        ensures kept { IsNumbers self.new }
         ensures statuses { statuses self.new ≡ slice_set (statuses self.old)
             (slice_index self.old.free.items (self.old.free_len - 1)) Granted }
         ensures shorter { self.new.free_len ≡ self.old.free_len - 1 }
@@ -144,9 +144,9 @@ impl Numbers {
 
     /// Makes a used number free.
     pub fn give_back(&mut self, number: u32)
-        requires kept { IsKept self.old }
+        requires kept { IsNumbers self.old }
         requires used { is_used_at (statuses self.old) number ≡ true }
-        ensures kept { IsKept self.new }
+        ensures kept { IsNumbers self.new }
         ensures statuses { statuses self.new ≡ slice_set (statuses self.old) number Free }
     {
         self.places[number as usize] = Place::Free;
@@ -156,9 +156,9 @@ impl Numbers {
 
     /// Notes the version that first lists a used number.
     pub fn born(&mut self, number: u32, version: u64)
-        requires kept { IsKept self.old }
+        requires kept { IsNumbers self.old }
         requires used { is_used_at (statuses self.old) number ≡ true }
-        ensures kept { IsKept self.new }
+        ensures kept { IsNumbers self.new }
         ensures statuses { statuses self.new ≡ slice_set (statuses self.old) number (Used version) }
     {
         self.places[number as usize] = Place::Used { birth: version };
@@ -166,9 +166,9 @@ impl Numbers {
 
     /// Retires a born number with the number of a version.
     pub fn retire(&mut self, number: u32, version: u64)
-        requires kept { IsKept self.old }
+        requires kept { IsNumbers self.old }
         requires born { is_born_at (statuses self.old) number ≡ true }
-        ensures kept { IsKept self.new }
+        ensures kept { IsNumbers self.new }
         ensures statuses { statuses self.new ≡ slice_set (statuses self.old) number
             (retired version (status_of (statuses self.old) number)) }
     {
@@ -182,8 +182,8 @@ impl Numbers {
     /// since the last call, at those that stood under a pin that the copy hasn't, and at the late ones where the copy
     /// reaches one of them.
     pub fn recycle(&mut self, copy: &PinCopy) -> u32
-        requires { IsKept self.old }
-        ensures kept { IsKept self.new }
+        requires { IsNumbers self.old }
+        ensures kept { IsNumbers self.new }
         ensures statuses { statuses self.new ≡ map (recycled copy.now) (statuses self.old) }
         ensures count { result ≡ count_by (is_past copy.now) (statuses self.old) }
     {
@@ -194,8 +194,8 @@ impl Numbers {
 
     /// Lets go of what stands under pins that the copy hasn't.
     fn follow(&mut self, copy: &PinCopy)
-        requires { IsKept self.old }
-        ensures kept { IsKept self.new }
+        requires { IsNumbers self.old }
+        ensures kept { IsNumbers self.new }
         ensures statuses { statuses self.new ≡ statuses self.old }
         ensures pins { HasPins copy.now self.new.pins }
     {
@@ -206,9 +206,9 @@ impl Numbers {
 
     /// Sets the pin that a seat's stack stands under; where it is another one, lets go of what is in the stack.
     fn repin(&mut self, seat: usize, pin: Option<u64>)
-        requires kept { IsKept self.old }
+        requires kept { IsNumbers self.old }
         requires seat { seat < SEATS }
-        ensures kept { IsKept self.new }
+        ensures kept { IsNumbers self.new }
         ensures statuses { statuses self.new ≡ statuses self.old }
         ensures pins { self.new.pins ≡ slice_set self.old.pins seat pin }
     {
@@ -221,8 +221,8 @@ impl Numbers {
 
     /// Lets go of the late numbers where one of them may be reached.
     fn recall(&mut self, copy: &PinCopy)
-        requires { IsKept self.old }
-        ensures kept { IsKept self.new }
+        requires { IsNumbers self.old }
+        ensures kept { IsNumbers self.new }
         ensures same { IsSame self.old self.new }
         ensures late { AreNeeded copy.now (statuses self.new) (stack_of self.new.retired.lists LATE) }
     {
@@ -235,10 +235,10 @@ impl Numbers {
 
     /// Moves a stack's numbers to the loose ones.
     fn loosen(&mut self, stack: usize)
-        requires kept { IsKept self.old }
+        requires kept { IsNumbers self.old }
         requires within { stack ≤ LATE }
         requires other { stack ≢ LOOSE }
-        ensures kept { IsKept self.new }
+        ensures kept { IsNumbers self.new }
         ensures same { IsSame self.old self.new }
         ensures least { self.new.least ≡ self.old.least }
         ensures empty { stack_of self.new.retired.lists stack ≡ [] }
@@ -250,13 +250,13 @@ impl Numbers {
 
     /// Moves the top of a stack to another one.
     fn move_top(&mut self, from: usize, to: usize)
-        requires kept { IsKept self.old }
+        requires kept { IsNumbers self.old }
         requires from { from ≤ LATE }
         requires to { to ≤ LATE }
         requires other { from ≢ to }
         requires some { 0 < length (stack_of self.old.retired.lists from) }
         requires fits { Fits (statuses self.old) self.old.pins self.old.least to (top_of (stack_of self.old.retired.lists from)) }
-        ensures kept { IsKept self.new }
+        ensures kept { IsNumbers self.new }
         ensures same { IsSame self.old self.new }
         ensures least { self.new.least ≡ self.old.least }
         ensures lists { self.new.retired.lists ≡ moved from to self.old.retired.lists }
@@ -270,10 +270,10 @@ impl Numbers {
     /// Frees each loose number that the copy doesn't need, puts the others under pins that need them or to the late
     /// ones, and tells how many were freed.
     fn sort(&mut self, copy: &PinCopy) -> u32
-        requires kept { IsKept self.old }
+        requires kept { IsNumbers self.old }
         requires pins { HasPins copy.now self.old.pins }
         requires late { AreNeeded copy.now (statuses self.old) (stack_of self.old.retired.lists LATE) }
-        ensures kept { IsKept self.new }
+        ensures kept { IsNumbers self.new }
         ensures statuses { statuses self.new ≡ map (recycled copy.now) (statuses self.old) }
         ensures count { result ≡ count_by (is_past copy.now) (statuses self.old) }
     {
@@ -287,12 +287,12 @@ impl Numbers {
     /// Frees the top of the loose numbers, as the free number of that place, or puts it under a pin that needs it, or to the
     /// late ones; 1 where it was freed.
     fn sort_top(&mut self, copy: &PinCopy, place: usize) -> u32
-        requires kept { IsKept self.old }
+        requires kept { IsNumbers self.old }
         requires place { place ≤ self.old.free_len }
         requires pins { HasPins copy.now self.old.pins }
         requires late { AreNeeded copy.now (statuses self.old) (stack_of self.old.retired.lists LATE) }
         requires some { 0 < length (stack_of self.old.retired.lists LOOSE) }
-        ensures kept { IsKept self.new }
+        ensures kept { IsNumbers self.new }
         ensures pins { self.new.pins ≡ self.old.pins }
         ensures late { AreNeeded copy.now (statuses self.new) (stack_of self.new.retired.lists LATE) }
         ensures shorter { length (stack_of self.new.retired.lists LOOSE) + 1 ≡ length (stack_of self.old.retired.lists LOOSE) }
@@ -333,10 +333,10 @@ impl Numbers {
     /// granted. A collection puts what it frees at the first places: readers may still hold the version before, and a block
     /// that it has would be copied before it is filled. Until the next collection most have let it go.
     fn release_top(&mut self, place: usize)
-        requires kept { IsKept self.old }
+        requires kept { IsNumbers self.old }
         requires place { place ≤ self.old.free_len }
         requires some { 0 < length (stack_of self.old.retired.lists LOOSE) }
-        ensures kept { IsKept self.new }
+        ensures kept { IsNumbers self.new }
         ensures pins { self.new.pins ≡ self.old.pins }
         ensures lists { self.new.retired.lists ≡ taken_off LOOSE self.old.retired.lists }
         ensures statuses { statuses self.new ≡ slice_set (statuses self.old) (top_of (stack_of self.old.retired.lists LOOSE)) Free }

@@ -6,7 +6,7 @@ ghost use Rattle.std.specs.Arc.{arc_value};
 ghost use Rattle.edge_block.specs.declared.blocks.Block.{Block};
 ghost use Rattle.block_pool.specs.Pools.{Free, Granted, Used, is_free, is_used, is_retired, is_past, recycled, retired, is_used_at};
 ghost use Rattle.block_pool.specs.Pools.{is_born_at, marked, changed, AreFree};
-ghost use Rattle.block_pool.specs.Kept.{statuses, popped, IsKept};
+ghost use Rattle.block_pool.specs.Kept.{statuses, popped, IsNumbers};
 ghost use Rattle.block_pool.specs.Bodies.{AreBodies};
 
 use crate::numbers::Numbers;
@@ -40,14 +40,14 @@ impl Drop for Pool {
 impl Model for Pool {
     ghost use Rattle.std.specs.Prelude.{List, length};
     ghost use Rattle.block_pool.specs.Pools.{Status};
-    ghost use Rattle.block_pool.specs.Kept.{statuses, IsKept};
+    ghost use Rattle.block_pool.specs.Kept.{statuses, IsNumbers};
     ghost use Rattle.block_pool.specs.Bodies.{AreBodies};
 
     ghost Value = { List Status };
 
     ghost view = { λ p. statuses p.numbers };
 
-    ghost invariant = { λ p. IsKept p.numbers × AreBodies (length p.numbers.places.items) p.bodies.items };
+    ghost invariant = { λ p. IsNumbers p.numbers × AreBodies (length p.numbers.places.items) p.bodies.items };
 }
 
 /// Blocks that were granted, and their numbers in the same order.
@@ -197,7 +197,7 @@ fn gather(
     bodies: &mut Vec<Option<Arc<Block>>>,
     count: usize,
 ) -> Result<Grant, AllocError>
-    requires kept { IsKept numbers.now }
+    requires kept { IsNumbers numbers.now }
     requires bodies { AreBodies (length numbers.now.places.items) bodies.old.items }
     requires enough { count ≤ numbers.now.free_len }
     ensures bodies { AreBodies (length numbers.now.places.items) bodies.new.items }

@@ -18,15 +18,6 @@ none_is (Some x) h = absurd (true≢false h)
 pub some_not_none : {B : Type 0} (o : Option B) → is_some o ≡ true → o ≡ None → ⊥
 some_not_none o h e = false≢true (sym (ap is_some e) ∙ h)
 
--- nothing changes where no element passes
-pub at_first_none : {A : Type 0} (p : A → Bool) (f : A → A) (xs : List A) → list_any p xs ≡ false → at_first p f xs ≡ xs
-at_first_none p f [] h = refl
-at_first_none p f (x ∷ xs) h =
-    elim (p x) as (λ b. (b || list_any p xs) ≡ false → cond b (f x ∷ xs) (x ∷ at_first p f xs) ≡ x ∷ xs) [
-      | true ↦ λ n. absurd (true≢false n)
-      | false ↦ λ n. ap (λ ys. x ∷ ys) (at_first_none p f xs n)
-    ] h
-
 first_append : {A B : Type 0} (g : A → Option B) (xs : List A) (y : A)
     → first_some g (xs ++ y ∷ []) ≡ option_or (first_some g xs) (g y)
 first_append g [] y = or_none (g y)

@@ -6,15 +6,10 @@ use Rattle.std.specs.List.{list_any}
 use Rattle.std.specs.Option.{is_some, option_or}
 use Rattle.std.specs.declared.option.Option.{Option}
 use Rattle.std.specs.declared.option.Option.TheVariants.{None, Some}
-use Rattle.std.proofs.lemmas.Bool.{or_left, or_right, or_parts, true≢false}
+use Rattle.std.proofs.lemmas.Bool.{or_parts, true≢false}
 use Rattle.std.proofs.lemmas.List.Elements.{All-cons, All-head, All-tail}
 use Rattle.edge_block.specs.Slots.{first_some, NoKeyTwice, at_first}
-
-pub list_any_at : {A : Type 0} (p : A → Bool) (xs : List A) (i : ℕ) (d : A) → i < length xs → p (get_or xs i d) ≡ true
-    → list_any p xs ≡ true
-list_any_at p [] i d within e = absurd (omega arith)
-list_any_at p (x ∷ xs) zero d within e = or_left (p x) (list_any p xs) e
-list_any_at p (x ∷ xs) (suc i) d within e = or_right (p x) (list_any p xs) (list_any_at p xs i d (omega arith) e)
+pub use Rattle.std.proofs.lemmas.List.Folds.{list_any_at}
 
 -- the first that passes stands at i
 pub at_first-set : {A : Type 0} (p : A → Bool) (f : A → A) (xs : List A) (i : ℕ) (d : A) → i < length xs

@@ -21,7 +21,7 @@ pub same_block : (v now : BlockView) (xs ys : List (Option Slot)) → v ≡ now 
     ≡ record { number = now.number; source = now.source; kind = now.kind; slots = ys }
 same_block v now xs ys e f = rw (e, f)
 
-distinct_none : (n : ℕ) → AreDistinct (replicate n None)
+pub distinct_none : (n : ℕ) → AreDistinct (replicate n None)
 distinct_none zero = tt
 distinct_none (suc n) = ((λ target some. absurd (true≢false (sym some))), distinct_none n)
 

@@ -10,7 +10,7 @@ use Rattle.std.specs.declared.option.Option.TheVariants.{None, Some}
 use Rattle.std.proofs.lemmas.Bool.{eq-eqb, ne_eqb, cases_eq, cases_lt, true≢false}
 use Rattle.std.proofs.lemmas.List.{ext_get_or, length-set, get_or-set_same, get_or-set_other, get_or-replicate, get_or_past}
 use Rattle.std.proofs.lemmas.List.FromFn.{length-map-range_with_len, get_or-map-range_with_len}
-use Rattle.std.proofs.lemmas.List.Folds.{list_any_none}
+use Rattle.std.proofs.lemmas.List.Folds.{list_any_none, list_any_at}
 use Rattle.std.proofs.lemmas.List.Elements.{All-from_get_or}
 use Rattle.std.proofs.lemmas.Nat.Bits.{bit_at_set_same, bit_at_set_other, bit_at_clear_same, bit_at_clear_other, bit_at-zero}
 use Rattle.std.proofs.lemmas.Nat.Bits.{bit_at-trailing_ones, bit_at_ones}
@@ -18,7 +18,7 @@ use Rattle.lane_scan.specs.Masks.{InMask, IsPlaceOf}
 use Rattle.edge_block.specs.Slots.{Slot, edge_slot, at_first, holds, is_free, slot_at, put_slot, take_slot, has_room_for}
 use Rattle.edge_block.specs.Slots.{stamp_at, empty_slots}
 use Rattle.edge_block.specs.Columns.{slots_of, slot_from, column_slot}
-use Rattle.edge_block.proofs.Firsts.{list_any_at, at_first-set, first_some_at, none_by_test}
+use Rattle.edge_block.proofs.Firsts.{at_first-set, first_some_at, none_by_test}
 use Rattle.edge_block.proofs.SlotLaws.{target_of_edge}
 
 pub length-slots_of : (live : ℕ) (ts : List ℕ) (ws : List ℤ) (fs rs : List ℕ) → length (slots_of live ts ws fs rs) ≡ 32

@@ -1,16 +1,12 @@
 -- Links that are changed.
-use Rattle.std.proofs.Common.{◌≡◌, ◌≢◌, ℕ, zero, suc, ◌+◌, ◌-◌, ◌<◌, ◌==◌, ◌||◌, inl, inr, List, [], ◌∷◌, length, get_or, set}
-use Rattle.std.proofs.Common.{Bool, true, false, refl, sym, ap, ap₂, subst, ◌∙◌, arith, map, replicate}
-use Rattle.std.proofs.lemmas.Bool.{cases_eq, eq-eqb, true≢false}
+use Rattle.std.proofs.Common.{◌≡◌, ◌≢◌, ℕ, zero, suc, ◌+◌, ◌-◌, ◌<◌, ◌==◌, inl, inr, List, [], ◌∷◌, length, get_or, set}
+use Rattle.std.proofs.Common.{false, refl, sym, ap, ap₂, subst, ◌∙◌, arith, map, replicate}
+use Rattle.std.proofs.lemmas.Bool.{cases_eq, eq-eqb, true≢false, or_parts}
 use Rattle.std.proofs.lemmas.List.{get_or-set_same, get_or-set_other, get_or-map, map-set, length-map, length-replicate}
 use Rattle.std.proofs.Math.ListN.{length-set}
 use Rattle.linked_stacks.specs.declared.stacks.Stack.{Stack}
 use Rattle.linked_stacks.specs.Stacks.{Stacks, stack_of, below_top, is_in, AreAbsent}
 use Rattle.linked_stacks.specs.Chains.{chain, chain_of, AreBelow, AreWithin}
-
-or_parts : (a b : Bool) → (a || b) ≡ false → (a ≡ false) × (b ≡ false)
-or_parts true b is = absurd (true≢false is)
-or_parts false b is = (refl, is)
 
 -- the link of a number that a chain hasn't
 pub chain_else : (below : List ℕ) (top height n v : ℕ) → is_in n (chain below top height) ≡ false

@@ -4,7 +4,7 @@ use Rattle.std.specs.Arc.{arc_value}
 use Rattle.std.specs.declared.sync.Arc.{Arc}
 use Rattle.std.specs.declared.alloc.Global.{Global}
 use Rattle.edge_block.specs.Slots.{BlockView}
-use Rattle.row_pages.specs.Pieces.{ArePieces}
+use Rattle.list_pieces.specs.Pieces.{AreFull}
 use Rattle.row_pages.specs.declared.groups.Group.{Group}
 
 abbrev pub in_group : Arc Group Global → List (List BlockView)
@@ -14,4 +14,4 @@ abbrev pub in_groups : List (Arc Group Global) → List (List BlockView)
 in_groups groups = flat_map in_group groups
 
 abbrev pub AreGroups : List (Arc Group Global) → Type 0
-AreGroups groups = ArePieces 512 in_group groups
+AreGroups groups = AreFull 512 in_group groups

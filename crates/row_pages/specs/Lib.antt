@@ -1,5 +1,5 @@
 pub mod Rows
 pub mod Sharing
-pub mod Pieces
+pub mod Parts
 pub mod Pages
 pub mod Groups

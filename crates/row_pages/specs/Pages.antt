@@ -4,7 +4,7 @@ use Rattle.std.specs.Arc.{arc_value}
 use Rattle.std.specs.declared.sync.Arc.{Arc}
 use Rattle.std.specs.declared.alloc.Global.{Global}
 use Rattle.edge_block.specs.Slots.{BlockView}
-use Rattle.row_pages.specs.Pieces.{ArePieces}
+use Rattle.list_pieces.specs.Pieces.{AreFull}
 use Rattle.row_pages.specs.declared.pages.Page.{Page}
 
 abbrev pub in_page : Arc Page Global → List (List BlockView)
@@ -14,4 +14,4 @@ abbrev pub in_pages : List (Arc Page Global) → List (List BlockView)
 in_pages pages = flat_map in_page pages
 
 abbrev pub ArePages : List (Arc Page Global) → Type 0
-ArePages pages = ArePieces 64 in_page pages
+ArePages pages = AreFull 64 in_page pages

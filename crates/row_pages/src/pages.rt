@@ -2,7 +2,7 @@
 
 ghost use Rattle.std.specs.Prelude.{◌≡◌, ◌<◌, ◌*◌, [], IfOk, OnOk, length, replicate, slice_index_or, slice_set};
 ghost use Rattle.row_pages.specs.Sharing.{block_values, row_values};
-ghost use Rattle.row_pages.specs.Pieces.{in_parts, AreParts};
+ghost use Rattle.row_pages.specs.Parts.{in_parts, AreParts};
 
 use crate::row::Row;
 use edge_block::Block;
@@ -94,7 +94,7 @@ pub(crate) struct Page {
 impl Model for Page {
     ghost use Rattle.std.specs.Prelude.{◌≡◌, List, length};
     ghost use Rattle.edge_block.specs.Slots.{BlockView};
-    ghost use Rattle.row_pages.specs.Pieces.{in_parts, AreParts};
+    ghost use Rattle.row_pages.specs.Parts.{in_parts, AreParts};
 
     ghost Value = { List (List BlockView) };
 

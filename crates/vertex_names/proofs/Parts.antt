@@ -1,27 +1,11 @@
--- Parts of an index, and what a result says.
-use Rattle.std.proofs.Common.{◌≡◌, ℕ, ◌%◌, ◌<◌, false, List, map, set, get_or, length, subst, [], sym, ap, ◌∙◌, arith, Some, Ok}
-use Rattle.std.proofs.Common.{Err, inl, inr, Result, if◌then◌else◌, nat_eq}
-use Rattle.std.specs.Result.{OnOk, OnErr}
+-- Parts of an index.
+use Rattle.std.proofs.Common.{◌≡◌, ℕ, ◌%◌, ◌<◌, false, List, map, set, get_or, length, [], sym, ap, ◌∙◌, arith, Some}
+use Rattle.std.proofs.Common.{inl, inr, if◌then◌else◌, nat_eq}
 use Rattle.std.proofs.lemmas.Bool.{ne_eqb}
 use Rattle.std.proofs.lemmas.Bool.Decides.{eqb_tells}
 use Rattle.std.proofs.lemmas.List.{map-set, get_or-set_same, get_or-set_other, get_or-map, length-map}
 use Rattle.vertex_names.specs.Order.{found_in}
 use Rattle.vertex_names.specs.Index.{found_at}
-
-pub OnOk-then : {T E : Type 0} (r : Result T E) {P Q : Type 0} → (P → Q) → OnOk r P → OnOk r Q
-OnOk-then (Ok x) f p = f p
-OnOk-then (Err e) f p = tt
-
-pub OnErr-then : {T E : Type 0} (r : Result T E) {P Q : Type 0} → (P → Q) → OnErr r P → OnErr r Q
-OnErr-then (Ok x) f p = tt
-OnErr-then (Err e) f p = f p
-
-pub at_err : {T E : Type 0} (r : Result T E) (e : E) {P : Type 0} → r ≡ Err e → OnErr r P → P
-at_err {T} {E} r e {P} is p = subst (λ (x : Result T E). OnErr x P) is p
-
-pub always-OnErr : {T E : Type 0} (r : Result T E) {P : Type 0} → P → OnErr r P
-always-OnErr (Ok x) p = tt
-always-OnErr (Err e) p = p
 
 module _ {X : Type 0} (f : X → List (ℕ × List (ℕ × ℕ))) where
   -- a part with one more number is the index with one more number

@@ -1,8 +1,9 @@
 -- Names in chunks of 256.
-use Rattle.std.specs.Prelude.{◌≡◌, ℕ, ◌<◌, ◌≤◌, List, [], ◌∷◌, length, flat_map}
+use Rattle.std.specs.Prelude.{ℕ, List, flat_map}
 use Rattle.std.specs.Arc.{arc_value}
 use Rattle.std.specs.declared.sync.Arc.{Arc}
 use Rattle.std.specs.declared.alloc.Global.{Global}
+use Rattle.list_pieces.specs.Pieces.{ArePieces}
 use Rattle.vertex_names.specs.declared.texts.Chunk.{Chunk}
 use Rattle.vertex_names.specs.declared.texts.Kept.{Kept}
 use Rattle.vertex_names.specs.declared.texts.Kept.TheVariants.{Short, Long}
@@ -19,10 +20,6 @@ names_in c = arc_value {X = Chunk} c
 abbrev pub texts_of : List (Arc Chunk Global) → List (List ℕ)
 texts_of chunks = flat_map names_in chunks
 
--- each piece has 256 elements, but for the last, which has 1 to 256
-abbrev pub ArePieces : {X A : Type 0} → (X → List A) → List X → Type 0
-ArePieces f [] = Unit {0}
-ArePieces f (x ∷ xs) = (0 < length (f x)) × (length (f x) ≤ 256) × (0 < length xs → length (f x) ≡ 256) × ArePieces f xs
-
+-- the names stand in chunks of 256
 abbrev pub AreChunks : List (Arc Chunk Global) → Type 0
-AreChunks chunks = ArePieces names_in chunks
+AreChunks chunks = ArePieces 256 names_in chunks

@@ -6,7 +6,8 @@ use Rattle.edge_block.specs.Slots.{BlockView}
 use Rattle.row_pages.specs.Sharing.{row_values}
 use Rattle.row_pages.specs.Pages.{in_page}
 use Rattle.row_pages.specs.declared.pages.Page.{Page}
-use Rattle.row_pages.proofs.Pieces.{set_piece, OnOk-then}
+use Rattle.list_pieces.proofs.Full.{set_piece}
+use Rattle.std.proofs.lemmas.Result.{on_ok_weaker}
 use Rattle.row_pages.proofs.groups.put_in_page.Goals as goal
 
 pub returns-clause-rows : goal.returns-clause-rows
@@ -16,7 +17,7 @@ returns-clause-rows c =
     elim c.in_ok-make_mut.ensures.value [ inl e ↦ e | inr e ↦ e ] in
     let ok : IsOk c.make_mut.result = search rules in
     let lt = c.requires.place in
-    OnOk-then c.put.result
+    on_ok_weaker c.put.result
     (λ put.
     set_piece 64 in_page c.args.pages.now c.args.place (c.args.place / 64) (c.args.place % 64) _ h
     (row_values c.args.row) c.requires.pages (omega arith) (omega arith) (omega arith)

@@ -4,9 +4,9 @@ use Rattle.std.specs.declared.sync.Arc.{Arc}
 use Rattle.std.specs.declared.alloc.Global.{Global}
 use Rattle.edge_block.specs.Slots.{BlockView}
 use Rattle.row_pages.specs.Sharing.{row_values}
-use Rattle.row_pages.specs.Pieces.{in_part}
+use Rattle.row_pages.specs.Parts.{in_part}
 use Rattle.row_pages.specs.declared.pages.Part.{Part}
-use Rattle.row_pages.proofs.Pieces.{set_piece}
+use Rattle.list_pieces.proofs.Full.{set_piece}
 use Rattle.row_pages.proofs.pages.put_in_part.Goals as goal
 
 pub returns-clause-rows : goal.returns-clause-rows

@@ -1,6 +1,6 @@
 use Rattle.std.proofs.Common.{◌≡◌, ◌∙◌, [], ◌∷◌, replicate, length, length-append, ap, arith}
 use Rattle.row_pages.specs.Groups.{in_group}
-use Rattle.row_pages.proofs.Pieces.{blank_pushed, push_piece}
+use Rattle.list_pieces.proofs.Full.{blank_pushed, push_piece}
 use Rattle.row_pages.proofs.rows.add_groups.Goals as goal
 
 pub loop-alloc-preserved : goal.loop-alloc-preserved

@@ -8,7 +8,8 @@ use Rattle.row_pages.specs.Rows.{row_of}
 use Rattle.row_pages.specs.Sharing.{row_values}
 use Rattle.row_pages.specs.Groups.{in_group, in_groups}
 use Rattle.row_pages.specs.declared.groups.Group.{Group}
-use Rattle.row_pages.proofs.Pieces.{long, set_piece, set_look_up, OnOk-then}
+use Rattle.list_pieces.proofs.Full.{long, set_piece, set_look_up}
+use Rattle.std.proofs.lemmas.Result.{on_ok_weaker}
 use Rattle.row_pages.proofs.rows.put_row.Goals as goal
 
 pub returns-clause-rows : goal.returns-clause-rows
@@ -23,7 +24,7 @@ returns-clause-rows c =
     let enough : source / 512 + 1 ≤ length groups = c.in_ok-add_groups.ensures.enough in
     let all = long 512 in_group groups c.in_ok-add_groups.ensures.groups in
     let lt : source < length (in_groups groups) = omega (arith, all, enough) in
-    OnOk-then c.put.result
+    on_ok_weaker c.put.result
     (λ put s.
     let written = set_piece 512 in_group groups source (source / 512) (source % 512)
     (c.make_mut.follows.lender c.put.new.self) h row c.in_ok-add_groups.ensures.groups (omega arith) (omega (arith, enough))

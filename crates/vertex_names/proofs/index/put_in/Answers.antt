@@ -8,7 +8,9 @@ use Rattle.std.proofs.Math.Seq.{map-set_same}
 use Rattle.vertex_names.specs.declared.part.Part.{Part}
 use Rattle.vertex_names.specs.Order.{found_in}
 use Rattle.vertex_names.specs.Index.{found_at}
-use Rattle.vertex_names.proofs.Parts.{OnOk-then, OnErr-then, at_err, always-OnErr, put_part, same_part}
+use Rattle.std.proofs.lemmas.Result.{IfErr-at_err, on_ok_weaker, on_err_weaker}
+use Rattle.list_pieces.proofs.Shown.{always-OnErr}
+use Rattle.vertex_names.proofs.Parts.{put_part, same_part}
 use Rattle.vertex_names.proofs.index.put_in.Goals as goal
 
 abbrev shown : Arc Part Global → List (ℕ × List (ℕ × ℕ))
@@ -18,7 +20,7 @@ pub returns-in_err-parts-clause-unchanged : goal.returns-in_err-parts-clause-unc
 returns-in_err-parts-clause-unchanged c =
     let h : Arc Part Global = c.index_mut.result.now in
     let kept : shown c.make_mut.follows.lender-at-none ≡ shown h =
-    elim (at_err _ _ c.in_err-parts.was c.make_mut.follows.holds-at-none) [ inl e ↦ e | inr e ↦ e ] in
+    elim (IfErr-at_err _ c.in_err-parts.was c.make_mut.follows.holds-at-none) [ inl e ↦ e | inr e ↦ e ] in
     let same = map-set_same shown c.args.parts.now.items c.args.place c.make_mut.follows.lender-at-none h
     (kept ∙ ap shown c.index_mut.ensures.value) in
     let found : (q : ℕ) → found_at (map shown (set c.args.parts.now.items c.args.place c.make_mut.follows.lender-at-none)) q
@@ -35,7 +37,7 @@ returns-clause-put c =
     same ∙ ap shown c.index_mut.ensures.value in
     let room : c.args.place < length c.args.parts.now.items = omega (arith, c.requires.place, c.requires.whole) in
     let into : shown (c.make_mut.follows.lender c.put.new.self) ≡ c.put.new.self = c.make_mut.follows.holds c.put.new.self ok in
-    OnOk-then c.put.result
+    on_ok_weaker c.put.result
     (λ put. put_part shown c.args.parts.now.items c.args.place c.args.hash c.args.number
     (c.make_mut.follows.lender c.put.new.self) h c.requires.place room
     (λ q. ap (λ (ps : List (ℕ × List (ℕ × ℕ))). found_in ps q) into ∙ put q
@@ -51,7 +53,7 @@ returns-clause-unchanged c =
     same ∙ ap shown c.index_mut.ensures.value in
     let room : c.args.place < length c.args.parts.now.items = omega (arith, c.requires.place, c.requires.whole) in
     let into : shown (c.make_mut.follows.lender c.put.new.self) ≡ c.put.new.self = c.make_mut.follows.holds c.put.new.self ok in
-    OnErr-then c.put.result
+    on_err_weaker c.put.result
     (λ kept. same_part shown c.args.parts.now.items c.args.place (c.make_mut.follows.lender c.put.new.self) h room
     (λ q. ap (λ (ps : List (ℕ × List (ℕ × ℕ))). found_in ps q) into ∙ kept q
     ∙ ap (λ (ps : List (ℕ × List (ℕ × ℕ))). found_in ps q) from))

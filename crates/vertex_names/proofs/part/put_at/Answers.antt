@@ -3,7 +3,7 @@ use Rattle.std.specs.declared.sync.Arc.{Arc}
 use Rattle.std.specs.declared.alloc.Global.{Global}
 use Rattle.vertex_names.specs.declared.piece.Piece.{Piece}
 use Rattle.vertex_names.specs.Order.{firsts, last_place}
-use Rattle.vertex_names.proofs.Parts.{OnOk-then, OnErr-then}
+use Rattle.std.proofs.lemmas.Result.{on_ok_weaker, on_err_weaker}
 use Rattle.vertex_names.proofs.Splits.{set_lows, set_put, set_kept}
 use Rattle.vertex_names.proofs.part.put_at.Goals as goal
 
@@ -25,7 +25,7 @@ returns-clause-put c =
     let is : last_place (firsts ps) c.args.hash ≡ c.last_at-place.result =
     sym (c.last_at-place.ensures.place
     ∙ ap (λ (l : List (ℕ × Arc Piece Global)). last_place (firsts l) c.args.hash) c.deref.ensures.value) in
-    OnOk-then c.put_in.result
+    on_ok_weaker c.put_in.result
     (λ put. set_put ps c.last_at-place.result c.index_mut.result.now c.put_in.new.piece lt c.index_mut.ensures.value c.args.hash
     c.args.number is put) c.put_in.ensures.put
 
@@ -35,6 +35,6 @@ returns-clause-unchanged c =
     let within : 0 < length ps → c.last_at-place.result < length ps =
     rw c.deref.ensures.value at c.last_at-place.ensures.within in
     let lt = within c.requires.some in
-    OnErr-then c.put_in.result
+    on_err_weaker c.put_in.result
     (λ kept. set_kept ps c.last_at-place.result c.index_mut.result.now c.put_in.new.piece lt c.index_mut.ensures.value kept)
     c.put_in.ensures.unchanged

@@ -1,6 +1,6 @@
 use Rattle.std.proofs.Common.{length, sym, ap, arith}
 use Rattle.std.proofs.lemmas.Option.{slice_get_within}
-use Rattle.batch_pages.proofs.Pieces.{drop_past, drop_next}
+use Rattle.batch_pages.proofs.Places.{drop_past, drop_next}
 use Rattle.batch_pages.proofs.batches.BatchIterIterator.next.Goals as goal
 
 pub returns-in_err-batch-clause-steps : goal.returns-in_err-batch-clause-steps

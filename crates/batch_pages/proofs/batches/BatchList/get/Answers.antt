@@ -6,7 +6,7 @@ use Rattle.std.proofs.lemmas.Bool.{ltb-false}
 use Rattle.batch_pages.specs.Groups.{in_group}
 use Rattle.batch_pages.specs.declared.groups.BatchGroup.{BatchGroup}
 use Rattle.graph_model.specs.declared.batches.NamedOp.{NamedOp}
-use Rattle.batch_pages.proofs.Pieces.{at_piece, past_pieces}
+use Rattle.list_pieces.proofs.Pieces.{at_piece, past_pieces}
 use Rattle.batch_pages.proofs.batches.BatchList.get.Goals as goal
 
 pub returns-in_err-get-clause-batch : goal.returns-in_err-get-clause-batch

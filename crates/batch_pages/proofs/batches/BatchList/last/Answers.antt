@@ -1,5 +1,5 @@
 use Rattle.std.proofs.Common.{arith}
-use Rattle.batch_pages.proofs.Pieces.{last_of, copied_match}
+use Rattle.batch_pages.proofs.Places.{last_of, copied_match}
 use Rattle.batch_pages.proofs.batches.BatchList.last.Goals as goal
 
 pub returns : goal.returns

@@ -6,7 +6,7 @@ use Rattle.std.proofs.lemmas.Bool.{ltb-false}
 use Rattle.batch_pages.specs.Pages.{in_page}
 use Rattle.batch_pages.specs.declared.pages.BatchPage.{BatchPage}
 use Rattle.graph_model.specs.declared.batches.NamedOp.{NamedOp}
-use Rattle.batch_pages.proofs.Pieces.{at_piece, past_pieces}
+use Rattle.list_pieces.proofs.Pieces.{at_piece, past_pieces}
 use Rattle.batch_pages.proofs.groups.BatchGroup.get.Goals as goal
 
 pub returns-in_err-get : goal.returns-in_err-get

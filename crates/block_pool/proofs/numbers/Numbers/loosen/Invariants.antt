@@ -1,11 +1,11 @@
 use Rattle.std.proofs.Common.{◌≡◌, length}
 use Rattle.linked_stacks.specs.Stacks.{stack_of}
-use Rattle.block_pool.specs.Kept.{IsKept, IsSame}
+use Rattle.block_pool.specs.Kept.{IsNumbers, IsSame}
 use Rattle.block_pool.proofs.numbers.Numbers.loosen.Given as goal
 
 abbrev pub invariant-loosen : goal.invariant-loosen
 invariant-loosen l = record {
-  kept : IsKept l.self;
+  kept : IsNumbers l.self;
   same : IsSame l.initial.self l.self;
   least : l.self.least ≡ l.initial.self.least;
 }

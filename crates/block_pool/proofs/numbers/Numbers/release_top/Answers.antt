@@ -1,11 +1,12 @@
-use Rattle.std.proofs.Common.{◌≡◌, ◌∙◌, ◌+◌, ◌<◌, ℕ, length, get_or, set, count_by, sym, ap, subst, refl, take, arith, length-take, true}
+use Rattle.std.proofs.Common.{◌≡◌, ◌∙◌, ◌+◌, ◌<◌, ℕ, length, get_or, set, count_by, sym, ap, subst, refl, take, arith}
+use Rattle.std.proofs.Common.{length-take, true}
 use Rattle.std.proofs.Math.ListN.{length-set}
 use Rattle.std.proofs.lemmas.List.{map-set, length-map, get_or_read}
 use Rattle.linked_stacks.specs.Stacks.{Stacks, stack_of}
 use Rattle.block_pool.specs.declared.numbers.Numbers.{Numbers}
 use Rattle.block_pool.specs.declared.numbers.TheConstants.{LOOSE}
 use Rattle.block_pool.specs.Pools.{Free, Granted, is_free, is_retired}
-use Rattle.block_pool.specs.Kept.{statuses, status_from, status_of, Lists, IsKept, IsSorted, top_of, taken_off}
+use Rattle.block_pool.specs.Kept.{statuses, status_from, status_of, Lists, IsNumbers, IsSorted, top_of, taken_off}
 use Rattle.block_pool.specs.declared.numbers.Place.TheVariants as places
 use Rattle.block_pool.proofs.Tallies.{lists_more, lists_room, count_at, count_here, retired_not_free}
 use Rattle.block_pool.proofs.Grants.{placed}
@@ -35,7 +36,7 @@ index_mut-requires c =
     omega (arith, is.0, num, length-map n.places.items status_from)
 
 -- there is room for one more free number
-room_left : (n : Numbers) → IsKept n → 0 < length (stack_of n.retired.lists LOOSE) → n.free_len < length n.free.items
+room_left : (n : Numbers) → IsNumbers n → 0 < length (stack_of n.retired.lists LOOSE) → n.free_len < length n.free.items
 room_left n k some =
     let r : ℕ = top_of (stack_of n.retired.lists LOOSE) in
     let is = top_listed (statuses n) n.pins n.least n.retired.lists k.sorted LOOSE (omega arith) some in

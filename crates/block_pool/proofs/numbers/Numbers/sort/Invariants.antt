@@ -2,12 +2,12 @@ use Rattle.std.proofs.Common.{◌≡◌, ◌≤◌, ◌+◌, map, count_by, leng
 use Rattle.linked_stacks.specs.Stacks.{stack_of}
 use Rattle.block_pool.specs.declared.numbers.TheConstants.{LOOSE, LATE}
 use Rattle.block_pool.specs.Pools.{recycled, is_past}
-use Rattle.block_pool.specs.Kept.{statuses, AreNeeded, HasPins, IsKept}
+use Rattle.block_pool.specs.Kept.{statuses, AreNeeded, HasPins, IsNumbers}
 use Rattle.block_pool.proofs.numbers.Numbers.sort.Given as goal
 
 abbrev pub invariant-sort : goal.invariant-sort
 invariant-sort l = record {
-  kept : IsKept l.self;
+  kept : IsNumbers l.self;
   pins : HasPins l.copy l.self.pins;
   late : AreNeeded l.copy (statuses l.self) (stack_of l.self.retired.lists LATE);
   after : map (recycled l.copy) (statuses l.self) ≡ map (recycled l.copy) (statuses l.initial.self);

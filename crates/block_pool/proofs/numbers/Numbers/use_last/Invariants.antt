@@ -1,11 +1,11 @@
 use Rattle.std.proofs.Common.{◌≡◌, ◌≤◌}
 use Rattle.block_pool.specs.Pools.{Granted, marked}
-use Rattle.block_pool.specs.Kept.{statuses, popped, IsKept}
+use Rattle.block_pool.specs.Kept.{statuses, popped, IsNumbers}
 use Rattle.block_pool.proofs.numbers.Numbers.use_last.Given as goal
 
 abbrev pub invariant-grant : goal.invariant-grant
 invariant-grant l = record {
-  kept : IsKept l.self;
+  kept : IsNumbers l.self;
   enough : l.left ≤ l.self.free_len;
   after : marked (popped l.self.free.items l.self.free_len l.left) Granted (statuses l.self)
       ≡ marked (popped l.initial.self.free.items l.initial.self.free_len l.initial.left) Granted (statuses l.initial.self);

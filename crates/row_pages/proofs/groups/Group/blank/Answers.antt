@@ -3,7 +3,8 @@ use Rattle.std.specs.declared.sync.Arc.{Arc}
 use Rattle.std.specs.declared.alloc.Global.{Global}
 use Rattle.row_pages.specs.Pages.{in_page}
 use Rattle.row_pages.specs.declared.pages.Page.{Page}
-use Rattle.row_pages.proofs.Pieces.{all_eight, blank_pieces, blank_flat}
+use Rattle.list_pieces.proofs.Full.{blank_pieces, blank_flat}
+use Rattle.row_pages.proofs.Eights.{all_eight}
 use Rattle.row_pages.proofs.groups.Group.blank.Goals as goal
 
 pub invariant_of-result : goal.invariant_of-result

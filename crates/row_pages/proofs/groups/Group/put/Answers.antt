@@ -1,6 +1,6 @@
 use Rattle.std.proofs.Common.{◌≡◌, length, arith}
 use Rattle.row_pages.specs.Pages.{in_page}
-use Rattle.row_pages.proofs.Pieces.{long}
+use Rattle.list_pieces.proofs.Full.{long}
 use Rattle.row_pages.proofs.groups.Group.put.Goals as goal
 
 pub returns-clause-length : goal.returns-clause-length

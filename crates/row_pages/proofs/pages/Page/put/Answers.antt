@@ -1,6 +1,6 @@
 use Rattle.std.proofs.Common.{◌≡◌, length, arith}
-use Rattle.row_pages.specs.Pieces.{in_part}
-use Rattle.row_pages.proofs.Pieces.{long}
+use Rattle.row_pages.specs.Parts.{in_part}
+use Rattle.list_pieces.proofs.Full.{long}
 use Rattle.row_pages.proofs.pages.Page.put.Goals as goal
 
 pub returns-clause-length : goal.returns-clause-length

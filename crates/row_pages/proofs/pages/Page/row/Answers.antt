@@ -1,7 +1,7 @@
 use Rattle.std.proofs.Common.{◌∙◌, ◌/◌, ◌%◌, [], List, ap, sym, get_or, arith}
 use Rattle.edge_block.specs.Slots.{BlockView}
-use Rattle.row_pages.specs.Pieces.{in_part}
-use Rattle.row_pages.proofs.Pieces.{at_piece}
+use Rattle.row_pages.specs.Parts.{in_part}
+use Rattle.list_pieces.proofs.Full.{at_piece}
 use Rattle.row_pages.proofs.pages.Page.row.Goals as goal
 
 pub returns : goal.returns

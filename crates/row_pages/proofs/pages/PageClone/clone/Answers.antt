@@ -1,12 +1,13 @@
 use Rattle.std.proofs.Common.{◌∙◌, ◌∷◌, []}
-use Rattle.row_pages.specs.Pieces.{in_part}
-use Rattle.row_pages.proofs.Pieces.{eight, same_pieces}
+use Rattle.row_pages.specs.Parts.{in_part}
+use Rattle.list_pieces.proofs.Shown.{flat_from_map}
+use Rattle.row_pages.proofs.Eights.{eight}
 use Rattle.row_pages.proofs.pages.PageClone.clone.Goals as goal
 
 pub returns : goal.returns
 returns c = record {
   cases =
-      same_pieces 8 in_part
+      flat_from_map in_part
       (c.in_ok-try_clone.field-0 ∷ c.in_ok-try_clone-2.field-0 ∷ c.in_ok-try_clone-3.field-0 ∷ c.in_ok-try_clone-4.field-0
       ∷ c.in_ok-try_clone-5.field-0 ∷ c.in_ok-try_clone-6.field-0 ∷ c.in_ok-try_clone-7.field-0 ∷ c.in_ok-try_clone-8.field-0
       ∷ [])

@@ -1,6 +1,6 @@
 use Rattle.std.proofs.Common.{◌∙◌}
 use Rattle.row_pages.specs.Sharing.{row_values}
-use Rattle.row_pages.proofs.Pieces.{eight}
+use Rattle.row_pages.proofs.Eights.{eight}
 use Rattle.row_pages.proofs.pages.PartClone.clone.Goals as goal
 
 pub returns : goal.returns

@@ -1,6 +1,6 @@
 use Rattle.std.proofs.Common.{◌≤◌, ◌^◌, length, arith}
 use Rattle.row_pages.specs.Groups.{in_group}
-use Rattle.row_pages.proofs.Pieces.{long}
+use Rattle.list_pieces.proofs.Full.{long}
 use Rattle.row_pages.proofs.rows.Rows.len.Goals as goal
 
 pub overflow_mul-result : goal.overflow_mul-result

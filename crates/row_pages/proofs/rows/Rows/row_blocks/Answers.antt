@@ -5,7 +5,7 @@ use Rattle.std.proofs.lemmas.Bool.{ltb-false}
 use Rattle.edge_block.specs.Slots.{BlockView}
 use Rattle.row_pages.specs.declared.groups.Group.{Group}
 use Rattle.row_pages.specs.Groups.{in_group}
-use Rattle.row_pages.proofs.Pieces.{at_piece, past_pieces}
+use Rattle.list_pieces.proofs.Full.{at_piece, past_pieces}
 use Rattle.row_pages.proofs.rows.Rows.row_blocks.Goals as goal
 
 pub returns-in-None : goal.returns-in-None

@@ -1,7 +1,8 @@
 use Rattle.std.proofs.Common.{◌≡◌, ◌≤◌, ◌^◌, length, arith}
 use Rattle.std.proofs.lemmas.Slice.Zip.{AllZip-long}
 use Rattle.row_pages.specs.Groups.{in_group}
-use Rattle.row_pages.proofs.Pieces.{zip_flat, zip_pieces}
+use Rattle.list_pieces.proofs.Full.{zipped_full}
+use Rattle.list_pieces.proofs.Shown.{zipped_flat}
 use Rattle.row_pages.proofs.rows.Rows.share.Goals as goal
 
 pub invariant_of-result : goal.invariant_of-result
@@ -9,7 +10,7 @@ invariant_of-result c =
     let same = c.in_ok-clone.ensures.cases.0 in
     let long = AllZip-long (λ x y. in_group y ≡ in_group x) _ _ same in
     let few : length c.self.inside.groups.items ≤ 2 ^ 23 = c.self.invariant.1 in
-    (zip_pieces 512 in_group _ _ same c.self.invariant.0, omega (arith, long, few))
+    (zipped_full 512 in_group _ _ same c.self.invariant.0, omega (arith, long, few))
 
 pub returns : goal.returns
-returns c = rw (← c.self.view_is) (zip_flat 512 in_group _ _ c.in_ok-clone.ensures.cases.0)
+returns c = rw (← c.self.view_is) (zipped_flat in_group _ _ c.in_ok-clone.ensures.cases.0)

@@ -1,11 +1,11 @@
-use Rattle.std.proofs.Common.{◌≡◌, ◌∙◌, ◌≤◌, ◌<◌, ◌/◌, ◌%◌, ℕ, ap, sym, subst, List, length, get_or}
+use Rattle.std.proofs.Common.{◌≡◌, ◌∙◌, ◌≤◌, ◌<◌, ◌/◌, ◌%◌, ℕ, ap, sym, subst, List, length, get_or, arith}
 use Rattle.std.specs.List.{slice_get}
 use Rattle.std.specs.declared.sync.Arc.{Arc}
 use Rattle.std.specs.declared.alloc.Global.{Global}
 use Rattle.std.proofs.lemmas.Bool.{ltb-false}
 use Rattle.vertex_names.specs.Texts.{names_in}
 use Rattle.vertex_names.specs.declared.texts.Chunk.{Chunk}
-use Rattle.vertex_names.proofs.Pieces.{at_piece, past_pieces}
+use Rattle.list_pieces.proofs.Pieces.{at_piece, past_pieces}
 use Rattle.vertex_names.proofs.texts.Texts.name.Goals as goal
 
 pub returns-in_err-get : goal.returns-in_err-get
@@ -14,7 +14,7 @@ returns-in_err-get c =
     subst (λ (l : List (Arc Chunk Global)). length l ≤ c.args.number / 256) c.deref.ensures.value
     (ltb-false (c.args.number / 256) (length c.deref.result.now) (sym c.in_err-get.ensures.lookup.0)) in
     rw (c.from_residual.ensures, ← c.self.view_is)
-    (sym (past_pieces names_in c.self.inside.chunks.items c.args.number c.self.invariant.1 past))
+    (sym (past_pieces 256 names_in c.self.inside.chunks.items c.args.number c.self.invariant.1 (omega (arith, past))))
 
 pub returns : goal.returns
 returns c =
@@ -28,4 +28,4 @@ returns c =
     (λ (l : List (Arc Chunk Global)). get_or l (c.args.number / 256) chunk) c.deref.ensures.value in
     rw (← c.self.view_is)
     (c.name.ensures ∙ ap (λ (l : List (List ℕ)). slice_get l (c.args.number % 256)) (c.deref-2.ensures ∙ ap names_in here)
-    ∙ sym (at_piece names_in chunks c.args.number chunk c.self.invariant.1 lt))
+    ∙ sym (at_piece 256 names_in chunks c.args.number (c.args.number / 256) (c.args.number % 256) chunk c.self.invariant.1 (omega arith) lt (omega arith)))

@@ -1,12 +1,12 @@
--- Lists in pieces of one length but for the last.
-use Rattle.std.proofs.Common.{◌≡◌, ℕ, zero, suc, ◌+◌, ◌*◌, ◌<◌, ◌≤◌, List, [], ◌∷◌, ◌++◌, length, get_or, set}
-use Rattle.std.proofs.Common.{flat_map, map, refl, sym, ap, ◌∙◌, arith, append_assoc, length-append, None, Some, Option}
-use Rattle.std.proofs.Common.{MatchOption, option_copied, Bor, drop}
+-- Pieces of one length but for the last: their elements, one piece more, and a last one that grows.
+use Rattle.std.proofs.Common.{◌≡◌, ℕ, zero, suc, ◌+◌, ◌*◌, ◌<◌, ◌≤◌, List, [], ◌∷◌, ◌++◌, length, get_or, set, flat_map}
+use Rattle.std.proofs.Common.{refl, sym, ap, ◌∙◌, arith, append_assoc, length-append, None, Result, Ok, Err}
 use Rattle.std.specs.List.{slice_get, AllZip}
+use Rattle.std.specs.Result.{OnOk, OnErr}
 use Rattle.std.proofs.lemmas.Slice.Zip.{AllZip-long}
 use Rattle.std.proofs.lemmas.List.{append-nil}
 use Rattle.std.proofs.lemmas.Option.{slice_get_past}
-use Rattle.batch_pages.specs.Pieces.{ArePieces}
+use Rattle.list_pieces.specs.Pieces.{ArePieces}
 
 slice_get-left : {A : Type 0} (xs ys : List A) (j : ℕ) → j < length xs → slice_get (xs ++ ys) j ≡ slice_get xs j
 slice_get-left [] ys j lt = absurd (omega arith)
@@ -47,9 +47,16 @@ module _ {X A : Type 0} (n : ℕ) (f : X → List A) where
   pub past_pieces : (xs : List X) (s : ℕ) → ArePieces n f xs → length xs * n ≤ s → slice_get (flat_map f xs) s ≡ None
   past_pieces xs s are le = let l = at_most_full xs are in slice_get_past (flat_map f xs) s (omega arith)
 
-  pub flat_push : (xs : List X) (y : X) → flat_map f (xs ++ y ∷ []) ≡ flat_map f xs ++ f y
-  flat_push [] y = append-nil (f y)
-  flat_push (x ∷ xs) y = ap (λ l. f x ++ l) (flat_push xs y) ∙ sym (append_assoc (f x) (flat_map f xs) (f y))
+  pub zipped_pieces : (xs ys : List X) → AllZip (λ x y. f y ≡ f x) xs ys → ArePieces n f xs → ArePieces n f ys
+  zipped_pieces [] [] same are = are
+  zipped_pieces [] (y ∷ ys) same are = absurd same
+  zipped_pieces (x ∷ xs) [] same are = absurd same
+  zipped_pieces (x ∷ xs) (y ∷ ys) same are =
+      let long = AllZip-long (λ x y. f y ≡ f x) xs ys same.1 in
+      let here : length (f y) ≡ length (f x) = ap length same.0 in
+      let some : 0 < length (f x) = are.0 in
+      let few : length (f x) ≤ n = are.1 in
+      (omega arith, omega arith, (λ lt. here ∙ are.2 (omega arith)), zipped_pieces xs ys same.1 are.3)
 
   -- a piece behind pieces that are all full
   pub push_piece : (xs : List X) (i : ℕ) (y : X) → ArePieces n f xs → length (flat_map f xs) ≡ i * n → 0 < length (f y)
@@ -71,7 +78,7 @@ module _ {X A : Type 0} (n : ℕ) (f : X → List A) where
       let here : length (f x) ≡ n = are.2 (omega arith) in
       (are.0, are.1, (λ lt. here), push_piece (z ∷ xs) i y are.3 (omega arith) some few)
 
-  pub grow_last : (xs : List X) (i : ℕ) (y e : X) (zs : List A) → suc i ≡ length xs → f y ≡ f (get_or xs i e) ++ zs
+  grow_last : (xs : List X) (i : ℕ) (y e : X) (zs : List A) → suc i ≡ length xs → f y ≡ f (get_or xs i e) ++ zs
       → flat_map f (set xs i y) ≡ flat_map f xs ++ zs
   grow_last [] i y e zs last grown = absurd (omega arith)
   grow_last (x ∷ []) zero y e zs last grown = append-nil (f y) ∙ grown ∙ ap (λ l. l ++ zs) (sym (append-nil (f x)))
@@ -79,7 +86,7 @@ module _ {X A : Type 0} (n : ℕ) (f : X → List A) where
   grow_last (x ∷ xs) (suc i) y e zs last grown =
       ap (λ l. f x ++ l) (grow_last xs i y e zs (omega arith) grown) ∙ sym (append_assoc (f x) (flat_map f xs) zs)
 
-  pub set_last : (xs : List X) (i : ℕ) (y : X) → ArePieces n f xs → suc i ≡ length xs → 0 < length (f y) → length (f y) ≤ n
+  set_last : (xs : List X) (i : ℕ) (y : X) → ArePieces n f xs → suc i ≡ length xs → 0 < length (f y) → length (f y) ≤ n
       → ArePieces n f (set xs i y)
   set_last [] i y are last some few = absurd (omega arith)
   set_last (x ∷ []) zero y are last some few = (some, few, (λ lt. absurd (omega arith)), tt)
@@ -90,7 +97,7 @@ module _ {X A : Type 0} (n : ℕ) (f : X → List A) where
   set_last (x ∷ z ∷ xs) (suc (suc i)) y are last some few =
       (are.0, are.1, (λ lt. are.2 (omega arith)), set_last (z ∷ xs) (suc i) y are.3 (omega arith) some few)
 
-  pub last_len : (xs : List X) (i : ℕ) (e : X) → ArePieces n f xs → suc i ≡ length xs
+  last_len : (xs : List X) (i : ℕ) (e : X) → ArePieces n f xs → suc i ≡ length xs
       → length (flat_map f xs) ≡ i * n + length (f (get_or xs i e))
   last_len [] i e are last = absurd (omega arith)
   last_len (x ∷ []) zero e are last = let both = length-append (f x) [] in omega arith
@@ -100,24 +107,6 @@ module _ {X A : Type 0} (n : ℕ) (f : X → List A) where
       let rest = last_len (z ∷ xs) i e are.3 (omega arith) in
       let here : length (f x) ≡ n = are.2 (omega arith) in
       let both = length-append (f x) (flat_map f (z ∷ xs)) in omega arith
-
-  pub flat-AllZip : (xs ys : List X) → AllZip (λ x y. f y ≡ f x) xs ys → flat_map f ys ≡ flat_map f xs
-  flat-AllZip [] [] same = refl
-  flat-AllZip [] (y ∷ ys) same = absurd same
-  flat-AllZip (x ∷ xs) [] same = absurd same
-  flat-AllZip (x ∷ xs) (y ∷ ys) same = let tail : flat_map f ys ≡ flat_map f xs = flat-AllZip xs ys same.1 in
-      let head : f y ≡ f x = same.0 in cc
-
-  pub pieces-AllZip : (xs ys : List X) → AllZip (λ x y. f y ≡ f x) xs ys → ArePieces n f xs → ArePieces n f ys
-  pieces-AllZip [] [] same are = are
-  pieces-AllZip [] (y ∷ ys) same are = absurd same
-  pieces-AllZip (x ∷ xs) [] same are = absurd same
-  pieces-AllZip (x ∷ xs) (y ∷ ys) same are =
-      let long = AllZip-long (λ x y. f y ≡ f x) xs ys same.1 in
-      let here : length (f y) ≡ length (f x) = ap length same.0 in
-      let some : 0 < length (f x) = are.0 in
-      let few : length (f x) ≤ n = are.1 in
-      (omega arith, omega arith, (λ lt. here ∙ are.2 (omega arith)), pieces-AllZip xs ys same.1 are.3)
 
   -- where the last piece is not full, it is the one that holds the next element
   pub last_place : (xs : List X) (i j : ℕ) → ArePieces n f xs → length (flat_map f xs) ≡ i * n + j → 0 < j → j < n
@@ -140,44 +129,34 @@ module _ {X A : Type 0} (n : ℕ) (f : X → List A) where
   last_room xs i j e are long some part =
       let last = last_len xs i e are (last_place xs i j are long some part) in omega arith
 
-pub map-AllZip : {X Y : Type 0} (f : X → Y) (xs ys : List X) → AllZip (λ x y. f y ≡ f x) xs ys → map f ys ≡ map f xs
-map-AllZip f [] [] same = refl
-map-AllZip f [] (y ∷ ys) same = absurd same
-map-AllZip f (x ∷ xs) [] same = absurd same
-map-AllZip f (x ∷ xs) (y ∷ ys) same = let tail : map f ys ≡ map f xs = map-AllZip f xs ys same.1 in
-    let head : f y ≡ f x = same.0 in cc
+  -- the last piece, not yet full, with more elements
+  grown_last : (xs : List X) (i j : ℕ) (y e : X) (zs : List A) → ArePieces n f xs → length (flat_map f xs) ≡ i * n + j → 0 < j
+      → j < n → j + length zs ≤ n → f y ≡ f (get_or xs i e) ++ zs
+      → (flat_map f (set xs i y) ≡ flat_map f xs ++ zs) × ArePieces n f (set xs i y)
+  grown_last xs i j y e zs are long some part few grown =
+      let last = last_place xs i j are long some part in
+      let room = last_room xs i j e are long some part in
+      let both = length-append (f (get_or xs i e)) zs in
+      let more = ap length grown in
+      (grow_last xs i y e zs last grown, set_last xs i y are last (omega arith) (omega arith))
 
--- what is left of a list from a place on, where the place has no element and where it has one
-pub drop_past : {X : Type 0} (xs : List X) (i : ℕ) → slice_get xs i ≡ None → drop i xs ≡ []
-drop_past [] zero none = refl
-drop_past [] (suc i) none = refl
-drop_past (x ∷ xs) zero none = cc
-drop_past (x ∷ xs) (suc i) none = drop_past xs i none
+  -- a piece like the last one in its place
+  pub same_last : (xs : List X) (i j : ℕ) (y e : X) → ArePieces n f xs → length (flat_map f xs) ≡ i * n + j → 0 < j → j < n
+      → f y ≡ f (get_or xs i e) → (flat_map f (set xs i y) ≡ flat_map f xs) × ArePieces n f (set xs i y)
+  same_last xs i j y e are long some part same =
+      let all = grown_last xs i j y e [] are long some part (omega arith) (same ∙ sym (append-nil (f (get_or xs i e)))) in
+      (all.0 ∙ append-nil (flat_map f xs), all.1)
 
-pub drop_next : {X : Type 0} (xs : List X) (i : ℕ) (x : X) → slice_get xs i ≡ Some x → drop i xs ≡ x ∷ drop (i + 1) xs
-drop_next [] zero x at = cc
-drop_next [] (suc i) x at = cc
-drop_next (y ∷ xs) zero x at = let same : y ≡ x = cc in ap (λ z. z ∷ xs) same
-drop_next (y ∷ xs) (suc i) x at =
-    let further : suc (i + 1) ≡ suc i + 1 = omega arith in
-    drop_next xs i x at ∙ ap (λ n. x ∷ drop n (y ∷ xs)) further
-
-last_some : {X : Type 0} (xs : List X) (i : ℕ) → suc i ≡ length xs → (x : X)
-    × ((slice_get xs i ≡ Some x) × ((others : List X) × (xs ≡ others ++ x ∷ [])))
-last_some [] i last = absurd (omega arith)
-last_some (x ∷ []) zero last = (x, (refl, ([], refl)))
-last_some (x ∷ y ∷ xs) zero last = absurd (omega arith)
-last_some (x ∷ []) (suc i) last = absurd (omega arith)
-last_some (x ∷ y ∷ xs) (suc i) last =
-    let rest = last_some (y ∷ xs) i (omega arith) in
-    (rest.0, (rest.1.0, (x ∷ rest.1.1.0, ap (λ l. x ∷ l) rest.1.1.1)))
-
--- what a look at the last place finds: the last element, behind the others
-pub last_of : {X : Type 0} (xs : List X) (i : ℕ) (result : Option X) → result ≡ slice_get xs i → suc i ≡ length xs
-    → MatchOption result (xs ≡ []) (λ x. (others : List X) × (xs ≡ others ++ x ∷ []))
-last_of xs i result at last = let found = last_some xs i last in rw (at ∙ found.1.0) found.1.1
-
-pub copied_match : {X : Type 0} (P : Type 0) (Q : X → Type 0) (result : Option (Bor X)) → MatchOption (option_copied result) P Q
-    → MatchOption result P (λ b. Q b.now)
-copied_match P Q None p = p
-copied_match P Q (Some b) q = q
+  -- the last piece after a push that may have been refused
+  pub pushed_last : {T E : Type 0} (r : Result T E) (xs : List X) (i j : ℕ) (y e : X) (new old : List A) (z : A) → ArePieces n f xs
+      → length (flat_map f xs) ≡ i * n + j → 0 < j → j < n → f y ≡ new → old ≡ f (get_or xs i e)
+      → OnOk r (new ≡ old ++ z ∷ []) → OnErr r (new ≡ old)
+      → OnOk r (flat_map f (set xs i y) ≡ flat_map f xs ++ z ∷ []) × OnErr r (flat_map f (set xs i y) ≡ flat_map f xs)
+      × ArePieces n f (set xs i y)
+  pushed_last (Ok x) xs i j y e new old z are long some part into from pushed refused =
+      let all = grown_last xs i j y e (z ∷ []) are long some part (omega arith)
+      (into ∙ pushed ∙ ap (λ l. l ++ z ∷ []) from) in
+      (all.0, tt, all.1)
+  pushed_last (Err x) xs i j y e new old z are long some part into from pushed refused =
+      let all = same_last xs i j y e are long some part (into ∙ refused ∙ from) in
+      (tt, all.0, all.1)
