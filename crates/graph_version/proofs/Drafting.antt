@@ -1,5 +1,6 @@
 -- A draft's beginning and end.
 use Rattle.std.proofs.Common.{◌≡◌, ℕ, ◌%◌, ◌^◌, List, refl, arith}
+use Rattle.graph_model.specs.Graph.{Graph}
 use Rattle.graph_model.specs.declared.batches.NamedOp.{NamedOp}
 use Rattle.edge_block.specs.Slots.{BlockView}
 use Rattle.vertex_names.specs.Book.{Book}
@@ -8,26 +9,27 @@ use Rattle.graph_version.specs.Drafts.{DraftView, drafted_over, IsWhole}
 use Rattle.graph_version.proofs.Few.{few_total}
 
 -- the draft of these parts
-abbrev pub draft_of : Book → Book → List (List NamedOp) → List (List BlockView) → DraftView
-draft_of names kinds batches rows = record { names = names; kinds = kinds; version = version_of batches rows }
+abbrev pub draft_of : Book → Book → Graph → List (List NamedOp) → List (List BlockView) → DraftView
+draft_of names kinds opening batches rows = record { names = names; kinds = kinds; version = version_of opening batches rows }
 
-pub drafted : (names kinds old_names old_kinds : Book) (batches old_batches : List (List NamedOp))
-    (rows old_rows : List (List BlockView)) (edges : ℕ)
-    → IsKept old_names old_kinds edges (version_of old_batches old_rows) → names ≡ old_names → kinds ≡ old_kinds
-    → batches ≡ old_batches → rows ≡ old_rows
-    → draft_of names kinds batches rows ≡ drafted_over (version_of old_batches old_rows)
-drafted names kinds old_names old_kinds batches old_batches rows old_rows edges is n k b r =
+pub drafted : (names kinds old_names old_kinds : Book) (opening old_opening : Graph)
+    (batches old_batches : List (List NamedOp)) (rows old_rows : List (List BlockView)) (edges : ℕ)
+    → IsKept old_names old_kinds edges (version_of old_opening old_batches old_rows) → names ≡ old_names → kinds ≡ old_kinds
+    → opening ≡ old_opening → batches ≡ old_batches → rows ≡ old_rows
+    → draft_of names kinds opening batches rows ≡ drafted_over (version_of old_opening old_batches old_rows)
+drafted names kinds old_names old_kinds opening old_opening batches old_batches rows old_rows edges is n k o b r =
     let names_are = is.names_are in
     let kinds_are = is.kinds_are in
-    rw (n, k, b, r, names_are, kinds_are) refl
+    rw (n, k, o, b, r, names_are, kinds_are) refl
 
 -- the count of a version's edges, where it is known modulo 2^64
-pub whole_kept : (names kinds : Book) (batches : List (List NamedOp)) (rows : List (List BlockView)) (edges : ℕ)
-    → IsWhole (draft_of names kinds batches rows) → edges ≡ edge_total (version_of batches rows) % 2 ^ 64
-    → IsKept names kinds edges (version_of batches rows)
-whole_kept names kinds batches rows edges is count = record {
+pub whole_kept : (names kinds : Book) (opening : Graph) (batches : List (List NamedOp)) (rows : List (List BlockView))
+    (edges : ℕ)
+    → IsWhole (draft_of names kinds opening batches rows) → edges ≡ edge_total (version_of opening batches rows) % 2 ^ 64
+    → IsKept names kinds edges (version_of opening batches rows)
+whole_kept names kinds opening batches rows edges is count = record {
   names_are = is.names_are;
   kinds_are = is.kinds_are;
-  edges_are = omega (arith, count, few_total (version_of batches rows) is.version);
+  edges_are = omega (arith, count, few_total (version_of opening batches rows) is.version);
   version = is.version;
 }

@@ -2,7 +2,8 @@
 use Rattle.std.proofs.Common.{◌≡◌, ◌∙◌, ℕ, List, [], refl, sym, ap, arith, true≢false}
 use Rattle.std.specs.Option.{is_some}
 use Rattle.std.specs.FinMap.{get-empty, len-empty}
-use Rattle.graph_model.specs.Graph.{Stamp, key_cmp}
+use Rattle.graph_model.specs.Graph.{Graph, Stamp, key_cmp}
+use Rattle.graph_model.specs.Step.{empty_graph}
 use Rattle.graph_model.specs.declared.batches.NamedOp.{NamedOp}
 use Rattle.edge_block.specs.Slots.{BlockView}
 use Rattle.vertex_names.specs.Book.{Book, empty_book}
@@ -25,11 +26,11 @@ is_empty_version = record {
 }
 
 -- what a version keeps is true of the one without batches
-pub is_kept_empty : (names kinds : Book) (batches : List (List NamedOp)) (rows : List (List BlockView)) (edges : ℕ)
-    → names ≡ empty_book 65536 → kinds ≡ empty_book 64 → batches ≡ [] → rows ≡ [] → edges ≡ 0
-    → IsKept names kinds edges (version_of batches rows)
-is_kept_empty names kinds batches rows edges n k b r e =
-    rw (n, k, b, r, e) (record {
+pub is_kept_empty : (names kinds : Book) (opening : Graph) (batches : List (List NamedOp)) (rows : List (List BlockView))
+    (edges : ℕ) → names ≡ empty_book 65536 → kinds ≡ empty_book 64 → opening ≡ empty_graph → batches ≡ [] → rows ≡ []
+    → edges ≡ 0 → IsKept names kinds edges (version_of opening batches rows)
+is_kept_empty names kinds opening batches rows edges n k o b r e =
+    rw (n, k, o, b, r, e) (record {
       names_are = refl;
       kinds_are = refl;
       edges_are = sym (len-empty key_cmp Stamp);

@@ -5,3 +5,5 @@ pub mod Totals
 pub mod Few
 pub mod Drafting
 pub mod Lent
+pub mod BlockCounts
+pub mod Rebased

@@ -1,6 +1,6 @@
 -- Rows that are tied to a graph by look-up list each of its edges once.
 use Rattle.std.proofs.Common.{◌≡◌, ℕ, zero, suc, ◌+◌, ◌<◌, ◌≤◌, List, [], ◌∷◌, ◌++◌, map, length, refl, sym, ap, ap₂, ◌∙◌}
-use Rattle.std.proofs.Common.{subst, arith, inl, inr, All, true, false, Option, None}
+use Rattle.std.proofs.Common.{subst, arith, inl, inr, All, true, None}
 use Rattle.std.specs.Option.{is_some}
 use Rattle.std.specs.FinMap.{get}
 use Rattle.std.proofs.lemmas.Bool.{false≢true}

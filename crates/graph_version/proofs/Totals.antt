@@ -33,7 +33,7 @@ at_source source s row rest same = elim (eqb_tells s source) [ inl e ↦ rw e.0 
 pub elsewhere : (source s : ℕ) (row rest : List BlockView) → s ≢ source → (if s == source then row else rest) ≡ rest
 elsewhere source s row rest apart = elim (eqb_tells s source) [ inl e ↦ absurd (apart e.1) | inr e ↦ rw e.0 refl ]
 
-count_one : (b : BlockView) → length (edges_in_block b) ≡ length (edges_in b.slots)
+pub count_one : (b : BlockView) → length (edges_in_block b) ≡ length (edges_in b.slots)
 count_one b = length-map (entries_of b) edge_from ∙ length-map (edges_in b.slots) (entry_in b)
 
 -- one block more

@@ -1,12 +1,16 @@
--- What a version keeps beside its batches and rows: two books of names, and how many edges there are.
+-- What a version keeps beside its batches and rows: what it began with, two books of names, and how many edges there are.
 use Rattle.std.specs.Prelude.{◌≡◌, ℕ, List}
+use Rattle.std.specs.Arc.{arc_value}
 use Rattle.std.specs.FinMap.{len}
 use Rattle.graph_model.specs.Limits.{name_limit, kind_limit}
-use Rattle.graph_model.specs.Step.{empty_graph}
+use Rattle.graph_model.specs.Graph.{Graph, graph_of}
 use Rattle.graph_model.specs.declared.batches.NamedOp.{NamedOp}
+use Rattle.graph_model.specs.declared.contents.Content.{Content}
 use Rattle.edge_block.specs.Slots.{BlockView}
 use Rattle.vertex_names.specs.Book.{Book}
 use Rattle.graph_version.specs.Versions.{VersionView, content, IsVersion}
+use Rattle.graph_version.specs.declared.opening.Opening.{Opening}
+use Rattle.graph_version.specs.declared.opening.Opening.TheVariants.{Alone, Shared}
 
 -- a book of at most 65,536 vertex names, and one of at most 64 kind names
 abbrev pub vertex_book : List (List ℕ) → Book
@@ -15,9 +19,17 @@ vertex_book names = record { limit = name_limit; names = names }
 abbrev pub kind_book : List (List ℕ) → Book
 kind_book kinds = record { limit = kind_limit; names = kinds }
 
--- the version of these batches and rows: every opening graph is empty so far
-abbrev pub version_of : List (List NamedOp) → List (List BlockView) → VersionView
-version_of batches rows = record { opening = empty_graph; batches = batches; rows = rows }
+-- what a version began with, as a content and as a graph
+abbrev pub opening_content : Opening → Content
+opening_content (Alone content) = content
+opening_content (Shared content) = arc_value {X = Content} content
+
+abbrev pub opening_graph : Opening → Graph
+opening_graph opening = graph_of (opening_content opening)
+
+-- the version of this opening graph, and these batches and rows
+abbrev pub version_of : Graph → List (List NamedOp) → List (List BlockView) → VersionView
+version_of opening batches rows = record { opening = opening; batches = batches; rows = rows }
 
 -- how many edges a version has
 abbrev pub edge_total : VersionView → ℕ

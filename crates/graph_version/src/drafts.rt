@@ -8,6 +8,7 @@ ghost use Rattle.graph_version.specs.Edges.{edges_in_blocks};
 ghost use Rattle.graph_version.specs.Kept.{edge_total};
 ghost use Rattle.graph_version.specs.Drafts.{drafted_over, with_batch, ReplacesRow, IsWhole};
 
+use crate::opening::Opening;
 use crate::versions::Version;
 use batch_pages::BatchList;
 use edge_block::Block;
@@ -23,6 +24,7 @@ use vertex_names::NameBook;
 /// After a refused growth the draft is given up, and the version that it was drafted over is as before.
 #[derive(Drop)]
 pub struct VersionDraft {
+    opening: Opening,
     names: NameBook,
     kinds: NameBook,
     batches: BatchList,
@@ -30,7 +32,7 @@ pub struct VersionDraft {
 }
 
 impl Model for VersionDraft {
-    ghost use Rattle.graph_version.specs.Kept.{version_of};
+    ghost use Rattle.graph_version.specs.Kept.{version_of, opening_graph};
     ghost use Rattle.graph_version.specs.Drafts.{DraftView};
     ghost use Rattle.std.specs.Coded.{codes};
     ghost use Rattle.graph_model.specs.Coded.{graph_code};
@@ -39,7 +41,11 @@ impl Model for VersionDraft {
 
     ghost coded = { Prim.hlevel (codes, graph_code) };
 
-    ghost view = { λ d. record { names = d.names; kinds = d.kinds; version = version_of d.batches d.rows } };
+    ghost view = { λ d. record {
+      names = d.names;
+      kinds = d.kinds;
+      version = version_of (opening_graph d.opening) d.batches d.rows;
+    } };
 }
 
 impl VersionDraft {
@@ -53,6 +59,7 @@ impl VersionDraft {
             kinds: version.kinds.share()?,
             batches: version.batches.share()?,
             rows: version.rows.share()?,
+            opening: version.opening.share()?,
         })
     }
 
@@ -111,6 +118,7 @@ impl VersionDraft {
             kinds: self.kinds,
             batches: self.batches,
             rows: self.rows,
+            opening: self.opening,
             edges,
         }
     }

@@ -66,7 +66,7 @@ impl<'a> Iterator for RowIter<'a> {
 }
 
 /// All edges of a block, in slot order.
-fn all_edges(block: &Block) -> BlockIter<'_>
+pub(crate) fn all_edges(block: &Block) -> BlockIter<'_>
     ensures { edges_left result ≡ map lent_of (entries_of block.now) }
 {
     // A block's contract says with its count that its times are times: the window leaves out none of them.

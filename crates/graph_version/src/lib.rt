@@ -8,6 +8,8 @@
 mod drafts;
 mod laws;
 mod lending;
+mod opening;
+mod rebase;
 mod versions;
 
 pub use drafts::VersionDraft;

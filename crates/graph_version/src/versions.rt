@@ -1,7 +1,8 @@
 //! The version and its calls.
 
-ghost use Rattle.std.specs.Prelude.{◌≡◌, ◌++◌, ◌∷◌, [], List, length, MatchOption};
+ghost use Rattle.std.specs.Prelude.{◌≡◌, ◌%◌, ◌^◌, ◌++◌, ◌∷◌, [], List, length, MatchOption};
 ghost use Rattle.std.specs.Option.{option_map};
+ghost use Rattle.graph_model.specs.Graph.{graph_of};
 ghost use Rattle.graph_model.specs.declared.batches.NamedOp.{NamedOp};
 ghost use Rattle.edge_block.specs.Lending.{lent_edge};
 ghost use Rattle.row_pages.specs.Rows.{row_of, blocks_of, numbers_of};
@@ -12,9 +13,10 @@ ghost use Rattle.graph_version.specs.Edges.{lent_to};
 ghost use Rattle.graph_version.specs.Kept.{vertex_book, kind_book, edge_total};
 
 use crate::lending::{BlockNumbers, RowIter};
+use crate::opening::Opening;
 use batch_pages::{BatchIter, BatchList};
 use edge_block::{Block, EdgeRef};
-use graph_model::{Batch, KindId, VertexId};
+use graph_model::{Batch, Content, KindId, VertexId};
 use row_pages::Rows;
 use std::alloc::Global;
 use std::marker::Model;
@@ -32,6 +34,7 @@ const KINDS: u32 = 64;
 /// A version's rows, batches and names are shared with the versions before and after it but where a batch changed
 /// them. It is dropped in time linear in what it alone holds.
 pub struct Version {
+    pub(crate) opening: Opening,
     pub(crate) names: NameBook,
     pub(crate) kinds: NameBook,
     pub(crate) batches: BatchList,
@@ -43,6 +46,7 @@ pub struct Version {
 impl Drop for Version {
     fn drop(self) {
         let Version {
+            opening: _opening,
             names: _names,
             kinds: _kinds,
             batches: _batches,
@@ -54,7 +58,7 @@ impl Drop for Version {
 
 impl Model for Version {
     ghost use Rattle.graph_version.specs.Versions.{VersionView};
-    ghost use Rattle.graph_version.specs.Kept.{version_of, IsKept};
+    ghost use Rattle.graph_version.specs.Kept.{version_of, opening_graph, IsKept};
     ghost use Rattle.std.specs.Coded.{codes};
     ghost use Rattle.graph_model.specs.Coded.{graph_code};
 
@@ -62,9 +66,9 @@ impl Model for Version {
 
     ghost coded = { Prim.hlevel (codes, graph_code) };
 
-    ghost view = { λ v. version_of v.batches v.rows };
+    ghost view = { λ v. version_of (opening_graph v.opening) v.batches v.rows };
 
-    ghost invariant = { λ v. IsKept v.names v.kinds v.edges (version_of v.batches v.rows) };
+    ghost invariant = { λ v. IsKept v.names v.kinds v.edges (version_of (opening_graph v.opening) v.batches v.rows) };
 }
 
 impl Version {
@@ -76,12 +80,20 @@ impl Version {
         ensures { result ≡ empty_version }
     {
         Version {
+            opening: Opening::empty(alloc),
             names: NameBook::new(alloc, NAMES),
             kinds: NameBook::new(alloc, KINDS),
             batches: BatchList::new(alloc),
             rows: Rows::new(alloc),
             edges: 0,
         }
+    }
+
+    /// What it began with, before its first batch. It takes no memory.
+    pub fn opening(&self) -> &Content
+        ensures { graph_of result.now ≡ self.now.opening }
+    {
+        self.opening.content()
     }
 
     /// How many batches there are.
@@ -128,6 +140,13 @@ impl Version {
         self.edges
     }
 
+    /// How many blocks there are.
+    pub fn block_count(&self) -> usize
+        ensures { result ≡ length (blocks_of self.now.rows) }
+    {
+        blocks_in_rows(&self.rows)
+    }
+
     /// The edge of a kind from a source to a target.
     pub fn edge(&self, kind: KindId, source: VertexId, target: VertexId) -> Option<EdgeRef<'_>>
         ensures { option_map lent_edge result ≡ lent_at self.now kind.0 source.0 target.0 }
@@ -160,6 +179,17 @@ impl Version {
     {
         BlockNumbers::over(&self.rows)
     }
+}
+
+/// How many blocks rows have, modulo 2^64.
+fn blocks_in_rows(rows: &Rows) -> usize
+    ensures { result ≡ length (blocks_of rows.now) % 2 ^ 64 }
+{
+    let mut blocks = 0_usize;
+    for source in 0..rows.len() {
+        blocks = blocks.wrapping_add(rows.row_blocks(VertexId(source as u32)).len());
+    }
+    blocks
 }
 
 /// A block's edge of a kind to a target.

@@ -7,6 +7,7 @@ mod gates;
 mod limits;
 mod long_rows;
 mod ops;
+mod rebased;
 mod refusals;
 mod refused;
 mod requests;

@@ -1,6 +1,7 @@
 // Want of memory: a version stays as it is where the next one isn't made, and where it has no answer.
 
 use super::ops::batch_of;
+use super::rebased::rebased;
 use super::requests::{reply_text, request_of};
 use super::steps::applied_batch;
 use batch_apply::{Applied, PassAll};
@@ -81,6 +82,27 @@ fn check_apply<R: Threads + Sync + Abort + Print>(rt: &R, alloc: Global, version
 fn refused_apply_leaves_the_version(rt: HostRuntime) {
     match first(&rt, rt.alloc()) {
         Some(first) => check_apply(&rt, rt.alloc(), &first.version),
+        None => {
+            let _ = println!(&rt; "refused");
+        }
+    }
+}
+
+// A version 0 over copies of the version's blocks has its counts, or memory was refused; the version is as it was.
+fn check_rebased(rt: &(impl Abort + Print), alloc: Global, version: &Version) {
+    match rebased(alloc, version) {
+        Some(zero) => assert_eq!(rt; told(&zero), (0, 2, 1, 2, Some(1))),
+        None => {
+            let _ = println!(rt; "refused");
+        }
+    }
+    check_first(rt, version);
+}
+
+#[test]
+fn refused_copies_leave_the_version(rt: HostRuntime) {
+    match first(&rt, rt.alloc()) {
+        Some(first) => check_rebased(&rt, rt.alloc(), &first.version),
         None => {
             let _ = println!(&rt; "refused");
         }

@@ -5,7 +5,7 @@ use Rattle.graph_version.proofs.Drafting.{whole_kept}
 use Rattle.graph_version.proofs.drafts.VersionDraft.finish_counted.Goals as goal
 
 pub invariant_of-result : goal.invariant_of-result
-invariant_of-result c = whole_kept _ _ _ _ _ (subst IsWhole (sym c.self.view_is) c.requires.whole)
+invariant_of-result c = whole_kept _ _ _ _ _ _ (subst IsWhole (sym c.self.view_is) c.requires.whole)
     (subst (λ (d : DraftView). c.args.edges ≡ edge_total d.version % 2 ^ 64) (sym c.self.view_is) c.requires.edges)
 
 pub returns : goal.returns

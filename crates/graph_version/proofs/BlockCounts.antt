@@ -1,0 +1,49 @@
+-- How many blocks rows have: a version at most 2 ^ 38, since each of its blocks has an edge.
+use Rattle.std.proofs.Common.{◌≡◌, ℕ, zero, suc, ◌+◌, ◌<◌, ◌≤◌, ◌^◌, false, List, [], ◌∷◌, length, take, Option, Some, None}
+use Rattle.std.proofs.Common.{ap, sym, ◌∙◌, arith, All, length-append}
+use Rattle.std.specs.List.{list_all}
+use Rattle.std.proofs.lemmas.List.Elements.{All-head, All-tail, All-append}
+use Rattle.edge_block.specs.Slots.{Slot, BlockView, is_free, edges_in}
+use Rattle.row_pages.specs.Rows.{row_of, blocks_of}
+use Rattle.graph_version.specs.Versions.{VersionView, IsVersion}
+use Rattle.graph_version.specs.Edges.{edges_in_block, edges_in_blocks}
+use Rattle.graph_version.proofs.Few.{count_is_total, few_total}
+use Rattle.graph_version.proofs.Totals.{count_one}
+
+some_edges : (slots : List (Option Slot)) → list_all is_free slots ≡ false → 1 ≤ length (edges_in slots)
+some_edges [] is = cc
+some_edges (None ∷ slots) is = some_edges slots is
+some_edges (Some e ∷ slots) is = omega arith
+
+abbrev HasEdges : BlockView → Type 0
+HasEdges b = list_all is_free b.slots ≡ false
+
+as_many_edges : (bs : List BlockView) → All HasEdges bs → length bs ≤ length (edges_in_blocks bs)
+as_many_edges [] all = omega arith
+as_many_edges (b ∷ bs) all =
+    let here = some_edges b.slots (All-head HasEdges b bs all) in
+    let rest = as_many_edges bs (All-tail HasEdges b bs all) in
+    let both = length-append (edges_in_block b) (edges_in_blocks bs) in
+    let one = count_one b in
+    omega arith
+
+all_have : (rows : List (List BlockView)) → ((s : ℕ) → All HasEdges (row_of rows s)) → All HasEdges (blocks_of rows)
+all_have [] each = λ k d h. absurd (omega arith)
+all_have (row ∷ rows) each = All-append HasEdges row (blocks_of rows) (each 0) (all_have rows (λ s. each (suc s)))
+
+pub few_blocks : (v : VersionView) → IsVersion v → length (blocks_of v.rows) ≤ 2 ^ 38
+few_blocks v is =
+    let many = as_many_edges (blocks_of v.rows) (all_have v.rows (λ s k d h. (is.rows.blocks s k d h).has_edges)) in
+    omega (arith, many, count_is_total v is, few_total v is)
+
+-- one row more
+pub blocks_more : (rows : List (List BlockView)) (i : ℕ) → i < length rows
+    → length (blocks_of (take (i + 1) rows)) ≡ length (blocks_of (take i rows)) + length (row_of rows i)
+blocks_more [] i lt = absurd (omega arith)
+blocks_more (row ∷ rows) zero lt = omega (arith, length-append row [])
+blocks_more (row ∷ rows) (suc i) lt =
+    let further : suc (i + 1) ≡ suc i + 1 = omega arith in
+    let rest = blocks_more rows i (omega arith) in
+    let one = length-append row (blocks_of (take (i + 1) rows)) in
+    let other = length-append row (blocks_of (take i rows)) in
+    ap (λ n. length (blocks_of (take n (row ∷ rows)))) (sym further) ∙ omega (arith, rest, one, other)

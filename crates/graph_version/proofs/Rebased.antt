@@ -1,0 +1,367 @@
+-- A version 0 over copies of another version's blocks.
+use Rattle.std.proofs.Common.{◌≡◌, ◌≢◌, ℕ, zero, suc, ◌+◌, ◌-◌, ◌<◌, ◌≤◌, List, [], ◌∷◌, ◌++◌, map, length, take}
+use Rattle.std.proofs.Common.{drop, get_or, refl, sym, ap, ap₂, subst, ◌∙◌, arith, ◌⊎◌, inl, inr, All, AllPairs, length-append}
+use Rattle.std.proofs.lemmas.List.{append-nil, take_all, drop_all}
+use Rattle.std.specs.List.{list_all}
+use Rattle.std.proofs.lemmas.Bool.Decides.{eqb_tells}
+use Rattle.std.specs.declared.sync.Arc.{Arc}
+use Rattle.std.specs.declared.alloc.Global.{Global}
+use Rattle.std.proofs.lemmas.List.{length-map, map-append}
+use Rattle.std.proofs.lemmas.List.Elements.{All-head, All-tail, All-cons}
+use Rattle.std.specs.FinMap.{len}
+use Rattle.graph_model.specs.Graph.{Graph, graph_of, map_of}
+use Rattle.graph_model.specs.Limits.{name_limit, kind_limit}
+use Rattle.graph_model.specs.declared.batches.NamedOp.{NamedOp}
+use Rattle.graph_model.specs.declared.contents.Content.{Content}
+use Rattle.graph_model.specs.declared.ids.Edge.{Edge}
+use Rattle.edge_block.specs.Slots.{Slot, BlockView, is_free, entry_in, entries_of, edges_in}
+use Rattle.edge_block.specs.Lending.{LentEdge, lent_of}
+use Rattle.block_layout.specs.Rows.{shape_of}
+use Rattle.block_layout.specs.Batches.{IsLayoutOf, IsWithin}
+use Rattle.vertex_names.specs.Book.{Book}
+use Rattle.row_pages.specs.Rows.{row_of, blocks_of, numbers_of, Replaces}
+use Rattle.row_pages.specs.Sharing.{block_value, block_values}
+use Rattle.edge_block.specs.declared.blocks.Block.{Block}
+use Rattle.graph_version.specs.Versions.{VersionView, IsBlockOf, AreRowsOf, IsVersion, content, layout_of}
+use Rattle.graph_version.specs.Edges.{edge_from, edges_in_block, edges_in_blocks}
+use Rattle.graph_version.specs.Kept.{vertex_book, kind_book, version_of, IsKept}
+use Rattle.graph_version.specs.Rebased.{AreCopies, IsRebased, rows_like, unnumbered}
+use Rattle.graph_version.proofs.Shown.{rows_each_once}
+use Rattle.graph_version.proofs.Totals.{same_blocks, at_source, elsewhere}
+
+-- Lists cut in two
+
+take_drop : {A : Type 0} (n : ℕ) (xs : List A) → take n xs ++ drop n xs ≡ xs
+take_drop zero xs = refl
+take_drop (suc n) [] = refl
+take_drop (suc n) (x ∷ xs) = ap (λ ys. x ∷ ys) (take_drop n xs)
+
+pub map_take : {A B : Type 0} (f : A → B) (n : ℕ) (xs : List A) → map f (take n xs) ≡ take n (map f xs)
+map_take f zero xs = refl
+map_take f (suc n) [] = refl
+map_take f (suc n) (x ∷ xs) = ap (λ ys. f x ∷ ys) (map_take f n xs)
+
+pub map_drop : {A B : Type 0} (f : A → B) (n : ℕ) (xs : List A) → map f (drop n xs) ≡ drop n (map f xs)
+map_drop f zero xs = refl
+map_drop f (suc n) [] = refl
+map_drop f (suc n) (x ∷ xs) = map_drop f n xs
+
+take_front : {A : Type 0} (xs ys : List A) → take (length xs) (xs ++ ys) ≡ xs
+take_front [] ys = refl
+take_front (x ∷ xs) ys = ap (λ zs. x ∷ zs) (take_front xs ys)
+
+drop_front : {A : Type 0} (xs ys : List A) → drop (length xs) (xs ++ ys) ≡ ys
+drop_front [] ys = refl
+drop_front (x ∷ xs) ys = drop_front xs ys
+
+-- from a place on: what stands there, and the rest
+drop_at : {A : Type 0} (xs : List A) (k : ℕ) (d : A) → k < length xs → drop k xs ≡ get_or xs k d ∷ drop (k + 1) xs
+drop_at [] k d lt = absurd (omega arith)
+drop_at (x ∷ xs) zero d lt = refl
+drop_at (x ∷ xs) (suc k) d lt =
+    let further : suc (k + 1) ≡ suc k + 1 = omega arith in
+    drop_at xs k d (omega arith) ∙ ap (λ n. get_or xs k d ∷ drop n (x ∷ xs)) further
+
+at_drop : {A : Type 0} (xs : List A) (k : ℕ) (d : A) → get_or (drop k xs) 0 d ≡ get_or xs k d
+at_drop [] zero d = refl
+at_drop [] (suc k) d = refl
+at_drop (x ∷ xs) zero d = refl
+at_drop (x ∷ xs) (suc k) d = at_drop xs k d
+
+past : {A : Type 0} (xs : List A) (k : ℕ) (d : A) → length xs ≤ k → get_or xs k d ≡ d
+past [] k d le = refl
+past (x ∷ xs) zero d le = absurd (omega arith)
+past (x ∷ xs) (suc k) d le = past xs k d (omega arith)
+
+-- Rows like others
+
+length-rows_like : (rows : List (List BlockView)) (bs : List BlockView) → length (rows_like rows bs) ≡ length rows
+length-rows_like [] bs = refl
+length-rows_like (row ∷ rows) bs = ap suc (length-rows_like rows (drop (length row) bs))
+
+length-drop : {A : Type 0} (n : ℕ) (xs : List A) → length (drop n xs) ≡ length xs - n
+length-drop zero xs = omega arith
+length-drop (suc n) [] = omega arith
+length-drop (suc n) (x ∷ xs) = length-drop n xs ∙ omega arith
+
+-- they are all of the blocks
+pub blocks_like : (rows : List (List BlockView)) (bs : List BlockView) → length bs ≡ length (blocks_of rows)
+    → blocks_of (rows_like rows bs) ≡ bs
+blocks_like [] [] long = refl
+blocks_like [] (b ∷ bs) long = absurd (omega arith)
+blocks_like (row ∷ rows) bs long =
+    let both = length-append row (blocks_of rows) in
+    let rest = length-drop (length row) bs in
+    ap (λ xs. take (length row) bs ++ xs) (blocks_like rows (drop (length row) bs) (omega arith))
+    ∙ take_drop (length row) bs
+
+-- rows of blocks that are the same but for their numbers
+pub unnumbered_like : (rows : List (List BlockView)) (bs : List BlockView)
+    → map unnumbered bs ≡ map unnumbered (blocks_of rows) → (s : ℕ)
+    → map unnumbered (row_of (rows_like rows bs) s) ≡ map unnumbered (row_of rows s)
+unnumbered_like [] bs same s = refl
+unnumbered_like (row ∷ rows) bs same zero =
+    map_take unnumbered (length row) bs ∙ ap (take (length row)) (same ∙ map-append unnumbered row (blocks_of rows))
+    ∙ ap (λ n. take n (map unnumbered row ++ map unnumbered (blocks_of rows))) (sym (length-map row unnumbered))
+    ∙ take_front (map unnumbered row) (map unnumbered (blocks_of rows))
+unnumbered_like (row ∷ rows) bs same (suc s) =
+    unnumbered_like rows (drop (length row) bs)
+    (map_drop unnumbered (length row) bs ∙ ap (drop (length row)) (same ∙ map-append unnumbered row (blocks_of rows))
+    ∙ ap (λ n. drop n (map unnumbered row ++ map unnumbered (blocks_of rows))) (sym (length-map row unnumbered))
+    ∙ drop_front (map unnumbered row) (map unnumbered (blocks_of rows))) s
+
+-- The rows so far
+
+-- the rows of the first sources are made, those of the others are empty, and the blocks left are for these
+pub record AreSoFar (rows : List (List BlockView)) (blocks : List BlockView) (k : ℕ) (copy : List (List BlockView))
+    (left : List BlockView) : Type 0 where
+  pub made : (s : ℕ) → s < k → row_of copy s ≡ row_of (rows_like rows blocks) s
+  pub none : (s : ℕ) → k ≤ s → row_of copy s ≡ []
+  pub rest : rows_like (drop k rows) left ≡ drop k (rows_like rows blocks)
+  pub many : length left ≡ length (blocks_of (drop k rows))
+
+pub none_so_far : (rows : List (List BlockView)) (blocks : List BlockView) → length blocks ≡ length (blocks_of rows)
+    → AreSoFar rows blocks 0 [] blocks
+none_so_far rows blocks long = record {
+  made = λ s lt. absurd (omega arith);
+  none = λ s le. refl;
+  rest = refl;
+  many = long;
+}
+
+-- the blocks left are enough for the next row
+pub enough : (rows : List (List BlockView)) (blocks : List BlockView) (k : ℕ) (copy : List (List BlockView))
+    (left : List BlockView) → AreSoFar rows blocks k copy left → k < length rows → length (row_of rows k) ≤ length left
+enough rows blocks k copy left so_far lt =
+    let at = drop_at rows k [] lt in
+    let many : length left ≡ length (row_of rows k ++ blocks_of (drop (k + 1) rows)) =
+    so_far.many ∙ ap (λ rs. length (blocks_of rs)) at in
+    let both = length-append (row_of rows k) (blocks_of (drop (k + 1) rows)) in
+    omega arith
+
+-- one row more
+pub row_more : (rows : List (List BlockView)) (blocks : List BlockView) (k : ℕ) (copy next : List (List BlockView))
+    (left row rest : List BlockView) → AreSoFar rows blocks k copy left → k < length rows
+    → row ≡ take (length (row_of rows k)) left → rest ≡ drop (length (row_of rows k)) left → Replaces k row copy next
+    → AreSoFar rows blocks (k + 1) next rest
+row_more rows blocks k copy next left row rest so_far lt row_is rest_is replaced =
+    let n : ℕ = length (row_of rows k) in
+    let all : List (List BlockView) = rows_like rows blocks in
+    let at : drop k rows ≡ row_of rows k ∷ drop (k + 1) rows = drop_at rows k [] lt in
+    let cut : take n left ∷ rows_like (drop (k + 1) rows) (drop n left) ≡ drop k all =
+    ap (λ rs. rows_like rs left) (sym at) ∙ so_far.rest in
+    let long = length-rows_like rows blocks in
+    let here : row ≡ row_of all k = row_is ∙ ap (λ rs. get_or rs 0 []) cut ∙ at_drop all k [] in
+    let behind : drop k all ≡ row_of all k ∷ drop (k + 1) all = drop_at all k [] (omega arith) in
+    let many : length left ≡ length (row_of rows k ++ blocks_of (drop (k + 1) rows)) =
+    so_far.many ∙ ap (λ rs. length (blocks_of rs)) at in
+    let both = length-append (row_of rows k) (blocks_of (drop (k + 1) rows)) in
+    let fewer = length-drop n left in
+    record {
+      made = λ s below. elim (eqb_tells s k) [
+        | inl e ↦ replaced s ∙ at_source k s row (row_of copy s) e.1 ∙ here ∙ ap (row_of all) (sym e.1)
+        | inr e ↦ replaced s ∙ elsewhere k s row (row_of copy s) e.1
+            ∙ so_far.made s (let apart = e.1 in below_or s k below apart)
+      ];
+      none = λ s from. replaced s ∙ elsewhere k s row (row_of copy s) (λ e. absurd (omega arith)) ∙ so_far.none s (omega arith);
+      rest = ap (rows_like (drop (k + 1) rows)) rest_is ∙ ap (drop 1) (cut ∙ behind);
+      many = ap length rest_is ∙ omega (arith, fewer, many, both);
+    } where
+      below_or : (s m : ℕ) → s < m + 1 → s ≢ m → s < m
+      below_or s m lt apart = omega arith
+
+below_or_past : (n m : ℕ) → (n < m) ⊎ (m ≤ n)
+below_or_past n zero = inr (omega arith)
+below_or_past zero (suc m) = inl (omega arith)
+below_or_past (suc n) (suc m) = elim (below_or_past n m) [ inl lt ↦ inl (omega arith) | inr le ↦ inr (omega arith) ]
+
+pub all_made : (rows : List (List BlockView)) (blocks : List BlockView) (k : ℕ) (copy : List (List BlockView))
+    (left : List BlockView) → AreSoFar rows blocks k copy left → length rows ≤ k → (s : ℕ)
+    → row_of copy s ≡ row_of (rows_like rows blocks) s
+all_made rows blocks k copy left so_far le s =
+    let long = length-rows_like rows blocks in
+    elim (below_or_past s k) [
+      | inl lt ↦ so_far.made s lt
+      | inr from ↦ so_far.none s from ∙ sym (past (rows_like rows blocks) s [] (omega arith))
+    ]
+
+-- The version
+
+shapes_same : (xs : List BlockView) → map shape_of xs ≡ map shape_of (map unnumbered xs)
+shapes_same [] = refl
+shapes_same (x ∷ xs) = ap (λ ys. shape_of x ∷ ys) (shapes_same xs)
+
+unnumbered_block : (source : ℕ) (x y : BlockView) → unnumbered x ≡ unnumbered y → IsBlockOf source y → IsBlockOf source x
+unnumbered_block source x y same is = record {
+  source_is = ap (λ b. b.source) same ∙ is.source_is;
+  has_edges = ap (λ b. list_all is_free b.slots) same ∙ is.has_edges;
+}
+
+blocks_same : (source : ℕ) (xs ys : List BlockView) → map unnumbered xs ≡ map unnumbered ys → All (IsBlockOf source) ys
+    → All (IsBlockOf source) xs
+blocks_same source [] ys same all = λ k d h. absurd (omega arith)
+blocks_same source (x ∷ xs) [] same all = cc
+blocks_same source (x ∷ xs) (y ∷ ys) same all =
+    let heads : unnumbered x ≡ unnumbered y = ap (λ l. get_or l 0 (unnumbered x)) same in
+    let tails : map unnumbered xs ≡ map unnumbered ys = ap (drop 1) same in
+    All-cons (IsBlockOf source) x xs (unnumbered_block source x y heads (All-head (IsBlockOf source) y ys all))
+    (blocks_same source xs ys tails (All-tail (IsBlockOf source) y ys all))
+
+-- rows that look as the copies in rows
+pub record LookLike (v : VersionView) (blocks : List BlockView) (copy : List (List BlockView)) : Type 0 where
+  pub copies : AreCopies v.rows blocks
+  pub looks : (s : ℕ) → row_of copy s ≡ row_of (rows_like v.rows blocks) s
+
+copies_long : (v : VersionView) (blocks : List BlockView) → AreCopies v.rows blocks → length blocks ≡ length (blocks_of v.rows)
+copies_long v blocks copies =
+    sym (length-map blocks unnumbered) ∙ ap length copies.same ∙ length-map (blocks_of v.rows) unnumbered
+
+pub look_blocks : (v : VersionView) (blocks : List BlockView) (copy : List (List BlockView)) → LookLike v blocks copy
+    → blocks_of copy ≡ blocks
+look_blocks v blocks copy like =
+    same_blocks copy (rows_like v.rows blocks) like.looks ∙ blocks_like v.rows blocks (copies_long v blocks like.copies)
+
+look_rows : (v : VersionView) (blocks : List BlockView) (copy : List (List BlockView)) → LookLike v blocks copy → (s : ℕ)
+    → map unnumbered (row_of copy s) ≡ map unnumbered (row_of v.rows s)
+look_rows v blocks copy like s = ap (map unnumbered) (like.looks s) ∙ unnumbered_like v.rows blocks like.copies.same s
+
+pub look_layout : (v : VersionView) (blocks : List BlockView) (copy : List (List BlockView)) → LookLike v blocks copy
+    → (s : ℕ) → layout_of copy s ≡ layout_of v.rows s
+look_layout v blocks copy like s =
+    shapes_same (row_of copy s) ∙ ap (map shape_of) (look_rows v blocks copy like s) ∙ sym (shapes_same (row_of v.rows s))
+
+look_rows_of : (v : VersionView) (blocks : List BlockView) (copy : List (List BlockView)) (g : Graph) → IsVersion v
+    → LookLike v blocks copy → g ≡ content v → AreRowsOf g copy
+look_rows_of v blocks copy g is like same = record {
+  layout = subst (λ l. IsLayoutOf l g.edges) (λ i s. sym (look_layout v blocks copy like s) i)
+      (subst (λ (h : Graph). IsLayoutOf (layout_of v.rows) h.edges) (sym same) is.rows.layout);
+  blocks = λ source. blocks_same source (row_of copy source) (row_of v.rows source) (look_rows v blocks copy like source)
+      (is.rows.blocks source);
+  numbers = subst (λ (bs : List BlockView). AllPairs ◌≢◌ (numbers_of bs)) (sym (look_blocks v blocks copy like))
+      like.copies.apart;
+}
+
+pub is_version_zero : (v : VersionView) (blocks : List BlockView) (copy : List (List BlockView)) (g : Graph) → IsVersion v
+    → LookLike v blocks copy → g ≡ content v → IsVersion (version_of g [] copy)
+is_version_zero v blocks copy g is like same = record {
+  rows = look_rows_of v blocks copy g is like same;
+  within = subst IsWithin (sym same) is.within;
+  small = record {
+    names = subst (λ (h : Graph). length h.names ≤ name_limit) (sym same) is.small.names;
+    kinds = subst (λ (h : Graph). length h.kinds ≤ kind_limit) (sym same) is.small.kinds;
+    count = omega arith;
+  };
+}
+
+-- what the other version keeps this one keeps
+pub rebased_kept : (names kinds old_names old_kinds : Book) (v : VersionView) (blocks : List BlockView)
+    (batches : List (List NamedOp)) (copy : List (List BlockView)) (g : Graph) (edges : ℕ) → IsKept old_names old_kinds edges v
+    → names ≡ old_names → kinds ≡ old_kinds → batches ≡ [] → LookLike v blocks copy → g ≡ content v
+    → IsKept names kinds edges (version_of g batches copy)
+rebased_kept names kinds old_names old_kinds v blocks batches copy g edges is n k none like same =
+    subst (λ (bs : List (List NamedOp)). IsKept names kinds edges (version_of g bs copy)) (sym none) (record {
+      names_are = n ∙ is.names_are ∙ ap (λ (h : Graph). vertex_book h.names) (sym same);
+      kinds_are = k ∙ is.kinds_are ∙ ap (λ (h : Graph). kind_book h.kinds) (sym same);
+      edges_are = is.edges_are ∙ ap (λ (h : Graph). len h.edges) (sym same);
+      version = is_version_zero v blocks copy g is.version like same;
+    })
+
+pub rebased_is : (v : VersionView) (blocks : List BlockView) (batches : List (List NamedOp)) (copy : List (List BlockView))
+    (g : Graph) → batches ≡ [] → LookLike v blocks copy → g ≡ content v → IsRebased v (version_of g batches copy)
+rebased_is v blocks batches copy g none like same = record {
+  opening = same;
+  batches = none;
+  rows = look_layout v blocks copy like;
+}
+
+-- Blocks copied one after another
+
+same_by_place : {A B C : Type 0} (f : B → C) (g : A → B) (xs ys : List A) → length xs ≡ length ys
+    → ((j : ℕ) (d : A) → j < length xs → f (g (get_or xs j d)) ≡ f (g (get_or ys j d))) → map f (map g xs) ≡ map f (map g ys)
+same_by_place f g [] [] long each = refl
+same_by_place f g [] (y ∷ ys) long each = absurd (omega arith)
+same_by_place f g (x ∷ xs) [] long each = absurd (omega arith)
+same_by_place f g (x ∷ xs) (y ∷ ys) long each =
+    ap₂ (λ z zs. z ∷ zs) (each 0 x (omega arith))
+    (same_by_place f g xs ys (omega arith) (λ j d lt. each (suc j) d (omega arith)))
+
+-- the first blocks hold what those at their places do, and all keep their numbers
+pub record AreCopied (held old : List (Arc Block Global)) (k : ℕ) (new : List (Arc Block Global)) : Type 0 where
+  pub long : length new ≡ length old
+  pub first : (j : ℕ) (d : Arc Block Global) → j < k → unnumbered (block_value (get_or new j d))
+      ≡ unnumbered (block_value (get_or held j d))
+  pub numbers : (j : ℕ) (d : Arc Block Global) → (block_value (get_or new j d)).number ≡ (block_value (get_or old j d)).number
+
+-- once all are
+pub copied_numbers : (held old new : List (Arc Block Global)) (k : ℕ) → AreCopied held old k new
+    → numbers_of (block_values new) ≡ numbers_of (block_values old)
+copied_numbers held old new k copied =
+    same_by_place (λ (b : BlockView). b.number) block_value new old copied.long (λ j d lt. copied.numbers j d)
+
+pub copied_same : (held old new : List (Arc Block Global)) (k : ℕ) → AreCopied held old k new → length held ≤ k
+    → length held ≡ length old → map unnumbered (block_values new) ≡ map unnumbered (block_values held)
+copied_same held old new k copied all many =
+    let long = copied.long in
+    same_by_place unnumbered block_value new held (long ∙ sym many) (λ j d lt. copied.first j d (omega arith))
+
+numbers_mapped : (bs : List (Arc Block Global)) → numbers_of (block_values bs)
+    ≡ map (λ (b : Arc Block Global). (block_value b).number) bs
+numbers_mapped [] = refl
+numbers_mapped (b ∷ bs) = ap (λ ns. (block_value b).number ∷ ns) (numbers_mapped bs)
+
+pub all_copied : (rows : List (List BlockView)) (held old new : List (Arc Block Global))
+    → map unnumbered (block_values new) ≡ map unnumbered (block_values held)
+    → numbers_of (block_values new) ≡ numbers_of (block_values old) → block_values held ≡ blocks_of rows
+    → AllPairs ◌≢◌ (map (λ (b : Arc Block Global). (block_value b).number) old) → AreCopies rows (block_values new)
+all_copied rows held old new same numbers held_are apart = record {
+  same = same ∙ ap (map unnumbered) held_are;
+  apart = subst (λ ns. AllPairs ◌≢◌ ns) (sym (numbers ∙ numbers_mapped old)) apart;
+}
+
+pub mapped_numbers : (old new : List (Arc Block Global)) → numbers_of (block_values new) ≡ numbers_of (block_values old)
+    → numbers_of (block_values new) ≡ map (λ (b : Arc Block Global). (block_value b).number) old
+mapped_numbers old new numbers = numbers ∙ numbers_mapped old
+
+-- a list written over, whole
+pub written : {A : Type 0} (old new : List A) (len : ℕ) → len ≡ length old → length new ≡ length old
+    → take len (new ++ drop (length new) old) ≡ new
+written old new len is long =
+    ap (λ xs. take len (new ++ xs)) (drop_all (length new) old (omega arith)) ∙ ap (take len) (append-nil new)
+    ∙ take_all len new (omega arith)
+
+pub numbers_long : (a b : List (Arc Block Global)) → numbers_of (block_values a) ≡ numbers_of (block_values b) → length a ≡ length b
+numbers_long a b same =
+    sym (length-map a block_value) ∙ sym (length-map (block_values a) (λ (x : BlockView). x.number)) ∙ ap length same
+    ∙ length-map (block_values b) (λ (x : BlockView). x.number) ∙ length-map b block_value
+
+-- the content's lists
+pub same_content : (names kinds : Book) (edges : ℕ) (v : VersionView) (c : Content) → IsKept names kinds edges v
+    → c.names ≡ names.names → c.kinds ≡ kinds.names → c.edges ≡ edges_in_blocks (blocks_of v.rows) → graph_of c ≡ content v
+same_content names kinds edges v c is n k e =
+    let each = rows_each_once (content v) v.rows is.version.rows in
+    λ i. record {
+      names = (n ∙ ap (λ (b : Book). b.names) is.names_are) i;
+      kinds = (k ∙ ap (λ (b : Book). b.names) is.kinds_are) i;
+      edges = (ap map_of e ∙ each.same) i;
+    }
+
+-- Edges as they are lent
+
+-- a lent edge of a source
+abbrev pub edge_lent : ℕ → LentEdge → Edge
+edge_lent source e = record {
+  kind = record { 0 = e.kind };
+  source = record { 0 = source };
+  target = record { 0 = e.target };
+  weight = e.stamp.weight;
+  first = e.stamp.first;
+  recent = e.stamp.recent;
+}
+
+lent_slots : (b : BlockView) (es : List Slot)
+    → map (edge_lent b.source) (map lent_of (map (entry_in b) es)) ≡ map edge_from (map (entry_in b) es)
+lent_slots b [] = refl
+lent_slots b (e ∷ es) = ap (λ l. edge_from (entry_in b e) ∷ l) (lent_slots b es)
+
+pub lent_edges : (b : BlockView) → map (edge_lent b.source) (map lent_of (entries_of b)) ≡ edges_in_block b
+lent_edges b = lent_slots b (edges_in b.slots)

@@ -1,0 +1,7 @@
+use Rattle.std.proofs.Common.{◌≡◌, take}
+use Rattle.row_pages.specs.Rows.{blocks_of}
+use Rattle.row_pages.specs.Sharing.{block_values}
+use Rattle.graph_version.proofs.rebase.blocks_in.Given as goal
+
+abbrev pub invariant-loop-source : goal.invariant-loop-source
+invariant-loop-source l = block_values l.blocks.items ≡ blocks_of (take l.source l.rows)

@@ -1,0 +1,7 @@
+use Rattle.std.proofs.Common.{◌≡◌, take}
+use Rattle.row_pages.specs.Rows.{blocks_of}
+use Rattle.graph_version.specs.Edges.{edges_in_blocks}
+use Rattle.graph_version.proofs.rebase.edges_in.Given as goal
+
+abbrev pub invariant-loop-source : goal.invariant-loop-source
+invariant-loop-source l = l.edges.items ≡ edges_in_blocks (blocks_of (take l.source l.rows))

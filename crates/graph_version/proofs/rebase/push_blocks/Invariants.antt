@@ -1,0 +1,6 @@
+use Rattle.std.proofs.Common.{◌≡◌, ◌++◌, take}
+use Rattle.row_pages.specs.Sharing.{block_values}
+use Rattle.graph_version.proofs.rebase.push_blocks.Given as goal
+
+abbrev pub invariant-loop-block : goal.invariant-loop-block
+invariant-loop-block l = block_values l.blocks.items ≡ block_values l.fn.blocks.items ++ block_values (take l.block-index l.row)

@@ -1,0 +1,7 @@
+use Rattle.std.proofs.Common.{◌≡◌, ◌++◌, take}
+use Rattle.row_pages.specs.Sharing.{block_values}
+use Rattle.graph_version.specs.Edges.{edges_in_blocks}
+use Rattle.graph_version.proofs.rebase.push_row.Given as goal
+
+abbrev pub invariant-loop-block : goal.invariant-loop-block
+invariant-loop-block l = l.edges.items ≡ l.fn.edges.items ++ edges_in_blocks (block_values (take l.block-index l.blocks))

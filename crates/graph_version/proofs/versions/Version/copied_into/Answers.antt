@@ -1,0 +1,36 @@
+use Rattle.std.proofs.Common.{◌≡◌, ◌∙◌, List, map, sym, ap, subst, arith}
+use Rattle.std.specs.declared.sync.Arc.{Arc}
+use Rattle.std.specs.declared.alloc.Global.{Global}
+use Rattle.edge_block.specs.declared.blocks.Block.{Block}
+use Rattle.row_pages.specs.Rows.{blocks_of, numbers_of}
+use Rattle.row_pages.specs.Sharing.{block_values}
+use Rattle.graph_version.specs.Versions.{VersionView}
+use Rattle.graph_version.specs.Rebased.{AreCopies, unnumbered}
+use Rattle.graph_version.proofs.Rebased.{written, numbers_long, mapped_numbers, all_copied}
+use Rattle.graph_version.proofs.versions.Version.copied_into.Goals as goal
+
+pub returns-clause-copies : goal.returns-clause-copies
+returns-clause-copies c =
+    let old : List (Arc Block Global) = c.args.blocks.items in
+    let new : List (Arc Block Global) = c.copy_each.new.blocks in
+    let numbers : numbers_of (block_values new) ≡ numbers_of (block_values old) = c.in_ok-copy_each.ensures.numbers
+    ∙ ap (λ (bs : List (Arc Block Global)). numbers_of (block_values bs)) c.as_mut_slice.ensures.value in
+    let same : map unnumbered (block_values new) ≡ map unnumbered (block_values c.in_ok-held.held.items) =
+    c.in_ok-copy_each.ensures.same
+    ∙ ap (λ (bs : List (Arc Block Global)). map unnumbered (block_values bs)) c.as_slice.ensures.value in
+    let held : block_values c.in_ok-held.held.items ≡ blocks_of c.args.self.now.rows =
+    c.in_ok-held.ensures ∙ ap (λ (v : VersionView). blocks_of v.rows) c.self.view_is in
+    let ok = c.args.blocks.ok in
+    subst (λ (bs : List (Arc Block Global)). AreCopies c.args.self.now.rows (block_values bs))
+    (sym (written old new c.args.blocks.len (omega (arith, ok.0)) (numbers_long new old numbers)))
+    (all_copied c.args.self.now.rows c.in_ok-held.held.items old new same numbers held c.requires.apart)
+
+pub returns-clause-numbers : goal.returns-clause-numbers
+returns-clause-numbers c =
+    let old : List (Arc Block Global) = c.args.blocks.items in
+    let new : List (Arc Block Global) = c.copy_each.new.blocks in
+    let numbers : numbers_of (block_values new) ≡ numbers_of (block_values old) = c.in_ok-copy_each.ensures.numbers
+    ∙ ap (λ (bs : List (Arc Block Global)). numbers_of (block_values bs)) c.as_mut_slice.ensures.value in
+    let ok = c.args.blocks.ok in
+    ap (λ (bs : List (Arc Block Global)). numbers_of (block_values bs))
+    (written old new c.args.blocks.len (omega (arith, ok.0)) (numbers_long new old numbers)) ∙ mapped_numbers old new numbers
