@@ -1,7 +1,7 @@
 //! Shards together are the batch.
 
 ghost use Rattle.std.specs.Prelude.{◌≡◌, ◌+◌, ◌<◌, ◌≤◌, ◌==◌, ◌%◌, true, ℕ, List, length, count_by, map, flat_map, replicate, All};
-ghost use Rattle.std.specs.Prelude.{if◌then◌else◌};
+ghost use Rattle.std.specs.Prelude.{if◌then◌else◌, [], ◌∷◌};
 ghost use Rattle.std.specs.List.{sum_by, list_any, AllZip};
 ghost use Rattle.graph_model.specs.Step.{after_all, is_expire};
 ghost use Rattle.edge_block.specs.Slots.{BlockView};
@@ -21,6 +21,8 @@ ghost use Rattle.batch_shards.specs.Done.{IsShardDone, layout_by, sources_in, st
 ghost use Rattle.batch_shards.specs.declared.shard.Shard.{Shard};
 ghost use Rattle.batch_apply.specs.Plans.{written_all, results};
 ghost use Rattle.batch_shards.specs.Groups.{told};
+ghost use Rattle.batch_shards.specs.Spending.{needed};
+ghost use Rattle.batch_apply.specs.Examples.{two_rows, three_steps};
 ghost use Rattle.batch_shards.specs.Closing.{row_values};
 
 /// The outcomes of all shards, put together at their places, are the batch's, where an expiry counts the edges of all their
@@ -80,4 +82,9 @@ pub fn law_needs()
     ensures { (workers : ℕ) (ops : List NamedOp) (g : Graph) (rows : List (List BlockView)) (plan : Plan)
         → IsPlan workers ops g (row_of rows) plan
         → sum_by (λ n. n) plan.needs.items ≤ length ops + (if list_any is_expire ops then length (blocks_of rows) else 0) }
+{}
+
+/// Needs worked out: a removal, and two blocks of three, which have an edge from before the later of two expiries.
+pub fn law_needs_example()
+    ensures { needed (row_of two_rows) (0 ∷ 1 ∷ []) three_steps ≡ 3 }
 {}

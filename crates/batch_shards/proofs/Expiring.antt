@@ -1,6 +1,6 @@
 -- An expiry, block by block, and how many fresh blocks operations need.
-use Rattle.std.proofs.Common.{◌≡◌, ℕ, zero, suc, ◌+◌, ◌*◌, ◌%◌, ◌^◌, ◌<◌, ◌≤◌, Bool, true, false, cond, not, ◌&&◌, ◌||◌, List, [], ◌∷◌, ◌++◌}
-use Rattle.std.proofs.Common.{map, length, get_or, set, take, drop, count_by, refl, sym, ap, ap₂, ◌∙◌, arith, subst, All, max}
+use Rattle.std.proofs.Common.{◌≡◌, ℕ, zero, suc, ◌+◌, ◌%◌, ◌^◌, ◌<◌, ◌≤◌, Bool, true, false, cond, not, ◌&&◌, ◌||◌, List, [], ◌∷◌, ◌++◌}
+use Rattle.std.proofs.Common.{map, length, get_or, set, take, drop, count_by, refl, sym, ap, ◌∙◌, arith, subst, All}
 use Rattle.std.proofs.lemmas.Bool.{false≢true, lt-ltb, le-ltb, ltb-true}
 use Rattle.std.proofs.lemmas.List.Sums.{sum_by-cons, sum_by-append, count_by-le-length}
 use Rattle.std.proofs.lemmas.List.Elements.{All-head, All-tail}
@@ -16,7 +16,7 @@ use Rattle.graph_model.specs.declared.changes.EdgeChange.TheVariants.{Insert, In
 use Rattle.graph_model.specs.declared.batches.Outcome.{Outcome}
 use Rattle.graph_model.specs.declared.batches.Outcome.TheVariants.{Inserted, Updated, Removed, Absent, Overflow, Expired}
 use Rattle.edge_block.specs.Slots.{Slot, slot_since, slots_since, has_before, old_in, edges_in, holds, at_first, BlockView}
-use Rattle.block_layout.specs.Rows.{OpenBlock, has_old, touch, expire_block, expire_row, old_in_row, put_edge, take_edge, set_edge}
+use Rattle.block_layout.specs.Rows.{OpenBlock, has_old, touch, expire_block, put_edge, set_edge}
 use Rattle.block_layout.specs.Rows.{edge_at, untouched, shape_of, has_edge, has_room, new_block, touches}
 use Rattle.block_layout.specs.Batches.{key_step, key_outcome, together}
 use Rattle.batch_shards.specs.Groups.{told, is_expiry}
@@ -112,7 +112,7 @@ count_there p (x ∷ xs) (suc k) d lt e =
     omega arith
 
 -- an edge that is old at a time is old at each later one
-older : (s t : ℕ) (x : Stamp) → s ≤ t → is_before s x ≡ true → is_before t x ≡ true
+pub older : (s t : ℕ) (x : Stamp) → s ≤ t → is_before s x ≡ true → is_before t x ≡ true
 older s t x le e = let lt : x.recent < s = ltb-true x.recent s e in lt-ltb x.recent t (omega arith)
 
 pub old_later : (s t : ℕ) (slots : List (Option Slot)) → s ≤ t → has_before s slots ≡ true → has_before t slots ≡ true
@@ -333,6 +333,11 @@ edge_told change (Some k) rows = told_as (outcome_at change (edge_at (rows k.sou
 -- counts told one after another
 pub told_more : (a b : ℕ) → told (together (told (Expired a)) (Expired b)) ≡ told (Expired (a + b))
 told_more a b = ap Expired (mod_more a b (2 ^ 64))
+
+pub told_none : (o : Outcome) (count : ℕ) → o ≡ told (Expired count) → told (together o (Expired 0)) ≡ o
+told_none o count e =
+    let same : count + 0 ≡ count = omega arith in
+    ap (λ x. told (together x (Expired 0))) e ∙ told_more count 0 ∙ ap (λ n. told (Expired n)) same ∙ sym e
 
 -- a sum over the sources from one on
 needed_next : (f : ℕ → ℕ) (sources : List VertexId) (row : ℕ) → row < length sources

@@ -1,8 +1,8 @@
 -- The operations of a shard, one after another.
 use Rattle.std.proofs.Common.{◌≡◌, ◌≢◌, ℕ, zero, suc, ◌+◌, ◌<◌, ◌≤◌, ◌==◌, Bool, true, false, cond, List, [], ◌∷◌, ◌++◌, length}
 use Rattle.std.proofs.Common.{get_or, set, map, flat_map, count_by, refl, sym, ap, ◌∙◌, arith, subst, All, AllPairs, nat_eq}
-use Rattle.std.proofs.Common.{zip, take, ap₂}
-use Rattle.std.proofs.lemmas.Bool.{true≢false, false≢true, eqb-true, false_from_ne_true}
+use Rattle.std.proofs.Common.{zip, take, ap₂, ltb}
+use Rattle.std.proofs.lemmas.Bool.{true≢false, false≢true, eqb-true, false_from_ne_true, ltb-true, ltb-false}
 use Rattle.std.proofs.lemmas.List.{map-append, take_more}
 use Rattle.block_layout.specs.Rows.{OpenBlock}
 use Rattle.block_layout.specs.Batches.{Resolved, rows_step, rows_all, outcomes_all}
@@ -19,6 +19,13 @@ same_number a = Rattle.std.proofs.lemmas.Bool.true_from_ne_false (a == a)
 
 pub other_number : (a b : ℕ) → (a ≡ b → ⊥) → (a == b) ≡ false
 other_number a b n = false_from_ne_true (a == b) (λ e. n (eqb-true a b e))
+
+-- what is not before a place, and not there, is behind it
+pub further : (k i : ℕ) → i ≤ k → (k ≡ i → ⊥) → i + 1 ≤ k
+further k i le n = elim (ltb i k) as (λ t. ltb i k ≡ t → i + 1 ≤ k) [
+  | true ↦ λ t. let lt = ltb-true i k t in omega arith
+  | false ↦ λ t. let ge = ltb-false i k t in absurd (n (omega arith))
+] refl
 
 -- two places of distinct numbers
 pub apart : (xs : List ℕ) (i j d : ℕ) → AllPairs (λ a b. a ≢ b) xs → i < length xs → j < length xs → (i ≡ j → ⊥)

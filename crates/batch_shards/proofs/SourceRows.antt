@@ -18,7 +18,7 @@ use Rattle.block_layout.specs.Rows.{OpenBlock, old_in_row}
 use Rattle.batch_shards.specs.RowBlocks.{blocks_of, numbers_of, opens, had_in, own_in, HaveSame, IsOf}
 use Rattle.batch_shards.specs.Closing.{row_values, after_of, written_of, dropped_of, unused_of, written_all}
 use Rattle.batch_shards.specs.Shards.{key_at, resolved_at, resolved_in, own_all}
-use Rattle.batch_shards.specs.Groups.{is_past, does_act, told, outcome_over, IsSourceRow, IsOneMore}
+use Rattle.batch_shards.specs.Groups.{is_past, does_act, told, outcome_over, IsTold, IsSourceRow, IsOneMore}
 use Rattle.batch_shards.specs.Progress.{AreOutcomes, AreRowsDone}
 use Rattle.batch_shards.specs.Done.{layout_by}
 use Rattle.batch_shards.specs.declared.shard.OpenRow.{OpenRow}
@@ -74,10 +74,18 @@ module _ (rows : ℕ → List BlockView) (sources : List ℕ) (steps : List Step
         ∙ ap told (sym (over_is (take row sources ++ source ∷ []) (Expire time) e))
         ∙ ap (λ ss. told (over ss)) (sym taken)
 
+    -- what an expiry was told before the row counts edges
+    was_told : (act : Act) → acts act → (before : Outcome)
+        → (is_past row act ≡ false → before ≡ told (over (take row sources))) → IsTold act before
+    was_told (Edge place change) e before was = tt
+    was_told (Expire time) e before was =
+        (sum_by (λ s. old_in_row time (now s)) (take row sources), was refl ∙ ap told (over_is (take row sources) (Expire time) e))
+
   -- the outcomes of operations on one more row
   pub outcomes_more : (row source : ℕ) → IsSourceRow sources steps row source → (old new : List (ℕ × Outcome))
       → map (λ o. o.0) new ≡ map (λ o. o.0) old
       → ((k : ℕ) (s : Step) (o : ℕ × Outcome) → k < length steps → does_act row (get_or steps k s).act ≡ true
+      → IsTold (get_or steps k s).act (get_or old k o).1
       → IsOneMore sources steps (opened (layout_by rows)) source k (get_or old k o).1 (get_or new k o).1)
       → ((k : ℕ) (s : Step) (o : ℕ × Outcome) → k < length steps → does_act row (get_or steps k s).act ≡ false
       → get_or new k o ≡ get_or old k o)
@@ -90,6 +98,7 @@ module _ (rows : ℕ → List BlockView) (sources : List ℕ) (steps : List Step
         elim (does_act row act) as (λ t. does_act row act ≡ t
         → (get_or new k o).1 ≡ told (outcome_over (take (row + 1) sources) sources steps (opened (layout_by rows)) k)) [
           | true ↦ λ t. written k s o lt t
+              (was_told row source is k lt act same (get_or old k o).1 (λ before. d.are k s o lt before))
               ∙ one_told row source is k lt act same (get_or old k o).1 (λ before. d.are k s o lt before)
           | false ↦ λ t. ap (λ (p : ℕ × Outcome). p.1) (others k s o lt t)
               ∙ d.are k s o lt (past_here row act past t) ∙ ap told (one_edge row source is k lt act same t)

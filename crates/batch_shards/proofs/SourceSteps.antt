@@ -1,9 +1,9 @@
 -- The operations on one source's row, among those of a shard.
-use Rattle.std.proofs.Common.{◌≡◌, ℕ, zero, suc, ◌+◌, ◌<◌, ◌≤◌, ◌==◌, not, Bool, true, false, cond, List, [], ◌∷◌, length}
+use Rattle.std.proofs.Common.{◌≡◌, ℕ, zero, suc, ◌+◌, ◌-◌, ◌<◌, ◌≤◌, ◌==◌, not, Bool, true, false, cond, List, [], ◌∷◌, length}
 use Rattle.std.proofs.Common.{get_or, set, ◌||◌, min}
 use Rattle.std.proofs.Common.{take, count_by, refl, sym, ap, ◌∙◌, arith, subst}
 use Rattle.std.specs.Prelude.{slice_index, nat_lt}
-use Rattle.std.specs.declared.option.Option.{Option}
+use Rattle.std.specs.List.{sum_by}
 use Rattle.std.specs.declared.option.Option.TheVariants.{None, Some}
 use Rattle.std.proofs.lemmas.Bool.{false≢true, or_right, eqb-true, eqb-false, ltb-true, ltb-false, lt-ltb, le-ltb}
 use Rattle.std.proofs.lemmas.List.{get_or-set_same, get_or-set_other}
@@ -15,14 +15,16 @@ use Rattle.graph_model.specs.declared.changes.EdgeChange.{EdgeChange}
 use Rattle.block_layout.specs.Rows.{OpenBlock, change_row, edge_at, old_in_row}
 use Rattle.block_layout.specs.Batches.{key_step, rows_step, rows_all, outcome_in, together}
 use Rattle.batch_shards.specs.Shards.{IsAct, resolved_at, resolved_in}
-use Rattle.batch_shards.specs.Groups.{is_at, is_past, does_act, key_of, IsNext, IsSourceRow, IsOneMore}
-use Rattle.batch_shards.specs.Groups.{told, outcome_over, act_step, act_outcome}
+use Rattle.batch_shards.specs.Groups.{is_at, is_past, does_act, may_change, key_of, IsNext, LeadsTo, IsSourceRow, IsOneMore}
+use Rattle.batch_shards.specs.Groups.{IsTold, told, outcome_over, act_step, act_outcome}
 use Rattle.batch_shards.specs.Spending.{takes}
 use Rattle.batch_shards.specs.declared.shard.Act.{Act}
 use Rattle.batch_shards.specs.declared.shard.Act.TheVariants.{Edge, Expire}
 use Rattle.batch_shards.specs.declared.shard.Place.{Place}
 use Rattle.batch_shards.specs.declared.shard.Step.{Step}
-use Rattle.batch_shards.proofs.ShardSteps.{same_number, other_number, apart, first_step, all_rows_more}
+use Rattle.batch_shards.proofs.ShardSteps.{same_number, other_number, further, apart, first_step, all_rows_more}
+use Rattle.batch_shards.proofs.Expiring.{told_none}
+use Rattle.batch_shards.proofs.Young.{young_before, young_stays}
 
 -- the outcome of an operation is that of the rows which those before it leave
 pub outcome_of : (counted sources : List ℕ) (steps : List Step) (k : ℕ) (rows : ℕ → List OpenBlock) → k < length steps
@@ -42,9 +44,9 @@ or_none : (b : Bool) → (b || false) ≡ false → b ≡ false
 or_none true e = e
 or_none false e = refl
 
-pub not_at : (row : ℕ) (act : Act) → does_act row act ≡ false → is_at row act ≡ false
-not_at row (Edge place change) e = or_none (is_at row (Edge place change)) e
-not_at row (Expire time) e = refl
+not_at : (row since : ℕ) (act : Act) → may_change row since act ≡ false → is_at row act ≡ false
+not_at row since (Edge place change) e = or_none (is_at row (Edge place change)) e
+not_at row since (Expire time) e = refl
 
 -- operations past a row are those on the next row and those past both
 pub past_more : (row : ℕ) (steps : List Step) → count_by (λ s. is_past row s.act) steps
@@ -101,15 +103,17 @@ module _ (sources : List ℕ) (steps : List Step) (row source : ℕ) (is : IsSou
   row_stepped (Edge (Some p) change) rows e = stepped_edge change p rows (or_false (p.row == row) e)
   row_stepped (Expire time) rows e = refl
 
-  row_passed : (act : Act) (rows : ℕ → List OpenBlock) → IsAct (length sources) act
-      → does_act row act ≡ false → rows_step (resolved_at sources act) rows source ≡ rows source
-  row_passed (Edge None change) rows w e = refl
-  row_passed (Edge (Some p) change) rows w e =
+  row_passed : (since : ℕ) (act : Act) (rows : ℕ → List OpenBlock) → IsAct (length sources) act
+      → old_in_row since (rows source) ≡ 0 → may_change row since act ≡ false
+      → rows_step (resolved_at sources act) rows source ≡ rows source
+  row_passed since (Edge None change) rows w young e = refl
+  row_passed since (Edge (Some p) change) rows w young e =
       let other : (source == slice_index sources p.row) ≡ false = other_number source (slice_index sources p.row)
       (λ s. apart sources row p.row 0 is.distinct is.within w.0
       (λ r. eqb-false p.row row (or_none (p.row == row) e) (sym r)) (is.source_is ∙ s)) in
       ap (λ b. cond b (change_row change (p.kind.0, p.target) (rows source)) (rows source)) other
-  row_passed (Expire time) rows w e = absurd (false≢true (sym e))
+  row_passed since (Expire time) rows w young e =
+      young_stays time (rows source) (young_before time since (rows source) (ltb-false since time e) young)
 
   module _ (rows : ℕ → List OpenBlock) where
     abbrev pub row_by : ℕ → List OpenBlock
@@ -142,32 +146,73 @@ module _ (sources : List ℕ) (steps : List Step) (row source : ℕ) (is : IsSou
           keyed (Expire time) u =
               ap Expired (ap (old_in_row time) e ∙ (omega (arith, sum_by-cons (λ s. old_in_row time (now s)) source [])))
 
-    pass : (k : ℕ) → k < length steps → does_act row (get_or steps k first_step).act ≡ false → row_by (k + 1) ≡ row_by k
-    pass k lt out =
+    pass : (since k : ℕ) → k < length steps → old_in_row since (row_by k) ≡ 0
+        → may_change row since (get_or steps k first_step).act ≡ false → row_by (k + 1) ≡ row_by k
+    pass since k lt young out =
         ap (λ f. f source) (sym (all_rows_more sources steps k lt rows))
-        ∙ row_passed (get_or steps k first_step).act
-        (rows_all (resolved_in sources (take k steps)) rows) (is.steps_are k first_step lt) out
+        ∙ row_passed since (get_or steps k first_step).act
+        (rows_all (resolved_in sources (take k steps)) rows) (is.steps_are k first_step lt) young out
 
-    -- the operations between two on the row leave it alone
-    pub skipped : (gap k next : ℕ) → next ≡ k + gap → next ≤ length steps
-        → ((j : ℕ) (s : Step) → k ≤ j → j < next → does_act row (get_or steps j s).act ≡ false) → row_by next ≡ row_by k
-    skipped zero k next e le out = ap row_by (omega arith)
-    skipped (suc gap) k next e le out =
+    skipped : (since gap k next : ℕ) → next ≡ k + gap → next ≤ length steps → old_in_row since (row_by k) ≡ 0
+        → ((j : ℕ) (s : Step) → k ≤ j → j < next → may_change row since (get_or steps j s).act ≡ false)
+        → row_by next ≡ row_by k
+    skipped since zero k next e le young out = ap row_by (omega arith)
+    skipped since (suc gap) k next e le young out =
         let last : next ≡ k + gap + 1 = omega arith in
-        ap row_by last ∙ pass (k + gap) (omega arith) (out (k + gap) first_step (omega arith) (omega arith))
-        ∙ skipped gap k (k + gap) refl (omega arith) (λ j s a b. out j s a (omega arith))
+        let same : row_by (k + gap) ≡ row_by k =
+        skipped since gap k (k + gap) refl (omega arith) young (λ j s a b. out j s a (omega arith)) in
+        ap row_by last
+        ∙ pass since (k + gap) (omega arith) (ap (old_in_row since) same ∙ young)
+        (out (k + gap) first_step (omega arith) (omega arith))
+        ∙ same
+
+    -- what is told of an expiry stands where it finds no edge
+    outcome_stays : (since k : ℕ) (s : Step) (before : Outcome) → k < length steps → old_in_row since (row_by k) ≡ 0
+        → may_change row since (get_or steps k s).act ≡ false → does_act row (get_or steps k s).act ≡ true
+        → IsTold (get_or steps k s).act before → IsOneMore sources steps rows source k before before
+    outcome_stays since k s before lt young out at was =
+        stays (get_or steps k s).act
+        (ap (λ (x : Step). x.act) (Rattle.std.proofs.lemmas.List.get_or_default steps k first_step s lt)) out at was where
+          now : ℕ → List OpenBlock
+          now = rows_all (resolved_in sources (take k steps)) rows
+
+          stays : (act : Act) → (get_or steps k first_step).act ≡ act → may_change row since act ≡ false
+              → does_act row act ≡ true → IsTold act before → IsOneMore sources steps rows source k before before
+          stays (Edge place change) e out at was =
+              absurd (false≢true (sym (or_none (is_at row (Edge place change)) out) ∙ or_false (is_at row (Edge place change)) at))
+          stays (Expire time) e out at was =
+              let none = young_before time since (now source) (ltb-false since time out) young in
+              let sum = sum_by-cons (λ s. old_in_row time (now s)) source [] in
+              let zero : sum_by (λ s. old_in_row time (now s)) (source ∷ []) ≡ 0 = omega (arith, none, sum) in
+              sym (told_none before was.0 was.1)
+              ∙ ap (λ x. told (together before x)) (sym (outcome_of (source ∷ []) sources steps k rows lt
+              ∙ ap (λ a. outcome_in (source ∷ []) (resolved_at sources a) now) e ∙ ap Expired zero))
+
+    -- the operations between two that may change the row leave it alone, and what was told of those that act on it stands
+    module _ (since place next : ℕ) (leads : LeadsTo (may_change row since) (does_act row) steps place next)
+        (young : old_in_row since (row_by place) ≡ 0) where
+      pub left_alone : row_by next ≡ row_by place
+      left_alone = skipped since (next - place) place next (omega (arith, leads.ahead)) leads.within young leads.between
+
+      pub left_told : (k : ℕ) (s : Step) (before : Outcome) → place ≤ k → k < next → does_act row (get_or steps k s).act ≡ true
+          → IsTold (get_or steps k s).act before → IsOneMore sources steps rows source k before before
+      left_told k s before ge lt at was =
+          let same : row_by k ≡ row_by place = skipped since (k - place) place k (omega arith) (omega (arith, leads.within)) young
+          (λ j t a b. leads.between j t a (omega arith)) in
+          outcome_stays since k s before (omega (arith, leads.within)) (ap (old_in_row since) same ∙ young)
+          (leads.between k s ge lt) at was
 
 -- and are not counted among those on the row
-pub skipped_count : (steps : List Step) (row gap k next : ℕ) → next ≡ k + gap → next ≤ length steps
-    → ((j : ℕ) (s : Step) → k ≤ j → j < next → does_act row (get_or steps j s).act ≡ false)
+pub skipped_count : (steps : List Step) (row since gap k next : ℕ) → next ≡ k + gap → next ≤ length steps
+    → ((j : ℕ) (s : Step) → k ≤ j → j < next → may_change row since (get_or steps j s).act ≡ false)
     → count_by (λ s. is_at row s.act) (take next steps) ≡ count_by (λ s. is_at row s.act) (take k steps)
-skipped_count steps row zero k next e le out = ap (λ n. count_by (λ s. is_at row s.act) (take n steps)) (omega arith)
-skipped_count steps row (suc gap) k next e le out =
+skipped_count steps row since zero k next e le out = ap (λ n. count_by (λ s. is_at row s.act) (take n steps)) (omega arith)
+skipped_count steps row since (suc gap) k next e le out =
     let last : next ≡ k + gap + 1 = omega arith in
     ap (λ n. count_by (λ (s : Step). is_at row s.act) (take n steps)) last
     ∙ count_by_more_no (λ (s : Step). is_at row s.act) steps (k + gap) first_step (omega arith)
-    (not_at row (get_or steps (k + gap) first_step).act (out (k + gap) first_step (omega arith) (omega arith)))
-    ∙ skipped_count steps row gap k (k + gap) refl (omega arith) (λ j s a b. out j s a (omega arith))
+    (not_at row since (get_or steps (k + gap) first_step).act (out (k + gap) first_step (omega arith) (omega arith)))
+    ∙ skipped_count steps row since gap k (k + gap) refl (omega arith) (λ j s a b. out j s a (omega arith))
 
 -- an operation on the row's edges is one more of those
 pub at_row : (steps : List Step) (row k : ℕ) → k < length steps → does_act row (get_or steps k first_step).act ≡ true
@@ -184,15 +229,12 @@ at_row steps row k lt acts =
       one (Expire time) e u = count_by_more_no (λ (s : Step). is_at row s.act) steps k first_step lt (ap (is_at row) e)
           ∙ (omega arith)
 
--- an operation on the row before the next one after a place, and not there, is before that place
-pub before_it : {of : Act → Bool} {steps : List Step} {i n : ℕ} → IsNext of steps (i + 1) n → (k : ℕ) (s : Step) → (k ≡ i → ⊥)
-    → k < n → of (get_or steps k s).act ≡ true → k < i
-before_it {of} {steps} {i} {n} next k s ne lt at =
-    elim (nat_lt k i) as (λ t. nat_lt k i ≡ t → k < i) [
-      | true ↦ λ t. ltb-true k i t
-      | false ↦ λ t.
-          let ge : i ≤ k = ltb-false k i t in
-          absurd (false≢true (sym (next.between k s (omega arith) lt) ∙ at))
+-- what is so of each place before one and of each behind it is so of each other place
+pub beside : (P : ℕ → Type 0) (i k : ℕ) → (k < i → P k) → (i + 1 ≤ k → P k) → (k ≡ i → ⊥) → P k
+beside P i k before behind ne =
+    elim (nat_lt k i) as (λ t. nat_lt k i ≡ t → P k) [
+      | true ↦ λ t. before (ltb-true k i t)
+      | false ↦ λ t. let ge : i ≤ k = ltb-false k i t in behind (further k i ge ne)
     ] refl
 
 -- what is so of a written outcome, and of each other one
@@ -220,8 +262,8 @@ past_here row (Edge (Some p) change) past out =
 past_here row (Expire time) past out = refl
 
 -- the next one is also that from a later place on
-pub next_from : {of : Act → Bool} {steps : List Step} {place next : ℕ} → IsNext of steps place next → (p : ℕ) → place ≤ p
-    → p ≤ next → IsNext of steps p next
+pub next_from : {needed of : Act → Bool} {steps : List Step} {place next : ℕ} → LeadsTo needed of steps place next → (p : ℕ)
+    → place ≤ p → p ≤ next → LeadsTo needed of steps p next
 next_from x p ge le = record {
   ahead = le;
   within = x.within;
@@ -242,34 +284,30 @@ edge_behind steps row i e behind n lt x more is =
       | false ↦ λ t.
           let other = eqb-false i e t in
           let ahead = x.ahead in
-          next_from x (i + 1) (omega arith) (differs i e ahead other)
-    ] refl) where
-      differs : (i e : ℕ) → i ≤ e → (i ≡ e → ⊥) → i + 1 ≤ e
-      differs i e le n = elim (nat_lt i e) as (λ t. nat_lt i e ≡ t → i + 1 ≤ e) [
-        | true ↦ λ t. let lt = ltb-true i e t in omega arith
-        | false ↦ λ t. let ge = ltb-false i e t in absurd (n (omega arith))
-      ] refl
+          next_from x (i + 1) (omega arith) (further e i ahead (λ s. other (sym s)))
+    ] refl)
 
 -- the next of two kinds is the earlier one of both
-pub earlier_next : {p q : Act → Bool} {steps : List Step} {place a b : ℕ} → IsNext p steps place a → IsNext q steps place b
-    → IsNext (λ act. p act || q act) steps place (min a b)
-earlier_next {p} {q} {steps} {place} {a} {b} x y =
-    elim (nat_lt a b) as (λ t. nat_lt a b ≡ t → IsNext (λ act. p act || q act) steps place (min a b)) [
+pub earlier_next : {p q u v : Act → Bool} {steps : List Step} {place a b : ℕ} → LeadsTo u p steps place a
+    → LeadsTo v q steps place b → LeadsTo (λ act. u act || v act) (λ act. p act || q act) steps place (min a b)
+earlier_next {p} {q} {u} {v} {steps} {place} {a} {b} x y =
+    elim (nat_lt a b) as
+    (λ t. nat_lt a b ≡ t → LeadsTo (λ act. u act || v act) (λ act. p act || q act) steps place (min a b)) [
       | true ↦ λ t.
           let lt : a < b = ltb-true a b t in
-          subst (IsNext (λ act. p act || q act) steps place) (sym (min_left a b (omega arith))) (record {
+          subst (LeadsTo (λ act. u act || v act) (λ act. p act || q act) steps place) (sym (min_left a b (omega arith))) (record {
             ahead = x.ahead;
             within = x.within;
-            between = λ k s ge below. none (p (get_or steps k s).act) (q (get_or steps k s).act) (x.between k s ge below)
+            between = λ k s ge below. none (u (get_or steps k s).act) (v (get_or steps k s).act) (x.between k s ge below)
                 (y.between k s ge (omega arith));
             there = λ s inside. ap (λ b. b || q (get_or steps a s).act) (x.there s inside);
           })
       | false ↦ λ t.
           let ge : b ≤ a = ltb-false a b t in
-          subst (IsNext (λ act. p act || q act) steps place) (sym (min_right a b ge)) (record {
+          subst (LeadsTo (λ act. u act || v act) (λ act. p act || q act) steps place) (sym (min_right a b ge)) (record {
             ahead = y.ahead;
             within = y.within;
-            between = λ k s le below. none (p (get_or steps k s).act) (q (get_or steps k s).act)
+            between = λ k s le below. none (u (get_or steps k s).act) (v (get_or steps k s).act)
                 (x.between k s le (omega arith)) (y.between k s le below);
             there = λ s inside. or_right (p (get_or steps b s).act) (q (get_or steps b s).act) (y.there s inside);
           })

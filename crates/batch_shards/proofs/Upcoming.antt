@@ -1,24 +1,17 @@
 -- For each place, the first expiry that is not before it.
-use Rattle.std.proofs.Common.{◌≡◌, ℕ, ◌+◌, ◌<◌, ◌≤◌, ◌==◌, Bool, true, false, cond, List, length, get_or, set, replicate, refl, sym, ap, ◌∙◌, arith}
+use Rattle.std.proofs.Common.{◌≡◌, ℕ, ◌+◌, ◌<◌, ◌==◌, Bool, true, false, cond, List, length, get_or, set, replicate, refl, sym, ap, ◌∙◌, arith}
 use Rattle.std.proofs.Common.{subst}
-use Rattle.std.proofs.Common.{ltb}
 use Rattle.std.specs.declared.option.Option.TheVariants.{Some}
-use Rattle.std.proofs.lemmas.Bool.{eqb-true, eqb-false, ltb-true, ltb-false, false≢true}
+use Rattle.std.proofs.lemmas.Bool.{eqb-true, eqb-false, false≢true}
 use Rattle.std.proofs.lemmas.List.{get_or-set_same, get_or-set_other, get_or_default}
 use Rattle.std.proofs.Math.ListN.{length-set}
 use Rattle.batch_shards.specs.Groups.{is_at, is_expiry, IsNext, AreGroups, AreExpiries}
 use Rattle.batch_shards.specs.declared.shard.Step.{Step}
-use Rattle.batch_shards.proofs.ShardSteps.{first_step, same_number, other_number}
+use Rattle.batch_shards.proofs.ShardSteps.{first_step, same_number, other_number, further}
 use Rattle.graph_model.specs.declared.changes.EdgeChange.{EdgeChange}
 use Rattle.batch_shards.specs.declared.shard.Place.{Place}
 use Rattle.batch_shards.specs.declared.shard.Act.{Act}
 use Rattle.batch_shards.specs.declared.shard.Act.TheVariants.{Edge}
-
-further : (k i : ℕ) → i ≤ k → (k ≡ i → ⊥) → i + 1 ≤ k
-further k i le n = elim (ltb i k) as (λ t. ltb i k ≡ t → i + 1 ≤ k) [
-  | true ↦ λ t. let lt = ltb-true i k t in omega arith
-  | false ↦ λ t. let ge = ltb-false i k t in absurd (n (omega arith))
-] refl
 
 -- the next operation of a kind is here, or it is the next behind
 module _ (of : Act → Bool) (steps : List Step) (i : ℕ) (lt : i < length steps) where

@@ -39,12 +39,25 @@ abbrev pub key_of : ℕ → Option Place → Option Key
 key_of source None = None
 key_of source (Some p) = Some (record { kind = p.kind.0; source = source; target = p.target })
 
--- the first operation of a kind that is not before a place, or else the end
-pub record IsNext (of : Act → Bool) (steps : List Step) (place next : ℕ) : Type 0 where
+-- whether it is an expiry of a time later than one
+abbrev pub is_later : ℕ → Act → Bool
+is_later since (Edge place change) = false
+is_later since (Expire time) = nat_lt since time
+
+-- whether it may change a row that has no edge from before a time
+abbrev pub may_change : ℕ → ℕ → Act → Bool
+may_change row since act = is_at row act || is_later since act
+
+-- a place that is not before one, with an operation of a kind, or else the end; no operation between them is needed
+pub record LeadsTo (needed of : Act → Bool) (steps : List Step) (place next : ℕ) : Type 0 where
   pub ahead : place ≤ next
   pub within : next ≤ length steps
-  pub between : (k : ℕ) (s : Step) → place ≤ k → k < next → of (get_or steps k s).act ≡ false
+  pub between : (k : ℕ) (s : Step) → place ≤ k → k < next → needed (get_or steps k s).act ≡ false
   pub there : (s : Step) → next < length steps → of (get_or steps next s).act ≡ true
+
+-- the first operation of a kind that is not before a place, or else the end
+abbrev pub IsNext : (Act → Bool) → List Step → ℕ → ℕ → Type 0
+IsNext of steps place next = LeadsTo of of steps place next
 
 -- of the operations from a place on, the first on each row's edges, and after each of them the next on its row
 pub record AreGroups (place : ℕ) (steps : List Step) (first next : List ℕ) : Type 0 where
@@ -72,6 +85,11 @@ told other = other
 -- the outcome of the k-th operation, where an expiry counts the edges of some of the sources
 abbrev pub outcome_over : List ℕ → List ℕ → List Step → (ℕ → List OpenBlock) → ℕ → Outcome
 outcome_over counted sources steps rows k = get_or (outcomes_all counted (resolved_in sources steps) rows) k Absent
+
+-- an expiry's outcome counts edges, as the program tells it
+abbrev pub IsTold : Act → Outcome → Type 0
+IsTold (Edge place change) outcome = Unit {0}
+IsTold (Expire time) outcome = (count : ℕ) × (outcome ≡ told (Expired count))
 
 -- what is told of an operation before the first row
 abbrev pub none_told : Act → Outcome

@@ -1,10 +1,10 @@
 -- Where a row may have room, and all that is known of a row before a search.
 use Rattle.std.specs.Prelude.{◌≡◌, ℕ, ◌<◌, List, length, get_or, false}
-use Rattle.block_layout.specs.Rows.{has_room}
+use Rattle.block_layout.specs.Rows.{has_room, old_in_row}
 use Rattle.batch_shards.specs.declared.room.Room.{Room}
 use Rattle.batch_shards.specs.declared.rows.Hints.{Hints}
 use Rattle.batch_shards.specs.declared.row_blocks.RowBlock.{RowBlock}
-use Rattle.batch_shards.specs.RowBlocks.{open_of}
+use Rattle.batch_shards.specs.RowBlocks.{open_of, opens}
 use Rattle.batch_shards.specs.Notes.{IsNoted}
 
 -- no block of the kind before the place has room
@@ -18,3 +18,4 @@ IsRoom room row = IsFull room.kind.0 room.place row
 pub record AreHints (hints : Hints) (row : List RowBlock) : Type 0 where
   pub noted : IsNoted hints.notes row
   pub room : IsRoom hints.room row
+  pub young : old_in_row hints.since (opens row) ≡ 0

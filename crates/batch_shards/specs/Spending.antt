@@ -1,5 +1,5 @@
 -- How many fresh blocks operations may need.
-use Rattle.std.specs.Prelude.{ℕ, ◌+◌, max, List, [], ◌∷◌, count_by, drop, Bool, not, ◌&&◌}
+use Rattle.std.specs.Prelude.{◌≡◌, ℕ, ◌+◌, ◌<◌, max, List, [], ◌∷◌, count_by, length, get_or, take, drop, Bool, not, ◌&&◌}
 use Rattle.std.specs.List.{sum_by}
 use Rattle.edge_block.specs.Slots.{BlockView, has_before}
 use Rattle.block_layout.specs.Rows.{OpenBlock, has_old}
@@ -16,6 +16,11 @@ time_of (Expire time) = time
 abbrev pub latest : List Step → ℕ
 latest [] = 0
 latest (s ∷ steps) = max (time_of s.act) (latest steps)
+
+-- for each place, the greatest time of the expiries up to it
+pub record AreReached (steps : List Step) (reached : List ℕ) : Type 0 where
+  pub long : length reached ≡ length steps
+  pub are : (k : ℕ) → k < length steps → get_or reached k 0 ≡ latest (take (k + 1) steps)
 
 -- the blocks with an edge that was last touched before a time
 abbrev pub old_blocks : ℕ → List BlockView → ℕ

@@ -1,8 +1,9 @@
 //! The operations of a shard by the row of their source.
 
-ghost use Rattle.std.specs.Prelude.{◌≡◌, ◌<◌, ◌^◌, ◌==◌, IfOk, length, get_or, cond};
+ghost use Rattle.std.specs.Prelude.{◌≡◌, ◌<◌, ◌^◌, ◌==◌, IfOk, List, length, get_or, cond};
 ghost use Rattle.batch_shards.specs.Shards.{AreSteps};
-ghost use Rattle.batch_shards.specs.Groups.{AreGroups, AreExpiries};
+ghost use Rattle.batch_shards.specs.Groups.{AreGroups, AreExpiries, LeadsTo, is_expiry, is_later};
+ghost use Rattle.batch_shards.specs.Spending.{AreReached};
 
 use crate::shard::{Act, Step};
 use std::alloc::{AllocError, Global};
@@ -18,6 +19,8 @@ pub struct Groups {
     pub next: Vec<usize>,
     /// For each place, and for the end, the first expiry that is not before it.
     pub expiries: Vec<usize>,
+    /// For each place, the greatest time of the expiries up to it.
+    pub reached: Vec<u64>,
 }
 
 impl Groups {
@@ -32,6 +35,23 @@ impl Groups {
             edge
         }
     }
+
+    /// From a place on an expiry, or else the number of all operations: no expiry between them is of a time later than
+    /// this one. So a row that has no edge from before that time is not changed by the expiries between.
+    ///
+    /// It is found by a binary search, however many expiries there are.
+    pub fn later_expiry(&self, place: usize, since: u64) -> usize
+        requires place { place < length self.now.expiries.items }
+        requires reached { length self.now.reached.items < length self.now.expiries.items }
+        ensures { (steps : List Step) → AreExpiries 0 steps self.now.expiries.items
+            → AreReached steps self.now.reached.items → LeadsTo (is_later since) is_expiry steps place result }
+    {
+        let first = self
+            .reached
+            .as_slice()
+            .partition_point(|time| *time <= since);
+        self.expiries[place.max(first)]
+    }
 }
 
 /// The operations on so many rows.
@@ -41,8 +61,10 @@ pub fn group_steps(alloc: Global, rows: usize, steps: &[Step]) -> Result<Groups,
     ensures steps { IfOk result (λ g. length g.next.items ≡ length steps.now) }
     ensures groups { IfOk result (λ g. AreGroups 0 steps.now g.first.items g.next.items) }
     ensures expiries { IfOk result (λ g. AreExpiries 0 steps.now g.expiries.items) }
+    ensures reached { IfOk result (λ g. AreReached steps.now g.reached.items) }
 {
     let expiries = expiries_of(alloc, steps)?;
+    let reached = reached_by(alloc, steps)?;
     let mut first = vec![in alloc; steps.len(); rows]?;
     let mut next = vec![in alloc; steps.len(); steps.len()]?;
     let mut index = steps.len();
@@ -62,6 +84,7 @@ pub fn group_steps(alloc: Global, rows: usize, steps: &[Step]) -> Result<Groups,
         first,
         next,
         expiries,
+        reached,
     })
 }
 
@@ -82,6 +105,19 @@ fn expiries_of(alloc: Global, steps: &[Step]) -> Result<Vec<usize>, AllocError>
         };
     }
     Ok(expiries)
+}
+
+/// For each place, the greatest time of the expiries up to it.
+fn reached_by(alloc: Global, steps: &[Step]) -> Result<Vec<u64>, AllocError>
+    ensures { IfOk result (λ v. AreReached steps.now v.items) }
+{
+    let mut reached = Vec::with_capacity(alloc, steps.len())?;
+    let mut latest = 0_u64;
+    for step in steps {
+        latest = latest.max(step.expiry_time());
+        reached.push(latest)?;
+    }
+    Ok(reached)
 }
 
 /// The targets of the operations on a row, in order.

@@ -38,6 +38,16 @@ impl RowBlock {
         self.block.kind() == kind && !self.block.is_full()
     }
 
+    /// The least recent time of its edges, or the greatest number where it has none.
+    pub fn least_time(&self) -> u64
+        ensures { old_in result (block_of self.now.block).slots ≡ 0 }
+    {
+        match self.block.time_bounds() {
+            None => u64::MAX,
+            Some((least, _)) => least,
+        }
+    }
+
     /// Puts a fresh block in the block's place, with the same edges, where the batch has not yet done so.
     fn own(&mut self, fresh: &mut Vec<Arc<Block>>) -> Result<(), AllocError>
         requires { self.old.touched ≡ false → 0 < vec_len fresh.old }

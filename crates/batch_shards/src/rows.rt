@@ -31,6 +31,8 @@ pub struct Hints {
     /// Where the batch's targets may stand, for a long row that many operations touch.
     pub notes: Option<Notes>,
     pub room: Room,
+    /// No edge of the row was last touched before this time; 0 where that isn't known.
+    pub since: u64,
 }
 
 /// The place of the block with the edge of the kind to the target.
@@ -241,6 +243,8 @@ pub fn apply_step(
         (numbers_of fresh.old.items)) }
     ensures few { OnOk result (vec_len fresh.old ≤ vec_len fresh.new + 1) }
 {
+    // The edge may be older than those that the row had.
+    hints.since = 0;
     match find_place(row.as_slice(), &hints.notes, kind, target) {
         Some(place) => {
             let outcome = change_here(&mut row[place], fresh, target, change)?;
@@ -294,4 +298,15 @@ pub fn expire_blocks(
         count = count.wrapping_add(u64::from(gone));
     }
     Ok(count)
+}
+
+/// The least recent time of a row's edges, or the greatest number where it has none.
+pub fn least_time(row: &[RowBlock]) -> u64
+    ensures { layout.old_in_row result (opens row.now) ≡ 0 }
+{
+    let mut least = u64::MAX;
+    for here in row {
+        least = least.min(here.least_time());
+    }
+    least
 }

@@ -13,8 +13,8 @@ ghost use Rattle.batch_shards.specs.Closing.{after_here, written_here, dropped_h
 ghost use Rattle.batch_shards.specs.Closing.{dropped_of, unused_of};
 ghost use Rattle.batch_shards.specs.Done.{AreBlockRows, IsShardDone};
 ghost use Rattle.batch_shards.specs.Groups.{is_at, is_expiry, does_act, key_of, AreGroups, AreExpiries, IsSourceRow};
-ghost use Rattle.batch_shards.specs.Groups.{IsOneMore, told, none_told, act_step, act_outcome};
-ghost use Rattle.batch_shards.specs.Spending.{spends, takes, time_of, latest, unspent, needed, needed_past};
+ghost use Rattle.batch_shards.specs.Groups.{IsOneMore, IsTold, told, none_told, act_step, act_outcome};
+ghost use Rattle.batch_shards.specs.Spending.{spends, takes, time_of, latest, unspent, needed, needed_past, AreReached};
 ghost use Rattle.batch_shards.specs.Progress.{AreRowsDone};
 ghost use Rattle.batch_shards.specs.Shards.{AreSteps, IsActChange, resolved_in};
 ghost use Rattle.batch_shards.specs.Notes.{IsNoted};
@@ -24,7 +24,7 @@ use crate::groups::{Groups, group_steps, targets_of};
 use crate::notes::Notes;
 use crate::room::Room;
 use crate::row_blocks::RowBlock;
-use crate::rows::{Hints, apply_step, expire_blocks};
+use crate::rows::{Hints, apply_step, expire_blocks, least_time};
 use edge_block::Block;
 use graph_model::{EdgeChange, KindId, Outcome, VertexId};
 use graph_version::Version;
@@ -71,6 +71,16 @@ impl Step {
         match self.act {
             Act::Edge(_, _) => false,
             Act::Expire(_) => true,
+        }
+    }
+
+    /// The time of an expiry, 0 of an operation on an edge.
+    pub fn expiry_time(&self) -> u64
+        ensures { result ≡ time_of self.now.act }
+    {
+        match self.act {
+            Act::Edge(_, _) => 0,
+            Act::Expire(time) => time,
         }
     }
 }
@@ -129,9 +139,13 @@ fn expire_row(row: &mut OpenRow, fresh: &mut Vec<Arc<Block>>, time: u64) -> Resu
     ensures few { OnOk result ((t : ℕ) → time ≤ t → vec_len fresh.old + unspent t (opens row.new.blocks.items)
         ≤ vec_len fresh.new + unspent t (opens row.old.blocks.items)) }
 {
+    if time <= row.hints.since {
+        return Ok(0);
+    }
     let count = expire_blocks(&mut row.blocks, fresh, time)?;
     // A block before the place may have room now.
     row.hints.room.place = 0;
+    row.hints.since = least_time(row.blocks.as_slice());
     Ok(count)
 }
 
@@ -181,6 +195,8 @@ fn do_act(
 }
 
 /// Does the operations on one row in order, and writes their outcomes.
+///
+/// Expiries that find no edge of the row are passed over, and what was told of them stands.
 fn do_steps(
     opened: &mut OpenRow,
     fresh: &mut Vec<Arc<Block>>,
@@ -193,6 +209,7 @@ fn do_steps(
     requires row { row < length groups.now.first.items }
     requires steps { length groups.now.next.items ≡ length steps.now }
     requires expiries { AreExpiries 0 steps.now groups.now.expiries.items }
+    requires reached { AreReached steps.now groups.now.reached.items }
     requires changes { All (λ s. IsActChange s.act) steps.now }
     requires outcomes { length outcomes.old.items ≡ length steps.now }
     requires fresh { count_by (λ s. is_at row s.act) steps.now + unspent (latest steps.now) (opens opened.old.blocks.items)
@@ -205,6 +222,7 @@ fn do_steps(
     ensures written { OnOk result ((sources : List ℕ) (rows : ℕ → List OpenBlock)
         → IsSourceRow sources steps.now row opened.old.source.0 → opens opened.old.blocks.items ≡ rows opened.old.source.0
         → (k : ℕ) (s : Step) (o : ℕ × Outcome) → k < length steps.now → does_act row (get_or steps.now k s).act ≡ true
+        → IsTold (get_or steps.now k s).act (get_or outcomes.old.items k o).1
         → IsOneMore sources steps.now rows opened.old.source.0 k (get_or outcomes.old.items k o).1
         (get_or outcomes.new.items k o).1) }
     ensures others { OnOk result ((k : ℕ) (s : Step) (o : ℕ × Outcome) → k < length steps.now
@@ -219,12 +237,12 @@ fn do_steps(
         + unspent (latest steps.now) (opens opened.old.blocks.items))) }
 {
     let mut edge = groups.first[row];
-    let mut index = edge.min(groups.expiries[0]);
+    let mut index = edge.min(groups.later_expiry(0, opened.hints.since));
     while index < steps.len() {
         let outcome = do_act(opened, fresh, steps[index].act, outcomes[index].1)?;
         outcomes[index].1 = outcome;
         edge = groups.edge_after(index, edge);
-        index = edge.min(groups.expiries[index + 1]);
+        index = edge.min(groups.later_expiry(index + 1, opened.hints.since));
     }
     Ok(())
 }
@@ -270,6 +288,7 @@ pub fn open_row(
                 kind: KindId(0),
                 place: 0,
             },
+            since: 0,
         },
     })
 }
@@ -399,6 +418,7 @@ fn do_row(
     requires distinct { AllPairs (λ a b. a ≢ b) (map (λ s. s.0) sources.now) }
     requires groups { AreGroups 0 steps.now groups.now.first.items groups.now.next.items }
     requires expiries { AreExpiries 0 steps.now groups.now.expiries.items }
+    requires reached { AreReached steps.now groups.now.reached.items }
     requires firsts { length groups.now.first.items ≡ length sources.now }
     requires nexts { length groups.now.next.items ≡ length steps.now }
     requires outcomes { length done.old.outcomes.items ≡ length steps.now }

@@ -168,6 +168,24 @@ pub(super) fn batch_of_kind(alloc: Global, kind: &str, ops: &[Op]) -> Result<Bat
     Ok(batch)
 }
 
+fn loop_at(alloc: Global, vertex: &str) -> Result<NamedOp, AllocError> {
+    let kind = name(alloc, "k")?;
+    match ends_of(alloc, vertex, vertex) {
+        Ok((source, target)) => Ok(named_operation(("i", "", "", 1, 1), kind, source, target)),
+        Err(error) => Err(error),
+    }
+}
+
+/// An edge of time 1 from each of so many vertices to itself.
+pub(super) fn loops(alloc: Global, vertices: u32) -> Result<Batch, AllocError> {
+    let mut batch = Batch::new(alloc);
+    for number in 0..vertices {
+        let vertex = format!(in alloc; "{number}")?;
+        push(&mut batch, loop_at(alloc, vertex.as_str()))?;
+    }
+    Ok(batch)
+}
+
 /// An insertion from each of the sources to each of the targets, in each of the rounds.
 pub(super) fn all_pairs(
     alloc: Global,

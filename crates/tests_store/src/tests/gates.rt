@@ -3,7 +3,7 @@
 ghost use Rattle.std.specs.Prelude.{◌≡◌};
 ghost use Rattle.graph_model.specs.Step.{empty_graph};
 
-use super::batches::all_pairs;
+use super::batches::{all_pairs, batch_of, loops};
 use super::stores::apply_to;
 use batch_apply::Gate;
 use graph_model::Batch;
@@ -96,6 +96,35 @@ fn check_desk<R: Threads + Wait + Sync + Abort>(
 fn workers_meet_behind_a_desk(rt: HostRuntime) {
     check_desk(&rt, rt.alloc(), 128, 2);
     check_desk(&rt, rt.alloc(), 127, 1);
+}
+
+/// So many workers meet at a desk of two where one expiry takes edges of so many rows.
+fn check_expiry<R: Threads + Wait + Sync + Abort>(
+    rt: &R,
+    alloc: Global,
+    rows: u32,
+    workers: usize,
+) {
+    let config = Config::new(2, 8192, 1).expect(rt, "within the limits");
+    let (mut desk, _board, _seats) = open_parts(rt, alloc, config).expect(rt, "an opening");
+    assert!(rt; is_applied(rt, &mut desk, &Meeting::new(), loops(alloc, rows)));
+    let meeting = Meeting::new();
+    assert!(rt;
+        is_applied(
+            rt,
+            &mut desk,
+            &meeting,
+            batch_of(alloc, &[("x", "", "", 0, 2)])
+        )
+    );
+    assert_eq!(rt; meeting.met(), Some(workers));
+}
+
+/// A row that an expiry opens counts as an operation.
+#[test]
+fn workers_meet_behind_an_expiry(rt: HostRuntime) {
+    check_expiry(&rt, rt.alloc(), 2047, 2);
+    check_expiry(&rt, rt.alloc(), 2046, 1);
 }
 
 fn meet_over<J: Naming, R: Threads + Wait + Sync + Abort>(

@@ -1,8 +1,7 @@
-use Rattle.std.proofs.Common.{◌≡◌, ◌-◌, ◌+◌, ◌<◌, ℕ, List, Some, None, false, get_or, length, refl, sym, ap, ◌∙◌, subst, arith, rules, set}
+use Rattle.std.proofs.Common.{◌≡◌, ◌-◌, ◌+◌, ◌<◌, ℕ, List, Some, None, get_or, length, sym, ap, ◌∙◌, subst, arith, rules, set}
 use Rattle.std.proofs.Math.ListN.{length-set}
 use Rattle.std.proofs.lemmas.Grind.{get_or_default_zero}
 use Rattle.batch_shards.specs.Groups.{is_at, AreGroups}
-use Rattle.batch_shards.specs.declared.shard.Act.{Act}
 use Rattle.batch_shards.specs.declared.shard.Act.TheVariants.{Edge, Expire}
 use Rattle.batch_shards.specs.declared.shard.Place.{Place}
 use Rattle.batch_shards.specs.declared.shard.Step.{Step}

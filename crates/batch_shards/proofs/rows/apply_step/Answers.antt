@@ -1,4 +1,4 @@
-use Rattle.std.proofs.Common.{◌≡◌, ◌<◌, List, true, sym, ap, ◌∙◌, subst, get_or, length}
+use Rattle.std.proofs.Common.{◌≡◌, ◌<◌, List, true, sym, ap, ◌∙◌, subst, get_or, set, length}
 use Rattle.std.specs.List.{position}
 use Rattle.std.specs.Option.{is_some}
 use Rattle.std.specs.declared.option.Option.TheVariants.{None, Some}
@@ -14,6 +14,7 @@ use Rattle.edge_block.proofs.Entries.{list_any-holds}
 use Rattle.batch_shards.specs.Notes.{has_target}
 use Rattle.batch_shards.specs.Room.{IsRoom}
 use Rattle.batch_shards.proofs.Noting.{noted_kept, changed_targets}
+use Rattle.batch_shards.proofs.Young.{none_at_start}
 use Rattle.batch_shards.proofs.rows.apply_step.Goals as goal
 
 pub change_here-requires-clause-edge : goal.change_here-requires-clause-edge
@@ -66,6 +67,7 @@ returns-in_ok-outcome-in-Some-clause-hints c =
           (λ other now. changed_targets c.args.change c.args.target here y other changed has now);
       room = subst (λ (row : List RowBlock). IsRoom c.after_change-hints.result row) c.as_slice-in-Some.ensures.value
           (c.after_change-hints.ensures c.args.row.now.items y c.as_slice-in-Some.ensures.value c.requires.hints.room);
+      young = none_at_start (opens (set c.args.row.now.items c.in-Some.place y));
     }
 
 pub returns-in_ok-outcome-in-Some-clause-had : goal.returns-in_ok-outcome-in-Some-clause-had
@@ -104,6 +106,21 @@ returns-in_ok-note_edge-in-None-clause-row c =
     rw (absent_edge c.args.kind.0 c.args.target c.args.row.now.items none)
     (c.in_ok-place-in-None.ensures.row ∙ sym (absent_puts c.args.change (c.args.kind.0, c.args.target)
     (opens c.args.row.now.items) (stamp_in marks) stamp))
+
+pub returns-in_ok-note_edge-in-None-clause-hints : goal.returns-in_ok-note_edge-in-None-clause-hints
+returns-in_ok-note_edge-in-None-clause-hints c = record {
+  noted = c.in_ok-note_edge-in-None.ensures c.args.row.now.items c.add_edge.new.row.items c.requires.hints.noted
+      c.in_ok-place-in-None.ensures.gains;
+  room = c.in_ok-place-in-None.ensures.full;
+  young = none_at_start (opens c.add_edge.new.row.items);
+}
+
+pub returns-in_default-clause-hints : goal.returns-in_default-clause-hints
+returns-in_default-clause-hints c = record {
+  noted = c.requires.hints.noted;
+  room = c.requires.hints.room;
+  young = none_at_start (opens c.args.row.now.items);
+}
 
 pub returns-in_default-clause-outcome : goal.returns-in_default-clause-outcome
 returns-in_default-clause-outcome c =

@@ -1,4 +1,4 @@
-use Rattle.std.proofs.Common.{◌≡◌, ℕ, ◌+◌, ◌-◌, ◌<◌, ◌≤◌, true, rules, arith, ap, sym, refl, subst, ◌∙◌, get_or, length, min}
+use Rattle.std.proofs.Common.{◌≡◌, ℕ, ◌+◌, ◌-◌, ◌<◌, true, rules, arith, ap, sym, refl, subst, ◌∙◌, get_or, length, List, take}
 use Rattle.std.proofs.lemmas.Bool.{false≢true}
 use Rattle.std.proofs.lemmas.List.{get_or-set_other, get_or_default}
 use Rattle.std.proofs.Math.Seq.{map-set_same}
@@ -6,12 +6,15 @@ use Rattle.std.proofs.lemmas.Grind.{get_or_default_zero}
 use Rattle.graph_model.specs.declared.ids.VertexId.{VertexId}
 use Rattle.batch_shards.specs.RowBlocks.{opens}
 use Rattle.graph_model.specs.declared.batches.Outcome.{Outcome}
-use Rattle.block_layout.specs.Batches.{together}
-use Rattle.batch_shards.specs.Groups.{is_at, is_expiry, does_act, IsNext, IsOneMore, told, act_step, act_outcome}
-use Rattle.batch_shards.specs.Spending.{latest, unspent, time_of}
+use Rattle.block_layout.specs.Batches.{rows_all, together}
+use Rattle.batch_shards.specs.Groups.{is_at, is_expiry, is_later, does_act, may_change, IsNext, LeadsTo, IsSourceRow, IsOneMore}
+use Rattle.batch_shards.specs.Groups.{told, act_step, act_outcome}
+use Rattle.batch_shards.specs.Shards.{resolved_in}
+use Rattle.block_layout.specs.Rows.{OpenBlock, old_in_row}
+use Rattle.batch_shards.specs.Spending.{latest}
 use Rattle.batch_shards.specs.declared.shard.Act.{Act}
 use Rattle.batch_shards.proofs.ShardSteps.{first_step}
-use Rattle.batch_shards.proofs.SourceSteps.{stepped, outcome_here, skipped, skipped_count, at_row, wrote, before_it}
+use Rattle.batch_shards.proofs.SourceSteps.{stepped, outcome_here, left_alone, left_told, skipped_count, at_row, wrote, beside}
 use Rattle.batch_shards.proofs.SourceSteps.{earlier_next, next_from, edge_behind}
 use Rattle.batch_shards.proofs.Expiring.{not_later, spends_least}
 use Rattle.batch_shards.proofs.shard.do_steps.Goals as goal
@@ -19,23 +22,25 @@ use Rattle.batch_shards.proofs.shard.do_steps.Goals as goal
 pub loop-index-init : goal.loop-index-init
 loop-index-init c =
     let e : ℕ = c.index-edge.result.now in
-    let x : ℕ = c.index.result.now in
     let n : ℕ = c.min-index.result in
+    let since : ℕ = c.args.opened.now.hints.since in
     let edge : IsNext (is_at c.args.row) c.args.steps.now 0 e = subst (IsNext (is_at c.args.row) c.args.steps.now 0)
     (sym (c.index-edge.ensures ∙ get_or_default_zero c.args.groups.now.first.items c.args.row e c.requires.row))
     (c.requires.groups.firsts c.args.row c.requires.row) in
-    let expiry : IsNext is_expiry c.args.steps.now 0 x = subst (IsNext is_expiry c.args.steps.now 0)
-    (sym (c.index.ensures ∙ get_or_default_zero c.args.groups.now.expiries.items 0 x
-    (omega (arith, c.requires.expiries.long)))) (c.requires.expiries.are 0 (omega arith) (omega arith)) in
-    let next : IsNext (does_act c.args.row) c.args.steps.now 0 n =
-    subst (IsNext (does_act c.args.row) c.args.steps.now 0) (sym c.min-index.ensures) (earlier_next edge expiry) in
+    let expiry : LeadsTo (is_later since) is_expiry c.args.steps.now 0 c.later_expiry.result =
+    c.later_expiry.ensures c.args.steps.now c.requires.expiries c.requires.reached in
+    let next : LeadsTo (may_change c.args.row since) (does_act c.args.row) c.args.steps.now 0 n =
+    subst (LeadsTo (may_change c.args.row since) (does_act c.args.row) c.args.steps.now 0) (sym c.min-index.ensures)
+    (earlier_next edge expiry) in
     record {
       within = next.within;
       there = next.there;
       edge = next_from edge n (omega arith) (omega (arith, c.min-index.ensures));
-      rows = λ sources rows is e. e ∙ sym (skipped sources c.args.steps.now c.args.row c.args.opened.now.source.0 is rows n 0 n
-          (omega arith) next.within next.between);
-      written = λ sources rows is e k s o lt at. absurd (false≢true (sym (next.between k s (omega arith) lt) ∙ at));
+      rows = λ sources rows is e. e ∙ sym (left_alone sources c.args.steps.now c.args.row c.args.opened.now.source.0 is rows since 0 n
+          next (ap (old_in_row since) (sym e) ∙ c.requires.hinted.young));
+      written = λ sources rows is e k s o lt at was. left_told sources c.args.steps.now c.args.row c.args.opened.now.source.0 is rows
+          since 0 n next (ap (old_in_row since) (sym e) ∙ c.requires.hinted.young) k s (get_or c.args.outcomes.now.items k o).1
+          (omega arith) lt at was;
       later = λ k o ge. refl;
       others = λ k s o lt at. refl;
       places = refl;
@@ -62,8 +67,8 @@ pub loop-index-preserved : goal.loop-index-preserved
 loop-index-preserved c =
     let i : ℕ = c.loop-index.index in
     let e : ℕ = c.edge_after-edge.result in
-    let x : ℕ = c.index-in-loop-index-2.result.now in
     let n : ℕ = c.min-index-in-loop-index.result in
+    let since : ℕ = c.do_act.new.row.hints.since in
     let lt : i < length c.args.steps.now = c.loop-index-test.true in
     let act : Act = (get_or c.args.steps.now i first_step).act in
     let at : does_act c.args.row act ≡ true = c.loop-index.invariant.there first_step lt in
@@ -71,28 +76,31 @@ loop-index-preserved c =
     edge_behind c.args.steps.now c.args.row i c.loop-index.edge (get_or c.args.groups.now.next.items i 0) e lt
     c.loop-index.invariant.edge (λ s here. c.requires.groups.nexts c.args.row i s (omega arith) lt here)
     c.edge_after-edge.ensures in
-    let expiry : IsNext is_expiry c.args.steps.now (i + 1) x = subst (IsNext is_expiry c.args.steps.now (i + 1))
-    (sym (c.index-in-loop-index-2.ensures ∙ get_or_default_zero c.args.groups.now.expiries.items (i + 1) x
-    (omega (arith, lt, c.requires.expiries.long)))) (c.requires.expiries.are (i + 1) (omega arith) (omega (arith, lt))) in
-    let next : IsNext (does_act c.args.row) c.args.steps.now (i + 1) n =
-    subst (IsNext (does_act c.args.row) c.args.steps.now (i + 1)) (sym c.min-index-in-loop-index.ensures)
-    (earlier_next edge expiry) in
-    let r : ℕ × Outcome = c.index-in-loop-index.result.now in
+    let expiry : LeadsTo (is_later since) is_expiry c.args.steps.now (i + 1) c.later_expiry-in-loop-index.result =
+    c.later_expiry-in-loop-index.ensures c.args.steps.now c.requires.expiries c.requires.reached in
+    let next : LeadsTo (may_change c.args.row since) (does_act c.args.row) c.args.steps.now (i + 1) n =
+    subst (LeadsTo (may_change c.args.row since) (does_act c.args.row) c.args.steps.now (i + 1))
+    (sym c.min-index-in-loop-index.ensures) (earlier_next edge expiry) in
+    let r : ℕ × Outcome = c.index.result.now in
     let read : (o : ℕ × Outcome) → r ≡ get_or c.args.outcomes.now.items i o =
-    λ o. c.index-in-loop-index.ensures ∙ c.loop-index.invariant.later i r (omega arith)
+    λ o. c.index.ensures ∙ c.loop-index.invariant.later i r (omega arith)
     ∙ get_or_default c.args.outcomes.now.items i r o (omega (arith, lt, c.requires.outcomes)) in
+    let by : (sources : List ℕ) (rows : ℕ → List OpenBlock) → IsSourceRow sources c.args.steps.now c.args.row
+    c.args.opened.now.source.0 → opens c.args.opened.now.blocks.items ≡ rows c.args.opened.now.source.0
+    → opens c.do_act.new.row.blocks.items ≡ rows_all (resolved_in sources (take (i + 1) c.args.steps.now)) rows
+    c.args.opened.now.source.0 =
+    λ sources rows is e. c.in_ok-outcome.ensures.row
+    ∙ ap (λ (s : VertexId). act_step s.0 act (opens c.loop-index.opened.blocks.items)) c.loop-index.invariant.source
+    ∙ stepped sources c.args.steps.now c.args.row c.args.opened.now.source.0 is rows i
+    (opens c.loop-index.opened.blocks.items) lt at (c.loop-index.invariant.rows sources rows is e) in
     record {
       within = next.within;
       there = next.there;
       edge = next_from edge n next.ahead (omega (arith, c.min-index-in-loop-index.ensures));
-      rows = λ sources rows is e.
-          c.in_ok-outcome.ensures.row ∙ ap (λ (s : VertexId). act_step s.0 act (opens c.loop-index.opened.blocks.items))
-          c.loop-index.invariant.source ∙ stepped sources c.args.steps.now c.args.row c.args.opened.now.source.0 is rows i
-          (opens c.loop-index.opened.blocks.items) lt at
-          (c.loop-index.invariant.rows sources rows is e)
-          ∙ sym (skipped sources c.args.steps.now c.args.row c.args.opened.now.source.0 is rows (n - (i + 1)) (i + 1) n
-          (omega (arith, next.ahead)) next.within next.between);
-      written = λ sources rows is e k s o k_lt k_at.
+      rows = λ sources rows is e. by sources rows is e
+          ∙ sym (left_alone sources c.args.steps.now c.args.row c.args.opened.now.source.0 is rows since (i + 1) n next
+          (ap (old_in_row since) (sym (by sources rows is e)) ∙ c.in_ok-outcome.ensures.hinted.young));
+      written = λ sources rows is e k s o k_lt k_at was.
           wrote c.loop-index.outcomes.items i k (c.index_mut.result.now.0, c.in_ok-outcome.outcome) o
           (λ j a. IsOneMore sources c.args.steps.now rows c.args.opened.now.source.0 j
           (get_or c.args.outcomes.now.items j o).1 a) (omega (arith, lt, c.loop-index.invariant.length))
@@ -104,7 +112,14 @@ loop-index-preserved c =
           (opens c.loop-index.opened.blocks.items)))) (read o)
           ∙ ap (λ (s : VertexId). told (together (get_or c.args.outcomes.now.items i o).1 (act_outcome s.0 act
           (opens c.loop-index.opened.blocks.items)))) c.loop-index.invariant.source))
-          (λ ne. c.loop-index.invariant.written sources rows is e k s o (before_it next k s ne k_lt k_at) k_at);
+          (beside (λ j. IsOneMore sources c.args.steps.now rows c.args.opened.now.source.0 k
+          (get_or c.args.outcomes.now.items k o).1 (get_or c.loop-index.outcomes.items k o).1) i k
+          (λ below. c.loop-index.invariant.written sources rows is e k s o below k_at was)
+          (λ behind. subst (λ (x : ℕ × Outcome). IsOneMore sources c.args.steps.now rows c.args.opened.now.source.0 k
+          (get_or c.args.outcomes.now.items k o).1 x.1) (sym (c.loop-index.invariant.later k o (omega arith)))
+          (left_told sources c.args.steps.now c.args.row c.args.opened.now.source.0 is rows since (i + 1) n next
+          (ap (old_in_row since) (sym (by sources rows is e)) ∙ c.in_ok-outcome.ensures.hinted.young) k s
+          (get_or c.args.outcomes.now.items k o).1 behind k_lt k_at was)));
       later = λ k o ge. get_or-set_other c.loop-index.outcomes.items i k
           (c.index_mut.result.now.0, c.in_ok-outcome.outcome) o (omega (arith, next.ahead))
           ∙ c.loop-index.invariant.later k o (omega (arith, next.ahead));
@@ -123,8 +138,20 @@ loop-index-preserved c =
       numbers = λ q. (let a = c.in_ok-outcome.ensures.numbers q in let b = c.loop-index.invariant.numbers q in omega arith);
       few =
           let more = at_row c.args.steps.now c.args.row i lt at in
-          let same = skipped_count c.args.steps.now c.args.row (n - (i + 1)) (i + 1) n (omega (arith, next.ahead)) next.within
+          let same = skipped_count c.args.steps.now c.args.row since (n - (i + 1)) (i + 1) n (omega (arith, next.ahead)) next.within
           next.between in
           let took = c.in_ok-outcome.ensures.few (latest c.args.steps.now) (not_later c.args.steps.now i first_step lt) in
           omega (arith, more.0, same, took, c.loop-index.invariant.few);
     }
+
+pub later_expiry-requires-clause-place : goal.later_expiry-requires-clause-place
+later_expiry-requires-clause-place c = omega (arith, c.requires.expiries.long)
+
+pub later_expiry-requires-clause-reached : goal.later_expiry-requires-clause-reached
+later_expiry-requires-clause-reached c = omega (arith, c.requires.expiries.long, c.requires.reached.long)
+
+pub later_expiry-requires-in-loop-index-clause-place : goal.later_expiry-requires-in-loop-index-clause-place
+later_expiry-requires-in-loop-index-clause-place c = omega (arith, c.requires.expiries.long, c.loop-index-test.true)
+
+pub later_expiry-requires-in-loop-index-clause-reached : goal.later_expiry-requires-in-loop-index-clause-reached
+later_expiry-requires-in-loop-index-clause-reached c = omega (arith, c.requires.expiries.long, c.requires.reached.long)

@@ -5,7 +5,7 @@ use Rattle.graph_model.specs.declared.batches.Outcome.{Outcome}
 use Rattle.batch_shards.specs.RowBlocks.{opens, had_in, own_in, numbers_of, HaveSame, IsOf}
 use Rattle.batch_shards.specs.Room.{AreHints}
 use Rattle.batch_shards.specs.Shards.{resolved_in}
-use Rattle.batch_shards.specs.Groups.{is_at, does_act, IsNext, IsSourceRow, IsOneMore}
+use Rattle.batch_shards.specs.Groups.{is_at, does_act, IsNext, IsSourceRow, IsOneMore, IsTold}
 use Rattle.batch_shards.specs.Spending.{latest, unspent}
 use Rattle.batch_shards.specs.declared.shard.Step.{Step}
 use Rattle.batch_shards.proofs.shard.do_steps.Given as goal
@@ -21,6 +21,7 @@ invariant-loop-index l = record {
   written : (sources : List ℕ) (rows : ℕ → List OpenBlock) → IsSourceRow sources l.steps l.row l.initial.opened.source.0
       → opens l.initial.opened.blocks.items ≡ rows l.initial.opened.source.0
       → (k : ℕ) (s : Step) (o : ℕ × Outcome) → k < l.index → does_act l.row (get_or l.steps k s).act ≡ true
+      → IsTold (get_or l.steps k s).act (get_or l.initial.outcomes.items k o).1
       → IsOneMore sources l.steps rows l.initial.opened.source.0 k (get_or l.initial.outcomes.items k o).1
       (get_or l.outcomes.items k o).1;
   later : (k : ℕ) (o : ℕ × Outcome) → l.index ≤ k → get_or l.outcomes.items k o ≡ get_or l.initial.outcomes.items k o;

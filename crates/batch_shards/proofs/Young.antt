@@ -1,0 +1,173 @@
+-- Rows without an edge from before a time, and the times that expiries have reached.
+use Rattle.std.proofs.Common.{◌≡◌, ℕ, zero, suc, ◌+◌, ◌<◌, ◌≤◌, Bool, true, false, cond, ◌||◌, List, [], ◌∷◌, ◌++◌, map, length}
+use Rattle.std.proofs.Common.{get_or, take, count_by, refl, sym, ap, ap₂, ◌∙◌, arith, All, max}
+use Rattle.std.proofs.lemmas.Bool.{le-ltb, ltb-true, ltb-false, false≢true}
+use Rattle.std.proofs.lemmas.List.{take_more, get_or_append_left, get_or_push}
+use Rattle.std.proofs.lemmas.List.Sums.{sum_by-cons, sum_by-le-sum_by, sum_by_more}
+use Rattle.std.proofs.lemmas.List.Elements.{All-head, All-tail}
+use Rattle.std.specs.Prelude.{nat_lt}
+use Rattle.std.specs.List.{list_any}
+use Rattle.std.specs.declared.option.Option.{Option}
+use Rattle.graph_model.specs.Step.{is_before}
+use Rattle.edge_block.specs.Slots.{Slot, edges_in, old_in, slots_since}
+use Rattle.block_layout.specs.Rows.{OpenBlock, has_old, touch, expire_row, old_in_row}
+use Rattle.batch_shards.specs.Groups.{is_expiry, is_later, IsNext, LeadsTo}
+use Rattle.batch_shards.specs.Spending.{latest, time_of, AreReached}
+use Rattle.batch_shards.specs.declared.shard.Act.{Act}
+use Rattle.batch_shards.specs.declared.shard.Act.TheVariants.{Edge, Expire}
+use Rattle.batch_shards.specs.declared.shard.Step.{Step}
+use Rattle.batch_shards.proofs.ShardSteps.{first_step}
+use Rattle.batch_shards.proofs.Expiring.{older, count_wider}
+
+-- what is old at a time is old at each later one
+pub slots_before : (s t : ℕ) (slots : List (Option Slot)) → s ≤ t → old_in t slots ≡ 0 → old_in s slots ≡ 0
+slots_before s t slots le young =
+    let fewer = count_wider (λ (e : Slot). is_before s e.stamp) (λ (e : Slot). is_before t e.stamp)
+    (λ e. older s t e.stamp le) (edges_in slots) in
+    omega arith
+
+fewer_old : (s t : ℕ) (row : List OpenBlock) → s ≤ t → old_in_row s row ≤ old_in_row t row
+fewer_old s t row le =
+    sum_by-le-sum_by (λ (b : OpenBlock). old_in s b.shape.slots) (λ (b : OpenBlock). old_in t b.shape.slots) row
+    (λ b. count_wider (λ (e : Slot). is_before s e.stamp) (λ (e : Slot). is_before t e.stamp) (λ e. older s t e.stamp le)
+    (edges_in b.shape.slots))
+
+pub young_before : (s t : ℕ) (row : List OpenBlock) → s ≤ t → old_in_row t row ≡ 0 → old_in_row s row ≡ 0
+young_before s t row le young = let fewer = fewer_old s t row le in omega arith
+
+-- none is old where each was touched at a time or later
+pub none_from : (least : ℕ) (es : List Slot) → All (λ v. least ≤ v) (map (λ e. e.stamp.recent) es)
+    → count_by (λ e. is_before least e.stamp) es ≡ 0
+none_from least [] all = refl
+none_from least (e ∷ es) all =
+    let a = sum_by-cons (λ (x : Slot). cond (is_before least x.stamp) 1 0) e es in
+    let here : least ≤ e.stamp.recent = All-head (λ v. least ≤ v) e.stamp.recent (map (λ (x : Slot). x.stamp.recent) es) all in
+    let late : (let n : ℕ = cond (is_before least e.stamp) 1 0 in n) ≡ 0 =
+    ap (λ b. let n : ℕ = cond b 1 0 in n) (le-ltb e.stamp.recent least here) in
+    let rest = none_from least es (All-tail (λ v. least ≤ v) e.stamp.recent (map (λ (x : Slot). x.stamp.recent) es) all) in
+    omega arith
+
+-- and where there is none
+pub none_without : (time : ℕ) (es : List Slot) → map (λ e. e.stamp.recent) es ≡ [] → count_by (λ e. is_before time e.stamp) es ≡ 0
+none_without time [] e = refl
+none_without time (x ∷ es) e = cc
+
+-- none is from before time 0
+pub none_at_start : (row : List OpenBlock) → old_in_row 0 row ≡ 0
+none_at_start [] = refl
+none_at_start (b ∷ row) =
+    let a = sum_by-cons (λ (x : OpenBlock). old_in 0 x.shape.slots) b row in
+    let here = none_from 0 (edges_in b.shape.slots) (λ k d lt. omega arith) in
+    let rest = none_at_start row in
+    omega arith
+
+-- an expiry leaves a row without old edges as it is
+none_any : {A : Type 0} (p : A → Bool) (xs : List A) → count_by p xs ≡ 0 → list_any p xs ≡ false
+none_any p [] e = refl
+none_any p (x ∷ xs) e =
+    let a = sum_by-cons (λ x. cond (p x) 1 0) x xs in
+    elim (p x) as (λ b. p x ≡ b → (b || list_any p xs) ≡ false) [
+      | true ↦ λ t.
+          let one : (let n : ℕ = cond (p x) 1 0 in n) ≡ 1 = ap (λ b. let n : ℕ = cond b 1 0 in n) t in
+          absurd (omega arith)
+      | false ↦ λ t. none_any p xs (omega arith)
+    ] refl
+
+pub young_stays : (time : ℕ) (row : List OpenBlock) → old_in_row time row ≡ 0 → expire_row time row ≡ row
+young_stays time [] e = refl
+young_stays time (b ∷ row) e =
+    let a = sum_by-cons (λ (x : OpenBlock). old_in time x.shape.slots) b row in
+    let none : has_old time b ≡ false =
+    none_any (λ (x : Slot). is_before time x.stamp) (edges_in b.shape.slots) (omega arith) in
+    ap₂ (λ x xs. x ∷ xs) (ap (λ t. cond t (touch (slots_since time) b) b) none) (young_stays time row (omega arith))
+
+-- one block more
+pub young_more : (s t : ℕ) (row : List OpenBlock) (k : ℕ) (d : OpenBlock) → k < length row → old_in_row s (take k row) ≡ 0
+    → t ≤ s → old_in t (get_or row k d).shape.slots ≡ 0 → old_in_row t (take (k + 1) row) ≡ 0
+young_more s t row k d lt young le here =
+    let a = sum_by_more (λ (b : OpenBlock). old_in t b.shape.slots) row k d lt in
+    let b = young_before t s (take k row) le young in
+    omega arith
+
+-- the greatest time of one operation more
+latest_push : (steps : List Step) (s : Step) → latest (steps ++ s ∷ []) ≡ max (latest steps) (time_of s.act)
+latest_push [] s = greatest_of (time_of s.act) where
+  greatest_of : (n : ℕ) → max n 0 ≡ max 0 n
+  greatest_of n = omega arith
+latest_push (x ∷ steps) s = ap (max (time_of x.act)) (latest_push steps s)
+    ∙ regroup (time_of x.act) (latest steps) (time_of s.act) where
+      regroup : (a b c : ℕ) → max a (max b c) ≡ max (max a b) c
+      regroup a b c = omega arith
+
+pub latest_more : (steps : List Step) (k : ℕ) → k < length steps
+    → latest (take (k + 1) steps) ≡ max (latest (take k steps)) (time_of (get_or steps k first_step).act)
+latest_more steps k lt =
+    ap latest (take_more steps k first_step lt) ∙ latest_push (take k steps) (get_or steps k first_step)
+
+latest_rises : (i j : ℕ) (steps : List Step) → i ≤ j → latest (take i steps) ≤ latest (take j steps)
+latest_rises zero j steps le = omega arith
+latest_rises (suc i) zero steps le = absurd (omega arith)
+latest_rises (suc i) (suc j) [] le = omega arith
+latest_rises (suc i) (suc j) (x ∷ steps) le =
+    higher (time_of x.act) (latest (take i steps)) (latest (take j steps)) (latest_rises i j steps (omega arith)) where
+      higher : (a b c : ℕ) → b ≤ c → max a b ≤ max a c
+      higher a b c le = omega arith
+
+-- one more time that is reached
+pub reached_push : (steps : List Step) (v : List ℕ) (i n : ℕ) → length v ≡ i → n ≡ latest (take (i + 1) steps)
+    → ((k : ℕ) → k < i → get_or v k 0 ≡ latest (take (k + 1) steps))
+    → (k : ℕ) → k < i + 1 → get_or (v ++ n ∷ []) k 0 ≡ latest (take (k + 1) steps)
+reached_push steps v i n long is are k lt =
+    elim (nat_lt k i) as (λ t. nat_lt k i ≡ t → get_or (v ++ n ∷ []) k 0 ≡ latest (take (k + 1) steps)) [
+      | true ↦ λ t.
+          let below : k < i = ltb-true k i t in
+          get_or_append_left v (n ∷ []) 0 k (omega arith) ∙ are k below
+      | false ↦ λ t.
+          let ge : i ≤ k = ltb-false k i t in
+          let same : k ≡ i = omega arith in
+          get_or_push v n 0 k (omega arith) ∙ is ∙ ap (λ j. latest (take (j + 1) steps)) (sym same)
+    ] refl
+
+module _ (steps : List Step) (reached : List ℕ) (are : AreReached steps reached) where
+  pub reached_rises : (i j : ℕ) → i ≤ j → j < length reached → get_or reached i 0 ≤ get_or reached j 0
+  reached_rises i j le lt =
+      let a = are.are i (omega (arith, are.long)) in
+      let b = are.are j (omega (arith, are.long)) in
+      let c = latest_rises (i + 1) (j + 1) steps (omega arith) in
+      omega arith
+
+  -- what has not been reached at a place is not the time of its operation
+  not_reached : (since k : ℕ) (s : Step) → k < length steps → get_or reached k 0 ≤ since
+      → is_later since (get_or steps k s).act ≡ false
+  not_reached since k s lt le =
+      let a = are.are k lt in
+      let b = latest_more steps k lt in
+      let same = ap time_of (ap (λ (x : Step). x.act)
+      (Rattle.std.proofs.lemmas.List.get_or_default steps k s first_step lt)) in
+      early (get_or steps k s).act (below (latest (take k steps)) (time_of (get_or steps k first_step).act)
+      (get_or reached k 0) (time_of (get_or steps k s).act) since (a ∙ b) same le) where
+        below : (a b n c since : ℕ) → n ≡ max a b → c ≡ b → n ≤ since → c ≤ since
+        below a b n c since e f le = omega arith
+
+        early : (act : Act) → time_of act ≤ since → is_later since act ≡ false
+        early (Edge place change) le = refl
+        early (Expire time) le = le-ltb since time le
+
+  -- no expiry before the place at which a time is passed is later, and the next expiry from there on may be
+  pub leads_later : (since place first n : ℕ) → ((k : ℕ) → k < first → get_or reached k 0 ≤ since)
+      → IsNext is_expiry steps (max place first) n → LeadsTo (is_later since) is_expiry steps place n
+  leads_later since place first n low next = record {
+    ahead = (let a = next.ahead in omega arith);
+    within = next.within;
+    between = λ k s ge below.
+        elim (nat_lt k first) as (λ t. nat_lt k first ≡ t → is_later since (get_or steps k s).act ≡ false) [
+          | true ↦ λ t. not_reached since k s (omega (arith, next.within)) (low k (ltb-true k first t))
+          | false ↦ λ t.
+              let from : first ≤ k = ltb-false k first t in
+              of_none (get_or steps k s).act (next.between k s (omega arith) below)
+        ] refl;
+    there = next.there;
+  } where
+    of_none : (act : Act) → is_expiry act ≡ false → is_later since act ≡ false
+    of_none (Edge place change) e = refl
+    of_none (Expire time) e = absurd (false≢true (sym e))

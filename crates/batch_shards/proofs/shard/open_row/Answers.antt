@@ -1,0 +1,13 @@
+use Rattle.std.proofs.Common.{List, subst, arith}
+use Rattle.batch_shards.specs.RowBlocks.{opens}
+use Rattle.batch_shards.specs.Notes.{IsNoted}
+use Rattle.batch_shards.specs.declared.row_blocks.RowBlock.{RowBlock}
+use Rattle.batch_shards.proofs.Young.{none_at_start}
+use Rattle.batch_shards.proofs.shard.open_row.Goals as goal
+
+pub returns-clause-hinted : goal.returns-clause-hinted
+returns-clause-hinted c = record {
+  noted = subst (λ (row : List RowBlock). IsNoted c.in_ok-notes.notes row) c.as_slice.ensures.value c.in_ok-notes.ensures;
+  room = record { full = λ i d below within. absurd (omega arith) };
+  young = none_at_start (opens c.loop-block.blocks.items);
+}
