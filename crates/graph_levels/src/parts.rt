@@ -30,7 +30,8 @@ fn find(parents: &mut [u32], start: u32) -> u32
     vertex
 }
 
-/// Joins the trees of two vertices: the greater root is put below the lesser.
+/// Joins the trees of two vertices: the greater root is put below the lesser. Two with one parent are joined already, as most
+/// are in a graph of one large part.
 fn join(parents: &mut [u32], a: u32, b: u32)
     requires forest { IsForest parents.old }
     requires a_within { a < length parents.old }
@@ -39,6 +40,9 @@ fn join(parents: &mut [u32], a: u32, b: u32)
     ensures coarser { (label : ℕ → ℕ) → Respects parents.new label → Respects parents.old label × (label a ≡ label b) }
     ensures sound { (f : Filter) (g : Graph) → IsSound f g parents.old → Joins f g a b → IsSound f g parents.new }
 {
+    if parents[a as usize] == parents[b as usize] {
+        return;
+    }
     let first = find(parents, a);
     let second = find(parents, b);
     if first < second {

@@ -2,6 +2,7 @@
 //! how each line is written.
 #![tactic(auto)]
 
+mod ends;
 mod lines;
 mod tables;
 mod words;

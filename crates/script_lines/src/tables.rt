@@ -1,7 +1,7 @@
 //! The lines of an answer in numbers, appended to a buffer. A vertex's name is read where it stands in the version's book, and no
 //! text is made of it.
 
-ghost use Rattle.std.specs.Prelude.{◌≡◌, ◌++◌, [], OnOk, bytes_eq, codes, count_by, length, slice_index_or, string_bytes};
+ghost use Rattle.std.specs.Prelude.{◌≡◌, ◌++◌, [], OnOk, bytes_eq, count_by, length, slice_index_or, string_bytes};
 ghost use Rattle.std.specs.Prelude.{sum_by, zip};
 ghost use Rattle.std.specs.List.{flat_map};
 ghost use Rattle.std.specs.Option.{option_to_list};
@@ -10,9 +10,9 @@ ghost use Rattle.graph_model.specs.Answer.{level_row, names_of, reached};
 ghost use Rattle.script_lines.specs.Lines as lines_of;
 ghost use Rattle.version_answers.specs.Numbered.{named};
 
+use crate::ends::RowEnd;
 use crate::lines::edge_line;
 use graph_model::{Degree, VertexId};
-use itoa::{Buffer, Integer};
 use std::alloc::AllocError;
 use version_answers::NumberedReply;
 use vertex_names::NameBook;
@@ -227,9 +227,10 @@ fn level_line(lines: &mut String, name: &str, level: Option<u32>) -> Result<(), 
 fn number_line(lines: &mut String, name: &str, number: u32) -> Result<(), AllocError>
     ensures { OnOk result (string_bytes lines.new ≡ string_bytes lines.old ++ lines_of.number_line (name.now, number)) }
 {
+    let mut end = RowEnd::new();
+    end.put(u64::from(number));
     lines.push_str(name)?;
-    field(lines, number)?;
-    lines.push('\n')
+    lines.push_str(end.as_str())
 }
 
 /// The line of a name with the name of its label.
@@ -246,18 +247,10 @@ fn label_line(lines: &mut String, name: &str, label: &str) -> Result<(), AllocEr
 fn degree_line(lines: &mut String, name: &str, degree: Degree) -> Result<(), AllocError>
     ensures { OnOk result (string_bytes lines.new ≡ string_bytes lines.old ++ lines_of.degree_line (name.now, degree)) }
 {
+    let mut end = RowEnd::new();
+    end.put_signed(degree.out_weight);
+    end.put(u64::from(degree.incoming));
+    end.put(u64::from(degree.outgoing));
     lines.push_str(name)?;
-    field(lines, degree.outgoing)?;
-    field(lines, degree.incoming)?;
-    field(lines, degree.out_weight)?;
-    lines.push('\n')
-}
-
-/// A space and a number.
-fn field<I: Integer>(lines: &mut String, number: I) -> Result<(), AllocError>
-    ensures { OnOk result (string_bytes lines.new ≡ string_bytes lines.old ++ (codes " " ++ I.text number)) }
-{
-    let mut digits = Buffer::new();
-    lines.push(' ')?;
-    lines.push_str(digits.format(number))
+    lines.push_str(end.as_str())
 }
