@@ -12,7 +12,7 @@ use Rattle.version_answers.specs.Numbered.{IsNumberedAnswer, named}
 use Rattle.version_answers.specs.declared.numbered.NumberedReply.{NumberedReply}
 use Rattle.script_lines.specs.Lines.{shown_lines}
 use Rattle.stinger_server.specs.Servers.{IsServer, Shows}
-use Rattle.stinger_server.specs.Slots.{IsEarlier, IsSlot}
+use Rattle.stinger_server.specs.Slots.{IsEarlier, IsSlot, held_of}
 use Rattle.stinger_server.specs.States.{IsReplied, State, ask_word, version, version_in}
 use Rattle.stinger_server.specs.declared.server.Server.{Server}
 use Rattle.script_lines.specs.declared.words.Word.{Word}
@@ -54,10 +54,10 @@ graph_there server state slot s is shows there =
     let opening : (held_version s).opening ≡ state.opening = earlier.opening ∙ shows.desk.opening in
     λ i. left_by (batches i) (opening i)
 
-number_there : (server : Server) (state : State) (slot : ℕ) (s : SessionView) → Shows server state
+version_there : (server : Server) (state : State) (slot : ℕ) (s : SessionView) → Shows server state
     → slice_get server.slots.sessions.items slot ≡ Some (Some s)
-    → version_in (slice_get state.held slot) ≡ Ok (length (held_version s).batches)
-number_there server state slot s shows there =
+    → version_in (slice_get state.held slot) ≡ Ok (held_of (held_version s))
+version_there server state slot s shows there =
     ap (λ held. version_in (slice_get held slot)) (sym shows.held)
     ∙ ap version_in (held_there server.slots.sessions.items slot s there)
 
@@ -69,8 +69,8 @@ pub replied_ok_at : (server : Server) (state : State) (slot : ℕ) (request : Re
     → lines ≡ shown_lines slot (named (held_graph s).names reply)
     → IsReplied slot request state (version_in (slice_get state.held slot)) (Ok lines)
 replied_ok_at server state slot request s reply lines is shows there answer shown =
-    replied_ok slot request state (held_graph s) (length (held_version s).batches) reply lines
-    (number_there server state slot s shows there) (asked_there server slot s is there)
+    replied_ok slot request state (held_graph s) (held_of (held_version s)) reply lines
+    (version_there server state slot s shows there) (asked_there server slot s is there)
     (graph_there server state slot s is shows there) answer shown
 
 pub replied_err_at : (server : Server) (state : State) (slot : ℕ) (request : Request) (s : SessionView) (error : AskError)
@@ -80,5 +80,5 @@ pub replied_err_at : (server : Server) (state : State) (slot : ℕ) (request : R
     → error ≢ ask.OutOfMemory → word ≡ ask_word error
     → IsReplied slot request state (version_in (slice_get state.held slot)) (Err word)
 replied_err_at server state slot request s error word is shows there answer known is_word =
-    replied_err slot request state (held_graph s) (length (held_version s).batches) error word
-    (number_there server state slot s shows there) (graph_there server state slot s is shows there) answer known is_word
+    replied_err slot request state (held_graph s) (held_of (held_version s)) error word
+    (version_there server state slot s shows there) (graph_there server state slot s is shows there) answer known is_word

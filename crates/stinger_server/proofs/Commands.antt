@@ -6,33 +6,33 @@ use Rattle.std.proofs.lemmas.Option.{slice_get-map}
 use Rattle.feed_csv.specs.declared.command.Command.TheVariants.{CloseSlot, OpenSlot}
 use Rattle.stream_store.specs.Seats.{SessionView, held_version}
 use Rattle.script_lines.specs.Lines.{close_line, open_line}
-use Rattle.stinger_server.specs.Slots.{held_number}
-use Rattle.stinger_server.specs.States.{IsDone, State, version_in}
+use Rattle.stinger_server.specs.Slots.{held_by, held_of}
+use Rattle.stinger_server.specs.States.{Held, IsDone, State, version_in}
 use Rattle.script_lines.specs.declared.words.Word.TheVariants.{AlreadyOpen, NotOpen}
 
-not_open : (held : Option (Option ℕ)) → version_in held ≡ Err NotOpen → held ≡ Some None
+not_open : (held : Option (Option Held)) → version_in held ≡ Err NotOpen → held ≡ Some None
 not_open None not = cc
 not_open (Some None) not = refl
-not_open (Some (Some n)) not = cc
+not_open (Some (Some version)) not = cc
 
-free_there : (session : Option (Option SessionView)) → option_map held_number session ≡ Some None → session ≡ Some None
+free_there : (session : Option (Option SessionView)) → option_map held_by session ≡ Some None → session ≡ Some None
 free_there None is = cc
 free_there (Some None) is = refl
 free_there (Some (Some s)) is = cc
 
 -- a slot that is not open has no session
 pub free_slot : (sessions : List (Option SessionView)) (slot : ℕ)
-    → version_in (slice_get (map held_number sessions) slot) ≡ Err NotOpen → slice_get sessions slot ≡ Some None
+    → version_in (slice_get (map held_by sessions) slot) ≡ Err NotOpen → slice_get sessions slot ≡ Some None
 free_slot sessions slot not =
     free_there (slice_get sessions slot)
-    (sym (slice_get-map held_number sessions slot) ∙ not_open (slice_get (map held_number sessions) slot) not)
+    (sym (slice_get-map held_by sessions slot) ∙ not_open (slice_get (map held_by sessions) slot) not)
 
--- the number that a slot with a session holds
+-- the version that a slot with a session holds
 pub held_there : (sessions : List (Option SessionView)) (slot : ℕ) (session : SessionView)
     → slice_get sessions slot ≡ Some (Some session)
-    → slice_get (map held_number sessions) slot ≡ Some (Some (length (held_version session).batches))
+    → slice_get (map held_by sessions) slot ≡ Some (Some (held_of (held_version session)))
 held_there sessions slot session there =
-    slice_get-map held_number sessions slot ∙ ap (option_map held_number) there
+    slice_get-map held_by sessions slot ∙ ap (option_map held_by) there
 
 pub open_done : (s : State) (slot version : ℕ) (lines : List ℕ) → version_in (slice_get s.held slot) ≡ Err NotOpen
     → version ≡ length s.batches → lines ≡ open_line slot version → IsDone (OpenSlot slot) s (Ok lines)
@@ -40,9 +40,10 @@ open_done s slot version lines free same_version same_lines =
     let held : slice_get s.held slot ≡ Some None =
     not_open (slice_get s.held slot) free in rw (held, same_lines, same_version) refl
 
-pub open_twice : (s : State) (slot n : ℕ) → slice_get s.held slot ≡ Some (Some n) → IsDone (OpenSlot slot) s (Err AlreadyOpen)
-open_twice s slot n held = rw held refl
+pub open_twice : (s : State) (slot : ℕ) (version : Held) → slice_get s.held slot ≡ Some (Some version)
+    → IsDone (OpenSlot slot) s (Err AlreadyOpen)
+open_twice s slot version held = rw held refl
 
-pub close_done : (s : State) (slot n : ℕ) (lines : List ℕ) → slice_get s.held slot ≡ Some (Some n)
+pub close_done : (s : State) (slot : ℕ) (version : Held) (lines : List ℕ) → slice_get s.held slot ≡ Some (Some version)
     → lines ≡ close_line slot → IsDone (CloseSlot slot) s (Ok lines)
-close_done s slot n lines held same_lines = rw (held, same_lines) refl
+close_done s slot version lines held same_lines = rw (held, same_lines) refl

@@ -34,7 +34,7 @@ use Rattle.script_lines.specs.Lines.{collect_line, commit_line, stat_line}
 use Rattle.stinger_server.proofs.SlotLaws.{floor_is}
 use Rattle.stinger_server.specs.Servers.{ShowsDesk, batch_word}
 use Rattle.stinger_server.specs.States.{Dates, IsDone, State, after_collect, after_commit, beginning, commit_refusal, copy_of, dates, dropped}
-use Rattle.stinger_server.specs.States.{floor_of}
+use Rattle.stinger_server.specs.States.{floor_of, held_numbers}
 use Rattle.stinger_server.specs.States.{last_version, left_by_pending, recycled, set_up, taken, used}
 use Rattle.script_lines.specs.declared.words.Word.TheVariants.{BatchLimit, KindsFull, NamesFull, PoolEmpty}
 
@@ -316,7 +316,7 @@ pub collect_done : (s : State) (d e : DeskView) (copy : PinCopy) (floor count le
     → count ≡ count_by (is_past copy) d.pool → left ≡ count_by is_retired e.pool
     → lines ≡ collect_line floor count left → IsDone Collect s (Ok lines)
 collect_done s d e copy floor count left lines shows collected births same floor_are count_is left_is lines_are =
-    let low : floor ≡ floor_of s = floor_are ∙ (ap copies.floor_of same ∙ floor_is (length s.batches) s.held) in
+    let low : floor ≡ floor_of s = floor_are ∙ (ap copies.floor_of same ∙ floor_is (length s.batches) (held_numbers s.held)) in
     let gone : count ≡ recycled s = count_is ∙ past_is s d copy shows same in
     let stay : left ≡ length (after_collect s).retired =
     left_is ∙ all_retired e (after_collect s) (shows_collected s d e copy shows collected births same) in

@@ -10,17 +10,17 @@ use Rattle.graph_model.proofs.OneAnswer.{one_answer}
 use Rattle.graph_model.specs.declared.requests.Request.{Request}
 use Rattle.script_lines.specs.declared.words.Word.{Word}
 use Rattle.script_lines.specs.Lines.{end_line}
-use Rattle.stinger_server.specs.States.{IsRecordResult, IsReplied, Progress, RecordResult, Setup, State, after_record}
+use Rattle.stinger_server.specs.States.{Held, IsRecordResult, IsReplied, Progress, RecordResult, Setup, State, after_record}
 use Rattle.stinger_server.specs.States.{answer_result, beginning, printed, version, version_in}
 use Rattle.stinger_server.specs.Texts.{IsRun, IsWhole}
 
-one_replied : (slot : ℕ) (request : Request) (s : State) (held : Result ℕ Word) (a b : RecordResult)
+one_replied : (slot : ℕ) (request : Request) (s : State) (held : Result Held Word) (a b : RecordResult)
     → IsReplied slot request s held a
     → IsReplied slot request s held b → a ≡ b
 one_replied slot request s (Err word) a b first second = first ∙ sym second
-one_replied slot request s (Ok n) a b first second =
-    first.2 ∙ (ap (answer_result slot request (version n s)) (one_answer request (version n s) first.0 second.0 first.1 second.1)
-    ∙ sym second.2)
+one_replied slot request s (Ok held) a b first second =
+    let g = version held.number s in
+    first.2 ∙ (ap (answer_result slot request g) (one_answer request g first.0 second.0 first.1 second.1) ∙ sym second.2)
 
 one_outcome : (item : Result Command FeedWord) (s : State) (a b : RecordResult) → IsRecordResult item s a
     → IsRecordResult item s b → a ≡ b

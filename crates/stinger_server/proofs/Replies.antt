@@ -20,7 +20,7 @@ use Rattle.stinger_server.proofs.NamesApart.{apart_names}
 use Rattle.stinger_server.proofs.OwnLabels.{own_labels}
 use Rattle.script_lines.specs.Lines.{degree_lines, label_lines}
 use Rattle.script_lines.specs.Lines.{shown_lines}
-use Rattle.stinger_server.specs.States.{IsReplied, State, ask_word, reply_lines, version, version_in}
+use Rattle.stinger_server.specs.States.{Held, IsReplied, State, ask_word, reply_lines, version, version_in}
 use Rattle.script_lines.specs.declared.words.Word.{Word}
 
 -- a graph whose names differ, and whose edges join its vertices
@@ -68,20 +68,20 @@ answer_err : (request : Request) (g : Graph) (error : AskError) → (error ≡ a
 answer_err request g error known answer = elim answer [ inl short ↦ absurd (known cc) | inr is ↦ is ]
 
 -- the lines of a reply over the content of the version that the slot holds
-pub replied_ok : (slot : ℕ) (request : Request) (s : State) (g : Graph) (n : ℕ) (reply : NumberedReply) (lines : List ℕ)
-    → version_in (slice_get s.held slot) ≡ Ok n → IsAsked g → g ≡ version n s
+pub replied_ok : (slot : ℕ) (request : Request) (s : State) (g : Graph) (h : Held) (reply : NumberedReply) (lines : List ℕ)
+    → version_in (slice_get s.held slot) ≡ Ok h → IsAsked g → g ≡ version h.number s
     → ((let r : Result NumberedReply AskError = Ok reply in r ≡ Err ask.OutOfMemory) ⊎ IsNumberedAnswer request g (Ok reply))
     → lines ≡ shown_lines slot (named g.names reply) → IsReplied slot request s (version_in (slice_get s.held slot)) (Ok lines)
-replied_ok slot request s g n reply lines held valid same answer shown =
+replied_ok slot request s g h reply lines held valid same answer shown =
     let is = answer_ok request g reply answer in
     let text : lines ≡ reply_lines slot request g (named g.names reply) =
     shown ∙ shown_lines-reply slot request g (named g.names reply) valid is.1 in
     rw (held, ← same) (Ok (named g.names reply), is, ap (λ text. Ok text) text)
 
-pub replied_err : (slot : ℕ) (request : Request) (s : State) (g : Graph) (n : ℕ) (error : AskError) (word : Word)
-    → version_in (slice_get s.held slot) ≡ Ok n → g ≡ version n s
+pub replied_err : (slot : ℕ) (request : Request) (s : State) (g : Graph) (h : Held) (error : AskError) (word : Word)
+    → version_in (slice_get s.held slot) ≡ Ok h → g ≡ version h.number s
     → ((let r : Result NumberedReply AskError = Err error in r ≡ Err ask.OutOfMemory) ⊎ IsNumberedAnswer request g (Err error))
     → error ≢ ask.OutOfMemory → word ≡ ask_word error
     → IsReplied slot request s (version_in (slice_get s.held slot)) (Err word)
-replied_err slot request s g n error word held same answer known is_word =
+replied_err slot request s g h error word held same answer known is_word =
     rw (held, is_word, ← same) (Err error, answer_err request g error known answer, refl)

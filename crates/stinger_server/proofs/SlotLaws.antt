@@ -23,8 +23,8 @@ use Rattle.seat_board.specs.Board.{BoardState, copy_of, no_pins, pin_at, settled
 use Rattle.seat_board.specs.declared.board.Pin.{Pin}
 use Rattle.seat_board.specs.declared.board.TheConstants.{SEATS}
 use Rattle.stream_store.specs.Seats.{SeatView, SessionView, held_version, lent_to, seat_of}
-use Rattle.stinger_server.specs.Slots.{AreSlots, IsEarlier, IsPinned, IsSlot, held_number, holding}
-use Rattle.stinger_server.specs.States.{copy_by, least_held}
+use Rattle.stinger_server.specs.Slots.{AreSlots, IsEarlier, IsPinned, IsSlot, held_by, held_of, holding}
+use Rattle.stinger_server.specs.States.{Held, copy_by, least_held, held_numbers}
 
 same_or_not : (a b : ℕ) → (a ≡ b) ⊎ (a ≢ b)
 same_or_not a b = elim (a == b) as (λ t. (a == b) ≡ t → (a ≡ b) ⊎ (a ≢ b)) [
@@ -90,7 +90,7 @@ slots_first board seats free sessions new few numbers are_free are_none = record
   none_length = ap length are_none ∙ length-replicate (length seats) None
 
   none_at : (slot : ℕ) → pin_at (replicate SEATS None) slot
-      ≡ option_map holding (held_number (get_or (replicate (length seats) None) slot None))
+      ≡ option_map holding (held_by (get_or (replicate (length seats) None) slot None))
   none_at slot = rw (none_or {X = Pin} SEATS slot, none_or {X = SessionView} (length seats) slot) refl
 
   one : (slot : ℕ) → slot < length seats → IsSlot empty_version slot (get_or free slot None) (get_or sessions slot None)
@@ -126,23 +126,23 @@ seat_there last slot None None is none gone = is
 -- the pins with that slot's pin and session changed
 pinned_set : (last : ℕ) (board : BoardState) (sessions : List (Option SessionView)) (slot : ℕ) (pin : Option Pin)
     (session : Option SessionView) → IsPinned last board sessions → slot < length sessions → length sessions ≤ SEATS
-    → pin ≡ option_map holding (held_number session)
+    → pin ≡ option_map holding (held_by session)
     → IsPinned last (with_pin board slot pin) (set sessions slot session)
 pinned_set last board sessions slot pin session pinned below few same = record {
   seats = length-set board.pins slot pin ∙ pinned.seats;
   pins = λ other. elim (same_or_not other slot) [
     | inl is ↦ rw is (get_or-set_same board.pins slot pin None (omega (arith, pinned.seats))
-        ∙ (same ∙ sym (ap (λ o. option_map holding (held_number o)) (get_or-set_same sessions slot session None below))))
+        ∙ (same ∙ sym (ap (λ o. option_map holding (held_by o)) (get_or-set_same sessions slot session None below))))
     | inr not ↦ get_or-set_other board.pins slot other pin None not
         ∙ (pinned.pins other
-        ∙ sym (ap (λ o. option_map holding (held_number o)) (get_or-set_other sessions slot other session None not)))
+        ∙ sym (ap (λ o. option_map holding (held_by o)) (get_or-set_other sessions slot other session None not)))
   ];
   floor = pinned.floor;
 }
 
 slots_set : (last : VersionView) (board : BoardState) (seats : List (Option SeatView)) (sessions : List (Option SessionView))
     (slot : ℕ) (pin : Option Pin) (seat : Option SeatView) (session : Option SessionView) → AreSlots last board seats sessions
-    → slot < length sessions → IsSlot last slot seat session → pin ≡ option_map holding (held_number session)
+    → slot < length sessions → IsSlot last slot seat session → pin ≡ option_map holding (held_by session)
     → AreSlots last (with_pin board slot pin) (set seats slot seat) (set sessions slot session)
 slots_set last board seats sessions slot pin seat session slots below is same = record {
   same_length = length-set seats slot seat ∙ (slots.same_length ∙ sym (length-set sessions slot session));
@@ -246,18 +246,19 @@ slots_same last new board seats sessions same slots = rw same slots
 
 -- The copy of the pins, and its floor
 
-settled_pin : (pin : Option Pin) (number : Option ℕ) → pin ≡ option_map holding number → settled_number pin ≡ number
+settled_pin : (pin : Option Pin) (held : Option Held) → pin ≡ option_map holding held
+    → settled_number pin ≡ option_map (λ (h : Held). h.number) held
 settled_pin pin None is = ap settled_number is
-settled_pin pin (Some n) is = ap settled_number is
+settled_pin pin (Some h) is = ap settled_number is
 
-unsettled_pin : (pin : Option Pin) (number : Option ℕ) → pin ≡ option_map holding number → unsettled_number pin ≡ None
+unsettled_pin : (pin : Option Pin) (held : Option Held) → pin ≡ option_map holding held → unsettled_number pin ≡ None
 unsettled_pin pin None is = ap unsettled_number is
-unsettled_pin pin (Some n) is = ap unsettled_number is
+unsettled_pin pin (Some h) is = ap unsettled_number is
 
 settled_are : (pins : List (Option Pin)) (sessions : List (Option SessionView)) (free : ℕ)
     → length sessions + free ≡ length pins
-    → ((slot : ℕ) → pin_at pins slot ≡ option_map holding (held_number (get_or sessions slot None)))
-    → map settled_number pins ≡ map held_number sessions ++ replicate free None
+    → ((slot : ℕ) → pin_at pins slot ≡ option_map holding (held_by (get_or sessions slot None)))
+    → map settled_number pins ≡ held_numbers (map held_by sessions) ++ replicate free None
 settled_are [] [] zero long same = refl
 settled_are [] [] (suc free) long same = absurd (omega arith)
 settled_are [] (s ∷ sessions) free long same = absurd (omega arith)
@@ -265,10 +266,10 @@ settled_are (p ∷ pins) [] zero long same = absurd (omega arith)
 settled_are (p ∷ pins) [] (suc free) long same =
     ap₂ (λ n ns. n ∷ ns) (settled_pin p None (same 0)) (settled_are pins [] free (omega arith) (λ slot. same (suc slot)))
 settled_are (p ∷ pins) (s ∷ sessions) free long same =
-    ap₂ (λ n ns. n ∷ ns) (settled_pin p (held_number s) (same 0))
+    ap₂ (λ n ns. n ∷ ns) (settled_pin p (held_by s) (same 0))
     (settled_are pins sessions free (omega arith) (λ slot. same (suc slot)))
 
-unsettled_are : (pins : List (Option Pin)) (held : ℕ → Option ℕ) → ((slot : ℕ) → pin_at pins slot ≡ option_map holding (held slot))
+unsettled_are : (pins : List (Option Pin)) (held : ℕ → Option Held) → ((slot : ℕ) → pin_at pins slot ≡ option_map holding (held slot))
     → map unsettled_number pins ≡ replicate (length pins) None
 unsettled_are [] held same = refl
 unsettled_are (p ∷ pins) held same =
@@ -280,15 +281,17 @@ nones n = replicate n None
 
 -- the board's copy is that of the held numbers
 pub copy_is : (last number : ℕ) (board : BoardState) (sessions : List (Option SessionView)) → IsPinned last board sessions
-    → length sessions ≤ SEATS → copy_of number board.pins ≡ copy_by number (map held_number sessions)
+    → length sessions ≤ SEATS → copy_of number board.pins ≡ copy_by number (held_numbers (map held_by sessions))
 copy_is last number board sessions pinned few =
-    let free : ℕ = SEATS - length (map held_number sessions) in
-    let long : length sessions + free ≡ length board.pins =
-    omega (arith, length-map sessions held_number, pinned.seats, few) in
-    let settled : map settled_number board.pins ≡ map held_number sessions ++ nones free =
+    let held : List (Option Held) = map held_by sessions in
+    let free : ℕ = SEATS - length (held_numbers held) in
+    let many : length (held_numbers held) ≡ length sessions =
+    length-map held (λ slot. option_map (λ (h : Held). h.number) slot) ∙ length-map sessions held_by in
+    let long : length sessions + free ≡ length board.pins = omega (arith, many, pinned.seats, few) in
+    let settled : map settled_number board.pins ≡ held_numbers held ++ nones free =
     settled_are board.pins sessions free long pinned.pins in
     let unsettled : map unsettled_number board.pins ≡ nones SEATS =
-    unsettled_are board.pins (λ slot. held_number (get_or sessions slot None)) pinned.pins ∙ ap nones pinned.seats in
+    unsettled_are board.pins (λ slot. held_by (get_or sessions slot None)) pinned.pins ∙ ap nones pinned.seats in
     λ i. record { last = number; settled = settled i; unsettled = unsettled i }
 
 least_none : (n free : ℕ) → least_of n (replicate free None) ≡ n
@@ -335,17 +338,17 @@ read_some xs i read taken x below is same some =
 
 pub held_acquired : (sessions : List (Option SessionView)) (slot : ℕ) (seat : SeatView) (session : SessionView)
     (last : VersionView) → session ≡ lent_to seat last
-    → map held_number (set sessions slot (Some session)) ≡ set (map held_number sessions) slot (Some (length last.batches))
-held_acquired sessions slot seat session last lent = rw lent (map-set held_number sessions slot (Some (lent_to seat last)))
+    → map held_by (set sessions slot (Some session)) ≡ set (map held_by sessions) slot (Some (held_of last))
+held_acquired sessions slot seat session last lent = rw lent (map-set held_by sessions slot (Some (lent_to seat last)))
 
 pub held_released : (sessions : List (Option SessionView)) (slot : ℕ)
-    → map held_number (set sessions slot None) ≡ set (map held_number sessions) slot None
-held_released sessions slot = map-set held_number sessions slot None
+    → map held_by (set sessions slot None) ≡ set (map held_by sessions) slot None
+held_released sessions slot = map-set held_by sessions slot None
 
 pub none_held : (sessions : List (Option SessionView)) (n : ℕ) → sessions ≡ replicate n None
-    → map held_number sessions ≡ replicate n None
-none_held sessions n same = ap (map held_number) same ∙ none n where
-  none : (n : ℕ) → map held_number (replicate n None) ≡ replicate n None
+    → map held_by sessions ≡ replicate n None
+none_held sessions n same = ap (map held_by) same ∙ none n where
+  none : (n : ℕ) → map held_by (replicate n None) ≡ replicate n None
   none zero = refl
   none (suc n) = ap (λ rest. None ∷ rest) (none n)
 

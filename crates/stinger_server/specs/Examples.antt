@@ -3,7 +3,8 @@ use Rattle.std.specs.Prelude.{◌≡◌, pos, ℕ, List, [], ◌∷◌, Option, 
 use Rattle.graph_model.specs.Step.{empty_graph}
 use Rattle.graph_model.specs.declared.batches.NamedOp.{NamedOp}
 use Rattle.graph_model.specs.declared.batches.NamedOp.TheVariants.{Insert}
-use Rattle.stinger_server.specs.States.{Dates, State, after_collect, after_commit, beginning, dates, floor_of, recycled}
+use Rattle.stinger_server.specs.States.{Dates, Held, State, after_collect, after_commit, beginning, dates, floor_of, last_held}
+use Rattle.stinger_server.specs.States.{recycled}
 
 -- the edge from a to b, of kind k
 abbrev pub put_edge : ℕ → List NamedOp
@@ -18,11 +19,22 @@ abbrev pub put : ℕ → State → State
 put weight s = after_commit (record s { pending = put_edge weight })
 
 -- three versions of the edge, each of which took one block and dropped the one before
-abbrev pub thrice : State
-thrice = put 3 (put 2 (put 1 opened))
+abbrev pub once : State
+once = put 1 opened
 
-abbrev pub holding : List (Option ℕ) → State
+abbrev pub twice : State
+twice = put 2 once
+
+abbrev pub thrice : State
+thrice = put 3 twice
+
+-- the third state, with these versions in its slots
+abbrev pub holding : List (Option Held) → State
 holding held = record thrice { held = held }
+
+-- a slot that was opened in that state
+abbrev pub slot_of : State → Option Held
+slot_of s = Some (last_held s)
 
 -- what a collection frees and leaves, with its floor
 pub record Collects (s : State) (floor freed : ℕ) (left : List Dates) : Type 0 where
@@ -35,10 +47,10 @@ pub record AreExamples : Type 0 where
   pub free : thrice.free ≡ 5
   pub retired : thrice.retired ≡ dates 1 2 ∷ dates 2 3 ∷ []
   -- a held version keeps the block that it has, and no other; the last version keeps none that is retired
-  pub first_held : Collects (holding (Some 1 ∷ None ∷ [])) 1 1 (dates 1 2 ∷ [])
-  pub second_held : Collects (holding (None ∷ Some 2 ∷ [])) 2 1 (dates 2 3 ∷ [])
-  pub both_held : Collects (holding (Some 1 ∷ Some 2 ∷ [])) 1 0 (dates 1 2 ∷ dates 2 3 ∷ [])
-  pub last_held : Collects (holding (Some 3 ∷ None ∷ [])) 3 2 []
+  pub first_held : Collects (holding (slot_of once ∷ None ∷ [])) 1 1 (dates 1 2 ∷ [])
+  pub second_held : Collects (holding (None ∷ slot_of twice ∷ [])) 2 1 (dates 2 3 ∷ [])
+  pub both_held : Collects (holding (slot_of once ∷ slot_of twice ∷ [])) 1 0 (dates 1 2 ∷ dates 2 3 ∷ [])
+  pub last_held : Collects (holding (slot_of thrice ∷ None ∷ [])) 3 2 []
   pub none_held : Collects (holding (None ∷ None ∷ [])) 3 2 []
   -- version 0 has no block
-  pub empty_held : Collects (holding (Some 0 ∷ None ∷ [])) 0 2 []
+  pub empty_held : Collects (holding (slot_of opened ∷ None ∷ [])) 0 2 []

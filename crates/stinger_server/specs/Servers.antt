@@ -10,7 +10,7 @@ use Rattle.stream_store.specs.declared.receipts.ApplyError.{ApplyError}
 use Rattle.stream_store.specs.declared.receipts.ApplyError.TheVariants as refused
 use Rattle.script_lines.specs.declared.words.Word.{Word}
 use Rattle.script_lines.specs.declared.words.Word.TheVariants.{Feed, BatchLimit, NamesFull, KindsFull, PoolEmpty}
-use Rattle.stinger_server.specs.Slots.{IsKept, held_numbers}
+use Rattle.stinger_server.specs.Slots.{IsKept, held_in}
 use Rattle.stinger_server.specs.States.{Dates, IsDone, RecordResult, State, after_command}
 use Rattle.stinger_server.specs.declared.server.Server.{Server}
 use Rattle.stinger_server.specs.declared.server.Response.{Response}
@@ -36,7 +36,7 @@ pub record ShowsDesk (d : DeskView) (s : State) : Type 0 where
 pub record Shows (server : Server) (s : State) : Type 0 where
   pub pending : server.pending ≡ s.pending
   pub desk : ShowsDesk server.desk.desk s
-  pub held : held_numbers server.slots ≡ s.held
+  pub held : held_in server.slots ≡ s.held
 
 -- what a record came to, with the lines in the buffer
 abbrev pub result_of : Response → List ℕ → RecordResult

@@ -1,19 +1,24 @@
 -- Slots: each has a seat, or a session on a version that the desk lent.
 use Rattle.std.specs.Prelude.{◌≡◌, ℕ, ◌<◌, ◌≤◌, true, List, length, map, take, slice_index_or, Option, None, Some}
 use Rattle.std.specs.Option.{option_map}
-use Rattle.graph_version.specs.Versions.{VersionView, IsVersion}
+use Rattle.graph_version.specs.Versions.{VersionView, IsVersion, layout_of}
 use Rattle.seat_board.specs.Board.{BoardState, pin_at}
 use Rattle.seat_board.specs.declared.board.Pin.{Pin}
 use Rattle.seat_board.specs.declared.board.TheConstants.{SEATS}
 use Rattle.stream_store.specs.Seats.{SeatView, SessionView, held_version}
+use Rattle.stinger_server.specs.States.{Held}
 use Rattle.stinger_server.specs.declared.slots.Slots.{Slots}
 
--- the number of the version that a session holds
-abbrev pub held_number : Option SessionView → Option ℕ
-held_number session = option_map (λ s. length (held_version s).batches) session
+-- a version, as a slot holds it
+abbrev pub held_of : VersionView → Held
+held_of v = record { number = length v.batches; layout = layout_of v.rows }
 
-abbrev pub held_numbers : Slots → List (Option ℕ)
-held_numbers slots = map held_number slots.sessions.items
+-- what a slot with that session holds
+abbrev pub held_by : Option SessionView → Option Held
+held_by session = option_map (λ s. held_of (held_version s)) session
+
+abbrev pub held_in : Slots → List (Option Held)
+held_in slots = map held_by slots.sessions.items
 
 -- the last version, or one before it: what the first of the last version's batches left
 pub record IsEarlier (last v : VersionView) : Type 0 where
@@ -29,14 +34,14 @@ IsSlot last slot None (Some session) = (session.number ≡ slot) × IsEarlier la
 IsSlot last slot (Some seat) (Some session) = ⊥
 IsSlot last slot None None = ⊥
 
--- the pin of a held number: the session has told it
-abbrev pub holding : ℕ → Pin
-holding number = record { number = number; is_settled = true }
+-- the pin of a held version: the session has told its number
+abbrev pub holding : Held → Pin
+holding held = record { number = held.number; is_settled = true }
 
--- the pins on the board are those of the held numbers, and the floor is at most the last version's number
+-- the pins on the board are those of the held versions, and the floor is at most the last version's number
 pub record IsPinned (last : ℕ) (board : BoardState) (sessions : List (Option SessionView)) : Type 0 where
   pub seats : length board.pins ≡ SEATS
-  pub pins : (slot : ℕ) → pin_at board.pins slot ≡ option_map holding (held_number (slice_index_or sessions slot None))
+  pub pins : (slot : ℕ) → pin_at board.pins slot ≡ option_map holding (held_by (slice_index_or sessions slot None))
   pub floor : board.floor ≤ last
 
 pub record AreSlots (last : VersionView) (board : BoardState) (seats : List (Option SeatView))

@@ -2,6 +2,7 @@
 use Rattle.std.specs.Prelude.{◌≡◌, ℕ, ◌+◌, ◌-◌, min, not, nat_le, nat_lt, List, [], ◌∷◌, ◌++◌, length, map, take, replicate, filter}
 use Rattle.std.specs.Prelude.{slice_get, slice_set, count_by, if◌then◌else◌, Option, None, Some, Result, Ok, Err}
 use Rattle.std.specs.FinMap.{entries, len}
+use Rattle.std.specs.Option.{option_map}
 use Rattle.block_layout.specs.Batches.{layout_after, taken_by}
 use Rattle.block_layout.specs.Rows.{Shape}
 use Rattle.pin_copy.specs.declared.copies.PinCopy.{PinCopy}
@@ -53,6 +54,11 @@ pub record Dates : Type 0 where
 abbrev pub dates : ℕ → ℕ → Dates
 dates birth since = record { birth = birth; since = since }
 
+-- a version that a slot holds: its number, and its row of blocks for each source
+pub record Held : Type 0 where
+  pub number : ℕ
+  pub layout : ℕ → List Shape
+
 -- the graph of version 0; the pending operations; the batches accepted so far, in order; the version that each slot
 -- holds, or none, for as many slots as there are seats; the last version's row of blocks for each source, and which version
 -- each of these blocks was taken by; how many blocks there are, and how many of them are free; and for each retired block the
@@ -61,7 +67,7 @@ pub record State : Type 0 where
   pub opening : Graph
   pub pending : List NamedOp
   pub batches : List (List NamedOp)
-  pub held : List (Option ℕ)
+  pub held : List (Option Held)
   pub layout : ℕ → List Shape
   pub births : ℕ → List ℕ
   pub blocks : ℕ
@@ -98,6 +104,14 @@ version n s = left_by (take n s.batches) s.opening
 
 abbrev pub last_version : State → Graph
 last_version s = left_by s.batches s.opening
+
+-- the last version, as a slot that is opened holds it
+abbrev pub last_held : State → Held
+last_held s = record { number = length s.batches; layout = s.layout }
+
+-- the number of the version that each slot holds
+abbrev pub held_numbers : List (Option Held) → List (Option ℕ)
+held_numbers held = map (λ slot. option_map (λ (h : Held). h.number) slot) held
 
 -- what a record comes to: the lines that it prints, or the word of its refusal
 abbrev pub RecordResult : Type 0
@@ -166,7 +180,7 @@ least_held last (None ∷ held) = least_held last held
 least_held last (Some n ∷ held) = min n (least_held last held)
 
 abbrev pub floor_of : State → ℕ
-floor_of s = least_held (length s.batches) s.held
+floor_of s = least_held (length s.batches) (held_numbers s.held)
 
 -- the copy of a last number and of held numbers: each is a settled pin
 abbrev pub copy_by : ℕ → List (Option ℕ) → PinCopy
@@ -174,7 +188,7 @@ copy_by last held =
     record { last = last; settled = held ++ replicate (SEATS - length held) None; unsettled = replicate SEATS None }
 
 abbrev pub copy_of : State → PinCopy
-copy_of s = copy_by (length s.batches) s.held
+copy_of s = copy_by (length s.batches) (held_numbers s.held)
 
 -- how many blocks a collection frees: the retired ones that the copy doesn't need
 abbrev pub recycled : State → ℕ
@@ -191,19 +205,19 @@ op_refusal None = None
 op_refusal (Some error) = Some (push_word error)
 
 -- the version that a slot holds: a slot past the seats is refused first, then one that holds none
-abbrev pub version_in : Option (Option ℕ) → Result ℕ Word
+abbrev pub version_in : Option (Option Held) → Result Held Word
 version_in None = Err (Feed feed.BadSlot)
 version_in (Some None) = Err NotOpen
-version_in (Some (Some n)) = Ok n
+version_in (Some (Some held)) = Ok held
 
 -- a slot that already holds a version can't be opened
-abbrev pub open_refusal : Option (Option ℕ) → Option Word
+abbrev pub open_refusal : Option (Option Held) → Option Word
 open_refusal None = Some (Feed feed.BadSlot)
 open_refusal (Some None) = None
-open_refusal (Some (Some n)) = Some AlreadyOpen
+open_refusal (Some (Some held)) = Some AlreadyOpen
 
-abbrev pub close_result : ℕ → Result ℕ Word → RecordResult
-close_result slot (Ok n) = Ok (close_line slot)
+abbrev pub close_result : ℕ → Result Held Word → RecordResult
+close_result slot (Ok held) = Ok (close_line slot)
 close_result slot (Err word) = Err word
 
 -- the lines of a reply; those of labels begin with the number of different labels, and those of degrees with the number
@@ -223,11 +237,11 @@ answer_result slot request g (Ok reply) = Ok (reply_lines slot request g reply)
 answer_result slot request g (Err error) = Err (ask_word error)
 
 -- a request's outcome is that of its answer over the version that the slot holds
-abbrev pub IsReplied : ℕ → Request → State → Result ℕ Word → RecordResult → Type 0
+abbrev pub IsReplied : ℕ → Request → State → Result Held Word → RecordResult → Type 0
 IsReplied slot request s (Err word) outcome = outcome ≡ Err word
-IsReplied slot request s (Ok n) outcome =
-    (answer : Result Reply AskError) × IsAnswer request (version n s) answer
-    × (outcome ≡ answer_result slot request (version n s) answer)
+IsReplied slot request s (Ok held) outcome =
+    (answer : Result Reply AskError) × IsAnswer request (version held.number s) answer
+    × (outcome ≡ answer_result slot request (version held.number s) answer)
 
 -- what a command comes to
 abbrev pub IsDone : Command → State → RecordResult → Type 0
@@ -248,7 +262,7 @@ abbrev pub after_command : Command → RecordResult → State → State
 after_command (Op op) (Ok lines) s = record s { pending = s.pending ++ op ∷ [] }
 after_command Commit (Ok lines) s = after_commit s
 after_command Commit (Err word) s = record s { pending = [] }
-after_command (OpenSlot slot) (Ok lines) s = record s { held = slice_set s.held slot (Some (length s.batches)) }
+after_command (OpenSlot slot) (Ok lines) s = record s { held = slice_set s.held slot (Some (last_held s)) }
 after_command (CloseSlot slot) (Ok lines) s = record s { held = slice_set s.held slot None }
 after_command (Query slot request) (Ok lines) s = s
 after_command Collect (Ok lines) s = after_collect s

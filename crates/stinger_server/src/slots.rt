@@ -6,7 +6,7 @@ ghost use Rattle.std.specs.List.{range_with_len};
 ghost use Rattle.graph_version.specs.Versions.{IsVersion, VersionView, empty_version};
 ghost use Rattle.seat_board.specs.Board.{no_pins};
 ghost use Rattle.stream_store.specs.Seats.{SeatView, SessionView};
-ghost use Rattle.stinger_server.specs.Slots.{IsKept, held_numbers};
+ghost use Rattle.stinger_server.specs.Slots.{IsKept, held_in, held_of};
 ghost use Rattle.stinger_server.specs.States as states;
 
 use feed_csv::FeedWord;
@@ -32,7 +32,7 @@ impl Slots {
         requires few { length seats.items ≤ 16 }
         requires numbers { map (λ (s : SeatView). s.number) seats.items ≡ range_with_len 0 (length seats.items) }
         ensures slots { IfOk result (IsKept empty_version) }
-        ensures none { IfOk result (λ slots. held_numbers slots ≡ replicate (length seats.items) None) }
+        ensures none { IfOk result (λ slots. held_in slots ≡ replicate (length seats.items) None) }
     {
         let mut free = Vec::new(alloc);
         let mut sessions = Vec::new(alloc);
@@ -50,7 +50,7 @@ impl Slots {
     /// The session in a slot, or why there is none.
     pub(crate) fn session(&self, slot: u8) -> Result<&Session, Word>
         ensures session { IfOk result (λ s. slice_get self.now.sessions.items slot ≡ Some (Some s.now)) }
-        ensures refused { IfErr result (λ word. states.version_in (slice_get (held_numbers self.now) slot) ≡ Err word) }
+        ensures refused { IfErr result (λ word. states.version_in (slice_get (held_in self.now) slot) ≡ Err word) }
     {
         match self.sessions.get(usize::from(slot)) {
             None => Err(Word::Feed(FeedWord::BadSlot)),
@@ -65,9 +65,9 @@ impl Slots {
         requires version { IsVersion desk.now.desk.last }
         requires free { slice_get self.old.sessions.items slot ≡ Some None }
         ensures slots { IsKept desk.now.desk.last self.new }
-        ensures held { OnOk result (held_numbers self.new
-            ≡ slice_set (held_numbers self.old) slot (Some (length desk.now.desk.last.batches))) }
-        ensures unchanged { OnErr result (held_numbers self.new ≡ held_numbers self.old) }
+        ensures held { OnOk result (held_in self.new
+            ≡ slice_set (held_in self.old) slot (Some (held_of desk.now.desk.last))) }
+        ensures unchanged { OnErr result (held_in self.new ≡ held_in self.old) }
     {
         let slot = usize::from(slot);
         let Some(seat) = self.seats[slot].take() else {
@@ -91,7 +91,7 @@ impl Slots {
         requires held { (s : SessionView) × (slice_get self.old.sessions.items slot ≡ Some (Some s)) }
         ensures slots { (last : VersionView) → IsKept last self.old → IsKept last self.new }
         ensures released { (last : VersionView) → IsKept last self.old
-            → held_numbers self.new ≡ slice_set (held_numbers self.old) slot None }
+            → held_in self.new ≡ slice_set (held_in self.old) slot None }
     {
         let slot = usize::from(slot);
         let Some(session) = self.sessions[slot].take() else {
@@ -104,8 +104,8 @@ impl Slots {
     pub(crate) fn copy(&mut self, desk: &Desk) -> PinCopy
         requires { IsKept desk.now.desk.last self.old }
         ensures slots { IsKept desk.now.desk.last self.new }
-        ensures held { held_numbers self.new ≡ held_numbers self.old }
-        ensures copy { result ≡ states.copy_by (length desk.now.desk.last.batches) (held_numbers self.old) }
+        ensures held { held_in self.new ≡ held_in self.old }
+        ensures copy { result ≡ states.copy_by (length desk.now.desk.last.batches) (states.held_numbers (held_in self.old)) }
     {
         let last = desk.last().number();
         self.board.raise(last)
