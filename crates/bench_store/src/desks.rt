@@ -26,7 +26,7 @@ pub(crate) fn opened<R: Wait + AllocGlobal>(rt: &R, workers: usize) -> io::Resul
     }
 }
 
-fn vertex_name(alloc: Global, vertex: u32) -> Result<Name, AllocError> {
+pub(crate) fn vertex_name(alloc: Global, vertex: u32) -> Result<Name, AllocError> {
     Ok(Name::of(format!(in alloc; "v{vertex}")?))
 }
 

@@ -5,6 +5,7 @@
 
 mod analyses;
 mod batches;
+mod beside;
 mod blocks;
 mod collections;
 mod desks;
@@ -51,6 +52,7 @@ fn measure<R: Threads + Wait + Sync + Clock + CpuClock + Print + AllocGlobal>(
         "blocks" => blocks::measure(rt, rounds),
         "analyses" => analyses::measure(rt, rounds),
         "batches" => batches::measure(rt, rounds),
+        "beside" => beside::measure(rt, rounds),
         "versions" => versions::measure(rt, rounds),
         "stores" => stores::measure(rt, rounds),
         "collections" => collections::measure(rt, rounds),
