@@ -4,13 +4,14 @@ from __future__ import annotations
 import argparse
 import code
 import sys
+from contextlib import ExitStack
 from typing import Any, Dict, List, Optional
 
 from . import pictures, records
 from .errors import StoreError
 from .feeds import Column, Columns
 from .lint import lint
-from .loading import COMMANDS, Survey, check, load_in_steps, survey
+from .loading import COMMANDS, Ahead, Survey, check, load, load_in_steps, survey
 from .store import Session, Store
 
 
@@ -37,7 +38,8 @@ def add_feed_options(parser: argparse.ArgumentParser) -> None:
     feed.add_argument("--names", choices=("plain", "escape"), default="plain", help="escape: %%20 for a space, and so on")
     feed.add_argument("--skip-bad", action="store_true", help="pass over rows that can't be taken, and count them")
     store = parser.add_argument_group("the store")
-    store.add_argument("--blocks", type=int, help="else as many as are needed, and no fewer than 16,384")
+    store.add_argument("--blocks", type=int, help="else as many as are needed, and no fewer than 16,384; where a file "
+                       "is loaded that has two full batches, 65,536")
     store.add_argument("--batch", type=int, default=records.MOST_OPERATIONS, metavar="N", help="rows a batch (4,096 at most)")
     store.add_argument("--program", help="the program to run; else MISTELUK_PROGRAM, this repository's, or stinger on the path")
     store.add_argument("--timeout", type=float, default=60.0, metavar="SECONDS", help="how long the program may be silent")
@@ -79,11 +81,11 @@ def make_parser() -> argparse.ArgumentParser:
     return parser
 
 
-def read(words: argparse.Namespace) -> Survey:
+def read(words: argparse.Namespace, ahead: Optional[Ahead] = None) -> Survey:
     columns = Columns(words.source, words.target, words.kind_column, words.weight, words.time, words.kind)
     found = survey(words.file, by=words.by, batch=words.batch, weight_scale=words.weight_scale, times=words.times,
                    names=words.names, format=words.format, columns=columns, delimiter=words.delimiter, header=words.header,
-                   third=words.third)
+                   third=words.third, ahead=ahead)
     check(found, skip_bad=words.skip_bad)
     return found
 
@@ -99,8 +101,29 @@ def window(words: argparse.Namespace) -> Dict[str, Any]:
 
 
 def run_load(words: argparse.Namespace) -> int:
-    found = read(words)
-    print(found)
+    """Loads a file and asks. The program works while the file is still counted, where none says how many blocks it is to have."""
+    with ExitStack() as stack:
+        def start(blocks: int = records.MOST_BLOCKS) -> Store:
+            return stack.enter_context(Store(blocks=blocks, program=words.program, timeout=words.timeout))
+
+        only_counts = words.script or words.dry_run
+        ahead = None if only_counts or words.blocks else Ahead(start, words.skip_bad)
+        found = read(words, ahead)
+        tell(words, found)
+        if only_counts:
+            return 0
+        store = ahead.store if ahead and ahead.store else start(words.blocks or found.fitting())
+        print(load(store, found, by=words.by, skip_bad=words.skip_bad, ahead=ahead))
+        with store.open() as session:
+            answer(words, session)
+            if words.interactive:
+                code.interact(f"`session` holds version {session.version} of `store`. Ctrl-D ends.", local=locals())
+    return 0
+
+
+def tell(words: argparse.Namespace, found: Survey) -> None:
+    """Prints what was counted, and writes the script that is asked for."""
+    print(found, flush=True)
     if found.bad:
         print(f"{found.bad} bad rows passed over:", *(it.told for it in found.faults), sep="\n  ")
     if words.script:
@@ -108,15 +131,6 @@ def run_load(words: argparse.Namespace) -> int:
             for part in found.parts:
                 file.write(part.text + b"commit\ncollect\n")
         print(f"{found.records()} records written to {words.script}: stinger run --blocks {found.fitting()} < {words.script}")
-    if words.script or words.dry_run:
-        return 0
-    with make_store(words, found) as store:
-        print(store.load(found, by=words.by, skip_bad=words.skip_bad))
-        with store.open() as session:
-            answer(words, session)
-            if words.interactive:
-                code.interact(f"`session` holds version {session.version} of `store`. Ctrl-D ends.", local=locals())
-    return 0
 
 
 def answer(words: argparse.Namespace, session: Session) -> None:

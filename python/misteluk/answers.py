@@ -1,7 +1,9 @@
 """What the store answers: small named tuples, and tables by name."""
 from __future__ import annotations
 
-from typing import TYPE_CHECKING, Any, Dict, NamedTuple, Tuple, TypeVar
+from html import escape
+from itertools import islice
+from typing import TYPE_CHECKING, Any, Dict, List, NamedTuple, Tuple, TypeVar
 
 from .errors import Missing, Misread
 
@@ -9,6 +11,8 @@ if TYPE_CHECKING:
     import pandas
 
 V = TypeVar("V")
+# How many rows of a table a notebook shows.
+ROWS_SHOWN = 10
 
 
 class Commit(NamedTuple):
@@ -75,8 +79,21 @@ class Answer(Dict[str, V]):
         except ImportError:
             raise Missing("pandas", "a frame") from None
         rows: Any = list(self.values())
-        columns = list(getattr(rows[0], "_fields", [self.value])) if rows else [self.value]
-        return pandas.DataFrame(rows, index=pandas.Index(list(self), name="name", dtype=object), columns=columns)
+        return pandas.DataFrame(rows, index=pandas.Index(list(self), name="name", dtype=object), columns=self._columns())
+
+    def _columns(self) -> List[str]:
+        """What a row's values are called."""
+        first = next(iter(self.values()), None)
+        return list(getattr(first, "_fields", [self.value]))
+
+    def _repr_html_(self) -> str:
+        """What a notebook shows: the first rows, and how many there are."""
+        rows = [["name", *self._columns()]]
+        for name, value in islice(self.items(), ROWS_SHOWN):
+            rows.append([name, *map(str, value if isinstance(value, tuple) else [value])])
+        cells = ("".join(f"<td>{escape(it)}</td>" for it in row) for row in rows)
+        told = f"{len(self)} {'name' if len(self) == 1 else 'names'} of version {self.version}: {self.request}"
+        return f"<table>{''.join(f'<tr>{it}</tr>' for it in cells)}</table><p>{escape(told)}</p>"
 
     def most(self, count: int = 10) -> "list[Tuple[str, V]]":
         """The rows with the greatest values, greatest first; equal ones in the order of the table."""

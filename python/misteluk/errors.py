@@ -168,7 +168,7 @@ class OperationsRefused(StoreError):
 
 
 class BadRows(StoreError):
-    """Rows of a feed are no operations; nothing of the feed was sent. `faults` has the first of them, `count` says how many."""
+    """Rows of a feed are no operations; nothing of the feed is loaded. `faults` has the first of them, `count` says how many."""
 
     def __init__(self, feed: str, count: int, rows: int, faults: Sequence[Refused]) -> None:
         self.feed, self.count, self.rows, self.faults = feed, count, rows, list(faults)
@@ -176,11 +176,11 @@ class BadRows(StoreError):
         lines += [f"and {count - len(self.faults)} more"] if count > len(self.faults) else []
         lines += dict.fromkeys(it.advice for it in self.faults if it.advice)
         lines += ["The others can be loaded without them: skip_bad=True (--skip-bad)"] if count < rows else []
-        super().__init__("\n  ".join([f"{feed}: {count} of {rows} rows can't be taken, and none was sent", *lines]))
+        super().__init__("\n  ".join([f"{feed}: {count} of {rows} rows can't be taken, and none is loaded", *lines]))
 
 
 class OverLimit(StoreError):
-    """A feed is more than a run of the program can take; nothing of it was sent. `counts` says what was counted."""
+    """A feed is more than a run of the program can take; nothing of it is loaded. `counts` says what was counted."""
 
     def __init__(self, text: str, counts: Dict[str, int]) -> None:
         self.counts = counts

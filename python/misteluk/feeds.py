@@ -9,9 +9,8 @@ import pathlib
 import urllib.parse
 from datetime import datetime, timezone
 from decimal import Decimal, InvalidOperation
-from itertools import count, repeat
-from operator import attrgetter
-from typing import IO, Any, Callable, Dict, Iterable, Iterator, List, NamedTuple, Optional, Sequence, Tuple, Union
+from itertools import chain, count, islice
+from typing import IO, Any, Callable, Dict, Iterable, Iterator, List, NamedTuple, Optional, Sequence, Tuple, TypeVar, Union
 
 from .errors import FeedFault
 
@@ -19,6 +18,31 @@ from .errors import FeedFault
 Row = Tuple[int, str, str, str, str, str]
 Column = Union[str, int]
 USUAL_KIND = "link"
+# How many rows are read at once: few enough that a processor's nearer memory has them until they are counted.
+ROWS_AT_ONCE = 1_024
+NO_ROW: Tuple[Sequence[str], int] = ((), 0)
+T = TypeVar("T")
+
+
+class Block(NamedTuple):
+    """Rows that follow one another, by column: a call turns, checks or writes thousands of fields at once."""
+
+    lines: Sequence[int]
+    kinds: Sequence[str]
+    sources: Sequence[str]
+    targets: Sequence[str]
+    weights: Sequence[str]
+    times: Sequence[str]
+
+
+class Table:
+    """Rows that come in blocks, and can be gone through one by one too."""
+
+    def __init__(self, blocks: Callable[[], Iterator[Block]]) -> None:
+        self.blocks = blocks
+
+    def __iter__(self) -> Iterator[Row]:
+        return chain.from_iterable(zip(*it) for it in self.blocks())
 
 
 class Feed(NamedTuple):
@@ -26,6 +50,12 @@ class Feed(NamedTuple):
 
     name: str
     rows: Iterable[Row]
+
+    def blocks(self) -> Iterator[Block]:
+        """The rows in blocks."""
+        if isinstance(self.rows, Table):
+            return self.rows.blocks()
+        return (Block(*zip(*rows)) for rows in _parts(self.rows, ROWS_AT_ONCE))
 
 
 class Columns(NamedTuple):
@@ -39,6 +69,12 @@ class Columns(NamedTuple):
     time: Optional[Column] = None
     usual_kind: str = USUAL_KIND
     usual_time: str = "0"
+
+
+def _parts(items: Iterable[T], size: int) -> Iterator[List[T]]:
+    """The items in lists of so many."""
+    left = iter(items)
+    return iter(lambda: list(islice(left, size)), [])
 
 
 def escaped(name: str) -> str:
@@ -80,12 +116,21 @@ def turned(feed: Feed, *, weight_scale: int = 1, times: str = "number", names: s
         raise ValueError("times is 'number' or 'iso', names is 'plain' or 'escape', weight_scale is at least 1")
     if (weight_scale, times, names) == (1, "number", "plain"):
         return feed
-    same: Callable[[str], str] = str
-    weigh = whole(weight_scale) if weight_scale != 1 else same
-    date = seconds if times == "iso" else same
-    call = escaped if names == "escape" else same
-    return Feed(feed.name, ((line, call(kind), call(source), call(target), weigh(weight), date(time))
-                            for line, kind, source, target, weight, time in feed.rows))
+
+    def blocks() -> Iterator[Block]:
+        for it in feed.blocks():
+            if names == "escape":
+                it = it._replace(**{name: _each(escaped, getattr(it, name)) for name in ("kinds", "sources", "targets")})
+            if weight_scale != 1:
+                it = it._replace(weights=_each(whole(weight_scale), it.weights))
+            yield it._replace(times=_each(seconds, it.times)) if times == "iso" else it
+    return Feed(feed.name, Table(blocks))
+
+
+def _each(turn: Callable[[str], str], texts: Sequence[str]) -> List[str]:
+    """The texts turned; those that are the same are turned once."""
+    turned = {it: turn(it) for it in set(texts)}
+    return list(map(turned.__getitem__, texts))
 
 
 def open_text(path: Union[str, "os.PathLike[str]"]) -> IO[str]:
@@ -99,43 +144,95 @@ def delimited(path: Union[str, "os.PathLike[str]"], columns: Columns = Columns()
               header: Optional[bool] = None) -> Feed:
     """A delimited file. Where a column is named the file has a header; `header` says so else. Without `delimiter` it is the
     comma, tab, semicolon or bar of which the first line has most."""
-    return Feed(os.fspath(path), _delimited_rows(path, columns, delimiter, header))
+    return Feed(os.fspath(path), Table(lambda: _delimited_blocks(path, columns, delimiter, header)))
 
 
-def _delimited_rows(path: Union[str, "os.PathLike[str]"], columns: Columns, delimiter: Optional[str],
-                    header: Optional[bool]) -> Iterator[Row]:
+def _delimited_blocks(path: Union[str, "os.PathLike[str]"], columns: Columns, delimiter: Optional[str],
+                      header: Optional[bool]) -> Iterator[Block]:
+    feed = os.fspath(path)
     with open_text(path) as file:
         first = file.readline()
         file.seek(0)
         sign = delimiter or max(",\t;|", key=first.count)
-        reader = csv.reader(file, delimiter=sign)
         named = any(isinstance(it, str) for it in columns[:5])
-        names: List[str] = next(reader, []) if header or header is None and named else []
+        names, line = next(_csv_rows(feed, file, sign, 0), NO_ROW) if header or header is None and named else NO_ROW
         if named and not names:
             raise FeedFault(f"{path}: columns are named, and there is no header: name them by number (from 1)")
-        lines = map(attrgetter("line_num"), repeat(reader))
-        try:
-            yield from _picked(os.fspath(path), zip(filter(None, reader), lines), names, columns)  # (a blank line is no row)
-        except csv.Error as fault:
-            raise FeedFault(f"{path}:{reader.line_num}: {fault}") from fault
+        picked = Picked(feed, columns, names)
+        for lines in _parts(file, ROWS_AT_ONCE):
+            even = _even_columns(lines, sign)
+            if len(even) >= picked.least:
+                yield picked.of_columns(range(line + 1, line + 1 + len(lines)), even)
+                line += len(lines)
+                continue
+            rows = _rows_begun(feed, lines, file, sign, line)
+            line = rows[-1][1]
+            yield from picked.of_rows([it for it in rows if it[0]])  # (a blank line is no row)
 
 
-def _picked(feed: str, rows: Iterable[Tuple[Sequence[str], int]], names: Sequence[str], columns: Columns) -> Iterator[Row]:
-    """The fields of each row that the columns are for. A first row that is too short tells of another form; a later one is a bad
-    row, whose missing fields are empty, which none may be."""
-    places = [_place(feed, it, names) for it in columns[:5]]
-    source, target, kind, weight, time = places
-    least = max(it for it in places if it is not None) + 1
-    usual_kind, usual_time = columns.usual_kind, columns.usual_time
-    is_first = True
-    for row, line in rows:
-        if len(row) < least:
-            if is_first:
-                raise FeedFault(f"{feed}:{line}: {len(row)} fields, where the columns need {least}")
-            row = [*row, *[""] * (least - len(row))]
-        is_first = False
-        yield (line, usual_kind if kind is None else row[kind], row[source or 0], row[target or 0],
-               "1" if weight is None else row[weight], usual_time if time is None else row[time])
+def _even_columns(lines: Sequence[str], sign: str) -> List[List[str]]:
+    """The columns of lines that have no quotes and as many fields each: nearly all files are such, and are split at once. Of
+    other lines none."""
+    text = "".join(lines)
+    text = text.replace("\r\n", "\n") if "\r" in text else text
+    text = text if text.endswith("\n") else f"{text}\n"
+    width = text[:text.index("\n")].count(sign) + 1
+    if width == 1 or not sign.isascii() or '"' in text or "\r" in text:
+        return []
+    others = bytes(set(range(256)) - {ord(sign), ord("\n")})
+    ends = text.encode("utf-8", "surrogateescape").translate(None, others)
+    if ends != (sign * (width - 1) + "\n").encode("ascii") * len(lines):
+        return []
+    fields = text.replace("\n", sign).split(sign)
+    return [fields[at:-1:width] for at in range(width)]
+
+
+def _csv_rows(feed: str, lines: Iterable[str], sign: str, before: int) -> Iterator[Tuple[Sequence[str], int]]:
+    """The rows of lines, each with the line that it ends on; so many lines were read before."""
+    reader = csv.reader(lines, delimiter=sign)
+    try:
+        for row in reader:
+            yield row, before + reader.line_num
+    except csv.Error as fault:
+        raise FeedFault(f"{feed}:{before + reader.line_num}: {fault}") from fault
+
+
+def _rows_begun(feed: str, lines: Sequence[str], file: Iterable[str], sign: str,
+                before: int) -> List[Tuple[Sequence[str], int]]:
+    """The rows that begin in the lines; the last one may end behind them in the file."""
+    rows = []
+    for it in _csv_rows(feed, chain(lines, file), sign, before):
+        rows.append(it)
+        if it[1] >= before + len(lines):
+            break
+    return rows
+
+
+class Picked:
+    """The columns of a table that are wanted."""
+
+    def __init__(self, feed: str, columns: Columns, names: Sequence[str]) -> None:
+        source, target, kind, weight, time = (_place(feed, it, names) for it in columns[:5])
+        self.feed = feed
+        self.places = (kind, source, target, weight, time)
+        self.usual = (columns.usual_kind, "", "", "1", columns.usual_time)
+        self.least = max(it for it in self.places if it is not None) + 1
+        self.is_first = True
+
+    def of_columns(self, lines: Sequence[int], columns: Sequence[Sequence[str]]) -> Block:
+        self.is_first = False
+        return Block(lines, *([usual] * len(lines) if place is None else columns[place]
+                              for place, usual in zip(self.places, self.usual)))
+
+    def of_rows(self, rows: Sequence[Tuple[Sequence[str], int]]) -> Iterator[Block]:
+        """The block of rows with their lines, none where there are none. A first row that is too short tells of another form;
+        a later one is a bad row, whose missing fields are empty, which none may be."""
+        if not rows:
+            return
+        fields, lines = zip(*rows)
+        if self.is_first and len(fields[0]) < self.least:
+            raise FeedFault(f"{self.feed}:{lines[0]}: {len(fields[0])} fields, where the columns need {self.least}")
+        yield self.of_columns(lines, list(zip(*([*it, *[""] * (self.least - len(it))] for it in fields))))
 
 
 def _place(feed: str, column: Optional[Column], names: Sequence[str]) -> Optional[int]:
@@ -223,8 +320,12 @@ def from_networkx(graph: Any, *, kind: str = USUAL_KIND, weight: str = "weight",
 
 def from_pandas(frame: Any, columns: Columns = Columns()) -> Feed:
     """A pandas frame."""
-    rows = ([_text(it) for it in row] for row in frame.itertuples(index=False, name=None))
-    return Feed("frame", _picked("frame", zip(rows, count(1)), [str(it) for it in frame.columns], columns))
+    def blocks() -> Iterator[Block]:
+        picked = Picked("frame", columns, [str(it) for it in frame.columns])
+        rows = ([_text(it) for it in row] for row in frame.itertuples(index=False, name=None))
+        for part in _parts(zip(rows, count(1)), ROWS_AT_ONCE):
+            yield from picked.of_rows(part)
+    return Feed("frame", Table(blocks))
 
 
 def open_feed(data: Any, *, format: Optional[str] = None, columns: Columns = Columns(), delimiter: Optional[str] = None,

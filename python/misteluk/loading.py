@@ -5,15 +5,16 @@ import gc
 import sys
 import time
 from array import array
-from collections import defaultdict
+from collections import defaultdict, deque
 from contextlib import contextmanager
-from itertools import islice, repeat
-from typing import TYPE_CHECKING, Any, DefaultDict, Dict, Iterable, Iterator, List, NamedTuple, Optional, Sequence, Set, Tuple
+from itertools import compress, repeat
+from operator import getitem
+from typing import TYPE_CHECKING, Any, Callable, DefaultDict, Dict, Iterator, List, NamedTuple, Optional, Set, Tuple
 
 from . import records
 from .answers import Commit
-from .errors import BadRows, NoAnswer, OverLimit, Place, PoolEmpty, Refused, Uncommitted, refusal
-from .feeds import Row, open_feed, turned
+from .errors import BadRows, NoAnswer, OverLimit, Place, PoolEmpty, Refused, StoreError, Uncommitted, refusal
+from .feeds import Block, Row, open_feed, turned
 
 if TYPE_CHECKING:
     from .store import Store
@@ -24,11 +25,24 @@ MOST_FAULTS = 10
 
 
 class Part(NamedTuple):
-    """A batch of a feed: its records, where each came from, and how many blocks the feed's edges before it take."""
+    """A batch of a feed: its records, and where each came from."""
 
     text: bytes
     lines: "array[int]"
-    blocks_before: int
+
+    def __repr__(self) -> str:
+        return f"<Part of {len(self.lines)} records>"
+
+
+class Need(NamedTuple):
+    """What a batch needs: as many free blocks as it has operations, beside those that the feed's edges before it take."""
+
+    before: int
+    operations: int
+
+    def beside(self, used: int) -> int:
+        """How many blocks the batch needs where so many are used already."""
+        return max(self.before, used) + self.operations
 
 
 class Survey(NamedTuple):
@@ -42,7 +56,7 @@ class Survey(NamedTuple):
     kinds: List[str]
     edges: int
     blocks: int
-    times: Tuple[int, int]
+    needs: List[Need]
     bad: int
     faults: List[Refused]
     seconds: float
@@ -53,9 +67,18 @@ class Survey(NamedTuple):
 
     @property
     def needed(self) -> int:
-        """How many blocks a store needs that is empty and has no session open: each batch needs as many free ones as it has
-        operations, beside those in use."""
-        return max((it.blocks_before + len(it.lines) for it in self.parts), default=0)
+        """How many blocks a store needs that is empty and has no session open."""
+        return self.needed_beside(0)
+
+    def needed_beside(self, used: int) -> int:
+        """How many blocks a store needs of which so many are used."""
+        return max((it.beside(used) for it in self.needs), default=0)
+
+    @property
+    def times(self) -> Tuple[int, int]:
+        """The first and the last time."""
+        times = [int(it.rpartition(b",")[2]) for part in self.parts for it in part.text.splitlines()]
+        return (min(times), max(times)) if times else (0, 0)
 
     def fitting(self) -> int:
         """The number of blocks to make a store with: the usual one, or what is needed."""
@@ -71,6 +94,9 @@ class Survey(NamedTuple):
         *told, blocks = (f"{count} {word}{'s' * (count != 1)}" for count, word in counts)
         batches = "1 batch needs" if len(self.parts) == 1 else f"{len(self.parts)} batches need"
         return f"{self.feed}: {', '.join(told)} in {blocks}; {batches} {self.needed} blocks"
+
+    def __repr__(self) -> str:
+        return f"<Survey of {self}>"
 
 
 class Loaded(NamedTuple):
@@ -93,6 +119,9 @@ class Loaded(NamedTuple):
         if done.overflowed:
             text += f"; {done.overflowed} amounts NOT added, since weights would leave their limits"
         return text
+
+    def __repr__(self) -> str:
+        return f"<Loaded {self}>"
 
 
 class Progress:
@@ -141,82 +170,158 @@ def _no_collection() -> Iterator[None]:
 
 
 class Count:
-    """Counts and checks rows, a batch at a time."""
+    """Counts and checks rows, and makes batches of them. A loop over rows is one in C where it can be: there are many rows."""
 
-    def __init__(self, feed: str, by: str) -> None:
+    def __init__(self, feed: str, by: str, batch: int) -> None:
         self.begun = time.monotonic()
-        self.feed, self.by, self.command = feed, by, COMMANDS[by]
+        self.feed, self.by, self.command, self.batch = feed, by, COMMANDS[by], batch
         self.parts: List[Part] = []
+        # Of the batch that is being filled: its records, where they came from, and its rows.
+        self.texts: List[str] = []
+        self.lines = array("q")
+        self.filling: List[Block] = []
+        # The last full batch, whose rows aren't among the edges yet. None before it needs as many blocks, since each has as many
+        # operations and less before it.
+        self.full: List[Block] = []
         # The targets of each source, by kind: the edges, as they share blocks.
         self.edges: DefaultDict[str, DefaultDict[str, Set[str]]] = defaultdict(lambda: defaultdict(set))
         self.targets: Set[str] = set()
-        self.blocks = self.bad = self.rows = 0
-        self.first, self.last = records.MOST_TIME, 0
+        self.bad = self.rows = 0
         self.faults: List[Refused] = []
 
-    def take(self, rows: List[Row]) -> None:
-        """Counts a batch's rows. Rows that keep every rule as they stand, nearly all of them, are found so all at once."""
-        self.rows += len(rows)
-        columns = list(zip(*rows))
-        text = ("\n".join(map(",".join, zip(repeat(self.command), *columns[1:]))) + "\n").encode("utf-8", "surrogatepass")
-        if not records.PLAIN_LINES.fullmatch(text) or text.count(b"\n") != len(rows):
-            rows = [it for it in rows if self._is_right(it)]
-            columns = list(zip(*rows))
-            text = "".join([records.record((self.command, *it[1:])) for it in rows]).encode("ascii")
-        if rows and self.rows - self.bad <= records.MOST_RECORDS:
-            self.parts.append(Part(text, array("q", columns[0]), self.blocks))
-            self._count(*columns[1:])
+    def take(self, block: Block) -> None:
+        """Counts rows, and puts those that can be taken into batches of `batch`."""
+        at = 0
+        while at < len(block.lines):
+            room = self.batch - len(self.lines)
+            self._fill(Block(*(it[at:at + room] for it in block)))
+            at += room
 
-    def _is_right(self, row: Row) -> bool:
-        faults = records.faults_of((self.command, *row[1:]))
-        if faults:
-            self.bad += 1
-            if len(self.faults) < MOST_FAULTS:
-                self.faults.append(refusal(faults[0].word, fault=faults[0], place=Place(self.feed, row[0])))
-        return not faults
+    def _fill(self, block: Block) -> None:
+        self.rows += len(block.lines)
+        right, text = self._written(block)
+        if text and self.rows - self.bad <= records.MOST_RECORDS:
+            self.texts.append(text)
+            self.lines.extend(right.lines)
+            self.filling.append(right)
+            self.targets.update(right.targets)
+        if len(self.lines) == self.batch:
+            self._put(self.full)
+            self.full = self.filling
+            self._end_batch()
 
-    def _count(self, kinds: Sequence[str], sources: Sequence[str], targets: Sequence[str], _: Sequence[str],
-               times: Sequence[str]) -> None:
-        edges, blocks = self.edges, self.blocks
-        for kind, source, target in zip(kinds, sources, targets):
-            of_source = edges[kind][source]
-            if target not in of_source:
-                if not len(of_source) % records.BLOCK_EDGES:
-                    blocks += 1
-                of_source.add(target)
-        self.blocks = blocks
-        self.targets.update(targets)
-        whole = list(map(int, times))
-        self.first, self.last = min(self.first, min(whole)), max(self.last, max(whole))
+    def _end_batch(self) -> None:
+        self.parts.append(Part("".join(self.texts).encode("ascii"), self.lines))
+        self.texts, self.lines, self.filling = [], array("q"), []
+
+    def _put(self, blocks: List[Block]) -> None:
+        """Puts rows among the edges."""
+        for it in blocks:
+            of_sources = map(getitem, map(self.edges.__getitem__, it.kinds), it.sources)
+            deque(map(set.add, of_sources, it.targets), maxlen=0)
+
+    def _written(self, block: Block) -> Tuple[Block, str]:
+        """The rows that can be taken, and their records. Rows that keep every rule as they stand, nearly all of them, are found
+        so all at once, or else one by one; the few that are left are looked at field by field."""
+        lines = list(map(",".join, zip(repeat(self.command), *block[1:])))
+        text = "\n".join([*lines, ""])
+        if records.are_plain_operations(text) and text.count("\n") == len(lines):
+            return block, text
+        written = [line if records.is_plain_operation(line) else self._record(row)
+                   for line, row in zip(map("{}\n".format, lines), zip(*block))]
+        return Block(*(tuple(compress(column, written)) for column in block)), "".join(written)
+
+    def _record(self, row: Row) -> str:
+        """The row's record, or nothing where a rule is broken, which is counted and told."""
+        fields = (self.command, *row[1:])
+        faults = records.faults_of(fields)
+        if not faults:
+            return records.record(fields)
+        self.bad += 1
+        if len(self.faults) < MOST_FAULTS:
+            self.faults.append(refusal(faults[0].word, fault=faults[0], place=Place(self.feed, row[0])))
+        return ""
+
+    def _blocks(self) -> int:
+        """How many blocks the edges take."""
+        return sum(-(-len(it) // records.BLOCK_EDGES) for of_kind in self.edges.values() for it in of_kind.values())
 
     def survey(self) -> Survey:
-        edges = sum(sum(map(len, of_kind.values())) for of_kind in self.edges.values())
+        """What was counted, when all rows were taken."""
+        needs = []
+        for last in (self.full, self.filling):
+            if last:
+                needs.append(Need(self._blocks(), sum(len(it.lines) for it in last)))
+                self._put(last)
+        if self.filling:
+            self._end_batch()
+        edges = sum(len(it) for of_kind in self.edges.values() for it in of_kind.values())
         names = self.targets.union(*self.edges.values())
-        return Survey(self.feed, self.by, self.parts, self.rows, len(names), list(self.edges), edges, self.blocks,
-                      (self.first, self.last) if self.parts else (0, 0), self.bad, self.faults, time.monotonic() - self.begun)
-
-
-def _batches(rows: Iterable[Row], batch: int) -> Iterator[List[Row]]:
-    left = iter(rows)
-    return iter(lambda: list(islice(left, batch)), [])
+        return Survey(self.feed, self.by, self.parts, self.rows, len(names), list(self.edges), edges, self._blocks(), needs,
+                      self.bad, self.faults, time.monotonic() - self.begun)
 
 
 def survey(data: Any, *, by: str, batch: int = records.MOST_OPERATIONS, progress: Optional[bool] = None, weight_scale: int = 1,
-           times: str = "number", names: str = "plain", **options: Any) -> Survey:
-    """Reads a feed whole, counts and checks it: what it holds, how many blocks it needs, which rows are bad. Nothing is sent.
-    The options are those of `load`."""
+           times: str = "number", names: str = "plain", ahead: "Optional[Ahead]" = None, **options: Any) -> Survey:
+    """Reads a feed whole, counts and checks it: what it holds, how many blocks it needs, which rows are bad. Nothing is sent,
+    unless something is to be sent ahead. The options are those of `load`."""
     if by not in COMMANDS:
         raise ValueError(f"by is 'set' (a later weight replaces an earlier one) or 'add' (amounts are summed), and not {by!r}")
     if not 1 <= batch <= records.MOST_OPERATIONS:
         raise ValueError(f"batch is from 1 to {records.MOST_OPERATIONS}, and not {batch}")
     feed = turned(open_feed(data, **options), weight_scale=weight_scale, times=times, names=names)
-    counter, told = Count(feed.name, by), Progress(f"reading {feed.name}", None, progress)
+    counter, told = Count(feed.name, by, batch), Progress(f"reading {feed.name}", None, progress)
     with _no_collection():
-        for rows in _batches(feed.rows, batch):
-            counter.take(rows)
-            told.step(len(rows))
+        for block in feed.blocks():
+            counter.take(block)
+            told.step(len(block.lines))
+            if ahead:
+                ahead.go_on(counter)
     told.end()
     return counter.survey()
+
+
+class Ahead:
+    """Sends batches to a store of one's own while those behind them are still counted, and waits for nothing. At most half of the
+    batches that were counted are sent: so whatever a feed has that can't be taken is told before half of it is in.
+
+    `start` makes the store, as soon as there is a batch to send; it must be empty, and have as many blocks as there can be. What
+    it has is of no use where the rest of the feed can't be taken.
+    """
+
+    def __init__(self, start: "Callable[[], Store]", skip_bad: bool = False) -> None:
+        self.start, self.skip_bad = start, skip_bad
+        self.store: "Optional[Store]" = None
+        self.sent = 0
+        self.receipts: List[Commit] = []
+        self.fault: Optional[StoreError] = None
+
+    def go_on(self, count: Count) -> None:
+        """Takes what was answered, and sends the next batch where that may be."""
+        if self.fault or count.bad and not self.skip_bad or self.store and not self.store._has_landed():
+            return
+        if self.sent > len(self.receipts):
+            self._take(count.feed, count.parts)
+        if not self.fault and 2 * (self.sent + 1) <= len(count.parts):
+            self.store = self.store or self.start()
+            _launch(self.store, count.feed, count.parts[self.sent], True)
+            self.sent += 1
+
+    def _take(self, feed: str, parts: List[Part]) -> None:
+        """Takes the answer to the last batch that was sent. A fault is kept: what the rest of the feed has may be the reason."""
+        assert self.store
+        try:
+            self.receipts.append(_land(self.store, feed, parts, len(self.receipts)))
+        except StoreError as fault:
+            self.fault = fault
+
+    def rest(self, found: Survey) -> Iterator[Commit]:
+        """What was done of the batches that were sent, when the feed was found to be right."""
+        if self.sent > len(self.receipts) and not self.fault:
+            self._take(found.feed, found.parts)
+        yield from self.receipts
+        if self.fault:
+            raise self.fault
 
 
 def check(found: Survey, *, skip_bad: bool = False, collect: bool = True) -> None:
@@ -231,11 +336,11 @@ def check(found: Survey, *, skip_bad: bool = False, collect: bool = True) -> Non
         over.append(f"{found.blocks} blocks for its edges and {found.needed} for its batches, where a store has at most "
                     f"{records.MOST_BLOCKS}: a batch needs as many free blocks as it has operations, so smaller ones need fewer")
     if over:
-        raise OverLimit(f"{found.feed} has {'; '.join(over)}. Nothing was sent", found.counts())
+        raise OverLimit(f"{found.feed} has {'; '.join(over)}. Nothing is loaded", found.counts())
 
 
 def load(store: "Store", data: Any, *, by: str, batch: int = records.MOST_OPERATIONS, collect: bool = True,
-         skip_bad: bool = False, progress: Optional[bool] = None, **options: Any) -> Loaded:
+         skip_bad: bool = False, progress: Optional[bool] = None, ahead: Optional[Ahead] = None, **options: Any) -> Loaded:
     """Loads a feed into a store: a file's path, a networkx graph, a pandas frame, a `Feed`, or a `Survey` made before (in its
     own batches).
 
@@ -248,7 +353,8 @@ def load(store: "Store", data: Any, *, by: str, batch: int = records.MOST_OPERAT
     says which lines are not in, and all lines before them are.
 
     Further options: `format`, `columns`, `delimiter`, `header`, `third`, `both_ways` (see `open_feed`), `weight_scale`,
-    `times`, `names` (see `turned`). `progress` shows or hides a bar; without it a terminal has one.
+    `times`, `names` (see `turned`). `progress` shows or hides a bar; without it a terminal has one. `ahead` has sent a part of
+    the feed to this store.
     """
     if isinstance(data, Survey) and data.by != by:
         raise ValueError(f"the survey was made to {data.by}, and the load is to {by}")
@@ -257,7 +363,7 @@ def load(store: "Store", data: Any, *, by: str, batch: int = records.MOST_OPERAT
     sent = time.monotonic()
     receipts: List[Commit] = []
     try:
-        for receipt in load_in_steps(store, found, collect=collect, skip_bad=skip_bad):
+        for receipt in load_in_steps(store, found, collect=collect, skip_bad=skip_bad, ahead=ahead):
             told.step(len(found.parts[len(receipts)].lines))
             receipts.append(receipt)
     finally:
@@ -266,23 +372,38 @@ def load(store: "Store", data: Any, *, by: str, batch: int = records.MOST_OPERAT
     return Loaded(store._sum(receipts) if receipts else None, found, found.records(collect), found.seconds + sending, sending)
 
 
-def load_in_steps(store: "Store", found: Survey, *, collect: bool = True, skip_bad: bool = False) -> Iterator[Commit]:
+def load_in_steps(store: "Store", found: Survey, *, collect: bool = True, skip_bad: bool = False,
+                  ahead: Optional[Ahead] = None) -> Iterator[Commit]:
     """Loads a survey batch by batch: what each did is given before the next is sent, so that sessions can be opened between."""
     check(found, skip_bad=skip_bad, collect=collect)
+    sent = ahead.sent if ahead else 0
+    if ahead and sent:
+        yield from ahead.rest(found)
+    else:
+        _prepare(store, found, collect)
+    store._kinds.update(dict.fromkeys(found.kinds))
+    for part in found.parts[sent:]:
+        with store._lock:
+            _launch(store, found.feed, part, collect)
+            receipt = _land(store, found.feed, found.parts, sent)
+        sent += 1
+        yield receipt
+
+
+def _prepare(store: "Store", found: Survey, collect: bool) -> None:
+    """Raises where the store can't take the feed as it is."""
     with store._lock:
         if store.pending:
             text = f"{store.pending} operations are pending: commit or discard them before a load"
             raise Uncommitted(text, list(store._pending))
         store._land_what_was_sent()
         _check_room(store, found, store.stat().used, found.records(collect))
-    for at in range(len(found.parts)):
-        yield _send(store, found, at, collect)
 
 
 def _check_room(store: "Store", found: Survey, used: int, count: int) -> None:
     """Raises where the store's blocks can't be enough: the edges before a batch take at least those that they need alone, or
     those in use now."""
-    needed = max((max(it.blocks_before, used) + len(it.lines) for it in found.parts), default=0)
+    needed = found.needed_beside(used)
     if needed > store.blocks:
         text = (f"{found.feed} needs at least {needed} blocks in batches of {max(len(it.lines) for it in found.parts)}, and the "
                 f"store was made with {store.blocks}; nothing was sent")
@@ -292,22 +413,25 @@ def _check_room(store: "Store", found: Survey, used: int, count: int) -> None:
                         f"{records.MOST_RECORDS}. Nothing was sent", found.counts())
 
 
-def _send(store: "Store", found: Survey, at: int, collect: bool) -> Commit:
-    """Sends one batch of a feed; a refusal says which lines are not in."""
-    part = found.parts[at]
-    with store._lock:
-        store._kinds.update(dict.fromkeys(found.kinds))
-        try:
-            return store._apply(part.text, len(part.lines), collect, lambda it: Place(found.feed, part.lines[it]))
-        except NoAnswer as fault:
-            raise NoAnswer(f"{fault}; lines {part.lines[0]} to {part.lines[-1]} of {found.feed} were sent, all before them are "
-                           "in, and none behind them was sent") from fault
-        except Refused as fault:
-            done = sum(len(it.lines) for it in found.parts[:at])
-            text = (f"the batch of lines {part.lines[0]} to {part.lines[-1]} was refused, and neither it nor what comes behind "
-                    f"it is in; {done} rows before it are")
-            where: Dict[str, Any] = {"record": fault.record, "place": fault.place}
-            if isinstance(fault, PoolEmpty):
-                text += f". It needs {fault.needed} free blocks, and {fault.free} are free"
-                raise PoolEmpty(needed=fault.needed, free=fault.free, text=text, **where) from fault
-            raise refusal(fault.word, text, **where) from fault
+def _launch(store: "Store", feed: str, part: Part, collect: bool) -> None:
+    """Sends one batch of a feed."""
+    store._launch(part.text, len(part.lines), collect, lambda it: Place(feed, part.lines[it]))
+
+
+def _land(store: "Store", feed: str, parts: List[Part], at: int) -> Commit:
+    """What one batch of a feed did that was sent; a refusal says which lines are not in."""
+    part = parts[at]
+    try:
+        return store._land()
+    except NoAnswer as fault:
+        raise NoAnswer(f"{fault}; lines {part.lines[0]} to {part.lines[-1]} of {feed} were sent, all before them are in, and "
+                       "none behind them was sent") from fault
+    except Refused as fault:
+        done = sum(len(it.lines) for it in parts[:at])
+        text = (f"the batch of lines {part.lines[0]} to {part.lines[-1]} was refused, and neither it nor what comes behind it is "
+                f"in; {done} rows before it are")
+        where: Dict[str, Any] = {"record": fault.record, "place": fault.place}
+        if isinstance(fault, PoolEmpty):
+            text += f". It needs {fault.needed} free blocks, and {fault.free} are free"
+            raise PoolEmpty(needed=fault.needed, free=fault.free, text=text, **where) from fault
+        raise refusal(fault.word, text, **where) from fault

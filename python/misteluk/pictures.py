@@ -1,4 +1,7 @@
-"""Pictures of answers, by matplotlib: each function returns a figure, and `save` writes it as PNG or SVG."""
+"""Pictures of answers, by matplotlib: each function returns a figure, and `save` writes it as PNG or SVG.
+
+A figure is made without pyplot, so that a notebook's own way to show pictures stays as it is and no figure is kept.
+"""
 from __future__ import annotations
 
 import os
@@ -17,12 +20,12 @@ STYLE = {"svg.fonttype": "none", "svg.hashsalt": "misteluk", "font.size": 9.0, "
 def _figure(title: str, across: str, up: str) -> Tuple[Any, Any]:
     try:
         import matplotlib
+        from matplotlib.figure import Figure
     except ImportError:
         raise Missing("matplotlib", "a picture") from None
-    matplotlib.use("Agg", force=False)
-    from matplotlib import pyplot
-    with pyplot.rc_context(STYLE):
-        figure, axes = pyplot.subplots(figsize=(5.6, 3.4))
+    with matplotlib.rc_context(STYLE):
+        figure = Figure(figsize=(5.6, 3.4))
+        axes = figure.subplots()
     axes.set(title=title, xlabel=across, ylabel=up)
     return figure, axes
 
@@ -43,13 +46,12 @@ def _whole(axis: Any) -> None:
 
 def save(figure: Any, path: Union[str, "os.PathLike[str]"]) -> None:
     """Writes the figure to a file whose name ends in .svg or .png."""
-    from matplotlib import pyplot
+    import matplotlib
     form = os.fspath(path).rpartition(".")[2].lower()
     if form not in ("svg", "png"):
         raise ValueError(f"a picture's name ends in .svg or .png, and not as {os.fspath(path)!r}")
-    with pyplot.rc_context(STYLE):
+    with matplotlib.rc_context(STYLE):
         figure.savefig(path, format=form, bbox_inches="tight", dpi=150, metadata={"Date": None} if form == "svg" else None)
-    pyplot.close(figure)
 
 
 def degree_distribution(degrees: Mapping[str, Degree], title: str = "Degrees") -> Any:

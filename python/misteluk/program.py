@@ -1,10 +1,12 @@
 """Which program is run, and the conversation with it through pipes."""
 from __future__ import annotations
 
+import fcntl
 import os
 import pathlib
 import select
 import shutil
+import signal
 import subprocess
 import sys
 from collections import deque
@@ -14,8 +16,10 @@ from .errors import Misread, NoAnswer, OutOfMemory, ProgramEnded, ProgramNotFoun
 
 VARIABLE = "MISTELUK_PROGRAM"
 _HEARD: Set[str] = set()
-# How many bytes are written at once, and read: a pipe has no more, and more would take a page of its own for each read.
-MOST_WRITTEN, MOST_READ = 1 << 18, 1 << 16
+# How many bytes are written at once, which the pipe is given room for, and read: more would take a page of its own for each read.
+MOST_WRITTEN, MOST_READ = 1 << 20, 1 << 16
+# What Linux calls the size of a pipe; Python 3.9 has no name for it.
+F_SETPIPE_SZ = 1031
 Path = Union[str, "os.PathLike[str]"]
 
 
@@ -53,6 +57,15 @@ class Awaited:
         self.done = False
 
 
+def _widen(pipe: int) -> None:
+    """Gives a pipe room for a whole batch, where the system lets it: this side then wakes once, and not for each page that the
+    program takes out."""
+    try:
+        fcntl.fcntl(pipe, F_SETPIPE_SZ, MOST_WRITTEN)
+    except OSError:
+        pass
+
+
 def one_line(_: str) -> int:
     """How many rows follow a first line that stands alone."""
     return 0
@@ -60,7 +73,8 @@ def one_line(_: str) -> int:
 
 class Conversation:
     """A run of the program. Records are written and lines read in one loop that waits for both, so that neither side can
-    block the other; what a time limit or an interrupt leaves undone the next call takes up.
+    block the other; what a time limit or an interrupt leaves undone the next call takes up. The program is in a session of its
+    own: an interrupt at a terminal or in a notebook would else end it, and the graph with it.
 
     `timeout` is for how many seconds the program may neither read nor write while it is waited for.
     """
@@ -68,13 +82,14 @@ class Conversation:
     def __init__(self, command: Sequence[str], timeout: float) -> None:
         pipe = subprocess.PIPE
         try:
-            self.process = subprocess.Popen(command, stdin=pipe, stdout=pipe, stderr=pipe, bufsize=0)
+            self.process = subprocess.Popen(command, stdin=pipe, stdout=pipe, stderr=pipe, bufsize=0, start_new_session=True)
         except OSError as fault:
             raise ProgramNotFound(f"{command[0]} can't be run: {fault}") from fault
         assert self.process.stdin and self.process.stdout and self.process.stderr
         self._in, self._out, self._err = (it.fileno() for it in (self.process.stdin, self.process.stdout, self.process.stderr))
         for it in (self._in, self._out, self._err):
             os.set_blocking(it, False)
+        _widen(self._in)
         self.timeout = timeout
         self.records = self.refusals = 0
         self._unsent = bytearray()
@@ -125,18 +140,31 @@ class Conversation:
                 raise self._ending()
             self._wait_for_both()
 
+    def look(self, awaited: Awaited) -> bool:
+        """Whether the answer is there, or can't come any more. Writes and reads what can be at once, and waits for nothing."""
+        if self._unsent and not self._write():
+            self._unsent.clear()
+        ended = self._fault is not None or self._out not in self._open
+        if not awaited.done and not ended:
+            self._serve(0.0)
+        return awaited.done or ended
+
     def _wait_for_both(self) -> None:
         """Waits until the program takes or gives more, and reads what it gives."""
+        if not self._serve(self.timeout):
+            raise NoAnswer(f"the program neither read nor wrote for {self.timeout:g} s "
+                           f"(record {self._waits_for()} isn't answered)")
+
+    def _serve(self, seconds: float) -> bool:
+        """Waits so long until the program takes or gives more, reads what it gives, and tells whether there was any."""
         if bool(self._unsent) != self._writes:
             self._writes = not self._writes
             self._poll.register(self._in, select.POLLOUT) if self._writes else self._poll.unregister(self._in)
-        ready = self._poll.poll(self.timeout * 1000)
-        if not ready:
-            raise NoAnswer(f"the program neither read nor wrote for {self.timeout:g} s "
-                           f"(record {self._waits_for()} isn't answered)")
+        ready = self._poll.poll(seconds * 1000)
         for file, _ in ready:
             if file != self._in and not self._read(file):
                 self._poll.unregister(file)
+        return bool(ready)
 
     def _waits_for(self) -> int:
         return self._awaited[0].number if self._awaited else self.records
@@ -282,9 +310,9 @@ class Conversation:
             self._sort_error(line, None) if line.startswith("error ") else left.append(line)
 
     def kill(self) -> None:
-        """Ends the program where it still runs, and gives its pipes back."""
+        """Ends the program where it still runs, and what `./stinger` runs to compile it, and gives its pipes back."""
         if self.process.poll() is None:
-            self.process.terminate()
+            os.killpg(self.process.pid, signal.SIGTERM)
             if self._wait(2.0) is None:
                 self.process.kill()
                 self.process.wait()

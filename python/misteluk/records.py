@@ -51,8 +51,7 @@ _ONE_LINE = re.compile(r"[!-~]+\n")
 # Insertions or additions that keep every rule, none of them with a quoted field; numbers a digit short of their limits, so that
 # what doesn't match is looked at one by one.
 _PLAIN = r"[ia],(?!\*,)[!#-+\--~]{1,64},[!#-+\--~]{1,64},[!#-+\--~]{1,64},-?[0-9]{1,12},[0-9]{1,18}\n"
-PLAIN_LINES = re.compile(rf"(?:{_PLAIN})*".encode())
-_PLAIN_LINE = re.compile(_PLAIN)
+_PLAIN_LINE, _PLAIN_LINES = re.compile(_PLAIN), re.compile(rf"(?:{_PLAIN})*")
 
 
 class Fault(NamedTuple):
@@ -170,6 +169,11 @@ def is_plain(text: str) -> bool:
 def is_plain_operation(text: str) -> bool:
     """Whether this is an insertion or addition that keeps every rule, seen at once; another may keep them too."""
     return _PLAIN_LINE.fullmatch(text) is not None
+
+
+def are_plain_operations(text: str) -> bool:
+    """Whether each line is an operation of which the same is seen."""
+    return _PLAIN_LINES.fullmatch(text) is not None
 
 
 def split_record(text: str) -> List[str]:

@@ -195,14 +195,23 @@ class Store:
 
     def _apply(self, operations: bytes, count: int, collect: bool, place: Optional[Callable[[int], Place]] = None,
                from_pending: bool = False) -> Commit:
-        """Sends one batch and waits for what it did. `place` tells where the operation of a number in the batch came from."""
+        """Sends one batch and waits for what it did."""
+        self._launch(operations, count, collect, place, from_pending)
+        return self._land()
+
+    def _launch(self, operations: bytes, count: int, collect: bool, place: Optional[Callable[[int], Place]] = None,
+                from_pending: bool = False) -> None:
+        """Sends one batch. `place` tells where the operation of a number in the batch came from."""
         self._make_room(count + 1 + collect)
         before = self._talk.records
         self._talk.tell(operations, count)
         done = self._talk.ask("commit\n")
         last = self._talk.ask("collect\n") if collect else done
         self._flight = Flight(operations, count, before, done, last, place, from_pending)
-        return self._land()
+
+    def _has_landed(self) -> bool:
+        """Whether the batch that was sent is answered; waits for nothing."""
+        return self._flight is None or self._talk.look(self._flight.last)
 
     def _land(self) -> Commit:
         """Waits for what the batch did that was sent. It is known to be sent until its answer is there."""

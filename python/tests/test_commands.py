@@ -1,12 +1,13 @@
 """python -m misteluk: load, lint, picture. Values are worked out by hand."""
 import io
-import pathlib
+import os
+import shutil
 import subprocess
 import sys
 import unittest
 from contextlib import redirect_stderr, redirect_stdout
 
-from support import HERE, Case, find_program, optional, words_of
+from support import HERE, TOP, Case, find_program, optional, words_of
 
 from misteluk import pictures
 from misteluk.__main__ import main
@@ -70,6 +71,20 @@ class Commands(Case):
         self.assertIn("p.csv:7: BadName: source 'e f'", out)
         self.assertIn("4 edges inserted, 1 updated; version 1; 1 bad rows passed over", out)
 
+    def test_a_file_of_many_batches(self):
+        rows = "".join(f"s{it % 90},t{it % 1_000},1,{it}\n" for it in range(5_000))
+        path = self.file("p.csv", "from,to,n,t\n" + rows)
+        status, out, err = self.run_it("load", path, *OF_PAIRS, "--add", "--batch", "500", "--ask", "degrees", "--top", "1")
+        self.assertEqual((status, err), (0, ""))
+        self.assertIn("5020 records in", out)
+        self.assertIn("updated; version 10\ndegrees: 1090 names\n  s0 out 56 in 0 weight 56", out)
+        status, out, err = self.run_it("load", self.file("q.csv", "from,to,n,t\n" + rows + "a b,c,1,1\n"), *OF_PAIRS, "--add",
+                                       "--batch", "500")
+        self.assertEqual((status, out), (1, ""))
+        self.assertIn("1 of 5001 rows can't be taken, and none is loaded\n", err)
+        status, _, err = self.run_it("load", path, *OF_PAIRS, "--add", "--blocks", "16")
+        self.assertIn("and the store was made with 16; nothing was sent", err)
+
     def test_lint(self):
         status, out, _ = self.run_it("lint", self.file("s.csv", "commit\nfly\n"))
         self.assertEqual((status, out.splitlines()[-1].endswith("s.csv: 1 record is refused")), (1, True))
@@ -132,17 +147,36 @@ class Pictures(Case):
         self.assertEqual([it.get_text() for it in figure.axes[0].get_yticklabels()], ["b", "c"])
         self.assertEqual((self.bars(figure), self.bars(figure, 1)), ([5, 0], [2, 9]))
 
+    def test_a_notebook_s_way_to_show_pictures_stays(self):
+        code = ("import matplotlib; matplotlib.use('svg'); from misteluk import pictures\n"
+                "pictures.save(pictures.core_numbers({'a': 1}), 'x.png')\n"
+                "from matplotlib import pyplot; print(matplotlib.get_backend(), pyplot.get_fignums())")
+        done = subprocess.run([sys.executable, "-c", code], stdout=subprocess.PIPE, text=True, cwd=self.room,
+                              env={**os.environ, "PYTHONPATH": str(HERE.parent)}, check=True)
+        self.assertEqual(done.stdout, "svg []\n")
+
     def test_nothing_to_draw(self):
         for figure in (pictures.degree_distribution({}), pictures.component_sizes({}), pictures.core_numbers({}),
                        pictures.edge_weights([]), pictures.side_by_side({}, {}, ("a", "b"))):
             pictures.save(figure, self.room / "e.svg")
         self.assertRaises(ValueError, pictures.save, pictures.core_numbers({}), "e.pdf")
 
-    def test_the_pictures_of_the_documents_are_there(self):
-        for it in ("debian-degrees", "shipments"):
-            text = (pathlib.Path(HERE).parents[1] / f"docs/pictures/{it}.svg").read_text()
-            self.assertTrue(text.rstrip().endswith("</svg>"))
-            self.assertLess(len(text), 30_000)
+    def test_the_pictures_of_the_documents_are_drawn_by_their_script(self):
+        """In a copy; the same bytes where matplotlib is the version that drew them."""
+        for it in ("examples", "python"):
+            (self.room / it).symlink_to(TOP / it)
+        for it in ("tools", "bin", "docs/pictures"):
+            (self.room / it).mkdir(parents=True)
+        shutil.copy(TOP / "tools/draw-pictures", self.room / "tools")
+        (self.room / "bin/python3").symlink_to(sys.executable)
+        env = {**os.environ, "PATH": f"{self.room}/bin:{os.environ['PATH']}", "MISTELUK_PROGRAM": find_program()}
+        subprocess.run([self.room / "tools/draw-pictures"], stdout=subprocess.DEVNULL, env=env, check=True)
+        for it in (self.room / "docs/pictures").iterdir():
+            drawn, told = it.read_text(), (TOP / "docs/pictures" / it.name).read_text()
+            self.assertTrue(drawn.rstrip().endswith("</svg>") and len(told) < 30_000)
+            if f"Matplotlib v{optional('matplotlib').__version__}," in told:
+                self.assertEqual(drawn, told)
+        self.assertEqual({it.name for it in (self.room / "docs/pictures").iterdir()}, {"debian-degrees.svg", "shipments.svg"})
 
 
 if __name__ == "__main__":

@@ -1,7 +1,9 @@
 """Data in: what each form of file comes to, what it is counted as, and what is told before anything is sent."""
+import csv
 import gzip
 import io
 import os
+import random
 import time
 import unittest
 from contextlib import redirect_stderr
@@ -30,6 +32,40 @@ class Feeds(Case):
         self.rows('1 link a,b c 1 0', "a", '"a,b",c\n', columns=Columns(1, 2))
         self.rows("2 link b c 1 0", "b", "a|b\nb|c\n", columns=Columns(1, 2), header=True)
         self.rows("2 link b c 1 0", "c.csv", "a b,c\nb,c\n", columns=Columns("a b", "c"), delimiter=",")
+
+    def test_quotes_and_ends_of_lines(self):
+        one_two = Columns(1, 2)
+        self.rows("1 link a b 1 0\n3 link c d 1 0", "a.csv", "a,b\r\n\r\nc,d\r\n", columns=one_two)
+        self.rows('2 link a\nb c 1 0\n3 link e"f g 1 0', "b.csv", '"a\nb",c\n"e""f",g', columns=one_two)
+        self.rows("1 link a é 1 0\n2 link c  1 0", "c.csv", "a;é;1\nc;;2", columns=one_two)
+        self.rows("1 link a a 1 0\n3 link b b 1 0", "d.csv", "a\n\nb\n", columns=Columns(1, 1))
+
+    def read_row_by_row(self, path: str, sign: str, least: int) -> list:
+        """The file's rows by Python's csv, one after another, blank lines left out and missing fields empty."""
+        with open(path, encoding="utf-8", newline="") as file:
+            reader = csv.reader(file, delimiter=sign)
+            return [(reader.line_num, *row, *[""] * (least - len(row))) for row in reader if row]
+
+    def test_any_file_is_read_as_csv_reads_it(self):
+        draw = random.Random(5)
+        for _ in range(120):
+            sign = draw.choice(",;\t|")
+            tidy = draw.random() < 0.3
+            pieces = ["a", "b", "1", " ", "é"] if tidy else ["a", "b", "é", '"', '"', "\n", "\r", "\r\n", "x" + sign, '""']
+            width = draw.randrange(2, 5)
+            ends = draw.choice(["\n", "\r\n", "\r"])
+            lines = [sign.join("".join(draw.choices(pieces, k=draw.randrange(4))) for _ in range(
+                width if tidy or draw.random() < 0.8 else draw.randrange(6))) for _ in range(draw.randrange(1, 9))]
+            path = self.file_as_it_is(ends.join([sign.join("pq" * (width - 1)), *lines]) + draw.choice(["", ends]))
+            wanted = [(line, "link", *row[:2], "1", "0") for line, *row in self.read_row_by_row(path, sign, 2)]
+            for size in (1, 2, 3, 1_024):
+                with mock.patch.object(feeds, "ROWS_AT_ONCE", size):
+                    feed = misteluk.delimited(path, Columns(1, 2), delimiter=sign)
+                    self.assertEqual(list(feed.rows), wanted)
+
+    def file_as_it_is(self, text: str) -> str:
+        (self.room / "f.csv").write_bytes(text.encode())
+        return str(self.room / "f.csv")
 
     def test_snap(self):
         self.rows("3 link 0 11 1 0\n4 link 0 12 1 0", "a.txt", "# Directed graph\n# FromNodeId\tToNodeId\n0\t11\n0 12\n")
@@ -115,6 +151,33 @@ class Loads(Case):
         self.counted("34 33 33 33", ",".join(f"b{it} a" for it in range(33)), 10)
         self.counted("34 33 2 11", ",".join(f"a b{it}" for it in range(33)), 10)
 
+    def test_what_each_batch_needs(self):
+        """Beside a count of each batch, row by row; every third row can't be taken, and batches are full all the same."""
+        draw = random.Random(3)
+        for _ in range(60):
+            rows = [(at, "k" if draw.random() < 0.9 else "l", f"s{draw.randrange(4)}", f"t{draw.randrange(150)}", "1",
+                     "x" if at % 3 == 0 else "7") for at in range(1, draw.randrange(2, 400))]
+            batch = draw.choice([1, 7, 40, 400])
+            with mock.patch.object(feeds, "ROWS_AT_ONCE", draw.choice([1, 3, 50, 1_024])):
+                found = misteluk.survey(Feed("f", rows), by="add", batch=batch)
+            right = [it for it in rows if it[5] == "7"]
+            parts = [right[at:at + batch] for at in range(0, len(right), batch)]
+            self.assertEqual([list(it.lines) for it in found.parts], [[it[0] for it in part] for part in parts])
+            needed = [self.blocks_of(right[:at * batch]) + len(part) for at, part in enumerate(parts)]
+            self.assertEqual((found.needed, found.blocks), (max(needed, default=0), self.blocks_of(right)))
+            used = draw.randrange(40)
+            beside = [max(self.blocks_of(right[:at * batch]), used) + len(part) for at, part in enumerate(parts)]
+            self.assertEqual(found.needed_beside(used), max(beside, default=0))
+            self.assertEqual((found.rows, found.bad), (len(rows), len(rows) - len(right)))
+            self.assertEqual(found.times, (7, 7) if right else (0, 0))
+
+    def blocks_of(self, rows: list) -> int:
+        """For each kind and source its targets divided by 32, rounded up."""
+        targets = {}
+        for _, kind, source, target, *_ in rows:
+            targets.setdefault((kind, source), set()).add(target)
+        return sum((len(it) + 31) // 32 for it in targets.values())
+
     def test_the_blocks_that_are_counted_are_needed(self):
         feed = [(it, "k", f"s{it % 7}", f"t{it * it % 50}", "1", "0") for it in range(300)]
         found = misteluk.survey(Feed("f", feed), by="add", batch=20)
@@ -140,6 +203,21 @@ class Loads(Case):
         loaded = store.load(path, by="add", columns=columns, skip_bad=True)
         self.assertEqual((loaded.commit.inserted, store.stat().edges), (2, 2))
         self.assertIn("5 bad rows passed over", str(loaded))
+
+    def test_rows_that_need_quotes_are_taken_among_plain_ones(self):
+        rows = [(1, "k", "a", "b", "1", "0"), (2, "k", 'a,"', "b", "+1", "0"), (3, "k", 'a,"', "b", "1", "0"),
+                (4, "k", "c", "d", "1", "0\n")]
+        found = misteluk.survey(Feed("f", rows), by="set")
+        self.assertEqual([it.text for it in found.parts], [b'i,k,a,b,1,0\ni,k,"a,""",b,1,0\n'])
+        self.assertEqual((found.bad, [it.place.line for it in found.faults]), (2, [2, 4]))
+
+    def test_what_is_counted_is_told_in_short(self):
+        """A prompt or a notebook shows what a call returns: a line, and not the feed's records."""
+        store = self.store()
+        loaded = store.load(self.file("a.csv", TRANSFERS), by="add", columns=OF_TRANSFERS)
+        self.assertRegex(repr(loaded), r"^<Loaded 5 records in \d+\.\d s, \d+ a second; 2 edges inserted, 1 updated; version 1>$")
+        self.assertIn("a.csv: 3 rows, 3 names, 1 kind, 2 edges in 2 blocks; 1 batch needs 3 blocks>", repr(loaded.survey))
+        self.assertEqual(repr(loaded.survey.parts), "[<Part of 3 records>]")
 
     def test_weights_that_would_leave_their_limits_are_told(self):
         loaded = self.store().load(Feed("f", [(1, "k", "a", "b", "1099511627776", "0")] * 2), by="add")
@@ -200,6 +278,49 @@ class Loads(Case):
                 seen.append((receipt.version, session.edge("k", "a", "b")))
         self.assertEqual(seen, [(1, Edge(2, 0, 1)), (2, Edge(4, 0, 3)), (3, Edge(6, 0, 5))])
         self.assertEqual(found.times, (0, 5))
+
+    def load_ahead(self, rows: list, batch: int = 1, **options) -> tuple:
+        """A load part of which is sent while the rest is counted, a row at a time; never is more than half of it sent then."""
+        ahead, seen = loading.Ahead(lambda: self.store(blocks=records.MOST_BLOCKS), options.get("skip_bad", False)), []
+        go_on = ahead.go_on
+        ahead.go_on = lambda count: (go_on(count), seen.append((ahead.sent, len(count.parts))))
+        with mock.patch.object(feeds, "ROWS_AT_ONCE", 1):
+            found = misteluk.survey(Feed("f", rows), by="add", batch=batch, ahead=ahead)
+        loaded = misteluk.load(ahead.store, found, by="add", ahead=ahead, **options)
+        self.assertTrue(all(2 * sent <= counted for sent, counted in seen))
+        return ahead, loaded
+
+    def test_a_part_is_sent_ahead(self):
+        rows = [(it, "k", f"a{it % 7}", f"b{it % 11}", "1", str(it)) for it in range(400)]
+        store, (ahead, loaded) = self.store(), self.load_ahead(rows)
+        plain = store.load(Feed("f", rows), by="add", batch=1)
+        self.assertEqual((loaded.commit, loaded.records), (plain.commit, plain.records))
+        self.assertEqual(ahead.store.open().degrees(), store.open().degrees())
+        self.assertEqual((ahead.store.stat()[:3], ahead.store.kinds), (store.stat()[:3], ["k"]))
+        self.assertTrue(0 < ahead.sent <= 200)
+
+    def test_bad_rows_behind_what_was_sent(self):
+        rows = [(it, "k", "a", f"b{it}", "1", "x" if it == 90 else "0") for it in range(100)]
+        with self.assertRaises(misteluk.BadRows) as told:
+            self.load_ahead(rows)
+        self.assertEqual([it.place.line for it in told.exception.faults], [90])
+        self.assertEqual(self.load_ahead(rows, skip_bad=True)[1].commit.inserted, 99)
+
+    def test_limits_are_told_before_half_of_a_feed_is_in(self):
+        """More kinds than there can be: the program refuses the 65th when half of the feed is counted behind it."""
+        rows = [(it, f"k{it}", "a", "b", "1", "0") for it in range(400)]
+        with self.assertRaisesRegex(misteluk.OverLimit, "f has 400 kinds, where a run takes 64. Nothing is loaded"):
+            self.load_ahead(rows)
+
+    def test_a_program_that_ends_while_a_feed_is_counted(self):
+        ends = self.stand_in("sys.stdin.readline(); sys.exit(3)")
+        ahead = loading.Ahead(lambda: misteluk.Store(program=ends, blocks=records.MOST_BLOCKS))
+        with mock.patch.object(feeds, "ROWS_AT_ONCE", 1):
+            found = misteluk.survey(Feed("f", [(1, "k", "a", "b", "1", "0")] * 2_000), by="add", batch=1, ahead=ahead)
+            ahead.store._talk.process.wait(30)
+        with self.assertRaisesRegex(misteluk.ProgramEnded, "ended with status 3"):
+            misteluk.load(ahead.store, found, by="add", ahead=ahead)
+        self.assertRaises(misteluk.ProgramEnded, ahead.store.close)
 
     def test_progress(self):
         with redirect_stderr(io.StringIO()) as told:

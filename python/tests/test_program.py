@@ -3,12 +3,14 @@ import contextlib
 import io
 import os
 import signal
+import subprocess
+import sys
 import threading
 import unittest
 from contextlib import redirect_stderr
 from unittest import mock
 
-from support import Case
+from support import HERE, Case
 
 import misteluk
 from misteluk import Store, program
@@ -91,6 +93,16 @@ class Programs(Case):
         store._talk.timeout = 30
         self.assertEqual(store.stat().free, 16_384)
         store.close()
+
+    def test_an_interrupt_at_a_terminal_leaves_the_graph(self):
+        """A terminal sends it to all that runs in its foreground, and a notebook too."""
+        code = ("import misteluk, time\nstore = misteluk.Store()\nstore.insert('k', 'a', 'b')\nstore.commit()\nprint(flush=1)\n"
+                "try: time.sleep(60)\nexcept KeyboardInterrupt: print(store.stat().edges)\nstore.close()")
+        run = subprocess.Popen([sys.executable, "-c", code], stdout=subprocess.PIPE, text=True, start_new_session=True,
+                               env={**os.environ, "PYTHONPATH": str(HERE.parent)})
+        run.stdout.readline()
+        os.killpg(run.pid, signal.SIGINT)
+        self.assertEqual(run.communicate(timeout=60), ("1\n", None))
 
     def stop(self, store: Store) -> None:
         store._talk.timeout = 0.3

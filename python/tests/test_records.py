@@ -58,11 +58,11 @@ class Records(Case):
             self.assertEqual(records.split_record(records.record(fields)), fields)
 
     def test_plain_lines_are_right_ones(self):
-        right = b"i,k,a,b,1,2\na,k,*,!,-999999999999,999999999999999999\n"
-        self.assertTrue(records.PLAIN_LINES.fullmatch(right))
-        for it in (b"i,*,a,b,1,2\n", b"i,k,a,b,1\n", b"i,k,a b,b,1,2\n", b"i,k,,b,1,2\n", b"i,k,a,b,1.5,2\n", b"r,k,a,b\n",
-                   b"i,k,a,b,1,-2\n", b'i,k,",b,1,2\n', b"i,k," + b"a" * 65 + b",b,1,2\n", b"i,k,a,\xc3\xa9,1,2\n"):
-            self.assertFalse(records.PLAIN_LINES.fullmatch(right + it), it)
+        right = "i,k,a,b,1,2\na,k,*,!,-999999999999,999999999999999999\n"
+        self.assertTrue(records.are_plain_operations(right))
+        for it in ("i,*,a,b,1,2\n", "i,k,a,b,1\n", "i,k,a b,b,1,2\n", "i,k,,b,1,2\n", "i,k,a,b,1.5,2\n", "r,k,a,b\n",
+                   "i,k,a,b,1,-2\n", 'i,k,",b,1,2\n', f"i,k,{'a' * 65},b,1,2\n", "i,k,a,\u00e9,1,2\n", "i,k,a,b,1,\u0661\n"):
+            self.assertFalse(records.are_plain_operations(right + it), it)
 
 
 if __name__ == "__main__":

@@ -44,6 +44,16 @@ class Stores(Case):
                          [Edge(980, 1, 1), None, None])
         self.assertEqual(session.degrees("transfer").most(1), [("funnel", Degree(1, 4, 3850))])
 
+    def test_what_a_notebook_shows(self):
+        session = self.store("insert k a<b c 5 1").open()
+        self.assertEqual(session.degrees()._repr_html_(), (
+            "<table><tr><td>name</td><td>out</td><td>into</td><td>weight_out</td></tr><tr><td>a&lt;b</td><td>1</td><td>0</td>"
+            "<td>5</td></tr><tr><td>c</td><td>0</td><td>1</td><td>0</td></tr></table>"
+            "<p>2 names of version 1: deg,0,*,0,9223372036854775807</p>"))
+        self.assertIn("<tr><td>name</td><td>core</td></tr></table><p>0 names", self.store().open().cores()._repr_html_())
+        long = misteluk.Answer({f"v{it}": it for it in range(99)})._repr_html_()
+        self.assertTrue("<td>v9</td>" in long and "<td>v10</td>" not in long and "<p>99 names" in long)
+
     def test_a_neighbor_s_edge_outside_of_the_window(self):
         """ana has an edge within the window, and the one to bob isn't."""
         session = self.store("insert k ana bob 1 1", "insert k ana cyd 1 5", "insert k dan bob 1 6").open()
