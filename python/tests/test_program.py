@@ -96,10 +96,15 @@ class Programs(Case):
 
     def test_an_interrupt_at_a_terminal_leaves_the_graph(self):
         """A terminal sends it to all that runs in its foreground, and a notebook too."""
-        code = ("import misteluk, time\nstore = misteluk.Store()\nstore.insert('k', 'a', 'b')\nstore.commit()\nprint(flush=1)\n"
-                "try: time.sleep(60)\nexcept KeyboardInterrupt: print(store.stat().edges)\nstore.close()")
+        # (where this was started with interrupts ignored, Python would leave them so)
+        code = ("import misteluk, signal, time\nsignal.signal(signal.SIGINT, signal.default_int_handler)\n"
+                "store = misteluk.Store()\nstore.insert('k', 'a', 'b')\nstore.commit()\n"
+                "try:\n    print(flush=True)\n    time.sleep(60)\nexcept KeyboardInterrupt:\n    print(store.stat().edges)\n"
+                "store.close()")
         run = subprocess.Popen([sys.executable, "-c", code], stdout=subprocess.PIPE, text=True, start_new_session=True,
                                env={**os.environ, "PYTHONPATH": str(HERE.parent)})
+        self.addCleanup(run.stdout.close)
+        self.addCleanup(run.kill)
         run.stdout.readline()
         os.killpg(run.pid, signal.SIGINT)
         self.assertEqual(run.communicate(timeout=60), ("1\n", None))
