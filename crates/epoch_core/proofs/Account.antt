@@ -31,8 +31,8 @@ use Rattle.epoch_core.specs.Machine.{Answers, Question, is_all_read, move, quest
 use Rattle.epoch_core.specs.Machine.{to_enter, to_pin, to_read, to_release, to_reply, to_settle, with_heap, with_sessions}
 use Rattle.epoch_core.specs.Machine.{with_status}
 use Rattle.epoch_core.specs.Runs.{Runs, is_done, next_world}
-use Rattle.epoch_core.specs.Holdings.{Agree, Entered, Holding, Observation, Released, Replied, answered_first, holdings}
-use Rattle.epoch_core.specs.Holdings.{holdings_of, observations, observed_at, questions, questions_in, request_in}
+use Rattle.epoch_core.specs.Holdings.{Entered, Observation, Released, Replied, answered_first, holdings}
+use Rattle.epoch_core.specs.Holdings.{holdings_of, observations, observed_at, questions, request_in}
 use Rattle.epoch_core.specs.Sound.{IsNamed, IsSessionSound, IsSound}
 use Rattle.epoch_blocks.proofs.Lists.{option_map_some}
 use Rattle.epoch_core.proofs.Changes.{graph_before}
@@ -365,21 +365,11 @@ replies_are_answers start end events s is runs =
     subst (λ qs. AllZip Answers qs (replies_of end s)) (asked_in_holdings start s events is)
     (subst (λ rs. AllZip Answers (all_asked s start.world events) rs) (sym all) a.answers)
 
-agreeing : (hs gs : List Holding) → Agree hs gs → questions hs ≡ questions gs
-agreeing [] [] same = refl
-agreeing [] (g ∷ gs) same = absurd same
-agreeing (h ∷ hs) [] same = absurd same
-agreeing (h ∷ hs) (g ∷ gs) same =
-    let here : questions_in h ≡ questions_in g = ap (λ c. map (question_on c) h.answered) same.0
-    ∙ ap (map (question_on g.graph)) same.1 in
-    let rest : questions hs ≡ questions gs = agreeing hs gs same.2 in
-    cc
-
 pub replies_alike : (s : ℕ) (start end : State) (events : List Event) (other_start other_end : State) (other_events : List Event)
     → IsStart start → Runs start events end → IsStart other_start → Runs other_start other_events other_end
-    → Agree (holdings s start.world events) (holdings s other_start.world other_events)
+    → holdings s start.world events ≡ holdings s other_start.world other_events
     → replies_of end s ≡ replies_of other_end s
 replies_alike s start end events other_start other_end other_events is runs other_is other_runs agree =
     same_answers (questions (holdings s other_start.world other_events)) (replies_of end s) (replies_of other_end s)
-    (subst (λ qs. AllZip Answers qs (replies_of end s)) (agreeing _ _ agree) (replies_are_answers start end events s is runs))
+    (subst (λ qs. AllZip Answers qs (replies_of end s)) (ap questions agree) (replies_are_answers start end events s is runs))
     (replies_are_answers other_start other_end other_events s other_is other_runs)

@@ -1,6 +1,6 @@
 -- Small runs, computed.
-use Rattle.std.proofs.Common.{◌≡◌, ℕ, true, false, cond, List, [], ◌∷◌, ◌++◌, refl, sym, ap, subst, ◌∙◌, arith, pos}
-use Rattle.std.proofs.Common.{negsuc}
+use Rattle.std.proofs.Common.{◌≡◌, ℕ, true, false, cond, List, [], ◌∷◌, ◌++◌, refl, sym, ap, ◌∙◌, arith, pos}
+use Rattle.std.proofs.Common.{negsuc, length}
 use Rattle.std.specs.Prelude.{ℤ, if◌then◌else◌, is_some}
 use Rattle.std.specs.Option.{unwrap_or}
 use Rattle.std.specs.Ordering.{eq_by_cmp}
@@ -20,7 +20,7 @@ use Rattle.epoch_blocks.specs.Versions.{left}
 use Rattle.epoch_blocks.specs.Posting.{can_post, are_edges_of}
 use Rattle.epoch_core.specs.Posts.{posted}
 use Rattle.epoch_core.specs.Runs.{run}
-use Rattle.epoch_core.specs.Holdings.{Agree, Holding, holdings_of, observations}
+use Rattle.epoch_core.specs.Holdings.{Holding, holdings_of, observations}
 use Rattle.epoch_core.specs.Examples.{AreExamples, name_a, name_b, kind_k, put_edge, add_to_edge, edge_of, ask_edge}
 use Rattle.epoch_core.specs.Examples.{short_batches, long_batches, of_short, of_long}
 use Rattle.epoch_blocks.proofs.Edges.{Decides-edges}
@@ -131,15 +131,16 @@ long_holdings =
 abbrev held_with : Graph → List Holding
 held_with g = record { graph = g; answered = ask_edge ∷ [] } ∷ []
 
-two_worlds_agree : Agree of_short of_long
-two_worlds_agree =
-    subst (λ hs. Agree hs of_long) (sym short_holdings)
-    (subst (λ gs. Agree (held_with (left empty_opening short_batches)) gs) (sym long_holdings)
-    (first_graph (pos 1) 1 ∙ sym long_graph, refl, tt))
+two_worlds_agree : of_short ≡ of_long
+two_worlds_agree = short_holdings ∙ ap held_with (first_graph (pos 1) 1 ∙ sym long_graph) ∙ sym long_holdings
 
-other_names : Agree (held_with (left empty_opening short_batches))
-    (record { graph = left empty_opening []; answered = [] } ∷ []) → ⊥
-other_names agree = let no : name_a ∷ name_b ∷ [] ≡ [] = ap (λ g. g.names) agree.0 in cc
+-- the names in the graph of the first holding
+abbrev names_held : List Holding → List (List ℕ)
+names_held [] = []
+names_held (h ∷ held) = h.graph.names
+
+other_names : held_with (left empty_opening short_batches) ≡ record { graph = left empty_opening []; answered = [] } ∷ [] → ⊥
+other_names agree = let no : name_a ∷ name_b ∷ [] ≡ [] = ap names_held agree in cc
 
 pub are_examples : AreExamples
 are_examples = record {
@@ -147,8 +148,7 @@ are_examples = record {
   long = long_holdings;
   twice = refl;
   agree = two_worlds_agree;
-  other_count = λ agree. agree.2;
-  other_graph = λ agree. other_names (subst (λ hs. Agree hs
-      (record { graph = left empty_opening []; answered = [] } ∷ [])) short_holdings agree);
+  other_count = λ agree. let no : 2 ≡ 1 = ap length agree in omega (arith, no);
+  other_graph = λ agree. other_names (sym short_holdings ∙ agree);
   blocks = refl;
 }

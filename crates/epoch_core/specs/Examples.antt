@@ -1,6 +1,6 @@
 -- Small runs, written out by the rules of the events: what a session holds in them, when two agree, and what a Post
 -- makes of blocks.
-use Rattle.std.specs.Prelude.{◌≡◌, ℤ, pos, negsuc, ℕ, List, [], ◌∷◌}
+use Rattle.std.specs.Prelude.{◌≡◌, ◌≢◌, ℤ, pos, negsuc, ℕ, List, [], ◌∷◌}
 use Rattle.graph_model.specs.declared.ids.Edge.{Edge}
 use Rattle.graph_model.specs.declared.batches.NamedOp.{NamedOp}
 use Rattle.graph_model.specs.declared.batches.NamedOp.TheVariants.{Insert, Incr}
@@ -13,7 +13,7 @@ use Rattle.epoch_core.specs.declared.events.Event.TheVariants.{Release}
 use Rattle.epoch_blocks.specs.Blocks.{status_after}
 use Rattle.epoch_core.specs.Worlds.{empty_opening, start_world}
 use Rattle.epoch_blocks.specs.Versions.{left}
-use Rattle.epoch_core.specs.Holdings.{Agree, Holding, holdings}
+use Rattle.epoch_core.specs.Holdings.{Holding, holdings}
 
 -- one edge from a to b of kind k
 
@@ -86,10 +86,10 @@ pub record AreExamples : Type 0 where
       of_twice ≡ record { graph = left empty_opening []; answered = [] }
       ∷ record { graph = left empty_opening []; answered = [] } ∷ []
   -- different batches leave equal graphs, and so these runs agree
-  pub agree : Agree of_short of_long
+  pub agree : of_short ≡ of_long
   -- these don't: in the number of holdings, and in the graph that is held
-  pub other_count : Agree of_twice of_once → ⊥
-  pub other_graph : Agree of_short of_once → ⊥
+  pub other_count : of_twice ≢ of_once
+  pub other_graph : of_short ≢ of_once
   -- a Post keeps the birth of a block that it lists, and lets a fresh block that it doesn't list be fresh
   pub blocks :
       status_after 3 (0 ∷ 1 ∷ []) (Used 1 ∷ Fresh ∷ Used 2 ∷ Fresh ∷ Free ∷ Retired 1 2 ∷ [])

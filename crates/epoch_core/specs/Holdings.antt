@@ -1,5 +1,5 @@
 -- What befalls a session in a list of events, and when two lists are the same to it.
-use Rattle.std.specs.Prelude.{◌≡◌, ℕ, ◌==◌, List, [], ◌∷◌, ◌++◌, map, if◌then◌else◌}
+use Rattle.std.specs.Prelude.{ℕ, ◌==◌, List, [], ◌∷◌, ◌++◌, map, if◌then◌else◌}
 use Rattle.std.specs.List.{flat_map}
 use Rattle.graph_model.specs.Graph.{Graph}
 use Rattle.graph_model.specs.declared.requests.Request.{Request}
@@ -67,14 +67,6 @@ holdings_of (Released ∷ rest) = holdings_of rest
 -- the holdings of session s in a list of events that begin in this world, the first one first
 abbrev pub holdings : ℕ → World → List Event → List Holding
 holdings s w events = holdings_of (observations s w events)
-
--- two lists of holdings agree: as many in both, and the k-th ones hold versions of equal graphs and have equal lists
--- of requests that were replied to
-abbrev pub Agree : List Holding → List Holding → Type 0
-Agree [] [] = Unit {0}
-Agree [] (b ∷ bs) = ⊥
-Agree (a ∷ more) [] = ⊥
-Agree (a ∷ more) (b ∷ bs) = (a.graph ≡ b.graph) × (a.answered ≡ b.answered) × Agree more bs
 
 -- the questions of a holding: its requests, over the graph of the held version
 abbrev pub questions_in : Holding → List Question

@@ -8,7 +8,7 @@ use Rattle.epoch_core.specs.Worlds.{World, State, IsStart, replies_of}
 use Rattle.epoch_core.specs.Posts.{MayPost}
 use Rattle.epoch_core.specs.Machine.{Answers}
 use Rattle.epoch_core.specs.Runs.{run, Runs, is_done}
-use Rattle.epoch_core.specs.Holdings.{holdings, Agree, questions}
+use Rattle.epoch_core.specs.Holdings.{holdings, questions}
 use Rattle.epoch_core.specs.Epochs.{FillsNoHeldBlock, PinsInOrder, IsPartition}
 use Rattle.epoch_core.specs.Collections.{LeavesWhatPinsNeed, LeavesNoneUnpinned}
 
@@ -20,14 +20,15 @@ RepliesAreAnswers =
     → IsStart start → Runs start events end
     → AllZip Answers (questions (holdings s start.world events)) (replies_of end s)
 
--- in two worlds: where two lists of events, from any two starts, agree for a session, it has the same list of
--- replies in both
+-- in two worlds: where a session has the same holdings in two lists of events, from any two starts, it has the same list of
+-- replies in both. They are the same where they are as many, and the k-th ones hold versions of equal graphs and have equal
+-- lists of requests that were replied to
 abbrev pub AgreeingRunsReplyAlike : Type 0
 AgreeingRunsReplyAlike =
     (s : ℕ) (start end : State) (events : List Event) (other_start other_end : State) (other_events : List Event)
     → IsStart start → Runs start events end
     → IsStart other_start → Runs other_start other_events other_end
-    → Agree (holdings s start.world events) (holdings s other_start.world other_events)
+    → holdings s start.world events ≡ holdings s other_start.world other_events
     → replies_of end s ≡ replies_of other_end s
 
 -- at every moment of every list of events from a start

@@ -56,10 +56,14 @@ to_settle (Pinned pin) = None
 to_settle (Holding hold) = Some (Holding (settled_at hold))
 to_settle (Asking hold inquiry) = Some (Asking (settled_at hold) inquiry)
 
+-- a request of which no block is read yet
+abbrev pub new_inquiry : Request → Inquiry
+new_inquiry request = record { request = request; next = 0; read = [] }
+
 abbrev pub to_ask : Request → SessionState → Option SessionState
 to_ask request Idle = None
 to_ask request (Pinned pin) = None
-to_ask request (Holding hold) = Some (Asking hold (record { request = request; next = 0; read = [] }))
+to_ask request (Holding hold) = Some (Asking hold (new_inquiry request))
 to_ask request (Asking hold inquiry) = None
 
 -- the heap's present edges of the next block are added to what was read

@@ -16,7 +16,7 @@ use crate::replying::{replies_at, reply};
 use crate::sessions::{
     ask, copy_pins, enter, held_in, least_pin, pin, pin_in, read, release, settle, state_at,
 };
-use crate::states::{Parts, SessionState};
+use crate::states::{Parts, SessionState, no_items};
 use crate::{Event, OutOfMemory};
 use epoch_blocks::{Opening, Status, Step, fill_block, plan_post, recycle_block, take_block};
 use graph_model::{AskError, Batch, Content, Edge, List, Reply};
@@ -222,6 +222,14 @@ fn listed_numbers(alloc: Global, lists: &[(u32, List<Edge>)]) -> Result<Vec<usiz
     Ok(numbers)
 }
 
+/// The edges of a list, copied.
+fn copied(alloc: Global, edges: &List<Edge>) -> Result<List<Edge>, AllocError>
+    ensures { IfOk result (λ copy. copy ≡ edges.now) }
+{
+    let items = Vec::from_slice(alloc, edges.as_slice())?;
+    Ok(List::of(items))
+}
+
 /// Puts each list of edges at its block's number.
 fn fill_lists(
     alloc: Global,
@@ -232,8 +240,8 @@ fn fill_lists(
     ensures { OnOk result (heap.new.items ≡ heap_with lists.now heap.old.items) }
 {
     for list in lists {
-        let edges = Vec::from_slice(alloc, list.1.as_slice())?;
-        heap[list.0 as usize] = List::of(edges);
+        let edges = copied(alloc, &list.1)?;
+        heap[list.0 as usize] = edges;
     }
     Ok(())
 }
@@ -253,13 +261,13 @@ fn empty_opening(alloc: Global) -> Opening
     ensures { result ≡ worlds.empty_opening }
 {
     let content = Content {
-        names: List::of(Vec::new(alloc)),
-        kinds: List::of(Vec::new(alloc)),
-        edges: List::of(Vec::new(alloc)),
+        names: no_items(alloc),
+        kinds: no_items(alloc),
+        edges: no_items(alloc),
     };
     Opening {
         content,
-        blocks: List::of(Vec::new(alloc)),
+        blocks: no_items(alloc),
     }
 }
 
@@ -268,7 +276,7 @@ fn empty_lists<T: Drop>(alloc: Global, count: usize) -> Result<Vec<List<T>>, All
 {
     let mut lists = Vec::new(alloc);
     while lists.len() < count {
-        lists.push(List::of(Vec::new(alloc)))?;
+        lists.push(no_items(alloc))?;
     }
     Ok(lists)
 }
@@ -276,11 +284,7 @@ fn empty_lists<T: Drop>(alloc: Global, count: usize) -> Result<Vec<List<T>>, All
 fn free_blocks(alloc: Global, count: usize) -> Result<Vec<Status>, AllocError>
     ensures { IfOk result (λ v. v.items ≡ replicate count Free) }
 {
-    let mut status = Vec::new(alloc);
-    while status.len() < count {
-        status.push(Status::Free)?;
-    }
-    Ok(status)
+    vec![in alloc; Status::Free; count]
 }
 
 fn idle_sessions(alloc: Global, count: usize) -> Result<Vec<SessionState>, AllocError>

@@ -7,7 +7,7 @@ ghost use Rattle.epoch_core.specs.Machine as machine;
 ghost use Rattle.epoch_blocks.specs.Blocks.{Stepped, changed_at};
 ghost use Rattle.epoch_core.specs.declared.states.SessionState.TheVariants.{Idle};
 
-use crate::states::{Answer, Hold, Inquiry, SessionState};
+use crate::states::{Answer, Hold, Inquiry, SessionState, no_items};
 use epoch_blocks::{Opening, Step, Version, blocks_at, content_with};
 use graph_model::{AskError, List, Reply};
 use reference_graph::plain_reply;
@@ -71,7 +71,7 @@ fn push_to(alloc: Global, list: &mut List<Answer>, answer: Answer) -> Result<(),
     ensures added { OnOk result (list.new ≡ list.old ++ answer ∷ []) }
     ensures unchanged { OnErr result (list.new ≡ list.old) }
 {
-    let before = mem::replace(list, List::of(Vec::new(alloc)));
+    let before = mem::replace(list, no_items(alloc));
     let mut answers = before.into_vec();
     match answers.push(answer) {
         Ok(()) => {

@@ -6,7 +6,7 @@ ghost use Rattle.epoch_core.specs.Worlds as worlds;
 ghost use Rattle.epoch_blocks.specs.Blocks.{Stepped, changed_at};
 ghost use Rattle.epoch_core.specs.declared.states.SessionState.TheVariants.{Idle};
 
-use crate::states::{Hold, Inquiry, SessionState};
+use crate::states::{Hold, Inquiry, SessionState, no_items};
 use epoch_blocks::{Opening, Step, Version, blocks_at, edges_at};
 use graph_model::{Edge, List, Request};
 use pin_copy::{PinCopy, SEATS};
@@ -193,6 +193,17 @@ pub(crate) fn settle(sessions: &mut Vec<SessionState>, session: usize) -> Step
     settle_state(&mut sessions[session])
 }
 
+/// A request of which no block is read yet.
+fn new_inquiry(alloc: Global, request: &Request) -> Result<Inquiry, AllocError>
+    ensures { IfOk result (λ inquiry. inquiry ≡ machine.new_inquiry request.now) }
+{
+    Ok(Inquiry {
+        request: request.clone()?,
+        next: 0,
+        read: no_items(alloc),
+    })
+}
+
 /// A session that holds a version asks a request of it.
 pub(crate) fn ask(
     alloc: Global,
@@ -210,11 +221,7 @@ pub(crate) fn ask(
     match &sessions[session] {
         SessionState::Holding(hold) => {
             let hold = *hold;
-            let inquiry = Inquiry {
-                request: request.clone()?,
-                next: 0,
-                read: List::of(Vec::new(alloc)),
-            };
+            let inquiry = new_inquiry(alloc, request)?;
             sessions[session] = SessionState::Asking(hold, inquiry);
             Ok(Step::Done)
         }

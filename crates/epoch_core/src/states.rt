@@ -1,5 +1,7 @@
 //! The parts of the machine's state.
 
+ghost use Rattle.std.specs.Prelude.{◌≡◌, []};
+
 use epoch_blocks::{Opening, Status, Version};
 use graph_model::{AskError, Edge, List, Reply, Request};
 use pin_copy::PinCopy;
@@ -8,8 +10,15 @@ use std::alloc::Global;
 /// A reply, or the refusal that stands in its place.
 pub(crate) type Answer = Result<Reply, AskError>;
 
+/// A list without items. It takes no memory.
+pub(crate) fn no_items<T>(alloc: Global) -> List<T>
+    ensures { result ≡ [] }
+{
+    List::of(Vec::new(alloc))
+}
+
 /// What a session that holds a version has: its pin, and the number of the version.
-#[derive(Clone, Copy, Debug, PartialEq, Eq)]
+#[derive(Clone, Copy)]
 pub(crate) struct Hold {
     pub(crate) pin: u64,
     /// Whether the pin was moved up to the version's number.
@@ -18,7 +27,7 @@ pub(crate) struct Hold {
 }
 
 /// A request, and how far the blocks of the held version are read for it.
-#[derive(Debug, Drop)]
+#[derive(Drop)]
 pub(crate) struct Inquiry {
     pub(crate) request: Request,
     /// How many blocks are read.
@@ -28,7 +37,7 @@ pub(crate) struct Inquiry {
 }
 
 /// Where a session stands.
-#[derive(Debug, Drop)]
+#[derive(Drop)]
 pub(crate) enum SessionState {
     /// It has no pin.
     Idle,
