@@ -1,33 +1,28 @@
 -- What all shards leave is what the batch leaves of the version.
-use Rattle.std.proofs.Common.{◌≡◌, ◌≢◌, ℕ, zero, suc, ◌+◌, ◌<◌, ◌≤◌, ◌==◌, Bool, true, false, cond, ◌||◌, List, [], ◌∷◌, ◌++◌}
-use Rattle.std.proofs.Common.{length, length-append, map, flat_map, zip, count_by, replicate, refl, sym, ap, ap₂, ◌∙◌, arith}
+use Rattle.std.proofs.Common.{◌≡◌, ◌≢◌, ℕ, suc, ◌+◌, ◌<◌, ◌≤◌, ◌==◌, Bool, true, false, List, [], ◌∷◌, ◌++◌}
+use Rattle.std.proofs.Common.{length, length-append, map, flat_map, zip, count_by, replicate, refl, sym, ap, ◌∙◌, arith}
 use Rattle.std.proofs.Common.{subst, All, AllPairs, ltb}
-use Rattle.std.specs.List.{sum_by, range_with_len, AllZip, list_any}
-use Rattle.std.proofs.lemmas.Bool.{eqb-true, ltb-true, ltb-false, true≢false}
-use Rattle.std.proofs.lemmas.List.{length-map, map-append}
-use Rattle.std.proofs.lemmas.Grind.{flat_map-append}
+use Rattle.std.specs.List.{range_with_len, AllZip}
+use Rattle.std.proofs.lemmas.Bool.{ltb-true, ltb-false}
+use Rattle.std.proofs.lemmas.List.{length-map}
 use Rattle.std.proofs.lemmas.List.FromFn.{length-range_with_len}
-use Rattle.std.proofs.lemmas.List.Sums.{sum_by-cons}
-use Rattle.std.proofs.lemmas.List.Elements.{All-head, All-tail, All-nil, All-append}
 use Rattle.graph_model.specs.Graph.{Graph}
 use Rattle.graph_model.specs.Limits.{name_limit, kind_limit, batch_limit, operation_limit}
 use Rattle.std.specs.FinMap.{len}
 use Rattle.graph_model.specs.Step.{after_all, outcomes, left_by}
 use Rattle.graph_model.specs.declared.batches.NamedOp.{NamedOp}
-use Rattle.graph_model.specs.declared.batches.Outcome.{Outcome}
 use Rattle.graph_model.specs.declared.batches.Outcome.TheVariants.{Absent}
 use Rattle.edge_block.specs.Slots.{BlockView}
 use Rattle.vertex_names.specs.Book.{Book}
-use Rattle.block_layout.specs.Rows.{Shape, OpenBlock, shape_of, row_at, IsRow, untouched}
-use Rattle.block_layout.specs.Batches.{Resolved, resolved, outcomes_all, opened, layout_after, rows_all, sum_below}
+use Rattle.block_layout.specs.Rows.{OpenBlock, shape_of, row_at, IsRow}
+use Rattle.block_layout.specs.Batches.{Resolved, resolved, outcomes_all, opened, layout_after}
 use Rattle.block_layout.specs.Batches.{IsWithin, IsLayoutOf}
 use Rattle.block_layout.proofs.GraphLaws.{batch_layout}
 use Rattle.row_pages.specs.Rows as rows
 use Rattle.row_pages.specs.Rows.{row_of}
 use Rattle.batch_shards.specs.RowBlocks.{block_of, blocks_of, numbers_of}
-use Rattle.batch_shards.specs.Closing.{row_values}
 use Rattle.batch_shards.specs.Done.{IsShardDone, Exchanges, sources_in, rows_by}
-use Rattle.batch_shards.specs.Births.{births_end, births_dropped, later_births, open_row, births_after, dropped_births}
+use Rattle.batch_shards.specs.Births.{births_end, births_dropped, open_row, births_after, dropped_births}
 use Rattle.batch_shards.specs.declared.shard.Shard.{Shard}
 use Rattle.batch_shards.specs.declared.shard.ShardDone.{ShardDone}
 use Rattle.graph_version.specs.Versions.{VersionView, IsVersion, IsBlockOf, AreRowsOf, content, layout_of, is_in}
@@ -36,269 +31,26 @@ use Rattle.graph_version.specs.Drafts.{DraftView, drafted_over, with_batch, IsWh
 use Rattle.graph_version.proofs.Few.{few_total}
 use Rattle.batch_plan.specs.Shards.{IsShardOf}
 use Rattle.batch_plan.specs.Planned.{MeetsNeitherLimit}
-use Rattle.batch_apply.specs.Plans.{written, written_all}
+use Rattle.batch_apply.specs.Plans.{written_all}
 use Rattle.batch_shards.specs.Groups.{told}
 use Rattle.batch_apply.specs.Sums.{ArePlanned}
 use Rattle.batch_apply.specs.Applied.{IsApplied, ReplacesRows, row_among, written_from}
 use Rattle.batch_apply.specs.declared.applied.Applied.{Applied}
 use Rattle.batch_apply.proofs.Told.{told_exact}
-use Rattle.batch_apply.proofs.Totals.{count_more}
 use Rattle.batch_apply.proofs.Written.{all_written, all_sources}
 use Rattle.batch_apply.proofs.Together.{all_once, all_within, once, quiet_layout, batch_totals, outcomes_over}
-use Rattle.batch_apply.proofs.Together.{shard_outcomes_at, shard_layout_at, shard_births_at, quiet_row, births_sum, together_at}
-use Rattle.batch_apply.proofs.Placed.{times, sources_of, among_is}
-use Rattle.batch_apply.proofs.Kept.{count_append, count_map, pairs, exchanged_all}
+use Rattle.batch_apply.proofs.Together.{quiet_row, births_sum, together_at}
+use Rattle.batch_apply.proofs.Placed.{times, among_is}
+use Rattle.batch_apply.proofs.Kept.{count_append, pairs, exchanged_all}
 use Rattle.batch_apply.specs.Jobs.{IsDealt, AreDone}
 use Rattle.batch_apply.specs.declared.workers.Job.{Job}
 use Rattle.batch_apply.proofs.Dealt.{length-resolved, shards_in, needs_of, dealt_planned, done_in, fresh_in}
-
--- Births
-
-in_left : (m : ℕ) (xs ys : List ℕ) → is_in m xs ≡ true → is_in m (xs ++ ys) ≡ true
-in_left m [] ys is = cc
-in_left m (x ∷ xs) ys is = elim (x == m) as (λ t. (t || is_in m xs) ≡ true → (t || is_in m (xs ++ ys)) ≡ true) [
-  | true ↦ λ _. refl
-  | false ↦ λ rest. in_left m xs ys rest
-] is
-
-in_right : (m : ℕ) (xs ys : List ℕ) → is_in m ys ≡ true → is_in m (xs ++ ys) ≡ true
-in_right m [] ys is = is
-in_right m (x ∷ xs) ys is = elim (x == m) as (λ t. (t || is_in m (xs ++ ys)) ≡ true) [
-  | true ↦ refl
-  | false ↦ in_right m xs ys is
-]
-
-map_same : (h f : BlockView → ℕ) (bs : List BlockView) → All (λ b. h b ≡ f b) bs → map h bs ≡ map f bs
-map_same h f [] same = refl
-map_same h f (b ∷ bs) same = ap₂ (λ x xs. x ∷ xs) (All-head (λ b. h b ≡ f b) b bs same)
-    (map_same h f bs (All-tail (λ b. h b ≡ f b) b bs same))
-
-untouched_births : (f : BlockView → ℕ) (n : ℕ) (bs : List BlockView)
-    → births_end n (map untouched (map shape_of bs)) (map f bs) ≡ map f bs
-untouched_births f n [] = refl
-untouched_births f n (b ∷ bs) = ap (λ ls. f b ∷ ls) (untouched_births f n bs)
-
-untouched_dropped : (row : List Shape) (births : List ℕ) → births_dropped (map untouched row) births ≡ []
-untouched_dropped [] births = refl
-untouched_dropped (b ∷ row) births = untouched_dropped row (later_births births)
-
-count_births : (q : ℕ → Bool) (ops : List NamedOp) (g : Graph) (layout : ℕ → List Shape) (births : ℕ → List ℕ) (n : ℕ)
-    → count_by q (dropped_births ops g layout births n)
-    ≡ sum_below n (λ source. count_by q (births_dropped (open_row ops g layout source) (births source)))
-count_births q ops g layout births zero = refl
-count_births q ops g layout births (suc n) =
-    count_append q (births_dropped (open_row ops g layout n) (births n)) (dropped_births ops g layout births n)
-    ∙ ap (λ k. count_by q (births_dropped (open_row ops g layout n) (births n)) + k) (count_births q ops g layout births n)
-
-count_pieces : {A : Type 0} (q : ℕ → Bool) (f : BlockView → ℕ) (pieces : A → List BlockView) (xs : List A)
-    → count_by q (map f (flat_map pieces xs)) ≡ sum_by (λ x. count_by q (map f (pieces x))) xs
-count_pieces q f pieces [] = refl
-count_pieces q f pieces (x ∷ xs) =
-    ap (count_by q) (map-append f (pieces x) (flat_map pieces xs)) ∙ count_append q (map f (pieces x)) (map f (flat_map pieces xs))
-    ∙ ap (λ k. count_by q (map f (pieces x)) + k) (count_pieces q f pieces xs)
-    ∙ sym (sum_by-cons (λ x. count_by q (map f (pieces x))) x xs)
-
-count_lists : (q : ℕ → Bool) (h : ℕ → List ℕ) (xs : List ℕ) → count_by q (flat_map h xs) ≡ sum_by (λ s. count_by q (h s)) xs
-count_lists q h [] = refl
-count_lists q h (x ∷ xs) =
-    count_append q (h x) (flat_map h xs) ∙ ap (λ k. count_by q (h x) + k) (count_lists q h xs)
-    ∙ sym (sum_by-cons (λ s. count_by q (h s)) x xs)
-
--- Numbers
-
-not_in : (n : ℕ) (xs : List ℕ) → list_any (λ c. c == n) xs ≡ false → times n xs ≡ 0
-not_in n [] none = refl
-not_in n (x ∷ xs) none =
-    let c = count_more (λ y. y == n) x xs in
-    elim (x == n) as (λ b. (b || list_any (λ c. c == n) xs) ≡ false → times n (x ∷ xs) ≡ cond b 1 0 + times n xs
-    → times n (x ∷ xs) ≡ 0) [
-      | true ↦ λ e. absurd (true≢false e)
-      | false ↦ λ e is. let rest = not_in n xs e in omega (arith, is, rest)
-    ] none c
-
-unlisted_here : (m : ℕ) (numbers before : List ℕ) → All (λ n. is_in n before ≡ false) numbers → 1 ≤ times m numbers
-    → times m before ≡ 0
-unlisted_here m [] before all some = absurd (omega (arith, some))
-unlisted_here m (n ∷ numbers) before all some =
-    let c = count_more (λ y. y == m) n numbers in
-    elim (n == m) as (λ b. n == m ≡ b → times m (n ∷ numbers) ≡ cond b 1 0 + times m numbers → times m before ≡ 0) [
-      | true ↦ λ t e. subst (λ k. times k before ≡ 0) (eqb-true n m t)
-          (not_in n before (All-head (λ n. is_in n before ≡ false) n numbers all))
-      | false ↦ λ t e. unlisted_here m numbers before (All-tail (λ n. is_in n before ≡ false) n numbers all)
-          (omega (arith, some, e))
-    ] refl c
-
-numbers_once : (before after : List BlockView) (taken : List ℕ) (dropped : List BlockView) (numbers : List ℕ)
-    → Exchanges before after taken dropped
-    → ((m : ℕ) → times m (rows.numbers_of before) ≤ 1) → ((m : ℕ) → times m taken ≤ times m numbers)
-    → ((m : ℕ) → times m numbers ≤ 1)
-    → All (λ n. is_in n (rows.numbers_of before) ≡ false) numbers → (m : ℕ) → times m (rows.numbers_of after) ≤ 1
-numbers_once before after taken dropped numbers e b t n all m =
-    let p : BlockView → Bool = λ x. x.number == m in
-    let b1 = b m in
-    let t1 = t m in
-    let n1 = n m in
-    let c1 = e.before_are p in
-    let c2 = e.after_are p in
-    let m1 = count_map (λ x. x == m) (λ (x : BlockView). x.number) before in
-    let m2 = count_map (λ x. x == m) (λ (x : BlockView). x.number) after in
-    let m3 = count_map (λ x. x == m) (λ (x : BlockView). x.number) e.fresh in
-    let same : times m (map (λ (x : BlockView). x.number) e.fresh) ≡ times m taken = ap (times m) e.taken_are in
-    elim (times m numbers) as (λ k. times m numbers ≡ k → times m (rows.numbers_of after) ≤ 1) [
-      | zero ↦ λ z. omega (arith, z, b1, t1, c1, c2, m1, m2, m3, same)
-      | suc k ↦ λ z. let none = unlisted_here m numbers (rows.numbers_of before) all (omega (arith, z)) in omega
-          (arith, none, n1, t1, c1, c2, m1, m2, m3, same)
-    ] refl
-
--- What shards leave, one after another
-
-length_flat : {X A : Type 0} (f : X → List A) (xs : List X) → length (flat_map f xs) ≡ sum_by (λ x. length (f x)) xs
-length_flat f [] = refl
-length_flat f (x ∷ xs) = length-append (f x) (flat_map f xs) ∙ ap (λ n. length (f x) + n) (length_flat f xs)
-    ∙ sym (sum_by-cons (λ x. length (f x)) x xs)
-
-sum_each : {X : Type 0} (f h : X → ℕ) → ((x : X) → f x ≡ h x) → (xs : List X) → sum_by f xs ≡ sum_by h xs
-sum_each f h each [] = refl
-sum_each f h each (x ∷ xs) = sum_by-cons f x xs ∙ ap₂ (λ a b. a + b) (each x) (sum_each f h each xs) ∙ sym (sum_by-cons h x xs)
-
-abbrev pub rows_left : List ShardDone → List (ℕ × List BlockView)
-rows_left dones = flat_map (λ d. row_values d.rows.items) dones
-
-abbrev pub taken_left : List ShardDone → List ℕ
-taken_left dones = flat_map (λ d. d.left.taken.items) dones
-
-abbrev pub dropped_left : List ShardDone → List BlockView
-dropped_left dones = flat_map (λ d. blocks_of d.left.dropped.items) dones
-
-abbrev pub unused_left : List ShardDone → List ℕ
-unused_left dones = flat_map (λ d. numbers_of d.left.unused.items) dones
-
-abbrev pub fresh_all : List Shard → List ℕ
-fresh_all shards = flat_map (λ s. numbers_of s.fresh.items) shards
-
-nothing_exchanged : Exchanges [] [] [] []
-nothing_exchanged = record { kept = []; fresh = []; taken_are = refl; before_are = λ p. refl; after_are = λ p. refl }
-
-both_exchanged : (b c b' c' : List BlockView) (t t' : List ℕ) (d d' : List BlockView) → Exchanges b c t d
-    → Exchanges b' c' t' d' → Exchanges (b ++ b') (c ++ c') (t ++ t') (d ++ d')
-both_exchanged b c b' c' t t' d d' e e' = record {
-  kept = e.kept ++ e'.kept;
-  fresh = e.fresh ++ e'.fresh;
-  taken_are = map-append (λ (b : BlockView). b.number) e.fresh e'.fresh ∙ ap₂ (λ x y. x ++ y) e.taken_are e'.taken_are;
-  before_are = λ p.
-      omega (arith, e.before_are p, e'.before_are p, count_append p e.kept e'.kept, count_append p d d', count_append p b b');
-  after_are = λ p.
-      omega (
-        arith,
-        e.after_are p,
-        e'.after_are p,
-        count_append p e.kept e'.kept,
-        count_append p e.fresh e'.fresh,
-        count_append p c c',
-      );
-}
-
-module _ (before : ℕ → List BlockView) where
-  sources_left : (shards : List Shard) (dones : List ShardDone) → AllZip (IsShardDone before) shards dones
-      → sources_of (rows_left dones) ≡ flat_map sources_in shards
-  sources_left [] [] z = refl
-  sources_left [] (d ∷ dones) z = absurd z
-  sources_left (s ∷ shards) [] z = absurd z
-  sources_left (s ∷ shards) (d ∷ dones) z =
-      map-append (λ (r : ℕ × List BlockView). r.0) (row_values d.rows.items) (rows_left dones)
-      ∙ ap₂ (λ a b. a ++ b) z.0.sources_are (sources_left shards dones z.1)
-
-  blocks_left : (shards : List Shard) (dones : List ShardDone) → AllZip (IsShardDone before) shards dones
-      → All (λ r. All (IsBlockOf r.0) r.1) (rows_left dones)
-  blocks_left [] [] z = All-nil (λ (r : ℕ × List BlockView). All (IsBlockOf r.0) r.1)
-  blocks_left [] (d ∷ dones) z = absurd z
-  blocks_left (s ∷ shards) [] z = absurd z
-  blocks_left (s ∷ shards) (d ∷ dones) z =
-      All-append (λ (r : ℕ × List BlockView). All (IsBlockOf r.0) r.1) (row_values d.rows.items) (rows_left dones) z.0.blocks
-      (blocks_left shards dones z.1)
-
-  exchanged_left : (shards : List Shard) (dones : List ShardDone) → AllZip (IsShardDone before) shards dones
-      → Exchanges (flat_map before (flat_map sources_in shards)) (flat_map (λ r. r.1) (rows_left dones)) (taken_left dones)
-      (dropped_left dones)
-  exchanged_left [] [] z = nothing_exchanged
-  exchanged_left [] (d ∷ dones) z = absurd z
-  exchanged_left (s ∷ shards) [] z = absurd z
-  exchanged_left (s ∷ shards) (d ∷ dones) z =
-      subst (λ b. Exchanges b (flat_map (λ r. r.1) (rows_left (d ∷ dones))) (taken_left (d ∷ dones)) (dropped_left (d ∷ dones)))
-      (sym (flat_map-append before (sources_in s) (flat_map sources_in shards)))
-      (subst (λ c. Exchanges (flat_map before (sources_in s) ++ flat_map before (flat_map sources_in shards)) c
-      (taken_left (d ∷ dones)) (dropped_left (d ∷ dones)))
-      (sym (flat_map-append (λ (r : ℕ × List BlockView). r.1) (row_values d.rows.items) (rows_left dones)))
-      (both_exchanged (flat_map before (sources_in s)) (flat_map (λ r. r.1) (row_values d.rows.items))
-      (flat_map before (flat_map sources_in shards)) (flat_map (λ r. r.1) (rows_left dones))
-      d.left.taken.items (taken_left dones) (blocks_of d.left.dropped.items) (dropped_left dones) z.0.exchanged
-      (exchanged_left shards dones z.1)))
-
-  handed_left : (shards : List Shard) (dones : List ShardDone) → AllZip (IsShardDone before) shards dones
-      → (q : ℕ → Bool) → count_by q (taken_left dones) + count_by q (unused_left dones) ≡ count_by q (fresh_all shards)
-  handed_left [] [] z q = refl
-  handed_left [] (d ∷ dones) z q = absurd z
-  handed_left (s ∷ shards) [] z q = absurd z
-  handed_left (s ∷ shards) (d ∷ dones) z q =
-      omega (
-        arith,
-        z.0.handed q,
-        handed_left shards dones z.1 q,
-        count_append q d.left.taken.items (taken_left dones),
-        count_append q (numbers_of d.left.unused.items) (unused_left dones),
-        count_append q (numbers_of s.fresh.items) (fresh_all shards),
-      )
-
-  module _ (workers : ℕ) (ops : List NamedOp) (g : Graph) (layout : ℕ → List Shape) where
-    abbrev rs : List Resolved
-    rs = resolved ops g.names g.kinds
-
-    layouts_left : (a k : ℕ) (shards : List Shard) (dones : List ShardDone)
-        → AllZip (IsShardOf workers rs layout) (range_with_len a k) shards → AllZip (IsShardDone before) shards dones
-        → All (λ r. map shape_of r.1 ≡ layout_after ops g (λ s. map shape_of (before s)) r.0) (rows_left dones)
-    layouts_left a zero [] [] p z = All-nil (λ (r : ℕ × List BlockView). map shape_of r.1 ≡ layout_after ops g
-        (λ s. map shape_of (before s)) r.0)
-    layouts_left a k [] (d ∷ dones) p z = absurd z
-    layouts_left a zero (s ∷ shards) dones p z = absurd p
-    layouts_left a (suc k) [] dones p z = absurd p
-    layouts_left a k (s ∷ shards) [] p z = absurd z
-    layouts_left a (suc k) (s ∷ shards) (d ∷ dones) p z =
-        All-append (λ (r : ℕ × List BlockView). map shape_of r.1 ≡ layout_after ops g (λ s. map shape_of (before s)) r.0)
-        (row_values d.rows.items) (rows_left dones)
-        (shard_layout_at workers a ops g layout before s d p.0 z.0) (layouts_left (a + 1) k shards dones p.1 z.1)
-
-    births_left : (f h : BlockView → ℕ) (n a k : ℕ) (shards : List Shard) (dones : List ShardDone)
-        → ((b : BlockView) → is_in b.number (taken_left dones) ≡ true → h b ≡ n)
-        → AllZip (IsShardOf workers rs layout) (range_with_len a k) shards → AllZip (IsShardDone before) shards dones
-        → All (λ r. All (λ b. h b ≡ f b) (before r.0) → map h r.1
-        ≡ births_end n (rows_all rs (opened (λ s. map shape_of (before s))) r.0) (map f (before r.0))) (rows_left dones)
-    births_left f h n a zero [] [] each p z = All-nil (λ (r : ℕ × List BlockView). All (λ b. h b ≡ f b) (before r.0) → map h r.1
-        ≡ births_end n (rows_all rs (opened (λ s. map shape_of (before s))) r.0) (map f (before r.0)))
-    births_left f h n a k [] (d ∷ dones) each p z = absurd z
-    births_left f h n a zero (s ∷ shards) dones each p z = absurd p
-    births_left f h n a (suc k) [] dones each p z = absurd p
-    births_left f h n a k (s ∷ shards) [] each p z = absurd z
-    births_left f h n a (suc k) (s ∷ shards) (d ∷ dones) each p z =
-        All-append (λ (r : ℕ × List BlockView). All (λ b. h b ≡ f b) (before r.0) → map h r.1
-        ≡ births_end n (rows_all rs (opened (λ s. map shape_of (before s))) r.0) (map f (before r.0)))
-        (row_values d.rows.items) (rows_left dones)
-        (shard_births_at workers a ops g layout before s d p.0 z.0 f h n
-        (λ b is. each b (in_left b.number d.left.taken.items (taken_left dones) is)))
-        (births_left f h n (a + 1) k shards dones
-        (λ b is. each b (in_right b.number d.left.taken.items (taken_left dones) is)) p.1 z.1)
-
-    outcomes_left : (a k : ℕ) (shards : List Shard) (dones : List ShardDone)
-        → AllZip (IsShardOf workers rs layout) (range_with_len a k) shards → AllZip (IsShardDone before) shards dones
-        → (xs : List Outcome) → written_from dones xs
-        ≡ written_all workers a (map sources_in shards) rs (opened (λ s. map shape_of (before s))) xs
-    outcomes_left a zero [] [] p z xs = refl
-    outcomes_left a k [] (d ∷ dones) p z xs = absurd z
-    outcomes_left a zero (s ∷ shards) dones p z xs = absurd p
-    outcomes_left a (suc k) [] dones p z xs = absurd p
-    outcomes_left a k (s ∷ shards) [] p z xs = absurd z
-    outcomes_left a (suc k) (s ∷ shards) (d ∷ dones) p z xs =
-        ap (λ os. written_from dones (written os xs)) (shard_outcomes_at workers a ops g layout before s d p.0 z.0)
-        ∙ outcomes_left (a + 1) k shards dones p.1 z.1 _
+use Rattle.batch_apply.proofs.BirthCounts.{map_same, untouched_births, untouched_dropped, count_births, count_pieces}
+use Rattle.batch_apply.proofs.BirthCounts.{count_lists}
+use Rattle.batch_apply.proofs.Numbers.{numbers_once}
+use Rattle.batch_apply.proofs.Left.{length_flat, sum_each, rows_left, taken_left, dropped_left, unused_left, fresh_all}
+use Rattle.batch_apply.proofs.Left.{sources_left, blocks_left, exchanged_left, handed_left, layouts_left, births_left}
+use Rattle.batch_apply.proofs.Left.{outcomes_left}
 
 all_shards : (shards : List Shard) → all_sources (map sources_in shards) ≡ flat_map sources_in shards
 all_shards [] = refl

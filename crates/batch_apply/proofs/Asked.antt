@@ -18,8 +18,7 @@ use Rattle.row_pages.specs.Rows.{row_of, blocks_of}
 use Rattle.batch_shards.specs.Done.{layout_by, sources_in, steps_in}
 use Rattle.batch_shards.specs.Groups.{is_expiry}
 use Rattle.batch_shards.specs.Shards.{resolved_at, resolved_in}
-use Rattle.batch_shards.specs.Spending.{time_of, old_blocks}
-use Rattle.batch_shards.specs.Spending as spending
+use Rattle.batch_shards.specs.Spending.{old_blocks}
 use Rattle.batch_shards.specs.declared.shard.Act.{Act}
 use Rattle.batch_shards.specs.declared.shard.Act.TheVariants as act
 use Rattle.batch_shards.specs.declared.shard.Shard.{Shard}
@@ -28,6 +27,7 @@ use Rattle.batch_plan.specs.Planned.{IsPlan}
 use Rattle.batch_plan.specs.Shards.{acts, unsourced, latest, IsShardOf}
 use Rattle.batch_plan.specs.declared.plans.Plan.{Plan}
 use Rattle.batch_plan.proofs.Growth.{other_number}
+use Rattle.batch_plan.proofs.Listing.{same_latest}
 use Rattle.batch_apply.proofs.Totals.{count_more}
 use Rattle.batch_apply.proofs.Together.{all_once}
 use Rattle.batch_apply.proofs.Placed.{times}
@@ -132,41 +132,20 @@ module _ (workers : ℕ) where
       omega (arith, edge_more own key change rs a k, hits_few (shard_of workers own) a k, few_edges rs a k)
   few_edges (InAll time ∷ rs) a k = omega (arith, expiry_more time rs a k, few_edges rs a k)
 
-  -- The greatest time of the expiries, each of which is in every shard
-
-  latest_shard : (w : ℕ) (rs : List Resolved) → latest (shard_ops workers w rs) ≡ latest rs
-  latest_shard w [] = refl
-  latest_shard w (AtKey own key change ∷ rs) =
-      let ss : List Resolved = shard_ops workers w rs in
-      elim (shard_of workers own == w) as (λ b. latest (cond b (AtKey own key change ∷ ss) ss) ≡ latest ss) [
-        | true ↦ refl
-        | false ↦ refl
-      ] ∙ latest_shard w rs
-  latest_shard w (InAll time ∷ rs) = ap (max time) (latest_shard w rs)
-
-latest_acts : (rs : List Resolved) → latest (acts rs) ≡ latest rs
-latest_acts [] = refl
-latest_acts (AtKey own key change ∷ rs) = latest_acts rs
-latest_acts (InAll time ∷ rs) = ap (max time) (latest_acts rs)
-
-one_latest : (sources : List ℕ) (a : Act) (rs : List Resolved) → max (time_of a) (latest rs) ≡ latest (resolved_at sources a ∷ rs)
-one_latest sources (act.Edge place change) rs = omega arith
-one_latest sources (act.Expire time) rs = refl
-
-latest_steps : (sources : List ℕ) (steps : List Step) → spending.latest steps ≡ latest (resolved_in sources steps)
-latest_steps sources [] = refl
-latest_steps sources (s ∷ steps) =
-    ap (max (time_of s.act)) (latest_steps sources steps) ∙ one_latest sources s.act (resolved_in sources steps)
+-- The greatest time of a batch without expiries
 
 one_time : (ops : List NamedOp) (names kinds : List (List ℕ)) → list_any is_expire ops ≡ false
     → latest (resolved ops names kinds) ≡ 0
 one_time [] names kinds none = refl
 one_time (Insert kind source target weight time ∷ ops) names kinds none =
-    let op : NamedOp = Insert kind source target weight time in one_time ops (names_after op names) (kinds_after op kinds) none
+    let op : NamedOp = Insert kind source target weight time in
+    ap (max 0) (one_time ops (names_after op names) (kinds_after op kinds) none)
 one_time (Incr kind source target amount time ∷ ops) names kinds none =
-    let op : NamedOp = Incr kind source target amount time in one_time ops (names_after op names) (kinds_after op kinds) none
+    let op : NamedOp = Incr kind source target amount time in
+    ap (max 0) (one_time ops (names_after op names) (kinds_after op kinds) none)
 one_time (Remove kind source target ∷ ops) names kinds none =
-    let op : NamedOp = Remove kind source target in one_time ops (names_after op names) (kinds_after op kinds) none
+    let op : NamedOp = Remove kind source target in
+    ap (max 0) (one_time ops (names_after op names) (kinds_after op kinds) none)
 one_time (Expire time ∷ ops) names kinds none = absurd (true≢false none)
 
 -- Old blocks
@@ -224,8 +203,7 @@ module _ (workers : ℕ) (ops : List NamedOp) (g : Graph) (rows : List (List Blo
       (edges_steps (sources_in s) s.steps.items ∙ sym (edges_acts (steps_in s)) ∙ ap on_edges is.acts_are
       ∙ edges_acts (shard_ops workers w rs))
       (ap (λ (t : ℕ). sum_by (λ source. old_blocks t (row_of rows source)) (sources_in s))
-      (latest_steps (sources_in s) s.steps.items ∙ sym (latest_acts (steps_in s)) ∙ ap latest is.acts_are
-      ∙ latest_acts (shard_ops workers w rs) ∙ latest_shard workers w rs))
+      (same_latest workers w rs _ (sources_in s) s.steps.items is))
 
   sum_needs : (a k : ℕ) (shards : List Shard)
       → AllZip (IsShardOf workers rs (layout_by (row_of rows))) (range_with_len a k) shards

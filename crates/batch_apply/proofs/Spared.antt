@@ -91,7 +91,8 @@ all_higher a b le rs all k d lt = higher a b le (get_or rs k d) (all k d lt)
 
 up_to : (rs : List Resolved) → All (IsUpTo (latest rs)) rs
 up_to [] = All-nil (IsUpTo 0)
-up_to (AtKey of key change ∷ rs) = All-cons (IsUpTo (latest rs)) (AtKey of key change) rs tt (up_to rs)
+up_to (AtKey of key change ∷ rs) = All-cons (IsUpTo (max 0 (latest rs))) (AtKey of key change) rs tt
+    (all_higher (latest rs) (max 0 (latest rs)) (le-max_right 0 (latest rs)) rs (up_to rs))
 up_to (InAll time ∷ rs) = All-cons (IsUpTo (max time (latest rs))) (InAll time) rs (le-max_left time (latest rs))
     (all_higher (latest rs) (max time (latest rs)) (le-max_right time (latest rs)) rs (up_to rs))
 

@@ -165,12 +165,12 @@ max_zero n = omega arith
 
 latest_acts : (rs : List Resolved) → latest (acts rs) ≡ latest rs
 latest_acts [] = refl
-latest_acts (AtKey source key change ∷ rs) = latest_acts rs
+latest_acts (AtKey source key change ∷ rs) = ap (max 0) (latest_acts rs)
 latest_acts (InAll time ∷ rs) = ap (max time) (latest_acts rs)
 
 one_act : (sources : List ℕ) (act : Act) (rest : List Resolved) (n : ℕ) → latest rest ≡ n
     → latest (resolved_at sources act ∷ rest) ≡ max (time_of act) n
-one_act sources (Edge place change) rest n same = same ∙ sym (max_zero n)
+one_act sources (Edge place change) rest n same = ap (max 0) same
 one_act sources (Expire time) rest n same = ap (max time) same
 
 latest_in : (sources : List ℕ) (steps : List Step) → latest (resolved_in sources steps) ≡ latest_step steps
@@ -183,9 +183,9 @@ latest_own workers w [] = refl
 latest_own workers w (AtKey source key change ∷ rs) =
     let own : List Resolved = shard_ops workers w rs in
     elim (is_in_shard workers w (AtKey source key change)) as
-    (λ b. latest (cond b (AtKey source key change ∷ own) own) ≡ latest rs) [
-      | true ↦ latest_own workers w rs
-      | false ↦ latest_own workers w rs
+    (λ b. latest (cond b (AtKey source key change ∷ own) own) ≡ max 0 (latest rs)) [
+      | true ↦ ap (max 0) (latest_own workers w rs)
+      | false ↦ latest_own workers w rs ∙ sym (max_zero (latest rs))
     ]
 latest_own workers w (InAll time ∷ rs) = ap (max time) (latest_own workers w rs)
 

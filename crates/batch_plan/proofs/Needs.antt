@@ -176,7 +176,7 @@ listed_all P (x ∷ xs) q all listed =
 
 one_time : (names kinds : List (List ℕ)) (op : Parts) (rs : List Resolved)
     → latest (resolve_parts names kinds op ∷ rs) ≡ max (time_in op) (latest rs)
-one_time names kinds (OfEdge change kind source target) rs = omega arith
+one_time names kinds (OfEdge change kind source target) rs = refl
 one_time names kinds (OfAll time) rs = refl
 
 -- the greatest time of the expiries is told before their names are resolved

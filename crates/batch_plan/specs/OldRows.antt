@@ -1,11 +1,10 @@
 -- The rows from which a batch's expiries may take edges.
-use Rattle.std.specs.Prelude.{◌≡◌, ◌≢◌, ℕ, ◌<◌, ◌%◌, ◌==◌, List, [], ◌∷◌, map, filter, max, All, AllPairs, true}
-use Rattle.std.specs.Prelude.{nat_eq}
+use Rattle.std.specs.Prelude.{◌≡◌, ◌≢◌, ℕ, ◌<◌, ◌%◌, ◌==◌, List, map, filter, All, AllPairs, true, nat_eq}
 use Rattle.std.specs.List.{list_any, sum_by}
 use Rattle.graph_model.specs.declared.batches.NamedOp.{NamedOp}
 use Rattle.edge_block.specs.Slots.{BlockView}
 use Rattle.block_layout.specs.Operations.{Parts, OfEdge, OfAll, parts_of}
-use Rattle.batch_shards.specs.Spending.{old_blocks}
+use Rattle.batch_shards.specs.Spending.{latest_by, old_blocks}
 use Rattle.batch_plan.specs.declared.old.OldRow.{OldRow}
 
 -- the greatest time of a batch's expiries, 0 where it has none
@@ -14,8 +13,7 @@ time_in (OfEdge change kind source target) = 0
 time_in (OfAll time) = time
 
 abbrev pub expiry_time : List NamedOp → ℕ
-expiry_time [] = 0
-expiry_time (op ∷ ops) = max (time_in (parts_of op)) (expiry_time ops)
+expiry_time ops = latest_by (λ op. time_in (parts_of op)) ops
 
 abbrev pub old_sources : List OldRow → List ℕ
 old_sources old = map (λ r. r.source.0) old

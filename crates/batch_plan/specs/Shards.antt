@@ -1,6 +1,6 @@
 -- The operations of a batch by worker.
 use Rattle.std.specs.Prelude.{◌≡◌, ◌≢◌, ℕ, ◌<◌, ◌%◌, List, [], ◌∷◌, ◌++◌, map, filter, length, if◌then◌else◌}
-use Rattle.std.specs.Prelude.{nat_eq, max, All, AllPairs, Bool, true}
+use Rattle.std.specs.Prelude.{nat_eq, All, AllPairs, Bool, true}
 use Rattle.std.specs.List.{enumerate_from, list_any}
 use Rattle.std.specs.declared.option.Option.{Option}
 use Rattle.std.specs.declared.option.Option.TheVariants.{None, Some}
@@ -10,6 +10,7 @@ use Rattle.block_layout.specs.Rows.{Shape}
 use Rattle.block_layout.specs.Batches.{Resolved, AtKey, InAll, is_in_shard, shard_ops}
 use Rattle.batch_shards.specs.Shards.{AreSteps, resolved_in}
 use Rattle.batch_shards.specs.Done.{sources_in}
+use Rattle.batch_shards.specs.Spending.{latest_by}
 use Rattle.batch_shards.specs.declared.shard.Shard.{Shard}
 use Rattle.batch_shards.specs.declared.shard.Step.{Step}
 
@@ -36,11 +37,14 @@ abbrev pub with_op : Resolved → List ℕ → List ℕ
 with_op (AtKey source key change) sources = with_source key sources
 with_op (InAll time) sources = sources
 
+-- the time of an expiry, 0 of another operation
+abbrev pub time_of : Resolved → ℕ
+time_of (AtKey source key change) = 0
+time_of (InAll time) = time
+
 -- the greatest time of the batch's expiries, 0 where it has none: no edge is from before that
 abbrev pub latest : List Resolved → ℕ
-latest [] = 0
-latest (AtKey source key change ∷ rs) = latest rs
-latest (InAll time ∷ rs) = max time (latest rs)
+latest rs = latest_by time_of rs
 
 -- whether a row has an edge that was last touched before a time
 abbrev pub is_old_row : ℕ → List Shape → Bool

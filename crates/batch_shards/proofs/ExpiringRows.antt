@@ -1,15 +1,15 @@
 -- An expiry of a row of the program's blocks.
-use Rattle.std.proofs.Common.{◌≡◌, ℕ, ◌+◌, ◌%◌, ◌^◌, ◌<◌, ◌≤◌, Bool, true, false, cond, List, map, length, get_or, set, take, count_by}
-use Rattle.std.proofs.Common.{refl, sym, ap, ◌∙◌, arith, subst, All}
+use Rattle.std.proofs.Common.{◌≡◌, ℕ, ◌+◌, ◌%◌, ◌^◌, ◌<◌, ◌≤◌, true, false, cond, List, length, get_or, set, take}
+use Rattle.std.proofs.Common.{sym, ap, ◌∙◌, arith, All}
 use Rattle.std.proofs.lemmas.List.Elements.{All-set}
 use Rattle.std.specs.List.{list_any, sum_by}
 use Rattle.std.specs.declared.option.Option.{Option}
 use Rattle.std.specs.declared.option.Option.TheVariants.{None, Some}
 use Rattle.std.proofs.lemmas.List.{map-set, get_or-map, length-map}
-use Rattle.edge_block.specs.Slots.{Slot, slots_since, has_before, old_in, holds}
-use Rattle.block_layout.specs.Rows.{OpenBlock, touch, expire_block, expire_row, old_in_row}
+use Rattle.edge_block.specs.Slots.{slots_since, has_before, old_in, holds}
+use Rattle.block_layout.specs.Rows.{OpenBlock, touch, expire_block, expire_row}
 use Rattle.batch_shards.specs.RowBlocks.{block_of, open_of, opens, IsOf}
-use Rattle.batch_shards.specs.Notes.{IsNoted, has_target}
+use Rattle.batch_shards.specs.Notes.{IsNoted}
 use Rattle.batch_shards.specs.Spending.{is_unspent, unspent}
 use Rattle.batch_shards.specs.declared.notes.Notes.{Notes}
 use Rattle.batch_shards.specs.declared.row_blocks.RowBlock.{RowBlock}

@@ -128,6 +128,11 @@ reached_push steps v i n long is are k lt =
           get_or_push v n 0 k (omega arith) ∙ is ∙ ap (λ j. latest (take (j + 1) steps)) (sym same)
     ] refl
 
+-- what is no expiry is no later one
+none_later : (since : ℕ) (act : Act) → is_expiry act ≡ false → is_later since act ≡ false
+none_later since (Edge place change) e = refl
+none_later since (Expire time) e = absurd (false≢true (sym e))
+
 module _ (steps : List Step) (reached : List ℕ) (are : AreReached steps reached) where
   pub reached_rises : (i j : ℕ) → i ≤ j → j < length reached → get_or reached i 0 ≤ get_or reached j 0
   reached_rises i j le lt =
@@ -164,10 +169,7 @@ module _ (steps : List Step) (reached : List ℕ) (are : AreReached steps reache
           | true ↦ λ t. not_reached since k s (omega (arith, next.within)) (low k (ltb-true k first t))
           | false ↦ λ t.
               let from : first ≤ k = ltb-false k first t in
-              of_none (get_or steps k s).act (next.between k s (omega arith) below)
+              none_later since (get_or steps k s).act (next.between k s (omega arith) below)
         ] refl;
     there = next.there;
-  } where
-    of_none : (act : Act) → is_expiry act ≡ false → is_later since act ≡ false
-    of_none (Edge place change) e = refl
-    of_none (Expire time) e = absurd (false≢true (sym e))
+  }

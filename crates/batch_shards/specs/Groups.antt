@@ -5,7 +5,7 @@ use Rattle.std.specs.declared.option.Option.{Option}
 use Rattle.std.specs.declared.option.Option.TheVariants.{None, Some}
 use Rattle.graph_model.specs.Graph.{Key}
 use Rattle.graph_model.specs.declared.batches.Outcome.{Outcome}
-use Rattle.graph_model.specs.declared.batches.Outcome.TheVariants.{Absent, Expired}
+use Rattle.graph_model.specs.declared.batches.Outcome.TheVariants.{Inserted, Updated, Removed, Absent, Overflow, Expired}
 use Rattle.block_layout.specs.Rows.{OpenBlock, expire_row, old_in_row}
 use Rattle.block_layout.specs.Batches.{outcomes_all, together, key_step, key_outcome}
 use Rattle.batch_shards.specs.Shards.{AreSteps, resolved_in}
@@ -79,8 +79,12 @@ pub record IsSourceRow (sources : List ℕ) (steps : List Step) (row source : �
 
 -- an outcome as the program tells it: it counts edges modulo 2 ^ 64
 abbrev pub told : Outcome → Outcome
+told Inserted = Inserted
+told Updated = Updated
+told Removed = Removed
+told Absent = Absent
+told Overflow = Overflow
 told (Expired count) = Expired (count % 2 ^ 64)
-told other = other
 
 -- the outcome of the k-th operation, where an expiry counts the edges of some of the sources
 abbrev pub outcome_over : List ℕ → List ℕ → List Step → (ℕ → List OpenBlock) → ℕ → Outcome

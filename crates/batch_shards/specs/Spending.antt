@@ -8,14 +8,18 @@ use Rattle.batch_shards.specs.declared.shard.Act.{Act}
 use Rattle.batch_shards.specs.declared.shard.Act.TheVariants.{Edge, Expire}
 use Rattle.batch_shards.specs.declared.shard.Step.{Step}
 
--- the greatest time of the expiries, 0 where there is none
+-- the greatest time that f tells of an element, 0 where there is none
+abbrev pub latest_by : {A : Type 0} → (A → ℕ) → List A → ℕ
+latest_by f [] = 0
+latest_by f (x ∷ xs) = max (f x) (latest_by f xs)
+
+-- the greatest time of the expiries
 abbrev pub time_of : Act → ℕ
 time_of (Edge place change) = 0
 time_of (Expire time) = time
 
 abbrev pub latest : List Step → ℕ
-latest [] = 0
-latest (s ∷ steps) = max (time_of s.act) (latest steps)
+latest steps = latest_by (λ s. time_of s.act) steps
 
 -- for each place, the greatest time of the expiries up to it
 pub record AreReached (steps : List Step) (reached : List ℕ) : Type 0 where

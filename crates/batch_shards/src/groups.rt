@@ -39,13 +39,17 @@ impl Groups {
     /// From a place on an expiry, or else the number of all operations: no expiry between them is of a time later than
     /// this one. So a row that has no edge from before that time is not changed by the expiries between.
     ///
-    /// It is found by a binary search, however many expiries there are.
+    /// It is found by a binary search, however many expiries there are, and without one where none is left.
     pub fn later_expiry(&self, place: usize, since: u64) -> usize
         requires place { place < length self.now.expiries.items }
         requires reached { length self.now.reached.items < length self.now.expiries.items }
         ensures { (steps : List Step) → AreExpiries 0 steps self.now.expiries.items
             → AreReached steps self.now.reached.items → LeadsTo (is_later since) is_expiry steps place result }
     {
+        let next = self.expiries[place];
+        if next == self.reached.len() {
+            return next;
+        }
         let first = self
             .reached
             .as_slice()

@@ -18,7 +18,8 @@ use Rattle.batch_apply.specs.Applied.{ReplacesRows, written_from}
 use Rattle.batch_apply.proofs.EdgeCounts.{len_after_all}
 use Rattle.batch_apply.specs.Jobs.{IsDealt}
 use Rattle.batch_apply.proofs.Dealt.{needs_of, dealt_ready}
-use Rattle.batch_apply.proofs.Applying.{rows_left, version_made, outcomes_made, applied_made}
+use Rattle.batch_apply.proofs.Applying.{version_made, outcomes_made, applied_made}
+use Rattle.batch_apply.proofs.Left.{rows_left}
 use Rattle.batch_apply.proofs.Applying.{draft_is, draft_among, draft_whole, edges_left}
 use Rattle.batch_apply.proofs.applied.apply.Goals as goal
 

@@ -1,4 +1,4 @@
-use Rattle.std.proofs.Common.{◌≡◌, ◌≤◌, length}
+use Rattle.std.proofs.Common.{◌≤◌, length}
 use Rattle.batch_shards.specs.Groups.{AreExpiries}
 use Rattle.batch_shards.proofs.groups.expiries_of.Given as goal
 

@@ -1,9 +1,7 @@
-use Rattle.std.proofs.Common.{◌≡◌, ℕ, ◌+◌, ◌<◌, ◌≤◌, List, refl, sym, ap, ◌∙◌, arith, rules, subst, get_or, length, map, take, vec_len, All}
-use Rattle.std.proofs.lemmas.List.{take_all, length-map}
-use Rattle.std.specs.List.{sum_by}
-use Rattle.edge_block.specs.Slots.{old_in}
+use Rattle.std.proofs.Common.{◌≡◌, ℕ, ◌<◌, List, refl, ap, ◌∙◌, arith, rules, subst, get_or, length, vec_len}
+use Rattle.std.proofs.lemmas.List.{length-map}
 use Rattle.block_layout.specs.Rows.{OpenBlock, expire_block}
-use Rattle.batch_shards.specs.RowBlocks.{block_of, open_of, opens, had_here, numbers_of, own_here, HaveSame, IsOf}
+use Rattle.batch_shards.specs.RowBlocks.{open_of, opens, had_here, numbers_of, own_here, HaveSame}
 use Rattle.batch_shards.specs.Spending.{unspent}
 use Rattle.batch_shards.specs.declared.row_blocks.RowBlock.{RowBlock}
 use Rattle.batch_shards.proofs.Places.{flat_map-set}

@@ -1,5 +1,5 @@
 use Rattle.row_pages.specs.Rows.{row_of}
-use Rattle.batch_shards.proofs.Finish.{own_blocks}
+use Rattle.batch_shards.proofs.Beginnings.{own_blocks}
 use Rattle.batch_shards.proofs.shard.blocks_at.Goals as goal
 
 pub returns-clause-own : goal.returns-clause-own

@@ -15,7 +15,7 @@ use Rattle.batch_shards.specs.Shards.{AreSteps}
 use Rattle.batch_shards.specs.Closing.{row_values}
 use Rattle.batch_shards.specs.Done.{layout_by}
 use Rattle.batch_shards.specs.declared.shard.OpenRow.{OpenRow}
-use Rattle.batch_shards.proofs.Finish.{kept_all}
+use Rattle.batch_shards.proofs.Beginnings.{kept_all}
 use Rattle.batch_shards.proofs.SourceSteps.{past_more}
 use Rattle.batch_shards.proofs.Expiring.{opened_owes, needed_row}
 use Rattle.batch_shards.specs.Spending.{latest, unspent, old_blocks}

@@ -14,7 +14,8 @@ use Rattle.batch_shards.specs.Groups.{none_told}
 use Rattle.std.specs.declared.sync.Arc.{Arc}
 use Rattle.std.specs.declared.alloc.Global.{Global}
 use Rattle.edge_block.specs.declared.blocks.Block.{Block}
-use Rattle.batch_shards.proofs.Finish.{finish, few_past, none_yet}
+use Rattle.batch_shards.proofs.Beginnings.{few_past, none_yet}
+use Rattle.batch_shards.proofs.Finish.{finish}
 use Rattle.batch_shards.proofs.shard.work_on.Goals as goal
 
 pub loop-row-init : goal.loop-row-init

@@ -1,0 +1,113 @@
+-- What stays, is dropped, is written and is handed back adds up, block by block and row by row.
+use Rattle.std.proofs.Common.{◌≡◌, ℕ, ◌+◌, Bool, true, false, cond, not, ◌&&◌, List, [], ◌∷◌, ◌++◌}
+use Rattle.std.proofs.Common.{map, flat_map, count_by, refl, ap, ◌∙◌, arith}
+use Rattle.std.specs.Option.{option_to_list}
+use Rattle.std.proofs.lemmas.List.{map-append}
+use Rattle.edge_block.specs.Slots.{BlockView}
+use Rattle.block_layout.specs.Rows.{shape_of, has_none}
+use Rattle.batch_shards.specs.RowBlocks.{block_of, had_here, had_in, own_here, own_in}
+use Rattle.batch_shards.specs.Closing.{after_here, stays_here, written_here, dropped_here, unused_here, after_of, stays_of}
+use Rattle.batch_shards.specs.Closing.{written_of, dropped_of, unused_of, stays_all, written_all}
+use Rattle.batch_shards.specs.Closing.{dropped_all, unused_all}
+use Rattle.batch_shards.specs.Shards.{had_all}
+use Rattle.batch_shards.specs.Shards.{own_all}
+use Rattle.batch_shards.specs.declared.row_blocks.RowBlock.{RowBlock}
+use Rattle.batch_shards.specs.declared.shard.OpenRow.{OpenRow}
+use Rattle.batch_shards.proofs.Places.{count_by-append}
+
+-- what balances in each element balances in the whole list
+pub balance : {X A : Type 0} (p : A → Bool) (a b c d : X → List A)
+    → ((x : X) → count_by p (a x) + count_by p (b x) ≡ count_by p (c x) + count_by p (d x)) → (xs : List X)
+    → count_by p (flat_map a xs) + count_by p (flat_map b xs) ≡ count_by p (flat_map c xs) + count_by p (flat_map d xs)
+balance p a b c d each [] = refl
+balance p a b c d each (x ∷ xs) =
+    let one = each x in
+    let rest = balance p a b c d each xs in
+    let i = count_by-append p (a x) (flat_map a xs) in
+    let j = count_by-append p (b x) (flat_map b xs) in
+    let k = count_by-append p (c x) (flat_map c xs) in
+    let l = count_by-append p (d x) (flat_map d xs) in
+    omega arith
+
+pub map-pieces : {X A B : Type 0} (f : A → B) (g : X → List A) (xs : List X)
+    → map f (flat_map g xs) ≡ flat_map (λ x. map f (g x)) xs
+map-pieces f g [] = refl
+map-pieces f g (x ∷ xs) = map-append f (g x) (flat_map g xs) ∙ ap (λ r. map f (g x) ++ r) (map-pieces f g xs)
+
+none_of : {X A : Type 0} (xs : List X) → (let f : X → List A = λ _. [] in flat_map f xs) ≡ []
+none_of [] = refl
+none_of (x ∷ xs) = none_of xs
+
+-- what adds up in each element adds up in the whole list
+adds_up : {X A : Type 0} (p : A → Bool) (a b c : X → List A)
+    → ((x : X) → count_by p (a x) + count_by p (b x) ≡ count_by p (c x)) → (xs : List X)
+    → count_by p (flat_map a xs) + count_by p (flat_map b xs) ≡ count_by p (flat_map c xs)
+adds_up p a b c each [] = refl
+adds_up p a b c each (x ∷ xs) =
+    let one = each x in
+    let rest = adds_up p a b c each xs in
+    let i = count_by-append p (a x) (flat_map a xs) in
+    let j = count_by-append p (b x) (flat_map b xs) in
+    let k = count_by-append p (c x) (flat_map c xs) in
+    omega arith
+
+-- one block: it stays or is dropped, and what stays or is written is there after
+one_before : (t : Bool) (b : BlockView) (o : List BlockView) (p : BlockView → Bool)
+    → count_by p (cond t [] (b ∷ [])) + count_by p (cond t o []) ≡ count_by p (cond t o (b ∷ []))
+one_before true b o p = omega arith
+one_before false b o p = omega arith
+
+one_after : (t n : Bool) (b : BlockView) (p : BlockView → Bool)
+    → count_by p (cond t [] (b ∷ [])) + count_by p (cond (t && not n) (b ∷ []) []) ≡ count_by p (cond (t && n) [] (b ∷ []))
+one_after true true b p = omega arith
+one_after true false b p = omega arith
+one_after false n b p = omega arith
+
+row_before : (p : BlockView → Bool) (row : List RowBlock) → count_by p (stays_of row) + count_by p (dropped_of row)
+    ≡ count_by p (had_in row)
+row_before p row = adds_up p stays_here dropped_here had_here
+    (λ h. one_before h.touched (block_of h.block) (map block_of (option_to_list h.before)) p) row
+
+row_after : (p : BlockView → Bool) (row : List RowBlock) → count_by p (stays_of row) + count_by p (written_of row)
+    ≡ count_by p (after_of row)
+row_after p row = adds_up p stays_here written_here after_here
+    (λ h. one_after h.touched (has_none (shape_of (block_of h.block))) (block_of h.block) p) row
+
+pub all_before : (work : List OpenRow) (p : BlockView → Bool) → count_by p (stays_all work) + count_by p (dropped_all work)
+    ≡ count_by p (had_all work)
+all_before work p = adds_up p (λ (r : OpenRow). stays_of r.blocks.items) (λ (r : OpenRow). dropped_of r.blocks.items)
+    (λ (r : OpenRow). had_in r.blocks.items) (λ r. row_before p r.blocks.items) work
+
+pub all_after : (work : List OpenRow) (p : BlockView → Bool) → count_by p (stays_all work) + count_by p (written_all work)
+    ≡ count_by p (flat_map (λ r. after_of r.blocks.items) work)
+all_after work p = adds_up p (λ (r : OpenRow). stays_of r.blocks.items) (λ (r : OpenRow). written_of r.blocks.items)
+    (λ (r : OpenRow). after_of r.blocks.items) (λ r. row_after p r.blocks.items) work
+
+-- one block: each number is kept or handed back
+one_number : (t n : Bool) (b : BlockView) (q : ℕ → Bool)
+    → count_by q (map (λ b. b.number) (cond (t && not n) (b ∷ []) [])) + count_by q (cond (t && n) (b.number ∷ []) [])
+    ≡ count_by q (cond t (b.number ∷ []) []) + count_by q []
+one_number true true b q = omega arith
+one_number true false b q = omega arith
+one_number false n b q = refl
+
+row_numbers : (q : ℕ → Bool) (row : List RowBlock)
+    → count_by q (map (λ b. b.number) (written_of row)) + count_by q (unused_of row) ≡ count_by q (own_in row)
+row_numbers q row =
+    let sum = balance q (λ (h : RowBlock). map (λ b. b.number) (written_here h)) unused_here own_here (λ _. [])
+    (λ h. one_number h.touched (has_none (shape_of (block_of h.block))) (block_of h.block) q) row in
+    let pieces = ap (count_by q) (map-pieces (λ (b : BlockView). b.number) written_here row) in
+    let nothing : count_by q (let f : RowBlock → List ℕ = λ _. [] in flat_map f row) ≡ 0 =
+    ap (count_by q) (none_of {A = ℕ} row) in
+    omega arith
+
+pub all_numbers : (q : ℕ → Bool) (work : List OpenRow)
+    → count_by q (map (λ b. b.number) (written_all work)) + count_by q (unused_all work) ≡ count_by q (own_all work)
+all_numbers q work =
+    let sum = balance q (λ (r : OpenRow). map (λ b. b.number) (written_of r.blocks.items))
+    (λ (r : OpenRow). unused_of r.blocks.items) (λ (r : OpenRow). own_in r.blocks.items) (λ _. [])
+    (λ r. row_numbers q r.blocks.items ∙ (omega arith)) work in
+    let pieces = ap (count_by q) (map-pieces (λ (b : BlockView). b.number) (λ (r : OpenRow). written_of r.blocks.items) work) in
+    let nothing : count_by q (let f : OpenRow → List ℕ = λ _. [] in flat_map f work) ≡ 0 =
+    ap (count_by q) (none_of {A = ℕ} work) in
+    omega arith

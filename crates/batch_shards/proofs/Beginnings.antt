@@ -1,0 +1,99 @@
+-- Before a shard's first row is done: the rows as they are opened, no outcome yet, and the blocks that are needed.
+use Rattle.std.proofs.Common.{◌≡◌, ℕ, ◌≤◌, true, false, not, List, [], ◌∷◌}
+use Rattle.std.proofs.Common.{length, get_or}
+use Rattle.std.proofs.Common.{map, refl, sym, ap, ◌∙◌, arith, subst, All}
+use Rattle.std.proofs.Common.{take}
+use Rattle.std.specs.declared.option.Option.TheVariants.{None, Some}
+use Rattle.std.specs.declared.sync.Arc.{Arc}
+use Rattle.std.specs.declared.alloc.Global.{Global}
+use Rattle.std.proofs.lemmas.Bool.{false≢true, le-ltb}
+use Rattle.std.proofs.lemmas.List.{get_or-map, get_or_default, length-map}
+use Rattle.graph_model.specs.declared.batches.Outcome.{Outcome}
+use Rattle.block_layout.specs.Batches.{opened, rows_all, outcome_in}
+use Rattle.std.proofs.lemmas.List.Elements.{All-nil}
+use Rattle.edge_block.specs.declared.blocks.Block.{Block}
+use Rattle.edge_block.specs.Slots.{BlockView}
+use Rattle.block_layout.specs.Rows.{OpenBlock, shape_of, untouched}
+use Rattle.batch_shards.specs.RowBlocks.{block_of, blocks_of, kept_of, opens, had_in}
+use Rattle.batch_shards.specs.RowBlocks.{numbers_of, IsOf}
+use Rattle.batch_shards.specs.Closing.{row_values}
+use Rattle.batch_shards.specs.Shards.{resolved_at, resolved_in}
+use Rattle.batch_shards.specs.Groups.{is_past, is_expiry, told, none_told}
+use Rattle.batch_shards.specs.Spending.{needed, needed_past}
+use Rattle.batch_shards.specs.declared.shard.Act.{Act}
+use Rattle.batch_shards.specs.declared.shard.Act.TheVariants.{Edge, Expire}
+use Rattle.batch_shards.specs.Progress.{AreOutcomes, AreRowsDone}
+use Rattle.batch_shards.specs.declared.shard.Step.{Step}
+use Rattle.graph_version.specs.Versions.{IsBlockOf}
+use Rattle.batch_shards.specs.Done.{layout_by}
+use Rattle.batch_shards.specs.declared.shard.ShardDone.{ShardDone}
+use Rattle.batch_shards.specs.declared.shard.OpenRow.{OpenRow}
+use Rattle.batch_shards.proofs.ShardSteps.{first_step}
+use Rattle.batch_shards.proofs.SourceSteps.{outcome_of}
+use Rattle.batch_shards.proofs.Expiring.{count_wider}
+
+-- the row that is opened
+pub kept_all : (bs : List (Arc Block Global)) → map kept_of bs ≡ map untouched (map shape_of (blocks_of bs))
+kept_all [] = refl
+kept_all (b ∷ bs) = ap (λ hs. kept_of b ∷ hs) (kept_all bs)
+
+pub own_blocks : (bs : List (Arc Block Global)) (row : List BlockView) (source : ℕ) → blocks_of bs ≡ row
+    → All (IsBlockOf source) row → All (λ b. (block_of b).source ≡ source) bs
+own_blocks bs row source e all k d lt =
+    let long : length (blocks_of bs) ≡ length bs = length-map bs block_of in
+    ap (λ (b : BlockView). b.source) (sym (get_or-map block_of bs k d (block_of d) lt))
+    ∙ (subst (λ r. All (IsBlockOf source) r) (sym e) all k (block_of d) (omega arith)).source_is
+
+-- before the first row is opened no operation in a row has an outcome, each other one is absent, and an expiry has counted none
+pub none_written : (rows : ℕ → List BlockView) (sources : List ℕ) (steps : List Step)
+    → AreOutcomes sources steps rows 0 (map (λ s. (s.op, none_told s.act)) steps)
+none_written rows sources steps = record {
+  places = places steps;
+  are = λ k s o lt past.
+      ap (λ (p : ℕ × Outcome). p.1) (get_or-map (λ (s : Step). (s.op, none_told s.act)) steps k first_step o lt)
+      ∙ none (get_or steps k first_step).act
+      (ap (λ (s : Step). is_past 0 s.act) (get_or_default steps k first_step s lt) ∙ past) (rows_all (resolved_in sources
+      (take k steps)) (opened (layout_by rows)))
+      ∙ sym (ap told (outcome_of [] sources steps k (opened (layout_by rows)) lt));
+} where
+  places : (steps : List Step) → map (λ (o : ℕ × Outcome). o.0) (map (λ (s : Step). (s.op, none_told s.act)) steps)
+      ≡ map (λ (s : Step). s.op) steps
+  places [] = refl
+  places (s ∷ steps) = ap (λ ops. s.op ∷ ops) (places steps)
+
+  none : (act : Act) → is_past 0 act ≡ false → (now : ℕ → List OpenBlock)
+      → none_told act ≡ told (outcome_in [] (resolved_at sources act) now)
+  none (Edge None change) past now = refl
+  none (Edge (Some p) change) past now = absurd (false≢true (sym past ∙ ap not (le-ltb p.row 0 (omega arith))))
+  none (Expire time) past now = refl
+
+-- what is needed before the first row
+pub few_past : (rows : ℕ → List BlockView) (sources : List ℕ) (steps : List Step) → needed_past 0 rows sources steps
+    ≤ needed rows sources steps
+few_past rows sources steps =
+    let h = count_wider (λ (s : Step). is_past 0 s.act) (λ (s : Step). not (is_expiry s.act)) (λ s. one s.act) steps in
+    omega arith where
+      one : (act : Act) → is_past 0 act ≡ true → not (is_expiry act) ≡ true
+      one (Edge place change) e = refl
+      one (Expire time) e = absurd (false≢true e)
+
+-- no row is done yet
+pub none_yet : (rows : ℕ → List BlockView) (sources : List ℕ) (steps : List Step) (fresh : List (Arc Block Global))
+    (done : ShardDone) → done.outcomes.items ≡ map (λ s. (s.op, none_told s.act)) steps → done.rows.items ≡ []
+    → done.left.taken.items ≡ [] → done.left.dropped.items ≡ [] → done.left.unused.items ≡ []
+    → AreRowsDone rows sources steps (numbers_of fresh) 0 fresh done
+none_yet rows sources steps fresh done outs closed taken dropped unused = record {
+  work = [];
+  sources_are = refl;
+  layout = All-nil (λ (r : OpenRow). opens r.blocks.items
+      ≡ rows_all (resolved_in sources steps) (opened (layout_by rows)) r.source.0);
+  own = All-nil (λ (r : OpenRow). All (IsOf r.source.0) r.blocks.items);
+  had = refl;
+  had_each = All-nil (λ (r : OpenRow). had_in r.blocks.items ≡ rows r.source.0);
+  numbers = λ q. omega arith;
+  outcomes = subst (AreOutcomes sources steps rows 0) (sym outs) (none_written rows sources steps);
+  closed = ap row_values closed;
+  taken = taken;
+  dropped = ap blocks_of dropped;
+  unused = ap numbers_of unused;
+}

@@ -1,0 +1,142 @@
+-- What closed rows are: their layout, how many blocks they took and dropped, and whose blocks they have.
+use Rattle.std.proofs.Common.{◌≡◌, ℕ, ◌+◌, Bool, true, false, cond, not, ◌&&◌, ◌||◌, List, [], ◌∷◌, ◌++◌}
+use Rattle.std.proofs.Common.{length}
+use Rattle.std.proofs.Common.{map, filter, flat_map, count_by, refl, sym, ap, ap₂, ◌∙◌, All, length-append}
+use Rattle.std.proofs.lemmas.List.Sums.{sum_by-cons}
+use Rattle.std.specs.Option.{is_some, option_to_list}
+use Rattle.std.specs.declared.option.Option.{Option}
+use Rattle.std.specs.declared.option.Option.TheVariants.{None, Some}
+use Rattle.std.specs.declared.sync.Arc.{Arc}
+use Rattle.std.specs.declared.alloc.Global.{Global}
+use Rattle.std.proofs.lemmas.List.Elements.{All-head, All-tail, All-cons, All-nil}
+use Rattle.edge_block.specs.declared.blocks.Block.{Block}
+use Rattle.edge_block.specs.Slots.{BlockView}
+use Rattle.block_layout.specs.Rows.{OpenBlock, shape_of, shapes, has_none, is_kept, row_end, taken_in, dropped_in}
+use Rattle.batch_shards.specs.RowBlocks.{block_of, open_of, opens, had_here, had_in}
+use Rattle.batch_shards.specs.RowBlocks.{IsOf}
+use Rattle.batch_shards.specs.Closing.{written_here, dropped_here, after_of}
+use Rattle.batch_shards.specs.Closing.{written_of, dropped_of, closed_rows}
+use Rattle.batch_shards.specs.Shards.{AreOpen, AreOwn, sources_of, had_all}
+use Rattle.graph_version.specs.Versions.{IsBlockOf}
+use Rattle.batch_shards.specs.Done.{sum_of}
+use Rattle.batch_shards.specs.declared.row_blocks.RowBlock.{RowBlock}
+use Rattle.batch_shards.specs.declared.shard.OpenRow.{OpenRow}
+
+-- the layout at the batch's end
+pub after_end : (row : List RowBlock) → map shape_of (after_of row) ≡ row_end (opens row)
+after_end [] = refl
+after_end (h ∷ row) =
+    let n : Bool = has_none (shape_of (block_of h.block)) in
+    elim (h.touched && n) as (λ b. map shape_of (cond b [] (block_of h.block ∷ []) ++ after_of row)
+    ≡ shapes (cond (not b) (open_of h ∷ filter is_kept (opens row)) (filter is_kept (opens row)))) [
+      | true ↦ after_end row
+      | false ↦ ap (λ ss. shape_of (block_of h.block) ∷ ss) (after_end row)
+    ]
+
+-- a count and a sum, with one more in front
+count_more : {A : Type 0} (p : A → Bool) (x : A) (xs : List A) → count_by p (x ∷ xs) ≡ cond (p x) 1 0 + count_by p xs
+count_more p x xs = sum_by-cons (λ x. cond (p x) 1 0) x xs
+
+pub length-written : (row : List RowBlock) → length (written_of row) ≡ taken_in (opens row)
+length-written [] = refl
+length-written (h ∷ row) =
+    length-append (written_here h) (written_of row)
+    ∙ ap₂ (λ a b. a + b) (one_written (h.touched && not (has_none (shape_of (block_of h.block)))) (block_of h.block))
+    (length-written row)
+    ∙ sym (count_more (λ (h : OpenBlock). h.touched && not (has_none h.shape)) (open_of h) (opens row)) where
+      one_written : (b : Bool) (x : BlockView) → length (cond b (x ∷ []) []) ≡ cond b 1 0
+      one_written true x = refl
+      one_written false x = refl
+
+one_dropped : (t : Bool) (o : Option (Arc Block Global)) → length (cond t (map block_of (option_to_list o)) [])
+    ≡ cond (t && (not t || is_some o)) 1 0
+one_dropped true None = refl
+one_dropped true (Some b) = refl
+one_dropped false o = refl
+
+pub length-dropped : (row : List RowBlock) → length (dropped_of row) ≡ dropped_in (opens row)
+length-dropped [] = refl
+length-dropped (h ∷ row) =
+    length-append (dropped_here h) (dropped_of row) ∙ ap₂ (λ a b. a + b) (one_dropped h.touched h.before) (length-dropped row)
+    ∙ sym (count_more (λ (h : OpenBlock). h.touched && h.had) (open_of h) (opens row))
+
+-- a sum over open rows is one over their sources
+pub sum_open : {A : Type 0} (f : RowBlock → List A) (g : List OpenBlock → ℕ) (rows : ℕ → List OpenBlock)
+    → ((row : List RowBlock) → length (flat_map f row) ≡ g (opens row))
+    → (work : List OpenRow) → AreOpen rows work → length (flat_map (λ r. flat_map f r.blocks.items) work)
+    ≡ sum_of (λ source. g (rows source)) (sources_of work)
+sum_open f g rows each [] all = refl
+sum_open f g rows each (r ∷ work) all =
+    length-append (flat_map f r.blocks.items) (flat_map (λ (r : OpenRow). flat_map f r.blocks.items) work)
+    ∙ ap₂ (λ a b. a + b) (each r.blocks.items ∙ ap g
+    (All-head (λ (r : OpenRow). opens r.blocks.items ≡ rows r.source.0) r work all))
+    (sum_open f g rows each work (All-tail (λ (r : OpenRow). opens r.blocks.items ≡ rows r.source.0) r work all))
+    ∙ sym (sum_by-cons (λ source. g (rows source)) r.source.0 (sources_of work))
+
+pub same_sources : (work : List OpenRow) → map (λ r. r.0) (closed_rows work) ≡ sources_of work
+same_sources [] = refl
+same_sources (r ∷ work) = ap (λ ss. r.source.0 ∷ ss) (same_sources work)
+
+pub pieces_closed : (work : List OpenRow) → flat_map (λ r. r.1) (closed_rows work) ≡ flat_map (λ r. after_of r.blocks.items) work
+pieces_closed [] = refl
+pieces_closed (r ∷ work) = ap (λ rest. after_of r.blocks.items ++ rest) (pieces_closed work)
+
+pub all_layout : (rows : ℕ → List OpenBlock) (work : List OpenRow) → AreOpen rows work
+    → All (λ r. map shape_of r.1 ≡ row_end (rows r.0)) (closed_rows work)
+all_layout rows [] all = All-nil (λ (r : ℕ × List BlockView). map shape_of r.1 ≡ row_end (rows r.0))
+all_layout rows (r ∷ work) all =
+    All-cons (λ (r : ℕ × List BlockView). map shape_of r.1 ≡ row_end (rows r.0)) (r.source.0, after_of r.blocks.items)
+    (closed_rows work)
+    (after_end r.blocks.items ∙ ap row_end (All-head (λ (r : OpenRow). opens r.blocks.items ≡ rows r.source.0) r work all))
+    (all_layout rows work (All-tail (λ (r : OpenRow). opens r.blocks.items ≡ rows r.source.0) r work all))
+
+abbrev pub HasEdges : BlockView → Type 0
+HasEdges b = has_none (shape_of b) ≡ false
+
+all_left : {A : Type 0} (P : A → Type 0) (xs ys : List A) → All P (xs ++ ys) → All P xs
+all_left P [] ys all = All-nil P
+all_left P (x ∷ xs) ys all = All-cons P x xs (All-head P x (xs ++ ys) all) (all_left P xs ys (All-tail P x (xs ++ ys) all))
+
+all_right : {A : Type 0} (P : A → Type 0) (xs ys : List A) → All P (xs ++ ys) → All P ys
+all_right P [] ys all = all
+all_right P (x ∷ xs) ys all = all_right P xs ys (All-tail P x (xs ++ ys) all)
+
+pub all_both : {A : Type 0} (P : A → Type 0) (xs ys : List A) → All P xs → All P ys → All P (xs ++ ys)
+all_both P [] ys a b = b
+all_both P (x ∷ xs) ys a b = All-cons P x (xs ++ ys) (All-head P x xs a) (all_both P xs ys (All-tail P x xs a) b)
+
+row_blocks : (source : ℕ) (row : List RowBlock) → All (IsOf source) row → All HasEdges (had_in row)
+    → All (IsBlockOf source) (after_of row)
+row_blocks source [] own had = All-nil (IsBlockOf source)
+row_blocks source (h ∷ row) own had =
+    let rest : All (IsBlockOf source) (after_of row) = row_blocks source row (All-tail (IsOf source) h row own)
+    (all_right HasEdges (had_here h) (had_in row) had) in
+    let here : All HasEdges (had_here h) = all_left HasEdges (had_here h) (had_in row) had in
+    let mine : (block_of h.block).source ≡ source = All-head (IsOf source) h row own in
+    let b : BlockView = block_of h.block in
+    let n : Bool = has_none (shape_of b) in
+    elim h.touched as (λ t. All HasEdges (cond t (map block_of (option_to_list h.before)) (b ∷ []))
+    → All (IsBlockOf source) (cond (t && n) [] (b ∷ []) ++ after_of row)) [
+      | true ↦ λ _. elim n as (λ m. n ≡ m → All (IsBlockOf source) (cond m [] (b ∷ []) ++ after_of row)) [
+        | true ↦ λ _. rest
+        | false ↦ λ e. All-cons (IsBlockOf source) b (after_of row) (record { source_is = mine; has_edges = e }) rest
+      ] refl
+      | false ↦ λ e. All-cons (IsBlockOf source) b (after_of row)
+          (record { source_is = mine; has_edges = All-head HasEdges b [] e }) rest
+    ] here
+
+pub all_blocks : (work : List OpenRow) → AreOwn work → All HasEdges (had_all work)
+    → All (λ r. All (IsBlockOf r.0) r.1) (closed_rows work)
+all_blocks [] own had = All-nil (λ (r : ℕ × List BlockView). All (IsBlockOf r.0) r.1)
+all_blocks (r ∷ work) own had =
+    All-cons (λ (r : ℕ × List BlockView). All (IsBlockOf r.0) r.1) (r.source.0, after_of r.blocks.items) (closed_rows work)
+    (row_blocks r.source.0 r.blocks.items (All-head (λ (r : OpenRow). All (IsOf r.source.0) r.blocks.items) r work own)
+    (all_left HasEdges (had_in r.blocks.items) (had_all work) had))
+    (all_blocks work (All-tail (λ (r : OpenRow). All (IsOf r.source.0) r.blocks.items) r work own)
+    (all_right HasEdges (had_in r.blocks.items) (had_all work) had))
+
+pub rows_edges : (row : ℕ → List BlockView) → ((source : ℕ) → All (IsBlockOf source) (row source)) → (sources : List ℕ)
+    → All HasEdges (flat_map row sources)
+rows_edges row each [] = All-nil HasEdges
+rows_edges row each (s ∷ sources) = all_both HasEdges (row s) (flat_map row sources) (λ k d lt. (each s k d lt).has_edges)
+    (rows_edges row each sources)
