@@ -16,7 +16,7 @@ use Rattle.block_pool.specs.Pools.{Status, Free, Granted, Used, Retired, is_free
 use Rattle.block_pool.specs.Pools.{is_used_at, is_born_at, marked, changed, AreFree}
 use Rattle.epoch_blocks.specs.Blocks.{all_differ}
 use Rattle.epoch_blocks.proofs.Lists.{all_listed}
-use Rattle.store_steps.specs.Journal.{Entry, Applied, Ledger, empty_ledger, is_legal, after_entry, entered, exchanged, replay}
+use Rattle.store_steps.specs.Journal.{Entry, Applied, Ledger, opened_ledger, is_legal, after_entry, entered, exchanged, replay}
 use Rattle.store_steps.specs.Desks.{DeskView, IsDesk, IsAppliedTo, IsAccepted, FollowsBirths, birth_at, desk_after, last_numbers}
 use Rattle.store_steps.specs.Desks.{ledger_of}
 use Rattle.store_steps.proofs.NumberLists.{all_from, all_by, differ_from, number_in}
@@ -430,6 +430,7 @@ births_followed a = record {
 
 pub made_accepted : (a : Application) → IsAccepted a.old a.ops a.taken (dropped_numbers a) (next_desk a)
 made_accepted a = record {
+  opened = refl;
   opening = a.applied.opening;
   journal = refl;
   legal = is_legal_in a;
@@ -453,8 +454,8 @@ made_desk a = record {
       let same : length (next_desk a).pool ≡ length a.old.pool =
       length-changed (retired (number_in_desk a)) (dropped_numbers a) (marked a.taken (Used (number_in_desk a)) a.old.pool)
       ∙ length-marked a.taken (Used (number_in_desk a)) a.old.pool in
-      ap (λ n. replay (a.old.journal ++ entry_in a ∷ []) (empty_ledger n)) same
-      ∙ replay_more a.old.journal (entry_in a) (empty_ledger (length a.old.pool))
+      ap (λ n. replay (a.old.journal ++ entry_in a ∷ []) (opened_ledger n a.old.opened)) same
+      ∙ replay_more a.old.journal (entry_in a) (opened_ledger (length a.old.pool) a.old.opened)
       ∙ ap (option_and_then (λ m. entered m (entry_in a))) a.before.replays
       ∙ ap (λ t. if t then Some (after_entry (ledger_of a.old) (entry_in a)) else None) (is_legal_in a)
       ∙ ap Some (λ i. record { batches = sym a.applied.batches i; pool = (next_desk a).pool });

@@ -27,6 +27,7 @@ pub shows_sessions : (d : DeskView) (w : World) (sessions : List SessionState) �
     → Shows d (record w { sessions = sessions })
 shows_sessions d w sessions shown = record {
   opening = shown.opening;
+  opened = shown.opened;
   batches = shown.batches;
   blocks = shown.blocks;
   edges = shown.edges;
@@ -37,6 +38,7 @@ shows_sessions d w sessions shown = record {
 pub shows_floored : (d : DeskView) (w : World) → Shows d w → Shows d (floored w)
 shows_floored d w shown = record {
   opening = shown.opening;
+  opened = shown.opened;
   batches = shown.batches;
   blocks = shown.blocks;
   edges = shown.edges;

@@ -1,6 +1,6 @@
 -- A collection leaves a desk.
 use Rattle.std.proofs.Common.{◌≡◌, ℕ, zero, suc, ◌+◌, ◌<◌, ◌≤◌, ◌==◌, true, false, cond, List, [], ◌∷◌, ◌++◌, length, map}
-use Rattle.std.proofs.Common.{count_by, refl, sym, ap, ap₂, subst, ◌∙◌, arith, ◌||◌}
+use Rattle.std.proofs.Common.{count_by, refl, sym, ap, ap₂, subst, ◌∙◌, arith}
 use Rattle.std.specs.Prelude.{slice_get, if◌then◌else◌, nat_le, nat_lt}
 use Rattle.std.specs.Option.{option_map, option_and_then}
 use Rattle.std.specs.declared.option.Option.{Option}
@@ -15,7 +15,7 @@ use Rattle.pin_copy.specs.declared.copies.PinCopy.{PinCopy}
 use Rattle.block_pool.specs.Pools.{Status, Free, Granted, Used, Retired, is_retired, is_past, is_born, passes, recycled}
 use Rattle.block_pool.proofs.Tallies.{count_more}
 use Rattle.epoch_blocks.proofs.Lists.{get_map}
-use Rattle.store_steps.specs.Journal.{Collected, Ledger, empty_ledger, is_legal, after_entry, entered, replay}
+use Rattle.store_steps.specs.Journal.{Collected, Ledger, opened_ledger, is_legal, after_entry, entered, replay}
 use Rattle.store_steps.specs.Desks.{DeskView, IsDesk, IsCollected, birth_at, births_in, ledger_of, collections}
 use Rattle.store_steps.proofs.NumberLists.{apart_test}
 use Rattle.store_steps.proofs.Accepting.{replay_more}
@@ -73,21 +73,22 @@ legal_if l copy count low some is =
 -- the desk after a collection
 abbrev pub desk_collected : DeskView → PinCopy → DeskView
 desk_collected d copy = record {
+  opened = d.opened;
   last = d.last;
   journal = d.journal ++ collections copy (count_by (is_past copy) d.pool);
   pool = map (recycled copy) d.pool;
 }
 
 replays_on : (d : DeskView) (copy : PinCopy) → IsDesk d → copy.last ≤ length d.last.batches → (n : ℕ) → count_by (is_past copy) d.pool ≡ n
-    → replay (d.journal ++ collections copy n) (empty_ledger (length d.pool))
+    → replay (d.journal ++ collections copy n) (opened_ledger (length d.pool) d.opened)
     ≡ Some (record { batches = d.last.batches; pool = map (recycled copy) d.pool })
 replays_on d copy desk low zero is =
-    ap (λ es. replay es (empty_ledger (length d.pool))) (append-nil d.journal) ∙ desk.replays
+    ap (λ es. replay es (opened_ledger (length d.pool) d.opened)) (append-nil d.journal) ∙ desk.replays
     ∙ ap (λ p. Some (record { batches = d.last.batches; pool = p })) (sym (same_if_none copy d.pool is))
 replays_on d copy desk low (suc n) is =
     let some : (suc n == 0) ≡ false = apart_test (suc n) 0 (λ e. absurd (omega arith)) in
-    ap (λ t. replay (d.journal ++ (if t then [] else Collected copy (suc n) ∷ [])) (empty_ledger (length d.pool))) some
-    ∙ replay_more d.journal (Collected copy (suc n)) (empty_ledger (length d.pool))
+    ap (λ t. replay (d.journal ++ (if t then [] else Collected copy (suc n) ∷ [])) (opened_ledger (length d.pool) d.opened)) some
+    ∙ replay_more d.journal (Collected copy (suc n)) (opened_ledger (length d.pool) d.opened)
     ∙ ap (option_and_then (λ m. entered m (Collected copy (suc n)))) desk.replays
     ∙ ap (λ t. if t then Some (after_entry (ledger_of d) (Collected copy (suc n))) else None)
     (legal_if (ledger_of d) copy (suc n) low (omega arith) (sym is))
@@ -96,7 +97,7 @@ pub collected_desk : (d : DeskView) (copy : PinCopy) → IsDesk d → copy.last 
 collected_desk d copy desk low = record {
   version = desk.version;
   replays =
-      ap (λ n. replay (d.journal ++ collections copy (count_by (is_past copy) d.pool)) (empty_ledger n))
+      ap (λ n. replay (d.journal ++ collections copy (count_by (is_past copy) d.pool)) (opened_ledger n d.opened))
       (length-map d.pool (recycled copy))
       ∙ replays_on d copy desk low (count_by (is_past copy) d.pool) refl;
   listed = λ n. ap (passes is_born) (get_map (recycled copy) d.pool n) ∙ born_recycled copy (slice_get d.pool n)
@@ -104,10 +105,15 @@ collected_desk d copy desk low = record {
 }
 
 pub is_collected : (d e : DeskView) (copy : PinCopy) → e ≡ desk_collected d copy → IsCollected d copy e
-is_collected d e copy is = record { last = ap (λ x. x.last) is; pool = ap (λ x. x.pool) is; journal = ap (λ x. x.journal) is }
+is_collected d e copy is = record {
+  opened = ap (λ x. x.opened) is;
+  last = ap (λ x. x.last) is;
+  pool = ap (λ x. x.pool) is;
+  journal = ap (λ x. x.journal) is;
+}
 
 is_desk_collected : (d e : DeskView) (copy : PinCopy) → IsCollected d copy e → e ≡ desk_collected d copy
-is_desk_collected d e copy is = λ i. record { last = is.last i; journal = is.journal i; pool = is.pool i }
+is_desk_collected d e copy is = λ i. record { opened = is.opened i; last = is.last i; journal = is.journal i; pool = is.pool i }
 
 pub collected_is_desk : (d e : DeskView) (copy : PinCopy) → IsDesk d → copy.last ≤ length d.last.batches → IsCollected d copy e → IsDesk e
 collected_is_desk d e copy desk low is = subst IsDesk (sym (is_desk_collected d e copy is)) (collected_desk d copy desk low)

@@ -197,10 +197,11 @@ status_collected copy old w n =
 shows_collected : (old new : DeskView) (copy : PinCopy) (w : World) → IsCollected old copy new → Shows old w
     → Shows new (collected_world copy old w)
 shows_collected old new copy w collected shows =
-    subst (λ v. Shows (record { last = v; journal = new.journal; pool = new.pool }) (collected_world copy old w))
-    (sym collected.last)
+    subst (λ v. Shows (record { opened = new.opened; last = v; journal = new.journal; pool = new.pool })
+    (collected_world copy old w)) (sym collected.last)
     (record {
       opening = shows.opening;
+      opened = shows.opened ∙ sym collected.opened;
       batches = shows.batches;
       blocks = shows.blocks;
       edges = shows.edges;

@@ -5,93 +5,112 @@ use Rattle.std.specs.Prelude.{slice_get, if◌then◌else◌}
 use Rattle.std.specs.Option.{option_map, option_and_then}
 use Rattle.std.specs.declared.option.Option.{Option}
 use Rattle.std.specs.declared.option.Option.TheVariants.{None, Some}
+use Rattle.std.proofs.lemmas.Bool.{true≢false}
 use Rattle.graph_model.specs.declared.batches.NamedOp.{NamedOp}
 use Rattle.graph_version.specs.Versions.{is_in}
 use Rattle.pin_copy.specs.declared.copies.PinCopy.{PinCopy}
 use Rattle.block_pool.specs.Pools.{Status, Free, Granted, Used, Retired, is_free, is_born, is_free_at, is_born_at, is_past, passes}
 use Rattle.block_pool.specs.Pools.{recycled}
 use Rattle.epoch_blocks.proofs.Lists.{all_listed, get_map}
-use Rattle.store_steps.specs.Journal.{Entry, Applied, Collected, Ledger, empty_ledger, is_legal, after_entry, exchanged, replay}
+use Rattle.store_steps.specs.Journal.{Entry, Applied, Collected, Ledger, opened_ledger, is_legal, after_entry, exchanged, replay}
 use Rattle.store_steps.specs.Desks.{DeskView, IsDesk, ledger_of}
 use Rattle.store_steps.specs.Dates.{IsDated, AreDated}
+use Rattle.store_steps.proofs.ChangedLists.{marked_at}
 use Rattle.store_steps.proofs.OneNumber.{number_after}
 use Rattle.store_steps.proofs.Accepting.{exchanged_at}
 use Rattle.store_steps.proofs.Posting.{IsLegalBatch, legal_batch}
 
 -- One number
 
-still_dated : (last : ℕ) (p : Option Status) → IsDated last p → IsDated (last + 1) p
-still_dated last None is = tt
-still_dated last (Some Free) is = tt
-still_dated last (Some Granted) is = is
-still_dated last (Some (Used b)) is = let low = is.1 in (is.0, omega arith)
-still_dated last (Some (Retired b v)) is = let low = is.2 in (is.0, is.1, omega arith)
+still_dated : (o : Bool) (last : ℕ) (p : Option Status) → IsDated o last p → IsDated o (last + 1) p
+still_dated o last None is = tt
+still_dated o last (Some Free) is = tt
+still_dated o last (Some Granted) is = is
+still_dated o last (Some (Used b)) is = let low = is.1 in (is.0, omega arith)
+still_dated o last (Some (Retired b v)) is = let low = is.2 in (is.0, is.1, omega arith)
 
-number_dated : (last : ℕ) (p : Option Status) (t d : Bool) → IsDated last p → (t ≡ true → passes is_free p ≡ true)
-    → (d ≡ true → passes is_born p ≡ true) → IsDated (last + 1) (number_after (last + 1) p t d)
-number_dated last None true true is f g = tt
-number_dated last None true false is f g = tt
-number_dated last None false true is f g = tt
-number_dated last None false false is f g = tt
-number_dated last (Some Free) true true is f g = let no = g refl in cc
-number_dated last (Some Free) true false is f g = (omega arith, omega arith)
-number_dated last (Some Free) false true is f g = let no = g refl in cc
-number_dated last (Some Free) false false is f g = tt
-number_dated last (Some Granted) t d is f g = absurd is
-number_dated last (Some (Used b)) true d is f g = let no = f refl in cc
-number_dated last (Some (Used b)) false true is f g = let low = is.1 in (is.0, omega arith, omega arith)
-number_dated last (Some (Used b)) false false is f g = still_dated last (Some (Used b)) is
-number_dated last (Some (Retired b v)) true d is f g = let no = f refl in cc
-number_dated last (Some (Retired b v)) false true is f g = let no = g refl in cc
-number_dated last (Some (Retired b v)) false false is f g = still_dated last (Some (Retired b v)) is
+number_dated : (o : Bool) (last : ℕ) (p : Option Status) (t d : Bool) → IsDated o last p
+    → (t ≡ true → passes is_free p ≡ true) → (d ≡ true → passes is_born p ≡ true)
+    → IsDated o (last + 1) (number_after (last + 1) p t d)
+number_dated o last None true true is f g = tt
+number_dated o last None true false is f g = tt
+number_dated o last None false true is f g = tt
+number_dated o last None false false is f g = tt
+number_dated o last (Some Free) true true is f g = let no = g refl in cc
+number_dated o last (Some Free) true false is f g = (λ e. omega arith, omega arith)
+number_dated o last (Some Free) false true is f g = let no = g refl in cc
+number_dated o last (Some Free) false false is f g = tt
+number_dated o last (Some Granted) t d is f g = absurd is
+number_dated o last (Some (Used b)) true d is f g = let no = f refl in cc
+number_dated o last (Some (Used b)) false true is f g = let low = is.1 in (is.0, omega arith, omega arith)
+number_dated o last (Some (Used b)) false false is f g = still_dated o last (Some (Used b)) is
+number_dated o last (Some (Retired b v)) true d is f g = let no = f refl in cc
+number_dated o last (Some (Retired b v)) false true is f g = let no = g refl in cc
+number_dated o last (Some (Retired b v)) false false is f g = still_dated o last (Some (Retired b v)) is
 
-recycled_dated : (last : ℕ) (copy : PinCopy) (p : Option Status) → IsDated last p → IsDated last (option_map (recycled copy) p)
-recycled_dated last copy None is = tt
-recycled_dated last copy (Some Free) is = tt
-recycled_dated last copy (Some Granted) is = absurd is
-recycled_dated last copy (Some (Used b)) is = is
-recycled_dated last copy (Some (Retired b v)) is =
-    elim (is_past copy (Retired b v)) as (λ t. IsDated last (Some (if t then Free else Retired b v))) [
+recycled_dated : (o : Bool) (last : ℕ) (copy : PinCopy) (p : Option Status) → IsDated o last p
+    → IsDated o last (option_map (recycled copy) p)
+recycled_dated o last copy None is = tt
+recycled_dated o last copy (Some Free) is = tt
+recycled_dated o last copy (Some Granted) is = absurd is
+recycled_dated o last copy (Some (Used b)) is = is
+recycled_dated o last copy (Some (Retired b v)) is =
+    elim (is_past copy (Retired b v)) as (λ t. IsDated o last (Some (if t then Free else Retired b v))) [
       | true ↦ tt
       | false ↦ is
     ]
 
 -- Entries
 
-batch_dated : (l : Ledger) (ops : List NamedOp) (taken dropped : List ℕ) → is_legal l (Applied ops taken dropped) ≡ true
-    → AreDated (length l.batches) l.pool
-    → AreDated (length l.batches + 1) (exchanged (length l.batches + 1) taken dropped l.pool)
-batch_dated l ops taken dropped is dated m =
+batch_dated : (opened : List ℕ) (l : Ledger) (ops : List NamedOp) (taken dropped : List ℕ)
+    → is_legal l (Applied ops taken dropped) ≡ true → AreDated opened (length l.batches) l.pool
+    → AreDated opened (length l.batches + 1) (exchanged (length l.batches + 1) taken dropped l.pool)
+batch_dated opened l ops taken dropped is dated m =
     let legal : IsLegalBatch l.pool taken dropped = legal_batch l ops taken dropped is in
-    subst (IsDated (length l.batches + 1))
+    subst (IsDated (is_in m opened) (length l.batches + 1))
     (sym (exchanged_at (length l.batches + 1) taken dropped l.pool m legal.dropped_apart))
-    (number_dated (length l.batches) (slice_get l.pool m) (is_in m taken) (is_in m dropped) (dated m)
+    (number_dated (is_in m opened) (length l.batches) (slice_get l.pool m) (is_in m taken) (is_in m dropped) (dated m)
     (λ t. all_listed (is_free_at l.pool) taken m legal.free t) (λ t. all_listed (is_born_at l.pool) dropped m legal.born t))
 
-entry_dated : (l : Ledger) (e : Entry) → is_legal l e ≡ true → AreDated (length l.batches) l.pool
-    → AreDated (length (after_entry l e).batches) (after_entry l e).pool
-entry_dated l (Applied ops taken dropped) is dated =
+entry_dated : (opened : List ℕ) (l : Ledger) (e : Entry) → is_legal l e ≡ true → AreDated opened (length l.batches) l.pool
+    → AreDated opened (length (after_entry l e).batches) (after_entry l e).pool
+entry_dated opened l (Applied ops taken dropped) is dated =
     let long : length (l.batches ++ ops ∷ []) ≡ length l.batches + 1 = omega (arith, length-append l.batches (ops ∷ [])) in
-    subst (λ k. AreDated k (exchanged (length l.batches + 1) taken dropped l.pool)) (sym long)
-    (batch_dated l ops taken dropped is dated)
-entry_dated l (Collected copy count) is dated = λ m.
-    subst (IsDated (length l.batches)) (sym (get_map (recycled copy) l.pool m))
-    (recycled_dated (length l.batches) copy (slice_get l.pool m) (dated m))
+    subst (λ k. AreDated opened k (exchanged (length l.batches + 1) taken dropped l.pool)) (sym long)
+    (batch_dated opened l ops taken dropped is dated)
+entry_dated opened l (Collected copy count) is dated = λ m.
+    subst (IsDated (is_in m opened) (length l.batches)) (sym (get_map (recycled copy) l.pool m))
+    (recycled_dated (is_in m opened) (length l.batches) copy (slice_get l.pool m) (dated m))
 
-replay_dated : (es : List Entry) (l m : Ledger) → AreDated (length l.batches) l.pool → replay es l ≡ Some m
-    → AreDated (length m.batches) m.pool
-replay_dated [] l m dated is = let same : l ≡ m = cc in subst (λ (x : Ledger). AreDated (length x.batches) x.pool) same dated
-replay_dated (e ∷ es) l m dated is =
+replay_dated : (opened : List ℕ) (es : List Entry) (l m : Ledger) → AreDated opened (length l.batches) l.pool
+    → replay es l ≡ Some m → AreDated opened (length m.batches) m.pool
+replay_dated opened [] l m dated is =
+    let same : l ≡ m = cc in subst (λ (x : Ledger). AreDated opened (length x.batches) x.pool) same dated
+replay_dated opened (e ∷ es) l m dated is =
     elim (is_legal l e) as (λ t. is_legal l e ≡ t → option_and_then (replay es) (if t then Some (after_entry l e) else None)
-    ≡ Some m → AreDated (length m.batches) m.pool) [
-      | true ↦ λ legal rest. replay_dated es (after_entry l e) m (entry_dated l e legal dated) rest
+    ≡ Some m → AreDated opened (length m.batches) m.pool) [
+      | true ↦ λ legal rest. replay_dated opened es (after_entry l e) m (entry_dated opened l e legal dated) rest
       | false ↦ λ legal rest. cc
     ] refl is
 
-free_dated : (blocks : ℕ) → AreDated 0 (replicate blocks Free)
-free_dated zero m = tt
-free_dated (suc blocks) zero = tt
-free_dated (suc blocks) (suc m) = free_dated blocks m
+-- at the opening
 
-pub desk_dated : (d : DeskView) → IsDesk d → AreDated (length d.last.batches) d.pool
-desk_dated d desk = replay_dated d.journal (empty_ledger (length d.pool)) (ledger_of d) (free_dated (length d.pool)) desk.replays
+free_dated : (o : Bool) (blocks m : ℕ) → IsDated o 0 (slice_get (replicate blocks Free) m)
+free_dated o zero m = tt
+free_dated o (suc blocks) zero = tt
+free_dated o (suc blocks) (suc m) = free_dated o blocks m
+
+one_dated : (o : Bool) (p : Option Status) → IsDated o 0 p → IsDated o 0 (if o then option_map (λ _. Used 0) p else p)
+one_dated false p is = is
+one_dated true None is = tt
+one_dated true (Some p) is = (λ e. absurd (true≢false e), omega arith)
+
+opened_dated : (blocks : ℕ) (opened : List ℕ) → AreDated opened 0 (opened_ledger blocks opened).pool
+opened_dated blocks opened m =
+    subst (IsDated (is_in m opened) 0) (sym (marked_at opened (Used 0) (replicate blocks Free) m))
+    (one_dated (is_in m opened) (slice_get (replicate blocks Free) m) (free_dated (is_in m opened) blocks m))
+
+pub desk_dated : (d : DeskView) → IsDesk d → AreDated d.opened (length d.last.batches) d.pool
+desk_dated d desk =
+    replay_dated d.opened d.journal (opened_ledger (length d.pool) d.opened) (ledger_of d)
+    (opened_dated (length d.pool) d.opened) desk.replays

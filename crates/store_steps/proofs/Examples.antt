@@ -5,7 +5,7 @@ use Rattle.std.proofs.lemmas.Bool.{true≢false}
 use Rattle.std.proofs.lemmas.List.Elements.{All-cons}
 use Rattle.graph_version.specs.Edges.{edges_in_block}
 use Rattle.epoch_core.specs.declared.states.SessionState.TheVariants.{Idle}
-use Rattle.epoch_core.specs.Worlds.{session_of}
+use Rattle.epoch_core.specs.Worlds.{start_world, session_of}
 use Rattle.epoch_blocks.specs.Versions.{edges_at}
 use Rattle.seat_board.specs.Board.{pin_at, no_pins, with_pin, unsettled}
 use Rattle.seat_board.specs.declared.board.Pin.{Pin as SeatPin}
@@ -38,7 +38,7 @@ pins_shown (suc (suc s)) = ap seat_pin (one_idle s) ∙ sym (no_pin 14 s)
 none_idle : (s : ℕ) → get_or [] s Idle ≡ Idle
 none_idle s = refl
 
-pin_shown : (s : ℕ) → seat_pin (session_of (world_by 1 3 (Pin 0 ∷ [])) s)
+pin_shown : (s : ℕ) → seat_pin (session_of (world_by (start_world 1 3) (Pin 0 ∷ [])) s)
     ≡ pin_at (with_pin no_pins 0 (Some (unsettled 0))).pins s
 pin_shown zero = refl
 pin_shown (suc s) = ap seat_pin (none_idle s) ∙ sym (no_pin 15 s)
@@ -62,6 +62,7 @@ are_examples = record {
   collected_nothing = refl;
   desk = record {
     opening = refl;
+    opened = refl;
     batches = refl;
     blocks = refl;
     edges = edges_shown;
@@ -81,6 +82,11 @@ are_examples = record {
   accepted = refl;
   entry = refl;
   no_entry = refl;
+  opened = refl;
+  opened_edges = refl;
+  opened_status = refl;
+  opened_dropped = refl;
+  opened_taken = refl;
   touched = record { births_are = refl; dropped_are = refl };
   appended = record { births_are = refl; dropped_are = refl };
   emptied = record { births_are = refl; dropped_are = refl };

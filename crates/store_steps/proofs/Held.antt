@@ -1,5 +1,5 @@
 -- What a session holds is a snapshot.
-use Rattle.std.proofs.Common.{◌≡◌, ℕ, ◌<◌, ◌≤◌, not, false, take, refl, sym, ap, subst, ◌∙◌, arith}
+use Rattle.std.proofs.Common.{◌≡◌, ℕ, not, false, take, refl, sym, ap, subst, ◌∙◌, arith}
 use Rattle.std.specs.Prelude.{slice_get}
 use Rattle.std.specs.declared.option.Option.{Option}
 use Rattle.std.specs.declared.option.Option.TheVariants.{None, Some}
@@ -16,9 +16,9 @@ use Rattle.epoch_blocks.specs.declared.states.Status.{Status}
 use Rattle.epoch_blocks.specs.declared.states.Status.TheVariants.{Free, Fresh, Used, Retired}
 use Rattle.epoch_blocks.specs.Blocks.{is_listed}
 use Rattle.epoch_core.specs.Sound.{IsSound, IsSessionSound, IsHeld, IsCovered, IsKeptAt}
-use Rattle.epoch_core.specs.Worlds.{World, start, session_of, held_in}
+use Rattle.epoch_core.specs.Worlds.{World, session_of, held_in}
 use Rattle.epoch_blocks.specs.Versions.{Shows as ShowsGraph, opening_graph, blocks_at, edges_of, graph_at}
-use Rattle.epoch_core.proofs.Steps.{always_sound, start_is_start}
+use Rattle.epoch_core.proofs.Steps.{always_sound}
 use Rattle.store_steps.specs.Desks.{DeskView}
 use Rattle.store_steps.specs.Shown.{SameStatus, Shows}
 use Rattle.store_steps.specs.Reached.{world_by}
@@ -88,7 +88,7 @@ snapshot d w copy n shows same holder =
     }
 
 pub held_is_snapshot : HeldIsSnapshot
-held_is_snapshot sessions blocks events d b copy s n r held =
-    let w : World = world_by sessions blocks events in
-    let sound : IsSound w = always_sound (start sessions blocks) events (start_is_start sessions blocks) in
+held_is_snapshot start events d b copy s n is_start r held =
+    let w : World = world_by start.world events in
+    let sound : IsSound w = always_sound start events is_start in
     snapshot d w copy n r.desk r.copied_is (holder_of w (session_of w s) n (sound.sessions s) held)

@@ -5,7 +5,7 @@ use Rattle.std.specs.Option.{option_map}
 use Rattle.std.specs.declared.option.Option.{Option}
 use Rattle.std.specs.declared.option.Option.TheVariants.{None, Some}
 use Rattle.std.proofs.lemmas.Bool.{true≢false}
-use Rattle.block_pool.specs.Pools.{Status, Free, Granted, Used, Retired, is_free, is_used, is_born, passes, retired}
+use Rattle.block_pool.specs.Pools.{Status, Free, Granted, Used, Retired, is_free, is_born, passes, retired}
 use Rattle.store_steps.proofs.Counting.{is_some_times}
 
 -- granted, then some born with version n, then some of the last version's retired by it, then some given back

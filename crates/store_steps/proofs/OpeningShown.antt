@@ -1,50 +1,275 @@
 -- The opening.
-use Rattle.std.proofs.Common.{◌≡◌, ℕ, zero, suc, false, [], replicate, refl, sym, ap, ◌∙◌, arith}
-use Rattle.std.specs.Prelude.{slice_get, Some, None}
+use Rattle.std.proofs.Common.{◌≡◌, ◌≢◌, ℕ, zero, suc, ◌<◌, ◌==◌, ◌||◌, Bool, true, false, List, [], ◌∷◌, ◌++◌, length}
+use Rattle.std.proofs.Common.{replicate, refl, sym, ap, subst, ◌∙◌, arith, All, AllPairs}
+use Rattle.std.specs.Prelude.{map, slice_get, slice_set, if◌then◌else◌}
+use Rattle.std.specs.List.{flat_map}
+use Rattle.std.specs.Option.{option_map}
+use Rattle.std.specs.declared.option.Option.{Option}
+use Rattle.std.specs.declared.option.Option.TheVariants.{None, Some}
+use Rattle.std.proofs.lemmas.Bool.{eqb-true}
 use Rattle.std.proofs.lemmas.List.{length-replicate}
+use Rattle.std.proofs.lemmas.List.Elements.{All-head, All-tail, All-cons}
+use Rattle.graph_model.specs.Graph.{Graph, graph_of, content_of, IsContent}
+use Rattle.graph_model.specs.Step.{left_by}
+use Rattle.graph_model.specs.declared.ids.Edge.{Edge}
+use Rattle.graph_model.specs.declared.contents.Content.{Content}
+use Rattle.edge_block.specs.Slots.{BlockView}
+use Rattle.row_pages.specs.Rows.{blocks_of, numbers_of}
+use Rattle.graph_version.specs.Versions.{VersionView, content, empty_version, is_in}
+use Rattle.graph_version.specs.Edges.{edges_in_block, edges_in_blocks, AreEachOnce}
 use Rattle.graph_version.proofs.Empty.{is_empty_version}
-use Rattle.block_pool.specs.Pools.{Free as PoolFree, is_born, passes}
-use Rattle.epoch_blocks.specs.declared.states.Status.TheVariants.{Free}
-use Rattle.epoch_core.proofs.Steps.{all_idle}
+use Rattle.graph_version.proofs.Shown.{rows_each_once}
+use Rattle.block_pool.specs.Pools.{Status as PoolStatus, Free as PoolFree, Used as PoolUsed, is_born, is_born_at, passes, marked}
+use Rattle.epoch_blocks.specs.declared.states.Status.{Status}
+use Rattle.epoch_blocks.specs.declared.states.Status.TheVariants.{Free, Used}
+use Rattle.epoch_blocks.specs.Blocks.{is_listed}
+use Rattle.epoch_blocks.specs.Versions.{Shows as ShowsGraph, edges_at, edges_of}
+use Rattle.epoch_core.specs.Opened.{Lists, numbers_in, heap_with, status_with, IsOpening}
+use Rattle.epoch_core.specs.Worlds.{IsStart}
+use Rattle.epoch_core.specs.declared.states.SessionState.TheVariants.{Idle}
+use Rattle.epoch_core.proofs.Steps.{all_idle, free_at}
 use Rattle.seat_board.specs.Board.{pin_at}
-use Rattle.store_steps.specs.Journal.{empty_ledger}
 use Rattle.store_steps.specs.Desks.{IsDesk}
-use Rattle.store_steps.specs.Shown.{SameStatus}
+use Rattle.store_steps.specs.Shown.{Shows, SameStatus}
 use Rattle.store_steps.specs.Boards.{seat_pin}
-use Rattle.store_steps.specs.Opening.{opened_desk, OpensAsMachine}
+use Rattle.store_steps.specs.Opening.{opened_desk, opened_start, lists_of, IsVersionZero, OpensAsMachine, OpensBlank}
+use Rattle.store_steps.proofs.NumberLists.{differ_from}
+use Rattle.store_steps.proofs.ChangedLists.{marked_at, length-marked}
+use Rattle.store_steps.proofs.Filling as filling
+
+-- The pool
 
 none_born : (n m : ℕ) → passes is_born (slice_get (replicate n PoolFree) m) ≡ false
 none_born zero m = refl
 none_born (suc n) zero = refl
 none_born (suc n) (suc m) = none_born n m
 
-pub opened_is_desk : (blocks : ℕ) → IsDesk (opened_desk blocks)
-opened_is_desk blocks = record {
-  version = is_empty_version;
-  replays = ap (λ n. Some (empty_ledger n)) (length-replicate blocks PoolFree);
-  listed = none_born blocks;
-}
+free_below : (n m : ℕ) → m < n → slice_get (replicate n PoolFree) m ≡ Some PoolFree
+free_below zero m h = absurd (omega arith)
+free_below (suc n) zero h = refl
+free_below (suc n) (suc m) h = free_below n m (omega arith)
 
-same_free : (n m : ℕ) → SameStatus (slice_get (replicate n PoolFree) m) (slice_get (replicate n Free) m)
-same_free zero m = tt
-same_free (suc n) zero = tt
-same_free (suc n) (suc m) = same_free n m
+listed_below : (blocks : ℕ) (ns : List ℕ) (m : ℕ) → All (λ n. n < blocks) ns → is_in m ns ≡ true → m < blocks
+listed_below blocks [] m within is = cc
+listed_below blocks (n ∷ ns) m within is =
+    elim (n == m) as (λ t. n == m ≡ t → (t || is_in m ns) ≡ true → m < blocks) [
+      | true ↦ λ e listed. (let low : n < blocks = All-head (λ k. k < blocks) n ns within in
+          let same : n ≡ m = eqb-true n m e in omega arith)
+      | false ↦ λ e listed. listed_below blocks ns m (All-tail (λ k. k < blocks) n ns within) listed
+    ] refl is
+
+-- the numbers that are marked are those that are born
+born_listed : (blocks : ℕ) (ns : List ℕ) → All (λ n. n < blocks) ns → (m : ℕ)
+    → is_born_at (marked ns (PoolUsed 0) (replicate blocks PoolFree)) m ≡ is_in m ns
+born_listed blocks ns within m =
+    ap (passes is_born) (marked_at ns (PoolUsed 0) (replicate blocks PoolFree) m)
+    ∙ (elim (is_in m ns) as (λ t. is_in m ns ≡ t → passes is_born (if t then option_map (λ _. PoolUsed 0)
+    (slice_get (replicate blocks PoolFree) m) else slice_get (replicate blocks PoolFree) m) ≡ t) [
+      | true ↦ λ is. ap (λ p. passes is_born (option_map (λ _. PoolUsed 0) p))
+          (free_below blocks m (listed_below blocks ns m within is))
+      | false ↦ λ is. none_born blocks m
+    ] refl)
 
 pub no_pin : (n s : ℕ) → pin_at (replicate n None) s ≡ None
 no_pin zero s = refl
 no_pin (suc n) zero = refl
 no_pin (suc n) (suc s) = no_pin n s
 
-pub opens_as_machine : OpensAsMachine
-opens_as_machine = record {
-  desk = opened_is_desk;
-  shown = λ sessions blocks. record {
-    opening = refl;
-    batches = refl;
-    blocks = refl;
-    edges = λ k d h. absurd (omega arith);
-    status = same_free blocks;
-    sizes = length-replicate blocks [] ∙ sym (length-replicate blocks Free);
-  };
-  board = λ sessions blocks. record { floor = refl; pins = λ s. ap seat_pin (all_idle sessions s) ∙ sym (no_pin 16 s) };
-}
+length-opened : (blocks : ℕ) (ns : List ℕ) → length (marked ns (PoolUsed 0) (replicate blocks PoolFree)) ≡ blocks
+length-opened blocks ns = length-marked ns (PoolUsed 0) (replicate blocks PoolFree) ∙ length-replicate blocks PoolFree
+
+pub opened_is_desk : (blocks : ℕ) (v : VersionView) → IsVersionZero blocks v → IsDesk (opened_desk blocks v)
+opened_is_desk blocks v zero_is =
+    let ns : List ℕ = numbers_of (blocks_of v.rows) in
+    record {
+      version = zero_is.version;
+      replays = λ i. Some (record {
+        batches = sym zero_is.alone i;
+        pool = marked ns (PoolUsed 0) (replicate (length-opened blocks ns i) PoolFree);
+      });
+      listed = born_listed blocks ns zero_is.within;
+    }
+
+-- The blocks, in the machine
+
+abbrev pairs : List BlockView → Lists
+pairs bs = map (λ b. (b.number, edges_in_block b)) bs
+
+numbers_paired : (bs : List BlockView) → numbers_in (pairs bs) ≡ numbers_of bs
+numbers_paired [] = refl
+numbers_paired (b ∷ bs) = ap (λ ns. b.number ∷ ns) (numbers_paired bs)
+
+edges_paired : (bs : List BlockView) → flat_map (λ l. l.1) (pairs bs) ≡ edges_in_blocks bs
+edges_paired [] = refl
+edges_paired (b ∷ bs) = ap (λ es. edges_in_block b ++ es) (edges_paired bs)
+
+within_paired : (blocks : ℕ) (bs : List BlockView) → All (λ n. n < blocks) (numbers_of bs)
+    → All (λ l. l.0 < blocks) (pairs bs)
+within_paired blocks [] within = λ k d h. absurd (omega arith)
+within_paired blocks (b ∷ bs) within =
+    let In : ℕ × List Edge → Type 0 = λ l. l.0 < blocks in
+    All-cons In (b.number, edges_in_block b) (pairs bs) (All-head (λ n. n < blocks) b.number (numbers_of bs) within)
+    (within_paired blocks bs (All-tail (λ n. n < blocks) b.number (numbers_of bs) within))
+
+within_blocks : (blocks : ℕ) (bs : List BlockView) → All (λ n. n < blocks) (numbers_of bs) → All (λ b. b.number < blocks) bs
+within_blocks blocks [] within = λ k d h. absurd (omega arith)
+within_blocks blocks (b ∷ bs) within =
+    All-cons (λ (x : BlockView). x.number < blocks) b bs (All-head (λ n. n < blocks) b.number (numbers_of bs) within)
+    (within_blocks blocks bs (All-tail (λ n. n < blocks) b.number (numbers_of bs) within))
+
+-- the machine's heap and status after these lists
+heap_paired : (bs : List BlockView) (heap : List (List Edge)) → heap_with (pairs bs) heap ≡ filling.heap_with bs heap
+heap_paired [] heap = refl
+heap_paired (b ∷ bs) heap = heap_paired bs (slice_set heap b.number (edges_in_block b))
+
+status_paired : (bs : List BlockView) (status : List Status)
+    → status_with (pairs bs) status ≡ marked (numbers_of bs) (Used 0) status
+status_paired [] status = refl
+status_paired (b ∷ bs) status = status_paired bs (slice_set status b.number (Used 0))
+
+same_free : (n m : ℕ) → SameStatus (slice_get (replicate n PoolFree) m) (slice_get (replicate n Free) m)
+same_free zero m = tt
+same_free (suc n) zero = tt
+same_free (suc n) (suc m) = same_free n m
+
+same_marked : (t : Bool) (p : Option PoolStatus) (s : Option Status) → SameStatus p s
+    → SameStatus (if t then option_map (λ _. PoolUsed 0) p else p) (if t then option_map (λ _. Used 0) s else s)
+same_marked false p s same = same
+same_marked true None None same = tt
+same_marked true None (Some s) same = absurd same
+same_marked true (Some p) None same = absurd same
+same_marked true (Some p) (Some s) same = refl
+
+status_opened : (blocks : ℕ) (bs : List BlockView) (m : ℕ)
+    → SameStatus (slice_get (marked (numbers_of bs) (PoolUsed 0) (replicate blocks PoolFree)) m)
+    (slice_get (status_with (pairs bs) (replicate blocks Free)) m)
+status_opened blocks bs m =
+    let ns : List ℕ = numbers_of bs in
+    let machine : slice_get (status_with (pairs bs) (replicate blocks Free)) m
+    ≡ (if is_in m ns then option_map (λ _. Used 0) (slice_get (replicate blocks Free) m)
+    else slice_get (replicate blocks Free) m) =
+    ap (λ (xs : List Status). slice_get xs m) (status_paired bs (replicate blocks Free))
+    ∙ marked_at ns (Used 0) (replicate blocks Free) m in
+    subst (λ p. SameStatus p (slice_get (status_with (pairs bs) (replicate blocks Free)) m))
+    (sym (marked_at ns (PoolUsed 0) (replicate blocks PoolFree) m))
+    (subst (SameStatus (if is_in m ns then option_map (λ _. PoolUsed 0) (slice_get (replicate blocks PoolFree) m)
+    else slice_get (replicate blocks PoolFree) m)) (sym machine)
+    (same_marked (is_in m ns) (slice_get (replicate blocks PoolFree) m) (slice_get (replicate blocks Free) m)
+    (same_free blocks m)))
+
+edges_opened : (blocks : ℕ) (bs : List BlockView) → All (λ n. n < blocks) (numbers_of bs) → AllPairs ◌≢◌ (numbers_of bs)
+    → All (λ b. edges_at (heap_with (pairs bs) (replicate blocks [])) b.number ≡ edges_in_block b) bs
+edges_opened blocks bs within apart =
+    let blank : List (List Edge) = replicate blocks [] in
+    let low : All (λ (b : BlockView). b.number < length blank) bs =
+    subst (λ n. All (λ (b : BlockView). b.number < n) bs) (sym (length-replicate {A = List Edge} blocks []))
+    (within_blocks blocks bs within) in
+    subst (λ heap. All (λ (b : BlockView). edges_at heap b.number ≡ edges_in_block b) bs) (sym (heap_paired bs blank))
+    (filling.heap_here bs blank low (differ_from (numbers_of bs) apart))
+
+sizes_opened : (blocks : ℕ) (bs : List BlockView)
+    → length (heap_with (pairs bs) (replicate blocks [])) ≡ length (status_with (pairs bs) (replicate blocks Free))
+sizes_opened blocks bs =
+    ap length (heap_paired bs (replicate blocks [])) ∙ filling.length-heap_with bs (replicate blocks [])
+    ∙ length-replicate blocks [] ∙ sym (length-replicate blocks Free)
+    ∙ sym (length-marked (numbers_of bs) (Used 0) (replicate blocks Free))
+    ∙ sym (ap length (status_paired bs (replicate blocks Free)))
+
+-- version 0 alone: its content is what it began with
+content_alone : (v : VersionView) → v.batches ≡ [] → content v ≡ v.opening
+content_alone v alone = ap (λ bs. left_by bs v.opening) alone
+
+used_or_free : (t : Bool) → (if t then option_map (λ _. Used 0) (Some Free) else Some Free) ≡ Some (if t then Used 0 else Free)
+used_or_free true = refl
+used_or_free false = refl
+
+module _ (sessions blocks : ℕ) (v : VersionView) (c : Content) (zero_is : IsVersionZero blocks v)
+    (same : graph_of c ≡ v.opening) where
+  abbrev bs : List BlockView
+  bs = blocks_of v.rows
+
+  abbrev heap : List (List Edge)
+  heap = heap_with (pairs bs) (replicate blocks [])
+
+  abbrev status : List Status
+  status = status_with (pairs bs) (replicate blocks Free)
+
+  apart : AllPairs ◌≢◌ (numbers_of bs)
+  apart = zero_is.version.rows.numbers
+
+  shown_edges : ShowsGraph (edges_in_blocks bs) (graph_of c)
+  shown_edges =
+      let each : AreEachOnce (edges_in_blocks bs) (content v) = rows_each_once (content v) v.rows zero_is.version.rows in
+      let shown : ShowsGraph (edges_in_blocks bs) (content v) = record { once = each.once; same = each.same } in
+      subst (λ (g : Graph). ShowsGraph (edges_in_blocks bs) g) (content_alone v zero_is.alone ∙ sym same) shown
+
+  is_opening : IsContent c → IsOpening blocks c (lists_of v)
+  is_opening is = record {
+    content_is = is;
+    within = within_paired blocks bs zero_is.within;
+    different = subst (λ ns. AllPairs ◌≢◌ ns) (sym (numbers_paired bs)) apart;
+    shown = subst (λ edges. ShowsGraph edges (graph_of c)) (sym (edges_paired bs)) shown_edges;
+  }
+
+  status_start : (b : ℕ) → b < blocks
+      → slice_get status b ≡ Some (if is_listed b (numbers_in (pairs bs)) then Used 0 else Free)
+  status_start b low =
+      ap (λ (xs : List Status). slice_get xs b) (status_paired bs (replicate blocks Free))
+      ∙ marked_at (numbers_of bs) (Used 0) (replicate blocks Free) b
+      ∙ ap (λ o. if is_in b (numbers_of bs) then option_map (λ _. Used 0) o else o) (free_at blocks b low)
+      ∙ used_or_free (is_in b (numbers_of bs))
+      ∙ ap (λ ns. Some (if is_in b ns then Used 0 else Free)) (sym (numbers_paired bs))
+
+  long : length status ≡ blocks
+  long = ap length (status_paired bs (replicate blocks Free)) ∙ length-marked (numbers_of bs) (Used 0) (replicate blocks Free)
+      ∙ length-replicate blocks Free
+
+  is_start : IsStart (opened_start sessions blocks c v)
+  is_start = record {
+    alone = refl;
+    within = subst (λ n. All (λ b. b < n) (numbers_in (pairs bs))) (sym long)
+        (subst (λ ns. All (λ b. b < blocks) ns) (sym (numbers_paired bs)) zero_is.within);
+    different = subst (λ ns. AllPairs ◌≢◌ ns) (sym (numbers_paired bs)) apart;
+    shown = subst (λ edges. ShowsGraph edges (graph_of c))
+        (sym (ap (edges_of heap) (numbers_paired bs) ∙ filling.edges_from heap bs (edges_opened blocks bs zero_is.within apart)))
+        shown_edges;
+    status = λ b low. status_start b (omega (arith, low, long));
+    heap = sizes_opened blocks bs;
+    floor = refl;
+    copy = refl;
+    idle = ap (λ n. replicate n Idle) (sym (length-replicate sessions Idle));
+    replies = ap (λ n. replicate n []) (sym (length-replicate sessions Idle));
+  }
+
+  is_shown : Shows (opened_desk blocks v) (opened_start sessions blocks c v).world
+  is_shown = record {
+    opening = same;
+    opened = numbers_paired bs;
+    batches = sym zero_is.alone;
+    blocks = numbers_paired bs;
+    edges = edges_opened blocks bs zero_is.within apart;
+    status = status_opened blocks bs;
+    sizes = sizes_opened blocks bs;
+  }
+
+  pub opens_as_machine : OpensAsMachine sessions blocks v c
+  opens_as_machine = record {
+    desk = opened_is_desk blocks v zero_is;
+    shown = is_shown;
+    board = record { floor = refl; pins = λ s. ap seat_pin (all_idle sessions s) ∙ sym (no_pin 16 s) };
+    start = is_start;
+    opening = is_opening;
+  }
+
+-- Over no blocks
+
+empty_is_zero : (blocks : ℕ) → IsVersionZero blocks empty_version
+empty_is_zero blocks = record { version = is_empty_version; alone = refl; within = λ k d h. absurd (omega arith) }
+
+pub blank_is_desk : (blocks : ℕ) → IsDesk (opened_desk blocks empty_version)
+blank_is_desk blocks = opened_is_desk blocks empty_version (empty_is_zero blocks)
+
+pub opens_blank : (sessions blocks : ℕ) → OpensBlank sessions blocks
+opens_blank sessions blocks =
+    let opens = opens_as_machine sessions blocks empty_version (content_of [] [] []) (empty_is_zero blocks) refl in
+    record { desk = blank_is_desk blocks; shown = opens.shown; board = opens.board }

@@ -275,6 +275,7 @@ shows_posted a w shows =
     let all = placed a w shows in
     record {
       opening = shows.opening ∙ sym a.accepted.opening;
+      opened = shows.opened ∙ sym a.accepted.opened;
       batches = map-append (λ u. u.batch) w.versions (v ∷ []) ∙ ap (λ bs. bs ++ a.ops ∷ []) shows.batches ∙ sym (new_batches a);
       blocks = ap (λ u. u.blocks) (version_next w.opening w.versions v);
       edges = λ k d h. (all k d h).edges;

@@ -1,4 +1,5 @@
--- A desk: the last version, the journal, and what each block number is. A batch and a collection change it.
+-- A desk: the blocks that it opened with, the last version, the journal, and what each block number is. A batch and a
+-- collection change it.
 use Rattle.std.specs.Prelude.{◌≡◌, ℕ, ◌+◌, ◌==◌, List, [], ◌∷◌, ◌++◌, length, map, count_by, slice_index_or, All, Contains}
 use Rattle.std.specs.Prelude.{Bool, true, false, ◌&&◌, if◌then◌else◌}
 use Rattle.std.specs.declared.option.Option.TheVariants.{Some}
@@ -14,9 +15,11 @@ use Rattle.block_pool.specs.Pools.{Status, Free, Granted, Used, Retired, AreFree
 use Rattle.block_pool.specs.Pools.{recycled}
 use Rattle.batch_shards.specs.Births.{births_after, dropped_births, CarriesBirths}
 use Rattle.batch_shards.specs.Done.{Exchanges}
-use Rattle.store_steps.specs.Journal.{Entry, Applied, Collected, Ledger, empty_ledger, replay, is_legal, after_entry, exchanged}
+use Rattle.store_steps.specs.Journal.{Entry, Applied, Collected, Ledger, opened_ledger, replay, is_legal, after_entry, exchanged}
 
+-- `opened` are the numbers of version 0's blocks, which later versions drop one by one
 pub record DeskView : Type 0 where
+  pub opened : List ℕ
   pub last : VersionView
   pub journal : List Entry
   pub pool : List Status
@@ -28,11 +31,11 @@ last_numbers d = numbers_of (blocks_of d.last.rows)
 abbrev pub ledger_of : DeskView → Ledger
 ledger_of d = record { batches = d.last.batches; pool = d.pool }
 
--- the journal replays legally to the last version's batches and to what each number is, and the numbers of the last
--- version's blocks are those that may be retired
+-- from version 0's blocks the journal replays legally to the last version's batches and to what each number is, and the
+-- numbers of the last version's blocks are those that may be retired
 pub record IsDesk (d : DeskView) : Type 0 where
   pub version : IsVersion d.last
-  pub replays : replay d.journal (empty_ledger (length d.pool)) ≡ Some (ledger_of d)
+  pub replays : replay d.journal (opened_ledger (length d.pool) d.opened) ≡ Some (ledger_of d)
   pub listed : (n : ℕ) → is_born_at d.pool n ≡ is_in n (last_numbers d)
 
 -- the birth of a block of the last version
@@ -83,6 +86,7 @@ pub record IsAppliedTo (d : DeskView) (ops : List NamedOp) (numbers : List ℕ) 
 -- the desk with that version as the last one, the batch in the journal, and the blocks exchanged
 abbrev pub desk_after : DeskView → List NamedOp → VersionView → List ℕ → List BlockView → DeskView
 desk_after d ops version taken dropped = record {
+  opened = d.opened;
   last = version;
   journal = d.journal ++ Applied ops taken (numbers_of dropped) ∷ [];
   pool = exchanged (length d.last.batches + 1) taken (numbers_of dropped) d.pool;
@@ -90,6 +94,7 @@ desk_after d ops version taken dropped = record {
 
 -- the desk has accepted the batch, and nothing else
 pub record IsAccepted (old : DeskView) (ops : List NamedOp) (taken dropped : List ℕ) (new : DeskView) : Type 0 where
+  pub opened : new.opened ≡ old.opened
   pub opening : new.last.opening ≡ old.last.opening
   pub journal : new.journal ≡ old.journal ++ Applied ops taken dropped ∷ []
   pub legal : is_legal (ledger_of old) (Applied ops taken dropped) ≡ true
@@ -125,6 +130,7 @@ collections copy count = if count == 0 then [] else Collected copy count ∷ []
 -- the desk has collected by this copy: it has recycled what is retired and not needed by the copy, and the journal has an
 -- entry where that is anything
 pub record IsCollected (old : DeskView) (copy : PinCopy) (new : DeskView) : Type 0 where
+  pub opened : new.opened ≡ old.opened
   pub last : new.last ≡ old.last
   pub pool : new.pool ≡ map (recycled copy) old.pool
   pub journal : new.journal ≡ old.journal ++ collections copy (count_by (is_past copy) old.pool)

@@ -2,12 +2,15 @@
 -- events of a batch and of a collection, and a board beside sessions.
 use Rattle.std.specs.Prelude.{◌≡◌, pos, ℕ, List, [], ◌∷◌, ◌++◌, map, replicate, true, false, Some, None}
 use Rattle.std.specs.List.{range_with_len}
+use Rattle.graph_model.specs.Graph.{graph_of, content_of}
 use Rattle.graph_model.specs.Step.{empty_graph}
+use Rattle.graph_model.specs.declared.contents.Content.{Content}
 use Rattle.edge_block.specs.Slots.{BlockView, edge_slot}
 use Rattle.block_layout.specs.Rows.{OpenBlock, Shape, row_end}
 use Rattle.block_layout.specs.Examples.{insert_at, remove_at, row_by, many}
+use Rattle.graph_version.specs.Versions.{VersionView, empty_version}
 use Rattle.batch_shards.specs.Births.{births_end, births_dropped}
-use Rattle.block_pool.specs.Pools.{Status as PoolStatus, Free as PoolFree, Granted as PoolGranted, Used as PoolUsed}
+use Rattle.block_pool.specs.Pools.{Status as PoolStatus, Free as PoolFree, Used as PoolUsed}
 use Rattle.block_pool.specs.Pools.{Retired as PoolRetired}
 use Rattle.pin_copy.specs.declared.copies.PinCopy.{PinCopy}
 use Rattle.pin_copy.specs.Copies.{no_copy}
@@ -17,12 +20,12 @@ use Rattle.epoch_core.specs.declared.events.Event.TheVariants.{Take, Fill, Post,
 use Rattle.epoch_core.specs.Examples.{name_a, name_b, kind_k, put_edge, edge_of}
 use Rattle.epoch_core.specs.Worlds.{World, empty_opening, start_world, session_of, held_in}
 use Rattle.seat_board.specs.Board.{BoardState, no_pins, with_pin, unsettled}
-use Rattle.store_steps.specs.Journal.{Entry, Applied, Collected, empty_ledger, replay}
+use Rattle.store_steps.specs.Journal.{Entry, Applied, Collected, Ledger, opened_ledger, replay}
 use Rattle.store_steps.specs.Desks.{DeskView, desk_after, collections}
 use Rattle.store_steps.specs.Shown.{Shows}
 use Rattle.store_steps.specs.Boards.{ShowsBoard}
 use Rattle.store_steps.specs.Steps.{all_done, posting, recycling}
-use Rattle.store_steps.specs.Opening.{opened_desk}
+use Rattle.store_steps.specs.Opening.{opened_desk, opened_start}
 use Rattle.store_steps.specs.Reached.{world_by}
 
 -- a copy without pins
@@ -36,7 +39,10 @@ settled_at last pin = record no_copy { last = last; settled = Some pin ∷ repli
 abbrev pub unsettled_at : ℕ → ℕ → PinCopy
 unsettled_at last pin = record no_copy { last = last; unsettled = Some pin ∷ replicate 15 None }
 
--- Journals, over four blocks
+-- Journals, over four blocks, all of them free at first
+
+abbrev pub four_free : Ledger
+four_free = opened_ledger 4 []
 
 -- the first batch takes blocks 0 and 1; the second takes 2 and drops 0, which version 2 so retires
 abbrev pub two_batches : List Entry
@@ -51,6 +57,7 @@ block_one = record { number = 1; source = 0; kind = 0; slots = Some (edge_slot 1
 -- a desk of three blocks that has accepted the edge, in block 1
 abbrev pub desk_of_edge : DeskView
 desk_of_edge = record {
+  opened = [];
   last = record { opening = empty_graph; batches = put_edge (pos 1) 1 ∷ []; rows = (block_one ∷ []) ∷ [] };
   journal = Applied (put_edge (pos 1) 1) (1 ∷ []) [] ∷ [];
   pool = PoolFree ∷ PoolUsed 1 ∷ PoolFree ∷ [];
@@ -67,6 +74,15 @@ world_of_edge = record {
   copy = no_copy;
   sessions = Idle ∷ [];
 }
+
+-- Openings
+
+-- the edge from a to b as a content, and a version that begins with it, in block 1
+abbrev pub content_of_edge : Content
+content_of_edge = content_of (name_a ∷ name_b ∷ []) (kind_k ∷ []) (edge_of (pos 1) 1)
+
+abbrev pub begins_with_edge : VersionView
+begins_with_edge = record { opening = graph_of content_of_edge; batches = []; rows = (block_one ∷ []) ∷ [] }
 
 -- Births, of the rows that batches leave; each of them is version 7's
 
@@ -108,28 +124,28 @@ world_of_two = record (start_world 0 0) {
 
 pub record AreExamples : Type 0 where
   -- two batches leave block 0 retired with number 2; a collection without pins frees it
-  pub batches : replay two_batches (empty_ledger 4)
+  pub batches : replay two_batches four_free
       ≡ Some (record {
         batches = put_edge (pos 1) 1 ∷ put_edge (pos 2) 2 ∷ [];
         pool = PoolRetired 1 2 ∷ PoolUsed 1 ∷ PoolUsed 2 ∷ PoolFree ∷ [];
       })
-  pub collection : replay (two_batches ++ Collected (unpinned 2) 1 ∷ []) (empty_ledger 4)
+  pub collection : replay (two_batches ++ Collected (unpinned 2) 1 ∷ []) four_free
       ≡ Some (record {
         batches = put_edge (pos 1) 1 ∷ put_edge (pos 2) 2 ∷ [];
         pool = PoolFree ∷ PoolUsed 1 ∷ PoolUsed 2 ∷ PoolFree ∷ [];
       })
   -- no journal: a block taken that is used, or past the last; one taken twice; one dropped that isn't the last version's
-  pub taken_used : replay (two_batches ++ Applied [] (1 ∷ []) [] ∷ []) (empty_ledger 4) ≡ None
-  pub taken_past : replay (two_batches ++ Applied [] (4 ∷ []) [] ∷ []) (empty_ledger 4) ≡ None
-  pub taken_twice : replay (two_batches ++ Applied [] (3 ∷ 3 ∷ []) [] ∷ []) (empty_ledger 4) ≡ None
-  pub dropped_retired : replay (two_batches ++ Applied [] [] (0 ∷ []) ∷ []) (empty_ledger 4) ≡ None
+  pub taken_used : replay (two_batches ++ Applied [] (1 ∷ []) [] ∷ []) four_free ≡ None
+  pub taken_past : replay (two_batches ++ Applied [] (4 ∷ []) [] ∷ []) four_free ≡ None
+  pub taken_twice : replay (two_batches ++ Applied [] (3 ∷ 3 ∷ []) [] ∷ []) four_free ≡ None
+  pub dropped_retired : replay (two_batches ++ Applied [] [] (0 ∷ []) ∷ []) four_free ≡ None
   -- nor: a collection by a copy made before the block was retired, or with a pin that needs it, one past the last version, one
   -- that recycles nothing
-  pub collected_early : replay (two_batches ++ Collected (unpinned 1) 1 ∷ []) (empty_ledger 4) ≡ None
-  pub collected_settled : replay (two_batches ++ Collected (settled_at 2 1) 1 ∷ []) (empty_ledger 4) ≡ None
-  pub collected_unsettled : replay (two_batches ++ Collected (unsettled_at 2 0) 1 ∷ []) (empty_ledger 4) ≡ None
-  pub collected_late : replay (two_batches ++ Collected (unpinned 3) 1 ∷ []) (empty_ledger 4) ≡ None
-  pub collected_nothing : replay (two_batches ++ Collected (unpinned 1) 0 ∷ []) (empty_ledger 4) ≡ None
+  pub collected_early : replay (two_batches ++ Collected (unpinned 1) 1 ∷ []) four_free ≡ None
+  pub collected_settled : replay (two_batches ++ Collected (settled_at 2 1) 1 ∷ []) four_free ≡ None
+  pub collected_unsettled : replay (two_batches ++ Collected (unsettled_at 2 0) 1 ∷ []) four_free ≡ None
+  pub collected_late : replay (two_batches ++ Collected (unpinned 3) 1 ∷ []) four_free ≡ None
+  pub collected_nothing : replay (two_batches ++ Collected (unpinned 1) 0 ∷ []) four_free ≡ None
   -- the desk shows the world after the edge; not one in which block 1 is fresh, or was born later
   pub desk : Shows desk_of_edge world_of_edge
   pub later : (w : World) → Shows desk_of_edge (record w { status = Free ∷ Used 2 ∷ Free ∷ [] }) → ⊥
@@ -150,9 +166,17 @@ pub record AreExamples : Type 0 where
       ≡ Some (record retired_world { status = Retired 1 2 ∷ Used 1 ∷ Free ∷ Free ∷ [] })
   pub needed : all_done (recycling (settled_at 3 2) retired_pool) retired_world ≡ None
   -- the batch, applied to the opening, leaves that desk; a collection that recycles nothing has no entry
-  pub accepted : desk_after (opened_desk 3) (put_edge (pos 1) 1) desk_of_edge.last (1 ∷ []) [] ≡ desk_of_edge
+  pub accepted : desk_after (opened_desk 3 empty_version) (put_edge (pos 1) 1) desk_of_edge.last (1 ∷ []) [] ≡ desk_of_edge
   pub entry : collections (unpinned 2) 1 ≡ Collected (unpinned 2) 1 ∷ []
   pub no_entry : collections (unpinned 2) 0 ≡ []
+  -- a store that opens with the edge: its block is there with birth 0, and a batch that drops it retires it so
+  pub opened : (opened_desk 3 begins_with_edge).pool ≡ PoolFree ∷ PoolUsed 0 ∷ PoolFree ∷ []
+  pub opened_edges : (opened_start 1 3 content_of_edge begins_with_edge).world.heap ≡ [] ∷ edge_of (pos 1) 1 ∷ [] ∷ []
+  pub opened_status : (opened_start 1 3 content_of_edge begins_with_edge).world.status ≡ Free ∷ Used 0 ∷ Free ∷ []
+  pub opened_dropped : replay (Applied [] (2 ∷ []) (1 ∷ []) ∷ []) (opened_ledger 3 (1 ∷ []))
+      ≡ Some (record { batches = [] ∷ []; pool = PoolFree ∷ PoolRetired 0 1 ∷ PoolUsed 1 ∷ [] })
+  -- its block is not free, and an entry that takes it is not legal
+  pub opened_taken : replay (Applied [] (1 ∷ []) [] ∷ []) (opened_ledger 3 (1 ∷ [])) ≡ None
   -- a touched block is dropped and born anew, and the one behind it keeps its birth
   pub touched : Bears (row_by (remove_at 0 ∷ insert_at 33 ∷ []) (row_end many)) (3 ∷ 5 ∷ []) (7 ∷ 5 ∷ []) (3 ∷ [])
   -- a block that is appended is born, and none is dropped
@@ -162,8 +186,8 @@ pub record AreExamples : Type 0 where
   -- an operation without effect drops nothing
   pub untouched : Bears (row_by (remove_at 40 ∷ []) (row_end many)) (3 ∷ 5 ∷ []) (3 ∷ 5 ∷ []) []
   -- Pin is what pinning a seat of the opening leaves; Enter then takes hold of version 0
-  pub pinned : ShowsBoard (with_pin no_pins 0 (Some (unsettled 0))) (world_by 1 3 (Pin 0 ∷ []))
-  pub entered : held_in (session_of (world_by 1 3 (Pin 0 ∷ Enter 0 ∷ [])) 0) ≡ Some 0
+  pub pinned : ShowsBoard (with_pin no_pins 0 (Some (unsettled 0))) (world_by (start_world 1 3) (Pin 0 ∷ []))
+  pub entered : held_in (session_of (world_by (start_world 1 3) (Pin 0 ∷ Enter 0 ∷ [])) 0) ≡ Some 0
   -- the board shows the sessions' pins, settled and unsettled
   pub board : ShowsBoard board_of_two world_of_two
   pub settled : (w : World) → ShowsBoard board_of_two (record w { sessions = Pinned 1 ∷ Pinned 2 ∷ [] }) → ⊥

@@ -4,7 +4,7 @@ use Rattle.graph_model.specs.Step.{left_by}
 use Rattle.block_pool.specs.Pools.{is_free, is_past, passes}
 use Rattle.epoch_core.specs.declared.events.Event.{Event}
 use Rattle.epoch_blocks.specs.Blocks.{is_listed}
-use Rattle.epoch_core.specs.Worlds.{World, session_of, held_in}
+use Rattle.epoch_core.specs.Worlds.{World, State, IsStart, session_of, held_in}
 use Rattle.epoch_blocks.specs.Versions.{Shows as ShowsGraph, blocks_at, edges_of}
 use Rattle.pin_copy.specs.declared.copies.PinCopy.{PinCopy}
 use Rattle.seat_board.specs.Board.{BoardState}
@@ -20,9 +20,9 @@ pub record IsSnapshot (d : DeskView) (copy : PinCopy) (w : World) (n : ℕ) : Ty
   pub kept : (c : ℕ) → IsTrue (is_listed c (blocks_at w.opening w.versions n))
       → passes (is_past copy) (slice_get d.pool c) ≡ false
 
--- whatever the run: the version that a session holds is such a one
+-- whatever the start and the run: the version that a session holds is such a one
 abbrev pub HeldIsSnapshot : Type 0
 HeldIsSnapshot =
-    (sessions blocks : ℕ) (events : List Event) (d : DeskView) (b : BoardState) (copy : PinCopy) (s n : ℕ)
-    → IsReached sessions blocks events d b copy → held_in (session_of (world_by sessions blocks events) s) ≡ Some n
-    → IsSnapshot d copy (world_by sessions blocks events) n
+    (start : State) (events : List Event) (d : DeskView) (b : BoardState) (copy : PinCopy) (s n : ℕ) → IsStart start
+    → IsReached start.world events d b copy → held_in (session_of (world_by start.world events) s) ≡ Some n
+    → IsSnapshot d copy (world_by start.world events) n

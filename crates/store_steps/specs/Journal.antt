@@ -21,9 +21,9 @@ pub record Ledger : Type 0 where
   pub batches : List (List NamedOp)
   pub pool : List Status
 
--- no batches, and all numbers free
-abbrev pub empty_ledger : ℕ → Ledger
-empty_ledger blocks = record { batches = []; pool = replicate blocks Free }
+-- no batches; the blocks of these numbers are version 0's, and all others are free
+abbrev pub opened_ledger : ℕ → List ℕ → Ledger
+opened_ledger blocks opened = record { batches = []; pool = marked opened (Used 0) (replicate blocks Free) }
 
 -- a batch's entry is legal where all that it takes are free and all that it drops are the last version's, none twice;
 -- a collection's where its copy's last number is at most the number of batches and it recycles some, as many as are retired

@@ -1,19 +1,51 @@
--- A store at its opening.
-use Rattle.std.specs.Prelude.{ℕ, [], replicate}
-use Rattle.graph_version.specs.Versions.{empty_version}
-use Rattle.block_pool.specs.Pools.{Free}
-use Rattle.epoch_core.specs.Worlds.{start_world}
+-- A store at its opening, over a version that becomes its version 0.
+use Rattle.std.specs.Prelude.{◌≡◌, ℕ, ◌<◌, [], map, replicate, All}
+use Rattle.graph_model.specs.Graph.{IsContent}
+use Rattle.graph_model.specs.declared.contents.Content.{Content}
+use Rattle.row_pages.specs.Rows.{blocks_of, numbers_of}
+use Rattle.graph_version.specs.Versions.{VersionView, IsVersion, empty_version}
+use Rattle.graph_version.specs.Edges.{edges_in_block}
+use Rattle.block_pool.specs.Pools.{Free, Used, marked}
+use Rattle.epoch_core.specs.Worlds.{State, IsStart, start_world}
+use Rattle.epoch_core.specs.Opened.{Lists, IsOpening, opened_state}
 use Rattle.seat_board.specs.Board.{no_pins}
 use Rattle.store_steps.specs.Desks.{DeskView, IsDesk}
 use Rattle.store_steps.specs.Shown.{Shows}
 use Rattle.store_steps.specs.Boards.{ShowsBoard}
 
--- version 0, an empty journal, and all blocks free
-abbrev pub opened_desk : ℕ → DeskView
-opened_desk blocks = record { last = empty_version; journal = []; pool = replicate blocks Free }
+-- version 0, an empty journal, and all blocks free but those of version 0, which have birth 0
+abbrev pub opened_desk : ℕ → VersionView → DeskView
+opened_desk blocks v = record {
+  opened = numbers_of (blocks_of v.rows);
+  last = v;
+  journal = [];
+  pool = marked (numbers_of (blocks_of v.rows)) (Used 0) (replicate blocks Free);
+}
 
--- at its opening the desk is one, and the store shows the machine's start
-pub record OpensAsMachine : Type 0 where
-  pub desk : (blocks : ℕ) → IsDesk (opened_desk blocks)
-  pub shown : (sessions blocks : ℕ) → Shows (opened_desk blocks) (start_world sessions blocks)
-  pub board : (sessions blocks : ℕ) → ShowsBoard no_pins (start_world sessions blocks)
+-- a version with which a store of so many blocks may open: it has no batch, and its blocks are among the store's
+pub record IsVersionZero (blocks : ℕ) (v : VersionView) : Type 0 where
+  pub version : IsVersion v
+  pub alone : v.batches ≡ []
+  pub within : All (λ n. n < blocks) (numbers_of (blocks_of v.rows))
+
+-- each block of a version with its edges
+abbrev pub lists_of : VersionView → Lists
+lists_of v = map (λ b. (b.number, edges_in_block b)) (blocks_of v.rows)
+
+-- the machine's start over this content, in the blocks of this version
+abbrev pub opened_start : ℕ → ℕ → Content → VersionView → State
+opened_start sessions blocks content v = opened_state sessions blocks content (lists_of v)
+
+-- at its opening the desk is one, and desk and board show a start of the machine, with which it opens where the content is one
+pub record OpensAsMachine (sessions blocks : ℕ) (v : VersionView) (content : Content) : Type 0 where
+  pub desk : IsDesk (opened_desk blocks v)
+  pub shown : Shows (opened_desk blocks v) (opened_start sessions blocks content v).world
+  pub board : ShowsBoard no_pins (opened_start sessions blocks content v).world
+  pub start : IsStart (opened_start sessions blocks content v)
+  pub opening : IsContent content → IsOpening blocks content (lists_of v)
+
+-- so it is over the version without blocks, where the machine starts with all blocks free
+pub record OpensBlank (sessions blocks : ℕ) : Type 0 where
+  pub desk : IsDesk (opened_desk blocks empty_version)
+  pub shown : Shows (opened_desk blocks empty_version) (start_world sessions blocks)
+  pub board : ShowsBoard no_pins (start_world sessions blocks)

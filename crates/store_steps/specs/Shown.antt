@@ -37,10 +37,11 @@ SameStatus None (Some s) = ⊥
 SameStatus (Some p) None = ⊥
 SameStatus (Some p) (Some s) = IsSame p s
 
--- the desk shows this world: its opening graph, its batches, the list of its last version's blocks, the edges in these,
--- and what each block number is
+-- the desk shows this world: its opening graph and the blocks of it, its batches, the list of its last version's blocks, the
+-- edges in these, and what each block number is
 pub record Shows (d : DeskView) (w : World) : Type 0 where
   pub opening : opening_graph w.opening ≡ d.last.opening
+  pub opened : w.opening.blocks ≡ d.opened
   pub batches : map (λ v. v.batch) w.versions ≡ d.last.batches
   pub blocks : last_blocks w ≡ last_numbers d
   pub edges : All (λ b. edges_at w.heap b.number ≡ edges_in_block b) (blocks_of d.last.rows)

@@ -2,11 +2,16 @@
 
 ghost use Rattle.std.specs.Prelude.{◌≡◌, ℕ, ◌+◌, ◌≤◌, List, [], ◌∷◌, ◌++◌, length, true, false, None};
 ghost use Rattle.std.specs.Option.{option_and_then};
+ghost use Rattle.graph_model.specs.Graph.{graph_of};
+ghost use Rattle.graph_model.specs.declared.contents.Content.{Content};
 ghost use Rattle.graph_model.specs.declared.batches.NamedOp.{NamedOp};
 ghost use Rattle.edge_block.specs.Slots.{BlockView};
 ghost use Rattle.row_pages.specs.Rows.{numbers_of};
-ghost use Rattle.graph_version.specs.Versions.{VersionView, is_in};
+ghost use Rattle.graph_version.specs.Versions.{VersionView, empty_version, is_in};
 ghost use Rattle.pin_copy.specs.declared.copies.PinCopy.{PinCopy};
+ghost use Rattle.pin_copy.specs.Copies.{no_copy};
+ghost use Rattle.epoch_core.specs.Worlds.{State, IsStart, start_world};
+ghost use Rattle.seat_board.specs.Board.{no_pins};
 ghost use Rattle.block_pool.specs.Pools.{Free, Granted, Used, retired, is_free_at, is_born_at, marked, changed};
 ghost use Rattle.store_steps.specs.Journal.{Entry, Applied, Ledger, entered, replay};
 ghost use Rattle.store_steps.specs.Desks.{DeskView, IsDesk, IsAppliedTo, IsAccepted, IsCollected, AcceptedCounts};
@@ -14,8 +19,8 @@ ghost use Rattle.store_steps.specs.Desks.{CollectedCounts, desk_after};
 ghost use Rattle.store_steps.specs.Steps.{Takes, TakesAt, posting, recycling};
 ghost use Rattle.store_steps.specs.Boards.{PinsAsMachine, SettlesAsMachine, UnpinsAsMachine, RaisesAsMachine};
 ghost use Rattle.store_steps.specs.Histories.{DoneIsRun, ReadersAreUnseen};
-ghost use Rattle.store_steps.specs.Opening.{OpensAsMachine};
-ghost use Rattle.store_steps.specs.Reached.{StaysReached};
+ghost use Rattle.store_steps.specs.Opening.{IsVersionZero, OpensAsMachine, OpensBlank, opened_desk};
+ghost use Rattle.store_steps.specs.Reached.{IsReached, StaysReached};
 ghost use Rattle.store_steps.specs.Held.{HeldIsSnapshot};
 ghost use Rattle.store_steps.specs.Dates.{AreDated};
 ghost use Rattle.store_steps.specs.Examples.{AreExamples};
@@ -88,8 +93,13 @@ pub fn law_board_steps()
 
 /// At its opening the desk is one, and desk and board show the machine's start, whatever the numbers of sessions and
 /// blocks.
+///
+/// - `opened`: over a version without batches, which becomes version 0, in the machine too.
+/// - `blank`: over the version without blocks, where the machine starts with all blocks free.
 pub fn law_opening_shown()
-    ensures { OpensAsMachine }
+    ensures opened { (sessions blocks : ℕ) (v : VersionView) (content : Content) → IsVersionZero blocks v
+        → graph_of content ≡ v.opening → OpensAsMachine sessions blocks v content }
+    ensures blank { (sessions blocks : ℕ) → OpensBlank sessions blocks }
 {}
 
 /// Events that are all done are a run of the machine; and a session's entering, asking, reading and replying change
@@ -102,8 +112,13 @@ pub fn law_histories()
 /// From the opening on the desk and the board together show a world that a run of the machine leaves, whose events are
 /// those of the calls: after each accepted batch, each collection by the copy made last, each raised floor, each seat
 /// pinned, settled at the number that its session holds, or unpinned, and each step of a reader.
+///
+/// - `reached`: from each of the machine's starts.
+/// - `blank`: the opening over no blocks is one, where all blocks are free.
 pub fn law_stays_reached()
-    ensures { (sessions blocks : ℕ) → StaysReached sessions blocks }
+    ensures reached { (start : State) → IsStart start → StaysReached start.world }
+    ensures blank { (sessions blocks : ℕ)
+        → IsReached (start_world sessions blocks) [] (opened_desk blocks empty_version) no_pins no_copy }
 {}
 
 /// Held snapshots: where the desk and the board show what a run of the machine leaves, the blocks of the version that a
@@ -114,11 +129,11 @@ pub fn law_held_versions()
     ensures { HeldIsSnapshot }
 {}
 
-/// The numbers that a desk's blocks carry: no block is left granted, a birth is the number of a version that a batch left,
-/// and a retirement comes after the birth and is never above the last version's number. So a copy of the pins whose last
-/// number is the desk's needs a retired block for its pins alone.
+/// The numbers that a desk's blocks carry: no block is left granted, a birth is the number of a version that a batch left, or 0
+/// of a block that the desk opened with, and a retirement comes after the birth and is never above the last version's number.
+/// So a copy of the pins whose last number is the desk's needs a retired block for its pins alone.
 pub fn law_dated()
-    ensures { (d : DeskView) → IsDesk d → AreDated (length d.last.batches) d.pool }
+    ensures { (d : DeskView) → IsDesk d → AreDated d.opened (length d.last.batches) d.pool }
 {}
 
 /// Small stores worked out by hand: journals that replay and journals that don't, a desk and a world that it shows, the
