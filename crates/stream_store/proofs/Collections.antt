@@ -1,11 +1,14 @@
 -- What a desk keeps at its opening, and over a collection.
-use Rattle.std.proofs.Common.{◌≡◌, ℕ, zero, suc, ◌+◌, ◌≤◌, replicate, length, refl, sym, ap, ◌∙◌, arith, count_by}
+use Rattle.std.proofs.Common.{◌≡◌, ℕ, zero, suc, ◌+◌, ◌≤◌, List, [], ◌∷◌, replicate, length, refl, sym, ap, ◌∙◌, arith, count_by}
+use Rattle.std.specs.Prelude.{slice_set}
 use Rattle.logbook.specs.Pages.{Book}
-use Rattle.graph_version.specs.Versions.{empty_version}
-use Rattle.block_pool.specs.Pools.{Free, is_retired}
+use Rattle.row_pages.specs.Rows.{blocks_of, numbers_of}
+use Rattle.graph_version.specs.Versions.{VersionView}
+use Rattle.block_pool.specs.Pools.{Status, Free, Used, is_retired, marked}
+use Rattle.block_pool.proofs.Tallies.{count_more}
 use Rattle.pin_copy.specs.declared.copies.PinCopy.{PinCopy}
 use Rattle.version_shelf.specs.Shelves.{ShelfView, opened_shelf}
-use Rattle.store_steps.specs.Opening.{opened_desk}
+use Rattle.store_steps.specs.Opening.{IsVersionZero, opened_desk}
 use Rattle.store_steps.proofs.CollectedDesk.{desk_collected, is_collected, collected_is_desk}
 use Rattle.store_steps.proofs.OpeningShown.{opened_is_desk}
 use Rattle.stream_store.specs.Kept.{DeskState, IsKept}
@@ -24,21 +27,37 @@ kept_same d e s t entries room others more kept same shelf len grows = record {
   room_is = let count = ap (λ (x : DeskState). count_by is_retired x.desk.pool) same in let room = kept.room_is in omega arith;
 }
 
+-- no block is retired at an opening
 none_retired : (n : ℕ) → count_by is_retired (replicate n Free) ≡ 0
 none_retired zero = refl
 none_retired (suc n) = let more = none_retired n in cc
 
+set_unretired : (xs : List Status) (n : ℕ) → count_by is_retired xs ≡ 0 → count_by is_retired (slice_set xs n (Used 0)) ≡ 0
+set_unretired [] n none = none
+set_unretired (s ∷ xs) zero none =
+    let a = count_more is_retired s xs in let b = count_more is_retired (Used 0) xs in omega arith
+set_unretired (s ∷ xs) (suc n) none =
+    let a = count_more is_retired s xs in
+    let b = count_more is_retired s (slice_set xs n (Used 0)) in
+    let rest = set_unretired xs n (omega arith) in
+    omega arith
+
+marked_unretired : (ns : List ℕ) (xs : List Status) → count_by is_retired xs ≡ 0 → count_by is_retired (marked ns (Used 0) xs) ≡ 0
+marked_unretired [] xs none = none
+marked_unretired (n ∷ ns) xs none = marked_unretired ns (slice_set xs n (Used 0)) (set_unretired xs n none)
+
 -- an opened desk
-pub opened_kept : (book : Book) (blocks workers : ℕ) → 1 ≤ workers → workers ≤ 8
-    → IsKept (record { book = book; workers = workers; desk = opened_desk blocks }) (opened_shelf book empty_version) 0 0
-opened_kept book blocks workers some few = record {
-  desk = opened_is_desk blocks;
+pub opened_kept : (book : Book) (blocks workers : ℕ) (v : VersionView) → IsVersionZero blocks v → 1 ≤ workers → workers ≤ 8
+    → IsKept (record { book = book; workers = workers; desk = opened_desk blocks v }) (opened_shelf book v) 0 0
+opened_kept book blocks workers v zero_is some few = record {
+  desk = opened_is_desk blocks v zero_is;
   book_is = refl;
   opening_is = refl;
-  posted_is = refl;
+  posted_is = sym zero_is.alone;
   workers_some = some;
   workers_few = few;
-  room_is = let none = none_retired blocks in omega arith;
+  room_is = let none = marked_unretired (numbers_of (blocks_of v.rows)) (replicate blocks Free) (none_retired blocks) in omega
+      arith;
 }
 
 -- the desk after a collection

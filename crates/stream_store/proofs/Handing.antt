@@ -1,5 +1,5 @@
 -- A batch handed over: what the desk's call does with what was made of it.
-use Rattle.std.proofs.Common.{◌≡◌, ℕ, zero, suc, ◌+◌, ◌<◌, ◌≤◌, ◌==◌, true, false, List, [], ◌∷◌, ◌++◌, length, get_or, map, set}
+use Rattle.std.proofs.Common.{◌≡◌, ℕ, zero, suc, ◌+◌, ◌<◌, ◌≤◌, ◌==◌, true, false, List, [], ◌∷◌, ◌++◌, length, get_or, map}
 use Rattle.std.proofs.Common.{refl, sym, ap, subst, ◌∙◌, arith, count_by}
 use Rattle.std.specs.Prelude.{All}
 use Rattle.std.specs.List.{sum_by}
@@ -15,12 +15,12 @@ use Rattle.row_pages.specs.Rows as rows
 use Rattle.batch_shards.specs.RowBlocks.{block_of, blocks_of, numbers_of}
 use Rattle.graph_version.specs.declared.versions.Version.{Version}
 use Rattle.graph_version.specs.Versions.{VersionView, content, is_in}
-use Rattle.block_pool.specs.Pools.{Status, Free, Granted, Used, is_free, is_retired, is_used, is_born, retired, marked, changed, AreFree}
+use Rattle.block_pool.specs.Pools.{Status, Free, Granted, Used, is_free, is_retired, is_used, retired, marked, changed, AreFree}
 use Rattle.version_shelf.specs.Shelves.{ShelfView, IsNext}
 use Rattle.store_steps.specs.Journal as journal
 use Rattle.store_steps.specs.Desks.{DeskView, IsDesk, FollowsLayout}
 use Rattle.store_steps.specs.Steps.{Accepts}
-use Rattle.store_steps.proofs.Accepting.{Application, next_desk, granted_pool, born_pool, retired_pool, made_accepted, made_desk}
+use Rattle.store_steps.proofs.Accepting.{Application, next_desk, born_pool, retired_pool, made_accepted, made_desk}
 use Rattle.store_steps.proofs.Accepting.{moves_left, taken_granted, taken_movable, dropped_movable, unused_movable}
 use Rattle.store_steps.proofs.Accepting.{granted_movable, given_back, born_movable, born_given_back, granted_unlisted}
 use Rattle.store_steps.proofs.BatchLaws.{accepted_steps}
@@ -185,20 +185,21 @@ end_pool h number born end is made moved =
 abbrev pub entry_in : Handing → JournalEntry
 entry_in h = entries.Applied h.prepared.batch h.prepared.taken h.prepared.dropped_numbers
 
-abbrev pub desk_of : VersionView → List JournalEntry → List Status → DeskView
-desk_of last entries pool = record { last = last; journal = map entry_of entries; pool = pool }
+abbrev pub desk_of : List ℕ → VersionView → List JournalEntry → List Status → DeskView
+desk_of opened last entries pool = record { opened = opened; last = last; journal = map entry_of entries; pool = pool }
 
-pub end_desk : (h : Handing) (last : VersionView) (entries old_entries : List JournalEntry) (pool : List Status)
-    → map entry_of old_entries ≡ h.old.journal → last ≡ version_of h → entries ≡ old_entries ++ entry_in h ∷ []
-    → pool ≡ (next_desk (application h)).pool → desk_of last entries pool ≡ next_desk (application h)
-end_desk h last entries old_entries pool before same_last same_entries same_pool =
+pub end_desk : (h : Handing) (opened : List ℕ) (last : VersionView) (entries old_entries : List JournalEntry)
+    (pool : List Status) → h.old.opened ≡ opened → map entry_of old_entries ≡ h.old.journal → last ≡ version_of h
+    → entries ≡ old_entries ++ entry_in h ∷ [] → pool ≡ (next_desk (application h)).pool
+    → desk_of opened last entries pool ≡ next_desk (application h)
+end_desk h opened last entries old_entries pool same_opened before same_last same_entries same_pool =
     let dropped : List ℕ = rows.numbers_of (blocks_of h.prepared.dropped.items) in
     let entry : entry_of (entry_in h) ≡ journal.Applied h.ops h.prepared.taken dropped =
     λ i. journal.Applied (h.is_prepared.batch_is i) h.prepared.taken ((h.is_prepared.dropped_are ∙ dropped_is h) i) in
     let more : map entry_of entries ≡ h.old.journal ++ journal.Applied h.ops h.prepared.taken dropped ∷ [] =
     ap (map entry_of) same_entries ∙ map-append entry_of old_entries (entry_in h ∷ [])
     ∙ ap (λ es. es ++ entry_of (entry_in h) ∷ []) before ∙ ap (λ e. h.old.journal ++ e ∷ []) entry in
-    λ i. record { last = same_last i; journal = more i; pool = same_pool i }
+    λ i. record { opened = sym same_opened i; last = same_last i; journal = more i; pool = same_pool i }
 
 pub end_accepts : (h : Handing) (new : DeskView) → new ≡ next_desk (application h) → Accepts h.old h.ops new
 end_accepts h new is =

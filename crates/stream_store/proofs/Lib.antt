@@ -5,3 +5,4 @@ pub mod Handing
 pub mod ReceiptLaws
 pub mod Rows
 pub mod Seated
+pub mod Zeros

@@ -9,7 +9,7 @@ use Rattle.std.specs.declared.alloc.Global.{Global}
 use Rattle.edge_block.specs.declared.blocks.Block.{Block}
 use Rattle.batch_shards.specs.RowBlocks.{block_of, numbers_of}
 use Rattle.graph_version.specs.Versions.{is_in}
-use Rattle.block_pool.specs.Pools.{Status, Granted, Used, is_used, is_born, is_used_at, is_born_at, marked, changed, passes, retired}
+use Rattle.block_pool.specs.Pools.{Status, Granted, is_used, is_born, is_used_at, is_born_at, marked, changed, passes, retired}
 use Rattle.block_pool.proofs.Tallies.{count_more}
 use Rattle.epoch_blocks.specs.Blocks.{all_differ}
 use Rattle.epoch_blocks.proofs.Lists.{all_listed}

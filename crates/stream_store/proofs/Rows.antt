@@ -1,6 +1,6 @@
 -- Two sessions worked out by hand: one to which the desk lent a version of one batch, and one that entered a version with an
 -- empty batch before that one. They hold equal contents; a session before any batch holds another.
-use Rattle.std.specs.Prelude.{◌≡◌, ℕ, List, [], ◌∷◌, length, refl, None, Some}
+use Rattle.std.specs.Prelude.{◌≡◌, List, [], ◌∷◌, length, refl, None, Some}
 use Rattle.logbook.specs.Pages.{Book}
 use Rattle.graph_model.specs.Step.{empty_graph}
 use Rattle.graph_model.specs.declared.batches.NamedOp.{NamedOp}

@@ -1,16 +1,17 @@
 -- Seats: a pin set twice, and the seats of an opening.
-use Rattle.std.proofs.Common.{◌≡◌, ℕ, zero, suc, ◌+◌, ◌<◌, List, [], ◌∷◌, ◌++◌, length, map, take, drop, refl, sym, ap, subst}
+use Rattle.std.proofs.Common.{◌≡◌, ℕ, zero, suc, ◌+◌, ◌<◌, List, [], ◌∷◌, ◌++◌, length, get_or, map, take, drop, refl, sym, ap, subst}
 use Rattle.std.proofs.Common.{◌∙◌, arith}
 use Rattle.std.specs.Prelude.{All, Option, slice_set, slice_index_or}
 use Rattle.std.specs.List.{range_with_len}
 use Rattle.std.proofs.lemmas.List.{map-append, length-append}
 use Rattle.std.proofs.lemmas.List.Elements.{All-head, All-tail, All-cons}
 use Rattle.logbook.specs.Pages.{Book}
-use Rattle.graph_version.specs.Versions.{VersionView, empty_version}
+use Rattle.graph_version.specs.Versions.{VersionView}
 use Rattle.version_shelf.specs.Shelves.{ToldView}
 use Rattle.seat_board.specs.Board.{BoardState, with_pin}
 use Rattle.seat_board.specs.declared.board.Pin.{Pin}
-use Rattle.stream_store.specs.Seats.{SeatView, IsNewSeat}
+use Rattle.stream_store.specs.Seats.{SeatView, HasSeen}
+use Rattle.stream_store.specs.Stores.{IsSeatOf}
 
 set_again : {X : Type 0} (xs : List X) (i : ℕ) (x y : X) → slice_set (slice_set xs i x) i y ≡ slice_set xs i y
 set_again [] i x y = refl
@@ -20,25 +21,33 @@ set_again (z ∷ zs) (suc i) x y = ap (λ ws. z ∷ ws) (set_again zs i x y)
 pub pin_twice : (b : BoardState) (s : ℕ) (x y : Option Pin) → with_pin (with_pin b s x) s y ≡ with_pin b s y
 pin_twice b s x y = λ i. record { floor = b.floor; pins = set_again b.pins s x y i }
 
-abbrev IsNew : Book → ToldView → Type 0
-IsNew book x = x ≡ record { book = book; version = empty_version }
+abbrev IsNew : Book → VersionView → ToldView → Type 0
+IsNew book version x = x ≡ record { book = book; version = version }
 
-each : (book : Book) (seats : List SeatView) → All (IsNew book) (map (λ (s : SeatView). s.seen) seats)
-    → All (IsNewSeat book) seats
-each book [] all = λ k d h. absurd (omega arith)
-each book (s ∷ seats) all =
-    All-cons (IsNewSeat book) s seats (All-head (IsNew book) s.seen (map (λ (t : SeatView). t.seen) seats) all)
-    (each book seats (All-tail (IsNew book) s.seen (map (λ (t : SeatView). t.seen) seats) all))
+each : (book : Book) (version : VersionView) (seats : List SeatView)
+    → All (IsNew book version) (map (λ (s : SeatView). s.seen) seats) → All (HasSeen book version) seats
+each book version [] all = λ k d h. absurd (omega arith)
+each book version (s ∷ seats) all =
+    All-cons (HasSeen book version) s seats
+    (All-head (IsNew book version) s.seen (map (λ (t : SeatView). t.seen) seats) all)
+    (each book version seats (All-tail (IsNew book version) s.seen (map (λ (t : SeatView). t.seen) seats) all))
 
 -- seats of readers that have seen version 0
 pub new_seats : (book other : Book) (version : VersionView) (seats : List SeatView) (readers : List ToldView)
     → map (λ (s : SeatView). s.seen) seats ≡ readers
-    → All (λ (x : ToldView). x ≡ record { book = book; version = version }) readers → version ≡ empty_version → other ≡ book
-    → All (IsNewSeat other) seats
-new_seats book other version seats readers same all empty is =
-    each other seats (subst (λ (b : Book). All (IsNew b) (map (λ (s : SeatView). s.seen) seats)) (sym is)
-    (subst (λ (rs : List ToldView). All (IsNew book) rs) (sym same)
-    (subst (λ (v : VersionView). All (λ (x : ToldView). x ≡ record { book = book; version = v }) readers) empty all)))
+    → All (λ (x : ToldView). x ≡ record { book = book; version = version }) readers → other ≡ book
+    → All (HasSeen other version) seats
+new_seats book other version seats readers same all is =
+    each other version seats
+    (subst (λ (b : Book). All (IsNew b version) (map (λ (s : SeatView). s.seen) seats)) (sym is)
+    (subst (λ (rs : List ToldView). All (IsNew book version) rs) (sym same) all))
+
+-- they are seats of the shelf
+pub seats_of_opening : (book : Book) (version : VersionView) (seats : List SeatView) → All (HasSeen book version) seats
+    → All (IsSeatOf book version.opening) seats
+seats_of_opening book version seats new = λ k d h.
+    let seen : (get_or seats k d).seen ≡ record { book = book; version = version } = new k d h in
+    record { book_is = ap (λ (x : ToldView). x.book) seen; opening_is = ap (λ (x : ToldView). x.version.opening) seen }
 
 range_more : (a n : ℕ) → range_with_len a (suc n) ≡ range_with_len a n ++ (a + n) ∷ []
 range_more a zero = let same : a ≡ a + 0 = omega arith in ap (λ (k : ℕ). k ∷ []) same

@@ -1,5 +1,5 @@
 -- The used blocks of a desk are those of its last version.
-use Rattle.std.proofs.Common.{◌≡◌, ◌≢◌, ℕ, zero, suc, ◌+◌, ◌==◌, true, false, cond, ◌||◌, List, [], ◌∷◌, length}
+use Rattle.std.proofs.Common.{◌≡◌, ◌≢◌, ℕ, zero, suc, ◌+◌, ◌==◌, Bool, true, false, cond, ◌||◌, List, [], ◌∷◌, length}
 use Rattle.std.proofs.Common.{set, count_by, refl, sym, ap, ◌∙◌, arith}
 use Rattle.std.specs.Prelude.{slice_get}
 use Rattle.std.specs.declared.option.Option.TheVariants.{Some}
@@ -12,7 +12,7 @@ use Rattle.block_pool.specs.Pools.{Status, Free, Granted, Used, Retired, is_born
 use Rattle.block_pool.proofs.Tallies.{count_more}
 use Rattle.epoch_blocks.specs.Blocks.{all_differ}
 use Rattle.epoch_blocks.proofs.Lists.{set_else}
-use Rattle.store_steps.specs.Dates.{IsDated, AreDated}
+use Rattle.store_steps.specs.Dates.{IsDated}
 use Rattle.store_steps.specs.Desks.{DeskView, IsDesk, last_numbers}
 use Rattle.store_steps.proofs.NumberLists.{differ_from, differ_head, differ_tail}
 use Rattle.store_steps.proofs.Dated.{desk_dated}
@@ -64,15 +64,16 @@ born_counted (n ∷ ns) pool apart born =
     omega arith
 
 -- where none is left granted, the used are the born
-used_born : (last : ℕ) (pool : List Status) → AreDated last pool → count_by is_used pool ≡ count_by is_born pool
-used_born last [] dated = refl
-used_born last (s ∷ pool) dated =
+used_born : (opened : ℕ → Bool) (last : ℕ) (pool : List Status) → ((n : ℕ) → IsDated (opened n) last (slice_get pool n))
+    → count_by is_used pool ≡ count_by is_born pool
+used_born opened last [] dated = refl
+used_born opened last (s ∷ pool) dated =
     let a = count_more is_used s pool in
     let b = count_more is_born s pool in
     let here : (let k : ℕ = cond (is_used s) 1 0 in k) ≡ cond (is_born s) 1 0 = ap (λ t. cond t 1 0) (one s (dated 0)) in
-    let rest = used_born last pool (λ n. dated (suc n)) in
+    let rest = used_born (λ n. opened (suc n)) last pool (λ n. dated (suc n)) in
     omega arith where
-      one : (t : Status) → IsDated last (Some t) → is_used t ≡ is_born t
+      one : (t : Status) → IsDated (opened 0) last (Some t) → is_used t ≡ is_born t
       one Free is = refl
       one Granted is = absurd is
       one (Used birth) is = refl
@@ -80,6 +81,6 @@ used_born last (s ∷ pool) dated =
 
 pub used_blocks : (d : DeskView) → IsDesk d → count_by is_used d.pool ≡ block_count d.last
 used_blocks d desk =
-    used_born (length d.last.batches) d.pool (desk_dated d desk)
+    used_born (λ n. is_in n d.opened) (length d.last.batches) d.pool (desk_dated d desk)
     ∙ born_counted (last_numbers d) d.pool (differ_from (last_numbers d) desk.version.rows.numbers) desk.listed
     ∙ length-map (blocks_of d.last.rows) (λ (b : BlockView). b.number)

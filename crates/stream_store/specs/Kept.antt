@@ -22,12 +22,12 @@ abbrev pub entry_of : JournalEntry → Entry
 entry_of (entries.Applied batch taken dropped) = Applied (arc_value {X = Batch} batch) taken dropped
 entry_of (entries.Collected copy recycled) = Collected copy recycled
 
-abbrev pub state_of : Book → ℕ → VersionView → List JournalEntry → List Status → DeskState
-state_of book workers last journal pool = record {
+abbrev pub state_of : Book → ℕ → List ℕ → VersionView → List JournalEntry → List Status → DeskState
+state_of book workers opened last journal pool = record {
   book = book;
   workers = workers;
   desk =
-      record { last = last; journal = map entry_of journal; pool = pool };
+      record { opened = opened; last = last; journal = map entry_of journal; pool = pool };
 }
 
 -- it is a desk, the shelf has posted the last version's batches, and the journal's spare room is never below the number

@@ -6,3 +6,4 @@ pub mod Moves
 pub mod Refusals
 pub mod Seats
 pub mod Stores
+pub mod Openings

@@ -36,6 +36,10 @@ lent_to seat version = record { number = seat.number; seen = seat.seen; lent = S
 abbrev pub seat_of : SessionView → SeatView
 seat_of s = record { number = s.number; seen = s.seen }
 
--- a seat of the history of this book, which has seen version 0 alone
+-- a seat of the history of this book, which has seen this version alone
+abbrev pub HasSeen : Book → VersionView → SeatView → Type 0
+HasSeen book version s = s.seen ≡ record { book = book; version = version }
+
+-- a seat of a store that opened without blocks
 abbrev pub IsNewSeat : Book → SeatView → Type 0
-IsNewSeat book s = s.seen ≡ record { book = book; version = empty_version }
+IsNewSeat book s = HasSeen book empty_version s

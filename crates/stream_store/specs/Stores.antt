@@ -1,8 +1,9 @@
 -- A store behind locks: what its calls answer, where what the locks held is not known.
 use Rattle.std.specs.Prelude.{◌≡◌, ℕ, ◌<◌, List, [], ◌∷◌, ◌++◌, length}
 use Rattle.logbook.specs.Pages.{Book}
+use Rattle.graph_model.specs.Graph.{Graph}
 use Rattle.graph_model.specs.Limits.{batch_limit}
-use Rattle.graph_model.specs.Step.{outcomes, left_by, empty_graph}
+use Rattle.graph_model.specs.Step.{outcomes, left_by}
 use Rattle.graph_model.specs.declared.batches.NamedOp.{NamedOp}
 use Rattle.graph_model.specs.declared.batches.Outcome.{Outcome}
 use Rattle.graph_version.specs.Versions.{VersionView, IsVersion}
@@ -12,12 +13,17 @@ use Rattle.pin_copy.specs.declared.copies.PinCopy.{PinCopy}
 use Rattle.seat_board.specs.Board.{BoardState, copy_of}
 use Rattle.store_steps.specs.Desks.{DeskView}
 use Rattle.stream_store.specs.Refusals.{Refuses}
+use Rattle.stream_store.specs.Seats.{SeatView}
 use Rattle.stream_store.specs.declared.receipts.ApplyError.{ApplyError}
 
--- a version of the shelf of this book, which began with the empty graph
-pub record IsOfOpening (book : Book) (x : ToldView) : Type 0 where
+-- a version of the shelf of this book, which began with this graph
+pub record IsOfOpening (book : Book) (opening : Graph) (x : ToldView) : Type 0 where
   pub book_is : x.book ≡ book
-  pub opening_is : x.version.opening ≡ empty_graph
+  pub opening_is : x.version.opening ≡ opening
+
+-- a seat of that shelf
+abbrev pub IsSeatOf : Book → Graph → SeatView → Type 0
+IsSeatOf book opening seat = IsOfOpening book opening seat.seen
 
 -- a receipt tells of a version whose batches end with this one and have its number; the outcomes are those of the operation
 -- rule over what the batches before left, at which neither limit of the batch is met, nor that of their number
@@ -29,12 +35,12 @@ pub record IsReceiptOf (ops : List NamedOp) (number : ℕ) (results : List Outco
   pub few : length earlier < batch_limit
   pub limits : MeetsNeitherLimit ops (left_by earlier told.version.opening)
 
--- there is a version that began with the empty graph, and a number of free blocks, at which the batch is so refused
-pub record IsRefusalOf (ops : List NamedOp) (e : ApplyError) : Type 0 where
+-- there is a version that began with this graph, and a number of free blocks, at which the batch is so refused
+pub record IsRefusalOf (opening : Graph) (ops : List NamedOp) (e : ApplyError) : Type 0 where
   pub last : VersionView
   pub free : ℕ
   pub version_is : IsVersion last
-  pub opening_is : last.opening ≡ empty_graph
+  pub opening_is : last.opening ≡ opening
   pub refuses : Refuses last free ops e
 
 -- the copy of a desk's last number and the pins of a board

@@ -1,13 +1,13 @@
 //! The desk.
 
-ghost use Rattle.std.specs.Prelude.{◌≡◌, ℕ, ◌+◌, ◌<◌, ◌≤◌, ◌++◌, [], length, map, replicate, count_by, vec_capacity, vec_len};
+ghost use Rattle.std.specs.Prelude.{◌≡◌, ℕ, ◌+◌, ◌<◌, ◌≤◌, ◌++◌, length, map, count_by, vec_capacity, vec_len};
 ghost use Rattle.std.specs.Prelude.{IfOk, IfErr, OnOk, OnErr};
 ghost use Rattle.std.specs.Arc.{arc_value};
 ghost use mathlib.Core.List.{IsPrefix};
 ghost use Rattle.graph_version.specs.declared.versions.Version.{Version};
-ghost use Rattle.graph_version.specs.Versions.{content, empty_version};
+ghost use Rattle.graph_version.specs.Versions.{content};
 ghost use Rattle.graph_version.specs.Kept.{edge_total};
-ghost use Rattle.block_pool.specs.Pools.{Free, is_free, is_used, is_retired, is_past};
+ghost use Rattle.block_pool.specs.Pools.{is_free, is_used, is_retired, is_past};
 ghost use Rattle.pin_copy.specs.Copies.{floor_of};
 ghost use Rattle.pin_copy.specs.declared.copies.PinCopy.{PinCopy};
 ghost use Rattle.version_shelf.specs.Shelves.{opened_shelf};
@@ -18,14 +18,17 @@ ghost use Rattle.store_steps.specs.Steps.{Accepts, TakesAt, recycling};
 ghost use Rattle.stream_store.specs.Applying.{IsReceipt};
 ghost use Rattle.stream_store.specs.Refusals.{Refuses, IsWithin, block_count};
 ghost use Rattle.stream_store.specs.Kept.{entry_of};
+ghost use Rattle.stream_store.specs.Openings.{OpensWith};
 
 use crate::applying::{Prepared, grant_blocks, next_number, plan_next, prepare, publish};
+use crate::config::Config;
 use crate::entries::{JournalEntry, enter};
 use crate::moves::{born_blocks, give_back_numbers, move_blocks};
 use crate::receipts::{ApplyError, Receipt};
+use crate::zero::Zero;
 use batch_apply::Gate;
 use block_pool::{Grant, Pool};
-use graph_model::Batch;
+use graph_model::{Batch, List};
 use graph_version::Version;
 use pin_copy::PinCopy;
 use std::alloc::Global;
@@ -44,6 +47,8 @@ use version_shelf::{ShelfWriter, Told};
 pub struct Desk {
     alloc: Global,
     workers: usize,
+    /// The numbers of version 0's blocks, from which the journal replays.
+    opened: List<u32>,
     last: Arc<Version>,
     pool: Pool,
     journal: Vec<JournalEntry>,
@@ -56,6 +61,7 @@ impl Drop for Desk {
         let Desk {
             alloc: _alloc,
             workers: _workers,
+            opened: _opened,
             last: _last,
             pool: _pool,
             journal: _journal,
@@ -76,9 +82,10 @@ impl Model for Desk {
 
     ghost coded = { Prim.hlevel (codes, graph_code) };
 
-    ghost view = { λ d. state_of d.shelf.book d.workers (arc_value {X = Version} d.last) d.journal.items d.pool };
+    ghost view = { λ d. state_of d.shelf.book d.workers d.opened (arc_value {X = Version} d.last) d.journal.items d.pool };
 
-    ghost invariant = { λ d. IsKept (state_of d.shelf.book d.workers (arc_value {X = Version} d.last) d.journal.items d.pool) d.shelf
+    ghost invariant = { λ d.
+        IsKept (state_of d.shelf.book d.workers d.opened (arc_value {X = Version} d.last) d.journal.items d.pool) d.shelf
         (vec_len d.journal) (vec_capacity d.journal) };
 }
 
@@ -102,24 +109,26 @@ pub struct Stat {
 }
 
 impl Desk {
-    /// The desk at its opening, over a new pool and a shelf that has posted nothing. It takes no memory.
-    pub(crate) fn opened(
-        alloc: Global,
-        workers: usize,
-        last: Arc<Version>,
-        pool: Pool,
-        shelf: ShelfWriter,
-    ) -> Desk
-        requires workers { (1 ≤ workers) × (workers ≤ 8) }
-        requires last { arc_value {X = Version} last ≡ empty_version }
-        requires pool { pool ≡ replicate (length pool) Free }
-        requires shelf { shelf ≡ opened_shelf shelf.book empty_version }
-        ensures { result ≡ record { book = shelf.book; workers = workers; desk = opened_desk (length pool) } }
+    /// The desk at its opening, over version 0 and a shelf that has posted nothing. It takes no memory.
+    pub(crate) fn opened(alloc: Global, config: Config, zero: Zero, shelf: ShelfWriter) -> Desk
+        requires zero { OpensWith config.blocks zero }
+        requires shelf { shelf ≡ opened_shelf shelf.book (arc_value {X = Version} zero.version) }
+        ensures { result ≡ record {
+          book = shelf.book;
+          workers = config.workers;
+          desk = opened_desk config.blocks (arc_value {X = Version} zero.version);
+        } }
     {
+        let Zero {
+            version,
+            numbers,
+            pool,
+        } = zero;
         Desk {
             alloc,
-            workers,
-            last,
+            workers: config.workers(),
+            opened: numbers,
+            last: version,
             pool,
             journal: Vec::new(alloc),
             shelf,
@@ -221,6 +230,7 @@ impl Desk {
         let Desk {
             alloc: _alloc,
             workers: _workers,
+            opened: _opened,
             last,
             pool: _pool,
             journal: _journal,
@@ -261,7 +271,7 @@ impl Desk {
     pub fn journal(&self) -> &[JournalEntry]
         ensures entries { map entry_of result.now ≡ self.now.desk.journal }
         ensures replays { IsDesk self.now.desk }
-        ensures dated { AreDated (length self.now.desk.last.batches) self.now.desk.pool }
+        ensures dated { AreDated self.now.desk.opened (length self.now.desk.last.batches) self.now.desk.pool }
         ensures used { count_by is_used self.now.desk.pool ≡ block_count self.now.desk.last }
     {
         self.journal.as_slice()

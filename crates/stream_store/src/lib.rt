@@ -12,12 +12,13 @@ mod opening;
 mod receipts;
 mod seats;
 mod store;
+mod zero;
 
 pub use config::{BadConfig, Config};
 pub use desk::{Collected, Desk, Stat};
 pub use entries::JournalEntry;
 pub use laws::law_equal_answers;
-pub use opening::{OpenError, open_parts};
+pub use opening::{OpenError, open_parts, open_parts_from};
 pub use receipts::{ApplyError, Receipt};
 pub use seats::{PinnedSeat, Seat, Session};
 pub use store::{Naming, Store};

@@ -1,15 +1,21 @@
 //! The opening of a store.
 
-ghost use Rattle.std.specs.Prelude.{◌≡◌, ◌≤◌, length, map, IfOk, All, vec_len};
+ghost use Rattle.std.specs.Prelude.{◌≡◌, ℕ, ◌<◌, ◌≤◌, length, map, IfOk, IfErr, Err, All};
 ghost use Rattle.std.specs.List.{range_with_len};
+ghost use Rattle.std.specs.Arc.{arc_value};
 ghost use Rattle.seat_board.specs.Board.{no_pins};
-ghost use Rattle.store_steps.specs.Opening.{opened_desk};
-ghost use Rattle.stream_store.specs.Seats.{SeatView, IsNewSeat};
+ghost use Rattle.graph_version.specs.declared.versions.Version.{Version};
+ghost use Rattle.graph_version.specs.Versions.{empty_version};
+ghost use Rattle.graph_version.specs.Rebased.{IsRebased};
+ghost use Rattle.store_steps.specs.Opening.{IsVersionZero, opened_desk};
+ghost use Rattle.stream_store.specs.Openings.{OpensWith, RefusesOpening};
+ghost use Rattle.stream_store.specs.Refusals.{block_count};
+ghost use Rattle.stream_store.specs.Seats.{SeatView, HasSeen, IsNewSeat};
 
 use crate::config::Config;
 use crate::desk::Desk;
 use crate::seats::Seat;
-use block_pool::Pool;
+use crate::zero::Zero;
 use graph_version::Version;
 use seat_board::{Board, SeatNo};
 use std::alloc::{AllocError, Global};
@@ -20,6 +26,8 @@ use version_shelf::{ShelfError, ShelfReader, shelf};
 /// Why no store was opened.
 #[derive(Clone, Copy, Debug, PartialEq, Eq, Error)]
 pub enum OpenError {
+    #[error("the version has {needed} blocks and {free} are free")]
+    PoolEmpty { needed: usize, free: u32 },
     #[error("no reader's place was to be had")]
     NoReader,
     #[error("out of memory")]
@@ -33,28 +41,83 @@ pub fn open_parts<R: Wait>(
     alloc: Global,
     config: Config,
 ) -> Result<(Desk, Board, Vec<Seat>), OpenError>
-    ensures desk { IfOk result (λ r. r.0 ≡ record { book = r.0.book; workers = config.workers; desk = opened_desk config.blocks }) }
+    ensures desk { IfOk result (λ r. r.0
+        ≡ record { book = r.0.book; workers = config.workers; desk = opened_desk config.blocks empty_version }) }
     ensures board { IfOk result (λ r. r.1 ≡ no_pins) }
     ensures seats { IfOk result (λ r. (length r.2.items ≡ config.seats) × All (IsNewSeat r.0.book) r.2.items) }
     ensures numbers { IfOk result (λ r. map (λ (s : SeatView). s.number) r.2.items ≡ range_with_len 0 (length r.2.items)) }
+    ensures refused { IfErr result (RefusesOpening 0 config.blocks) }
 {
-    let workers = config.workers();
-    let Ok(pool) = Pool::new(alloc, config.blocks()) else {
+    let Ok(zero) = Zero::blank(alloc, config.blocks()) else {
         return Err(OpenError::OutOfMemory);
     };
-    let (writer, readers) = match shelf(rt, alloc, Version::empty(alloc), config.seats()) {
+    open_over(rt, alloc, config, zero)
+}
+
+/// The same with what a version holds, for which it copies the version's blocks: version 0 begins with the version's
+/// content, its rows are laid out as the version's, and all blocks but its own are free. It waits for nobody.
+///
+/// `PoolEmpty` exactly where the version has more blocks than the configuration.
+pub fn open_parts_from<R: Wait>(
+    rt: &R,
+    alloc: Global,
+    config: Config,
+    version: &Version,
+) -> Result<(Desk, Board, Vec<Seat>), OpenError>
+    ensures zero { IfOk result (λ r. IsVersionZero config.blocks r.0.desk.last) }
+    ensures rebased { IfOk result (λ r. IsRebased version.now r.0.desk.last) }
+    ensures desk { IfOk result (λ r. r.0
+        ≡ record { book = r.0.book; workers = config.workers; desk = opened_desk config.blocks r.0.desk.last }) }
+    ensures board { IfOk result (λ r. r.1 ≡ no_pins) }
+    ensures seats { IfOk result (λ r. (length r.2.items ≡ config.seats) × All (HasSeen r.0.book r.0.desk.last) r.2.items) }
+    ensures numbers { IfOk result (λ r. map (λ (s : SeatView). s.number) r.2.items ≡ range_with_len 0 (length r.2.items)) }
+    ensures refused { IfErr result (RefusesOpening (block_count version.now) config.blocks) }
+    ensures exact { config.blocks < block_count version.now
+        → result ≡ Err (OpenError.PoolEmpty (block_count version.now) config.blocks) }
+{
+    let needed = version.block_count();
+    let free = config.blocks();
+    if needed > free as usize {
+        return Err(OpenError::PoolEmpty { needed, free });
+    }
+    let Ok(zero) = Zero::over(alloc, free, version) else {
+        return Err(OpenError::OutOfMemory);
+    };
+    open_over(rt, alloc, config, zero)
+}
+
+/// The parts of a store over this version 0.
+fn open_over<R: Wait>(
+    rt: &R,
+    alloc: Global,
+    config: Config,
+    zero: Zero,
+) -> Result<(Desk, Board, Vec<Seat>), OpenError>
+    requires { OpensWith config.blocks zero }
+    ensures desk { IfOk result (λ r. r.0 ≡ record {
+      book = r.0.book;
+      workers = config.workers;
+      desk = opened_desk config.blocks (arc_value {X = Version} zero.version);
+    }) }
+    ensures board { IfOk result (λ r. r.1 ≡ no_pins) }
+    ensures seats { IfOk result (λ r. (length r.2.items ≡ config.seats)
+        × All (HasSeen r.0.book (arc_value {X = Version} zero.version)) r.2.items) }
+    ensures numbers { IfOk result (λ r. map (λ (s : SeatView). s.number) r.2.items ≡ range_with_len 0 (length r.2.items)) }
+    ensures refused { IfErr result (λ e. (needed : ℕ) → RefusesOpening needed config.blocks e) }
+{
+    let Ok(shown) = Arc::try_clone(&zero.version) else {
+        return Err(OpenError::OutOfMemory);
+    };
+    let (writer, readers) = match shelf(rt, alloc, shown, config.seats()) {
         Ok(parts) => parts,
         Err(ShelfError::NoReader) => return Err(OpenError::NoReader),
         Err(ShelfError::OutOfMemory) => return Err(OpenError::OutOfMemory),
-    };
-    let Ok(last) = Arc::new(alloc, Version::empty(alloc)) else {
-        return Err(OpenError::OutOfMemory);
     };
     let Ok(seats) = seats_of(alloc, readers) else {
         return Err(OpenError::OutOfMemory);
     };
     Ok((
-        Desk::opened(alloc, workers, last, pool, writer),
+        Desk::opened(alloc, config, zero, writer),
         Board::new(),
         seats,
     ))

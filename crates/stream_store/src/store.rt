@@ -31,12 +31,17 @@ use std::thread::Threads;
 /// so what comes out of a lock is known to be of that opening.
 pub trait Naming {
     ghost use Rattle.logbook.specs.Pages.{Book};
+    ghost use Rattle.graph_model.specs.Graph.{Graph};
 
     ghost book: { Book };
+
+    ghost opening: { Graph };
 }
 
 impl Naming for Brand {
     ghost book = { record { number = 0; log_name = 0; cells_name = 0 } };
+
+    ghost opening = { empty_graph };
 }
 
 /// A desk of the opening that has this name.
@@ -45,7 +50,7 @@ struct NamedDesk<J: Naming> {
     desk: Desk,
     of: PhantomData<J>,
     ghost book_is: { desk.book ≡ J.book },
-    ghost opening_is: { desk.desk.last.opening ≡ empty_graph } by { Prim.hlevel (codes, graph_code) },
+    ghost opening_is: { desk.desk.last.opening ≡ J.opening } by { Prim.hlevel (codes, graph_code) },
 }
 
 impl<J: Naming> NamedDesk<J> {
@@ -63,8 +68,8 @@ impl<J: Naming> NamedDesk<J> {
         ensures refuses { IfErr result (λ e. Refuses self.old.desk.desk.last (count_by is_free self.old.desk.desk.pool) batch e) }
         ensures unchanged { OnErr result (self.new.desk ≡ self.old.desk) }
         ensures receipt { IfOk result (λ r. IsReceiptOf batch r.number r.outcomes r.told) }
-        ensures opening { IfOk result (λ r. IsOfOpening J.book r.told) }
-        ensures refused { IfErr result (IsRefusalOf batch) }
+        ensures opening { IfOk result (λ r. IsOfOpening J.book J.opening r.told) }
+        ensures refused { IfErr result (IsRefusalOf J.opening batch) }
     {
         // A desk's contract says with its journal that its last version is one.
         let _journal = self.desk.journal();
@@ -117,7 +122,7 @@ impl<J: Naming> Store<J> {
     /// The store of a desk and a board of one opening, which has this name.
     pub fn over(desk: Desk, board: Board) -> Store<J>
         requires book { desk.book ≡ J.book }
-        requires opening { desk.desk.last.opening ≡ empty_graph }
+        requires opening { desk.desk.last.opening ≡ J.opening }
     {
         Store {
             desk: Mutex::new(NamedDesk {
@@ -136,8 +141,8 @@ impl<J: Naming> Store<J> {
         batch: Batch,
     ) -> Result<Receipt, ApplyError>
         ensures receipt { IfOk result (λ r. IsReceiptOf batch r.number r.outcomes r.told) }
-        ensures opening { IfOk result (λ r. IsOfOpening J.book r.told) }
-        ensures refused { IfErr result (IsRefusalOf batch) }
+        ensures opening { IfOk result (λ r. IsOfOpening J.book J.opening r.told) }
+        ensures refused { IfErr result (IsRefusalOf J.opening batch) }
     {
         self.desk.lock(rt).apply(rt, gate, batch)
     }
@@ -156,7 +161,7 @@ impl<J: Naming> Store<J> {
 
     /// Ends the store, as `Desk::close` ends its desk.
     pub fn close<R: Wait>(self, rt: &R) -> Arc<Version>
-        ensures { (arc_value {X = Version} result).opening ≡ empty_graph }
+        ensures { (arc_value {X = Version} result).opening ≡ J.opening }
     {
         let Store {
             desk,

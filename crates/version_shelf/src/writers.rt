@@ -72,21 +72,21 @@ impl Drop for ShelfWriter {
 pub fn shelf<R: Wait>(
     rt: &R,
     alloc: Global,
-    opening: Version,
+    opening: Arc<Version>,
     readers: usize,
 ) -> Result<(ShelfWriter, Vec<ShelfReader>), ShelfError>
-    requires opening { opening.batches ≡ [] }
+    requires opening { (arc_value {X = Version} opening).batches ≡ [] }
     requires readers { (0 < readers) × (readers ≤ 16) }
-    ensures writer { IfOk result (λ r. r.0 ≡ opened_shelf r.0.book opening) }
+    ensures writer { IfOk result (λ r. r.0 ≡ opened_shelf r.0.book (arc_value {X = Version} opening)) }
     ensures count { IfOk result (λ r. vec_len r.1 ≡ readers) }
-    ensures readers { IfOk result (λ r. All (λ (x : ToldView). x ≡ record { book = r.0.book; version = opening }) r.1.items) }
+    ensures readers { IfOk result (λ r.
+        All (λ (x : ToldView). x ≡ record { book = r.0.book; version = arc_value {X = Version} opening }) r.1.items) }
 {
     let Some((end, history)) = History::open() else {
         return Err(ShelfError::NoReader);
     };
-    let version = Arc::new(alloc, opening).map_err(|_| ShelfError::OutOfMemory)?;
     let told = Told {
-        version,
+        version: opening,
         history: history.again(),
     };
     let place = opened(rt, alloc, &told, readers)?;

@@ -30,7 +30,7 @@ returns-in_err-plan-clause-refused g c =
 pub grant_blocks-requires : goal.grant_blocks-requires
 grant_blocks-requires g c =
     let last : c.deref.result.now ≡ arc_value {X = Version} c.self.inside.last = search rules in
-    grant_within (desk_of (arc_value {X = Version} c.self.inside.last) c.self.inside.journal.items c.self.inside.pool)
+    grant_within (desk_of c.self.inside.opened (arc_value {X = Version} c.self.inside.last) c.self.inside.journal.items c.self.inside.pool)
     c.deref.result.now c.self.inside.workers c.args.batch c.in_ok-plan.plan c.self.invariant.desk last
     c.in_ok-plan.ensures.admitted
 
@@ -42,7 +42,7 @@ returns-in_err-numbers-clause-refused g c =
     c.from_residual-in_err-numbers.ensures.1
     (subst (λ (s : DeskState). Refuses s.desk.last (count_by is_free s.desk.pool) c.args.batch c.in_err-numbers.field-0.0)
     c.self.view_is
-    (desk_refuses (desk_of (arc_value {X = Version} c.self.inside.last) c.self.inside.journal.items c.self.inside.pool)
+    (desk_refuses (desk_of c.self.inside.opened (arc_value {X = Version} c.self.inside.last) c.self.inside.journal.items c.self.inside.pool)
     c.deref.result.now c.self.inside.workers c.args.batch c.in_ok-plan.plan c.self.invariant.desk last
     c.in_ok-plan.ensures.admitted c.in_err-numbers.field-0.0 c.in_err-numbers.ensures.refused))
 
@@ -55,7 +55,7 @@ pub give_back_numbers-requires-in_default-publish : goal.give_back_numbers-requi
 give_back_numbers-requires-in_default-publish g c =
     let last : c.deref-3.result.now ≡ arc_value {X = Version} c.self.inside.last = search rules in
     let h : Handing =
-    handing (desk_of (arc_value {X = Version} c.self.inside.last) c.self.inside.journal.items c.self.inside.pool) c.args.batch
+    handing (desk_of c.self.inside.opened (arc_value {X = Version} c.self.inside.last) c.self.inside.journal.items c.self.inside.pool) c.args.batch
     c.in_ok-numbers.field-0.numbers.items _ c.in-Ok.prepared c.grant_blocks.new.pool c.deref-3.result.now c.self.invariant.desk
     c.in_ok-numbers.ensures.numbers.0 c.in_ok-numbers.ensures.blocks last c.in-Ok.ensures c.in_ok-numbers.ensures.used in
     let born : c.born_blocks.new.pool ≡ marked c.in-Ok.prepared.taken (Used c.next_number-number.result) c.grant_blocks.new.pool =
@@ -68,9 +68,9 @@ invariant_of-self-in_default g c =
     let same : c.give_back_numbers.new.pool ≡ c.self.inside.pool =
     back_same c.self.inside.pool c.grant_blocks.new.pool _ c.in_ok-numbers.field-0.numbers.items c.in_ok-numbers.ensures.numbers.0
     c.in_ok-numbers.ensures.used c.give_back_numbers.ensures in
-    kept_same (state_of c.self.inside.shelf.book c.self.inside.workers (arc_value {X = Version} c.self.inside.last) c.self.inside.journal.items
+    kept_same (state_of c.self.inside.shelf.book c.self.inside.workers c.self.inside.opened (arc_value {X = Version} c.self.inside.last) c.self.inside.journal.items
     c.self.inside.pool) _ c.self.inside.shelf _ _ _ _ _ c.self.invariant
-    (ap (state_of c.self.inside.shelf.book c.self.inside.workers (arc_value {X = Version} c.self.inside.last) c.self.inside.journal.items) same) refl
+    (ap (state_of c.self.inside.shelf.book c.self.inside.workers c.self.inside.opened (arc_value {X = Version} c.self.inside.last) c.self.inside.journal.items) same) refl
     refl (omega arith)
 
 pub returns-in_default-clause-unchanged : goal.returns-in_default-clause-unchanged
@@ -78,14 +78,14 @@ returns-in_default-clause-unchanged g c =
     let same : c.give_back_numbers.new.pool ≡ c.self.inside.pool =
     back_same c.self.inside.pool c.grant_blocks.new.pool _ c.in_ok-numbers.field-0.numbers.items c.in_ok-numbers.ensures.numbers.0
     c.in_ok-numbers.ensures.used c.give_back_numbers.ensures in
-    ap (state_of c.self.inside.shelf.book c.self.inside.workers (arc_value {X = Version} c.self.inside.last) c.self.inside.journal.items) same
+    ap (state_of c.self.inside.shelf.book c.self.inside.workers c.self.inside.opened (arc_value {X = Version} c.self.inside.last) c.self.inside.journal.items) same
     ∙ c.self.view_is
 
 pub invariant_of-self-in_default-publish : goal.invariant_of-self-in_default-publish
 invariant_of-self-in_default-publish g c =
     let last : c.deref-3.result.now ≡ arc_value {X = Version} c.self.inside.last = search rules in
     let h : Handing =
-    handing (desk_of (arc_value {X = Version} c.self.inside.last) c.self.inside.journal.items c.self.inside.pool) c.args.batch
+    handing (desk_of c.self.inside.opened (arc_value {X = Version} c.self.inside.last) c.self.inside.journal.items c.self.inside.pool) c.args.batch
     c.in_ok-numbers.field-0.numbers.items _ c.in-Ok.prepared c.grant_blocks.new.pool c.deref-3.result.now c.self.invariant.desk
     c.in_ok-numbers.ensures.numbers.0 c.in_ok-numbers.ensures.blocks last c.in-Ok.ensures c.in_ok-numbers.ensures.used in
     let born : c.born_blocks.new.pool ≡ marked c.in-Ok.prepared.taken (Used c.next_number-number.result) c.grant_blocks.new.pool =
@@ -94,15 +94,15 @@ invariant_of-self-in_default-publish g c =
     let same : c.give_back_numbers-in_default-publish.new.pool ≡ c.self.inside.pool =
     born_same h c.next_number-number.result c.born_blocks.new.pool _ born c.give_back_numbers-in_default-publish.ensures in
     let u = c.in_default-publish.ensures.unchanged in
-    kept_same (state_of c.self.inside.shelf.book c.self.inside.workers (arc_value {X = Version} c.self.inside.last) c.self.inside.journal.items
+    kept_same (state_of c.self.inside.shelf.book c.self.inside.workers c.self.inside.opened (arc_value {X = Version} c.self.inside.last) c.self.inside.journal.items
     c.self.inside.pool) _ c.self.inside.shelf _ _ _ _ _ c.self.invariant
-    (λ i. state_of (u.3 i).book c.self.inside.workers (arc_value {X = Version} (u.2 i)) (u.0 i) (same i)) u.3 u.1 c.in_default-publish.ensures.capacity
+    (λ i. state_of (u.3 i).book c.self.inside.workers c.self.inside.opened (arc_value {X = Version} (u.2 i)) (u.0 i) (same i)) u.3 u.1 c.in_default-publish.ensures.capacity
 
 pub returns-in_default-publish-clause-unchanged : goal.returns-in_default-publish-clause-unchanged
 returns-in_default-publish-clause-unchanged g c =
     let last : c.deref-3.result.now ≡ arc_value {X = Version} c.self.inside.last = search rules in
     let h : Handing =
-    handing (desk_of (arc_value {X = Version} c.self.inside.last) c.self.inside.journal.items c.self.inside.pool) c.args.batch
+    handing (desk_of c.self.inside.opened (arc_value {X = Version} c.self.inside.last) c.self.inside.journal.items c.self.inside.pool) c.args.batch
     c.in_ok-numbers.field-0.numbers.items _ c.in-Ok.prepared c.grant_blocks.new.pool c.deref-3.result.now c.self.invariant.desk
     c.in_ok-numbers.ensures.numbers.0 c.in_ok-numbers.ensures.blocks last c.in-Ok.ensures c.in_ok-numbers.ensures.used in
     let born : c.born_blocks.new.pool ≡ marked c.in-Ok.prepared.taken (Used c.next_number-number.result) c.grant_blocks.new.pool =
@@ -111,13 +111,13 @@ returns-in_default-publish-clause-unchanged g c =
     let same : c.give_back_numbers-in_default-publish.new.pool ≡ c.self.inside.pool =
     born_same h c.next_number-number.result c.born_blocks.new.pool _ born c.give_back_numbers-in_default-publish.ensures in
     let u = c.in_default-publish.ensures.unchanged in
-    (λ i. state_of (u.3 i).book c.self.inside.workers (arc_value {X = Version} (u.2 i)) (u.0 i) (same i)) ∙ c.self.view_is
+    (λ i. state_of (u.3 i).book c.self.inside.workers c.self.inside.opened (arc_value {X = Version} (u.2 i)) (u.0 i) (same i)) ∙ c.self.view_is
 
 pub born_blocks-requires : goal.born_blocks-requires
 born_blocks-requires g c =
     let last : c.deref-3.result.now ≡ arc_value {X = Version} c.self.inside.last = search rules in
     let h : Handing =
-    handing (desk_of (arc_value {X = Version} c.self.inside.last) c.self.inside.journal.items c.self.inside.pool) c.args.batch
+    handing (desk_of c.self.inside.opened (arc_value {X = Version} c.self.inside.last) c.self.inside.journal.items c.self.inside.pool) c.args.batch
     c.in_ok-numbers.field-0.numbers.items _ c.in-Ok.prepared c.grant_blocks.new.pool c.deref-3.result.now c.self.invariant.desk
     c.in_ok-numbers.ensures.numbers.0 c.in_ok-numbers.ensures.blocks last c.in-Ok.ensures c.in_ok-numbers.ensures.used in
     subst (λ ns. AreUsedOnce ns c.grant_blocks.new.pool) (sym c.as_slice.ensures) (taken_once h)
@@ -126,7 +126,7 @@ pub move_blocks-requires-clause-dropped : goal.move_blocks-requires-clause-dropp
 move_blocks-requires-clause-dropped g c =
     let last : c.deref-3.result.now ≡ arc_value {X = Version} c.self.inside.last = search rules in
     let h : Handing =
-    handing (desk_of (arc_value {X = Version} c.self.inside.last) c.self.inside.journal.items c.self.inside.pool) c.args.batch
+    handing (desk_of c.self.inside.opened (arc_value {X = Version} c.self.inside.last) c.self.inside.journal.items c.self.inside.pool) c.args.batch
     c.in_ok-numbers.field-0.numbers.items _ c.in-Ok.prepared c.grant_blocks.new.pool c.deref-3.result.now c.self.invariant.desk
     c.in_ok-numbers.ensures.numbers.0 c.in_ok-numbers.ensures.blocks last c.in-Ok.ensures c.in_ok-numbers.ensures.used in
     let lent : c.deref-2.result.now ≡ arc_value {X = Version} c.self.inside.last = search rules in
@@ -141,7 +141,7 @@ pub move_blocks-requires-clause-unused : goal.move_blocks-requires-clause-unused
 move_blocks-requires-clause-unused g c =
     let last : c.deref-3.result.now ≡ arc_value {X = Version} c.self.inside.last = search rules in
     let h : Handing =
-    handing (desk_of (arc_value {X = Version} c.self.inside.last) c.self.inside.journal.items c.self.inside.pool) c.args.batch
+    handing (desk_of c.self.inside.opened (arc_value {X = Version} c.self.inside.last) c.self.inside.journal.items c.self.inside.pool) c.args.batch
     c.in_ok-numbers.field-0.numbers.items _ c.in-Ok.prepared c.grant_blocks.new.pool c.deref-3.result.now c.self.invariant.desk
     c.in_ok-numbers.ensures.numbers.0 c.in_ok-numbers.ensures.blocks last c.in-Ok.ensures c.in_ok-numbers.ensures.used in
     let lent : c.deref-2.result.now ≡ arc_value {X = Version} c.self.inside.last = search rules in
@@ -156,7 +156,7 @@ pub invariant_of-self-2 : goal.invariant_of-self-2
 invariant_of-self-2 g c =
     let last : c.deref-3.result.now ≡ arc_value {X = Version} c.self.inside.last = search rules in
     let h : Handing =
-    handing (desk_of (arc_value {X = Version} c.self.inside.last) c.self.inside.journal.items c.self.inside.pool) c.args.batch
+    handing (desk_of c.self.inside.opened (arc_value {X = Version} c.self.inside.last) c.self.inside.journal.items c.self.inside.pool) c.args.batch
     c.in_ok-numbers.field-0.numbers.items _ c.in-Ok.prepared c.grant_blocks.new.pool c.deref-3.result.now c.self.invariant.desk
     c.in_ok-numbers.ensures.numbers.0 c.in_ok-numbers.ensures.blocks last c.in-Ok.ensures c.in_ok-numbers.ensures.used in
     let lent : c.deref-2.result.now ≡ arc_value {X = Version} c.self.inside.last = search rules in
@@ -168,8 +168,8 @@ invariant_of-self-2 g c =
     c.as_slice.ensures in
     let pool = end_pool h c.next_number-number.result c.born_blocks.new.pool c.move_blocks.new.pool number born
     c.move_blocks.ensures in
-    let end = end_desk h (arc_value {X = Version} c.publish.new.last) c.publish.new.journal.items c.self.inside.journal.items
-    c.move_blocks.new.pool refl p.last p.entered pool in
+    let end = end_desk h c.self.inside.opened (arc_value {X = Version} c.publish.new.last) c.publish.new.journal.items c.self.inside.journal.items
+    c.move_blocks.new.pool refl refl p.last p.entered pool in
     let room = end_room h c.move_blocks.new.pool pool in
     let ok = c.in-Ok.prepared.dropped.ok in
     end_kept h _ c.publish.new.shelf _ _ end refl (p.same.1 ∙ c.self.invariant.opening_is) p.posted
@@ -180,7 +180,7 @@ pub returns-clause-within : goal.returns-clause-within
 returns-clause-within g c =
     let last : c.deref.result.now ≡ arc_value {X = Version} c.self.inside.last = search rules in
     subst (λ (s : DeskState). IsWithin s.desk.last (count_by is_free s.desk.pool) c.args.batch) c.self.view_is
-    (desk_admits (desk_of (arc_value {X = Version} c.self.inside.last) c.self.inside.journal.items c.self.inside.pool)
+    (desk_admits (desk_of c.self.inside.opened (arc_value {X = Version} c.self.inside.last) c.self.inside.journal.items c.self.inside.pool)
     c.deref.result.now c.self.inside.workers c.args.batch c.in_ok-plan.plan c.self.invariant.desk last
     c.in_ok-plan.ensures.admitted c.in_ok-numbers.ensures.enough)
 
@@ -188,7 +188,7 @@ pub returns-clause-accepted : goal.returns-clause-accepted
 returns-clause-accepted g c =
     let last : c.deref-3.result.now ≡ arc_value {X = Version} c.self.inside.last = search rules in
     let h : Handing =
-    handing (desk_of (arc_value {X = Version} c.self.inside.last) c.self.inside.journal.items c.self.inside.pool) c.args.batch
+    handing (desk_of c.self.inside.opened (arc_value {X = Version} c.self.inside.last) c.self.inside.journal.items c.self.inside.pool) c.args.batch
     c.in_ok-numbers.field-0.numbers.items _ c.in-Ok.prepared c.grant_blocks.new.pool c.deref-3.result.now c.self.invariant.desk
     c.in_ok-numbers.ensures.numbers.0 c.in_ok-numbers.ensures.blocks last c.in-Ok.ensures c.in_ok-numbers.ensures.used in
     let lent : c.deref-2.result.now ≡ arc_value {X = Version} c.self.inside.last = search rules in
@@ -200,10 +200,10 @@ returns-clause-accepted g c =
     c.as_slice.ensures in
     let pool = end_pool h c.next_number-number.result c.born_blocks.new.pool c.move_blocks.new.pool number born
     c.move_blocks.ensures in
-    let end = end_desk h (arc_value {X = Version} c.publish.new.last) c.publish.new.journal.items c.self.inside.journal.items
-    c.move_blocks.new.pool refl p.last p.entered pool in
+    let end = end_desk h c.self.inside.opened (arc_value {X = Version} c.publish.new.last) c.publish.new.journal.items c.self.inside.journal.items
+    c.move_blocks.new.pool refl refl p.last p.entered pool in
     subst (λ (s : DeskState). Accepts s.desk c.args.batch
-    (desk_of (arc_value {X = Version} c.publish.new.last) c.publish.new.journal.items c.move_blocks.new.pool)) c.self.view_is
+    (desk_of c.self.inside.opened (arc_value {X = Version} c.publish.new.last) c.publish.new.journal.items c.move_blocks.new.pool)) c.self.view_is
     (end_accepts h _ end)
 
 abbrev told_of : Book → VersionView → ToldView

@@ -19,9 +19,9 @@ enter_collection-requires c = λ some.
 
 pub invariant_of-self : goal.invariant_of-self
 invariant_of-self c =
-    let old : DeskState = state_of c.self.inside.shelf.book c.self.inside.workers (arc_value {X = Version} c.self.inside.last)
+    let old : DeskState = state_of c.self.inside.shelf.book c.self.inside.workers c.self.inside.opened (arc_value {X = Version} c.self.inside.last)
     c.self.inside.journal.items c.self.inside.pool in
-    let new : DeskState = state_of c.self.inside.shelf.book c.self.inside.workers (arc_value {X = Version} c.self.inside.last)
+    let new : DeskState = state_of c.self.inside.shelf.book c.self.inside.workers c.self.inside.opened (arc_value {X = Version} c.self.inside.last)
     c.enter_collection.new.journal.items c.recycle-recycled.new.self in
     let count = c.recycle-recycled.ensures.count in
     let entries : map entry_of c.enter_collection.new.journal.items ≡ map entry_of c.self.inside.journal.items
@@ -34,6 +34,7 @@ invariant_of-self c =
       book = old.book;
       workers = old.workers;
       desk = record {
+        opened = old.desk.opened;
         last = old.desk.last;
         journal = entries i;
         pool =
@@ -48,46 +49,61 @@ invariant_of-self c =
 
 pub returns-clause-steps : goal.returns-clause-steps
 returns-clause-steps c =
-    let old : DeskState = state_of c.self.inside.shelf.book c.self.inside.workers (arc_value {X = Version} c.self.inside.last)
+    let old : DeskState = state_of c.self.inside.shelf.book c.self.inside.workers c.self.inside.opened (arc_value {X = Version} c.self.inside.last)
     c.self.inside.journal.items c.self.inside.pool in
-    let new : DeskState = state_of c.self.inside.shelf.book c.self.inside.workers (arc_value {X = Version} c.self.inside.last)
+    let new : DeskState = state_of c.self.inside.shelf.book c.self.inside.workers c.self.inside.opened (arc_value {X = Version} c.self.inside.last)
     c.enter_collection.new.journal.items c.recycle-recycled.new.self in
     let count = c.recycle-recycled.ensures.count in
     let entries : map entry_of c.enter_collection.new.journal.items ≡ map entry_of c.self.inside.journal.items
     ++ collections c.args.copy.now (count_by (is_past c.args.copy.now) c.self.inside.pool) =
     c.enter_collection.ensures.entries ∙ ap (λ n. map entry_of c.self.inside.journal.items ++ collections c.args.copy.now n) count in
     let is : new.desk ≡ (state_collected old c.args.copy.now).desk =
-    λ i. record { last = old.desk.last; journal = entries i; pool = c.recycle-recycled.ensures.pool i } in
+    λ i. record {
+      opened = old.desk.opened;
+      last = old.desk.last;
+      journal = entries i;
+      pool = c.recycle-recycled.ensures.pool i;
+    } in
     subst (λ (d : DeskState). TakesAt c.args.copy.now d.desk (recycling c.args.copy.now d.desk.pool) new.desk) c.self.view_is
     (collected_takes old.desk new.desk c.args.copy.now (is_collected old.desk new.desk c.args.copy.now is))
 
 pub returns-clause-collected : goal.returns-clause-collected
 returns-clause-collected c =
-    let old : DeskState = state_of c.self.inside.shelf.book c.self.inside.workers (arc_value {X = Version} c.self.inside.last)
+    let old : DeskState = state_of c.self.inside.shelf.book c.self.inside.workers c.self.inside.opened (arc_value {X = Version} c.self.inside.last)
     c.self.inside.journal.items c.self.inside.pool in
-    let new : DeskState = state_of c.self.inside.shelf.book c.self.inside.workers (arc_value {X = Version} c.self.inside.last)
+    let new : DeskState = state_of c.self.inside.shelf.book c.self.inside.workers c.self.inside.opened (arc_value {X = Version} c.self.inside.last)
     c.enter_collection.new.journal.items c.recycle-recycled.new.self in
     let count = c.recycle-recycled.ensures.count in
     let entries : map entry_of c.enter_collection.new.journal.items ≡ map entry_of c.self.inside.journal.items
     ++ collections c.args.copy.now (count_by (is_past c.args.copy.now) c.self.inside.pool) =
     c.enter_collection.ensures.entries ∙ ap (λ n. map entry_of c.self.inside.journal.items ++ collections c.args.copy.now n) count in
     let is : new.desk ≡ (state_collected old c.args.copy.now).desk =
-    λ i. record { last = old.desk.last; journal = entries i; pool = c.recycle-recycled.ensures.pool i } in
+    λ i. record {
+      opened = old.desk.opened;
+      last = old.desk.last;
+      journal = entries i;
+      pool = c.recycle-recycled.ensures.pool i;
+    } in
     subst (λ (d : DeskState). IsCollected d.desk c.args.copy.now new.desk) c.self.view_is
     (is_collected old.desk new.desk c.args.copy.now is)
 
 pub returns-clause-births : goal.returns-clause-births
 returns-clause-births c =
-    let old : DeskState = state_of c.self.inside.shelf.book c.self.inside.workers (arc_value {X = Version} c.self.inside.last)
+    let old : DeskState = state_of c.self.inside.shelf.book c.self.inside.workers c.self.inside.opened (arc_value {X = Version} c.self.inside.last)
     c.self.inside.journal.items c.self.inside.pool in
-    let new : DeskState = state_of c.self.inside.shelf.book c.self.inside.workers (arc_value {X = Version} c.self.inside.last)
+    let new : DeskState = state_of c.self.inside.shelf.book c.self.inside.workers c.self.inside.opened (arc_value {X = Version} c.self.inside.last)
     c.enter_collection.new.journal.items c.recycle-recycled.new.self in
     let count = c.recycle-recycled.ensures.count in
     let entries : map entry_of c.enter_collection.new.journal.items ≡ map entry_of c.self.inside.journal.items
     ++ collections c.args.copy.now (count_by (is_past c.args.copy.now) c.self.inside.pool) =
     c.enter_collection.ensures.entries ∙ ap (λ n. map entry_of c.self.inside.journal.items ++ collections c.args.copy.now n) count in
     let is : new.desk ≡ (state_collected old c.args.copy.now).desk =
-    λ i. record { last = old.desk.last; journal = entries i; pool = c.recycle-recycled.ensures.pool i } in
+    λ i. record {
+      opened = old.desk.opened;
+      last = old.desk.last;
+      journal = entries i;
+      pool = c.recycle-recycled.ensures.pool i;
+    } in
     subst (λ (d : DeskState). (source : ℕ) → births_in new.desk source ≡ births_in d.desk source) c.self.view_is
     (births_collected old.desk new.desk c.args.copy.now c.self.invariant.desk
     (is_collected old.desk new.desk c.args.copy.now is))

@@ -1,5 +1,7 @@
-use Rattle.std.proofs.Common.{◌≡◌, [], length, map, arith, rules, vec_len}
-use Rattle.graph_version.specs.Versions.{empty_version}
+use Rattle.std.proofs.Common.{◌≡◌, [], map, arith, rules, vec_len}
+use Rattle.std.specs.Arc.{arc_value}
+use Rattle.graph_version.specs.declared.versions.Version.{Version}
+use Rattle.graph_version.specs.Versions.{VersionView}
 use Rattle.version_shelf.specs.Shelves.{opened_shelf}
 use Rattle.store_steps.specs.Opening.{opened_desk}
 use Rattle.stream_store.specs.Kept.{entry_of}
@@ -10,13 +12,17 @@ pub invariant_of-result : goal.invariant_of-result
 invariant_of-result c =
     let items : c.new.result.items ≡ [] = search rules in
     let len : vec_len c.new.result ≡ 0 = search rules in
-    kept_same (record { book = c.args.shelf.book; workers = c.args.workers; desk = opened_desk (length c.args.pool) }) _
-    (opened_shelf c.args.shelf.book empty_version) c.args.shelf 0 0 _ _
-    (opened_kept c.args.shelf.book (length c.args.pool) c.args.workers c.requires.workers.0 c.requires.workers.1)
+    let v : VersionView = arc_value {X = Version} c.args.zero.version in
+    let blocks = c.args.config.blocks in
+    let workers = c.args.config.workers in
+    let zero = c.requires.zero in
+    let limits = c.workers.ensures.limits in
+    kept_same (record { book = c.args.shelf.book; workers = workers; desk = opened_desk blocks v }) _
+    (opened_shelf c.args.shelf.book v) c.args.shelf 0 0 _ _
+    (opened_kept c.args.shelf.book blocks workers v zero.version limits.workers_some limits.workers_few)
     (λ i. record {
       book = c.args.shelf.book;
-      workers = c.args.workers;
-      desk =
-          record { last = c.requires.last i; journal = map entry_of (items i); pool = c.requires.pool i };
+      workers = c.workers.ensures.number i;
+      desk = record { opened = zero.numbers i; last = v; journal = map entry_of (items i); pool = zero.pool i };
     }) c.requires.shelf len
     (omega arith)

@@ -24,7 +24,7 @@ pub returns-clause-refused : goal.returns-clause-refused
 returns-clause-refused g c =
     let old : DeskState = c.args.self.now.desk in
     let free : ℕ = count_by is_free old.desk.pool in
-    IfErr-weaker c.apply.result (Refuses old.desk.last free c.args.batch) (IsRefusalOf c.args.batch)
+    IfErr-weaker c.apply.result (Refuses old.desk.last free c.args.batch) (IsRefusalOf g.J.Naming.opening c.args.batch)
     (λ e h. record {
       last = old.desk.last;
       free = free;

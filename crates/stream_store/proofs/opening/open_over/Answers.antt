@@ -1,8 +1,9 @@
-use Rattle.std.proofs.Common.{◌≡◌, map, length, sym, ap, ◌∙◌, arith}
+use Rattle.std.proofs.Common.{◌≡◌, map, length, sym, ap, subst, ◌∙◌, arith, All}
 use Rattle.std.proofs.lemmas.List.{length-map}
-use Rattle.stream_store.specs.Seats.{SeatView}
+use Rattle.graph_version.specs.Versions.{VersionView}
+use Rattle.stream_store.specs.Seats.{SeatView, HasSeen}
 use Rattle.stream_store.proofs.Seated.{new_seats}
-use Rattle.stream_store.proofs.opening.open_parts.Goals as goal
+use Rattle.stream_store.proofs.opening.open_over.Goals as goal
 
 pub returns-clause-seats : goal.returns-clause-seats
 returns-clause-seats g c =
@@ -10,6 +11,7 @@ returns-clause-seats g c =
     c.in-Ok-seats_of.ensures.seen in
     let count : length c.in-Ok-shelf.parts.1.items ≡ c.args.config.seats = omega (arith, c.in-Ok-shelf.ensures.count) in (
       sym (length-map c.in-Ok-seats_of.seats.items (λ (s : SeatView). s.seen)) ∙ ap length same ∙ count,
-      new_seats _ _ _ c.in-Ok-seats_of.seats.items c.in-Ok-shelf.parts.1.items same c.in-Ok-shelf.ensures.readers
-          c.empty.ensures (ap (λ d. d.book) c.opened.ensures),
+      subst (λ (v : VersionView). All (HasSeen c.opened.result.book v) c.in-Ok-seats_of.seats.items) c.in-Ok.ensures
+          (new_seats _ _ _ c.in-Ok-seats_of.seats.items c.in-Ok-shelf.parts.1.items same c.in-Ok-shelf.ensures.readers
+          (ap (λ d. d.book) c.opened.ensures)),
     )

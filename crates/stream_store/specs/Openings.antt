@@ -1,0 +1,21 @@
+-- What a store opens with, and why none opens.
+use Rattle.std.specs.Prelude.{◌≡◌, ℕ, ◌<◌}
+use Rattle.std.specs.Arc.{arc_value}
+use Rattle.row_pages.specs.Rows.{blocks_of, numbers_of}
+use Rattle.graph_version.specs.declared.versions.Version.{Version}
+use Rattle.store_steps.specs.Opening.{IsVersionZero, opened_desk}
+use Rattle.stream_store.specs.declared.zero.Zero.{Zero}
+use Rattle.stream_store.specs.declared.opening.OpenError.{OpenError}
+use Rattle.stream_store.specs.declared.opening.OpenError.TheVariants.{PoolEmpty, NoReader, OutOfMemory}
+
+-- a store of so many blocks may open with this version, whose blocks are those of the pool that aren't free, each born with it
+pub record OpensWith (blocks : ℕ) (zero : Zero) : Type 0 where
+  pub version : IsVersionZero blocks (arc_value {X = Version} zero.version)
+  pub numbers : zero.numbers ≡ numbers_of (blocks_of (arc_value {X = Version} zero.version).rows)
+  pub pool : zero.pool ≡ (opened_desk blocks (arc_value {X = Version} zero.version)).pool
+
+-- why no store of so many blocks opens with a version that has `needed`; no reader's place, or want of memory, may come at any place
+abbrev pub RefusesOpening : ℕ → ℕ → OpenError → Type 0
+RefusesOpening needed blocks (PoolEmpty told free) = (told ≡ needed) × (free ≡ blocks) × (blocks < needed)
+RefusesOpening needed blocks NoReader = Unit {0}
+RefusesOpening needed blocks OutOfMemory = Unit {0}
