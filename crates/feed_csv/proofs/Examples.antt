@@ -5,11 +5,11 @@ use Rattle.csv.specs.Reading.{records_from, strip_bom}
 use Rattle.csv.specs.Records.{field_at}
 use Rattle.graph_model.specs.declared.batches.NamedOp.TheVariants.{Insert, Incr}
 use Rattle.graph_model.specs.declared.requests.Request.TheVariants.{Degrees, Levels}
-use Rattle.feed_csv.specs.Commands.{collect_of, commit_of, degrees_of, incr_of, insert_of, item_of, levels_of, stat_of}
+use Rattle.feed_csv.specs.Commands.{collect_of, commit_of, degrees_of, incr_of, insert_of, item_of, levels_of, rebase_of, stat_of}
 use Rattle.feed_csv.specs.Fields.{any_kind_at, kind_at, name_at, of_length, slot_at, time_at, weight_at}
 use Rattle.feed_csv.specs.Records.{records_of}
-use Rattle.feed_csv.specs.declared.command.Command.TheVariants.{Collect, Op, Query, Stat}
-use Rattle.feed_csv.specs.declared.command.FeedWord.TheVariants.{BadCommand, BadFields, BadName, BadTime}
+use Rattle.feed_csv.specs.declared.command.Command.TheVariants.{Collect, Op, Query, Rebase, Stat}
+use Rattle.feed_csv.specs.declared.command.FeedWord.TheVariants.{BadCommand, BadFields, BadName, BadSlot, BadTime}
 
 -- blank lines are no records, a quoted field may hold a comma, and a byte order mark is dropped
 pub three-records : records_of (0xEF ∷ 0xBB ∷ 0xBF ∷ codes "i,\"k,k\",a\r\n\ncommit\ndeg")
@@ -61,6 +61,19 @@ counts-with-fields = refl
 pub a-collection : item_of (codes "collect" ∷ []) ≡ Ok Collect
 unfolding item_of collect_of of_length field_at
 a-collection = refl
+
+pub a-rebase : item_of (codes "rebase" ∷ codes "007" ∷ []) ≡ Ok (Rebase 7)
+unfolding item_of rebase_of of_length slot_at field_at
+a-rebase = refl
+
+-- the number of fields comes before the slot
+pub a-rebase-with-fields : item_of (codes "rebase" ∷ codes "16" ∷ codes "1" ∷ []) ≡ Err BadFields
+unfolding item_of rebase_of of_length slot_at field_at
+a-rebase-with-fields = refl
+
+pub a-rebase-past-the-slots : item_of (codes "rebase" ∷ codes "16" ∷ []) ≡ Err BadSlot
+unfolding item_of rebase_of of_length slot_at field_at
+a-rebase-past-the-slots = refl
 
 pub an-unknown-command : item_of ([] ∷ []) ≡ Err BadCommand
 unfolding item_of field_at

@@ -1,7 +1,7 @@
 -- A record is refused for what it says, and never for a failed read or want of memory.
 use Rattle.std.proofs.Common.{◌≡◌, ◌≢◌, ℕ, Bool, true, false, cond, codes, List, Option, Some, None, Result, Ok, Err, refl, rules}
 use Rattle.feed_csv.specs.Commands.{Refuses, close_of, commit_of, cores_of, degrees_of, edge_of, expire_of, incr_of, insert_of, item_of}
-use Rattle.feed_csv.specs.Commands.{collect_of, stat_of}
+use Rattle.feed_csv.specs.Commands.{collect_of, rebase_of, stat_of}
 use Rattle.feed_csv.specs.Commands.{labels_of, levels_of, open_of, remove_of}
 use Rattle.feed_csv.specs.Fields.{◌>>=◌, any_kind_at, field, kind_at, name_at, of_length, required, slot_at, time_at, weight_at}
 use Rattle.feed_csv.specs.Records.{Row}
@@ -170,6 +170,12 @@ unfolding collect_of
 collect_of-fails row =
     then (of_length 1 row) _ (of_length-fails 1 row) (λ r. given _)
 
+rebase_of-fails : (row : Row) → FailsByRecord (rebase_of row)
+unfolding rebase_of
+rebase_of-fails row =
+    then (of_length 2 row) _ (of_length-fails 2 row) (λ r.
+    then (slot_at r 1) _ (slot_at-fails r 1) (λ v0. given _))
+
 -- no record is refused for Read or Memory
 pub item_of-fails : (row : Row) → FailsByRecord (item_of row)
 unfolding item_of
@@ -183,7 +189,7 @@ item_of-fails row =
     (tested (is (codes "core")) _ _ (cores_of-fails row) (tested (is (codes "deg")) _ _ (degrees_of-fails row)
     (tested (is (codes "edge")) _ _ (edge_of-fails row)
     (tested (is (codes "stat")) _ _ (stat_of-fails row) (tested (is (codes "collect")) _ _ (collect_of-fails row)
-    (refused BadCommand tt))))))))))))))
+    (tested (is (codes "rebase")) _ _ (rebase_of-fails row) (refused BadCommand tt)))))))))))))))
 
 -- a record that was taken and refused is a step of the feed
 pub refused_step : (word : FeedWord) (row : Row) (old new : Script) → word ≢ Memory → Refuses word (item_of row)

@@ -6,7 +6,7 @@ use Rattle.graph_model.specs.declared.requests.Request.TheVariants.{Levels, Labe
 use Rattle.feed_csv.specs.Fields.{◌>>=◌, any_kind_at, field, kind_at, name_at, of_length, slot_at, time_at, weight_at}
 use Rattle.feed_csv.specs.Records.{Row}
 use Rattle.feed_csv.specs.declared.command.Command.{Command}
-use Rattle.feed_csv.specs.declared.command.Command.TheVariants.{Op, Commit, OpenSlot, CloseSlot, Query, Stat, Collect}
+use Rattle.feed_csv.specs.declared.command.Command.TheVariants.{Op, Commit, OpenSlot, CloseSlot, Query, Stat, Collect, Rebase}
 use Rattle.feed_csv.specs.declared.command.FeedWord.{FeedWord}
 use Rattle.feed_csv.specs.declared.command.FeedWord.TheVariants.{Read, BadCommand, BadFields, BadName, BadWeight, BadTime}
 use Rattle.feed_csv.specs.declared.command.FeedWord.TheVariants.{BadSlot, Memory}
@@ -132,6 +132,13 @@ collect_of record_fields = do
   row ← of_length 1 record_fields
   Ok Collect
 
+-- rebase,slot
+unfoldable pub rebase_of : Row → Result Command FeedWord
+rebase_of record_fields = do
+  row ← of_length 2 record_fields
+  slot ← slot_at row 1
+  Ok (Rebase slot)
+
 -- the first field says which command it is
 unfoldable pub item_of : Row → Result Command FeedWord
 item_of row =
@@ -150,7 +157,8 @@ item_of row =
     else (if bytes_eq word (codes "edge") then edge_of row
     else (if bytes_eq word (codes "stat") then stat_of row
     else (if bytes_eq word (codes "collect") then collect_of row
-    else Err BadCommand)))))))))))))
+    else (if bytes_eq word (codes "rebase") then rebase_of row
+    else Err BadCommand))))))))))))))
 
 -- how a word of refusal is written
 abbrev pub word_text : FeedWord → List ℕ

@@ -23,6 +23,8 @@ pub enum Command {
     Stat,
     /// Gives back what no session and no version holds any more.
     Collect,
+    /// Opens a store anew with the graph that the session in this slot, which is below 16, holds.
+    Rebase(u8),
 }
 
 /// Why there is no command; where several hold of a record, the first in this order (but `Memory` at any time).

@@ -45,6 +45,8 @@ pub(crate) fn command_of(alloc: Global, row: &ByteRecord) -> Result<Command, Fee
         stat(row)
     } else if word == b"collect".as_slice() {
         collect(row)
+    } else if word == b"rebase".as_slice() {
+        rebase(row)
     } else {
         Err(FeedWord::BadCommand)
     }
@@ -183,6 +185,15 @@ fn close(row: &ByteRecord) -> Result<Command, FeedWord>
     check_length(row, 2)?;
     let slot = slot_at(row, 1)?;
     Ok(Command::CloseSlot(slot))
+}
+
+#[tactic(auto, unfolding(crate::specs::Commands::rebase_of))]
+fn rebase(row: &ByteRecord) -> Result<Command, FeedWord>
+    ensures { result ≡ spec.rebase_of (fields_of row.now) }
+{
+    check_length(row, 2)?;
+    let slot = slot_at(row, 1)?;
+    Ok(Command::Rebase(slot))
 }
 
 #[tactic(auto, using(crate::proofs::Giving::refuses_same), unfolding(crate::specs::Commands::levels_of))]

@@ -12,7 +12,7 @@ use Rattle.graph_model.specs.declared.requests.Reply.TheVariants.{Cores, Degrees
 use Rattle.feed_csv.specs.Commands.{word_text as feed_word_text}
 use Rattle.script_lines.specs.declared.words.Word.{Word}
 use Rattle.script_lines.specs.declared.words.Word.TheVariants.{Feed, NotOpen, AlreadyOpen, BadWindow, NoKind, NoVertex}
-use Rattle.script_lines.specs.declared.words.Word.TheVariants.{BatchFull, BatchLimit, NamesFull, KindsFull, PoolEmpty}
+use Rattle.script_lines.specs.declared.words.Word.TheVariants.{BatchFull, BatchLimit, NamesFull, KindsFull, PoolEmpty, Start}
 
 -- how a refusal is written
 abbrev pub word_text : Word → List ℕ
@@ -27,6 +27,7 @@ word_text NamesFull = codes "NamesFull"
 word_text KindsFull = codes "KindsFull"
 word_text BatchLimit = codes "BatchLimit"
 word_text PoolEmpty = codes "PoolEmpty"
+word_text Start = codes "Start"
 
 -- error <record> <Word>
 abbrev pub error_line : ℕ → Word → List ℕ
@@ -83,6 +84,14 @@ stat_line version names edges free retired used =
     ++ (codes " free=" ++ (decimal free
     ++ (codes " retired=" ++ (decimal retired
     ++ (codes " used=" ++ (decimal used ++ codes "\n")))))))))))
+
+-- rebase v=<version> names=<n> edges=<n> used=<n>
+abbrev pub rebase_line : ℕ → ℕ → ℕ → ℕ → List ℕ
+rebase_line version names edges used =
+    codes "rebase v=" ++ (decimal version
+    ++ (codes " names=" ++ (decimal names
+    ++ (codes " edges=" ++ (decimal edges
+    ++ (codes " used=" ++ (decimal used ++ codes "\n")))))))
 
 -- open <slot> v=<version>
 abbrev pub open_line : ℕ → ℕ → List ℕ

@@ -7,6 +7,6 @@ mod lines;
 mod tables;
 mod words;
 
-pub use lines::{close_line, collect_line, commit_line, open_line, stat_line};
+pub use lines::{close_line, collect_line, commit_line, open_line, rebase_line, stat_line};
 pub use tables::reply_lines;
 pub use words::Word;

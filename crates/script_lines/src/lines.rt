@@ -124,6 +124,21 @@ pub fn stat_line(lines: &mut String, stat: Stat) -> Result<(), AllocError>
     )
 }
 
+/// Appends the line of a store that was opened anew, by its numbers.
+pub fn rebase_line(lines: &mut String, stat: Stat) -> Result<(), AllocError>
+    ensures { OnOk result (string_bytes lines.new ≡ string_bytes lines.old
+        ++ lines_of.rebase_line stat.number stat.names stat.edges stat.used) }
+{
+    let number = stat.number;
+    let names = stat.names;
+    let edges = stat.edges;
+    let used = stat.used;
+    write!(
+        lines,
+        "rebase v={number} names={names} edges={edges} used={used}\n"
+    )
+}
+
 /// Appends the line of one edge: its weight, first and recent time; and of none.
 pub(crate) fn edge_line(
     lines: &mut String,

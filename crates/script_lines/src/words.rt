@@ -22,6 +22,8 @@ pub enum Word {
     BatchLimit,
     /// The batch asks for more blocks than are free.
     PoolEmpty,
+    /// The store that was to begin with a held version was not opened.
+    Start,
 }
 
 impl Word {
@@ -42,6 +44,7 @@ impl Word {
             Word::KindsFull => "KindsFull",
             Word::BatchLimit => "BatchLimit",
             Word::PoolEmpty => "PoolEmpty",
+            Word::Start => "Start",
         }
     }
 }

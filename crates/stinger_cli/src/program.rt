@@ -99,6 +99,10 @@ be quoted, and nothing is trimmed. Each record, and below it what it prints:
       collect floor=<n> recycled=<n> retired=<n>
   stat                                         counts of the last version, and blocks free, retired, used
       stat v=<version> names=<n> edges=<n> free=<n> retired=<n> used=<n>
+  rebase,<slot>                                begins the store anew: its version 0 has the graph of the version that the
+                                               slot holds, no batch is kept, no slot is open, no block is retired,
+                                               and pending operations stay pending
+      rebase v=0 names=<n> edges=<n> used=<n>
   the end of the input
       end pending=<n>, where operations are pending
 
@@ -109,8 +113,8 @@ Limits: a name has 1 to 64 bytes from ! to ~, and a kind is not *. A weight or a
 is from -1099511627776 to 1099511627776. A time is from 0 to 9223372036854775807. A slot is
 a whole number below that of the seats, which `--seats` gives (2 without it). A batch has at
 most 4,096 operations and needs as many free blocks, and with an x as many more as are used. A
-graph has at most 65,536 names and 64 kinds. A run applies at most 65,536 batches. A script has
-fewer than 1,000,000 records.
+graph has at most 65,536 names and 64 kinds. A run applies at most 65,536 batches, and as many
+again behind each rebase. A script has fewer than 1,000,000 records.
 
 Options of `run`, each at most once: `--workers <N>` (how many threads may work on a batch: 1 to
 8, else 4), `--blocks <N>` (16 to 65536, else 16384), `--seats <N>` (1 to 16, else 2) and `--quiet`:
@@ -130,8 +134,9 @@ A session, with what each record prints beside it:
 A refused record prints `error <record> <Word>`, where the first record is 1 and blank lines
 aren't counted, and the run goes on. It changes nothing, but a refused commit gives its batch up. The words:
 BadCommand, BadFields, BadName, BadWeight, BadTime, BadSlot, NotOpen, AlreadyOpen,
-BadWindow, NoKind, NoVertex, BatchFull, BatchLimit, NamesFull, KindsFull, PoolEmpty. Two more
-end the run: Read, where the input can't be read or has a record too many, and Memory.
+BadWindow, NoKind, NoVertex, BatchFull, BatchLimit, NamesFull, KindsFull, PoolEmpty. Three more
+end the run: Read, where the input can't be read or has a record too many, Memory, and Start, where
+a rebase opened no store though there was memory.
 
 Status: 0 where the script was read to its end without an error line, 1 with an error line
 or where the run broke off, 2 for wrong arguments; of `drive` 0 where wrong is 0 and last 64, else 1.

@@ -2,6 +2,7 @@
 use Rattle.std.proofs.Common.{◌≡◌, ◌≢◌, ℕ, List, length, take, get_or, sym, ap, subst, ◌∙◌}
 use Rattle.std.specs.Prelude.{◌⊎◌, Option, None, Some, Result, Ok, Err, slice_get}
 use Rattle.std.proofs.lemmas.Option.{get_or_from_slice_get, slice_get_within}
+use Rattle.graph_model.specs.Graph.{Graph}
 use Rattle.graph_model.specs.Step.{left_by}
 use Rattle.graph_model.specs.declared.requests.AskError.{AskError}
 use Rattle.graph_model.specs.declared.requests.AskError.TheVariants as ask
@@ -17,6 +18,7 @@ use Rattle.stinger_server.specs.States.{IsReplied, State, ask_word, version, ver
 use Rattle.stinger_server.specs.declared.server.Server.{Server}
 use Rattle.script_lines.specs.declared.words.Word.{Word}
 use Rattle.stinger_server.proofs.Commands.{held_there}
+use Rattle.stinger_server.proofs.NamesApart.{AreApart}
 use Rattle.stinger_server.proofs.Replies.{IsAsked, asked_version, replied_err, replied_ok}
 
 earlier_in : (last : VersionView) (slot : ℕ) (seat : Option SeatView) (session : Option SessionView) (s : SessionView)
@@ -37,14 +39,14 @@ held_earlier server slot s is there =
     (get_or server.slots.sessions.items slot None) s
     (is.slots.each slot within) (get_or_from_slice_get server.slots.sessions.items slot (Some s) None there)
 
-asked_there : (server : Server) (slot : ℕ) (s : SessionView) → IsServer server
+pub asked_there : (server : Server) (slot : ℕ) (s : SessionView) → IsServer server
     → slice_get server.slots.sessions.items slot ≡ Some (Some s) → IsAsked (held_graph s)
 asked_there server slot s is there =
     let earlier = held_earlier server slot s is there in
-    asked_version (held_version s) earlier.version (earlier.opening ∙ is.opening)
+    asked_version (held_version s) earlier.version (subst (λ (g : Graph). AreApart g.names) (sym earlier.opening) is.opening)
 
 -- the graph is that of the version whose number the slot holds
-graph_there : (server : Server) (state : State) (slot : ℕ) (s : SessionView) → IsServer server → Shows server state
+pub graph_there : (server : Server) (state : State) (slot : ℕ) (s : SessionView) → IsServer server → Shows server state
     → slice_get server.slots.sessions.items slot ≡ Some (Some s)
     → held_graph s ≡ version (length (held_version s).batches) state
 graph_there server state slot s is shows there =
@@ -54,7 +56,7 @@ graph_there server state slot s is shows there =
     let opening : (held_version s).opening ≡ state.opening = earlier.opening ∙ shows.desk.opening in
     λ i. left_by (batches i) (opening i)
 
-version_there : (server : Server) (state : State) (slot : ℕ) (s : SessionView) → Shows server state
+pub version_there : (server : Server) (state : State) (slot : ℕ) (s : SessionView) → Shows server state
     → slice_get server.slots.sessions.items slot ≡ Some (Some s)
     → version_in (slice_get state.held slot) ≡ Ok (held_of (held_version s))
 version_there server state slot s shows there =

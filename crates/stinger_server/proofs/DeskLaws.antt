@@ -1,9 +1,9 @@
 -- A desk that shows a state: what batches, collections and counts come to.
-use Rattle.std.proofs.Common.{◌≡◌, ◌≢◌, ℕ, zero, suc, ◌+◌, ◌-◌, ◌<◌, ◌≤◌, Bool, true, false, cond, ◌&&◌, List, [], ◌∷◌, ◌++◌}
+use Rattle.std.proofs.Common.{◌≡◌, ◌≢◌, ℕ, zero, suc, ◌+◌, ◌<◌, ◌≤◌, Bool, true, false, cond, ◌&&◌, List, [], ◌∷◌, ◌++◌}
 use Rattle.std.proofs.Common.{subst}
 use Rattle.std.proofs.Common.{length, map, not}
 use Rattle.std.proofs.Common.{count_by, filter, replicate, refl, sym, ap, ◌∙◌, arith}
-use Rattle.std.specs.Prelude.{None, Some, Ok, Err, nat_le, nat_lt, if◌then◌else◌}
+use Rattle.std.specs.Prelude.{None, Some, Ok, Err, if◌then◌else◌}
 use Rattle.std.specs.FinMap.{len}
 use Rattle.std.proofs.lemmas.Bool.Decides.{nat_tests}
 use Rattle.std.proofs.lemmas.List.{length-append}
@@ -21,7 +21,7 @@ use Rattle.graph_model.specs.Step.{after_all, left_by, outcomes}
 use Rattle.graph_model.specs.declared.batches.NamedOp.{NamedOp}
 use Rattle.graph_model.specs.declared.batches.Outcome.{Outcome}
 use Rattle.graph_version.specs.Kept.{edge_total}
-use Rattle.graph_version.specs.Versions.{content, layout_of}
+use Rattle.graph_version.specs.Versions.{content, layout_of, empty_version}
 use Rattle.store_steps.specs.Desks.{DeskView, IsCollected, AcceptedCounts, CollectedCounts, births_in, is_retired_by}
 use Rattle.store_steps.specs.Opening.{opened_desk}
 use Rattle.store_steps.specs.Steps.{Accepts}
@@ -33,7 +33,8 @@ use Rattle.stream_store.specs.declared.receipts.ApplyError.TheVariants as refuse
 use Rattle.script_lines.specs.Lines.{collect_line, commit_line, stat_line}
 use Rattle.stinger_server.proofs.SlotLaws.{floor_is}
 use Rattle.stinger_server.specs.Servers.{ShowsDesk, batch_word}
-use Rattle.stinger_server.specs.States.{Dates, IsDone, State, after_collect, after_commit, beginning, commit_refusal, copy_of, dates, dropped}
+use Rattle.stinger_server.specs.States.{Dates, IsDone, State, after_collect, after_commit, beginning, commit_refusal, copy_of}
+use Rattle.stinger_server.specs.States.{dates, dropped}
 use Rattle.stinger_server.specs.States.{floor_of, held_numbers}
 use Rattle.stinger_server.specs.States.{last_version, left_by_pending, recycled, set_up, taken, used}
 use Rattle.script_lines.specs.declared.words.Word.TheVariants.{BatchLimit, KindsFull, NamesFull, PoolEmpty}
@@ -68,7 +69,7 @@ parts_one Granted = refl
 parts_one (Used birth) = refl
 parts_one (Retired birth since) = refl
 
-parts : (pool : List Status) → count_by is_free pool + count_by is_retired pool + count_by is_used pool ≡ length pool
+pub parts : (pool : List Status) → count_by is_free pool + count_by is_retired pool + count_by is_used pool ≡ length pool
 parts [] = refl
 parts (s ∷ pool) =
     let a = count_more is_free s pool in
@@ -113,7 +114,7 @@ asked_is d s ops shows pending many = λ i. asked (pending i) ((sym many ∙ all
 
 -- The opening
 
-none_counted : (p : Status → Bool) → p Free ≡ false → (n : ℕ) → count_by p (replicate n Free) ≡ 0
+pub none_counted : (p : Status → Bool) → p Free ≡ false → (n : ℕ) → count_by p (replicate n Free) ≡ 0
 none_counted p none zero = refl
 none_counted p none (suc n) =
     let more = count_more p Free (replicate n Free) in
@@ -126,11 +127,11 @@ all_counted zero = refl
 all_counted (suc n) =
     let more = count_more is_free Free (replicate n Free) in let rest = all_counted n in omega arith
 
-length-replicate : (n : ℕ) → length (replicate n Free) ≡ n
+pub length-replicate : (n : ℕ) → length (replicate n Free) ≡ n
 length-replicate zero = refl
 length-replicate (suc n) = ap suc (length-replicate n)
 
-pub shows_opened : (d : DeskView) (config : ConfigView) → d ≡ opened_desk config.blocks
+pub shows_opened : (d : DeskView) (config : ConfigView) → d ≡ opened_desk config.blocks empty_version
     → ShowsDesk d (beginning (set_up config)).state
 shows_opened d config opened = rw opened (record {
   opening = refl;
@@ -192,11 +193,17 @@ dated_counts q retired births n =
     count_append (λ (x : Dates). q x.birth x.since) retired (map (λ birth. dates birth n) births)
     ∙ ap (λ k. count_by (λ (x : Dates). q x.birth x.since) retired + k) (dated q births n)
 
-batches_after : (d e : DeskView) (ops : List NamedOp) → Accepts d ops e → e.last.batches ≡ d.last.batches ++ ops ∷ []
+pub batches_after : (d e : DeskView) (ops : List NamedOp) → Accepts d ops e → e.last.batches ≡ d.last.batches ++ ops ∷ []
 batches_after d e ops accepts = ap (λ l. l.batches) accepts.accepted.ledger
 
 pub opening_after : (d e : DeskView) (ops : List NamedOp) → Accepts d ops e → e.last.opening ≡ d.last.opening
 opening_after d e ops accepts = accepts.accepted.opening
+
+pub blocks_after : (d e : DeskView) (ops : List NamedOp) → Accepts d ops e → length e.pool ≡ length d.pool
+blocks_after d e ops accepts =
+    let counts : AcceptedCounts d accepts.taken accepts.dropped e =
+    accepted_counts d e ops accepts.taken accepts.dropped accepts.accepted in
+    counts.blocks
 
 pub commit_done : (s : State) (d e : DeskView) (ops : List NamedOp) (number : ℕ) (results : List Outcome) (lines : List ℕ)
     → ShowsDesk d s → ops ≡ s.pending → count_by is_used d.pool ≡ block_count d.last

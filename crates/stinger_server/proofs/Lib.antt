@@ -9,6 +9,8 @@ pub mod Edges
 pub mod OwnLabels
 pub mod Replies
 pub mod Asking
+pub mod HeldBlocks
+pub mod Rebasing
 pub mod OneRecord
 pub mod RunSoFar
 pub mod RunEnd

@@ -1,14 +1,14 @@
--- The names of a graph that batches leave of the empty one differ.
+-- The names of a graph that batches leave differ where they did before.
 use Rattle.std.proofs.Common.{◌≢◌, ℕ, List, [], ◌∷◌, arith}
 use Rattle.std.specs.Prelude.{AllPairs}
 use Rattle.graph_model.specs.Graph.{Graph}
-use Rattle.graph_model.specs.Step.{after, after_all, empty_graph, left_by}
+use Rattle.graph_model.specs.Step.{after, after_all, left_by}
 use Rattle.graph_model.specs.declared.batches.NamedOp.{NamedOp}
 use Rattle.graph_model.specs.declared.batches.NamedOp.TheVariants.{Insert, Incr, Remove, Expire}
 use Rattle.graph_model.specs.declared.changes.EdgeChange.TheVariants.{Insert as ToInsert, Incr as ToIncr, Remove as ToRemove}
 use Rattle.graph_model.proofs.NameLists.{AllPairs-names_made}
 
-abbrev AreApart : List (List ℕ) → Type 0
+abbrev pub AreApart : List (List ℕ) → Type 0
 AreApart names = AllPairs (λ a b. a ≢ b) names
 
 after_one : (op : NamedOp) (g : Graph) → AreApart g.names → AreApart (after op g).names
@@ -21,12 +21,9 @@ after_batch : (ops : List NamedOp) (g : Graph) → AreApart g.names → AreApart
 after_batch [] g apart = apart
 after_batch (op ∷ ops) g apart = after_batch ops (after op g) (after_one op g apart)
 
-after_batches : (batches : List (List NamedOp)) (g : Graph) → AreApart g.names → AreApart (left_by batches g).names
-after_batches [] g apart = apart
-after_batches (batch ∷ batches) g apart = after_batches batches (after_all batch g) (after_batch batch g apart)
+pub apart_names : (batches : List (List NamedOp)) (g : Graph) → AreApart g.names → AreApart (left_by batches g).names
+apart_names [] g apart = apart
+apart_names (batch ∷ batches) g apart = apart_names batches (after_all batch g) (after_batch batch g apart)
 
-none_apart : AreApart []
+pub none_apart : AreApart []
 none_apart i j d less below = absurd (omega arith)
-
-pub apart_names : (batches : List (List NamedOp)) → AllPairs (λ a b. a ≢ b) (left_by batches empty_graph).names
-apart_names batches = after_batches batches empty_graph none_apart

@@ -10,11 +10,11 @@ use Rattle.feed_csv.specs.declared.command.FeedWord.TheVariants.{BadSlot, Memory
 use Rattle.stinger_server.specs.declared.script.Run.{Run}
 use Rattle.stinger_server.specs.declared.server.Response.{Response}
 use Rattle.stinger_server.specs.declared.server.Response.TheVariants.{Lines, Refused}
-use Rattle.script_lines.specs.declared.words.Word.TheVariants.{Feed}
+use Rattle.script_lines.specs.declared.words.Word.TheVariants.{Feed, Start}
 use Rattle.script_lines.specs.Lines.{error_line}
 use Rattle.stinger_server.specs.Runs.{BreaksOff, CountsRecord, Done, refusals}
 use Rattle.stinger_server.specs.Servers.{IsServer, Obeys, result_of}
-use Rattle.stinger_server.specs.States.{error_count, printed}
+use Rattle.stinger_server.specs.States.{IsRebase, error_count, printed}
 use Rattle.stinger_server.specs.Writes.{AppendsPart}
 
 -- a word of the feed that ends nothing refuses a record
@@ -108,4 +108,8 @@ breaks_refused row_item word old before after is part = λ here shows.
 
 pub breaks_memory : (row_item : Result Command FeedWord) (old : Run) (before after : Option (List ℕ))
     → AppendsPart before after (error_line (old.records + 1) (Feed Memory)) → BreaksOff row_item old before after
-breaks_memory row_item old before after part = λ here shows. inr (rw (← shows.records) part)
+breaks_memory row_item old before after part = λ here shows. inr (inl (rw (← shows.records) part))
+
+pub breaks_start : (row_item : Result Command FeedWord) (old : Run) (before after : Option (List ℕ)) → IsRebase row_item
+    → AppendsPart before after (error_line (old.records + 1) Start) → BreaksOff row_item old before after
+breaks_start row_item old before after is part = λ here shows. inr (inr (is, rw (← shows.records) part))

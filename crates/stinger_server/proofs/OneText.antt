@@ -4,7 +4,7 @@ use Rattle.std.specs.Prelude.{Result, Ok, Err, slice_get}
 use Rattle.feed_csv.specs.Commands.{item_of}
 use Rattle.feed_csv.specs.Records.{Row}
 use Rattle.feed_csv.specs.declared.command.Command.{Command}
-use Rattle.feed_csv.specs.declared.command.Command.TheVariants.{Op, Commit, OpenSlot, CloseSlot, Query, Collect, Stat}
+use Rattle.feed_csv.specs.declared.command.Command.TheVariants.{Op, Commit, OpenSlot, CloseSlot, Query, Collect, Stat, Rebase}
 use Rattle.feed_csv.specs.declared.command.FeedWord.{FeedWord}
 use Rattle.graph_model.proofs.OneAnswer.{one_answer}
 use Rattle.graph_model.specs.declared.requests.Request.{Request}
@@ -33,6 +33,7 @@ one_outcome (Ok (Query slot request)) s a b first second =
     one_replied slot request s (version_in (slice_get s.held slot)) a b first second
 one_outcome (Ok Collect) s a b first second = first ∙ sym second
 one_outcome (Ok Stat) s a b first second = first ∙ sym second
+one_outcome (Ok (Rebase slot)) s a b first second = first ∙ sym second
 
 one_run : (rows : List Row) (here : Progress) (text other : List ℕ) (there elsewhere : Progress) → IsRun rows here text there
     → IsRun rows here other elsewhere → (text ≡ other) × (there ≡ elsewhere)

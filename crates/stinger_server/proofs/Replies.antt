@@ -6,7 +6,6 @@ use Rattle.graph_model.specs.Answer.{IsAnswer, IsReply, resolved, degree_table, 
 use Rattle.graph_model.specs.Graph.{Graph}
 use Rattle.graph_version.specs.Versions.{IsVersion, VersionView, content}
 use Rattle.block_layout.specs.Batches.{IsWithin}
-use Rattle.graph_model.specs.Step.{empty_graph}
 use Rattle.graph_model.specs.declared.requests.Request.{Request}
 use Rattle.graph_model.specs.declared.requests.Request.TheVariants as request
 use Rattle.graph_model.specs.declared.requests.Reply.{Reply}
@@ -16,7 +15,7 @@ use Rattle.graph_levels.specs.Vertices.{numbers_of}
 use Rattle.version_answers.specs.Numbered.{IsNumberedAnswer, IsNumberedReply, named}
 use Rattle.version_answers.specs.declared.numbered.NumberedReply.{NumberedReply}
 use Rattle.stinger_server.proofs.Edges.{edges_in_view}
-use Rattle.stinger_server.proofs.NamesApart.{apart_names}
+use Rattle.stinger_server.proofs.NamesApart.{AreApart, apart_names}
 use Rattle.stinger_server.proofs.OwnLabels.{own_labels}
 use Rattle.script_lines.specs.Lines.{degree_lines, label_lines}
 use Rattle.script_lines.specs.Lines.{shown_lines}
@@ -28,9 +27,9 @@ pub record IsAsked (g : Graph) : Type 0 where
   pub names_distinct : AllPairs (λ a b. a ≢ b) g.names
   pub within : IsWithin g
 
-pub asked_version : (v : VersionView) → IsVersion v → v.opening ≡ empty_graph → IsAsked (content v)
+pub asked_version : (v : VersionView) → IsVersion v → AreApart v.opening.names → IsAsked (content v)
 asked_version v version opening = record {
-  names_distinct = rw opening (apart_names v.batches);
+  names_distinct = apart_names v.batches v.opening opening;
   within = version.within;
 }
 

@@ -8,7 +8,7 @@ use Rattle.stinger_server.specs.declared.script.Run.{Run}
 use Rattle.stinger_server.specs.declared.script.ServeFault.{ServeFault}
 use Rattle.stinger_server.specs.declared.script.ServeFault.TheVariants.{Read, Memory, Start, Write}
 use Rattle.stinger_server.specs.declared.script.Summary.{Summary}
-use Rattle.stinger_server.specs.States.{Setup}
+use Rattle.stinger_server.specs.States.{IsRebase, Setup}
 use Rattle.stinger_server.specs.Runs.{BreaksOff, Does, HasCause, IsFresh, IsReady, Starts, Turns, done_by, is_write, records_done}
 
 -- there was no store, or no memory for a first record
@@ -19,7 +19,7 @@ cause_unstarted feed setup before after failed Read fresh ends marked = absurd e
 cause_unstarted feed setup before after failed Memory fresh ends marked =
     let none : records_done feed ≡ 0 = rw (fresh.reading, fresh.given) refl in
     (subst (λ (n : ℕ). n < record_limit) (sym none) (omega arith), marked)
-cause_unstarted feed setup before after failed Start fresh ends marked = (fresh.reading, fresh.given, marked)
+cause_unstarted feed setup before after failed Start fresh ends marked = (fresh.reading, marked)
 cause_unstarted feed setup before after failed Write fresh ends marked = marked
 
 -- a turn ended the run
@@ -29,7 +29,7 @@ pub cause_stopped : (feed feed' : Script) (run run' : Run) (now after : Option (
 cause_stopped feed feed' run run' now after failed Read turned marked = (turned.0, marked)
 cause_stopped feed feed' run run' now after failed Memory turned marked =
     (subst (λ (n : ℕ). n < record_limit) (sym turned.0) turned.1, marked)
-cause_stopped feed feed' run run' now after failed Start turned marked = absurd turned
+cause_stopped feed feed' run run' now after failed Start turned marked = (turned.1.reading, marked)
 cause_stopped feed feed' run run' now after failed Write turned marked = marked
 
 -- the feed met the end of the input, and the run was finished
@@ -53,7 +53,15 @@ pub turn_broken : (command : Command) (field : Option Command) (feed feed' : Scr
     → NextStep feed (Ok field) feed' → Does (Ok command) run before (Err fault) run' after
     → Turns feed run before (Err fault) feed' run' after
 turn_broken command field feed feed' run run' before after Read ready is step does = absurd does
-turn_broken command field feed feed' run run' before after Start ready is step does = absurd does
+turn_broken command field feed feed' run run' before after Start ready is step does =
+    let taken : NextStep feed (Ok (Some command)) feed' = rw is at step in
+    let count : feed'.given ≡ feed.given + 1 = taken.2.given in (
+      taken.0,
+      taken.2,
+      subst IsRebase (sym taken.1) does.0,
+      ap (λ phase. done_by phase feed'.given) taken.2.reading ∙ omega (arith, count, ready.records),
+      does.1,
+    )
 turn_broken command field feed feed' run run' before after Memory ready is step does =
     let taken : NextStep feed (Ok (Some command)) feed' = rw is at step in
     let count : feed'.given ≡ feed.given + 1 = taken.2.given in

@@ -6,6 +6,7 @@ use Rattle.std.specs.Io.KnownBytes.{Appends}
 use Rattle.feed_csv.specs.Commands.{item_of}
 use Rattle.feed_csv.specs.Records.{IsOver, Row, Takes, record_limit, records_of}
 use Rattle.feed_csv.specs.Script.{IsOpen, MeetsEnd, Script, TakesRow}
+use Rattle.feed_csv.specs.declared.command.Command.TheVariants.{Rebase}
 use Rattle.feed_csv.specs.declared.command.FeedWord.TheVariants as feed_word
 use Rattle.stinger_server.specs.declared.script.Run.{Run}
 use Rattle.stinger_server.specs.declared.script.ServeFault.{ServeFault}
@@ -13,10 +14,11 @@ use Rattle.stinger_server.specs.declared.script.ServeFault.TheVariants.{Read, Me
 use Rattle.stinger_server.specs.declared.script.Summary.{Summary}
 use Rattle.script_lines.specs.declared.words.Word.{Word}
 use Rattle.script_lines.specs.declared.words.Word.TheVariants.{Feed}
+use Rattle.script_lines.specs.declared.words.Word.TheVariants as told
 use Rattle.script_lines.specs.Lines.{end_line, error_line}
 use Rattle.stinger_server.specs.Runs.{BreaksOff, IsFresh, IsReady, ShowsRun, Starts, Turns, records_done}
 use Rattle.stinger_server.specs.States.{IsRecordResult, Progress, RecordResult, Setup, after_record, beginning, printed}
-use Rattle.stinger_server.specs.Texts.{IsCut, IsRun, IsStart, IsText, IsWanted, IsWhole}
+use Rattle.stinger_server.specs.Texts.{IsCut, IsRun, IsStart, IsText, IsUnopened, IsWanted, IsWhole}
 use Rattle.stinger_server.specs.Writes.{AppendsPart, AppendsSome}
 use Rattle.stinger_server.proofs.Writing.{appends_nothing, appends_then, part_then}
 
@@ -111,6 +113,28 @@ cut_of setup rows left run before now word count reached same = (
   ap (λ n. reached.lines ++ error_line (n + 1) word) (sym same),
 )
 
+-- the text so far, and then the error line of a rebase
+unopened_of : (setup : Setup) (rows : List Row) (row : Row) (left rest : Option (List Row)) (run : Run)
+    (before now : Option (List ℕ)) (slot count : ℕ)
+    → (reached : Reaches setup (Some rows) left run before now) → Takes left row rest → item_of row ≡ Ok (Rebase slot)
+    → count ≡ run.records
+    → IsUnopened setup rows count (reached.lines ++ error_line (run.records + 1) told.Start)
+unopened_of setup rows row None rest run before now slot count reached takes is same = absurd reached.leaves
+unopened_of setup rows row (Some more) None run before now slot count reached takes is same = absurd takes
+unopened_of setup rows row (Some more) (Some others) run before now slot count reached takes is same = (
+  reached.given,
+  row,
+  others,
+  slot,
+  reached.lines,
+  reached.here,
+  reached.leaves ∙ ap (λ rows. reached.given ++ rows) takes,
+  is,
+  reached.is_run,
+  sym (same ∙ reached.shows.records),
+  ap (λ n. reached.lines ++ error_line (n + 1) told.Start) (sym same),
+)
+
 -- a part of what follows the text so far
 part_of : (setup : Setup) (rows : List Row) (left : Option (List Row)) (run : Run) (before now after : Option (List ℕ))
     (next : List ℕ) (count : ℕ)
@@ -162,7 +186,13 @@ stopped setup rows feed feed' run run' before now after Memory reached turned = 
     subst (λ (n : ℕ). n < record_limit) (sym turned.0) turned.1,
   ),
 )
-stopped setup rows feed feed' run run' before now after Start reached turned = absurd turned
+stopped setup rows feed feed' run run' before now after Start reached turned = (
+  reached.lines ++ error_line (run.records + 1) told.Start,
+  appends_then before now after reached.lines _ reached.written turned.4,
+  inr
+      (unopened_of setup rows turned.0 feed.left feed'.left run before now turned.2.0 (records_done feed') reached turned.1.left
+      turned.2.1 turned.3),
+)
 stopped setup rows feed feed' run run' before now after Write reached turned = elim turned [
   | inl broken ↦ broken_off broken
   | inr line ↦ elim line [
@@ -173,7 +203,8 @@ stopped setup rows feed feed' run run' before now after Write reached turned = e
     | inr part ↦ part_of setup rows feed.left run before now after (error_line (run.records + 1) (Feed feed_word.Memory))
         (records_done feed') reached
         (inr
-        (inr (run.records, inr (cut_of setup rows feed.left run before now (Feed feed_word.Memory) run.records reached refl))))
+        (inr
+        (run.records, inr (inl (cut_of setup rows feed.left run before now (Feed feed_word.Memory) run.records reached refl)))))
         part
   ]
 ] where
@@ -186,14 +217,24 @@ stopped setup rows feed feed' run run' before now after Write reached turned = e
           after_record (item_of broken.0) part.0 reached.here,
           started_with setup rows broken.0 feed.left feed'.left run before now part.0 reached broken.1.left part.1,
         )) part.2
-    | inr part ↦ part_of setup rows feed.left run before now after (error_line (reached.here.records + 1) (Feed feed_word.Memory))
-        (records_done feed') reached
-        (inr
-        (inr (
-          reached.here.records,
-          inr
-              (reached.lines, reached.here, start_of setup rows feed.left run before now reached, refl, refl),
-        ))) part
+    | inr other ↦ elim other [
+      | inl part ↦
+          part_of setup rows feed.left run before now after (error_line (reached.here.records + 1) (Feed feed_word.Memory))
+          (records_done feed') reached
+          (inr
+          (inr (
+            reached.here.records,
+            inr
+                (inl (reached.lines, reached.here, start_of setup rows feed.left run before now reached, refl, refl)),
+          ))) part
+      | inr unopened ↦
+          let wanted = unopened_of setup rows broken.0 feed.left feed'.left run before now unopened.0.0 run.records reached
+          broken.1.left unopened.0.1 refl in
+          let next = error_line (run.records + 1) told.Start in
+          part_of setup rows feed.left run before now after next (records_done feed') reached
+          (inr (inr (run.records, inr (inr wanted))))
+          (subst (λ n. AppendsPart now after (error_line (n + 1) told.Start)) (sym reached.shows.records) unopened.1)
+    ]
   ]
 
 -- all records were given
@@ -256,7 +297,7 @@ unstarted_part setup rows before after count part = (
   (
     error_line 1 (Feed feed_word.Memory),
     part.1,
-    inr (inr (0, inr ([], beginning setup, ([], rows, refl, (refl, refl)), refl, refl))),
+    inr (inr (0, inr (inl ([], beginning setup, ([], rows, refl, (refl, refl)), refl, refl)))),
     part.2,
   ),
 )
@@ -371,6 +412,6 @@ never_started (Some rows) setup feed before after Read fresh ends = absurd ends
 never_started (Some rows) setup feed before after Memory fresh ends =
     rw (done_none feed fresh) (unstarted setup rows before after ends)
 never_started (Some rows) setup feed before after Start fresh ends =
-    rw (done_none feed fresh) ([], subst (λ now. Appends before now []) (sym ends) (appends_nothing before), (refl, refl))
+    rw (done_none feed fresh) ([], subst (λ now. Appends before now []) (sym ends) (appends_nothing before), inl (refl, refl))
 never_started (Some rows) setup feed before after Write fresh ends =
     unstarted_part setup rows before after (records_done feed) ends

@@ -17,7 +17,7 @@ use Rattle.std.proofs.Math.ListN.{length-set}
 use Rattle.std.proofs.Math.Seq.{take-length}
 use Rattle.std.proofs.Math.Nat.{max-eq_right}
 use Rattle.graph_model.specs.declared.batches.NamedOp.{NamedOp}
-use Rattle.graph_version.specs.Versions.{IsVersion, VersionView, empty_version}
+use Rattle.graph_version.specs.Versions.{IsVersion, VersionView}
 use Rattle.pin_copy.specs.Copies.{floor_of, least_of, lesser}
 use Rattle.seat_board.specs.Board.{BoardState, copy_of, no_pins, pin_at, settled_number, unsettled_number, with_pin}
 use Rattle.seat_board.specs.declared.board.Pin.{Pin}
@@ -60,11 +60,11 @@ free_slot last slot (Some seat) None s is none number = ap (λ (o : Option SeatV
 free_slot last slot (Some seat) (Some session) s is none number = cc
 free_slot last slot None session s is none number = cc
 
-pub slots_first : (board : BoardState) (seats : List SeatView) (free : List (Option SeatView))
+pub slots_first : (last : VersionView) (board : BoardState) (seats : List SeatView) (free : List (Option SeatView))
     (sessions : List (Option SessionView))
     → board ≡ no_pins → length seats ≤ 16 → map (λ (s : SeatView). s.number) seats ≡ range_with_len 0 (length seats)
-    → free ≡ map (λ s. Some s) seats → sessions ≡ replicate (length seats) None → AreSlots empty_version board free sessions
-slots_first board seats free sessions new few numbers are_free are_none = record {
+    → free ≡ map (λ s. Some s) seats → sessions ≡ replicate (length seats) None → AreSlots last board free sessions
+slots_first last board seats free sessions new few numbers are_free are_none = record {
   same_length = omega (arith, free_length, none_length);
   few = omega (arith, none_length);
   each = λ slot below. one slot (omega (arith, none_length));
@@ -93,10 +93,10 @@ slots_first board seats free sessions new few numbers are_free are_none = record
       ≡ option_map holding (held_by (get_or (replicate (length seats) None) slot None))
   none_at slot = rw (none_or {X = Pin} SEATS slot, none_or {X = SessionView} (length seats) slot) refl
 
-  one : (slot : ℕ) → slot < length seats → IsSlot empty_version slot (get_or free slot None) (get_or sessions slot None)
+  one : (slot : ℕ) → slot < length seats → IsSlot last slot (get_or free slot None) (get_or sessions slot None)
   one slot below =
       let d = some_seat seats slot below in
-      free_slot empty_version slot (get_or free slot None) (get_or sessions slot None) (get_or seats slot d)
+      free_slot last slot (get_or free slot None) (get_or sessions slot None) (get_or seats slot d)
       (ap (λ fs. get_or fs slot None) are_free ∙ get_or-map (λ s. Some s) seats slot d None below)
       (ap (λ fs. get_or fs slot None) are_none ∙ none_or (length seats) slot)
       (numbered seats (length seats) numbers slot d below (omega arith))

@@ -3,8 +3,9 @@ use Rattle.std.specs.Prelude.{◌≡◌, pos, ℕ, List, [], ◌∷◌, Option, 
 use Rattle.graph_model.specs.Step.{empty_graph}
 use Rattle.graph_model.specs.declared.batches.NamedOp.{NamedOp}
 use Rattle.graph_model.specs.declared.batches.NamedOp.TheVariants.{Insert}
-use Rattle.stinger_server.specs.States.{Dates, Held, State, after_collect, after_commit, beginning, dates, floor_of, last_held}
-use Rattle.stinger_server.specs.States.{recycled}
+use Rattle.stinger_server.specs.States.{Dates, Held, State, after_collect, after_commit, after_rebase, beginning, dates}
+use Rattle.stinger_server.specs.States.{floor_of, last_held}
+use Rattle.stinger_server.specs.States.{recycled, used}
 
 -- the edge from a to b, of kind k
 abbrev pub put_edge : ℕ → List NamedOp
@@ -36,6 +37,10 @@ holding held = record thrice { held = held }
 abbrev pub slot_of : State → Option Held
 slot_of s = Some (last_held s)
 
+-- the third state, opened anew with the first of the versions
+abbrev pub rebased : State
+rebased = after_rebase (last_held once) (holding (slot_of once ∷ slot_of thrice ∷ []))
+
 -- what a collection frees and leaves, with its floor
 pub record Collects (s : State) (floor freed : ℕ) (left : List Dates) : Type 0 where
   pub floor_are : floor_of s ≡ floor
@@ -54,3 +59,13 @@ pub record AreExamples : Type 0 where
   pub none_held : Collects (holding (None ∷ None ∷ [])) 3 2 []
   -- version 0 has no block
   pub empty_held : Collects (holding (slot_of opened ∷ None ∷ [])) 0 2 []
+  -- the graph and the layout are those of the version held, whose one block is born anew; all other blocks are free again
+  pub rebased_batches : rebased.batches ≡ []
+  pub rebased_held : rebased.held ≡ None ∷ None ∷ []
+  pub rebased_layout : rebased.layout 0 ≡ once.layout 0
+  pub rebased_births : rebased.births 0 ≡ 0 ∷ []
+  pub rebased_free : rebased.free ≡ 7
+  pub rebased_used : used rebased ≡ 1
+  pub rebased_retired : rebased.retired ≡ []
+  -- the next batch retires the block that was copied
+  pub after_rebased : (put 4 rebased).retired ≡ dates 0 1 ∷ []

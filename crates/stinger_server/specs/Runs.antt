@@ -16,9 +16,10 @@ use Rattle.stinger_server.specs.declared.script.Summary.{Summary}
 use Rattle.stinger_server.specs.declared.server.Response.{Response}
 use Rattle.stinger_server.specs.declared.server.Response.TheVariants.{Lines, Refused}
 use Rattle.script_lines.specs.declared.words.Word.TheVariants.{Feed}
+use Rattle.script_lines.specs.declared.words.Word.TheVariants as told
 use Rattle.script_lines.specs.Lines.{error_line}
 use Rattle.stinger_server.specs.Servers.{IsServer, Shows}
-use Rattle.stinger_server.specs.States.{IsRecordResult, RecordResult, Progress, Setup, after_record, beginning, printed}
+use Rattle.stinger_server.specs.States.{IsRebase, IsRecordResult, RecordResult, Progress, Setup, after_record, beginning, printed}
 use Rattle.stinger_server.specs.Writes.{AppendsPart}
 
 -- a feed that gave nothing yet
@@ -75,14 +76,15 @@ BreaksOff item old before after =
     (here : Progress) → ShowsRun old here
     → ((outcome : RecordResult) × IsRecordResult item here.state outcome
     × AppendsPart before after (printed (here.records + 1) outcome))
-    ⊎ AppendsPart before after (error_line (here.records + 1) (Feed word.Memory))
+    ⊎ (AppendsPart before after (error_line (here.records + 1) (Feed word.Memory))
+    ⊎ (IsRebase item × AppendsPart before after (error_line (here.records + 1) told.Start)))
 
 -- what a record did, by its result
 abbrev pub Does : Result Command FeedWord → Run → Option (List ℕ) → Result Unit ServeFault → Run → Option (List ℕ) → Type 0
 Does item old before (Ok u) new after = Done item old before new after
 Does item old before (Err Read) new after = ⊥
 Does item old before (Err Memory) new after = Appends before after (error_line (old.records + 1) (Feed word.Memory))
-Does item old before (Err Start) new after = ⊥
+Does item old before (Err Start) new after = IsRebase item × Appends before after (error_line (old.records + 1) told.Start)
 Does item old before (Err Write) new after = BreaksOff item old before after
 
 -- the feed stopped, since csv's reader failed or the limit was reached
@@ -108,7 +110,9 @@ Turns feed run before (Err Read) feed' run' after =
     HasReadFault feed' × (records_done feed' ≡ run.records) × Appends before after (error_line (run.records + 1) (Feed word.Read))
 Turns feed run before (Err Memory) feed' run' after =
     (records_done feed' ≡ run.records) × (run.records < record_limit) × Appends before after (error_line (run.records + 1) (Feed word.Memory))
-Turns feed run before (Err Start) feed' run' after = ⊥
+Turns feed run before (Err Start) feed' run' after =
+    (row : Row) × TakesRow feed row feed' × IsRebase (item_of row) × (records_done feed' ≡ run.records)
+    × Appends before after (error_line (run.records + 1) told.Start)
 Turns feed run before (Err Write) feed' run' after =
     ((row : Row) × TakesRow feed row feed' × BreaksOff (item_of row) run before after)
     ⊎ (AppendsPart before after (error_line (run.records + 1) (Feed word.Read))
@@ -132,11 +136,11 @@ is_start (Err Write) = false
 
 -- Why a run ends as it does, by what its feed came to and whether a call of the writer failed: at Ok the feed met the end of
 -- the input, and csv's reader never failed; Read is told of the feed's fault alone, and Write of the writer's. Of memory
--- can be said that it is no other fault, and never told of the limit of records; and without a store nothing was read.
+-- can be said that it is no other fault, and never told of the limit of records; and Start comes while the feed gives records.
 abbrev pub HasCause : Script → Bool → Result Summary ServeFault → Type 0
 HasCause feed failed (Ok summary) =
     (feed.phase ≡ Ended) × (feed.failed ≡ false) × (summary.records ≡ feed.given) × (failed ≡ false)
 HasCause feed failed (Err Read) = HasReadFault feed × (failed ≡ false)
 HasCause feed failed (Err Memory) = (records_done feed < record_limit) × (failed ≡ false)
-HasCause feed failed (Err Start) = (feed.phase ≡ Reading) × (feed.given ≡ 0) × (failed ≡ false)
+HasCause feed failed (Err Start) = (feed.phase ≡ Reading) × (failed ≡ false)
 HasCause feed failed (Err Write) = failed ≡ true

@@ -1,6 +1,5 @@
 -- A server's fields, and the states that they show.
-use Rattle.std.specs.Prelude.{◌≡◌, ℕ, List, length, count_by, Ok, Err, Bool}
-use Rattle.graph_model.specs.Step.{empty_graph}
+use Rattle.std.specs.Prelude.{◌≡◌, ◌≢◌, ℕ, List, length, count_by, AllPairs, Ok, Err, Bool}
 use Rattle.graph_version.specs.Versions.{layout_of}
 use Rattle.block_pool.specs.Pools.{is_free}
 use Rattle.store_steps.specs.Desks.{DeskView, births_in, is_retired_by}
@@ -10,16 +9,20 @@ use Rattle.stream_store.specs.declared.receipts.ApplyError.{ApplyError}
 use Rattle.stream_store.specs.declared.receipts.ApplyError.TheVariants as refused
 use Rattle.script_lines.specs.declared.words.Word.{Word}
 use Rattle.script_lines.specs.declared.words.Word.TheVariants.{Feed, BatchLimit, NamesFull, KindsFull, PoolEmpty}
-use Rattle.stinger_server.specs.Slots.{IsKept, held_in}
+use Rattle.stinger_server.specs.Slots.{AreFew, IsKept, held_in}
 use Rattle.stinger_server.specs.States.{Dates, IsDone, RecordResult, State, after_command}
 use Rattle.stinger_server.specs.declared.server.Server.{Server}
 use Rattle.stinger_server.specs.declared.server.Response.{Response}
 use Rattle.stinger_server.specs.declared.server.Response.TheVariants.{Lines, Refused}
 
--- the desk's last version is one of an opening without edges, and the slots hold it or versions before it
+-- no two names of the graph that the store opened with are one; the slots hold the desk's last version or ones before it, none
+-- with more blocks than the store's; and there are as many blocks and slots as the configuration says
 pub record IsServer (server : Server) : Type 0 where
-  pub opening : server.desk.desk.last.opening ≡ empty_graph
+  pub opening : AllPairs (λ a b. a ≢ b) server.desk.desk.last.opening.names
   pub slots : IsKept server.desk.desk.last server.slots
+  pub few : AreFew server.config.blocks server.slots
+  pub blocks : length server.desk.desk.pool ≡ server.config.blocks
+  pub seats : length (held_in server.slots) ≡ server.config.seats
 
 -- the desk's last version is that of the state, its blocks have the births that the state says, and as many blocks are free, and
 -- retired with each birth and retirement, as the state says

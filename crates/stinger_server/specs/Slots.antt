@@ -1,10 +1,11 @@
 -- Slots: each has a seat, or a session on a version that the desk lent.
-use Rattle.std.specs.Prelude.{◌≡◌, ℕ, ◌<◌, ◌≤◌, true, List, length, map, take, slice_index_or, Option, None, Some}
+use Rattle.std.specs.Prelude.{◌≡◌, ℕ, ◌<◌, ◌≤◌, All, IfSome, true, List, length, map, take, slice_index_or, Option, None, Some}
 use Rattle.std.specs.Option.{option_map}
 use Rattle.graph_version.specs.Versions.{VersionView, IsVersion, layout_of}
 use Rattle.seat_board.specs.Board.{BoardState, pin_at}
 use Rattle.seat_board.specs.declared.board.Pin.{Pin}
 use Rattle.seat_board.specs.declared.board.TheConstants.{SEATS}
+use Rattle.stream_store.specs.Refusals.{block_count}
 use Rattle.stream_store.specs.Seats.{SeatView, SessionView, held_version}
 use Rattle.stinger_server.specs.States.{Held}
 use Rattle.stinger_server.specs.declared.slots.Slots.{Slots}
@@ -51,6 +52,10 @@ pub record AreSlots (last : VersionView) (board : BoardState) (seats : List (Opt
   pub each : (slot : ℕ) → slot < length sessions
       → IsSlot last slot (slice_index_or seats slot None) (slice_index_or sessions slot None)
   pub pinned : IsPinned (length last.batches) board sessions
+
+-- no held version has more blocks than there are
+abbrev pub AreFew : ℕ → Slots → Type 0
+AreFew blocks slots = All (λ session. IfSome session (λ s. block_count (held_version s) ≤ blocks)) slots.sessions.items
 
 abbrev pub IsKept : VersionView → Slots → Type 0
 IsKept last slots = AreSlots last slots.board slots.seats.items slots.sessions.items

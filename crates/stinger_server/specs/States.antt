@@ -1,9 +1,10 @@
 -- Where a run stands between two records, and what one record does.
-use Rattle.std.specs.Prelude.{◌≡◌, ℕ, ◌+◌, ◌-◌, min, not, nat_le, nat_lt, List, [], ◌∷◌, ◌++◌, length, map, take, replicate, filter}
+use Rattle.std.specs.Prelude.{◌≡◌, ℕ, ◌+◌, ◌-◌, min, not, nat_le, nat_lt, List, [], ◌∷◌, ◌++◌, length, map, take, replicate}
+use Rattle.std.specs.Prelude.{filter}
 use Rattle.std.specs.Prelude.{slice_get, slice_set, count_by, if◌then◌else◌, Option, None, Some, Result, Ok, Err}
 use Rattle.std.specs.FinMap.{entries, len}
 use Rattle.std.specs.Option.{option_map}
-use Rattle.block_layout.specs.Batches.{layout_after, taken_by}
+use Rattle.block_layout.specs.Batches.{layout_after, sum_below, taken_by}
 use Rattle.block_layout.specs.Rows.{Shape}
 use Rattle.pin_copy.specs.declared.copies.PinCopy.{PinCopy}
 use Rattle.pin_copy.specs.declared.copies.TheConstants.{SEATS}
@@ -25,7 +26,7 @@ use Rattle.graph_model.specs.declared.requests.Reply.TheVariants as reply
 use Rattle.graph_model.specs.declared.requests.AskError.{AskError}
 use Rattle.graph_model.specs.declared.requests.AskError.TheVariants as ask
 use Rattle.feed_csv.specs.declared.command.Command.{Command}
-use Rattle.feed_csv.specs.declared.command.Command.TheVariants.{Op, Commit, OpenSlot, CloseSlot, Query, Collect, Stat}
+use Rattle.feed_csv.specs.declared.command.Command.TheVariants.{Op, Commit, OpenSlot, CloseSlot, Query, Collect, Stat, Rebase}
 use Rattle.feed_csv.specs.declared.command.FeedWord.{FeedWord}
 use Rattle.feed_csv.specs.declared.command.FeedWord.TheVariants as feed
 use Rattle.stream_store.specs.Configs.{ConfigView}
@@ -34,7 +35,7 @@ use Rattle.script_lines.specs.declared.words.Word.{Word}
 use Rattle.script_lines.specs.declared.words.Word.TheVariants.{Feed, NotOpen, AlreadyOpen, BadWindow, NoKind, NoVertex}
 use Rattle.script_lines.specs.declared.words.Word.TheVariants.{BatchFull, BatchLimit, NamesFull, KindsFull, PoolEmpty}
 use Rattle.script_lines.specs.Lines.{close_line, collect_line, commit_line, core_lines, count_different, degree_lines}
-use Rattle.script_lines.specs.Lines.{edge_line, error_line, label_lines, level_lines, open_line, stat_line}
+use Rattle.script_lines.specs.Lines.{edge_line, error_line, label_lines, level_lines, open_line, rebase_line, stat_line}
 
 -- how a run is set up: the graph that it opens with, and how many blocks and seats there are
 pub record Setup : Type 0 where
@@ -220,6 +221,33 @@ abbrev pub close_result : ℕ → Result Held Word → RecordResult
 close_result slot (Ok held) = Ok (close_line slot)
 close_result slot (Err word) = Err word
 
+-- how many blocks a held version has: those in the rows of its vertices
+abbrev pub blocks_of : Held → State → ℕ
+blocks_of held s = sum_below (length (version held.number s).names) (λ source. length (held.layout source))
+
+-- A store is opened with the graph of a held version, which is laid out as it was there: the blocks are born with version 0, and
+-- all others are free. No batch is accepted, no slot is open, and what was pending still is.
+abbrev pub after_rebase : Held → State → State
+after_rebase held s = record s {
+  opening = version held.number s;
+  batches = [];
+  held = replicate (length s.held) None;
+  layout = held.layout;
+  births = λ source. map (λ (b : Shape). 0) (held.layout source);
+  free = s.blocks - blocks_of held s;
+  retired = [];
+}
+
+-- the line tells the new version 0
+abbrev pub rebase_result : State → Result Held Word → RecordResult
+rebase_result s (Ok held) =
+    let g = version held.number s in Ok (rebase_line 0 (length g.names) (len g.edges) (blocks_of held s))
+rebase_result s (Err word) = Err word
+
+abbrev pub rebased : State → Result Held Word → State
+rebased s (Ok held) = after_rebase held s
+rebased s (Err word) = s
+
 -- the lines of a reply; those of labels begin with the number of different labels, and those of degrees with the number
 -- of edges in the view. A reply of another kind than its request has none, and is no answer
 abbrev pub reply_lines : ℕ → Request → Graph → Reply → List ℕ
@@ -256,6 +284,7 @@ IsDone (Query slot request) s outcome = IsReplied slot request s (version_in (sl
 IsDone Collect s outcome = outcome ≡ Ok (collect_line (floor_of s) (recycled s) (length (after_collect s).retired))
 IsDone Stat s outcome = outcome ≡ Ok (stat_line (length s.batches) (length (last_version s).names)
     (len (last_version s).edges) s.free (length s.retired) (used s))
+IsDone (Rebase slot) s outcome = outcome ≡ rebase_result s (version_in (slice_get s.held slot))
 
 -- the state that a command leaves: a refused one changes nothing, but a refused batch is given up
 abbrev pub after_command : Command → RecordResult → State → State
@@ -267,17 +296,23 @@ after_command (CloseSlot slot) (Ok lines) s = record s { held = slice_set s.held
 after_command (Query slot request) (Ok lines) s = s
 after_command Collect (Ok lines) s = after_collect s
 after_command Stat (Ok lines) s = s
+after_command (Rebase slot) (Ok lines) s = rebased s (version_in (slice_get s.held slot))
 after_command (Op op) (Err word) s = s
 after_command (OpenSlot slot) (Err word) s = s
 after_command (CloseSlot slot) (Err word) s = s
 after_command (Query slot request) (Err word) s = s
 after_command Collect (Err word) s = s
 after_command Stat (Err word) s = s
+after_command (Rebase slot) (Err word) s = s
 
 -- a record is a command, or is refused for the word that its fields have
 abbrev pub IsRecordResult : Result Command FeedWord → State → RecordResult → Type 0
 IsRecordResult (Ok command) s outcome = IsDone command s outcome
 IsRecordResult (Err word) s outcome = outcome ≡ Err (Feed word)
+
+-- the record opens a store anew
+abbrev pub IsRebase : Result Command FeedWord → Type 0
+IsRebase item = (slot : ℕ) × (item ≡ Ok (Rebase slot))
 
 abbrev pub after_item : Result Command FeedWord → RecordResult → State → State
 after_item (Ok command) outcome s = after_command command outcome s

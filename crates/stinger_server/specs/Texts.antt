@@ -2,12 +2,14 @@
 use Rattle.std.specs.Prelude.{◌≡◌, ◌<◌, ◌⊎◌, ℕ, ◌+◌, List, [], ◌∷◌, ◌++◌, length, Result, Ok, Err}
 use Rattle.feed_csv.specs.Commands.{item_of}
 use Rattle.feed_csv.specs.Records.{Row, record_limit}
+use Rattle.feed_csv.specs.declared.command.Command.TheVariants.{Rebase}
 use Rattle.feed_csv.specs.declared.command.FeedWord.TheVariants as feed
 use Rattle.stinger_server.specs.declared.script.ServeFault.{ServeFault}
 use Rattle.stinger_server.specs.declared.script.ServeFault.TheVariants.{Read, Memory, Start, Write}
 use Rattle.stinger_server.specs.declared.script.Summary.{Summary}
 use Rattle.script_lines.specs.declared.words.Word.{Word}
 use Rattle.script_lines.specs.declared.words.Word.TheVariants.{Feed}
+use Rattle.script_lines.specs.declared.words.Word.TheVariants as word
 use Rattle.script_lines.specs.Lines.{end_line, error_line}
 use Rattle.stinger_server.specs.States.{IsRecordResult, RecordResult, Progress, Setup, after_record, beginning, printed}
 
@@ -37,22 +39,31 @@ IsCut setup rows word count text =
     (lines : List ℕ) × (there : Progress) × IsStart setup rows lines there × (there.records ≡ count)
     × (text ≡ lines ++ error_line (count + 1) word)
 
+-- the text of a run that did so many records, at whose next one, a rebase, no store was opened
+abbrev pub IsUnopened : Setup → List Row → ℕ → List ℕ → Type 0
+IsUnopened setup rows count text =
+    (given : List Row) × (row : Row) × (rest : List Row) × (slot : ℕ) × (lines : List ℕ) × (there : Progress)
+    × (rows ≡ given ++ row ∷ rest) × (item_of row ≡ Ok (Rebase slot)) × IsRun given (beginning setup) lines there
+    × (there.records ≡ count) × (text ≡ lines ++ error_line (count + 1) word.Start)
+
 -- a text that a run writes where each write succeeds
 abbrev pub IsWanted : Setup → List Row → List ℕ → Type 0
 IsWanted setup rows text =
     ((there : Progress) × IsStart setup rows text there) ⊎ (((there : Progress) × IsWhole setup rows text there)
-    ⊎ ((count : ℕ) × (IsCut setup rows (Feed feed.Read) count text ⊎ IsCut setup rows (Feed feed.Memory) count text)))
+    ⊎ ((count : ℕ) × (IsCut setup rows (Feed feed.Read) count text ⊎ (IsCut setup rows (Feed feed.Memory) count text
+    ⊎ IsUnopened setup rows count text))))
 
 -- records, error lines and pending operations
 abbrev pub summary_of : Progress → Summary
 summary_of p = record { records = p.records; errors = p.errors; pending = length p.state.pending }
 
 -- what a run that did so many records has written when it returns: the whole text; or the text up to a fault; or, where a write
--- failed, a first part of such a text; or nothing, where the store was not opened. Memory is never told of the limit of records
+-- failed, a first part of such a text; or, where a store was not opened, nothing, or the text up to that rebase. Memory is
+-- never told of the limit of records
 abbrev pub IsText : Setup → List Row → ℕ → Result Summary ServeFault → List ℕ → Type 0
 IsText setup rows count (Ok summary) text =
     (there : Progress) × IsWhole setup rows text there × (there.records ≡ count) × (summary ≡ summary_of there)
 IsText setup rows count (Err Read) text = IsCut setup rows (Feed feed.Read) count text
 IsText setup rows count (Err Memory) text = IsCut setup rows (Feed feed.Memory) count text × (count < record_limit)
-IsText setup rows count (Err Start) text = (text ≡ []) × (count ≡ 0)
+IsText setup rows count (Err Start) text = ((text ≡ []) × (count ≡ 0)) ⊎ IsUnopened setup rows count text
 IsText setup rows count (Err Write) text = (full : List ℕ) × (rest : List ℕ) × IsWanted setup rows full × (full ≡ text ++ rest)

@@ -8,8 +8,8 @@ ghost use Rattle.script_lines.specs.Lines.{end_line, error_line};
 ghost use Rattle.std.specs.Prelude.{map};
 ghost use Rattle.std.specs.List.{range_with_len};
 ghost use Rattle.seat_board.specs.Board.{no_pins};
+ghost use Rattle.graph_version.specs.Versions.{empty_version};
 ghost use Rattle.store_steps.specs.Opening.{opened_desk};
-ghost use Rattle.stream_store.specs.Configs.{ConfigView};
 ghost use Rattle.stream_store.specs.Seats.{SeatView};
 ghost use Rattle.stinger_server.specs.States.{Setup, beginning, printed, set_up};
 ghost use Rattle.stinger_server.specs.Servers.{IsServer, result_of};
@@ -20,7 +20,7 @@ ghost use Rattle.stinger_server.specs.Runs.{records_done};
 ghost use Rattle.stinger_server.specs.Writes.{AppendsPart, AppendsSome, held};
 
 use crate::output;
-use crate::server::{Response, Server};
+use crate::server::{Response, Server, Stop};
 use crate::sink::{Sink, Unwritten};
 use feed_csv::{Command, Feed, FeedWord};
 use script_lines::Word;
@@ -70,11 +70,11 @@ struct Run {
 /// the operations that are still pending.
 ///
 /// The batches are applied to a store of that configuration by so many workers at once, and each open slot holds a
-/// version of it. A record's lines are built whole before a byte of them is written. `Start` where the store was not
-/// opened, with nothing read or written; `Read` where the reader fails or
-/// 1,000,000 records were read, and `Memory` where a growth was refused, each after the lines of exactly the records
-/// done before and an error line with the number of the record that was not done; `Write` where a write failed or
-/// took nothing, or the flush at the end failed, after which nothing more is written. No clause here says when each
+/// version of it. A record's lines are built whole before a byte of them is written. `Start` where no store was
+/// opened: at first with nothing read or written, and at a rebase as `Read` and `Memory` come. `Read` where the reader
+/// fails or 1,000,000 records were read, and `Memory` where a growth was refused, each after the lines of exactly the
+/// records done before and an error line with the number of the record that was not done; `Write` where a write failed
+/// or took nothing, or the flush at the end failed, after which nothing more is written. No clause here says when each
 /// of these ends comes, since a reader and a writer have no word for a call that failed; `HasCause` in
 /// `specs/Runs.antt` says it of the run itself.
 pub fn serve<A: AllocGlobal + Threads + Wait + Sync, R: Read + Drop, W: Write>(
@@ -128,7 +128,7 @@ fn start<A: AllocGlobal + Wait, W: Write>(
     let Ok((desk, board, seats)) = open_parts(rt, rt.alloc(), config) else {
         return Err(ServeFault::Start);
     };
-    match Run::new(rt.alloc(), desk, board, seats) {
+    match Run::new(rt.alloc(), config, desk, board, seats) {
         Ok(run) => Ok(run),
         Err(_) => {
             output::last_line(sink, 1, Word::Feed(FeedWord::Memory))?;
@@ -138,18 +138,24 @@ fn start<A: AllocGlobal + Wait, W: Write>(
 }
 
 impl Run {
-    fn new(alloc: Global, desk: Desk, board: Board, seats: Vec<Seat>) -> Result<Run, AllocError>
-        requires desk { (blocks : ℕ) × (desk.desk ≡ opened_desk blocks) }
+    fn new(
+        alloc: Global,
+        config: Config,
+        desk: Desk,
+        board: Board,
+        seats: Vec<Seat>,
+    ) -> Result<Run, AllocError>
+        requires desk { desk.desk ≡ opened_desk config.blocks empty_version }
         requires board { board ≡ no_pins }
+        requires seats { length seats.items ≡ config.seats }
         requires few { length seats.items ≤ 16 }
         requires numbers { map (λ (s : SeatView). s.number) seats.items ≡ range_with_len 0 (length seats.items) }
         ensures server { IfOk result (λ run. IsServer run.server) }
         ensures counts { IfOk result (λ run. (run.records ≡ 0) × (run.errors ≡ 0)) }
-        ensures beginning { IfOk result (λ run. (config : ConfigView) → desk.desk ≡ opened_desk config.blocks
-            → length seats.items ≡ config.seats → ShowsRun run (beginning (set_up config))) }
+        ensures beginning { IfOk result (λ run. ShowsRun run (beginning (set_up config))) }
     {
         Ok(Run {
-            server: Server::new(alloc, desk, board, seats)?,
+            server: Server::new(alloc, config, desk, board, seats)?,
             lines: String::new(alloc),
             records: 0,
             errors: 0,
@@ -177,26 +183,30 @@ impl Run {
                 Ok(()) => Ok(()),
                 Err(_) => Err(ServeFault::Write),
             },
-            Err(_) => {
-                self.refuse_growth(sink)?;
+            Err(Stop::Memory) => {
+                self.break_off(Word::Feed(FeedWord::Memory), sink)?;
                 Err(ServeFault::Memory)
+            }
+            Err(Stop::Start) => {
+                self.break_off(Word::Start, sink)?;
+                Err(ServeFault::Start)
             }
         }
     }
 
-    /// Writes the error line of a record for which there was no memory, and nothing of its lines, and flushes.
-    fn refuse_growth<W: Write>(&self, sink: &mut Sink<'_, W>) -> Result<(), Unwritten>
+    /// Writes the error line of a record that was not done, and nothing of its lines, and flushes.
+    fn break_off<W: Write>(&self, word: Word, sink: &mut Sink<'_, W>) -> Result<(), Unwritten>
         requires room { self.now.records < record_limit }
         requires working { sink.old.failed ≡ false }
         ensures same_writer { sink.new.writer.ghost_name ≡ sink.old.writer.ghost_name }
         ensures failed { sink.new.failed ≡ is_err result }
         ensures flushed { OnOk result (sink.new.flushed ≡ true) }
         ensures whole { OnOk result (Appends (held W.contents sink.old) (held W.contents sink.new)
-            (error_line (self.now.records + 1) (Word.Feed FeedWord.Memory))) }
+            (error_line (self.now.records + 1) word)) }
         ensures part { OnErr result (AppendsPart (held W.contents sink.old) (held W.contents sink.new)
-            (error_line (self.now.records + 1) (Word.Feed FeedWord.Memory))) }
+            (error_line (self.now.records + 1) word)) }
     {
-        output::last_line(sink, self.records + 1, Word::Feed(FeedWord::Memory))
+        output::last_line(sink, self.records + 1, word)
     }
 
     /// Writes what a record came to, and counts it.

@@ -1,13 +1,16 @@
 //! The state of a run, and what a command does to it.
 
 ghost use Rattle.std.specs.Prelude.{◌≡◌, ℕ, ◌≢◌, ◌≤◌, [], length, map, replicate, slice_get, string_bytes, ◌++◌, IfOk, IfErr};
-ghost use Rattle.std.specs.Prelude.{OnOk, None, Ok, Err};
+ghost use Rattle.std.specs.Prelude.{OnOk, OnErr, None, Ok, Err};
 ghost use Rattle.std.specs.List.{range_with_len};
 ghost use Rattle.seat_board.specs.Board.{no_pins};
+ghost use Rattle.graph_version.specs.Versions.{empty_version};
+ghost use Rattle.graph_version.specs.Rebased.{IsRebased};
 ghost use Rattle.store_steps.specs.Opening.{opened_desk};
-ghost use Rattle.stream_store.specs.Configs.{ConfigView};
-ghost use Rattle.stream_store.specs.Seats.{SeatView};
+ghost use Rattle.stream_store.specs.Refusals.{block_count};
+ghost use Rattle.stream_store.specs.Seats.{SeatView, held_version};
 ghost use Rattle.stinger_server.specs.Servers.{IsServer, Obeys, Shows, batch_word};
+ghost use Rattle.stinger_server.specs.States.{IsRebase};
 ghost use Rattle.stinger_server.specs.States as states;
 
 use crate::slots::Slots;
@@ -15,14 +18,14 @@ use batch_apply::PassAll;
 use feed_csv::{Command, FeedWord};
 use graph_model::{AskError, Batch, NamedOp, PushError, Request};
 use script_lines::{
-    Word, close_line, collect_line, commit_line, open_line, reply_lines, stat_line,
+    Word, close_line, collect_line, commit_line, open_line, rebase_line, reply_lines, stat_line,
 };
 use seat_board::Board;
 use std::alloc::{AllocError, Global};
 use std::mem;
 use std::sync::Wait;
 use std::thread::Threads;
-use stream_store::{ApplyError, Desk, Seat};
+use stream_store::{ApplyError, Config, Desk, OpenError, Seat, Session, open_parts_from};
 
 /// What a record came to: its lines stand in the buffer, or it was refused.
 #[derive(Clone, Copy, Debug, PartialEq, Eq)]
@@ -31,10 +34,31 @@ pub(crate) enum Response {
     Refused(Word),
 }
 
+/// Why a command was not done, which ends a run.
+#[derive(Clone, Copy, Debug, PartialEq, Eq)]
+pub(crate) enum Stop {
+    Memory,
+    /// A store was not opened.
+    Start,
+}
+
+impl From<AllocError> for Stop {
+    ghost use Rattle.std.specs.Prelude.{◌≡◌};
+    ghost use Rattle.stinger_server.specs.declared.server.Stop.TheVariants.{Memory};
+
+    ghost from_gives = { λ _ stop. stop ≡ Memory };
+
+    fn from(_refused: AllocError) -> Stop {
+        Stop::Memory
+    }
+}
+
 /// The pending batch, the desk of the store, and what each slot holds.
 #[derive(Drop)]
 pub(crate) struct Server {
     alloc: Global,
+    // How each store of the run is opened.
+    config: Config,
     pending: Batch,
     desk: Desk,
     slots: Slots,
@@ -45,21 +69,23 @@ impl Server {
     /// and no slot holds a version.
     pub(crate) fn new(
         alloc: Global,
+        config: Config,
         desk: Desk,
         board: Board,
         seats: Vec<Seat>,
     ) -> Result<Server, AllocError>
-        requires desk { (blocks : ℕ) × (desk.desk ≡ opened_desk blocks) }
+        requires desk { desk.desk ≡ opened_desk config.blocks empty_version }
         requires board { board ≡ no_pins }
+        requires seats { length seats.items ≡ config.seats }
         requires few { length seats.items ≤ 16 }
         requires numbers { map (λ (s : SeatView). s.number) seats.items ≡ range_with_len 0 (length seats.items) }
         ensures server { IfOk result IsServer }
-        ensures beginning { IfOk result (λ server. (config : ConfigView) → desk.desk ≡ opened_desk config.blocks
-            → length seats.items ≡ config.seats → Shows server (states.beginning (states.set_up config)).state) }
+        ensures beginning { IfOk result (λ server. Shows server (states.beginning (states.set_up config)).state) }
     {
         let slots = Slots::new(alloc, board, seats)?;
         Ok(Server {
             alloc,
+            config,
             pending: Batch::new(alloc),
             desk,
             slots,
@@ -79,20 +105,22 @@ impl Server {
         rt: &R,
         command: Command,
         lines: &mut String,
-    ) -> Result<Response, AllocError>
+    ) -> Result<Response, Stop>
         requires { IsServer self.old }
         ensures kept { IsServer self.new }
         ensures obeys { IfOk result (λ response. Obeys command self.old response (string_bytes lines.new) self.new) }
+        ensures stops { IfErr result (λ stop. stop ≡ Stop.Start → IsRebase (Ok command)) }
     {
         lines.clear();
         match command {
-            Command::Op(op) => self.push(op),
-            Command::Commit => self.commit(rt, lines),
-            Command::OpenSlot(slot) => self.open(slot, lines),
-            Command::CloseSlot(slot) => self.close(slot, lines),
-            Command::Query(slot, request) => self.ask(slot, &request, lines),
-            Command::Collect => self.collect(lines),
-            Command::Stat => self.stat(lines),
+            Command::Op(op) => Ok(self.push(op)?),
+            Command::Commit => Ok(self.commit(rt, lines)?),
+            Command::OpenSlot(slot) => Ok(self.open(slot, lines)?),
+            Command::CloseSlot(slot) => Ok(self.close(slot, lines)?),
+            Command::Query(slot, request) => Ok(self.ask(slot, &request, lines)?),
+            Command::Collect => Ok(self.collect(lines)?),
+            Command::Stat => Ok(self.stat(lines)?),
+            Command::Rebase(slot) => self.rebase(rt, slot, lines),
         }
     }
 
@@ -143,6 +171,8 @@ impl Server {
         ensures obeys { IfOk result (λ response. Obeys (Command.OpenSlot slot) self.old response
             (string_bytes lines.new) self.new) }
     {
+        // A desk's contract says with its journal that the last version's blocks are among the store's.
+        let _journal = self.desk.journal();
         match self.slots.session(slot) {
             Err(Word::NotOpen) => {
                 open_line(lines, slot, self.desk.last().number())?;
@@ -208,6 +238,31 @@ impl Server {
         Ok(Response::Lines)
     }
 
+    /// Opens a store with the graph that a slot holds, in the place of this one, which stays where none was opened or where there
+    /// is no memory for the line.
+    fn rebase<R: Wait>(&mut self, rt: &R, slot: u8, lines: &mut String) -> Result<Response, Stop>
+        requires server { IsServer self.old }
+        requires empty { string_bytes lines.old ≡ [] }
+        ensures kept { IsServer self.new }
+        ensures obeys { IfOk result (λ response. Obeys (Command.Rebase slot) self.old response
+            (string_bytes lines.new) self.new) }
+        ensures unchanged { OnErr result (self.new ≡ self.old) }
+    {
+        let session = match self.slots.session(slot) {
+            Ok(session) => session,
+            Err(word) => return Ok(Response::Refused(word)),
+        };
+        let (desk, board, seats) = parts_from(rt, self.alloc, self.config, session)?;
+        let slots = Slots::new(self.alloc, board, seats)?;
+        // A desk's contract says with its journal that the used blocks are those of its last version.
+        let _journal = desk.journal();
+        rebase_line(lines, desk.stat())?;
+        self.slots = slots;
+        let old = mem::replace(&mut self.desk, desk);
+        let _last = old.close(rt);
+        Ok(Response::Lines)
+    }
+
     /// Tells the numbers of the store.
     fn stat(&self, lines: &mut String) -> Result<Response, AllocError>
         requires server { IsServer self.now }
@@ -216,6 +271,28 @@ impl Server {
     {
         stat_line(lines, self.desk.stat())?;
         Ok(Response::Lines)
+    }
+}
+
+/// The parts of a store that begins with what a session holds, whose blocks are no more than the store's.
+fn parts_from<R: Wait>(
+    rt: &R,
+    alloc: Global,
+    config: Config,
+    session: &Session,
+) -> Result<(Desk, Board, Vec<Seat>), Stop>
+    requires few { block_count (held_version session.now) ≤ config.blocks }
+    ensures rebased { IfOk result (λ r. IsRebased (held_version session.now) r.0.desk.last) }
+    ensures desk { IfOk result (λ r. r.0.desk ≡ opened_desk config.blocks r.0.desk.last) }
+    ensures board { IfOk result (λ r. r.1 ≡ no_pins) }
+    ensures seats { IfOk result (λ r. length r.2.items ≡ config.seats) }
+    ensures numbers { IfOk result (λ r. map (λ (s : SeatView). s.number) r.2.items ≡ range_with_len 0 (length r.2.items)) }
+{
+    match open_parts_from(rt, alloc, config, session.version()) {
+        Ok(parts) => Ok(parts),
+        Err(OpenError::PoolEmpty { .. }) => unreachable!(),
+        Err(OpenError::NoReader) => Err(Stop::Start),
+        Err(OpenError::OutOfMemory) => Err(Stop::Memory),
     }
 }
 

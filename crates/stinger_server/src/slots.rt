@@ -1,12 +1,13 @@
 //! The slots of a script: who holds what.
 
-ghost use Rattle.std.specs.Prelude.{◌≡◌, ◌<◌, ◌≤◌, All, Err, IfErr, IfOk, None, OnErr, OnOk, Some, length, map, replicate};
+ghost use Rattle.std.specs.Prelude.{◌≡◌, ℕ, ◌<◌, ◌≤◌, All, Err, IfErr, IfOk, None, OnErr, OnOk, Some, length, map, replicate};
 ghost use Rattle.std.specs.Prelude.{slice_get, slice_set};
 ghost use Rattle.std.specs.List.{range_with_len};
-ghost use Rattle.graph_version.specs.Versions.{IsVersion, VersionView, empty_version};
+ghost use Rattle.graph_version.specs.Versions.{IsVersion, VersionView};
 ghost use Rattle.seat_board.specs.Board.{no_pins};
+ghost use Rattle.stream_store.specs.Refusals.{block_count};
 ghost use Rattle.stream_store.specs.Seats.{SeatView, SessionView};
-ghost use Rattle.stinger_server.specs.Slots.{IsKept, held_in, held_of};
+ghost use Rattle.stinger_server.specs.Slots.{AreFew, IsKept, held_in, held_of};
 ghost use Rattle.stinger_server.specs.States as states;
 
 use feed_csv::FeedWord;
@@ -31,7 +32,8 @@ impl Slots {
         requires board { board ≡ no_pins }
         requires few { length seats.items ≤ 16 }
         requires numbers { map (λ (s : SeatView). s.number) seats.items ≡ range_with_len 0 (length seats.items) }
-        ensures slots { IfOk result (IsKept empty_version) }
+        ensures slots { IfOk result (λ slots. (last : VersionView) → IsKept last slots) }
+        ensures few { IfOk result (λ slots. (blocks : ℕ) → AreFew blocks slots) }
         ensures none { IfOk result (λ slots. held_in slots ≡ replicate (length seats.items) None) }
     {
         let mut free = Vec::new(alloc);
@@ -67,6 +69,7 @@ impl Slots {
         ensures slots { IsKept desk.now.desk.last self.new }
         ensures held { OnOk result (held_in self.new
             ≡ slice_set (held_in self.old) slot (Some (held_of desk.now.desk.last))) }
+        ensures few { (blocks : ℕ) → block_count desk.now.desk.last ≤ blocks → AreFew blocks self.old → AreFew blocks self.new }
         ensures unchanged { OnErr result (held_in self.new ≡ held_in self.old) }
     {
         let slot = usize::from(slot);
@@ -90,6 +93,7 @@ impl Slots {
         requires kept { (last : VersionView) × IsKept last self.old }
         requires held { (s : SessionView) × (slice_get self.old.sessions.items slot ≡ Some (Some s)) }
         ensures slots { (last : VersionView) → IsKept last self.old → IsKept last self.new }
+        ensures few { (blocks : ℕ) → AreFew blocks self.old → AreFew blocks self.new }
         ensures released { (last : VersionView) → IsKept last self.old
             → held_in self.new ≡ slice_set (held_in self.old) slot None }
     {
@@ -104,6 +108,7 @@ impl Slots {
     pub(crate) fn copy(&mut self, desk: &Desk) -> PinCopy
         requires { IsKept desk.now.desk.last self.old }
         ensures slots { IsKept desk.now.desk.last self.new }
+        ensures few { (blocks : ℕ) → AreFew blocks self.old → AreFew blocks self.new }
         ensures held { held_in self.new ≡ held_in self.old }
         ensures copy { result ≡ states.copy_by (length desk.now.desk.last.batches) (states.held_numbers (held_in self.old)) }
     {

@@ -12,4 +12,12 @@ returns c = record {
   last_held = record { floor_are = refl; freed_are = refl; left_are = refl };
   none_held = record { floor_are = refl; freed_are = refl; left_are = refl };
   empty_held = record { floor_are = refl; freed_are = refl; left_are = refl };
+  rebased_batches = refl;
+  rebased_held = refl;
+  rebased_layout = refl;
+  rebased_births = refl;
+  rebased_free = refl;
+  rebased_used = refl;
+  rebased_retired = refl;
+  after_rebased = refl;
 }

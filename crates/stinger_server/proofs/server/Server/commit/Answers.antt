@@ -1,9 +1,42 @@
-use Rattle.std.proofs.Common.{rules, ◌≡◌, [], ap, sym, subst}
+use Rattle.std.proofs.Common.{rules, ◌≡◌, ◌∙◌, List, [], ap, sym, subst}
 use Rattle.store_steps.specs.Desks.{DeskView}
 use Rattle.stream_store.specs.Kept.{DeskState}
 use Rattle.stinger_server.specs.Servers.{ShowsDesk}
-use Rattle.stinger_server.proofs.DeskLaws.{commit_done, commit_refused, shows_committed, shows_given_up}
+use Rattle.graph_model.specs.Graph.{Graph}
+use Rattle.graph_model.specs.declared.batches.NamedOp.{NamedOp}
+use Rattle.store_steps.specs.Steps.{Accepts}
+use Rattle.stinger_server.proofs.DeskLaws.{batches_after, blocks_after, commit_done, commit_refused, opening_after}
+use Rattle.stinger_server.proofs.DeskLaws.{shows_committed}
+use Rattle.stinger_server.proofs.DeskLaws.{shows_given_up}
+use Rattle.stinger_server.proofs.NamesApart.{AreApart}
+use Rattle.stinger_server.proofs.SlotLaws.{slots_more}
+use Rattle.stinger_server.specs.Servers.{IsServer}
+use Rattle.stinger_server.specs.declared.server.Server.{Server}
 use Rattle.stinger_server.proofs.server.Server.commit.Goals as goal
+
+-- a server whose desk accepted a batch
+kept_after : (old : Server) (new : DeskState) (pending batch : List NamedOp) → IsServer old → Accepts old.desk.desk batch new.desk
+    → IsServer (record old { pending = pending; desk = new })
+kept_after old new pending batch is accepts =
+    let opening = opening_after old.desk.desk new.desk batch accepts in
+    record {
+      opening = subst (λ (g : Graph). AreApart g.names) (sym opening) is.opening;
+      slots = slots_more old.desk.desk.last new.desk.last batch old.slots.board old.slots.seats.items old.slots.sessions.items
+          opening (batches_after old.desk.desk new.desk batch accepts) is.slots;
+      few = is.few;
+      blocks = blocks_after old.desk.desk new.desk batch accepts ∙ is.blocks;
+      seats = is.seats;
+    }
+
+pub returns-in_err-commit_line-in-Ok-clause-kept : goal.returns-in_err-commit_line-in-Ok-clause-kept
+returns-in_err-commit_line-in-Ok-clause-kept g c =
+    kept_after c.args.self.now c.apply.new.self c.replace-batch.new.dest c.replace-batch.result c.requires.server
+    c.in-Ok.ensures.accepted
+
+pub returns-in_ok-commit_line-in-Ok-clause-kept : goal.returns-in_ok-commit_line-in-Ok-clause-kept
+returns-in_ok-commit_line-in-Ok-clause-kept g c =
+    kept_after c.args.self.now c.apply.new.self c.replace-batch.new.dest c.replace-batch.result c.requires.server
+    c.in-Ok.ensures.accepted
 
 pub returns-in_ok-commit_line-in-Ok-clause-obeys : goal.returns-in_ok-commit_line-in-Ok-clause-obeys
 returns-in_ok-commit_line-in-Ok-clause-obeys g c = λ s shows.

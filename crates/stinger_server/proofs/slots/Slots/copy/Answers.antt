@@ -1,4 +1,4 @@
-use Rattle.std.proofs.Common.{rules, arith, ap, ◌≡◌, ◌≤◌, ◌∙◌, length, map}
+use Rattle.std.proofs.Common.{rules, ap, ◌≡◌, ◌≤◌, ◌∙◌, length}
 use Rattle.pin_copy.specs.Copies.{floor_of}
 use Rattle.seat_board.specs.Board.{copy_of}
 use Rattle.stinger_server.proofs.SlotLaws.{copy_is, slots_raised}

@@ -13,7 +13,7 @@ returns-clause-slots c =
     all_given c.args.seats.items c.into_iter-seat-iterator.result c.loop-seat.yielded c.loop-seat.seat-iterator c.next.result
     c.next.new.self c.into_iter-seat-iterator.ensures.into_iter_gives.0 count c.loop-seat.yielded_by c.in-None.is
     c.next.ensures.steps in
-    slots_first c.args.board c.args.seats.items c.loop-seat.free.items c.loop-seat.sessions.items c.requires.board c.requires.few
+    λ last. slots_first last c.args.board c.args.seats.items c.loop-seat.free.items c.loop-seat.sessions.items c.requires.board c.requires.few
     c.requires.numbers (c.loop-seat.invariant.0 ∙ ap (map (λ s. Some s)) all)
     (c.loop-seat.invariant.1 ∙ ap (λ seats. replicate (length seats) None) all)
 

@@ -1,4 +1,4 @@
-use Rattle.stinger_server.proofs.script.Run.refuse_growth.Goals as goal
+use Rattle.stinger_server.proofs.script.Run.break_off.Goals as goal
 
 -- Their searches are long where they fail.
 
