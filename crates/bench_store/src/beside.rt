@@ -1,7 +1,6 @@
 //! Requests over a version that a session holds: alone, and while another thread feeds batches to the same store.
 
 ghost use Rattle.std.specs.Prelude.{◌≡◌};
-ghost use Rattle.graph_model.specs.Step.{empty_graph};
 
 use crate::desks::{insertions, refused, vertex_name};
 use crate::edges::{Edges, Shape};
@@ -64,7 +63,7 @@ fn measure_over<J: Naming + Send + Sync, R: Threads + Wait + Sync + CpuClock + P
     rounds: u32,
 ) -> io::Result<()>
     requires book { desk.book ≡ J.book }
-    requires opening { desk.desk.last.opening ≡ empty_graph }
+    requires opening { desk.desk.last.opening ≡ J.opening }
 {
     let store = Store::<J>::over(desk, board);
     load(rt, &store)?;

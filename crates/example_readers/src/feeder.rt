@@ -1,6 +1,6 @@
 //! The feeder: it applies two batches, hands over their receipts, and collects.
 
-use crate::signs::{Handed, Handover, Signs, is_set};
+use crate::signs::{BOTH_HELD, COLLECTED, FIRST_HELD, Handed, Signs, Slot};
 use batch_apply::PassAll;
 use graph_model::{Batch, Name, NamedOp};
 use std::alloc::{AllocError, Global};
@@ -17,30 +17,24 @@ pub fn feed<J: Naming, R: Threads + Wait + Sync>(
     store: &Store<J>,
     signs: &Signs<J>,
 ) -> Collected {
-    feed_one(
-        rt,
-        store,
-        &signs.first,
-        batch_of(alloc, "ann", &["bob", "cat"]),
-    );
-    feed_one(rt, store, &signs.second, batch_of(alloc, "ann", &["dan"]));
+    feed_one(rt, store, &signs.first, batch_of(alloc, &["bob", "cat"]));
+    signs.reach(FIRST_HELD);
+    feed_one(rt, store, &signs.second, batch_of(alloc, &["dan"]));
+    signs.reach(BOTH_HELD);
     let collected = store.collect(rt);
-    signs.collected.store(true, SeqCst);
+    signs.stage.store(COLLECTED, SeqCst);
     collected
 }
 
+/// Applies a batch, and hands over its receipt.
 fn feed_one<J: Naming, R: Threads + Wait + Sync>(
     rt: &R,
     store: &Store<J>,
-    handover: &Handover<J>,
+    slot: &Slot<J>,
     batch: Result<Batch, AllocError>,
 ) {
     let handed = handed_of(rt, store, batch);
-    let is_applied = handed.is_some();
-    let _token = handover.receipt.set(rt, handed);
-    if is_applied {
-        let _told = is_set(&handover.is_held);
-    }
+    let _token = slot.set(rt, handed);
 }
 
 /// The receipt of a batch, where it was made and accepted.
@@ -66,28 +60,23 @@ pub fn name(alloc: Global, text: &str) -> Result<Name, AllocError> {
     Ok(Name::of(String::from_str(alloc, text)?))
 }
 
-/// The batch that inserts an edge from the source to each target.
-fn batch_of(alloc: Global, source: &str, targets: &[&str]) -> Result<Batch, AllocError> {
+/// The batch that inserts an edge from `ann` to each target.
+fn batch_of(alloc: Global, targets: &[&str]) -> Result<Batch, AllocError> {
     let mut batch = Batch::new(alloc);
     for target in targets {
-        push(&mut batch, insertion(alloc, source, target)?)?;
+        if batch.push(insertion(alloc, target)?).is_err() {
+            return Err(AllocError);
+        }
     }
     Ok(batch)
 }
 
-fn insertion(alloc: Global, source: &str, target: &str) -> Result<NamedOp, AllocError> {
+fn insertion(alloc: Global, target: &str) -> Result<NamedOp, AllocError> {
     Ok(NamedOp::Insert {
         kind: name(alloc, "knows")?,
-        source: name(alloc, source)?,
+        source: name(alloc, "ann")?,
         target: name(alloc, target)?,
         weight: 1,
         time: 1,
     })
-}
-
-fn push(batch: &mut Batch, op: NamedOp) -> Result<(), AllocError> {
-    match batch.push(op) {
-        Ok(()) => Ok(()),
-        Err(_) => Err(AllocError),
-    }
 }

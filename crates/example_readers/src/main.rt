@@ -7,13 +7,11 @@ mod readers;
 mod signs;
 
 ghost use Rattle.std.specs.Prelude.{◌≡◌, All};
-ghost use Rattle.graph_model.specs.Step.{empty_graph};
-ghost use Rattle.stream_store.specs.Seats.{IsNewSeat};
-ghost use Rattle.stream_store.specs.Stores.{IsOfOpening};
+ghost use Rattle.stream_store.specs.Stores.{IsOfOpening, IsSeatOf};
 
 use crate::feeder::feed;
 use crate::readers::{Sight, read};
-use crate::signs::Signs;
+use crate::signs::{BOTH_HELD, FIRST_HELD, Signs};
 use seat_board::Board;
 use std::alloc::Global;
 use std::io;
@@ -40,15 +38,15 @@ fn told_by_all<J: Naming + Send + Sync, R: Threads + Wait + Sync>(
     first: Seat,
     second: Seat,
 ) -> (Collected, (Option<Sight>, Option<Sight>))
-    requires first { IsOfOpening J.book first.seen }
-    requires second { IsOfOpening J.book second.seen }
+    requires first { IsOfOpening J.book J.opening first.seen }
+    requires second { IsOfOpening J.book J.opening second.seen }
 {
     let signs = Signs::new();
     join(
         rt,
         || feed(rt, alloc, store, &signs),
         || -> (Option<Sight>, Option<Sight>)
-            requires { IsOfOpening J.book first.seen × IsOfOpening J.book second.seen }
+            requires { IsOfOpening J.book J.opening first.seen × IsOfOpening J.book J.opening second.seen }
         { read_both(rt, alloc, store, &signs, first, second) },
     )
 }
@@ -62,17 +60,17 @@ fn read_both<J: Naming + Send + Sync, R: Threads + Wait + Sync>(
     first: Seat,
     second: Seat,
 ) -> (Option<Sight>, Option<Sight>)
-    requires first { IsOfOpening J.book first.seen }
-    requires second { IsOfOpening J.book second.seen }
+    requires first { IsOfOpening J.book J.opening first.seen }
+    requires second { IsOfOpening J.book J.opening second.seen }
 {
     join(
         rt,
         || -> Option<Sight>
-            requires { IsOfOpening J.book first.seen }
-        { read(rt, alloc, store, &signs.first, &signs.collected, first) },
+            requires { IsOfOpening J.book J.opening first.seen }
+        { read(rt, alloc, store, signs, &signs.first, FIRST_HELD, first) },
         || -> Option<Sight>
-            requires { IsOfOpening J.book second.seen }
-        { read(rt, alloc, store, &signs.second, &signs.collected, second) },
+            requires { IsOfOpening J.book J.opening second.seen }
+        { read(rt, alloc, store, signs, &signs.second, BOTH_HELD, second) },
     )
 }
 
@@ -85,8 +83,8 @@ fn report_over<J: Naming + Send + Sync, R: Threads + Wait + Sync>(
     mut seats: Vec<Seat>,
 ) -> Option<Report>
     requires book { desk.book ≡ J.book }
-    requires opening { desk.desk.last.opening ≡ empty_graph }
-    requires seats { All (IsNewSeat J.book) seats.items }
+    requires opening { desk.desk.last.opening ≡ J.opening }
+    requires seats { All (IsSeatOf J.book J.opening) seats.items }
 {
     let second = seats.pop()?;
     let first = seats.pop()?;

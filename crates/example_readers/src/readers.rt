@@ -4,11 +4,10 @@ ghost use Rattle.std.specs.Prelude.{◌≡◌};
 ghost use Rattle.stream_store.specs.Stores.{IsOfOpening};
 
 use crate::feeder::name;
-use crate::signs::{Handover, is_set};
+use crate::signs::{COLLECTED, Signs, Slot};
 use graph_model::{NamedFilter, Reply, Request};
-use std::alloc::{AllocError, Global};
+use std::alloc::Global;
 use std::sync::Wait;
-use std::sync::atomic::AtomicBool;
 use std::sync::atomic::Ordering::SeqCst;
 use stream_store::{Naming, Seat, Session, Store};
 
@@ -22,73 +21,45 @@ pub struct Sight {
     pub reached: usize,
 }
 
-/// The request for the levels from this vertex, over all edges.
-fn levels_from(alloc: Global, source: &str) -> Result<Request, AllocError> {
-    Ok(Request::Levels {
-        source: name(alloc, source)?,
-        filter: NamedFilter {
-            kind: None,
-            lo: 0,
-            hi: u64::MAX,
-        },
-    })
-}
-
-/// How long the answer is of a session that is asked for levels; nothing where it refuses, or memory was refused.
-fn reached_from(alloc: Global, session: &Session, source: &str) -> Option<usize> {
-    let request = levels_from(alloc, source).ok()?;
-    match session.ask(&request) {
-        Ok(Reply::Levels(levels)) => Some(levels.as_slice().len()),
+/// What a session shows, which is asked for the levels from `ann` over all edges; nothing where it refuses, or memory was refused.
+fn sight_of(alloc: Global, session: &Session) -> Option<Sight> {
+    let source = name(alloc, "ann").ok()?;
+    let filter = NamedFilter {
+        kind: None,
+        lo: 0,
+        hi: u64::MAX,
+    };
+    match session.ask(&Request::Levels { source, filter }) {
+        Ok(Reply::Levels(levels)) => Some(Sight {
+            number: session.version().number(),
+            names: session.version().names().len(),
+            edges: session.version().edge_count(),
+            reached: levels.as_slice().len(),
+        }),
         _ => None,
     }
 }
 
-fn sight_of(alloc: Global, session: &Session) -> Option<Sight> {
-    let reached = reached_from(alloc, session, "ann")?;
-    let version = session.version();
-    Some(Sight {
-        number: version.number(),
-        names: version.names().len(),
-        edges: version.edge_count(),
-        reached,
-    })
-}
-
-/// Learns of the receipt, and holds its version until the store has collected.
+/// Waits for a receipt and learns of it; then holds its version, which is this stage, until the store was collected, and asks it.
 pub fn read<J: Naming, R: Wait>(
     rt: &R,
     alloc: Global,
     store: &Store<J>,
-    handover: &Handover<J>,
-    collected: &AtomicBool,
+    signs: &Signs<J>,
+    slot: &Slot<J>,
+    stage: u32,
     mut seat: Seat,
 ) -> Option<Sight>
-    requires { IsOfOpening J.book seat.seen }
+    requires { IsOfOpening J.book J.opening seat.seen }
 {
-    match handover.awaited() {
-        Some(handed) => {
-            if seat.learn(&handed.receipt).is_err() {
-                return None;
-            }
-        }
-        None => return None,
-    }
-    hold(rt, alloc, store, handover, collected, seat)
-}
-
-/// Holds what the seat enters until the store has collected, and asks it then.
-fn hold<J: Naming, R: Wait>(
-    rt: &R,
-    alloc: Global,
-    store: &Store<J>,
-    handover: &Handover<J>,
-    collected: &AtomicBool,
-    seat: Seat,
-) -> Option<Sight> {
+    let is_told = match slot.wait(rt) {
+        Some(handed) => seat.learn(&handed.receipt).is_ok(),
+        None => false,
+    };
     let session = seat.pin(rt, store).enter(rt, store);
-    handover.is_held.store(true, SeqCst);
-    let _told = is_set(collected);
+    signs.stage.store(stage, SeqCst);
+    signs.reach(COLLECTED);
     let sight = sight_of(alloc, &session);
     let _seat = session.release(rt, store);
-    sight
+    if is_told { sight } else { None }
 }

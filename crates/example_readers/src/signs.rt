@@ -3,16 +3,15 @@
 ghost use Rattle.std.specs.Prelude.{◌≡◌};
 ghost use Rattle.std.specs.Coded.{codes};
 ghost use Rattle.graph_model.specs.Coded.{graph_code};
-ghost use Rattle.graph_model.specs.Step.{empty_graph};
 
 use std::marker::PhantomData;
 use std::sync::OnceLock;
-use std::sync::atomic::AtomicBool;
+use std::sync::atomic::AtomicU32;
 use std::sync::atomic::Ordering::SeqCst;
 use std::thread::yield_now;
 use stream_store::{Naming, Receipt};
 
-/// How often a thread looks for what another is to tell it, before it gives up: only where no thread could be started.
+/// How often a thread looks for a stage, before it gives up: only where no thread could be started.
 const TURNS: u32 = 10_000_000;
 
 /// A receipt that one thread hands to another: its type keeps that it is of the store's opening.
@@ -21,61 +20,43 @@ pub struct Handed<J: Naming> {
     pub receipt: Receipt,
     pub of: PhantomData<J>,
     ghost book_is: { receipt.told.book ≡ J.book },
-    ghost opening_is: { receipt.told.version.opening ≡ empty_graph } by { Prim.hlevel (codes, graph_code) },
+    ghost opening_is: { receipt.told.version.opening ≡ J.opening } by { Prim.hlevel (codes, graph_code) },
 }
 
-/// A reader's receipt, and whether the reader holds its version.
-#[derive(Drop)]
-pub struct Handover<J: Naming> {
-    pub receipt: OnceLock<Option<Handed<J>>>,
-    pub is_held: AtomicBool,
-}
+/// Where a receipt is handed over; nothing, where the batch was refused.
+pub type Slot<J> = OnceLock<Option<Handed<J>>>;
 
-impl<J: Naming> Handover<J> {
-    fn new() -> Handover<J> {
-        Handover {
-            receipt: OnceLock::new(),
-            is_held: AtomicBool::new(false),
-        }
-    }
+/// The stages, which follow one another whatever the schedule: a reader holds its version, both do, the store was collected.
+pub const FIRST_HELD: u32 = 1;
 
-    /// The receipt, once it is there; nothing where there is none.
-    pub fn awaited(&self) -> Option<&Handed<J>> {
-        for _ in 0..TURNS {
-            if let Some(handed) = self.receipt.get() {
-                return handed.as_ref();
-            }
-            yield_now();
-        }
-        None
-    }
-}
+pub const BOTH_HELD: u32 = 2;
+
+pub const COLLECTED: u32 = 3;
 
 /// What all threads share beside the store.
 #[derive(Drop)]
 pub struct Signs<J: Naming> {
-    pub first: Handover<J>,
-    pub second: Handover<J>,
-    pub collected: AtomicBool,
+    pub first: Slot<J>,
+    pub second: Slot<J>,
+    pub stage: AtomicU32,
 }
 
 impl<J: Naming> Signs<J> {
     pub fn new() -> Signs<J> {
         Signs {
-            first: Handover::new(),
-            second: Handover::new(),
-            collected: AtomicBool::new(false),
+            first: OnceLock::new(),
+            second: OnceLock::new(),
+            stage: AtomicU32::new(0),
         }
     }
-}
 
-/// Looks at a flag until it is set; whether it was.
-pub fn is_set(flag: &AtomicBool) -> bool {
-    for _ in 0..TURNS {
-        if flag.load(SeqCst) {
-            return true;
+    /// Waits until this stage is reached.
+    pub fn reach(&self, stage: u32) {
+        for _ in 0..TURNS {
+            if self.stage.load(SeqCst) >= stage {
+                return;
+            }
+            yield_now();
         }
-        yield_now();
     }
-    false
 }

@@ -2,8 +2,7 @@
 
 ghost use Rattle.std.specs.Prelude.{◌≡◌, ◌≤◌, ◌*◌, All, length, IfOk};
 ghost use Rattle.graph_model.specs.Step.{empty_graph};
-ghost use Rattle.stream_store.specs.Seats.{IsNewSeat};
-ghost use Rattle.stream_store.specs.Stores.{IsOfOpening};
+ghost use Rattle.stream_store.specs.Stores.{IsOfOpening, IsSeatOf};
 ghost use Rattle.store_drive.specs.Reports.{IsReaderCount, IsReport};
 
 use crate::feeder::{Fed, feed};
@@ -46,14 +45,14 @@ fn read_all<J: Naming + Send + Sync, R: Threads + Wait + Sync>(
     store: &Store<J>,
     seats: Vec<Seat>,
 ) -> Result<Vec<Result<Reading<J>, DriveWord>>, DriveWord>
-    requires { All (IsNewSeat J.book) seats.items }
+    requires { All (IsSeatOf J.book empty_graph) seats.items }
     ensures { IfOk result (λ readings. length readings.items ≡ length seats.items) }
 {
     let readings = map_vec(
         rt,
         seats,
         &|seat: Seat| -> Result<Reading<J>, DriveWord>
-            requires { IsOfOpening J.book seat.seen }
+            requires { IsOfOpening J.book empty_graph seat.seen }
         { read(rt, alloc, store, seat) },
     )?;
     Ok(readings)
@@ -69,14 +68,14 @@ fn fed_and_read<J: Naming + Send + Sync, R: Threads + Wait + Sync>(
     Result<Fed<J>, DriveWord>,
     Result<Vec<Result<Reading<J>, DriveWord>>, DriveWord>,
 )
-    requires { All (IsNewSeat J.book) seats.items }
+    requires { All (IsSeatOf J.book empty_graph) seats.items }
     ensures { IfOk result.1 (λ readings. length readings.items ≡ length seats.items) }
 {
     join(
         rt,
         || feed(rt, alloc, store),
         || -> Result<Vec<Result<Reading<J>, DriveWord>>, DriveWord>
-            requires { All (IsNewSeat J.book) seats.items }
+            requires { All (IsSeatOf J.book empty_graph) seats.items }
             ensures { IfOk result (λ readings. length readings.items ≡ length seats.items) }
         { read_all(rt, alloc, store, seats) },
     )
@@ -89,7 +88,8 @@ fn last_number<J: Naming, R: Wait>(
     fed: &Fed<J>,
     mut seat: Seat,
 ) -> Result<u64, DriveWord>
-    requires { IsOfOpening J.book seat.seen }
+    requires empty { J.opening ≡ empty_graph }
+    requires seat { IsOfOpening J.book empty_graph seat.seen }
 {
     seat.learn(&fed.receipt)?;
     let session = seat.pin(rt, store).enter(rt, store);
@@ -105,7 +105,8 @@ fn report_of<J: Naming, R: Wait>(
     fed: &Fed<J>,
     mut readings: Vec<Result<Reading<J>, DriveWord>>,
 ) -> Result<DriveReport, DriveWord>
-    requires { IsReaderCount (length readings.items) }
+    requires empty { J.opening ≡ empty_graph }
+    requires readers { IsReaderCount (length readings.items) }
     ensures { IfOk result (IsReport (length readings.items)) }
 {
     let readers = readings.len();
@@ -132,8 +133,9 @@ fn drive_over<J: Naming + Send + Sync, R: Threads + Wait + Sync>(
     seats: Vec<Seat>,
 ) -> Result<DriveReport, DriveWord>
     requires book { desk.book ≡ J.book }
-    requires opening { desk.desk.last.opening ≡ empty_graph }
-    requires seats { All (IsNewSeat J.book) seats.items }
+    requires opening { desk.desk.last.opening ≡ J.opening }
+    requires empty { J.opening ≡ empty_graph }
+    requires seats { All (IsSeatOf J.book empty_graph) seats.items }
     requires readers { IsReaderCount (length seats.items) }
     ensures { IfOk result (IsReport (length seats.items)) }
 {

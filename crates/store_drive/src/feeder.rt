@@ -3,7 +3,6 @@
 ghost use Rattle.std.specs.Prelude.{◌≡◌, ◌≤◌};
 ghost use Rattle.std.specs.Coded.{codes};
 ghost use Rattle.graph_model.specs.Coded.{graph_code};
-ghost use Rattle.graph_model.specs.Step.{empty_graph};
 
 use crate::load::{BATCHES, batch_of};
 use crate::reports::DriveWord;
@@ -23,7 +22,7 @@ pub(crate) struct Fed<J: Naming> {
     pub(crate) receipt: Receipt,
     of: PhantomData<J>,
     ghost book_is: { receipt.told.book ≡ J.book },
-    ghost opening_is: { receipt.told.version.opening ≡ empty_graph } by { Prim.hlevel (codes, graph_code) },
+    ghost opening_is: { receipt.told.version.opening ≡ J.opening } by { Prim.hlevel (codes, graph_code) },
 }
 
 /// Applies all batches, and answers the receipt of the last one; or the word of the first that was refused.

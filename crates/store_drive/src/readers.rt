@@ -23,7 +23,7 @@ use stream_store::{Naming, Seat, Session, Store};
 /// How often a reader acquires a version.
 const ROUNDS: u32 = 16;
 
-/// What a reader found, and its seat. Its type keeps that the seat is of the store's opening.
+/// What a reader found, and its seat. Its type keeps that the seat is of the store's opening, which began with nothing.
 #[derive(Drop)]
 pub(crate) struct Reading<J: Naming> {
     pub(crate) seat: Seat,
@@ -95,9 +95,9 @@ fn round<J: Naming, R: Wait>(
     requests: &[Request],
     tally: &mut Tally,
 ) -> (Seat, Result<(), DriveWord>)
-    requires opening { IsOfOpening J.book seat.seen }
+    requires opening { IsOfOpening J.book empty_graph seat.seen }
     requires room { tally.old.checked + length requests.now ≤ 1000 }
-    ensures opening { IsOfOpening J.book result.0.seen }
+    ensures opening { IsOfOpening J.book empty_graph result.0.seen }
     ensures checked { OnOk result.1 (tally.new.checked ≡ tally.old.checked + length requests.now) }
     ensures wrong { OnOk result.1 (tally.new.wrong ≡ tally.old.wrong) }
 {
@@ -113,7 +113,7 @@ pub(crate) fn read<J: Naming, R: Wait>(
     store: &Store<J>,
     mut seat: Seat,
 ) -> Result<Reading<J>, DriveWord>
-    requires { IsOfOpening J.book seat.seen }
+    requires { IsOfOpening J.book empty_graph seat.seen }
 {
     let requests = requests(alloc)?;
     let mut tally = Tally::none();

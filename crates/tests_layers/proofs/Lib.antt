@@ -1,4 +1,3 @@
 mod OneEdge
 mod TakenBack
-pub mod NewShelves
 pub mod NoRows

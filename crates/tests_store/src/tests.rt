@@ -9,6 +9,7 @@ mod held_batches;
 mod limits;
 mod opened;
 mod plays;
+mod rebased;
 mod refused;
 mod seats;
 mod shared_answers;

@@ -1,4 +1,4 @@
-ghost use Rattle.std.specs.Prelude.{◌≡◌, [], ◌∷◌, IfOk};
+ghost use Rattle.std.specs.Prelude.{◌≡◌, [], ◌∷◌, IfOk, IfSome};
 ghost use Rattle.std.specs.Arc.{arc_value};
 ghost use Rattle.graph_version.specs.declared.versions.Version.{Version};
 ghost use Rattle.graph_version.specs.Drafts.{drafted_over, with_batch};
@@ -17,6 +17,27 @@ use version_shelf::{ShelfReader, ShelfWriter, shelf};
 // Tells `tools/refuse-each-growth` that a growth was refused.
 fn tell_refused(rt: &impl Print) {
     let _ = println!(rt; "refused");
+}
+
+// The version without batches, to be shared.
+fn blank(alloc: Global) -> Option<Arc<Version>>
+    ensures { IfSome result (λ v. arc_value {X = Version} v ≡ empty_version) }
+{
+    Arc::new(alloc, Version::empty(alloc)).ok()
+}
+
+// A shelf of the version without batches, and its two readers.
+fn new_shelf<R: Wait>(rt: &R, alloc: Global) -> Option<(ShelfWriter, ShelfReader, ShelfReader)>
+    ensures writer { IfSome result (λ r. r.0 ≡ opened_shelf r.0.book empty_version) }
+    ensures first { IfSome result (λ r. r.1 ≡ record { book = r.0.book; version = empty_version }) }
+    ensures second { IfSome result (λ r. r.2 ≡ record { book = r.0.book; version = empty_version }) }
+{
+    let Ok((writer, mut readers)) = shelf(rt, alloc, blank(alloc)?, 2) else {
+        return None;
+    };
+    let second = readers.pop()?;
+    let first = readers.pop()?;
+    Some((writer, first, second))
 }
 
 // A draft of the version without batches.
@@ -72,11 +93,7 @@ fn numbers_entered<R: Wait>(
 
 // The numbers entered over a new shelf, or nothing where a growth was refused.
 fn over_a_new_shelf<R: Wait>(rt: &R, alloc: Global) -> Option<[u64; 4]> {
-    let Ok((mut writer, mut readers)) = shelf(rt, alloc, Version::empty(alloc), 2) else {
-        return None;
-    };
-    let mut second = readers.pop()?;
-    let mut first = readers.pop()?;
+    let (mut writer, mut first, mut second) = new_shelf(rt, alloc)?;
     numbers_entered(rt, alloc, &mut writer, &mut first, &mut second).ok()
 }
 
@@ -134,11 +151,7 @@ fn numbers_confirmed<R: Wait>(
 }
 
 fn confirmed_over_a_new_shelf<R: Wait>(rt: &R, alloc: Global) -> Option<[u64; 2]> {
-    let Ok((mut writer, mut readers)) = shelf(rt, alloc, Version::empty(alloc), 2) else {
-        return None;
-    };
-    let mut second = readers.pop()?;
-    let mut first = readers.pop()?;
+    let (mut writer, mut first, mut second) = new_shelf(rt, alloc)?;
     numbers_confirmed(rt, alloc, &mut writer, &mut first, &mut second)
 }
 
@@ -185,13 +198,8 @@ fn numbers_beside_a_close<R: Wait>(
 }
 
 fn over_a_closed_shelf<R: Wait>(rt: &R, alloc: Global) -> Option<[u64; 4]> {
-    let Ok((writer, mut readers)) = shelf(rt, alloc, Version::empty(alloc), 2) else {
-        return None;
-    };
-    match (readers.pop(), readers.pop()) {
-        (Some(second), Some(first)) => numbers_beside_a_close(rt, alloc, writer, first, second),
-        _ => None,
-    }
+    let (writer, first, second) = new_shelf(rt, alloc)?;
+    numbers_beside_a_close(rt, alloc, writer, first, second)
 }
 
 #[test]

@@ -29,6 +29,7 @@ bfs,3,a,k,5,6
 comp,3,k,5,6
 core,3,k,5,6
 x,7
+rebase,3
 y,0123456789,0123456789,0123456789,0123456789,0123456789,0123456789,x,x,x,x,x,x,x,x,x,x,x,x,x,x,x,x,x,x,x,x,x,x,x,x,x
 ";
 
@@ -91,9 +92,10 @@ fn is_given(call: u64, outcome: &Result<Option<Command>, FeedFault>) -> bool {
         Ok(Some(Command::OpenSlot(slot))) => call == 2 && *slot == 3,
         Ok(Some(Command::Query(slot, request))) => *slot == 3 && is_request(call, request),
         Ok(Some(Command::CloseSlot(slot))) => call == 8 && *slot == 3,
+        Ok(Some(Command::Rebase(slot))) => call == 13 && *slot == 3,
         Ok(Some(Command::Commit | Command::Stat | Command::Collect)) => false,
-        Err(_) => (call == 3 || call == 13) && is_fault(outcome, call, FeedWord::BadCommand),
-        Ok(None) => call >= 14,
+        Err(_) => (call == 3 || call == 14) && is_fault(outcome, call, FeedWord::BadCommand),
+        Ok(None) => call >= 15,
     }
 }
 

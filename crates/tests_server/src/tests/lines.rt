@@ -4,7 +4,7 @@ use super::tell_refused;
 use feed_csv::FeedWord;
 use graph_model::{List, Outcome, VertexId, is_name};
 use script_lines::{
-    Word, close_line, collect_line, commit_line, open_line, reply_lines, stat_line,
+    Word, close_line, collect_line, commit_line, open_line, rebase_line, reply_lines, stat_line,
 };
 use std::alloc::{AllocError, Global};
 use std::process::Abort;
@@ -22,6 +22,7 @@ fn has_text(rt: &impl Abort, word: Word, text: &str) {
 fn words_have_their_texts(rt: HostRuntime) {
     has_text(&rt, Word::Feed(FeedWord::BadName), "BadName");
     has_text(&rt, Word::NotOpen, "NotOpen");
+    has_text(&rt, Word::Start, "Start");
 }
 
 // A buffer that lines were appended to holds this text.
@@ -35,7 +36,8 @@ const EACH_LINE: &str = "commit v=65536 ins=1 upd=2 rem=1 abs=3 ovf=1\n\
      commit v=7 ins=1 upd=0 rem=0 abs=0 ovf=0 exp=42\ncommit v=8 ins=0 upd=0 rem=0 abs=0 ovf=0 exp=0\n\
      open 15 v=12\nclose 15\n\
      collect floor=3 recycled=40 retired=500\n\
-     stat v=9 names=80 edges=700 free=6000 retired=50000 used=4\n";
+     stat v=9 names=80 edges=700 free=6000 retired=50000 used=4\n\
+     rebase v=9 names=80 edges=700 used=4\n";
 
 const LEVEL_LINES: &str = "bfs 1 reached=2\nann 1\ncat 0\n";
 
@@ -83,7 +85,8 @@ fn append_each(lines: &mut String) -> Result<(), AllocError> {
         retired: 50_000,
         used: 4,
     };
-    stat_line(lines, stat)
+    stat_line(lines, stat)?;
+    rebase_line(lines, stat)
 }
 
 #[test]

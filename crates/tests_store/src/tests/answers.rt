@@ -16,12 +16,17 @@ use version_answers::NumberedReply;
 /// Weight, first and recent time of the edge from `a` to `b`, where it is there.
 pub(super) type Edge = Option<(i64, u64, u64)>;
 
+/// Kind, source and target of an edge.
+pub(super) type Ends = (&'static str, &'static str, &'static str);
+
+pub(super) const AB: Ends = ("k", "a", "b");
+
 /// What a session answers of the edge from `a` to `b`, and whether the core numbers are those wanted.
 type Answers = (Edge, bool);
 
-fn edge_request(alloc: Global) -> Result<Request, AllocError> {
-    let kind = name(alloc, "k")?;
-    match ends_of(alloc, "a", "b") {
+fn edge_request(alloc: Global, ends: Ends) -> Result<Request, AllocError> {
+    let kind = name(alloc, ends.0)?;
+    match ends_of(alloc, ends.1, ends.2) {
         Ok((source, target)) => Ok(Request::OneEdge {
             kind,
             source,
@@ -50,7 +55,7 @@ fn request_of(alloc: Global, text: &str) -> Result<Request, AllocError> {
         "labels" => Ok(Request::Labels { filter: any() }),
         "cores" => Ok(Request::Cores { filter: any() }),
         "degrees" => Ok(Request::Degrees { filter: any() }),
-        _ => edge_request(alloc),
+        _ => edge_request(alloc, AB),
     }
 }
 
@@ -142,9 +147,9 @@ fn edge_of(reply: &Reply) -> Result<Edge, AskError> {
     }
 }
 
-/// What the session answers of the edge from `a` to `b`.
-pub(super) fn edge_told(alloc: Global, session: &Session) -> Result<Edge, AskError> {
-    let request = edge_request(alloc)?;
+/// What the session answers of an edge.
+pub(super) fn edge_told(alloc: Global, session: &Session, ends: Ends) -> Result<Edge, AskError> {
+    let request = edge_request(alloc, ends)?;
     match session.ask(&request) {
         Ok(reply) => edge_of(&reply),
         Err(error) => Err(error),
@@ -166,7 +171,7 @@ fn tells_cores(session: &Session, wanted: &[u32]) -> Result<bool, AskError> {
 }
 
 fn told(alloc: Global, session: &Session, cores: &[u32]) -> Option<Answers> {
-    let edge = edge_told(alloc, session).ok()?;
+    let edge = edge_told(alloc, session, AB).ok()?;
     let has_cores = tells_cores(session, cores).ok()?;
     Some((edge, has_cores))
 }

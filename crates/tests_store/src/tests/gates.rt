@@ -1,7 +1,6 @@
 // Workers behind the calls of a desk and of a store: how many there are, and that they work at once.
 
 ghost use Rattle.std.specs.Prelude.{◌≡◌};
-ghost use Rattle.graph_model.specs.Step.{empty_graph};
 
 use super::batches::{all_pairs, batch_of, loops};
 use super::stores::apply_to;
@@ -134,7 +133,7 @@ fn meet_over<J: Naming, R: Threads + Wait + Sync + Abort>(
     board: Board,
 )
     requires book { desk.book ≡ J.book }
-    requires opening { desk.desk.last.opening ≡ empty_graph }
+    requires opening { desk.desk.last.opening ≡ J.opening }
 {
     let store = Store::<J>::over(desk, board);
     let meeting = Meeting::new();

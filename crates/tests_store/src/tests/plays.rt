@@ -1,14 +1,14 @@
 // Plays: what one thread does over a shared store and its four seats, a line each, and what it is told.
 
 ghost use Rattle.std.specs.Prelude.{◌≡◌};
-ghost use Rattle.graph_model.specs.Step.{empty_graph};
 
 use super::answers::answer_text;
 use super::batches::{batch_of, ops_of};
+use super::rebased::held;
 use super::stores::apply_to;
 use super::texts::push_item;
 use batch_apply::PassAll;
-use graph_model::Outcome;
+use graph_model::{Content, Outcome};
 use seat_board::{Board, SeatNo};
 use std::alloc::{AllocError, Global};
 use std::marker::Brand;
@@ -17,7 +17,7 @@ use std::sync::Wait;
 use std::thread::Threads;
 use stream_store::{
     ApplyError, Collected, Config, Desk, Naming, PinnedSeat, Receipt, Seat, Session, Stat, Store,
-    open_parts,
+    open_parts, open_parts_from,
 };
 
 /// Where a seat is.
@@ -74,6 +74,27 @@ fn asked(alloc: Global, places: &[Place], text: &str) -> Option<String> {
     let index: usize = number.parse().ok()?;
     match places.get(index)? {
         Place::Held(session) => answer_text(alloc, session, request),
+        _ => None,
+    }
+}
+
+fn push_opening(text: &mut String, opening: &Content) -> Result<(), AllocError> {
+    push_item(text, opening.names.as_slice().len(), " ")?;
+    push_item(text, opening.kinds.as_slice().len(), " ")?;
+    push_item(text, opening.edges.as_slice().len(), "")
+}
+
+fn opening_text(alloc: Global, opening: &Content) -> Option<String> {
+    let mut text = String::new(alloc);
+    push_opening(&mut text, opening).ok()?;
+    Some(text)
+}
+
+/// How many names, kinds and edges the version began with that the seat of that number holds.
+fn began_with(alloc: Global, places: &[Place], number: &str) -> Option<String> {
+    let index: usize = number.parse().ok()?;
+    match places.get(index)? {
+        Place::Held(session) => opening_text(alloc, session.version().opening()),
         _ => None,
     }
 }
@@ -170,6 +191,7 @@ fn told<J: Naming, R: Threads + Wait + Sync>(
         "apply" => applied(rt, alloc, store, text),
         "seat" => seat_moved(rt, alloc, store, places, text),
         "ask" => asked(alloc, places.as_slice(), text),
+        "opening" => began_with(alloc, places.as_slice(), text),
         "collect" => collected_text(alloc, store.collect(rt)),
         _ => stat_text(alloc, store.stat(rt)),
     }
@@ -223,6 +245,7 @@ enum Play {
     Expiring,
     UsedBlocks,
     Answers,
+    Rebased,
 }
 
 fn lines_of(play: Play) -> &'static str {
@@ -237,6 +260,7 @@ fn lines_of(play: Play) -> &'static str {
         Play::Expiring => EXPIRING,
         Play::UsedBlocks => USED_BLOCKS,
         Play::Answers => ANSWERS,
+        Play::Rebased => REBASED,
     }
 }
 
@@ -273,7 +297,7 @@ fn play_over<J: Naming, R: Threads + Wait + Sync + Abort>(
     play: Play,
 )
     requires book { desk.book ≡ J.book }
-    requires opening { desk.desk.last.opening ≡ empty_graph }
+    requires opening { desk.desk.last.opening ≡ J.opening }
 {
     let mut places = places_of(alloc, seats).expect(rt, "places");
     done_before(&desk, &mut board, &mut places, play).expect(rt, "what is done before");
@@ -521,4 +545,47 @@ ask 3 degrees => a 1 1 1,b 1 1 2,c 1 1 3,d 0 0 0,";
 #[test]
 fn answers_each_request_of_the_version_held(rt: HostRuntime) {
     check_play(&rt, rt.alloc(), Play::Answers);
+}
+
+/// Plays over a store of two workers, 16 blocks and four seats that opens with the edge of a to b.
+fn check_rebased<R: Threads + Wait + Sync + Abort>(rt: &R, alloc: Global) {
+    let config = Config::new(2, 16, 4).expect(rt, "within the limits");
+    let version = held(rt, alloc, 16, batch_of(alloc, ops_of("first"))).expect(rt, "a version");
+    let (desk, board, seats) = open_parts_from(rt, alloc, config, &version).expect(
+        rt,
+        "an opening",
+    );
+    play_over::<Brand, R>(rt, alloc, desk, board, seats, Play::Rebased);
+}
+
+/// Version 0 has the edge, and so has each later one that leaves it; each of them began with it. The block that the store opened
+/// with stays while version 0 is held, and is freed once no seat holds it. A removal then takes the edge away that no batch of this
+/// store had put in.
+const REBASED: &str = "stat => 0 2 1 15 0 1
+seat 0 => pinned
+seat 0 => holds 0
+ask 0 edge => 5 10 10
+opening 0 => 2 1 1
+apply more => 1 u
+stat => 1 2 1 14 1 1
+seat 1 => pinned
+seat 1 => holds 1
+ask 1 edge => 6 10 20
+opening 1 => 2 1 1
+ask 0 edge => 5 10 10
+collect => 0 0 1
+seat 0 => free
+collect => 1 1 0
+stat => 1 2 1 15 0 1
+apply cut => 2 r
+seat 2 => pinned
+seat 2 => holds 2
+ask 2 edge => none
+opening 2 => 2 1 1
+ask 1 edge => 6 10 20
+stat => 2 2 0 15 1 0";
+
+#[test]
+fn goes_on_from_what_a_version_holds(rt: HostRuntime) {
+    check_rebased(&rt, rt.alloc());
 }

@@ -32,16 +32,9 @@ pub(super) fn number_held(session: &Session) -> u64 {
     session.version().number()
 }
 
-/// What is seen of a session: whether it was refused at first, and its seat's pin then; the number of its version; the
-/// pin while it holds it, and after it let it go.
-#[derive(Clone, Copy, Debug, PartialEq, Eq)]
-struct Sights {
-    refused: bool,
-    before: Option<Pin>,
-    number: u64,
-    held: Option<Pin>,
-    after: Option<Pin>,
-}
+/// What is seen of a session: its seat's pin before it, the number of its version; the pin while it holds it, and after it let it
+/// go.
+type Sights = (Option<Pin>, u64, Option<Pin>, Option<Pin>);
 
 /// Applies a batch, and the seat learns of it.
 fn learns_of<R: Threads + Wait + Sync>(
@@ -92,36 +85,30 @@ fn held(
 }
 
 /// What is seen of a session of the seat of that number, which lets its version go again.
-fn sights_of(
-    board: &mut Board,
-    session: Session,
-    number: SeatNo,
-    refused: bool,
-    before: Option<Pin>,
-) -> Sights {
+fn sights_of(board: &mut Board, session: Session, number: SeatNo, before: Option<Pin>) -> Sights {
     let entered = number_held(&session);
     let held = board.pin_of(number);
     let _seat = let_go(session, board);
-    Sights {
-        refused,
-        before,
-        number: entered,
-        held,
-        after: board.pin_of(number),
-    }
+    (before, entered, held, board.pin_of(number))
 }
 
-fn held_and_released(desk: &Desk, board: &mut Board, seat: Seat, number: SeatNo) -> Option<Sights> {
+/// Whether the session was refused at first, and what is seen of it.
+fn held_and_released(
+    desk: &Desk,
+    board: &mut Board,
+    seat: Seat,
+    number: SeatNo,
+) -> Option<(bool, Sights)> {
     match held(desk, board, seat, number) {
         Some((session, refused, before)) => {
-            Some(sights_of(board, session, number, refused, before))
+            Some((refused, sights_of(board, session, number, before)))
         }
         None => None,
     }
 }
 
 /// A session of the second of two seats over a new store, after one batch that the seat learnt of.
-fn over_a_new_store<R: Threads + Wait + Sync>(rt: &R, alloc: Global) -> Option<Sights> {
+fn over_a_new_store<R: Threads + Wait + Sync>(rt: &R, alloc: Global) -> Option<(bool, Sights)> {
     let Opened {
         mut desk,
         mut board,
@@ -136,31 +123,29 @@ fn over_a_new_store<R: Threads + Wait + Sync>(rt: &R, alloc: Global) -> Option<S
     }
 }
 
-const LENT: Sights = Sights {
-    refused: false,
-    before: None,
-    number: 1,
-    held: Some(Pin {
+const LENT: Sights = (
+    None,
+    1,
+    Some(Pin {
         number: 1,
         is_settled: true,
     }),
-    after: None,
-};
+    None,
+);
 
 #[test]
 fn lends_the_last_version(rt: HostRuntime) {
-    assert_eq!(rt; over_a_new_store(&rt, rt.alloc()), Some(LENT));
+    assert_eq!(rt; over_a_new_store(&rt, rt.alloc()), Some((false, LENT)));
 }
 
 #[test]
 fn refused_sessions_set_no_pin(rt: HostRuntime) {
     match over_a_new_store(&rt, rt.alloc()) {
-        Some(sights) => {
-            if sights.refused {
+        Some((refused, sights)) => {
+            if refused {
                 tell_refused(&rt);
             }
-            let refused = sights.refused;
-            assert_eq!(rt; sights, Sights { refused, ..LENT });
+            assert_eq!(rt; sights, LENT);
         }
         // The store wasn't opened, or the batch wasn't applied or learnt.
         None => tell_refused(&rt),

@@ -1,12 +1,11 @@
 // Sessions over the shared store that ask while another thread feeds, against what the definitions give.
 
 ghost use Rattle.std.specs.Prelude.{◌≡◌};
-ghost use Rattle.graph_model.specs.Step.{empty_graph};
 
-use super::answers::{Edge, SECOND, edge_told};
+use super::answers::{AB, Edge, SECOND, edge_told};
 use super::batches::batch_of;
 use super::opened::{Opened, new_store};
-use super::stores::{entered, error_of, let_go};
+use super::stores::{Shown, entered, error_of, let_go, shown_to};
 use graph_model::Batch;
 use seat_board::Board;
 use std::alloc::{AllocError, Global};
@@ -19,15 +18,8 @@ use stream_store::{Desk, Naming, Seat, Session, Store};
 const TURNS: u32 = 100;
 
 /// Whether both batches were applied; what a session on version 1 answers beside the second batch and after it; what the same
-/// seat's next session answers, and the number of its version.
-#[derive(Clone, Copy, Debug, PartialEq, Eq)]
-struct Told {
-    are_applied: (bool, bool),
-    beside: Option<Edge>,
-    after: Option<Edge>,
-    next: Option<Edge>,
-    number: u64,
-}
+/// seat's next session shows.
+type Told = ((bool, bool), Option<Edge>, Option<Edge>, Shown);
 
 fn is_applied<J: Naming, R: Threads + Wait + Sync>(
     rt: &R,
@@ -39,9 +31,9 @@ fn is_applied<J: Naming, R: Threads + Wait + Sync>(
 
 /// What the session answers each time that it is asked; nothing where two answers differ.
 fn answered(alloc: Global, session: &Session) -> Option<Edge> {
-    let first = edge_told(alloc, session).ok()?;
+    let first = edge_told(alloc, session, AB).ok()?;
     for _ in 0..TURNS {
-        if edge_told(alloc, session).ok() != Some(first) {
+        if edge_told(alloc, session, AB).ok() != Some(first) {
             return None;
         }
     }
@@ -66,19 +58,6 @@ fn beside_a_batch<J: Naming + Send + Sync, R: Threads + Wait + Sync>(
     )
 }
 
-/// What the seat's next session answers, and the number of its version.
-fn next_told<J: Naming, R: Wait>(
-    rt: &R,
-    alloc: Global,
-    store: &Store<J>,
-    seat: Seat,
-) -> (Option<Edge>, u64) {
-    let session = entered(rt, store, seat);
-    let told = (edge_told(alloc, &session).ok(), session.version().number());
-    let _seat = let_go(rt, store, session);
-    told
-}
-
 fn told_by<J: Naming + Send + Sync, R: Threads + Wait + Sync>(
     rt: &R,
     alloc: Global,
@@ -88,15 +67,9 @@ fn told_by<J: Naming + Send + Sync, R: Threads + Wait + Sync>(
     let first = is_applied(rt, store, batch_of(alloc, &[("i", "a", "b", 1, 1)]));
     let session = entered(rt, store, seat);
     let (second, (session, beside)) = beside_a_batch(rt, alloc, store, session);
-    let after = edge_told(alloc, &session).ok();
-    let (next, number) = next_told(rt, alloc, store, let_go(rt, store, session));
-    Told {
-        are_applied: (first, second),
-        beside,
-        after,
-        next,
-        number,
-    }
+    let after = edge_told(alloc, &session, AB).ok();
+    let next = shown_to(rt, alloc, store, let_go(rt, store, session), AB);
+    ((first, second), beside, after, next)
 }
 
 /// What is told over a store, and the number of its last version, which comes back once it is closed.
@@ -108,7 +81,7 @@ fn told_over<J: Naming + Send + Sync, R: Threads + Wait + Sync>(
     seat: Seat,
 ) -> (Told, u64)
     requires book { desk.book ≡ J.book }
-    requires opening { desk.desk.last.opening ≡ empty_graph }
+    requires opening { desk.desk.last.opening ≡ J.opening }
 {
     let store = Store::<J>::over(desk, board);
     let told = told_by(rt, alloc, &store, seat);
@@ -127,13 +100,12 @@ fn over_a_new_store<R: Threads + Wait + Sync>(rt: &R, alloc: Global) -> Option<(
 
 /// The session that holds version 1 has the edge, of weight 1 and both times 1, however often it is asked; the next session
 /// holds version 2, which has both names and the kind and no such edge.
-const TOLD: Told = Told {
-    are_applied: (true, true),
-    beside: Some(Some((1, 1, 1))),
-    after: Some(Some((1, 1, 1))),
-    next: Some(None),
-    number: 2,
-};
+const TOLD: Told = (
+    (true, true),
+    Some(Some((1, 1, 1))),
+    Some(Some((1, 1, 1))),
+    (2, Some(None)),
+);
 
 #[test]
 fn answers_of_the_held_version_beside_a_batch(rt: HostRuntime) {

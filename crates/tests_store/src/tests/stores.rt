@@ -1,10 +1,10 @@
 // The store that threads share, called by one thread: batches, and what becomes of it where a growth is refused.
 
 ghost use Rattle.std.specs.Prelude.{◌≡◌, IfOk};
-ghost use Rattle.graph_model.specs.Step.{empty_graph};
 ghost use Rattle.version_shelf.specs.Shelves.{IsOfOneShelf};
 ghost use Rattle.stream_store.specs.Stores.{IsOfOpening};
 
+use super::answers::{Edge, Ends, edge_told};
 use super::batches::{CHAIN, batch_of, tell_refused};
 use super::opened::{Opened, new_store};
 use batch_apply::{Gate, PassAll};
@@ -25,7 +25,7 @@ pub(super) fn apply_to<J: Naming, R: Threads + Wait + Sync, G: Gate + Sync>(
     gate: &G,
     batch: Result<Batch, AllocError>,
 ) -> Result<Receipt, ApplyError>
-    ensures { IfOk result (λ r. IsOfOpening J.book r.told) }
+    ensures { IfOk result (λ r. IsOfOpening J.book J.opening r.told) }
 {
     match batch {
         Ok(batch) => store.apply(rt, gate, batch),
@@ -50,6 +50,25 @@ pub(super) fn entered<J: Naming, R: Wait>(rt: &R, store: &Store<J>, seat: Seat) 
 /// Lets the session's version go.
 pub(super) fn let_go<J: Naming, R: Wait>(rt: &R, store: &Store<J>, session: Session) -> Seat {
     session.release(rt, store)
+}
+
+/// The number of the version that the seat enters, and what it answers of an edge.
+pub(super) type Shown = (u64, Option<Edge>);
+
+pub(super) fn shown_to<J: Naming, R: Wait>(
+    rt: &R,
+    alloc: Global,
+    store: &Store<J>,
+    seat: Seat,
+    ends: Ends,
+) -> Shown {
+    let session = entered(rt, store, seat);
+    let shown = (
+        session.version().number(),
+        edge_told(alloc, &session, ends).ok(),
+    );
+    let _seat = let_go(rt, store, session);
+    shown
 }
 
 const EMPTY: Stat = Stat {
@@ -102,7 +121,7 @@ fn learnt_of<J: Naming, R: Threads + Wait + Sync + Abort + Print>(
     seat: &mut Seat,
     batch: Result<Batch, AllocError>,
 ) -> u64
-    requires { IsOfOpening J.book seat.old.seen }
+    requires { IsOfOpening J.book J.opening seat.old.seen }
 {
     match apply_to(rt, store, &PassAll, batch) {
         Ok(receipt) => {
@@ -130,7 +149,7 @@ fn check_entered<J: Naming, R: Threads + Wait + Sync + Abort + Print>(
     store: &Store<J>,
     mut seat: Seat,
 )
-    requires { IsOfOpening J.book seat.seen }
+    requires { IsOfOpening J.book J.opening seat.seen }
 {
     let wanted = learnt_of(rt, store, &mut seat, batch_of(alloc, CHAIN.as_slice()));
     assert_eq!(rt; number_entered(rt, store, seat), wanted);
@@ -152,8 +171,8 @@ fn check_over<J: Naming, R: Threads + Wait + Sync + Abort + Print>(
     tale: Tale,
 )
     requires book { desk.book ≡ J.book }
-    requires opening { desk.desk.last.opening ≡ empty_graph }
-    requires seat { IsOfOpening J.book seat.seen }
+    requires opening { desk.desk.last.opening ≡ J.opening }
+    requires seat { IsOfOpening J.book J.opening seat.seen }
 {
     let store = Store::<J>::over(desk, board);
     match tale {

@@ -3,12 +3,12 @@
 ghost use Rattle.std.specs.Prelude.{◌≡◌};
 ghost use Rattle.std.specs.Coded.{codes};
 ghost use Rattle.graph_model.specs.Coded.{graph_code};
-ghost use Rattle.graph_model.specs.Step.{empty_graph};
 ghost use Rattle.stream_store.specs.Stores.{IsOfOpening};
 
+use super::answers::{AB, Ends};
 use super::batches::{Op, batch_of};
 use super::opened::{Opened, new_store};
-use super::stores::{apply_to, entered, let_go};
+use super::stores::{Shown, apply_to, entered, let_go, shown_to};
 use batch_apply::{Gate, PassAll};
 use graph_model::Batch;
 use seat_board::Board;
@@ -29,24 +29,14 @@ pub(super) struct Handed<J: Naming> {
     pub(super) receipt: Receipt,
     of: PhantomData<J>,
     ghost book_is: { receipt.told.book ≡ J.book },
-    ghost opening_is: { receipt.told.version.opening ≡ empty_graph } by { Prim.hlevel (codes, graph_code) },
+    ghost opening_is: { receipt.told.version.opening ≡ J.opening } by { Prim.hlevel (codes, graph_code) },
 }
 
 /// What is seen of a version: its number, names and edges.
-#[derive(Clone, Copy, Debug, PartialEq, Eq)]
-struct Sight {
-    number: u64,
-    names: usize,
-    edges: u64,
-}
+type Sight = (u64, usize, u64);
 
 /// What a thread sees that learnt of version 1; and the store's counts and a collection once it let the version go.
-#[derive(Clone, Copy, Debug, PartialEq, Eq)]
-struct Sights {
-    version: Sight,
-    stat: Stat,
-    collected: Collected,
-}
+type Sights = (Sight, Stat, Collected);
 
 /// Applies a batch, and hands over its receipt where there is one.
 pub(super) fn feed<J: Naming, R: Threads + Wait + Sync>(
@@ -75,7 +65,7 @@ fn handed_of<J: Naming, R: Threads + Wait + Sync>(
 
 /// The seat learns of what it was handed.
 fn learns<J: Naming>(seat: &mut Seat, handed: &Option<Handed<J>>) -> bool
-    requires { IsOfOpening J.book seat.old.seen }
+    requires { IsOfOpening J.book J.opening seat.old.seen }
 {
     match handed {
         Some(handed) => seat.learn(&handed.receipt).is_ok(),
@@ -90,7 +80,7 @@ fn read<J: Naming, R: Wait>(
     slot: &OnceLock<Option<Handed<J>>>,
     mut seat: Seat,
 ) -> Option<Sights>
-    requires { IsOfOpening J.book seat.seen }
+    requires { IsOfOpening J.book J.opening seat.seen }
 {
     if learns(&mut seat, slot.wait(rt)) {
         Some(seen_by(rt, store, seat))
@@ -101,22 +91,18 @@ fn read<J: Naming, R: Wait>(
 
 fn sight_of(session: &Session) -> Sight {
     let version = session.version();
-    Sight {
-        number: version.number(),
-        names: version.names().len(),
-        edges: version.edge_count(),
-    }
+    (
+        version.number(),
+        version.names().len(),
+        version.edge_count(),
+    )
 }
 
 fn seen_by<J: Naming, R: Wait>(rt: &R, store: &Store<J>, seat: Seat) -> Sights {
     let session = entered(rt, store, seat);
     let version = sight_of(&session);
     let _seat = let_go(rt, store, session);
-    Sights {
-        version,
-        stat: store.stat(rt),
-        collected: store.collect(rt),
-    }
+    (version, store.stat(rt), store.collect(rt))
 }
 
 /// The edges a to b and b to c.
@@ -129,7 +115,7 @@ fn handed_over<J: Naming + Send + Sync, R: Threads + Wait + Sync>(
     store: &Store<J>,
     seat: Seat,
 ) -> Option<Sights>
-    requires { IsOfOpening J.book seat.seen }
+    requires { IsOfOpening J.book J.opening seat.seen }
 {
     let slot: OnceLock<Option<Handed<J>>> = OnceLock::new();
     let batch = batch_of(alloc, CHAIN.as_slice());
@@ -137,7 +123,7 @@ fn handed_over<J: Naming + Send + Sync, R: Threads + Wait + Sync>(
         rt,
         || feed(rt, store, &slot, batch),
         || -> Option<Sights>
-            requires { IsOfOpening J.book seat.seen }
+            requires { IsOfOpening J.book J.opening seat.seen }
         { read(rt, store, &slot, seat) },
     );
     seen
@@ -145,14 +131,14 @@ fn handed_over<J: Naming + Send + Sync, R: Threads + Wait + Sync>(
 
 /// A gate that holds the first worker until another thread has read.
 #[derive(Drop)]
-pub(super) struct HoldFirst {
-    pub(super) arrived: AtomicBool,
-    pub(super) read: AtomicBool,
-    pub(super) late: AtomicBool,
+struct HoldFirst {
+    arrived: AtomicBool,
+    read: AtomicBool,
+    late: AtomicBool,
 }
 
 impl HoldFirst {
-    pub(super) fn new() -> HoldFirst {
+    fn new() -> HoldFirst {
         HoldFirst {
             arrived: AtomicBool::new(false),
             read: AtomicBool::new(false),
@@ -183,24 +169,25 @@ impl Gate for HoldFirst {
     }
 }
 
-/// Reads while a batch is held at its gate: the number of the version seen.
+/// Once the first worker has arrived, and not before, acquires a version, asks for the edge, lets the version go, and lets the
+/// worker go on.
 fn read_beside<J: Naming, R: Wait>(
     rt: &R,
+    alloc: Global,
     store: &Store<J>,
     gate: &HoldFirst,
     seat: Seat,
-) -> Option<u64> {
+    ends: Ends,
+) -> Option<Shown> {
     if !is_set(&gate.arrived) {
         return None;
     }
-    let session = entered(rt, store, seat);
-    let number = session.version().number();
-    let _seat = let_go(rt, store, session);
+    let shown = shown_to(rt, alloc, store, seat, ends);
     gate.read.store(true, SeqCst);
-    Some(number)
+    Some(shown)
 }
 
-pub(super) fn apply_behind<J: Naming, R: Threads + Wait + Sync>(
+fn apply_behind<J: Naming, R: Threads + Wait + Sync>(
     rt: &R,
     store: &Store<J>,
     gate: &HoldFirst,
@@ -212,33 +199,25 @@ pub(super) fn apply_behind<J: Naming, R: Threads + Wait + Sync>(
     }
 }
 
-/// What two threads did beside each other: the receipt's number, the number seen, and whether a thread gave up waiting.
-#[derive(Clone, Copy, Debug, PartialEq, Eq)]
-struct Beside {
-    applied: Option<u64>,
-    seen: Option<u64>,
-    is_late: bool,
-}
+/// What two threads did beside each other: the receipt's number, what the other was shown, and whether a thread gave up waiting.
+pub(super) type Beside = (Option<u64>, Option<Shown>, bool);
 
-/// One thread applies a batch, whose first worker is held until the other has acquired, looked and released.
-fn beside_a_batch<J: Naming + Send + Sync, R: Threads + Wait + Sync>(
+/// One thread applies a batch, whose first worker is held until the other has acquired, asked and released.
+pub(super) fn beside_a_batch<J: Naming + Send + Sync, R: Threads + Wait + Sync>(
     rt: &R,
     alloc: Global,
     store: &Store<J>,
     seat: Seat,
+    batch: Result<Batch, AllocError>,
+    ends: Ends,
 ) -> Beside {
     let gate = HoldFirst::new();
-    let batch = batch_of(alloc, &CHAIN[..1]);
-    let (applied, seen) = join(
+    let (applied, shown) = join(
         rt,
         || apply_behind(rt, store, &gate, batch),
-        || read_beside(rt, store, &gate, seat),
+        || read_beside(rt, alloc, store, &gate, seat, ends),
     );
-    Beside {
-        applied,
-        seen,
-        is_late: gate.late.load(SeqCst),
-    }
+    (applied, shown, gate.late.load(SeqCst))
 }
 
 /// What the two threads saw: one that was handed a receipt, and then one that read beside a batch.
@@ -253,12 +232,13 @@ fn both_over<J: Naming + Send + Sync, R: Threads + Wait + Sync>(
     second: Seat,
 ) -> Seen
     requires book { desk.book ≡ J.book }
-    requires opening { desk.desk.last.opening ≡ empty_graph }
-    requires seat { IsOfOpening J.book first.seen }
+    requires opening { desk.desk.last.opening ≡ J.opening }
+    requires seat { IsOfOpening J.book J.opening first.seen }
 {
     let store = Store::<J>::over(desk, board);
     let handed = handed_over(rt, alloc, &store, first);
-    (handed, beside_a_batch(rt, alloc, &store, second))
+    let batch = batch_of(alloc, &CHAIN[..1]);
+    (handed, beside_a_batch(rt, alloc, &store, second, batch, AB))
 }
 
 fn over_a_new_store<R: Threads + Wait + Sync>(rt: &R, alloc: Global) -> Option<Seen> {
@@ -271,13 +251,9 @@ fn over_a_new_store<R: Threads + Wait + Sync>(rt: &R, alloc: Global) -> Option<S
     Some(both_over::<Brand, R>(rt, alloc, desk, board, first, second))
 }
 
-const LEARNT: Sights = Sights {
-    version: Sight {
-        number: 1,
-        names: 3,
-        edges: 2,
-    },
-    stat: Stat {
+const LEARNT: Sights = (
+    (1, 3, 2),
+    Stat {
         number: 1,
         names: 3,
         edges: 2,
@@ -285,18 +261,14 @@ const LEARNT: Sights = Sights {
         retired: 0,
         used: 2,
     },
-    collected: Collected {
+    Collected {
         floor: 1,
         recycled: 0,
         retired: 0,
     },
-};
+);
 
-const BESIDE: Beside = Beside {
-    applied: Some(2),
-    seen: Some(1),
-    is_late: false,
-};
+const BESIDE: Beside = (Some(2), Some((1, Some(Some((1, 1, 1))))), false);
 
 /// The thread that was handed the receipt of version 1 sees it. While the first worker of the second batch is held, another
 /// thread acquires version 1, looks at it, and lets it go.

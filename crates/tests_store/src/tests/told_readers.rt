@@ -2,11 +2,9 @@
 // had seen or been told, while blocks are retired and collected.
 
 ghost use Rattle.std.specs.Prelude.{◌≡◌, ◌<◌, All};
-ghost use Rattle.graph_model.specs.Step.{empty_graph};
-ghost use Rattle.stream_store.specs.Seats.{IsNewSeat};
-ghost use Rattle.stream_store.specs.Stores.{IsOfOpening};
+ghost use Rattle.stream_store.specs.Stores.{IsOfOpening, IsSeatOf};
 
-use super::answers::edge_told;
+use super::answers::{AB, edge_told};
 use super::batches::{Op, batch_of};
 use super::threads::{Handed, feed, is_set};
 use graph_model::{Batch, Name, NamedOp};
@@ -184,7 +182,7 @@ fn are_first(version: &Version) -> bool {
 /// Whether the session's version has the first batches, and what they leave: each of them added one to the weight.
 fn is_as_fed(alloc: Global, session: &Session) -> bool {
     let number = session.version().number();
-    match edge_told(alloc, session) {
+    match edge_told(alloc, session, AB) {
         Ok(Some((weight, 1, recent))) => {
             weight.unsigned_abs() == number && recent == number && are_first(session.version())
         }
@@ -237,8 +235,8 @@ impl Reading {
 
 /// The seat learns of what it was handed; whether that is the receipt of this number.
 fn learns_of<J: Naming>(seat: &mut Seat, handed: &Option<Handed<J>>, number: u32) -> bool
-    requires { IsOfOpening J.book seat.old.seen }
-    ensures { IsOfOpening J.book seat.new.seen }
+    requires { IsOfOpening J.book J.opening seat.old.seen }
+    ensures { IsOfOpening J.book J.opening seat.new.seen }
 {
     match handed {
         Some(handed) => {
@@ -251,8 +249,8 @@ fn learns_of<J: Naming>(seat: &mut Seat, handed: &Option<Handed<J>>, number: u32
 
 /// Waits for the receipt of this number; whether the seat learnt of it.
 fn is_told<J: Naming, R: Wait>(rt: &R, shared: &Shared<J>, seat: &mut Seat, number: u32) -> bool
-    requires { IsOfOpening J.book seat.old.seen }
-    ensures { IsOfOpening J.book seat.new.seen }
+    requires { IsOfOpening J.book J.opening seat.old.seen }
+    ensures { IsOfOpening J.book J.opening seat.new.seen }
 {
     match shared.place(number) {
         Some(place) => learns_of(seat, place.wait(rt), number),
@@ -271,8 +269,8 @@ fn round<J: Naming, R: Wait>(
     number: u32,
     reading: &mut Reading,
 ) -> Seat
-    requires { IsOfOpening J.book seat.seen }
-    ensures { IsOfOpening J.book result.seen }
+    requires { IsOfOpening J.book J.opening seat.seen }
+    ensures { IsOfOpening J.book J.opening result.seen }
 {
     reading.is_told &= is_told(rt, shared, &mut seat, number);
     let session = seat.pin(rt, store).enter(rt, store);
@@ -292,7 +290,7 @@ fn read<J: Naming, R: Wait>(
     shared: &Shared<J>,
     mut seat: Seat,
 ) -> Reading
-    requires { IsOfOpening J.book seat.seen }
+    requires { IsOfOpening J.book J.opening seat.seen }
 {
     let mut reading = Reading::none();
     let first = shared.readers.fetch_add(1, SeqCst) % READERS + 1;
@@ -311,13 +309,13 @@ fn read_all<J: Naming + Send + Sync, R: Threads + Wait + Sync>(
     shared: &Shared<J>,
     seats: Vec<Seat>,
 ) -> Result<Vec<Reading>, AllocError>
-    requires { All (IsNewSeat J.book) seats.items }
+    requires { All (IsSeatOf J.book J.opening) seats.items }
 {
     map_vec(
         rt,
         seats,
         &|seat: Seat| -> Reading
-            requires { IsOfOpening J.book seat.seen }
+            requires { IsOfOpening J.book J.opening seat.seen }
         { read(rt, alloc, store, shared, seat) },
     )
 }
@@ -337,13 +335,13 @@ fn fed_and_read<J: Naming + Send + Sync, R: Threads + Wait + Sync>(
     shared: &Shared<J>,
     seats: Vec<Seat>,
 ) -> Option<Found>
-    requires { All (IsNewSeat J.book) seats.items }
+    requires { All (IsSeatOf J.book J.opening) seats.items }
 {
     let (beside, readings) = join(
         rt,
         || feed_all(rt, alloc, store, shared),
         || -> Result<Vec<Reading>, AllocError>
-            requires { All (IsNewSeat J.book) seats.items }
+            requires { All (IsSeatOf J.book J.opening) seats.items }
         { read_all(rt, alloc, store, shared, seats) },
     );
     match readings {
@@ -364,8 +362,8 @@ fn found_over<J: Naming + Send + Sync, R: Threads + Wait + Sync>(
     seats: Vec<Seat>,
 ) -> Option<Found>
     requires book { desk.book ≡ J.book }
-    requires opening { desk.desk.last.opening ≡ empty_graph }
-    requires seats { All (IsNewSeat J.book) seats.items }
+    requires opening { desk.desk.last.opening ≡ J.opening }
+    requires seats { All (IsSeatOf J.book J.opening) seats.items }
 {
     let store = Store::<J>::over(desk, board);
     match Shared::<J>::new(alloc) {
