@@ -212,15 +212,21 @@ fn tells_the_blocks_of_a_version(rt: HostRuntime) -> Result<(), Fail> {
 }
 
 // The names, the kinds, and the weights of the edges.
-fn content_text(alloc: Global, content: &Content) -> Result<String, AllocError> {
-    let mut text = String::from_str(alloc, "names")?;
-    write_names(&mut text, content.names.as_slice())?;
+fn write_content(text: &mut String, content: &Content) -> Result<(), AllocError> {
+    text.push_str("names")?;
+    write_names(text, content.names.as_slice())?;
     text.push_str("; kinds")?;
-    write_names(&mut text, content.kinds.as_slice())?;
+    write_names(text, content.kinds.as_slice())?;
     text.push_str("; weights")?;
     for edge in content.edges.as_slice() {
-        push_item(&mut text, " ", edge.weight)?;
+        push_item(text, " ", edge.weight)?;
     }
+    Ok(())
+}
+
+fn content_text(alloc: Global, content: &Content) -> Result<String, AllocError> {
+    let mut text = String::new(alloc);
+    write_content(&mut text, content)?;
     Ok(text)
 }
 

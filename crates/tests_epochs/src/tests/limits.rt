@@ -39,11 +39,17 @@ fn push_line(text: &mut String, line: (&str, u8, u8, &str)) -> Result<(), AllocE
     text.push_str(end)
 }
 
-fn kind_lines(alloc: Global) -> Result<String, AllocError> {
-    let mut text = String::from_str(alloc, "take 0 => done\ntake 1 => done\n")?;
+fn push_lines(text: &mut String) -> Result<(), AllocError> {
+    text.push_str("take 0 => done\ntake 1 => done\n")?;
     for line in KIND_LINES {
-        push_line(&mut text, line)?;
+        push_line(text, line)?;
     }
+    Ok(())
+}
+
+fn kind_lines(alloc: Global) -> Result<String, AllocError> {
+    let mut text = String::new(alloc);
+    push_lines(&mut text)?;
     Ok(text)
 }
 

@@ -261,32 +261,32 @@ fn write_degree(text: &mut String, name: &Name, degree: &Degree) -> Result<(), A
 }
 
 // Each vertex with its degrees out and in, and its weight out.
-fn table_text(alloc: Global, rows: &[(Name, Degree)]) -> Result<String, AllocError> {
-    let mut text = String::from_str(alloc, "deg")?;
+fn write_degrees(text: &mut String, rows: &[(Name, Degree)]) -> Result<(), AllocError> {
+    text.push_str("deg")?;
     for (name, degree) in rows {
-        write_degree(&mut text, name, degree)?;
+        write_degree(text, name, degree)?;
     }
-    Ok(text)
+    Ok(())
 }
 
 // A word, and each vertex with its number.
-fn numbers_text(alloc: Global, word: &str, rows: &[(Name, u32)]) -> Result<String, AllocError> {
-    let mut text = String::from_str(alloc, word)?;
+fn write_numbers(text: &mut String, word: &str, rows: &[(Name, u32)]) -> Result<(), AllocError> {
+    text.push_str(word)?;
     for (name, number) in rows {
-        push_item(&mut text, " ", name.as_str())?;
-        push_item(&mut text, " ", *number)?;
+        push_item(text, " ", name.as_str())?;
+        push_item(text, " ", *number)?;
     }
-    Ok(text)
+    Ok(())
 }
 
 // Each vertex with its label.
-fn labels_text(alloc: Global, rows: &[(Name, Name)]) -> Result<String, AllocError> {
-    let mut text = String::from_str(alloc, "comp")?;
+fn write_labels(text: &mut String, rows: &[(Name, Name)]) -> Result<(), AllocError> {
+    text.push_str("comp")?;
     for (name, label) in rows {
-        push_item(&mut text, " ", name.as_str())?;
-        push_item(&mut text, " ", label.as_str())?;
+        push_item(text, " ", name.as_str())?;
+        push_item(text, " ", label.as_str())?;
     }
-    Ok(text)
+    Ok(())
 }
 
 fn write_edge(text: &mut String, edge: (i64, u64, u64)) -> Result<(), AllocError> {
@@ -294,12 +294,6 @@ fn write_edge(text: &mut String, edge: (i64, u64, u64)) -> Result<(), AllocError
     push_item(text, "edge ", weight)?;
     push_item(text, " ", first)?;
     push_item(text, " ", recent)
-}
-
-fn edge_text(alloc: Global, edge: (i64, u64, u64)) -> Result<String, AllocError> {
-    let mut text = String::new(alloc);
-    write_edge(&mut text, edge)?;
-    Ok(text)
 }
 
 fn refusal_text(refusal: AskError) -> &'static str {
@@ -311,18 +305,24 @@ fn refusal_text(refusal: AskError) -> &'static str {
     }
 }
 
+fn write_reply(text: &mut String, reply: &Result<Reply, AskError>) -> Result<(), AllocError> {
+    match reply {
+        Ok(Reply::OneEdge(Some(edge))) => write_edge(text, *edge),
+        Ok(Reply::OneEdge(None)) => text.push_str("edge none"),
+        Ok(Reply::Levels(rows)) => write_numbers(text, "bfs", rows.as_slice()),
+        Ok(Reply::Labels(rows)) => write_labels(text, rows.as_slice()),
+        Ok(Reply::Cores(rows)) => write_numbers(text, "core", rows.as_slice()),
+        Ok(Reply::Degrees(rows)) => write_degrees(text, rows.as_slice()),
+        Err(refusal) => text.push_str(refusal_text(*refusal)),
+    }
+}
+
 /// A reply, or the refusal that stands in its place.
 pub(super) fn reply_text(
     alloc: Global,
     reply: &Result<Reply, AskError>,
 ) -> Result<String, AllocError> {
-    match reply {
-        Ok(Reply::OneEdge(Some(edge))) => edge_text(alloc, *edge),
-        Ok(Reply::OneEdge(None)) => String::from_str(alloc, "edge none"),
-        Ok(Reply::Levels(rows)) => numbers_text(alloc, "bfs", rows.as_slice()),
-        Ok(Reply::Labels(rows)) => labels_text(alloc, rows.as_slice()),
-        Ok(Reply::Cores(rows)) => numbers_text(alloc, "core", rows.as_slice()),
-        Ok(Reply::Degrees(rows)) => table_text(alloc, rows.as_slice()),
-        Err(refusal) => String::from_str(alloc, refusal_text(*refusal)),
-    }
+    let mut text = String::new(alloc);
+    write_reply(&mut text, reply)?;
+    Ok(text)
 }

@@ -4,6 +4,7 @@ ghost use Rattle.std.specs.Prelude.{◌≡◌, ◌<◌, length};
 
 use super::lines::check_new;
 use super::parts::{LineError, event, push};
+use super::texts::push_item;
 use epoch_core::{Core, Event, run};
 use std::alloc::{AllocError, Global};
 use std::process::Abort;
@@ -140,23 +141,27 @@ core,0,*,0,100 => core a 1 b 1 c 1
 core,0,k,11,12 => core a 0 b 0 c 0";
 
 // Session 0 asks one of these of a version of two blocks, and has got as many replies before.
-fn push_asking(
-    alloc: Global,
-    text: &mut String,
-    row: &str,
-    earlier: usize,
-) -> Result<(), AllocError> {
+fn write_asking(text: &mut String, row: &str, earlier: usize) -> Result<(), AllocError> {
     let (request, reply) = row.split_once(" => ").unwrap_or((row, ""));
-    text.push_str(format!(in alloc; "ask 0 {request} => done\n")?.as_str())?;
-    text.push_str("read 0 => done\nreply 0 => skipped\nread 0 => done\nread 0 => skipped\n")?;
-    text.push_str(format!(in alloc; "reply 0 => done\nsaid 0 {earlier} => {reply}\n")?.as_str())
+    push_item(text, "ask 0 ", request)?;
+    text.push_str(
+        " => done\nread 0 => done\nreply 0 => skipped\nread 0 => done\nread 0 => skipped\n",
+    )?;
+    push_item(text, "reply 0 => done\nsaid 0 ", earlier)?;
+    push_item(text, " => ", reply)?;
+    text.push_str("\n")
+}
+
+fn write_rows(text: &mut String, rows: &str) -> Result<(), AllocError> {
+    for (earlier, row) in rows.lines().enumerate() {
+        write_asking(text, row, earlier)?;
+    }
+    Ok(())
 }
 
 fn asking(alloc: Global, rows: &str) -> Result<String, AllocError> {
     let mut text = String::new(alloc);
-    for (earlier, row) in rows.lines().enumerate() {
-        push_asking(alloc, &mut text, row, earlier)?;
-    }
+    write_rows(&mut text, rows)?;
     Ok(text)
 }
 

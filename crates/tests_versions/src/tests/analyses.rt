@@ -55,31 +55,17 @@ fn add_tables(alloc: Global, text: &mut String, version: &Version, asked: &Asked
     text.push(';').ok()?;
     add_labels(alloc, text, version, asked)?;
     text.push(';').ok()?;
-    add_cores(alloc, text, version, asked)
+    add_cores(alloc, text, version, asked)?;
+    text.push('|').ok()?;
+    add_degrees(alloc, text, version, asked)
 }
 
-/// The levels from the source, the labels and the core numbers of a version; nothing where memory is refused.
+/// The levels from the source, the labels and the core numbers of a version, and behind a bar the degrees out and in, with
+/// the sum of the weights out; nothing where memory is refused.
 fn tables(alloc: Global, version: &Version, asked: &Asked) -> Option<String> {
     let mut text = String::new(alloc);
     add_tables(alloc, &mut text, version, asked)?;
     Some(text)
-}
-
-/// The degrees out and in of a version, with the sum of the weights out; nothing where memory is refused.
-fn degrees_told(alloc: Global, version: &Version, asked: &Asked) -> Option<String> {
-    let mut text = String::new(alloc);
-    add_degrees(alloc, &mut text, version, asked)?;
-    Some(text)
-}
-
-fn are_tables(alloc: Global, version: &Version, asked: &Asked, wanted: &str) -> Option<bool> {
-    let told = tables(alloc, version, asked)?;
-    Some(told.as_str() == wanted)
-}
-
-fn are_degrees(alloc: Global, version: &Version, asked: &Asked, wanted: &str) -> Option<bool> {
-    let told = degrees_told(alloc, version, asked)?;
-    Some(told.as_str() == wanted)
 }
 
 /// Whether a version has these tables: levels, labels and core numbers, and degrees. Nothing where memory is refused.
@@ -87,10 +73,11 @@ pub(super) fn has_tables(
     alloc: Global,
     version: &Version,
     asked: &Asked,
-    tables: &str,
+    wanted: &str,
     degrees: &str,
 ) -> Option<bool> {
-    Some(are_tables(alloc, version, asked, tables)? && are_degrees(alloc, version, asked, degrees)?)
+    let told = tables(alloc, version, asked)?;
+    Some(told.as_str().split_once('|') == Some((wanted, degrees)))
 }
 
 // The same of a content, by the plain analyses.

@@ -4,24 +4,19 @@ ghost use Rattle.graph_model.specs.Graph.{IsContent};
 
 use super::ops::batch_of;
 use super::sames::check_same;
+use super::sizes::{Made, ops_of};
 use super::steps::{empty, first, plan_of};
-use super::texts::push_item;
 use batch_plan::PlanError;
 use graph_model::{Batch, Content};
 use graph_version::Version;
 use reference_graph::{PlainError, plain_apply};
-use std::alloc::{AllocError, Global};
+use std::alloc::Global;
 use std::process::Abort;
 use std::thread::Threads;
 
 // A removal of a kind that is unknown, and an edge of each of so many kinds.
-fn kinds(alloc: Global, count: u32) -> Result<String, AllocError> {
-    let mut text = String::from_str(alloc, "r,none,a,b ")?;
-    for number in 0..count {
-        text.push_str("i,k")?;
-        push_item(&mut text, number, ",a,b,1,1 ")?;
-    }
-    Ok(text)
+fn kinds(rt: &impl Abort, alloc: Global, count: u32) -> String {
+    ops_of(rt, alloc, "r,none,a,b ", Made::Kinds, count)
 }
 
 // The batch is refused for its kinds, by the plan as by the plain application, and nothing has changed.
@@ -79,13 +74,13 @@ fn check_refused_next<R: Threads + Sync + Abort>(
     requires { IsContent content.old }
     ensures { IsContent content.new }
 {
-    let ops = kinds(alloc, 64).expect(rt, "kinds");
+    let ops = kinds(rt, alloc, 64);
     let first = first(rt, alloc, 2, content, ops.as_str());
     check_full(rt, alloc, &first.version, content, many);
 }
 
 fn many(rt: &impl Abort, alloc: Global) -> Batch {
-    let ops = kinds(alloc, 66).expect(rt, "kinds");
+    let ops = kinds(rt, alloc, 66);
     batch_of(alloc, ops.as_str()).expect(rt, "a batch")
 }
 

@@ -30,21 +30,32 @@ fn applied_line<R: Threads + Sync + Abort>(
     }
 }
 
-// The numbers of batches, names, kinds and edges, and the weight of the edge from the first vertex to the second.
-fn told(version: &Version) -> (u64, usize, usize, u64, Option<i64>) {
-    (
-        version.number(),
-        version.names().len(),
-        version.kinds().len(),
-        version.edge_count(),
-        version
-            .edge(KindId(0), VertexId(0), VertexId(1))
-            .map(|edge| *edge.weight),
-    )
+// The weight of the edge from the first vertex to the second.
+fn weight(version: &Version) -> Option<i64> {
+    match version.edge(KindId(0), VertexId(0), VertexId(1)) {
+        Some(edge) => Some(*edge.weight),
+        None => None,
+    }
+}
+
+// The version has this number, so many names and kinds, two edges, and this weight.
+fn check_told(
+    rt: &impl Abort,
+    version: &Version,
+    number: u64,
+    names: usize,
+    kinds: usize,
+    wanted: i64,
+) {
+    assert_eq!(rt; version.number(), number);
+    assert_eq!(rt; version.names().len(), names);
+    assert_eq!(rt; version.kinds().len(), kinds);
+    assert_eq!(rt; version.edge_count(), 2);
+    assert_eq!(rt; weight(version), Some(wanted));
 }
 
 fn check_second(rt: &impl Abort, next: &Applied) {
-    assert_eq!(rt; told(&next.version), (2, 3, 2, 2, Some(3)));
+    check_told(rt, &next.version, 2, 3, 2, 3);
     assert_eq!(rt;
         next.outcomes.as_slice(),
         [Outcome::Updated, Outcome::Removed, Outcome::Inserted].as_slice()
@@ -69,7 +80,7 @@ fn first<R: Threads + Sync + Abort>(rt: &R, alloc: Global) -> Option<Applied> {
 
 // The version of the two edges is as it was.
 fn check_first(rt: &impl Abort, version: &Version) {
-    assert_eq!(rt; told(version), (1, 2, 1, 2, Some(1)));
+    check_told(rt, version, 1, 2, 1, 1);
 }
 
 fn check_apply<R: Threads + Sync + Abort + Print>(rt: &R, alloc: Global, version: &Version) {
@@ -91,7 +102,7 @@ fn refused_apply_leaves_the_version(rt: HostRuntime) {
 // A version 0 over copies of the version's blocks has its counts, or memory was refused; the version is as it was.
 fn check_rebased(rt: &(impl Abort + Print), alloc: Global, version: &Version) {
     match rebased(alloc, version) {
-        Some(zero) => assert_eq!(rt; told(&zero), (0, 2, 1, 2, Some(1))),
+        Some(zero) => check_told(rt, &zero, 0, 2, 1, 1),
         None => {
             let _ = println!(rt; "refused");
         }
@@ -135,6 +146,10 @@ fn answered(
     }
 }
 
+fn check_text(rt: &impl Abort, told: &str, wanted: &str) {
+    assert_eq!(rt; told, wanted);
+}
+
 // The version has this answer, or memory was refused.
 fn check_asked(
     rt: &(impl Abort + Print),
@@ -144,7 +159,7 @@ fn check_asked(
     wanted: &str,
 ) {
     match asked(rt, alloc, version, text) {
-        Some(told) => assert_eq!(rt; told.as_str(), wanted),
+        Some(told) => check_text(rt, told.as_str(), wanted),
         None => {
             let _ = println!(rt; "refused");
         }

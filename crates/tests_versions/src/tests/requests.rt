@@ -15,22 +15,20 @@ pub(super) fn request_of(alloc: Global, record: &str) -> Result<Request, FeedWor
     }
 }
 
-fn named_numbers(alloc: Global, rows: &[(Name, u32)]) -> Result<String, AllocError> {
-    let mut text = String::new(alloc);
+fn write_named_numbers(text: &mut String, rows: &[(Name, u32)]) -> Result<(), AllocError> {
     for row in rows {
-        push_item(&mut text, row.0.as_str(), " ")?;
-        push_item(&mut text, row.1, ",")?;
+        push_item(text, row.0.as_str(), " ")?;
+        push_item(text, row.1, ",")?;
     }
-    Ok(text)
+    Ok(())
 }
 
-fn named_names(alloc: Global, rows: &[(Name, Name)]) -> Result<String, AllocError> {
-    let mut text = String::new(alloc);
+fn write_named_names(text: &mut String, rows: &[(Name, Name)]) -> Result<(), AllocError> {
     for row in rows {
-        push_item(&mut text, row.0.as_str(), " ")?;
-        push_item(&mut text, row.1.as_str(), ",")?;
+        push_item(text, row.0.as_str(), " ")?;
+        push_item(text, row.1.as_str(), ",")?;
     }
-    Ok(text)
+    Ok(())
 }
 
 fn write_degree(text: &mut String, degree: &Degree) -> Result<(), AllocError> {
@@ -39,13 +37,12 @@ fn write_degree(text: &mut String, degree: &Degree) -> Result<(), AllocError> {
     push_item(text, degree.out_weight, ",")
 }
 
-fn named_degrees(alloc: Global, rows: &[(Name, Degree)]) -> Result<String, AllocError> {
-    let mut text = String::new(alloc);
+fn write_named_degrees(text: &mut String, rows: &[(Name, Degree)]) -> Result<(), AllocError> {
     for row in rows {
-        push_item(&mut text, row.0.as_str(), " ")?;
-        write_degree(&mut text, &row.1)?;
+        push_item(text, row.0.as_str(), " ")?;
+        write_degree(text, &row.1)?;
     }
-    Ok(text)
+    Ok(())
 }
 
 fn write_edge(text: &mut String, edge: &Option<(i64, u64, u64)>) -> Result<(), AllocError> {
@@ -59,21 +56,21 @@ fn write_edge(text: &mut String, edge: &Option<(i64, u64, u64)>) -> Result<(), A
     }
 }
 
-fn edge_text(alloc: Global, edge: &Option<(i64, u64, u64)>) -> Result<String, AllocError> {
-    let mut text = String::new(alloc);
-    write_edge(&mut text, edge)?;
-    Ok(text)
+fn write_reply(text: &mut String, reply: &Reply) -> Result<(), AllocError> {
+    match reply {
+        Reply::Levels(rows) => write_named_numbers(text, rows.as_slice()),
+        Reply::Labels(rows) => write_named_names(text, rows.as_slice()),
+        Reply::Cores(rows) => write_named_numbers(text, rows.as_slice()),
+        Reply::Degrees(rows) => write_named_degrees(text, rows.as_slice()),
+        Reply::OneEdge(edge) => write_edge(text, edge),
+    }
 }
 
 /// A reply's rows.
 pub(super) fn reply_text(alloc: Global, reply: &Reply) -> Result<String, AllocError> {
-    match reply {
-        Reply::Levels(rows) => named_numbers(alloc, rows.as_slice()),
-        Reply::Labels(rows) => named_names(alloc, rows.as_slice()),
-        Reply::Cores(rows) => named_numbers(alloc, rows.as_slice()),
-        Reply::Degrees(rows) => named_degrees(alloc, rows.as_slice()),
-        Reply::OneEdge(edge) => edge_text(alloc, edge),
-    }
+    let mut text = String::new(alloc);
+    write_reply(&mut text, reply)?;
+    Ok(text)
 }
 
 /// Levels; a vertex without one is `-`.
@@ -108,37 +105,19 @@ pub(super) fn write_degrees(text: &mut String, degrees: &[Degree]) -> Result<(),
     Ok(())
 }
 
-fn levels_text(alloc: Global, levels: &[Option<u32>]) -> Result<String, AllocError> {
-    let mut text = String::new(alloc);
-    write_levels(&mut text, levels)?;
-    Ok(text)
-}
-
-fn labels_text(alloc: Global, labels: &[VertexId]) -> Result<String, AllocError> {
-    let mut text = String::new(alloc);
-    write_labels(&mut text, labels)?;
-    Ok(text)
-}
-
-fn cores_text(alloc: Global, numbers: &[u32]) -> Result<String, AllocError> {
-    let mut text = String::new(alloc);
-    write_numbers(&mut text, numbers)?;
-    Ok(text)
-}
-
-fn degrees_text(alloc: Global, degrees: &[Degree]) -> Result<String, AllocError> {
-    let mut text = String::new(alloc);
-    write_degrees(&mut text, degrees)?;
-    Ok(text)
+fn write_numbered(text: &mut String, reply: &NumberedReply) -> Result<(), AllocError> {
+    match reply {
+        NumberedReply::Levels(levels) => write_levels(text, levels.as_slice()),
+        NumberedReply::Labels(labels) => write_labels(text, labels.as_slice()),
+        NumberedReply::Cores(numbers) => write_numbers(text, numbers.as_slice()),
+        NumberedReply::Degrees(degrees) => write_degrees(text, degrees.as_slice()),
+        NumberedReply::OneEdge(edge) => write_edge(text, edge),
+    }
 }
 
 /// The items of a reply in numbers; a vertex without a level is `-`.
 pub(super) fn numbered_text(alloc: Global, reply: &NumberedReply) -> Result<String, AllocError> {
-    match reply {
-        NumberedReply::Levels(levels) => levels_text(alloc, levels.as_slice()),
-        NumberedReply::Labels(labels) => labels_text(alloc, labels.as_slice()),
-        NumberedReply::Cores(numbers) => cores_text(alloc, numbers.as_slice()),
-        NumberedReply::Degrees(degrees) => degrees_text(alloc, degrees.as_slice()),
-        NumberedReply::OneEdge(edge) => edge_text(alloc, edge),
-    }
+    let mut text = String::new(alloc);
+    write_numbered(&mut text, reply)?;
+    Ok(text)
 }

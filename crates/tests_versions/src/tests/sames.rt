@@ -119,24 +119,34 @@ const EVERY: Filter = Filter {
 };
 
 // A block's kind and its targets, in slot order.
-fn block_text(alloc: Global, block: &Block) -> Result<String, AllocError> {
-    let mut text = String::from_str(alloc, " ")?;
-    push_item(&mut text, block.kind().0, ":")?;
+fn write_block(text: &mut String, block: &Block) -> Result<(), AllocError> {
+    text.push_str(" ")?;
+    push_item(text, block.kind().0, ":")?;
     for edge in block.select(&EVERY) {
-        push_item(&mut text, edge.target, ",")?;
+        push_item(text, edge.target, ",")?;
     }
-    Ok(text)
+    Ok(())
 }
 
 /// The blocks of a row, in row order.
+pub(super) fn write_row(
+    text: &mut String,
+    version: &Version,
+    source: VertexId,
+) -> Result<(), AllocError> {
+    for block in version.row_blocks(source) {
+        write_block(text, block)?;
+    }
+    Ok(())
+}
+
+/// The blocks of a row as a text of their own.
 pub(super) fn row_text(
     alloc: Global,
     version: &Version,
     source: VertexId,
 ) -> Result<String, AllocError> {
     let mut text = String::new(alloc);
-    for block in version.row_blocks(source) {
-        text.push_str(block_text(alloc, block)?.as_str())?;
-    }
+    write_row(&mut text, version, source)?;
     Ok(text)
 }

@@ -12,21 +12,71 @@ use std::alloc::{AllocError, Global};
 use std::process::Abort;
 use std::thread::Threads;
 
-// The edge from the vertex of a number to the next one.
-fn write_link(text: &mut String, number: u32) -> Result<(), AllocError> {
-    let target = number.saturating_add(1);
-    text.push_str("i,k,v")?;
-    push_item(text, number, ",v")?;
-    push_item(text, target, ",1,7 ")
+/// What a row of operations is made of.
+#[derive(Clone, Copy)]
+pub(super) enum Made {
+    /// Links from one vertex to the next one.
+    Links,
+    /// Links, and in every third's place the removal of the one before it.
+    LinksAndCuts,
+    /// Edges from vertex 0 to each of the others.
+    Star,
+    /// Edges of each kind.
+    Kinds,
 }
 
-// Links from these vertices.
-fn chain(alloc: Global, first: u32, end: u32) -> Result<String, AllocError> {
-    let mut text = String::new(alloc);
-    for number in first..end {
-        write_link(&mut text, number)?;
+// The edge from the vertex of a number to the next one.
+fn write_link(text: &mut String, number: u32) -> Result<(), AllocError> {
+    text.push_str("i,k,v")?;
+    push_item(text, number, ",v")?;
+    push_item(text, number.saturating_add(1), ",1,7 ")
+}
+
+// The removal of the link before that of a number.
+fn write_cut(text: &mut String, number: u32) -> Result<(), AllocError> {
+    text.push_str("r,k,v")?;
+    push_item(text, number.saturating_sub(1), ",v")?;
+    push_item(text, number, " ")
+}
+
+fn write_between(
+    text: &mut String,
+    before: &str,
+    number: u32,
+    after: &str,
+) -> Result<(), AllocError> {
+    text.push_str(before)?;
+    push_item(text, number, after)
+}
+
+fn write_op(text: &mut String, made: Made, number: u32) -> Result<(), AllocError> {
+    match made {
+        Made::Links => write_link(text, number),
+        Made::LinksAndCuts if number % 3 == 2 => write_cut(text, number),
+        Made::LinksAndCuts => write_link(text, number),
+        Made::Star => write_between(text, "i,k,a,v", number, ",1,7 "),
+        Made::Kinds => write_between(text, "i,k", number, ",a,b,1,1 "),
     }
-    Ok(text)
+}
+
+fn write_ops(text: &mut String, made: Made, count: u32) -> Result<(), AllocError> {
+    for number in 0..count {
+        write_op(text, made, number)?;
+    }
+    Ok(())
+}
+
+/// So many operations, behind a first text.
+pub(super) fn ops_of(
+    rt: &impl Abort,
+    alloc: Global,
+    begin: &str,
+    made: Made,
+    count: u32,
+) -> String {
+    let mut text = String::from_str(alloc, begin).expect(rt, "a text");
+    write_ops(&mut text, made, count).expect(rt, "operations");
+    text
 }
 
 /// The version after operations that take, drop and leave unused so many blocks.
@@ -83,11 +133,12 @@ fn check_left(rt: &impl Abort, alloc: Global, version: &Version, ops: &str) {
 }
 
 // One link more than so many; the first one has another weight, and the second one goes.
-fn stretch(alloc: Global, links: u32) -> Result<String, AllocError> {
+fn stretch(rt: &impl Abort, alloc: Global, links: u32) -> String {
     let mut text = String::new(alloc);
-    write_link(&mut text, links)?;
-    text.push_str("i,k,v0,v1,9,9 r,k,v1,v2")?;
-    Ok(text)
+    write_link(&mut text, links).expect(rt, "a link");
+    text.push_str("i,k,v0,v1,9,9 r,k,v1,v2")
+        .expect(rt, "operations");
+    text
 }
 
 // The chain of so many links is stretched, in a version that shares what it can.
@@ -103,7 +154,7 @@ fn check_stretched<R: Threads + Sync + Abort>(
     requires content { IsContent content.old }
     ensures { IsContent content.new }
 {
-    let ops = stretch(alloc, links).expect(rt, "a stretch");
+    let ops = stretch(rt, alloc, links);
     let second = grown(rt, alloc, workers, first, content, ops.as_str(), (2, 2, 1));
     assert_eq!(rt; second.names().len(), (links as usize).saturating_add(2));
 }
@@ -129,7 +180,7 @@ fn check_links<R: Threads + Sync + Abort>(
 fn check_chain<R: Threads + Sync + Abort>(rt: &R, alloc: Global, workers: usize, links: u32)
     requires { 0 < workers }
 {
-    let ops = chain(alloc, 0, links).expect(rt, "a chain");
+    let ops = ops_of(rt, alloc, "", Made::Links, links);
     check_links(rt, alloc, workers, ops.as_str(), links);
 }
 
@@ -139,16 +190,6 @@ fn shares_names_and_rows_at_the_ends_of_pieces(rt: HostRuntime) {
     for links in [62, 63, 64, 65, 253, 254, 255, 256] {
         check_chain(&rt, rt.alloc(), 2, links);
     }
-}
-
-/// One edge from vertex 0 to each of the others.
-pub(super) fn star(alloc: Global, targets: u32) -> Result<String, AllocError> {
-    let mut text = String::new(alloc);
-    for number in 0..targets {
-        text.push_str("i,k,a,v")?;
-        push_item(&mut text, number, ",1,7 ")?;
-    }
-    Ok(text)
 }
 
 // The first target's edge goes, and an edge to a new one comes.
@@ -175,7 +216,7 @@ fn check_exchange<R: Threads + Sync + Abort>(
 
 #[test]
 fn touches_the_first_block_with_room_alone(rt: HostRuntime) {
-    let ops = star(rt.alloc(), 33).expect(&rt, "a star");
+    let ops = ops_of(&rt, rt.alloc(), "", Made::Star, 33);
     let mut content = empty(rt.alloc());
     let first = first_grown(&rt, rt.alloc(), 4, &mut content, ops.as_str(), (2, 0, 31));
     check_exchange(&rt, rt.alloc(), &first, &mut content);
@@ -183,11 +224,12 @@ fn touches_the_first_block_with_room_alone(rt: HostRuntime) {
 
 // An edge is put, and the next time taken away.
 fn turn(alloc: Global, number: u64) -> Result<String, AllocError> {
-    if number % 2 == 0 {
-        format!(in alloc; "i,k,a,b,1,{number}")
-    } else {
-        String::from_str(alloc, "r,k,a,b")
+    if number % 2 == 1 {
+        return String::from_str(alloc, "r,k,a,b");
     }
+    let mut text = String::from_str(alloc, "i,k,a,b,1,")?;
+    push_item(&mut text, number, "")?;
+    Ok(text)
 }
 
 // Whether a batch is the turn of this number.
@@ -265,32 +307,11 @@ fn shares_batches_at_the_ends_of_pieces(rt: HostRuntime) {
     }
 }
 
-// The removal of the link before that of a number.
-fn write_cut(text: &mut String, number: u32) -> Result<(), AllocError> {
-    let source = number.saturating_sub(1);
-    text.push_str("r,k,v")?;
-    push_item(text, source, ",v")?;
-    push_item(text, number, " ")
-}
-
-// So many operations: links from one vertex after another, and in every third's place the removal of the one before it.
-fn links_and_cuts(alloc: Global, operations: u32) -> Result<String, AllocError> {
-    let mut text = String::new(alloc);
-    for number in 0..operations {
-        if number % 3 == 2 {
-            write_cut(&mut text, number)?;
-        } else {
-            write_link(&mut text, number)?;
-        }
-    }
-    Ok(text)
-}
-
 // A batch of so many operations, by so many workers.
 fn check_batch<R: Threads + Sync + Abort>(rt: &R, alloc: Global, workers: usize, operations: u32)
     requires { 0 < workers }
 {
-    let ops = links_and_cuts(alloc, operations).expect(rt, "operations");
+    let ops = ops_of(rt, alloc, "", Made::LinksAndCuts, operations);
     let mut content = empty(alloc);
     let first = first(rt, alloc, workers, &mut content, ops.as_str());
     assert_eq!(rt; first.outcomes.len(), operations as usize);

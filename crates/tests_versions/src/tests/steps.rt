@@ -7,7 +7,7 @@ ghost use Rattle.batch_plan.specs.Planned.{IsPlan, MeetsNeitherLimit};
 ghost use Rattle.graph_model.specs.Graph.{IsContent};
 
 use super::ops::batch_of;
-use super::sames::{check_same, row_text};
+use super::sames::{check_same, write_row};
 use super::texts::push_item;
 use batch_apply::{Applied, Gate, PassAll, apply};
 use batch_plan::{Plan, PlanError, old_rows, plan};
@@ -182,26 +182,29 @@ fn letter(outcome: Outcome) -> char {
 }
 
 /// The first letters of outcomes, in order, an expiry's with how many edges it took.
-pub(super) fn letters(alloc: Global, outcomes: &[Outcome]) -> Result<String, AllocError> {
-    let mut text = String::new(alloc);
+fn write_letters(text: &mut String, outcomes: &[Outcome]) -> Result<(), AllocError> {
     for outcome in outcomes {
         text.push(letter(*outcome))?;
         if let Outcome::Expired(count) = outcome {
-            text.push_str(format!(in alloc; "{count}")?.as_str())?;
+            push_item(text, *count, "")?;
         }
     }
-    Ok(text)
+    Ok(())
 }
 
-// What a batch's outcomes are, how many blocks it took, dropped and left unused, and source 0's row.
-fn told(alloc: Global, next: &Applied) -> Result<String, AllocError> {
-    let mut text = letters(alloc, &next.outcomes)?;
-    let (taken, dropped, unused) = (next.taken.len(), next.dropped.len(), next.unused.len());
+fn write_told(text: &mut String, next: &Applied) -> Result<(), AllocError> {
+    write_letters(text, &next.outcomes)?;
     text.push_str(" ")?;
-    push_item(&mut text, taken, " ")?;
-    push_item(&mut text, dropped, " ")?;
-    push_item(&mut text, unused, "")?;
-    text.push_str(row_text(alloc, &next.version, VertexId(0))?.as_str())?;
+    push_item(text, next.taken.len(), " ")?;
+    push_item(text, next.dropped.len(), " ")?;
+    push_item(text, next.unused.len(), "")?;
+    write_row(text, &next.version, VertexId(0))
+}
+
+/// What a batch's outcomes are, how many blocks it took, dropped and left unused, and source 0's row.
+pub(super) fn told(alloc: Global, next: &Applied) -> Result<String, AllocError> {
+    let mut text = String::new(alloc);
+    write_told(&mut text, next)?;
     Ok(text)
 }
 
