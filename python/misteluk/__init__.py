@@ -10,7 +10,7 @@
 
 Python's standard library is enough; pandas, networkx, matplotlib and tqdm are used where they are there.
 """
-from .answers import Answer, Collected, Commit, Degree, Edge, Stat
+from .answers import Answer, Collected, Commit, Degree, Edge, Rebased, Stat
 from .errors import *  # noqa: F401,F403
 from .errors import StoreError
 from .feeds import Columns, Feed, delimited, from_networkx, from_pandas, matrix_market, open_feed, snap

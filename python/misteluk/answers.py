@@ -49,6 +49,15 @@ class Stat(NamedTuple):
     used: int
 
 
+class Rebased(NamedTuple):
+    """What a store began anew with: its version's number, 0, its names and edges, and how many blocks these use."""
+
+    version: int
+    names: int
+    edges: int
+    used: int
+
+
 class Degree(NamedTuple):
     """How many edges go out of a vertex and how many come in, and the sum of the weights of those that go out."""
 

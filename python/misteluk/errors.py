@@ -114,7 +114,7 @@ class BatchFull(Refused):
 
 class BatchLimit(Refused):
     word = "BatchLimit"
-    advice = "A run takes at most 65,536 batches: make them larger, or begin a new run"
+    advice = "A store takes at most 65,536 batches: make them larger, or begin it anew from a session (Store.rebase)"
 
 
 class NamesFull(Refused):

@@ -23,7 +23,8 @@ STATE_REASONS = {
     "KindsFull": "the graph would have more than 64 kinds; the whole batch is given up",
     "PoolEmpty": "the batch asks for more blocks than are free; the whole batch is given up",
     "Read": "the input can't be read, or has its 1,000,000th record; the run ended here",
-    "Memory": "there was no memory for it; the run ended here"}
+    "Memory": "there was no memory for it; the run ended here",
+    "Start": "no store was opened for it; the run ended here"}
 
 # For which words the advice says more than the reason.
 ADVISED = ("BadSlot", "NotOpen", "AlreadyOpen", "BatchFull", "BatchLimit", "PoolEmpty")

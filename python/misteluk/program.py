@@ -238,6 +238,8 @@ class Conversation:
                                       "records take less")
         elif word == "Read":
             self._fault = ProgramEnded(f"the program could not read record {number} and ended")
+        elif word == "Start":
+            self._fault = ProgramEnded(f"the program could not open a store for record {number} and ended")
         elif awaited is not None and number == awaited.number:
             self.refusals += 1
             awaited.word = word

@@ -38,6 +38,7 @@ FORMATS: Dict[str, Tuple[str, ...]] = {
     "edge": ("slot", "kind", "source", "target"),
     "collect": (),
     "stat": (),
+    "rebase": ("slot",),
 }
 OPERATIONS = ("i", "a", "r", "x")
 NAME_FIELDS = ("kind", "kind or *", "source", "target")

@@ -7,7 +7,7 @@ from types import TracebackType
 from typing import TYPE_CHECKING, Any, Callable, Dict, Iterable, List, NamedTuple, Optional, Sequence, Tuple, Type, TypeVar
 
 from . import records
-from .answers import Answer, Collected, Commit, Degree, Edge, Stat, committed, numbers
+from .answers import Answer, Collected, Commit, Degree, Edge, Rebased, Stat, committed, numbers
 from .errors import (Misread, NoKind, NoSeat, NoVertex, OperationsRefused, Place, PoolEmpty, ProgramEnded, RecordLimit, Refused,
                      SessionClosed, StoreError, Uncommitted, refusal)
 from .program import Awaited, Conversation, Path, find_program, one_line
@@ -87,6 +87,7 @@ class Store:
         self._kinds: Dict[str, None] = {}
         self._flight: Optional[Flight] = None
         self._orphans: List[Tuple[int, Awaited]] = []
+        self._rebasing: Optional[Tuple[Session, Awaited]] = None
         self._closed = False
         try:
             self.stat()
@@ -253,6 +254,32 @@ class Store:
         """Frees each replaced block that no open session's version has."""
         return Collected(*numbers(self._ask(("collect",)).head or "", "collect", 3))
 
+    def rebase(self, session: "Session") -> Rebased:
+        """Begins the store anew with the graph of the version that the session holds, which is version 0 from then on.
+
+        What was applied before is let go, with its memory, and batches are counted anew. All sessions are closed, and what is
+        pending stays pending. The program has both stores while it works, and so needs room for twice the blocks. Records are
+        counted on. Where `NoAnswer` or an interrupt broke the call off, the same one waits for the answer and sends nothing.
+        """
+        with self._lock:
+            if self._rebasing is None or self._rebasing[0] is not session:
+                self._send_rebase(session)
+            assert self._rebasing
+            answer = self._talk.settle(self._rebasing[1])
+            self._rebasing = None
+            self._check(answer, ("rebase", str(session.slot)))
+            return Rebased(*numbers(answer.head or "", "rebase", 4))
+
+    def _send_rebase(self, session: "Session") -> None:
+        """Sends a rebase, which closes all sessions: none is asked behind it."""
+        if session.store is not self:
+            raise ValueError(f"{session!r} is another store's")
+        session._must_be_open()
+        self._let_orphans_go()
+        self._make_room(1)
+        self._forget_sessions()
+        self._rebasing = session, self._talk.ask(self._record(("rebase", str(session.slot))))
+
     def open(self, slot: Optional[int] = None) -> "Session":
         """A session that holds the last version, in the first free slot or in that one."""
         with self._lock:
@@ -336,9 +363,7 @@ class Store:
             if self._closed:
                 return []
             self._closed = True
-            for it in self._sessions.values():
-                it._is_open = False
-            self._sessions.clear()
+            self._forget_sessions()
             status, left = self._talk.end()
             flight = self._flight
             if flight and flight.from_pending and flight.done.head is not None:
@@ -346,6 +371,11 @@ class Store:
             if status != (1 if self._talk.refusals else 0) or left:
                 raise ProgramEnded(f"the program ended with status {status}" + "".join(f"; {it}" for it in left), status)
             return self._pending
+
+    def _forget_sessions(self) -> None:
+        for it in self._sessions.values():
+            it._is_open = False
+        self._sessions.clear()
 
     def __enter__(self) -> "Store":
         return self

@@ -59,6 +59,9 @@ class Programs(Case):
     def test_a_read_that_failed(self):
         self.fault(misteluk.ProgramEnded, "could not read record 2", SAID + "print('error 2 Read'); sys.exit(1)")
 
+    def test_a_store_that_is_not_opened(self):
+        self.fault(misteluk.ProgramEnded, "could not open a store for record 2", SAID + "print('error 2 Start'); sys.exit(1)")
+
     def test_lines_that_answer_nothing(self):
         self.fault(misteluk.Misread, "no answer to stat: 'hello'", SAID + "print('hello', flush=True)" + WAIT)
         self.fault(misteluk.Misread, "answers no record: 'error x y z'", SAID + "print('error x y z', flush=True)" + WAIT)
@@ -92,6 +95,24 @@ class Programs(Case):
         store._talk.process.send_signal(signal.SIGCONT)
         store._talk.timeout = 30
         self.assertEqual(store.stat().free, 16_384)
+        store.close()
+
+    def test_a_rebase_that_was_sent_is_waited_for(self):
+        """The stand-in answers the records of `open` at once, and the rebase once a file is there."""
+        gate = self.room / "gate"
+        lines = ("print('open 0 v=0\\nstat v=0 names=0 edges=0 free=16 retired=0 used=0', flush=True)",
+                 "sys.stdin.readline()",
+                 f"while not os.path.exists({str(gate)!r}): time.sleep(0.01)",
+                 "print('rebase v=0 names=0 edges=0 used=0', flush=True)", "sys.stdin.read()")
+        store = Store(program=self.stand_in("sys.stdin.readline(); sys.stdin.readline()\n" + "\n".join(lines)), timeout=0.3)
+        session = store.open()
+        self.assertRaises(misteluk.NoAnswer, store.rebase, session)
+        self.assertRaises(misteluk.SessionClosed, session.degrees)
+        gate.touch()
+        store._talk.timeout = 30
+        self.assertEqual(store.rebase(session), misteluk.Rebased(0, 0, 0, 0))
+        self.assertEqual(store.records_sent, 4)
+        self.assertRaises(misteluk.SessionClosed, store.rebase, session)
         store.close()
 
     def test_an_interrupt_at_a_terminal_leaves_the_graph(self):

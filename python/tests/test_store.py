@@ -7,7 +7,7 @@ from unittest import mock
 from support import Case
 
 import misteluk
-from misteluk import Commit, Degree, Edge, Stat, Store, records
+from misteluk import Commit, Degree, Edge, Rebased, Stat, Store, records
 
 FUNNEL = ("insert transfer ana funnel 980 1", "insert transfer ben funnel 950 1", "insert transfer cyd funnel 990 2",
           "insert transfer dan funnel 970 2", "insert transfer funnel offshore 3850 3")
@@ -146,6 +146,29 @@ class Stores(Case):
         self.assertEqual(store.stat().retired, 1)
         store.collect()
         self.assertEqual(store.stat().retired, 0)
+
+    def test_a_store_begins_anew(self):
+        store = self.store("insert knows ann bob 5 10", "insert knows bob cat 2 11", blocks=16)
+        held, beside = store.open(), store.open()
+        self.feed(store, "add knows ann bob 1 20")
+        store.add("knows", "ann", "bob", 1, 30)
+        self.assertEqual(store.rebase(held), Rebased(0, 3, 2, 2))
+        self.assertEqual((store.stat(), store.pending), (Stat(0, 3, 2, 14, 0, 2), 1))
+        for it in (held.degrees, beside.degrees, lambda: store.rebase(held)):
+            self.refused(misteluk.SessionClosed, "the session of version 1 is closed", it)
+        first = store.open()
+        self.assertEqual((first.version, first.names, first.edge("knows", "ann", "bob")), (0, 3, Edge(5, 10, 10)))
+        self.assertEqual(store.commit(), Commit(1, 0, 1, 0, 0, 0, 1))
+        second = store.open()
+        self.assertEqual((second.edge("knows", "ann", "bob"), store.stat().retired), (Edge(6, 10, 30), 1))
+        self.assertEqual(store.rebase(second), Rebased(0, 3, 2, 2))
+        self.assertEqual(store.stat(), Stat(0, 3, 2, 14, 0, 2))
+
+    def test_another_store_s_session(self):
+        store, other = self.store(), self.store()
+        session = other.open()
+        self.refused(ValueError, "is another store's", lambda: store.rebase(session))
+        self.assertEqual(session.degrees(), {})
 
     def refused(self, word: type, told: str, call) -> None:
         with self.assertRaises(word) as fault:
