@@ -272,12 +272,8 @@ fn tell_refused(rt: &impl Print) {
     let _ = println!(rt; "refused");
 }
 
-// Whether these are the lines of the first records of `FIRST`, so many, and then the error line of the next.
-fn is_cut(output: &[u8], given: usize, word: &str) -> bool {
-    is_cut_of(FIRST_TEXT, FIRST_ENDS.as_slice(), output, given, word)
-}
-
-// The same of a text, where so many bytes of it stand before each record and at the end.
+// The lines of a text before so many records are done, of which so many bytes stand before each record and at the end, and then
+// the error line with the word.
 fn is_cut_of(text: &str, ends: &[usize], output: &[u8], given: usize, word: &str) -> bool {
     let Some(end) = ends.get(given) else {
         return false;

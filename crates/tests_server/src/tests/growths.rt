@@ -2,15 +2,15 @@
 
 use super::arguments::{HELP, UNKNOWN};
 use super::{
-    FIRST, FIRST_ENDS, FIRST_TEXT, FakeWriter, TABLES, TABLES_ENDS, TABLES_TEXT, begins, is_cut,
-    is_cut_of, served, status_of, tell_refused,
+    FIRST, FIRST_ENDS, FIRST_TEXT, FakeWriter, TABLES, TABLES_ENDS, TABLES_TEXT, begins, is_cut_of,
+    served, status_of, tell_refused,
 };
 use stinger_server::ServeFault;
 
-// Whether a run of `FIRST` was ended by a refused growth.
-fn is_cut_by_memory(output: &[u8]) -> bool {
-    for given in 0..FIRST_ENDS.len() {
-        if is_cut(output, given, "Memory") {
+// Whether a run with this text, of which so many bytes stand before each record, was ended by a refused growth.
+fn is_cut_by_memory(text: &str, ends: &[usize], output: &[u8]) -> bool {
+    for given in 0..ends.len() {
+        if is_cut_of(text, ends, output, given, "Memory") {
             return true;
         }
     }
@@ -30,21 +30,10 @@ fn refused_growth_ends_a_run_at_its_record(rt: HostRuntime) {
         }
         Err(fault) => {
             assert_eq!(rt; fault, ServeFault::Memory);
-            assert!(rt; is_cut_by_memory(output.as_slice()));
+            assert!(rt; is_cut_by_memory(FIRST_TEXT, FIRST_ENDS.as_slice(), output.as_slice()));
             tell_refused(&rt);
         }
     }
-}
-
-// Whether a run of `TABLES` was ended by a refused growth.
-fn is_analysis_cut_by_memory(output: &[u8]) -> bool {
-    let ends = TABLES_ENDS.as_slice();
-    for given in 0..ends.len() {
-        if is_cut_of(TABLES_TEXT, ends, output, given, "Memory") {
-            return true;
-        }
-    }
-    false
 }
 
 #[test]
@@ -60,7 +49,55 @@ fn refused_growth_leaves_no_line_of_an_analysis(rt: HostRuntime) {
         }
         Err(fault) => {
             assert_eq!(rt; fault, ServeFault::Memory);
-            assert!(rt; is_analysis_cut_by_memory(output.as_slice()));
+            assert!(rt; is_cut_by_memory(TABLES_TEXT, TABLES_ENDS.as_slice(), output.as_slice()));
+            tell_refused(&rt);
+        }
+    }
+}
+
+// A store that begins anew, and what is printed.
+const REBASED: &str = "\
+i,k,a,b,5,10
+commit
+open,0
+rebase,0
+open,0
+edge,0,k,a,b
+";
+
+const REBASED_TEXT: &str = "\
+commit v=1 ins=1 upd=0 rem=0 abs=0 ovf=0
+open 0 v=1
+rebase v=0 names=2 edges=1 used=1
+open 0 v=0
+edge 0 5 10 10
+";
+
+// How many bytes of `REBASED_TEXT` stand before each record of `REBASED`, and at its end.
+const REBASED_ENDS: [usize; 7] = [0, 0, 41, 52, 86, 97, 112];
+
+// Whether a run of `REBASED` was ended so: at a record, where there was no memory; or before the first one or at the rebase, the
+// fourth, where no store was opened.
+fn is_rebase_cut(output: &[u8], fault: ServeFault) -> bool {
+    let ends = REBASED_ENDS.as_slice();
+    match fault {
+        ServeFault::Start => {
+            output.is_empty() || is_cut_of(REBASED_TEXT, ends, output, 3, "Start")
+        }
+        ServeFault::Memory => is_cut_by_memory(REBASED_TEXT, ends, output),
+        ServeFault::Read | ServeFault::Write => false,
+    }
+}
+
+#[test]
+fn refused_growth_of_a_rebase_leaves_the_lines_before(rt: HostRuntime) {
+    let Ok(mut output) = Vec::with_capacity(rt.alloc(), 1_024) else {
+        return tell_refused(&rt);
+    };
+    match served(&rt, REBASED, &mut output) {
+        Ok(_) => assert_eq!(rt; output.as_slice(), REBASED_TEXT.as_bytes()),
+        Err(fault) => {
+            assert!(rt; is_rebase_cut(output.as_slice(), fault));
             tell_refused(&rt);
         }
     }
@@ -97,7 +134,7 @@ fn is_told(output: &[u8], faults: &[u8]) -> bool {
     if output.is_empty() {
         faults.is_empty() || faults == UNOPENED
     } else {
-        faults.is_empty() && is_cut_by_memory(output)
+        faults.is_empty() && is_cut_by_memory(FIRST_TEXT, FIRST_ENDS.as_slice(), output)
     }
 }
 
