@@ -200,16 +200,23 @@ fn check_batch<R: Threads + Wait + Sync + Abort + Print>(
     check_desk(rt, alloc, desk, &applied.after, journal);
 }
 
+/// The journal's text; where memory was refused for it, once no more is refused.
+fn journal_again(rt: &(impl Abort + Print), alloc: Global, desk: &Desk) -> String {
+    if let Ok(text) = journal_text(alloc, desk) {
+        return text;
+    }
+    tell_refused(rt);
+    journal_text(alloc, desk).expect(rt, "a journal")
+}
+
 fn check_next<R: Threads + Wait + Sync + Abort + Print>(
     rt: &R,
     alloc: Global,
     desk: &mut Desk,
     applied: &Applied,
 ) {
-    match journal_text(alloc, desk) {
-        Ok(journal) => check_batch(rt, alloc, desk, journal.as_str(), applied),
-        Err(AllocError) => tell_refused(rt),
-    }
+    let journal = journal_again(rt, alloc, desk);
+    check_batch(rt, alloc, desk, journal.as_str(), applied);
 }
 
 fn check_all<R: Threads + Wait + Sync + Abort + Print>(rt: &R, alloc: Global, opened: Opened) {
