@@ -11,7 +11,8 @@ use Rattle.epoch_blocks.proofs.Lists.{all_listed}
 use Rattle.store_steps.specs.Journal.{Entry, Applied, Ledger, is_legal, after_entry, entered}
 use Rattle.store_steps.specs.Desks.{DeskView, IsDesk, IsAppliedTo, IsAccepted, desk_after}
 use Rattle.store_steps.specs.Steps.{Takes, posting}
-use Rattle.store_steps.proofs.Accepting.{Application, made_accepted, made_desk, moves_left}
+use Rattle.store_steps.proofs.Applications.{Application, moves_left}
+use Rattle.store_steps.proofs.Accepting.{made_accepted, made_desk}
 use Rattle.store_steps.proofs.Posting.{legal_batch, accepted_takes}
 
 -- an entry that isn't legal isn't entered

@@ -17,7 +17,7 @@ use Rattle.store_steps.specs.Desks.{DeskView, IsDesk, ledger_of}
 use Rattle.store_steps.specs.Dates.{IsDated, AreDated}
 use Rattle.store_steps.proofs.ChangedLists.{marked_at}
 use Rattle.store_steps.proofs.OneNumber.{number_after}
-use Rattle.store_steps.proofs.Accepting.{exchanged_at}
+use Rattle.store_steps.proofs.Applications.{exchanged_at}
 use Rattle.store_steps.proofs.Posting.{IsLegalBatch, legal_batch}
 
 -- One number

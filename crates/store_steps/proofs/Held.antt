@@ -88,7 +88,7 @@ snapshot d w copy n shows same holder =
     }
 
 pub held_is_snapshot : HeldIsSnapshot
-held_is_snapshot start events d b copy s n is_start r held =
+held_is_snapshot start events s seat n is_start r held =
     let w : World = world_by start.world events in
     let sound : IsSound w = always_sound start events is_start in
-    snapshot d w copy n r.desk r.copied_is (holder_of w (session_of w s) n (sound.sessions s) held)
+    snapshot s.desk w s.copy n r.desk r.copied_is (holder_of w (session_of w seat) n (sound.sessions seat) held)

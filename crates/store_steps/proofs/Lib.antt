@@ -4,6 +4,8 @@ pub mod Counting
 pub mod OneNumber
 pub mod BlockMoves
 pub mod Births
+pub mod Applications
+pub mod GrantedBlocks
 pub mod Accepting
 pub mod Filling
 pub mod OneStatus

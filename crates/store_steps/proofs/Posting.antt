@@ -39,7 +39,7 @@ use Rattle.store_steps.proofs.NumberLists.{same_bool, differ_from, number_in, nu
 use Rattle.store_steps.proofs.NumberLists.{picked_apart, picked_all}
 use Rattle.store_steps.proofs.ChangedLists.{marked_at, length-marked}
 use Rattle.store_steps.proofs.OneNumber.{number_after}
-use Rattle.store_steps.proofs.Accepting.{exchanged_at}
+use Rattle.store_steps.proofs.Applications.{exchanged_at}
 use Rattle.store_steps.proofs.OneStatus.{status_by, same_after, free_there, born_mark}
 use Rattle.store_steps.proofs.Filling.{filled_world, fills_done, step_then, AllAre, length-heap_with, heap_else, heap_here}
 use Rattle.store_steps.proofs.Filling.{edges_from}

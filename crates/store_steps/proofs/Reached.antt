@@ -22,14 +22,13 @@ use Rattle.epoch_core.proofs.Sizes.{size_run}
 use Rattle.epoch_core.proofs.Epochs.{pins_in_order}
 use Rattle.graph_version.specs.Versions.{empty_version}
 use Rattle.pin_copy.specs.declared.copies.PinCopy.{PinCopy}
-use Rattle.pin_copy.specs.Copies.{no_copy}
-use Rattle.seat_board.specs.Board.{BoardState, no_pins, pin_at, with_pin, unsettled, settled, copy_of}
+use Rattle.seat_board.specs.Board.{BoardState, pin_at, with_pin, unsettled, settled, copy_of}
 use Rattle.store_steps.specs.Desks.{DeskView}
 use Rattle.store_steps.specs.Shown.{Shows}
 use Rattle.store_steps.specs.Boards.{seat_pin, ShowsBoard, ShowsIfDone, raised_board}
 use Rattle.store_steps.specs.Histories.{IsUnseen}
 use Rattle.store_steps.specs.Steps.{IsTaken}
-use Rattle.store_steps.specs.Reached.{world_by, IsReached, IsReaders, StaysReached}
+use Rattle.store_steps.specs.Reached.{Store, opened_store, world_by, IsReached, Leads, IsReaders, StaysReached}
 use Rattle.store_steps.proofs.BoardSteps.{pins_as_machine, settles_as_machine, unpins_as_machine, raises_as_machine}
 use Rattle.store_steps.proofs.Histories.{done_is_run, readers_are_unseen}
 use Rattle.store_steps.specs.Opening.{opened_desk}
@@ -44,70 +43,67 @@ run_next : (es : List Event) (e : Event) (w after : World) → step (run es w) e
 run_next es e w after is = sym (run_more es (e ∷ []) w ∙ ap (λ o. unwrap_or o (run es w)) is)
 
 -- what the desk's steps leave is reached, and the board shows it as before
-taken_reached : (start : World) (old new : DeskView) (b : BoardState) (raised : PinCopy) (events more : List Event)
-    → IsReached start events old b raised
-    → IsTaken (world_by start events) more new → IsReached start (events ++ more) new b raised
-taken_reached start old new b raised events more r t =
+taken_reached : (start : World) (s : Store) (new : DeskView) (events more : List Event)
+    → IsTaken (world_by start events) more new → Leads start events s more (record s { desk = new })
+taken_reached start s new events more t r =
     let there : t.after ≡ world_by start (events ++ more) =
     sym (run_more events more start ∙ done_is_run more (world_by start events) t.after t.done)
     in
-    let board : ShowsBoard b t.after = record {
+    let board : ShowsBoard s.board t.after = record {
       floor = t.floor ∙ r.board.floor;
-      pins = λ s. ap (λ ps. seat_pin (get_or ps s Idle)) t.sessions ∙ r.board.pins s;
+      pins = λ seat. ap (λ ps. seat_pin (get_or ps seat Idle)) t.sessions ∙ r.board.pins seat;
     } in
     record {
       desk = subst (Shows new) there t.shown;
-      board = subst (ShowsBoard b) there board;
+      board = subst (ShowsBoard s.board) there board;
       copied_is = ap (λ w. w.copy) (sym there) ∙ t.copy ∙ r.copied_is;
     }
 
 -- a step of the board's that is done
-board_reached : (start : World) (d : DeskView) (b new : BoardState) (before copy : PinCopy) (events : List Event)
-    (event : Event) (after : World)
-    → IsReached start events d b before → step (world_by start events) event ≡ Some after
-    → ShowsIfDone (world_by start events) event new copy
-    → IsReached start (events ++ event ∷ []) d new copy
-board_reached start d b new before copy events event after r is shows =
+board_reached : (start : World) (s : Store) (new : BoardState) (copy : PinCopy) (events : List Event) (event : Event)
+    (after : World)
+    → step (world_by start events) event ≡ Some after → ShowsIfDone (world_by start events) event new copy
+    → Leads start events s (event ∷ []) (record { desk = s.desk; board = new; copy = copy })
+board_reached start s new copy events event after is shows r =
     let there : after ≡ world_by start (events ++ event ∷ []) =
     run_next events event start after is in
     let all = shows after is in
     record {
-      desk = subst (Shows d) there (all.1 d r.desk);
+      desk = subst (Shows s.desk) there (all.1 s.desk r.desk);
       board = subst (ShowsBoard new) there all.0;
       copied_is = ap (λ w. w.copy) (sym there) ∙ all.2;
     }
 
 -- one that keeps the copy
-board_kept : (start : World) (d : DeskView) (b new : BoardState) (copy : PinCopy) (events : List Event)
-    (event : Event) (after : World)
-    → IsReached start events d b copy → step (world_by start events) event ≡ Some after
+board_kept : (start : World) (s : Store) (new : BoardState) (events : List Event) (event : Event) (after : World)
+    → step (world_by start events) event ≡ Some after
     → ShowsIfDone (world_by start events) event new (world_by start events).copy
-    → IsReached start (events ++ event ∷ []) d new copy
-board_kept start d b new copy events event after r is shows =
-    subst (IsReached start (events ++ event ∷ []) d new) r.copied_is
-    (board_reached start d b new copy (world_by start events).copy events event after r is shows)
+    → Leads start events s (event ∷ []) (record s { board = new })
+board_kept start s new events event after is shows r =
+    subst (λ copy. IsReached start (events ++ event ∷ []) (record { desk = s.desk; board = new; copy = copy })) r.copied_is
+    (board_reached start s new (world_by start events).copy events event after is shows r)
 
 -- a reader's step, done or skipped
 reader_reached : (start : World) (event : Event) → IsUnseen event → IsReaders start event
-reader_reached start event hidden d b raised events r =
+reader_reached start event hidden s events r =
     elim (step (world_by start events) event) as (λ o. step (world_by start events) event ≡ o
-    → IsReached start (events ++ event ∷ []) d b raised) [
+    → IsReached start (events ++ event ∷ []) s) [
       | None ↦ λ is.
           (let there : world_by start events ≡ world_by start (events ++ event ∷ []) =
           sym (run_more events (event ∷ []) start
           ∙ ap (λ o. unwrap_or o (world_by start events)) is) in
           record {
-            desk = subst (Shows d) there r.desk;
-            board = subst (ShowsBoard b) there r.board;
+            desk = subst (Shows s.desk) there r.desk;
+            board = subst (ShowsBoard s.board) there r.board;
             copied_is = ap (λ w. w.copy) (sym there) ∙ r.copied_is;
           })
       | Some after ↦ λ is.
           (let there : after ≡ world_by start (events ++ event ∷ []) =
           run_next events event start after is in
-          let both = hidden d b (world_by start events) after is r.desk r.board in
+          let both = hidden s.desk s.board (world_by start events) after is r.desk r.board in
           record {
-            desk = subst (Shows d) there both.0;
-            board = subst (ShowsBoard b) there both.1;
+            desk = subst (Shows s.desk) there both.0;
+            board = subst (ShowsBoard s.board) there both.1;
             copied_is = ap (λ w. w.copy) (sym there) ∙ both.2 ∙ r.copied_is;
           })
     ] refl
@@ -133,14 +129,15 @@ idle_if (Pinned pin) is = cc
 idle_if (Holding hold) is = cc
 idle_if (Asking hold inquiry) is = cc
 
-pin_done : (start : World) (d : DeskView) (b : BoardState) (raised : PinCopy) (s : ℕ) (events : List Event)
-    → IsReached start events d b raised
-    → s < length start.sessions → pin_at b.pins s ≡ None → (after : World) × (step (world_by start events) (Pin s) ≡ Some after)
-pin_done start d b raised s events r low none =
+pin_done : (start : World) (s : Store) (seat : ℕ) (events : List Event) → IsReached start events s
+    → seat < length start.sessions → pin_at s.board.pins seat ≡ None
+    → (after : World) × (step (world_by start events) (Pin seat) ≡ Some after)
+pin_done start s seat events r low none =
     let w : World = world_by start events in
     let few : length w.sessions ≡ length start.sessions = (size_run events start).sessions in
-    let idle : session_of w s ≡ Idle = idle_if (session_of w s) (r.board.pins s ∙ none) in
-    move_done w s (to_pin w.floor) Idle (Pinned w.floor) (at_from_within w.sessions s Idle (omega arith) ∙ ap Some idle) refl
+    let idle : session_of w seat ≡ Idle = idle_if (session_of w seat) (r.board.pins seat ∙ none) in
+    move_done w seat (to_pin w.floor) Idle (Pinned w.floor) (at_from_within w.sessions seat Idle (omega arith) ∙ ap Some idle)
+    refl
 
 held_settles : (session : SessionState) (n : ℕ) → held_in session ≡ Some n
     → (next : SessionState) × (to_settle session ≡ Some next)
@@ -176,66 +173,64 @@ held_entered last (Asking hold inquiry) next is = cc
 pub same_count : (d : DeskView) (w : World) → Shows d w → last_number w ≡ length d.last.batches
 same_count d w shows = sym (length-map w.versions (λ v. v.batch)) ∙ ap length shows.batches
 
-entered_holds : (start : World) (d : DeskView) (b : BoardState) (raised : PinCopy) (s : ℕ) (events : List Event)
-    → IsReached start events d b raised
-    → is_done (world_by start events) (Enter s) ≡ true
-    → held_in (session_of (world_by start (events ++ Enter s ∷ [])) s) ≡ Some (length d.last.batches)
-entered_holds start d b raised s events r done =
+entered_holds : (start : World) (s : Store) (seat : ℕ) (events : List Event) → IsReached start events s
+    → is_done (world_by start events) (Enter seat) ≡ true
+    → held_in (session_of (world_by start (events ++ Enter seat ∷ [])) seat) ≡ Some (length s.desk.last.batches)
+entered_holds start s seat events r done =
     let w : World = world_by start events in
-    let there = some_step (step w (Enter s)) done in
-    let m : Moved w s (to_enter (last_number w)) there.0 = moved w s (to_enter (last_number w)) there.0 there.1 in
-    ap (λ v. held_in (session_of v s)) (sym (run_next events (Enter s) start there.0 there.1) ∙ m.result)
-    ∙ ap held_in (session_after w s m.session m.next m.found)
-    ∙ held_entered (last_number w) m.session m.next m.changed ∙ ap Some (same_count d w r.desk)
+    let there = some_step (step w (Enter seat)) done in
+    let m : Moved w seat (to_enter (last_number w)) there.0 = moved w seat (to_enter (last_number w)) there.0 there.1 in
+    ap (λ v. held_in (session_of v seat)) (sym (run_next events (Enter seat) start there.0 there.1) ∙ m.result)
+    ∙ ap held_in (session_after w seat m.session m.next m.found)
+    ∙ held_entered (last_number w) m.session m.next m.changed ∙ ap Some (same_count s.desk w r.desk)
 
--- a desk that shows a start is reached
+-- a store whose desk shows a start is reached
 start_reached : (start : State) → IsStart start → (d : DeskView) → Shows d start.world
-    → IsReached start.world [] d no_pins no_copy
+    → IsReached start.world [] (opened_store d)
 start_reached start is d shows = record {
   desk = shows;
-  board = record { floor = is.floor; pins = λ s. ap seat_pin (idle_at start s is) ∙ sym (no_pin 16 s) };
+  board = record { floor = is.floor; pins = λ seat. ap seat_pin (idle_at start seat is) ∙ sym (no_pin 16 seat) };
   copied_is = is.copy;
 }
 
 pub stays_reached : (start : State) → IsStart start → StaysReached start.world
 stays_reached start is_start = record {
   opening = start_reached start is_start;
-  applied = λ old new b raised events more r takes. taken_reached start.world old new b raised events more r
-      (takes (world_by start.world events) r.desk);
-  collected = λ old new b raised events more r takes.
-      taken_reached start.world old new b raised events more r (takes (world_by start.world events) r.desk r.copied_is).0;
-  raised = λ d b before events r is_board few_sessions.
+  applied = λ s next events more takes r.
+      taken_reached start.world s next events more (takes (world_by start.world events) r.desk) r;
+  collected = λ s next events more takes r.
+      taken_reached start.world s next events more (takes (world_by start.world events) r.desk r.copied_is).0 r;
+  raised = λ s events is_board few_sessions r.
       let w : World = world_by start.world events in
-      let count = same_count d w r.desk in
       let few : length w.sessions ≡ length start.world.sessions = (size_run events start.world).sessions in
-      subst (λ n. IsReached start.world (events ++ Floor ∷ []) d (raised_board n b) (copy_of n b.pins)) count
-      (board_reached start.world d b (raised_board (last_number w) b) before (copy_of (last_number w) b.pins) events Floor
-      (floored w) r refl
-      (raises_as_machine b w is_board (omega (arith, few, few_sessions)) r.board));
-  pinned = λ d b raised s events r board low few none.
-      let done = pin_done start.world d b raised s events r few none in
-      board_kept start.world d b (with_pin b s (Some (unsettled b.floor))) raised events (Pin s) done.0 r done.1
-      (pins_as_machine b (world_by start.world events) s board low r.board);
-  settled = λ d b raised s n events r board low held.
+      subst (λ n. IsReached start.world (events ++ Floor ∷ [])
+      (record { desk = s.desk; board = raised_board n s.board; copy = copy_of n s.board.pins })) (same_count s.desk w r.desk)
+      (board_reached start.world s (raised_board (last_number w) s.board) (copy_of (last_number w) s.board.pins) events Floor
+      (floored w) refl (raises_as_machine s.board w is_board (omega (arith, few, few_sessions)) r.board) r);
+  pinned = λ s seat events board low few none r.
+      let done = pin_done start.world s seat events r few none in
+      board_kept start.world s (with_pin s.board seat (Some (unsettled s.board.floor))) events (Pin seat) done.0 done.1
+      (pins_as_machine s.board (world_by start.world events) seat board low r.board) r;
+  settled = λ s seat n events board low held r.
       let w : World = world_by start.world events in
-      let done = settle_done w s n held in
+      let done = settle_done w seat n held in
       let order : PinsInOrder w = pins_in_order w (always_sound start events is_start) in
-      board_kept start.world d b (with_pin b s (option_map (settled n) (pin_at b.pins s))) raised events
-      (Settle s) done.0 r done.1
-      (settles_as_machine b w s n board low r.board held (λ pin is. order.pin_held s pin n is held));
-  unpinned = λ d b raised s events r board low done.
-      let there = some_step (step (world_by start.world events) (Release s)) done in
-      board_kept start.world d b (with_pin b s None) raised events (Release s) there.0 r there.1
-      (unpins_as_machine b (world_by start.world events) s board low r.board);
-  enter = λ s. reader_reached start.world (Enter s) (readers_are_unseen.enter s);
-  ask = λ s request. reader_reached start.world (Ask s request) (readers_are_unseen.ask s request);
-  read = λ s. reader_reached start.world (Read s) (readers_are_unseen.read s);
-  reply = λ s. reader_reached start.world (Reply s) (readers_are_unseen.reply s);
-  entered = λ d b raised s events r done. entered_holds start.world d b raised s events r done;
+      board_kept start.world s (with_pin s.board seat (option_map (settled n) (pin_at s.board.pins seat))) events (Settle seat)
+      done.0 done.1
+      (settles_as_machine s.board w seat n board low r.board held (λ pin is. order.pin_held seat pin n is held)) r;
+  unpinned = λ s seat events board low done r.
+      let there = some_step (step (world_by start.world events) (Release seat)) done in
+      board_kept start.world s (with_pin s.board seat None) events (Release seat) there.0 there.1
+      (unpins_as_machine s.board (world_by start.world events) seat board low r.board) r;
+  enter = λ seat. reader_reached start.world (Enter seat) (readers_are_unseen.enter seat);
+  ask = λ seat request. reader_reached start.world (Ask seat request) (readers_are_unseen.ask seat request);
+  read = λ seat. reader_reached start.world (Read seat) (readers_are_unseen.read seat);
+  reply = λ seat. reader_reached start.world (Reply seat) (readers_are_unseen.reply seat);
+  entered = entered_holds start.world;
 }
 
 pub blank_reached : (sessions blocks : ℕ)
-    → IsReached (start_world sessions blocks) [] (opened_desk blocks empty_version) no_pins no_copy
+    → IsReached (start_world sessions blocks) [] (opened_store (opened_desk blocks empty_version))
 blank_reached sessions blocks = record {
   desk = (opens_blank sessions blocks).shown;
   board = (opens_blank sessions blocks).board;

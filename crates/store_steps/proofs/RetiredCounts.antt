@@ -3,8 +3,8 @@ use Rattle.std.proofs.Common.{◌≡◌, ℕ, zero, suc, ◌+◌, ◌≤◌, Boo
 use Rattle.std.proofs.lemmas.List.{length-map}
 use Rattle.block_pool.specs.Pools.{Status, Free, Granted, Used, is_retired, retired, marked, changed}
 use Rattle.block_pool.proofs.Tallies.{count_more}
-use Rattle.store_steps.proofs.Accepting.{Application, next_desk, granted_pool, born_pool, dropped_numbers, number_in_desk, retired_pool}
-use Rattle.store_steps.proofs.Accepting.{moves_left}
+use Rattle.store_steps.proofs.Applications.{Application, next_desk, granted_pool, born_pool, dropped_numbers, number_in_desk}
+use Rattle.store_steps.proofs.Applications.{retired_pool, moves_left}
 
 set_count : (xs : List Status) (i : ℕ) (s : Status) → count_by is_retired (set xs i s) ≤ count_by is_retired xs + cond
     (is_retired s) 1 0

@@ -11,7 +11,7 @@ use Rattle.row_pages.specs.Rows.{row_of, blocks_of, numbers_of}
 use Rattle.graph_version.specs.Versions.{VersionView, IsVersion, content, layout_of, is_in}
 use Rattle.pin_copy.specs.declared.copies.PinCopy.{PinCopy}
 use Rattle.pin_copy.specs.Copies.{needs}
-use Rattle.block_pool.specs.Pools.{Status, Free, Granted, Used, Retired, AreFree, is_free, is_retired, is_born_at, is_past}
+use Rattle.block_pool.specs.Pools.{Status, Granted, Used, Retired, AreFree, is_free, is_retired, is_born_at, is_past}
 use Rattle.block_pool.specs.Pools.{recycled}
 use Rattle.batch_shards.specs.Births.{births_after, dropped_births, CarriesBirths}
 use Rattle.batch_shards.specs.Done.{Exchanges}
@@ -40,10 +40,9 @@ pub record IsDesk (d : DeskView) : Type 0 where
 
 -- the birth of a block of the last version
 abbrev pub birth_of : Status → ℕ
-birth_of Free = 0
-birth_of Granted = 0
 birth_of (Used birth) = birth
 birth_of (Retired birth since) = birth
+birth_of _ = 0
 
 abbrev pub birth_at : List Status → ℕ → ℕ
 birth_at pool number = birth_of (slice_index_or pool number Granted)
@@ -106,10 +105,8 @@ pub record IsAccepted (old : DeskView) (ops : List NamedOp) (taken dropped : Lis
 
 -- whether a block is retired, with a birth and a retirement that pass the test
 abbrev pub is_retired_by : (ℕ → ℕ → Bool) → Status → Bool
-is_retired_by q Free = false
-is_retired_by q Granted = false
-is_retired_by q (Used birth) = false
 is_retired_by q (Retired birth since) = q birth since
+is_retired_by q _ = false
 
 -- free falls by what the batch takes, and retired grows by what it drops, all of which the new version's number retires,
 -- each with its birth

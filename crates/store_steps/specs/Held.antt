@@ -7,9 +7,8 @@ use Rattle.epoch_blocks.specs.Blocks.{is_listed}
 use Rattle.epoch_core.specs.Worlds.{World, State, IsStart, session_of, held_in}
 use Rattle.epoch_blocks.specs.Versions.{Shows as ShowsGraph, blocks_at, edges_of}
 use Rattle.pin_copy.specs.declared.copies.PinCopy.{PinCopy}
-use Rattle.seat_board.specs.Board.{BoardState}
 use Rattle.store_steps.specs.Desks.{DeskView}
-use Rattle.store_steps.specs.Reached.{world_by, IsReached}
+use Rattle.store_steps.specs.Reached.{Store, world_by, IsReached}
 
 -- version n as the desk and the machine show it now: its blocks have, each once, the edges that the desk's first n
 -- batches leave; and none of its blocks is free, or freed by a collection by the copy made last
@@ -23,6 +22,6 @@ pub record IsSnapshot (d : DeskView) (copy : PinCopy) (w : World) (n : ℕ) : Ty
 -- whatever the start and the run: the version that a session holds is such a one
 abbrev pub HeldIsSnapshot : Type 0
 HeldIsSnapshot =
-    (start : State) (events : List Event) (d : DeskView) (b : BoardState) (copy : PinCopy) (s n : ℕ) → IsStart start
-    → IsReached start.world events d b copy → held_in (session_of (world_by start.world events) s) ≡ Some n
-    → IsSnapshot d copy (world_by start.world events) n
+    (start : State) (events : List Event) (s : Store) (seat n : ℕ) → IsStart start → IsReached start.world events s
+    → held_in (session_of (world_by start.world events) seat) ≡ Some n
+    → IsSnapshot s.desk s.copy (world_by start.world events) n

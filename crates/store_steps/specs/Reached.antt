@@ -1,5 +1,5 @@
--- The desk and the board beside a run of the machine from a start: each call adds the events that it is.
-use Rattle.std.specs.Prelude.{◌≡◌, ℕ, ◌<◌, ◌≤◌, List, [], ◌∷◌, ◌++◌, length, Some, None, option_map, IsTrue}
+-- A store beside a run of the machine from a start: each call adds the events that it is.
+use Rattle.std.specs.Prelude.{◌≡◌, ℕ, ◌<◌, ◌≤◌, List, [], ◌∷◌, ◌++◌, length, Option, Some, None, option_map, IsTrue}
 use Rattle.epoch_core.specs.declared.events.Event.{Event}
 use Rattle.epoch_core.specs.declared.events.Event.TheVariants.{Floor, Pin, Enter, Settle, Ask, Read, Reply, Release}
 use Rattle.epoch_core.specs.Worlds.{World, session_of, held_in}
@@ -8,6 +8,7 @@ use Rattle.graph_model.specs.declared.requests.Request.{Request}
 use Rattle.pin_copy.specs.declared.copies.PinCopy.{PinCopy}
 use Rattle.pin_copy.specs.Copies.{no_copy}
 use Rattle.seat_board.specs.Board.{BoardState, IsBoard, no_pins, pin_at, with_pin, unsettled, settled, copy_of}
+use Rattle.seat_board.specs.declared.board.Pin.{Pin as SeatPin}
 use Rattle.seat_board.specs.declared.board.TheConstants.{SEATS}
 use Rattle.store_steps.specs.Desks.{DeskView}
 use Rattle.store_steps.specs.Shown.{Shows}
@@ -18,55 +19,75 @@ use Rattle.store_steps.specs.Steps.{Takes, TakesAt}
 abbrev pub world_by : World → List Event → World
 world_by start events = run events start
 
--- the desk and the board together show what the events leave, and the copy made last is what collections go by
-pub record IsReached (start : World) (events : List Event) (d : DeskView) (b : BoardState) (copy : PinCopy) : Type 0 where
-  pub desk : Shows d (world_by start events)
-  pub board : ShowsBoard b (world_by start events)
-  pub copied_is : (world_by start events).copy ≡ copy
+-- what the machine sees of a store: its desk, its board, and the copy of the pins that was made last
+pub record Store : Type 0 where
+  pub desk : DeskView
+  pub board : BoardState
+  pub copy : PinCopy
 
--- an event of a reader's that neither desk nor board sees
+-- as it opens: no seat is pinned, and no pin was copied
+abbrev pub opened_store : DeskView → Store
+opened_store d = record { desk = d; board = no_pins; copy = no_copy }
+
+-- with this pin at the seat, or none
+abbrev pub with_seat : Store → ℕ → Option SeatPin → Store
+with_seat s seat pin = record s { board = with_pin s.board seat pin }
+
+-- with the floor raised, and the pins copied, beside the last version's number
+abbrev pub raised_store : Store → Store
+raised_store s = record {
+  desk = s.desk;
+  board = raised_board (length s.desk.last.batches) s.board;
+  copy = copy_of (length s.desk.last.batches) s.board.pins;
+}
+
+-- the store shows the world that these events leave, whose copy of the pins is the store's
+pub record IsReached (start : World) (events : List Event) (s : Store) : Type 0 where
+  pub desk : Shows s.desk (world_by start events)
+  pub board : ShowsBoard s.board (world_by start events)
+  pub copied_is : (world_by start events).copy ≡ s.copy
+
+-- a store that these events reach becomes one that is reached by the further ones too
+abbrev pub Leads : World → List Event → Store → List Event → Store → Type 0
+Leads start events old more new = IsReached start events old → IsReached start (events ++ more) new
+
+-- an event of a reader's, which changes nothing of a store
 abbrev pub IsReaders : World → Event → Type 0
-IsReaders start event =
-    (d : DeskView) (b : BoardState) (copy : PinCopy) (events : List Event) → IsReached start events d b copy
-    → IsReached start (events ++ event ∷ []) d b copy
+IsReaders start event = (s : Store) (events : List Event) → Leads start events s (event ∷ []) s
 
--- a desk that shows the start is reached by no events, and each call reaches what it leaves by its events
+-- a store whose desk shows the start is reached by no events, and each call leads to what it leaves by its events
 pub record StaysReached (start : World) : Type 0 where
-  pub opening : (d : DeskView) → Shows d start → IsReached start [] d no_pins no_copy
+  pub opening : (d : DeskView) → Shows d start → IsReached start [] (opened_store d)
   -- the desk's calls
   pub applied :
-      (old new : DeskView) (b : BoardState) (copy : PinCopy) (events more : List Event)
-      → IsReached start events old b copy
-      → Takes old more new → IsReached start (events ++ more) new b copy
+      (s : Store) (next : DeskView) (events more : List Event) → Takes s.desk more next
+      → Leads start events s more (record s { desk = next })
   pub collected :
-      (old new : DeskView) (b : BoardState) (copy : PinCopy) (events more : List Event)
-      → IsReached start events old b copy
-      → TakesAt copy old more new → IsReached start (events ++ more) new b copy
+      (s : Store) (next : DeskView) (events more : List Event) → TakesAt s.copy s.desk more next
+      → Leads start events s more (record s { desk = next })
   -- the board's calls
   pub raised :
-      (d : DeskView) (b : BoardState) (before : PinCopy) (events : List Event) → IsReached start events d b before
-      → IsBoard b → length start.sessions ≤ SEATS
-      → IsReached start (events ++ Floor ∷ []) d (raised_board (length d.last.batches) b)
-      (copy_of (length d.last.batches) b.pins)
+      (s : Store) (events : List Event) → IsBoard s.board → length start.sessions ≤ SEATS
+      → Leads start events s (Floor ∷ []) (raised_store s)
   pub pinned :
-      (d : DeskView) (b : BoardState) (copy : PinCopy) (s : ℕ) (events : List Event) → IsReached start events d b copy
-      → IsBoard b → s < SEATS → s < length start.sessions → pin_at b.pins s ≡ None
-      → IsReached start (events ++ Pin s ∷ []) d (with_pin b s (Some (unsettled b.floor))) copy
+      (s : Store) (seat : ℕ) (events : List Event) → IsBoard s.board → seat < SEATS → seat < length start.sessions
+      → pin_at s.board.pins seat ≡ None
+      → Leads start events s (Pin seat ∷ []) (with_seat s seat (Some (unsettled s.board.floor)))
   pub settled :
-      (d : DeskView) (b : BoardState) (copy : PinCopy) (s n : ℕ) (events : List Event) → IsReached start events d b copy
-      → IsBoard b → s < SEATS → held_in (session_of (world_by start events) s) ≡ Some n
-      → IsReached start (events ++ Settle s ∷ []) d (with_pin b s (option_map (settled n) (pin_at b.pins s))) copy
+      (s : Store) (seat n : ℕ) (events : List Event) → IsBoard s.board → seat < SEATS
+      → held_in (session_of (world_by start events) seat) ≡ Some n
+      → Leads start events s (Settle seat ∷ []) (with_seat s seat (option_map (settled n) (pin_at s.board.pins seat)))
   pub unpinned :
-      (d : DeskView) (b : BoardState) (copy : PinCopy) (s : ℕ) (events : List Event) → IsReached start events d b copy
-      → IsBoard b → s < SEATS → IsTrue (is_done (world_by start events) (Release s))
-      → IsReached start (events ++ Release s ∷ []) d (with_pin b s None) copy
+      (s : Store) (seat : ℕ) (events : List Event) → IsBoard s.board → seat < SEATS
+      → IsTrue (is_done (world_by start events) (Release seat))
+      → Leads start events s (Release seat ∷ []) (with_seat s seat None)
   -- the readers' calls
-  pub enter : (s : ℕ) → IsReaders start (Enter s)
-  pub ask : (s : ℕ) (request : Request) → IsReaders start (Ask s request)
-  pub read : (s : ℕ) → IsReaders start (Read s)
-  pub reply : (s : ℕ) → IsReaders start (Reply s)
+  pub enter : (seat : ℕ) → IsReaders start (Enter seat)
+  pub ask : (seat : ℕ) (request : Request) → IsReaders start (Ask seat request)
+  pub read : (seat : ℕ) → IsReaders start (Read seat)
+  pub reply : (seat : ℕ) → IsReaders start (Reply seat)
   -- a session that enters holds the desk's last version
   pub entered :
-      (d : DeskView) (b : BoardState) (copy : PinCopy) (s : ℕ) (events : List Event) → IsReached start events d b copy
-      → IsTrue (is_done (world_by start events) (Enter s))
-      → held_in (session_of (world_by start (events ++ Enter s ∷ [])) s) ≡ Some (length d.last.batches)
+      (s : Store) (seat : ℕ) (events : List Event) → IsReached start events s
+      → IsTrue (is_done (world_by start events) (Enter seat))
+      → held_in (session_of (world_by start (events ++ Enter seat ∷ [])) seat) ≡ Some (length s.desk.last.batches)

@@ -15,27 +15,15 @@ use Rattle.store_steps.specs.Desks.{DeskView, last_numbers}
 -- what the pool says of a block is what the machine says
 abbrev pub IsSame : PoolStatus → Status → Type 0
 IsSame PoolFree Free = Unit {0}
-IsSame PoolFree Fresh = ⊥
-IsSame PoolFree (Used birth) = ⊥
-IsSame PoolFree (Retired birth since) = ⊥
-IsSame PoolGranted Free = ⊥
 IsSame PoolGranted Fresh = Unit {0}
-IsSame PoolGranted (Used birth) = ⊥
-IsSame PoolGranted (Retired birth since) = ⊥
-IsSame (PoolUsed b) Free = ⊥
-IsSame (PoolUsed b) Fresh = ⊥
 IsSame (PoolUsed b) (Used birth) = birth ≡ b
-IsSame (PoolUsed b) (Retired birth since) = ⊥
-IsSame (PoolRetired b r) Free = ⊥
-IsSame (PoolRetired b r) Fresh = ⊥
-IsSame (PoolRetired b r) (Used birth) = ⊥
 IsSame (PoolRetired b r) (Retired birth since) = (birth ≡ b) × (since ≡ r)
+IsSame _ _ = ⊥
 
 abbrev pub SameStatus : Option PoolStatus → Option Status → Type 0
 SameStatus None None = Unit {0}
-SameStatus None (Some s) = ⊥
-SameStatus (Some p) None = ⊥
 SameStatus (Some p) (Some s) = IsSame p s
+SameStatus _ _ = ⊥
 
 -- the desk shows this world: its opening graph and the blocks of it, its batches, the list of its last version's blocks, the
 -- edges in these, and what each block number is

@@ -9,9 +9,7 @@ ghost use Rattle.edge_block.specs.Slots.{BlockView};
 ghost use Rattle.row_pages.specs.Rows.{numbers_of};
 ghost use Rattle.graph_version.specs.Versions.{VersionView, empty_version, is_in};
 ghost use Rattle.pin_copy.specs.declared.copies.PinCopy.{PinCopy};
-ghost use Rattle.pin_copy.specs.Copies.{no_copy};
 ghost use Rattle.epoch_core.specs.Worlds.{State, IsStart, start_world};
-ghost use Rattle.seat_board.specs.Board.{no_pins};
 ghost use Rattle.block_pool.specs.Pools.{Free, Granted, Used, retired, is_free_at, is_born_at, marked, changed};
 ghost use Rattle.store_steps.specs.Journal.{Entry, Applied, Ledger, entered, replay};
 ghost use Rattle.store_steps.specs.Desks.{DeskView, IsDesk, IsAppliedTo, IsAccepted, IsCollected, AcceptedCounts};
@@ -20,7 +18,7 @@ ghost use Rattle.store_steps.specs.Steps.{Takes, TakesAt, posting, recycling};
 ghost use Rattle.store_steps.specs.Boards.{PinsAsMachine, SettlesAsMachine, UnpinsAsMachine, RaisesAsMachine};
 ghost use Rattle.store_steps.specs.Histories.{DoneIsRun, ReadersAreUnseen};
 ghost use Rattle.store_steps.specs.Opening.{IsVersionZero, OpensAsMachine, OpensBlank, opened_desk};
-ghost use Rattle.store_steps.specs.Reached.{IsReached, StaysReached};
+ghost use Rattle.store_steps.specs.Reached.{IsReached, StaysReached, opened_store};
 ghost use Rattle.store_steps.specs.Held.{HeldIsSnapshot};
 ghost use Rattle.store_steps.specs.Dates.{AreDated};
 ghost use Rattle.store_steps.specs.Examples.{AreExamples};
@@ -118,7 +116,7 @@ pub fn law_histories()
 pub fn law_stays_reached()
     ensures reached { (start : State) → IsStart start → StaysReached start.world }
     ensures blank { (sessions blocks : ℕ)
-        → IsReached (start_world sessions blocks) [] (opened_desk blocks empty_version) no_pins no_copy }
+        → IsReached (start_world sessions blocks) [] (opened_store (opened_desk blocks empty_version)) }
 {}
 
 /// Held snapshots: where the desk and the board show what a run of the machine leaves, the blocks of the version that a

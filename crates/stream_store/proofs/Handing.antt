@@ -20,9 +20,10 @@ use Rattle.version_shelf.specs.Shelves.{ShelfView, IsNext}
 use Rattle.store_steps.specs.Journal as journal
 use Rattle.store_steps.specs.Desks.{DeskView, IsDesk, FollowsLayout}
 use Rattle.store_steps.specs.Steps.{Accepts}
-use Rattle.store_steps.proofs.Accepting.{Application, next_desk, born_pool, retired_pool, made_accepted, made_desk}
-use Rattle.store_steps.proofs.Accepting.{moves_left, taken_granted, taken_movable, dropped_movable, unused_movable}
-use Rattle.store_steps.proofs.Accepting.{granted_movable, given_back, born_movable, born_given_back, granted_unlisted}
+use Rattle.store_steps.proofs.Applications.{Application, next_desk, born_pool, retired_pool, moves_left}
+use Rattle.store_steps.proofs.Accepting.{made_accepted, made_desk}
+use Rattle.store_steps.proofs.GrantedBlocks.{taken_granted, taken_movable, dropped_movable, unused_movable}
+use Rattle.store_steps.proofs.GrantedBlocks.{granted_movable, given_back, born_movable, born_given_back, granted_unlisted}
 use Rattle.store_steps.proofs.BatchLaws.{accepted_steps}
 use Rattle.store_steps.proofs.RetiredCounts.{retired_room}
 use Rattle.batch_plan.specs.Planned.{MeetsNeitherLimit}

@@ -1,0 +1,159 @@
+-- A batch that was applied to a desk with granted blocks: how often it has a number, and what it leaves of the pool.
+use Rattle.std.proofs.Common.{◌≡◌, ℕ, zero, suc, ◌+◌, ◌≤◌, ◌==◌, true, List, length}
+use Rattle.std.proofs.Common.{count_by, sym, ap, ◌∙◌, arith}
+use Rattle.std.specs.Prelude.{slice_get, if◌then◌else◌}
+use Rattle.std.specs.Option.{option_map}
+use Rattle.graph_model.specs.declared.batches.NamedOp.{NamedOp}
+use Rattle.edge_block.specs.Slots.{BlockView}
+use Rattle.row_pages.specs.Rows.{blocks_of, numbers_of}
+use Rattle.graph_version.specs.Versions.{VersionView, is_in}
+use Rattle.block_pool.specs.Pools.{Status, Free, Granted, Used, retired, is_free_at}
+use Rattle.block_pool.specs.Pools.{is_born_at, marked, changed, AreFree}
+use Rattle.epoch_blocks.specs.Blocks.{all_differ}
+use Rattle.epoch_blocks.proofs.Lists.{all_listed}
+use Rattle.store_steps.specs.Journal.{Entry, Applied, exchanged}
+use Rattle.store_steps.specs.Desks.{DeskView, IsDesk, IsAppliedTo, desk_after, last_numbers}
+use Rattle.store_steps.proofs.NumberLists.{all_from, differ_from}
+use Rattle.store_steps.proofs.ChangedLists.{marked_at, changed_at, same_list}
+use Rattle.store_steps.proofs.Counting.{times, is_some_times, in_times, times_numbers, once_at_most, apart_if}
+use Rattle.store_steps.proofs.OneNumber.{marked_if, number_after, OneNumber, one_number}
+
+-- a batch that was applied to a desk
+pub record Application : Type 0 where
+  pub old : DeskView
+  pub ops : List NamedOp
+  pub numbers : List ℕ
+  pub version : VersionView
+  pub taken : List ℕ
+  pub dropped : List BlockView
+  pub unused : List ℕ
+  pub before : IsDesk old
+  pub applied : IsAppliedTo old ops numbers version taken dropped unused
+
+abbrev pub number_in_desk : Application → ℕ
+number_in_desk a = length a.old.last.batches + 1
+
+abbrev pub dropped_numbers : Application → List ℕ
+dropped_numbers a = numbers_of a.dropped
+
+abbrev pub next_desk : Application → DeskView
+next_desk a = desk_after a.old a.ops a.version a.taken a.dropped
+
+abbrev pub entry_in : Application → Entry
+entry_in a = Applied a.ops a.taken (dropped_numbers a)
+
+abbrev kept_times : Application → ℕ → ℕ
+kept_times a m = times m (numbers_of a.applied.exchanged.kept)
+
+abbrev dropped_times : Application → ℕ → ℕ
+dropped_times a m = times m (dropped_numbers a)
+
+-- Counts of one number
+
+before_times : (a : Application) (m : ℕ) → times m (last_numbers a.old) ≡ kept_times a m + dropped_times a m
+before_times a m =
+    times_numbers m (blocks_of a.old.last.rows) ∙ sym (a.applied.exchanged.before_are (λ b. b.number == m))
+    ∙ ap (λ n. n + count_by (λ (b : BlockView). b.number == m) a.dropped) (sym (times_numbers m a.applied.exchanged.kept))
+    ∙ ap (λ n. kept_times a m + n) (sym (times_numbers m a.dropped))
+
+pub after_times : (a : Application) (m : ℕ) → times m (numbers_of (blocks_of a.version.rows)) ≡ kept_times a m + times m a.taken
+after_times a m =
+    times_numbers m (blocks_of a.version.rows) ∙ sym (a.applied.exchanged.after_are (λ b. b.number == m))
+    ∙ ap (λ n. n + count_by (λ (b : BlockView). b.number == m) a.applied.exchanged.fresh)
+    (sym (times_numbers m a.applied.exchanged.kept))
+    ∙ ap (λ n. kept_times a m + n) (sym (times_numbers m a.applied.exchanged.fresh))
+    ∙ ap (λ ns. kept_times a m + times m ns) a.applied.exchanged.taken_are
+
+handed_times : (a : Application) (m : ℕ) → times m a.numbers ≡ times m a.taken + times m a.unused
+handed_times a m = sym (a.applied.handed (λ n. n == m))
+
+before_once : (a : Application) (m : ℕ) → kept_times a m + dropped_times a m ≤ 1
+before_once a m =
+    let once : times m (last_numbers a.old) ≤ 1 = once_at_most m (last_numbers a.old)
+    (differ_from (last_numbers a.old) a.before.version.rows.numbers) in
+    let same = before_times a m in omega arith
+
+pub handed_once : (a : Application) (m : ℕ) → times m a.taken + times m a.unused ≤ 1
+handed_once a m =
+    let once : times m a.numbers ≤ 1 = once_at_most m a.numbers (differ_from a.numbers a.applied.free.distinct) in
+    let same = handed_times a m in omega arith
+
+-- numbers that were granted are free
+pub granted_free : (pool : List Status) (numbers : List ℕ) (m : ℕ) → AreFree pool numbers → is_in m numbers ≡ true
+    → is_free_at pool m ≡ true
+granted_free pool numbers m free is = all_listed (is_free_at pool) numbers m (all_from (is_free_at pool) numbers free.free) is
+
+pub in_numbers : (a : Application) (m : ℕ) → is_in m a.numbers ≡ is_some_times (times m a.taken + times m a.unused)
+in_numbers a m = in_times m a.numbers ∙ ap is_some_times (handed_times a m)
+
+in_before : (a : Application) (m : ℕ) → is_born_at a.old.pool m ≡ is_some_times (kept_times a m + dropped_times a m)
+in_before a m = a.before.listed m ∙ in_times m (last_numbers a.old) ∙ ap is_some_times (before_times a m)
+
+pub one : (a : Application) (m : ℕ) → OneNumber (number_in_desk a) (slice_get a.old.pool m) (kept_times a m) (dropped_times a m)
+    (times m a.taken) (times m a.unused)
+one a m =
+    one_number (number_in_desk a) (slice_get a.old.pool m) (kept_times a m) (dropped_times a m) (times m a.taken)
+    (times m a.unused)
+    (before_once a m) (handed_once a m) (in_before a m) (λ is. granted_free a.old.pool a.numbers m a.applied.free
+    (in_numbers a m ∙ is))
+
+pub some_either : (a b : ℕ) → is_some_times b ≡ true → is_some_times (a + b) ≡ true
+some_either zero b e = let same : 0 + b ≡ b = omega arith in ap is_some_times same ∙ e
+some_either (suc a) b e = let more : suc a + b ≡ suc (a + b) = omega arith in ap is_some_times more
+
+pub dropped_differ : (a : Application) → all_differ (dropped_numbers a) ≡ true
+dropped_differ a = apart_if (dropped_numbers a) (λ m. let once = before_once a m in omega arith)
+
+pub dropped_born : (a : Application) (m : ℕ) → is_in m (dropped_numbers a) ≡ true → is_born_at a.old.pool m ≡ true
+dropped_born a m is = in_before a m ∙ some_either (kept_times a m) (dropped_times a m) (sym (in_times m (dropped_numbers a)) ∙ is)
+
+-- The pool, at one number
+
+pub exchanged_at : (number : ℕ) (taken dropped : List ℕ) (pool : List Status) (m : ℕ) → all_differ dropped ≡ true
+    → slice_get (exchanged number taken dropped pool) m ≡ number_after number (slice_get pool m) (is_in m taken) (is_in m dropped)
+exchanged_at number taken dropped pool m apart =
+    changed_at (retired number) dropped (marked taken (Used number) pool) m apart
+    ∙ ap (λ o. if is_in m dropped then option_map (retired number) o else o) (marked_at taken (Used number) pool m)
+
+pub next_at : (a : Application) (m : ℕ) → slice_get (next_desk a).pool m
+    ≡ number_after (number_in_desk a) (slice_get a.old.pool m) (is_some_times (times m a.taken))
+    (is_some_times (dropped_times a m))
+next_at a m =
+    exchanged_at (number_in_desk a) a.taken (dropped_numbers a) a.old.pool m (dropped_differ a)
+    ∙ ap (λ t. number_after (number_in_desk a) (slice_get a.old.pool m) t (is_in m (dropped_numbers a))) (in_times m a.taken)
+    ∙ ap (number_after (number_in_desk a) (slice_get a.old.pool m) (is_some_times (times m a.taken)))
+    (in_times m (dropped_numbers a))
+
+-- the pool after the grant, then after the taken blocks are born, and then after the dropped ones are retired
+abbrev pub granted_pool : Application → List Status
+granted_pool a = marked a.numbers Granted a.old.pool
+
+abbrev pub born_pool : Application → List Status
+born_pool a = marked a.taken (Used (number_in_desk a)) (granted_pool a)
+
+abbrev pub retired_pool : Application → List Status
+retired_pool a = changed (retired (number_in_desk a)) (dropped_numbers a) (born_pool a)
+
+retired_at : (a : Application) (m : ℕ)
+    → slice_get (retired_pool a) m ≡ number_after (number_in_desk a)
+    (marked_if Granted (is_some_times (times m a.taken + times m a.unused)) (slice_get a.old.pool m))
+    (is_some_times (times m a.taken)) (is_some_times (dropped_times a m))
+retired_at a m =
+    exchanged_at (number_in_desk a) a.taken (dropped_numbers a) (granted_pool a) m (dropped_differ a)
+    ∙ ap (λ o. number_after (number_in_desk a) o (is_in m a.taken) (is_in m (dropped_numbers a)))
+    (marked_at a.numbers Granted a.old.pool m
+    ∙ ap (λ t. marked_if Granted t (slice_get a.old.pool m)) (in_numbers a m))
+    ∙ ap (λ t. number_after (number_in_desk a)
+    (marked_if Granted (is_some_times (times m a.taken + times m a.unused)) (slice_get a.old.pool m)) t
+    (is_in m (dropped_numbers a))) (in_times m a.taken)
+    ∙ ap (number_after (number_in_desk a)
+    (marked_if Granted (is_some_times (times m a.taken + times m a.unused)) (slice_get a.old.pool m))
+    (is_some_times (times m a.taken))) (in_times m (dropped_numbers a))
+
+-- once the unused are given back, the pool is what the journal's entry says
+pub moves_left : (a : Application) → marked a.unused Free (retired_pool a) ≡ (next_desk a).pool
+moves_left a = same_list _ _ (λ m.
+    marked_at a.unused Free (retired_pool a) m
+    ∙ ap (λ t. marked_if Free t (slice_get (retired_pool a) m)) (in_times m a.unused)
+    ∙ ap (marked_if Free (is_some_times (times m a.unused))) (retired_at a m)
+    ∙ (one a m).moved ∙ sym (next_at a m))
