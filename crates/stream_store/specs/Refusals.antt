@@ -1,16 +1,17 @@
 -- When the desk refuses a batch.
 use Rattle.std.specs.Prelude.{◌≡◌, ℕ, ◌+◌, ◌<◌, ◌≤◌, nat_lt, if◌then◌else◌, List, length}
 use Rattle.graph_model.specs.Limits.{batch_limit}
-use Rattle.graph_model.specs.GraphLimits.{MeetsNameLimit, MeetsKindLimit}
 use Rattle.std.specs.List.{list_any}
+use Rattle.graph_model.specs.Graph.{Graph}
 use Rattle.graph_model.specs.Step.{is_expire}
 use Rattle.graph_model.specs.declared.batches.NamedOp.{NamedOp}
 use Rattle.row_pages.specs.Rows.{blocks_of, row_of}
 use Rattle.graph_version.specs.Versions.{VersionView, content}
 use Rattle.batch_plan.specs.OldRows.{AreOldRows, expiry_time}
-use Rattle.batch_plan.specs.Planned.{IsPlan, MeetsNeitherLimit}
+use Rattle.batch_plan.specs.Planned.{IsPlan, IsPlanRefusal, MeetsNeitherLimit}
 use Rattle.batch_plan.specs.declared.old.OldRow.{OldRow}
 use Rattle.batch_plan.specs.declared.plans.Plan.{Plan}
+use Rattle.batch_plan.specs.declared.plans.PlanError.TheVariants as plan
 use Rattle.stream_store.specs.declared.receipts.ApplyError.{ApplyError}
 use Rattle.stream_store.specs.declared.receipts.ApplyError.TheVariants.{BatchLimit, NamesFull, KindsFull, PoolEmpty, OutOfMemory}
 
@@ -23,16 +24,42 @@ asked ops blocks = length ops + (if list_any is_expire ops then blocks else 0)
 abbrev pub block_count : VersionView → ℕ
 block_count v = length (blocks_of v.rows)
 
--- the first refusal that holds of a batch after this version, with so many blocks free; want of memory may come at any place
+-- what a batch's refusal depends on: its operations, how many batches were accepted before it, the graph that these left, and how
+-- many blocks that has and how many are free
+pub record Attempt : Type 0 where
+  pub ops : List NamedOp
+  pub batches : ℕ
+  pub graph : Graph
+  pub used : ℕ
+  pub free : ℕ
+
+-- When a batch is refused, for the first of these that holds: behind so many batches; where it would leave more names or more
+-- kinds than the limits; where it asks for more blocks than are free. Want of memory may come at any place.
+abbrev pub BatchRefusal : Attempt → ApplyError → Type 0
+BatchRefusal a BatchLimit = batch_limit ≤ a.batches
+BatchRefusal a NamesFull = (a.batches < batch_limit) × IsPlanRefusal plan.NamesFull a.ops a.graph
+BatchRefusal a KindsFull = (a.batches < batch_limit) × IsPlanRefusal plan.KindsFull a.ops a.graph
+BatchRefusal a (PoolEmpty needed left) =
+    (a.batches < batch_limit) × MeetsNeitherLimit a.ops a.graph × (needed ≡ asked a.ops a.used) × (left ≡ a.free)
+    × (a.free < asked a.ops a.used)
+BatchRefusal a OutOfMemory = Unit {0}
+
+-- no refusal but want of memory holds
+pub record IsAdmissible (a : Attempt) : Type 0 where
+  pub few : a.batches < batch_limit
+  pub limits : MeetsNeitherLimit a.ops a.graph
+  pub blocks : asked a.ops a.used ≤ a.free
+
+-- a batch after this version, with so many blocks free
+abbrev pub attempt_on : VersionView → ℕ → List NamedOp → Attempt
+attempt_on v free ops =
+    record { ops = ops; batches = length v.batches; graph = content v; used = block_count v; free = free }
+
 abbrev pub Refuses : VersionView → ℕ → List NamedOp → ApplyError → Type 0
-Refuses v free ops BatchLimit = batch_limit ≤ length v.batches
-Refuses v free ops NamesFull = (length v.batches < batch_limit) × MeetsNameLimit ops (content v)
-Refuses v free ops KindsFull = (length v.batches < batch_limit) × (MeetsNameLimit ops (content v) → ⊥)
-    × MeetsKindLimit ops (content v)
-Refuses v free ops (PoolEmpty needed left) =
-    (length v.batches < batch_limit) × MeetsNeitherLimit ops (content v) × (needed ≡ asked ops (block_count v)) × (left ≡ free)
-    × (free < asked ops (block_count v))
-Refuses v free ops OutOfMemory = Unit {0}
+Refuses v free ops error = BatchRefusal (attempt_on v free ops) error
+
+abbrev pub IsWithin : VersionView → ℕ → List NamedOp → Type 0
+IsWithin v free ops = IsAdmissible (attempt_on v free ops)
 
 -- how many of these workers a batch is shared by: one with fewer than 2,048 operations, and rows from which its expiries may
 -- take edges, is one worker's
@@ -48,16 +75,8 @@ pub record IsAdmitted (v : VersionView) (workers : ℕ) (ops : List NamedOp) (pl
   pub some : 0 < workers_for workers (length ops + length old)
   pub planned : IsPlan (workers_for workers (length ops + length old)) ops (content v) (row_of v.rows) plan
 
--- no refusal but want of memory holds
-pub record IsWithin (v : VersionView) (free : ℕ) (ops : List NamedOp) : Type 0 where
-  pub few : length v.batches < batch_limit
-  pub limits : MeetsNeitherLimit ops (content v)
-  pub blocks : asked ops (block_count v) ≤ free
-
 -- why none were granted of so many blocks that were asked for, where so many are free
 abbrev pub RefusesGrant : ℕ → ℕ → ApplyError → Type 0
-RefusesGrant needed free BatchLimit = ⊥
-RefusesGrant needed free NamesFull = ⊥
-RefusesGrant needed free KindsFull = ⊥
 RefusesGrant needed free (PoolEmpty told left) = (told ≡ needed) × (left ≡ free) × (free < needed)
 RefusesGrant needed free OutOfMemory = Unit {0}
+RefusesGrant needed free _ = ⊥
