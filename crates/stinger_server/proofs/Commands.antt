@@ -7,7 +7,7 @@ use Rattle.feed_csv.specs.declared.command.Command.TheVariants.{CloseSlot, OpenS
 use Rattle.stream_store.specs.Seats.{SessionView, held_version}
 use Rattle.script_lines.specs.Lines.{close_line, open_line}
 use Rattle.stinger_server.specs.Slots.{held_by, held_of}
-use Rattle.stinger_server.specs.States.{Held, IsDone, State, version_in}
+use Rattle.stinger_server.specs.States.{Held, IsCommandResult, State, version_in}
 use Rattle.script_lines.specs.declared.words.Word.TheVariants.{AlreadyOpen, NotOpen}
 
 not_open : (held : Option (Option Held)) → version_in held ≡ Err NotOpen → held ≡ Some None
@@ -33,17 +33,3 @@ pub held_there : (sessions : List (Option SessionView)) (slot : ℕ) (session : 
     → slice_get (map held_by sessions) slot ≡ Some (Some (held_of (held_version session)))
 held_there sessions slot session there =
     slice_get-map held_by sessions slot ∙ ap (option_map held_by) there
-
-pub open_done : (s : State) (slot version : ℕ) (lines : List ℕ) → version_in (slice_get s.held slot) ≡ Err NotOpen
-    → version ≡ length s.batches → lines ≡ open_line slot version → IsDone (OpenSlot slot) s (Ok lines)
-open_done s slot version lines free same_version same_lines =
-    let held : slice_get s.held slot ≡ Some None =
-    not_open (slice_get s.held slot) free in rw (held, same_lines, same_version) refl
-
-pub open_twice : (s : State) (slot : ℕ) (version : Held) → slice_get s.held slot ≡ Some (Some version)
-    → IsDone (OpenSlot slot) s (Err AlreadyOpen)
-open_twice s slot version held = rw held refl
-
-pub close_done : (s : State) (slot : ℕ) (version : Held) (lines : List ℕ) → slice_get s.held slot ≡ Some (Some version)
-    → lines ≡ close_line slot → IsDone (CloseSlot slot) s (Ok lines)
-close_done s slot version lines held same_lines = rw (held, same_lines) refl

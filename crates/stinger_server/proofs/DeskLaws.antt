@@ -5,7 +5,6 @@ use Rattle.std.proofs.Common.{length, map, not}
 use Rattle.std.proofs.Common.{count_by, filter, replicate, refl, sym, ap, ◌∙◌, arith}
 use Rattle.std.specs.Prelude.{None, Some, Ok, Err, if◌then◌else◌}
 use Rattle.std.specs.FinMap.{len}
-use Rattle.std.proofs.lemmas.Bool.Decides.{nat_tests}
 use Rattle.std.proofs.lemmas.List.{length-append}
 use Rattle.batch_apply.proofs.Kept.{count_append}
 use Rattle.block_layout.specs.Batches.{layout_after, taken_by}
@@ -16,7 +15,6 @@ use Rattle.pin_copy.specs.Copies as copies
 use Rattle.pin_copy.specs.Copies.{needs}
 use Rattle.batch_shards.specs.Births.{births_after, dropped_births}
 use Rattle.feed_csv.specs.declared.command.Command.TheVariants.{Collect, Commit, Stat}
-use Rattle.graph_model.specs.Limits.{batch_limit, kind_limit, name_limit}
 use Rattle.graph_model.specs.Step.{after_all, left_by, outcomes}
 use Rattle.graph_model.specs.declared.batches.NamedOp.{NamedOp}
 use Rattle.graph_model.specs.declared.batches.Outcome.{Outcome}
@@ -27,17 +25,16 @@ use Rattle.store_steps.specs.Opening.{opened_desk}
 use Rattle.store_steps.specs.Steps.{Accepts}
 use Rattle.store_steps.proofs.StatusCounts.{accepted_counts, collected_counts}
 use Rattle.stream_store.specs.Configs.{ConfigView}
-use Rattle.stream_store.specs.Refusals.{IsWithin, Refuses, asked, block_count}
+use Rattle.stream_store.specs.Refusals.{Attempt, BatchRefusal, IsAdmissible, IsWithin, Refuses, attempt_on, block_count}
 use Rattle.stream_store.specs.declared.receipts.ApplyError.{ApplyError}
 use Rattle.stream_store.specs.declared.receipts.ApplyError.TheVariants as refused
 use Rattle.script_lines.specs.Lines.{collect_line, commit_line, stat_line}
 use Rattle.stinger_server.proofs.SlotLaws.{floor_is}
-use Rattle.stinger_server.specs.Servers.{ShowsDesk, batch_word}
-use Rattle.stinger_server.specs.States.{Dates, IsDone, State, after_collect, after_commit, beginning, commit_refusal, copy_of}
+use Rattle.stinger_server.specs.Servers.{ShowsDesk}
+use Rattle.stinger_server.specs.States.{Dates, IsCommandResult, State, after_collect, after_commit, attempt, batch_word, beginning, copy_of}
 use Rattle.stinger_server.specs.States.{dates, dropped}
 use Rattle.stinger_server.specs.States.{floor_of, held_numbers}
 use Rattle.stinger_server.specs.States.{last_version, left_by_pending, recycled, set_up, taken, used}
-use Rattle.script_lines.specs.declared.words.Word.TheVariants.{BatchLimit, KindsFull, NamesFull, PoolEmpty}
 
 -- Counts
 
@@ -107,11 +104,6 @@ all_used d s shows =
     let gone = all_retired d s shows in
     omega (arith, whole, gone, shows.free, shows.blocks)
 
--- what a batch asks for behind the desk's last version, whose blocks are the used ones, is what it asks for in the state
-asked_is : (d : DeskView) (s : State) (ops : List NamedOp) → ShowsDesk d s → ops ≡ s.pending
-    → count_by is_used d.pool ≡ block_count d.last → asked ops (block_count d.last) ≡ asked s.pending (used s)
-asked_is d s ops shows pending many = λ i. asked (pending i) ((sym many ∙ all_used d s shows) i)
-
 -- The opening
 
 pub none_counted : (p : Status → Bool) → p Free ≡ false → (n : ℕ) → count_by p (replicate n Free) ≡ 0
@@ -152,27 +144,16 @@ left_is : (d : DeskView) (s : State) (ops : List NamedOp) → ShowsDesk d s → 
     → after_all ops (content d.last) ≡ left_by_pending s
 left_is d s ops shows pending = λ i. after_all (pending i) (content_is d s shows i)
 
-refusal_none : (s : State) → length s.batches < batch_limit → length (left_by_pending s).names ≤ name_limit
-    → length (left_by_pending s).kinds ≤ kind_limit → asked s.pending (used s) ≤ s.free → commit_refusal s ≡ None
-refusal_none s batches names kinds blocks = grind (arith, nat_tests)
-
-refusal_batches : (s : State) → batch_limit ≤ length s.batches → commit_refusal s ≡ Some BatchLimit
-refusal_batches s batches = grind (arith, nat_tests)
-
-refusal_names : (s : State) → length s.batches < batch_limit → name_limit < length (left_by_pending s).names
-    → commit_refusal s ≡ Some NamesFull
-refusal_names s batches names = grind (arith, nat_tests)
-
-refusal_kinds : (s : State) → length s.batches < batch_limit → length (left_by_pending s).names ≤ name_limit
-    → kind_limit < length (left_by_pending s).kinds → commit_refusal s ≡ Some KindsFull
-refusal_kinds s batches names kinds = grind (arith, nat_tests)
-
-refusal_blocks : (s : State) → length s.batches < batch_limit → length (left_by_pending s).names ≤ name_limit
-    → length (left_by_pending s).kinds ≤ kind_limit → s.free < asked s.pending (used s) → commit_refusal s ≡ Some PoolEmpty
-refusal_blocks s batches names kinds blocks = grind (arith, nat_tests)
-
-not_above : (m n : ℕ) → (m < n → ⊥) → n ≤ m
-not_above m n not = omega (arith, not)
+-- the desk is asked what the state is: its last version's blocks are the used ones
+attempt_is : (d : DeskView) (s : State) (ops : List NamedOp) → ShowsDesk d s → ops ≡ s.pending
+    → count_by is_used d.pool ≡ block_count d.last → attempt_on d.last (count_by is_free d.pool) ops ≡ attempt s
+attempt_is d s ops shows pending many = λ i. record {
+  ops = pending i;
+  batches = length (shows.batches i);
+  graph = content_is d s shows i;
+  used = (sym many ∙ all_used d s shows) i;
+  free = shows.free i;
+}
 
 -- births with one retirement
 dated : (q : ℕ → ℕ → Bool) (births : List ℕ) (n : ℕ)
@@ -209,24 +190,14 @@ pub commit_done : (s : State) (d e : DeskView) (ops : List NamedOp) (number : �
     → ShowsDesk d s → ops ≡ s.pending → count_by is_used d.pool ≡ block_count d.last
     → IsWithin d.last (count_by is_free d.pool) ops → Accepts d ops e
     → number ≡ length e.last.batches → results ≡ outcomes ops (content d.last) → lines ≡ commit_line number results
-    → IsDone Commit s (Ok lines)
+    → IsCommandResult Commit s (Ok lines)
 commit_done s d e ops number results lines shows pending many within accepts number_is results_are lines_are =
-    let left : after_all ops (content d.last) ≡ left_by_pending s = left_is d s ops shows pending in
-    let names : length (left_by_pending s).names ≤ name_limit =
-    rw left at (not_above name_limit (length (after_all ops (content d.last)).names) within.limits.0) in
-    let kinds : length (left_by_pending s).kinds ≤ kind_limit =
-    rw left at (not_above kind_limit (length (after_all ops (content d.last)).kinds) within.limits.1) in
-    let few : length s.batches < batch_limit = rw shows.batches at within.few in
-    let blocks : asked s.pending (used s) ≤ s.free =
-    subst (λ n. n ≤ s.free) (asked_is d s ops shows pending many)
-    (subst (λ n. asked ops (block_count d.last) ≤ n) shows.free within.blocks) in
-    let none : commit_refusal s ≡ None = refusal_none s few names kinds blocks in
     let count : number ≡ length s.batches + 1 =
     number_is ∙ (ap length (batches_after d e ops accepts) ∙ (length-append d.last.batches (ops ∷ [])
     ∙ ap (λ b. length b + 1) shows.batches)) in
     let outcomes_are : results ≡ outcomes s.pending (last_version s) =
     results_are ∙ (λ i. outcomes (pending i) (content_is d s shows i)) in
-    rw (none, lines_are, count, outcomes_are) refl
+    (subst IsAdmissible (attempt_is d s ops shows pending many) within, rw (lines_are, count, outcomes_are) refl)
 
 pub shows_committed : (s : State) (d e : DeskView) (ops : List NamedOp) → ShowsDesk d s → ops ≡ s.pending → Accepts d ops e
     → ShowsDesk e (after_commit s)
@@ -255,30 +226,11 @@ shows_committed s d e ops shows pending accepts =
           ∙ sym (dated_counts q s.retired (dropped s) (length s.batches + 1))));
     }
 
-refused_numbers : (s : State) (d : DeskView) (ops : List NamedOp) (error : ApplyError) → ShowsDesk d s → ops ≡ s.pending
-    → count_by is_used d.pool ≡ block_count d.last → error ≢ refused.OutOfMemory
-    → Refuses d.last (count_by is_free d.pool) ops error → commit_refusal s ≡ Some (batch_word error)
-refused_numbers s d ops refused.BatchLimit shows pending many known is = refusal_batches s (rw shows.batches at is)
-refused_numbers s d ops refused.NamesFull shows pending many known is =
-    refusal_names s (rw shows.batches at is.0) (rw (left_is d s ops shows pending) at is.1)
-refused_numbers s d ops refused.KindsFull shows pending many known is =
-    let left = left_is d s ops shows pending in
-    refusal_kinds s (rw shows.batches at is.0)
-    (rw left at (not_above name_limit (length (after_all ops (content d.last)).names) is.1)) (rw left at is.2)
-refused_numbers s d ops (refused.PoolEmpty needed free) shows pending many known is =
-    let left = left_is d s ops shows pending in
-    refusal_blocks s (rw shows.batches at is.0)
-    (rw left at (not_above name_limit (length (after_all ops (content d.last)).names) is.1.0))
-    (rw left at (not_above kind_limit (length (after_all ops (content d.last)).kinds) is.1.1))
-    (subst (λ n. s.free < n) (asked_is d s ops shows pending many)
-    (subst (λ n. n < asked ops (block_count d.last)) shows.free is.4))
-refused_numbers s d ops refused.OutOfMemory shows pending many known is = absurd (known refl)
-
 pub commit_refused : (s : State) (d : DeskView) (ops : List NamedOp) (error : ApplyError) → ShowsDesk d s → ops ≡ s.pending
     → count_by is_used d.pool ≡ block_count d.last → error ≢ refused.OutOfMemory
-    → Refuses d.last (count_by is_free d.pool) ops error → IsDone Commit s (Err (batch_word error))
+    → Refuses d.last (count_by is_free d.pool) ops error → IsCommandResult Commit s (Err (batch_word error))
 commit_refused s d ops error shows pending many known is =
-    rw (refused_numbers s d ops error shows pending many known is) refl
+    (error, subst (λ (a : Attempt). BatchRefusal a error) (attempt_is d s ops shows pending many) is, known, refl)
 
 -- a refused batch is given up, and nothing else changes
 pub shows_given_up : (s : State) (d : DeskView) → ShowsDesk d s → ShowsDesk d (record s { pending = [] })
@@ -321,7 +273,7 @@ shows_collected s d e copy shows collected births same =
 pub collect_done : (s : State) (d e : DeskView) (copy : PinCopy) (floor count left : ℕ) (lines : List ℕ) → ShowsDesk d s
     → IsCollected d copy e → ((source : ℕ) → births_in e source ≡ births_in d source) → copy ≡ copy_of s → floor ≡ copies.floor_of copy
     → count ≡ count_by (is_past copy) d.pool → left ≡ count_by is_retired e.pool
-    → lines ≡ collect_line floor count left → IsDone Collect s (Ok lines)
+    → lines ≡ collect_line floor count left → IsCommandResult Collect s (Ok lines)
 collect_done s d e copy floor count left lines shows collected births same floor_are count_is left_is lines_are =
     let low : floor ≡ floor_of s = floor_are ∙ (ap copies.floor_of same ∙ floor_is (length s.batches) (held_numbers s.held)) in
     let gone : count ≡ recycled s = count_is ∙ past_is s d copy shows same in
@@ -334,7 +286,7 @@ collect_done s d e copy floor count left lines shows collected births same floor
 pub stat_done : (s : State) (d : DeskView) (number names edges free retired many : ℕ) (lines : List ℕ) → ShowsDesk d s
     → number ≡ length d.last.batches → names ≡ length (content d.last).names → edges ≡ edge_total d.last
     → free ≡ count_by is_free d.pool → retired ≡ count_by is_retired d.pool → many ≡ count_by is_used d.pool
-    → lines ≡ stat_line number names edges free retired many → IsDone Stat s (Ok lines)
+    → lines ≡ stat_line number names edges free retired many → IsCommandResult Stat s (Ok lines)
 stat_done s d number names edges free retired many lines shows number_is names_are edges_are free_are retired_are used_are
     lines_are =
     let same = content_is d s shows in

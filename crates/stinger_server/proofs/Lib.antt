@@ -13,5 +13,6 @@ pub mod HeldBlocks
 pub mod Rebasing
 pub mod OneRecord
 pub mod RunSoFar
+pub mod RunTexts
 pub mod RunEnd
 pub mod OneText

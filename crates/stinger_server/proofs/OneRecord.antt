@@ -12,7 +12,7 @@ use Rattle.stinger_server.specs.declared.server.Response.{Response}
 use Rattle.stinger_server.specs.declared.server.Response.TheVariants.{Lines, Refused}
 use Rattle.script_lines.specs.declared.words.Word.TheVariants.{Feed, Start}
 use Rattle.script_lines.specs.Lines.{error_line}
-use Rattle.stinger_server.specs.Runs.{BreaksOff, CountsRecord, Done, refusals}
+use Rattle.stinger_server.specs.Runs.{FailsToWrite, CountsRecord, CompletesRecord, refusals}
 use Rattle.stinger_server.specs.Servers.{IsServer, Obeys, result_of}
 use Rattle.stinger_server.specs.States.{IsRebase, error_count, printed}
 use Rattle.stinger_server.specs.Writes.{AppendsPart}
@@ -43,7 +43,7 @@ pub obeyed : (command : Command) (response : Response) (old mid new : Run) (befo
     → mid.records ≡ old.records → mid.errors ≡ old.errors
     → Appends before after (printed (mid.records + 1) (result_of response (string_bytes mid.lines)))
     → CountsRecord mid response new
-    → Done (Ok command) old before new after
+    → CompletesRecord (Ok command) old before new after
 obeyed command response old mid new before after obeys server records errors written counted =
     let few : refusals response ≤ 1 = refusals-few response in
     let same : new.server ≡ mid.server = counted.server in
@@ -71,7 +71,7 @@ pub refused : (row_item : Result Command FeedWord) (word : FeedWord) (old new : 
     → row_item ≡ Err word → IsServer old.server
     → Appends before after (printed (old.records + 1) (result_of (Refused (Feed word)) (string_bytes old.lines)))
     → CountsRecord old (Refused (Feed word)) new
-    → Done row_item old before new after
+    → CompletesRecord row_item old before new after
 refused row_item word old new before after is server written counted =
     let same : new.server ≡ old.server = counted.server in
     record {
@@ -94,7 +94,7 @@ refused row_item word old new before after is server written counted =
 pub breaks_obeyed : (command : Command) (response : Response) (old mid : Run) (before after : Option (List ℕ))
     → Obeys command old.server response (string_bytes mid.lines) mid.server → mid.records ≡ old.records
     → AppendsPart before after (printed (mid.records + 1) (result_of response (string_bytes mid.lines)))
-    → BreaksOff (Ok command) old before after
+    → FailsToWrite (Ok command) old before after
 breaks_obeyed command response old mid before after obeys records part = λ here shows.
     let number : mid.records ≡ here.records = records ∙ shows.records in
     inl (result_of response (string_bytes mid.lines), (obeys here.state shows.server).0, rw (← number) part)
@@ -102,14 +102,10 @@ breaks_obeyed command response old mid before after obeys records part = λ here
 pub breaks_refused : (row_item : Result Command FeedWord) (word : FeedWord) (old : Run) (before after : Option (List ℕ))
     → row_item ≡ Err word
     → AppendsPart before after (printed (old.records + 1) (result_of (Refused (Feed word)) (string_bytes old.lines)))
-    → BreaksOff row_item old before after
+    → FailsToWrite row_item old before after
 breaks_refused row_item word old before after is part = λ here shows.
     inl (Err (Feed word), rw is refl, rw (← shows.records) part)
 
-pub breaks_memory : (row_item : Result Command FeedWord) (old : Run) (before after : Option (List ℕ))
-    → AppendsPart before after (error_line (old.records + 1) (Feed Memory)) → BreaksOff row_item old before after
-breaks_memory row_item old before after part = λ here shows. inr (inl (rw (← shows.records) part))
-
 pub breaks_start : (row_item : Result Command FeedWord) (old : Run) (before after : Option (List ℕ)) → IsRebase row_item
-    → AppendsPart before after (error_line (old.records + 1) Start) → BreaksOff row_item old before after
+    → AppendsPart before after (error_line (old.records + 1) Start) → FailsToWrite row_item old before after
 breaks_start row_item old before after is part = λ here shows. inr (inr (is, rw (← shows.records) part))

@@ -26,7 +26,7 @@ use Rattle.stinger_server.proofs.DeskLaws.{length-replicate, none_counted, parts
 use Rattle.stinger_server.proofs.HeldBlocks.{blocks_counted}
 use Rattle.stinger_server.specs.Servers.{ShowsDesk}
 use Rattle.stinger_server.specs.Slots.{held_of}
-use Rattle.stinger_server.specs.States.{IsDone, State, after_rebase, version, version_in}
+use Rattle.stinger_server.specs.States.{IsCommandResult, State, after_rebase, version, version_in}
 use Rattle.stinger_server.specs.States.{blocks_of as held_blocks}
 
 -- The pool
@@ -128,7 +128,7 @@ pub rebase_done : (s : State) (v : VersionView) (d : DeskView) (slot number name
     → version_in (slice_get s.held slot) ≡ Ok (held_of v) → IsRebased v d.last → IsDesk d
     → count_by is_used d.pool ≡ block_count d.last → content v ≡ version (length v.batches) s
     → number ≡ length d.last.batches → names ≡ length (content d.last).names → edges ≡ edge_total d.last
-    → many ≡ count_by is_used d.pool → lines ≡ rebase_line number names edges many → IsDone (Rebase slot) s (Ok lines)
+    → many ≡ count_by is_used d.pool → lines ≡ rebase_line number names edges many → IsCommandResult (Rebase slot) s (Ok lines)
 rebase_done s v d slot number names edges many lines there rebased desk used same number_is names_are edges_are used_are
     lines_are =
     let graph : content d.last ≡ version (length v.batches) s = content_rebased v d.last rebased ∙ same in

@@ -1,6 +1,7 @@
 -- Why a run ends as it does.
 use Rattle.std.proofs.Common.{◌≡◌, ℕ, ◌+◌, ◌<◌, List, length, refl, ◌∙◌, ap, subst, sym, arith, inl}
-use Rattle.std.specs.Prelude.{Bool, false, Option, Some, Result, Ok, Err, IfErr, IfOk, is_err}
+use Rattle.std.specs.Prelude.{Bool, false, true, Option, Some, Result, Ok, Err, IfErr, IfOk, is_err}
+use Rattle.std.proofs.lemmas.Bool.{true≢false}
 use Rattle.feed_csv.specs.Records.{record_limit}
 use Rattle.feed_csv.specs.Script.{NextStep, Script}
 use Rattle.feed_csv.specs.declared.command.Command.{Command}
@@ -9,11 +10,12 @@ use Rattle.stinger_server.specs.declared.script.ServeFault.{ServeFault}
 use Rattle.stinger_server.specs.declared.script.ServeFault.TheVariants.{Read, Memory, Start, Write}
 use Rattle.stinger_server.specs.declared.script.Summary.{Summary}
 use Rattle.stinger_server.specs.States.{IsRebase, Setup}
-use Rattle.stinger_server.specs.Runs.{BreaksOff, Does, HasCause, IsFresh, IsReady, Starts, Turns, done_by, is_write, records_done}
+use Rattle.stinger_server.specs.Runs.{ExecutesRecord, FailsToWrite, HasCause, IsFresh, IsReady, IsStartup, IsTurn}
+use Rattle.stinger_server.specs.Runs.{done_by, is_start, is_write, records_done}
 
 -- there was no store, or no memory for a first record
 pub cause_unstarted : (feed : Script) (setup : Setup) (before after : Option (List ℕ)) (failed : Bool) (fault : ServeFault)
-    → IsFresh feed → Starts setup before (Err fault) after → failed ≡ is_write {T = Run} (Err fault)
+    → IsFresh feed → IsStartup setup before (Err fault) after → failed ≡ is_write {T = Run} (Err fault)
     → HasCause feed failed (Err fault)
 cause_unstarted feed setup before after failed Read fresh ends marked = absurd ends
 cause_unstarted feed setup before after failed Memory fresh ends marked =
@@ -24,7 +26,7 @@ cause_unstarted feed setup before after failed Write fresh ends marked = marked
 
 -- a turn ended the run
 pub cause_stopped : (feed feed' : Script) (run run' : Run) (now after : Option (List ℕ)) (failed : Bool) (fault : ServeFault)
-    → Turns feed run now (Err fault) feed' run' after → failed ≡ is_write {T = Bool} (Err fault)
+    → IsTurn feed run now (Err fault) feed' run' after → failed ≡ is_write {T = Bool} (Err fault)
     → HasCause feed' failed (Err fault)
 cause_stopped feed feed' run run' now after failed Read turned marked = (turned.0, marked)
 cause_stopped feed feed' run run' now after failed Memory turned marked =
@@ -35,7 +37,7 @@ cause_stopped feed feed' run run' now after failed Write turned marked = marked
 -- the feed met the end of the input, and the run was finished
 pub cause_ended : (feed feed' : Script) (run run' : Run) (now mid : Option (List ℕ)) (failed : Bool)
     (result : Result Summary ServeFault)
-    → IsReady feed run → Turns feed run now (Ok false) feed' run' mid
+    → IsReady feed run → IsTurn feed run now (Ok false) feed' run' mid
     → IfOk result
     (λ summary. summary ≡ record { records = run'.records; errors = run'.errors; pending = length run'.server.pending })
     → IfErr result (λ fault. fault ≡ Write) → failed ≡ is_err result → HasCause feed' failed result
@@ -50,8 +52,8 @@ cause_ended feed feed' run run' now mid failed (Err error) ready turned counts f
 -- a record broke a run off
 pub turn_broken : (command : Command) (field : Option Command) (feed feed' : Script) (run run' : Run)
     (before after : Option (List ℕ)) (fault : ServeFault) → IsReady feed run → field ≡ Some command
-    → NextStep feed (Ok field) feed' → Does (Ok command) run before (Err fault) run' after
-    → Turns feed run before (Err fault) feed' run' after
+    → NextStep feed (Ok field) feed' → ExecutesRecord (Ok command) run before (Err fault) run' after
+    → IsTurn feed run before (Err fault) feed' run' after
 turn_broken command field feed feed' run run' before after Read ready is step does = absurd does
 turn_broken command field feed feed' run run' before after Start ready is step does =
     let taken : NextStep feed (Ok (Some command)) feed' = rw is at step in
@@ -72,4 +74,10 @@ turn_broken command field feed feed' run run' before after Memory ready is step 
     )
 turn_broken command field feed feed' run run' before after Write ready is step does =
     let taken : NextStep feed (Ok (Some command)) feed' = rw is at step in
-    inl (taken.0, taken.2, subst (λ item. BreaksOff item run before after) (sym taken.1) does)
+    inl (taken.0, taken.2, subst (λ item. FailsToWrite item run before after) (sym taken.1) does)
+
+-- no store was opened at a record, whose error line was flushed
+pub flushed_there : (old new : Script) (failed flushed : Bool) (result : Result Summary ServeFault) → HasCause new failed result
+    → (failed ≡ false → flushed ≡ true) → is_start result ≡ true → flushed ≡ false → new ≡ old
+flushed_there old new failed flushed (Err Start) cause marked is none = absurd (true≢false (sym (marked cause.1) ∙ none))
+flushed_there old new failed flushed _ cause marked is none = cc

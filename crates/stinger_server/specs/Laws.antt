@@ -2,11 +2,11 @@
 use Rattle.std.specs.Prelude.{◌≡◌, ℕ, List}
 use Rattle.feed_csv.specs.Records.{records_of}
 use Rattle.stinger_server.specs.States.{Progress, Setup}
-use Rattle.stinger_server.specs.Texts.{IsWhole}
+use Rattle.stinger_server.specs.Texts.{IsFullText}
 
 -- a script has one text, and leaves one state
 abbrev pub HasOneText : Type 0
 HasOneText =
     (setup : Setup) (bytes : List ℕ) (text other : List ℕ) (there elsewhere : Progress)
-    → IsWhole setup (records_of bytes) text there
-    → IsWhole setup (records_of bytes) other elsewhere → (text ≡ other) × (there ≡ elsewhere)
+    → IsFullText setup (records_of bytes) text there
+    → IsFullText setup (records_of bytes) other elsewhere → (text ≡ other) × (there ≡ elsewhere)

@@ -1,4 +1,5 @@
--- One turn of a run: from the record that the feed gives to what is written of it.
+-- One turn of a run: from the record that the feed gives to what is written of it. `before` and `after` are the bytes that the
+-- writer holds, where they are known.
 use Rattle.std.specs.Prelude.{◌≡◌, ◌<◌, ◌≤◌, ◌⊎◌, ℕ, ◌+◌, ◌-◌, Bool, true, false, List, [], Option, Result, Ok, Err}
 use Rattle.std.specs.Io.KnownBytes.{Appends}
 use Rattle.feed_csv.specs.Commands.{item_of}
@@ -42,14 +43,15 @@ pub record ShowsRun (run : Run) (here : Progress) : Type 0 where
   pub records : run.records ≡ here.records
   pub errors : run.errors ≡ here.errors
 
--- nothing is counted, and nothing is written; or there is no memory for a first record, or the store was not opened
-abbrev pub Starts : Setup → Option (List ℕ) → Result Run ServeFault → Option (List ℕ) → Type 0
-Starts setup before (Ok run) after =
+-- the start of a run, by its result: nothing is counted, and nothing is written; or there is no memory for a first record, which an
+-- error line tells, or a part of it where a write failed; or the store was not opened, and nothing is written
+abbrev pub IsStartup : Setup → Option (List ℕ) → Result Run ServeFault → Option (List ℕ) → Type 0
+IsStartup setup before (Ok run) after =
     IsServer run.server × (run.records ≡ 0) × (run.errors ≡ 0) × ShowsRun run (beginning setup) × (after ≡ before)
-Starts setup before (Err Read) after = ⊥
-Starts setup before (Err Memory) after = Appends before after (error_line 1 (Feed word.Memory))
-Starts setup before (Err Start) after = after ≡ before
-Starts setup before (Err Write) after = AppendsPart before after (error_line 1 (Feed word.Memory))
+IsStartup setup before (Err Read) after = ⊥
+IsStartup setup before (Err Memory) after = Appends before after (error_line 1 (Feed word.Memory))
+IsStartup setup before (Err Start) after = after ≡ before
+IsStartup setup before (Err Write) after = AppendsPart before after (error_line 1 (Feed word.Memory))
 
 abbrev pub refusals : Response → ℕ
 refusals Lines = 0
@@ -61,8 +63,8 @@ pub record CountsRecord (old : Run) (response : Response) (new : Run) : Type 0 w
   pub records : new.records ≡ old.records + 1
   pub errors : new.errors ≡ old.errors + refusals response
 
--- the record was done: what it came to was written and counted
-pub record Done (item : Result Command FeedWord) (old : Run) (before : Option (List ℕ)) (new : Run)
+-- the record was executed to its end: what it came to was written and counted
+pub record CompletesRecord (item : Result Command FeedWord) (old : Run) (before : Option (List ℕ)) (new : Run)
     (after : Option (List ℕ)) : Type 0 where
   pub server : IsServer new.server
   pub records : new.records ≡ old.records + 1
@@ -70,22 +72,24 @@ pub record Done (item : Result Command FeedWord) (old : Run) (before : Option (L
   pub step : (here : Progress) → ShowsRun old here → (outcome : RecordResult) × IsRecordResult item here.state outcome
       × Appends before after (printed (here.records + 1) outcome) × ShowsRun new (after_record item outcome here)
 
--- a part was written of what the record came to, or of the error line of another end
-abbrev pub BreaksOff : Result Command FeedWord → Run → Option (List ℕ) → Option (List ℕ) → Type 0
-BreaksOff item old before after =
+-- a write failed: a first part was written of what the record came to, or of the error line of another end
+abbrev pub FailsToWrite : Result Command FeedWord → Run → Option (List ℕ) → Option (List ℕ) → Type 0
+FailsToWrite item old before after =
     (here : Progress) → ShowsRun old here
     → ((outcome : RecordResult) × IsRecordResult item here.state outcome
     × AppendsPart before after (printed (here.records + 1) outcome))
     ⊎ (AppendsPart before after (error_line (here.records + 1) (Feed word.Memory))
     ⊎ (IsRebase item × AppendsPart before after (error_line (here.records + 1) told.Start)))
 
--- what a record did, by its result
-abbrev pub Does : Result Command FeedWord → Run → Option (List ℕ) → Result Unit ServeFault → Run → Option (List ℕ) → Type 0
-Does item old before (Ok u) new after = Done item old before new after
-Does item old before (Err Read) new after = ⊥
-Does item old before (Err Memory) new after = Appends before after (error_line (old.records + 1) (Feed word.Memory))
-Does item old before (Err Start) new after = IsRebase item × Appends before after (error_line (old.records + 1) told.Start)
-Does item old before (Err Write) new after = BreaksOff item old before after
+-- the execution of a record, by its result: it came to its end; or it ended the run, which an error line tells; or a write failed
+abbrev pub ExecutesRecord : Result Command FeedWord → Run → Option (List ℕ) → Result Unit ServeFault → Run → Option (List ℕ)
+    → Type 0
+ExecutesRecord item old before (Ok u) new after = CompletesRecord item old before new after
+ExecutesRecord item old before (Err Read) new after = ⊥
+ExecutesRecord item old before (Err Memory) new after = Appends before after (error_line (old.records + 1) (Feed word.Memory))
+ExecutesRecord item old before (Err Start) new after =
+    IsRebase item × Appends before after (error_line (old.records + 1) told.Start)
+ExecutesRecord item old before (Err Write) new after = FailsToWrite item old before after
 
 -- the feed stopped, since csv's reader failed or the limit was reached
 abbrev pub HasReadFault : Script → Type 0
@@ -95,44 +99,38 @@ HasReadFault feed = (feed.phase ≡ Stopped) × ((feed.failed ≡ true) ⊎ (fee
 -- the last, at which a growth was refused
 abbrev pub done_by : Phase → ℕ → ℕ
 done_by Reading given = given - 1
-done_by Ended given = given
-done_by Stopped given = given
+done_by _ given = given
 
 abbrev pub records_done : Script → ℕ
 records_done feed = done_by feed.phase feed.given
 
--- a turn: the next record was done; or there is none; or a fault ended the run
-abbrev pub Turns : Script → Run → Option (List ℕ) → Result Bool ServeFault → Script → Run → Option (List ℕ) → Type 0
-Turns feed run before (Ok true) feed' run' after =
-    (row : Row) × TakesRow feed row feed' × Done (item_of row) run before run' after
-Turns feed run before (Ok false) feed' run' after = MeetsEnd feed feed' × (run' ≡ run) × Appends before after []
-Turns feed run before (Err Read) feed' run' after =
+-- a turn, by its result: the next record was executed to its end; or there is none; or a fault ended the run
+abbrev pub IsTurn : Script → Run → Option (List ℕ) → Result Bool ServeFault → Script → Run → Option (List ℕ) → Type 0
+IsTurn feed run before (Ok true) feed' run' after =
+    (row : Row) × TakesRow feed row feed' × CompletesRecord (item_of row) run before run' after
+IsTurn feed run before (Ok false) feed' run' after = MeetsEnd feed feed' × (run' ≡ run) × Appends before after []
+IsTurn feed run before (Err Read) feed' run' after =
     HasReadFault feed' × (records_done feed' ≡ run.records) × Appends before after (error_line (run.records + 1) (Feed word.Read))
-Turns feed run before (Err Memory) feed' run' after =
-    (records_done feed' ≡ run.records) × (run.records < record_limit) × Appends before after (error_line (run.records + 1) (Feed word.Memory))
-Turns feed run before (Err Start) feed' run' after =
+IsTurn feed run before (Err Memory) feed' run' after =
+    (records_done feed' ≡ run.records) × (run.records < record_limit)
+    × Appends before after (error_line (run.records + 1) (Feed word.Memory))
+IsTurn feed run before (Err Start) feed' run' after =
     (row : Row) × TakesRow feed row feed' × IsRebase (item_of row) × (records_done feed' ≡ run.records)
     × Appends before after (error_line (run.records + 1) told.Start)
-Turns feed run before (Err Write) feed' run' after =
-    ((row : Row) × TakesRow feed row feed' × BreaksOff (item_of row) run before after)
+IsTurn feed run before (Err Write) feed' run' after =
+    ((row : Row) × TakesRow feed row feed' × FailsToWrite (item_of row) run before after)
     ⊎ (AppendsPart before after (error_line (run.records + 1) (Feed word.Read))
     ⊎ AppendsPart before after (error_line (run.records + 1) (Feed word.Memory)))
 
 -- whether the writer ended a run
 abbrev pub is_write : {T : Type 0} → Result T ServeFault → Bool
-is_write (Ok x) = false
-is_write (Err Read) = false
-is_write (Err Memory) = false
-is_write (Err Start) = false
 is_write (Err Write) = true
+is_write _ = false
 
 -- whether there was no store for a run
 abbrev pub is_start : {T : Type 0} → Result T ServeFault → Bool
-is_start (Ok x) = false
-is_start (Err Read) = false
-is_start (Err Memory) = false
 is_start (Err Start) = true
-is_start (Err Write) = false
+is_start _ = false
 
 -- Why a run ends as it does, by what its feed came to and whether a call of the writer failed: at Ok the feed met the end of
 -- the input, and csv's reader never failed; Read is told of the feed's fault alone, and Write of the writer's. Of memory

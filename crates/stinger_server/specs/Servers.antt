@@ -4,13 +4,8 @@ use Rattle.graph_version.specs.Versions.{layout_of}
 use Rattle.block_pool.specs.Pools.{is_free}
 use Rattle.store_steps.specs.Desks.{DeskView, births_in, is_retired_by}
 use Rattle.feed_csv.specs.declared.command.Command.{Command}
-use Rattle.feed_csv.specs.declared.command.FeedWord.TheVariants as feed
-use Rattle.stream_store.specs.declared.receipts.ApplyError.{ApplyError}
-use Rattle.stream_store.specs.declared.receipts.ApplyError.TheVariants as refused
-use Rattle.script_lines.specs.declared.words.Word.{Word}
-use Rattle.script_lines.specs.declared.words.Word.TheVariants.{Feed, BatchLimit, NamesFull, KindsFull, PoolEmpty}
-use Rattle.stinger_server.specs.Slots.{AreFew, IsKept, held_in}
-use Rattle.stinger_server.specs.States.{Dates, IsDone, RecordResult, State, after_command}
+use Rattle.stinger_server.specs.Slots.{AreFew, AreSlotsOf, held_in}
+use Rattle.stinger_server.specs.States.{Dates, IsCommandResult, RecordResult, State, after_command}
 use Rattle.stinger_server.specs.declared.server.Server.{Server}
 use Rattle.stinger_server.specs.declared.server.Response.{Response}
 use Rattle.stinger_server.specs.declared.server.Response.TheVariants.{Lines, Refused}
@@ -19,7 +14,7 @@ use Rattle.stinger_server.specs.declared.server.Response.TheVariants.{Lines, Ref
 -- with more blocks than the store's; and there are as many blocks and slots as the configuration says
 pub record IsServer (server : Server) : Type 0 where
   pub opening : AllPairs (λ a b. a ≢ b) server.desk.desk.last.opening.names
-  pub slots : IsKept server.desk.desk.last server.slots
+  pub slots : AreSlotsOf server.desk.desk.last server.slots
   pub few : AreFew server.config.blocks server.slots
   pub blocks : length server.desk.desk.pool ≡ server.config.blocks
   pub seats : length (held_in server.slots) ≡ server.config.seats
@@ -50,12 +45,4 @@ result_of (Refused word) lines = Err word
 abbrev pub Obeys : Command → Server → Response → List ℕ → Server → Type 0
 Obeys command old response lines new =
     (s : State) → Shows old s
-    → IsDone command s (result_of response lines) × Shows new (after_command command (result_of response lines) s)
-
--- the word for a refusal of the desk; want of memory is told as the feed tells it
-abbrev pub batch_word : ApplyError → Word
-batch_word refused.BatchLimit = BatchLimit
-batch_word refused.NamesFull = NamesFull
-batch_word refused.KindsFull = KindsFull
-batch_word (refused.PoolEmpty needed free) = PoolEmpty
-batch_word refused.OutOfMemory = Feed feed.Memory
+    → IsCommandResult command s (result_of response lines) × Shows new (after_command command (result_of response lines) s)

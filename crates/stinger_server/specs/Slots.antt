@@ -32,8 +32,7 @@ pub record IsEarlier (last v : VersionView) : Type 0 where
 abbrev pub IsSlot : VersionView → ℕ → Option SeatView → Option SessionView → Type 0
 IsSlot last slot (Some seat) None = seat.number ≡ slot
 IsSlot last slot None (Some session) = (session.number ≡ slot) × IsEarlier last (held_version session)
-IsSlot last slot (Some seat) (Some session) = ⊥
-IsSlot last slot None None = ⊥
+IsSlot last slot _ _ = ⊥
 
 -- the pin of a held version: the session has told its number
 abbrev pub holding : Held → Pin
@@ -57,5 +56,5 @@ pub record AreSlots (last : VersionView) (board : BoardState) (seats : List (Opt
 abbrev pub AreFew : ℕ → Slots → Type 0
 AreFew blocks slots = All (λ session. IfSome session (λ s. block_count (held_version s) ≤ blocks)) slots.sessions.items
 
-abbrev pub IsKept : VersionView → Slots → Type 0
-IsKept last slots = AreSlots last slots.board slots.seats.items slots.sessions.items
+abbrev pub AreSlotsOf : VersionView → Slots → Type 0
+AreSlotsOf last slots = AreSlots last slots.board slots.seats.items slots.sessions.items

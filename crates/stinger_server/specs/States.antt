@@ -1,7 +1,7 @@
 -- Where a run stands between two records, and what one record does.
-use Rattle.std.specs.Prelude.{◌≡◌, ℕ, ◌+◌, ◌-◌, min, not, nat_le, nat_lt, List, [], ◌∷◌, ◌++◌, length, map, take, replicate}
+use Rattle.std.specs.Prelude.{◌≡◌, ◌≢◌, ℕ, ◌+◌, ◌-◌, min, not, List, [], ◌∷◌, ◌++◌, length, map, take, replicate}
 use Rattle.std.specs.Prelude.{filter}
-use Rattle.std.specs.Prelude.{slice_get, slice_set, count_by, if◌then◌else◌, Option, None, Some, Result, Ok, Err}
+use Rattle.std.specs.Prelude.{slice_get, slice_set, count_by, Option, None, Some, Result, Ok, Err}
 use Rattle.std.specs.FinMap.{entries, len}
 use Rattle.std.specs.Option.{option_map}
 use Rattle.block_layout.specs.Batches.{layout_after, sum_below, taken_by}
@@ -11,7 +11,6 @@ use Rattle.pin_copy.specs.declared.copies.TheConstants.{SEATS}
 use Rattle.pin_copy.specs.Copies.{needs}
 use Rattle.batch_shards.specs.Births.{births_after, dropped_births}
 use Rattle.graph_model.specs.Graph.{Graph}
-use Rattle.graph_model.specs.Limits.{batch_limit, kind_limit, name_limit}
 use Rattle.graph_model.specs.Step.{after_all, empty_graph, left_by, outcomes}
 use Rattle.graph_model.specs.View.{in_view}
 use Rattle.graph_model.specs.Valid.{push_refusal}
@@ -30,7 +29,9 @@ use Rattle.feed_csv.specs.declared.command.Command.TheVariants.{Op, Commit, Open
 use Rattle.feed_csv.specs.declared.command.FeedWord.{FeedWord}
 use Rattle.feed_csv.specs.declared.command.FeedWord.TheVariants as feed
 use Rattle.stream_store.specs.Configs.{ConfigView}
-use Rattle.stream_store.specs.Refusals.{asked}
+use Rattle.stream_store.specs.Refusals.{Attempt, BatchRefusal, IsAdmissible}
+use Rattle.stream_store.specs.declared.receipts.ApplyError.{ApplyError}
+use Rattle.stream_store.specs.declared.receipts.ApplyError.TheVariants as refused
 use Rattle.script_lines.specs.declared.words.Word.{Word}
 use Rattle.script_lines.specs.declared.words.Word.TheVariants.{Feed, NotOpen, AlreadyOpen, BadWindow, NoKind, NoVertex}
 use Rattle.script_lines.specs.declared.words.Word.TheVariants.{BatchFull, BatchLimit, NamesFull, KindsFull, PoolEmpty}
@@ -131,6 +132,13 @@ push_word push.BadTime = Feed feed.BadTime
 push_word push.BatchFull = BatchFull
 push_word push.OutOfMemory = Feed feed.Memory
 
+abbrev pub batch_word : ApplyError → Word
+batch_word refused.BatchLimit = BatchLimit
+batch_word refused.NamesFull = NamesFull
+batch_word refused.KindsFull = KindsFull
+batch_word (refused.PoolEmpty needed free) = PoolEmpty
+batch_word refused.OutOfMemory = Feed feed.Memory
+
 abbrev pub ask_word : AskError → Word
 ask_word ask.BadWindow = BadWindow
 ask_word ask.NoKind = NoKind
@@ -153,14 +161,23 @@ dropped s = dropped_births s.pending (last_version s) s.layout s.births (length 
 abbrev pub used : State → ℕ
 used s = s.blocks - (s.free + length s.retired)
 
--- the pending batch is refused behind so many batches; else where it would leave more names than the limit; else where more
--- kinds; else where it asks for more blocks than are free
-abbrev pub commit_refusal : State → Option Word
-commit_refusal s =
-    if nat_le batch_limit (length s.batches) then Some BatchLimit
-    else (if nat_lt name_limit (length (left_by_pending s).names) then Some NamesFull
-    else (if nat_lt kind_limit (length (left_by_pending s).kinds) then Some KindsFull
-    else (if nat_lt s.free (asked s.pending (used s)) then Some PoolEmpty else None)))
+-- the pending batch, as a desk would be asked to apply it
+abbrev pub attempt : State → Attempt
+attempt s = record {
+  ops = s.pending;
+  batches = length s.batches;
+  graph = last_version s;
+  used = used s;
+  free = s.free;
+}
+
+-- the pending batch is accepted, with a line on its outcomes; or refused, with the word for its refusal. No record is refused for
+-- want of memory, which ends a run
+abbrev pub IsCommitted : State → RecordResult → Type 0
+IsCommitted s (Ok lines) =
+    IsAdmissible (attempt s) × (lines ≡ commit_line (length s.batches + 1) (outcomes s.pending (last_version s)))
+IsCommitted s (Err word) =
+    (error : ApplyError) × BatchRefusal (attempt s) error × (error ≢ refused.OutOfMemory) × (word ≡ batch_word error)
 
 -- the pending batch is accepted: the blocks that it takes are no longer free, and born with the new version's number, with which
 -- those that it drops are retired
@@ -272,42 +289,32 @@ IsReplied slot request s (Ok held) outcome =
     × (outcome ≡ answer_result slot request (version held.number s) answer)
 
 -- what a command comes to
-abbrev pub IsDone : Command → State → RecordResult → Type 0
-IsDone (Op op) s outcome = outcome ≡ lines_unless (op_refusal (push_refusal op (length s.pending))) []
-IsDone Commit s outcome =
-    outcome ≡ lines_unless (commit_refusal s)
-    (commit_line (length s.batches + 1) (outcomes s.pending (last_version s)))
-IsDone (OpenSlot slot) s outcome = outcome
+abbrev pub IsCommandResult : Command → State → RecordResult → Type 0
+IsCommandResult (Op op) s outcome = outcome ≡ lines_unless (op_refusal (push_refusal op (length s.pending))) []
+IsCommandResult Commit s outcome = IsCommitted s outcome
+IsCommandResult (OpenSlot slot) s outcome = outcome
     ≡ lines_unless (open_refusal (slice_get s.held slot)) (open_line slot (length s.batches))
-IsDone (CloseSlot slot) s outcome = outcome ≡ close_result slot (version_in (slice_get s.held slot))
-IsDone (Query slot request) s outcome = IsReplied slot request s (version_in (slice_get s.held slot)) outcome
-IsDone Collect s outcome = outcome ≡ Ok (collect_line (floor_of s) (recycled s) (length (after_collect s).retired))
-IsDone Stat s outcome = outcome ≡ Ok (stat_line (length s.batches) (length (last_version s).names)
+IsCommandResult (CloseSlot slot) s outcome = outcome ≡ close_result slot (version_in (slice_get s.held slot))
+IsCommandResult (Query slot request) s outcome = IsReplied slot request s (version_in (slice_get s.held slot)) outcome
+IsCommandResult Collect s outcome = outcome ≡ Ok (collect_line (floor_of s) (recycled s) (length (after_collect s).retired))
+IsCommandResult Stat s outcome = outcome ≡ Ok (stat_line (length s.batches) (length (last_version s).names)
     (len (last_version s).edges) s.free (length s.retired) (used s))
-IsDone (Rebase slot) s outcome = outcome ≡ rebase_result s (version_in (slice_get s.held slot))
+IsCommandResult (Rebase slot) s outcome = outcome ≡ rebase_result s (version_in (slice_get s.held slot))
 
--- the state that a command leaves: a refused one changes nothing, but a refused batch is given up
+-- the state that a command leaves: a refused batch is given up; a question, and any other refused command, changes nothing
 abbrev pub after_command : Command → RecordResult → State → State
 after_command (Op op) (Ok lines) s = record s { pending = s.pending ++ op ∷ [] }
 after_command Commit (Ok lines) s = after_commit s
 after_command Commit (Err word) s = record s { pending = [] }
 after_command (OpenSlot slot) (Ok lines) s = record s { held = slice_set s.held slot (Some (last_held s)) }
 after_command (CloseSlot slot) (Ok lines) s = record s { held = slice_set s.held slot None }
-after_command (Query slot request) (Ok lines) s = s
 after_command Collect (Ok lines) s = after_collect s
-after_command Stat (Ok lines) s = s
 after_command (Rebase slot) (Ok lines) s = rebased s (version_in (slice_get s.held slot))
-after_command (Op op) (Err word) s = s
-after_command (OpenSlot slot) (Err word) s = s
-after_command (CloseSlot slot) (Err word) s = s
-after_command (Query slot request) (Err word) s = s
-after_command Collect (Err word) s = s
-after_command Stat (Err word) s = s
-after_command (Rebase slot) (Err word) s = s
+after_command _ _ s = s
 
 -- a record is a command, or is refused for the word that its fields have
 abbrev pub IsRecordResult : Result Command FeedWord → State → RecordResult → Type 0
-IsRecordResult (Ok command) s outcome = IsDone command s outcome
+IsRecordResult (Ok command) s outcome = IsCommandResult command s outcome
 IsRecordResult (Err word) s outcome = outcome ≡ Err (Feed word)
 
 -- the record opens a store anew

@@ -13,45 +13,46 @@ use Rattle.script_lines.specs.declared.words.Word.TheVariants as word
 use Rattle.script_lines.specs.Lines.{end_line, error_line}
 use Rattle.stinger_server.specs.States.{IsRecordResult, RecordResult, Progress, Setup, after_record, beginning, printed}
 
--- the records, one after another, print this text and bring a run from here to there
-abbrev pub IsRun : List Row → Progress → List ℕ → Progress → Type 0
-IsRun [] here text there = (text ≡ []) × (there ≡ here)
-IsRun (row ∷ rows) here text there =
+-- the records, executed one after another, print this text and bring a run from here to there: each comes to one of its results,
+-- in the state that those before it left
+abbrev pub Executes : List Row → Progress → List ℕ → Progress → Type 0
+Executes [] here text there = (text ≡ []) × (there ≡ here)
+Executes (row ∷ rows) here text there =
     (outcome : RecordResult) × (rest : List ℕ) × IsRecordResult (item_of row) here.state outcome
-    × (text ≡ printed (here.records + 1) outcome ++ rest) × IsRun rows (after_record (item_of row) outcome here) rest there
+    × (text ≡ printed (here.records + 1) outcome ++ rest) × Executes rows (after_record (item_of row) outcome here) rest there
 
--- the lines of some first records of a script, and how far a run has come behind them
-abbrev pub IsStart : Setup → List Row → List ℕ → Progress → Type 0
-IsStart setup rows lines there =
-    (given : List Row) × (rest : List Row) × (rows ≡ given ++ rest) × IsRun given (beginning setup) lines there
+-- a prefix of a script, executed from the beginning: its lines, and how far a run has come behind it
+abbrev pub ExecutesPrefix : Setup → List Row → List ℕ → Progress → Type 0
+ExecutesPrefix setup rows lines there =
+    (given : List Row) × (rest : List Row) × (rows ≡ given ++ rest) × Executes given (beginning setup) lines there
 
 -- the text of a whole script: the lines of all records, and then the line on operations that are pending; a run takes
 -- fewer than 1,000,000 records to the end
-abbrev pub IsWhole : Setup → List Row → List ℕ → Progress → Type 0
-IsWhole setup rows text there =
-    (lines : List ℕ) × IsRun rows (beginning setup) lines there × (text ≡ lines ++ end_line (length there.state.pending))
+abbrev pub IsFullText : Setup → List Row → List ℕ → Progress → Type 0
+IsFullText setup rows text there =
+    (lines : List ℕ) × Executes rows (beginning setup) lines there × (text ≡ lines ++ end_line (length there.state.pending))
     × (there.records < record_limit)
 
 -- the text of a run that this word ended after so many records: the lines of exactly these records, the first of the script,
 -- and then one error line, whose number is that of the next record
-abbrev pub IsCut : Setup → List Row → Word → ℕ → List ℕ → Type 0
-IsCut setup rows word count text =
-    (lines : List ℕ) × (there : Progress) × IsStart setup rows lines there × (there.records ≡ count)
+abbrev pub IsTextToFault : Setup → List Row → Word → ℕ → List ℕ → Type 0
+IsTextToFault setup rows word count text =
+    (lines : List ℕ) × (there : Progress) × ExecutesPrefix setup rows lines there × (there.records ≡ count)
     × (text ≡ lines ++ error_line (count + 1) word)
 
 -- the text of a run that did so many records, at whose next one, a rebase, no store was opened
-abbrev pub IsUnopened : Setup → List Row → ℕ → List ℕ → Type 0
-IsUnopened setup rows count text =
+abbrev pub IsTextToRebase : Setup → List Row → ℕ → List ℕ → Type 0
+IsTextToRebase setup rows count text =
     (given : List Row) × (row : Row) × (rest : List Row) × (slot : ℕ) × (lines : List ℕ) × (there : Progress)
-    × (rows ≡ given ++ row ∷ rest) × (item_of row ≡ Ok (Rebase slot)) × IsRun given (beginning setup) lines there
+    × (rows ≡ given ++ row ∷ rest) × (item_of row ≡ Ok (Rebase slot)) × Executes given (beginning setup) lines there
     × (there.records ≡ count) × (text ≡ lines ++ error_line (count + 1) word.Start)
 
--- a text that a run writes where each write succeeds
-abbrev pub IsWanted : Setup → List Row → List ℕ → Type 0
-IsWanted setup rows text =
-    ((there : Progress) × IsStart setup rows text there) ⊎ (((there : Progress) × IsWhole setup rows text there)
-    ⊎ ((count : ℕ) × (IsCut setup rows (Feed feed.Read) count text ⊎ (IsCut setup rows (Feed feed.Memory) count text
-    ⊎ IsUnopened setup rows count text))))
+-- a text that a run writes where each write succeeds: the lines of a prefix, the full text, or a text to one of the faults
+abbrev pub IsIntendedText : Setup → List Row → List ℕ → Type 0
+IsIntendedText setup rows text =
+    ((there : Progress) × ExecutesPrefix setup rows text there) ⊎ (((there : Progress) × IsFullText setup rows text there)
+    ⊎ ((count : ℕ) × (IsTextToFault setup rows (Feed feed.Read) count text
+    ⊎ (IsTextToFault setup rows (Feed feed.Memory) count text ⊎ IsTextToRebase setup rows count text))))
 
 -- records, error lines and pending operations
 abbrev pub summary_of : Progress → Summary
@@ -62,8 +63,9 @@ summary_of p = record { records = p.records; errors = p.errors; pending = length
 -- never told of the limit of records
 abbrev pub IsText : Setup → List Row → ℕ → Result Summary ServeFault → List ℕ → Type 0
 IsText setup rows count (Ok summary) text =
-    (there : Progress) × IsWhole setup rows text there × (there.records ≡ count) × (summary ≡ summary_of there)
-IsText setup rows count (Err Read) text = IsCut setup rows (Feed feed.Read) count text
-IsText setup rows count (Err Memory) text = IsCut setup rows (Feed feed.Memory) count text × (count < record_limit)
-IsText setup rows count (Err Start) text = ((text ≡ []) × (count ≡ 0)) ⊎ IsUnopened setup rows count text
-IsText setup rows count (Err Write) text = (full : List ℕ) × (rest : List ℕ) × IsWanted setup rows full × (full ≡ text ++ rest)
+    (there : Progress) × IsFullText setup rows text there × (there.records ≡ count) × (summary ≡ summary_of there)
+IsText setup rows count (Err Read) text = IsTextToFault setup rows (Feed feed.Read) count text
+IsText setup rows count (Err Memory) text = IsTextToFault setup rows (Feed feed.Memory) count text × (count < record_limit)
+IsText setup rows count (Err Start) text = ((text ≡ []) × (count ≡ 0)) ⊎ IsTextToRebase setup rows count text
+IsText setup rows count (Err Write) text =
+    (full : List ℕ) × (rest : List ℕ) × IsIntendedText setup rows full × (full ≡ text ++ rest)

@@ -14,9 +14,8 @@ ghost use Rattle.stream_store.specs.Seats.{SeatView};
 ghost use Rattle.stinger_server.specs.States.{Setup, beginning, printed, set_up};
 ghost use Rattle.stinger_server.specs.Servers.{IsServer, result_of};
 ghost use Rattle.stinger_server.specs.Texts.{IsText};
-ghost use Rattle.stinger_server.specs.Runs.{CountsRecord, Does, HasCause, IsFresh, IsReady, ShowsRun, Starts, Turns, is_start};
-ghost use Rattle.stinger_server.specs.Runs.{is_write};
-ghost use Rattle.stinger_server.specs.Runs.{records_done};
+ghost use Rattle.stinger_server.specs.Runs.{CountsRecord, ExecutesRecord, HasCause, IsFresh, IsReady, IsStartup, IsTurn};
+ghost use Rattle.stinger_server.specs.Runs.{ShowsRun, is_start, is_write, records_done};
 ghost use Rattle.stinger_server.specs.Writes.{AppendsPart, AppendsSome, held};
 
 use crate::output;
@@ -92,7 +91,8 @@ pub fn serve<A: AllocGlobal + Threads + Wait + Sync, R: Read + Drop, W: Write>(
     run_script(rt, config, &mut feed, &mut sink)
 }
 
-/// A run from the first record on, over a feed that gave nothing yet and a sink that hasn't failed.
+/// A run from the first record on, over a feed that gave nothing yet and a sink that hasn't failed. Where no store was opened and
+/// nothing flushed, as where the first one isn't opened, nothing was read.
 fn run_script<A: AllocGlobal + Threads + Wait + Sync, R: Read, W: Write>(
     rt: &A,
     config: Config,
@@ -104,6 +104,7 @@ fn run_script<A: AllocGlobal + Threads + Wait + Sync, R: Read, W: Write>(
     ensures same_writer { sink.new.writer.ghost_name ≡ sink.old.writer.ghost_name }
     ensures cause { HasCause feed.new sink.new.failed result }
     ensures flushed { is_start result ≡ false → sink.new.failed ≡ false → sink.new.flushed ≡ true }
+    ensures unread { is_start result ≡ true → sink.new.flushed ≡ false → feed.new ≡ feed.old }
     ensures text { IfSome feed.old.left (λ rows. AppendsSome (held W.contents sink.old) (held W.contents sink.new)
         (IsText (set_up config) rows (records_done feed.new) result)) }
 {
@@ -123,7 +124,8 @@ fn start<A: AllocGlobal + Wait, W: Write>(
     ensures same_writer { sink.new.writer.ghost_name ≡ sink.old.writer.ghost_name }
     ensures failed { sink.new.failed ≡ is_write result }
     ensures flushed { OnErr result (is_start result ≡ false → sink.new.failed ≡ false → sink.new.flushed ≡ true) }
-    ensures starts { Starts (set_up config) (held W.contents sink.old) result (held W.contents sink.new) }
+    ensures unflushed { is_start result ≡ true → sink.new.flushed ≡ sink.old.flushed }
+    ensures starts { IsStartup (set_up config) (held W.contents sink.old) result (held W.contents sink.new) }
 {
     let Ok((desk, board, seats)) = open_parts(rt, rt.alloc(), config) else {
         return Err(ServeFault::Start);
@@ -176,7 +178,8 @@ impl Run {
         ensures same_writer { sink.new.writer.ghost_name ≡ sink.old.writer.ghost_name }
         ensures failed { sink.new.failed ≡ is_write result }
         ensures flushed { OnErr result (sink.new.failed ≡ false → sink.new.flushed ≡ true) }
-        ensures does { Does (Ok command) self.old (held W.contents sink.old) result self.new (held W.contents sink.new) }
+        ensures does { ExecutesRecord (Ok command) self.old (held W.contents sink.old) result self.new
+            (held W.contents sink.new) }
     {
         match self.server.obey(rt, command, &mut self.lines) {
             Ok(response) => match self.print(response, sink) {
@@ -300,7 +303,7 @@ fn turn<P: Threads + Wait + Sync, R: Read, W: Write>(
     ensures same_writer { sink.new.writer.ghost_name ≡ sink.old.writer.ghost_name }
     ensures failed { sink.new.failed ≡ is_write result }
     ensures flushed { OnErr result (sink.new.failed ≡ false → sink.new.flushed ≡ true) }
-    ensures turns { Turns feed.old run.old (held W.contents sink.old) result feed.new run.new (held W.contents sink.new) }
+    ensures turns { IsTurn feed.old run.old (held W.contents sink.old) result feed.new run.new (held W.contents sink.new) }
 {
     match feed.next() {
         Ok(Some(command)) => {

@@ -9,7 +9,7 @@ ghost use Rattle.graph_version.specs.Rebased.{IsRebased};
 ghost use Rattle.store_steps.specs.Opening.{opened_desk};
 ghost use Rattle.stream_store.specs.Refusals.{block_count};
 ghost use Rattle.stream_store.specs.Seats.{SeatView, held_version};
-ghost use Rattle.stinger_server.specs.Servers.{IsServer, Obeys, Shows, batch_word};
+ghost use Rattle.stinger_server.specs.Servers.{IsServer, Obeys, Shows};
 ghost use Rattle.stinger_server.specs.States.{IsRebase};
 ghost use Rattle.stinger_server.specs.States as states;
 
@@ -312,7 +312,7 @@ fn push_word(error: PushError) -> Word
 /// The word for a batch's refusal; want of memory has none.
 fn apply_word(error: ApplyError) -> Result<Word, AllocError>
     ensures known { OnOk result (error ≢ ApplyError.OutOfMemory) }
-    ensures word { IfOk result (λ word. word ≡ batch_word error) }
+    ensures word { IfOk result (λ word. word ≡ states.batch_word error) }
 {
     match error {
         ApplyError::BatchLimit => Ok(Word::BatchLimit),

@@ -24,6 +24,7 @@ impl<'w, W: Write> Sink<'w, W> {
         ensures same_writer { result.writer.ghost_name ≡ writer.entry.ghost_name }
         ensures held { result.writer.now ≡ writer.old }
         ensures working { result.failed ≡ false }
+        ensures unflushed { result.flushed ≡ false }
     {
         Sink {
             writer,

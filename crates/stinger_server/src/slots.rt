@@ -7,7 +7,7 @@ ghost use Rattle.graph_version.specs.Versions.{IsVersion, VersionView};
 ghost use Rattle.seat_board.specs.Board.{no_pins};
 ghost use Rattle.stream_store.specs.Refusals.{block_count};
 ghost use Rattle.stream_store.specs.Seats.{SeatView, SessionView};
-ghost use Rattle.stinger_server.specs.Slots.{AreFew, IsKept, held_in, held_of};
+ghost use Rattle.stinger_server.specs.Slots.{AreFew, AreSlotsOf, held_in, held_of};
 ghost use Rattle.stinger_server.specs.States as states;
 
 use feed_csv::FeedWord;
@@ -32,7 +32,7 @@ impl Slots {
         requires board { board ≡ no_pins }
         requires few { length seats.items ≤ 16 }
         requires numbers { map (λ (s : SeatView). s.number) seats.items ≡ range_with_len 0 (length seats.items) }
-        ensures slots { IfOk result (λ slots. (last : VersionView) → IsKept last slots) }
+        ensures slots { IfOk result (λ slots. (last : VersionView) → AreSlotsOf last slots) }
         ensures few { IfOk result (λ slots. (blocks : ℕ) → AreFew blocks slots) }
         ensures none { IfOk result (λ slots. held_in slots ≡ replicate (length seats.items) None) }
     {
@@ -63,10 +63,10 @@ impl Slots {
 
     /// Lets a slot that holds nothing hold the desk's last version; where there is no memory for that, it holds nothing.
     pub(crate) fn acquire(&mut self, slot: u8, desk: &Desk) -> Result<(), AllocError>
-        requires slots { IsKept desk.now.desk.last self.old }
+        requires slots { AreSlotsOf desk.now.desk.last self.old }
         requires version { IsVersion desk.now.desk.last }
         requires free { slice_get self.old.sessions.items slot ≡ Some None }
-        ensures slots { IsKept desk.now.desk.last self.new }
+        ensures slots { AreSlotsOf desk.now.desk.last self.new }
         ensures held { OnOk result (held_in self.new
             ≡ slice_set (held_in self.old) slot (Some (held_of desk.now.desk.last))) }
         ensures few { (blocks : ℕ) → block_count desk.now.desk.last ≤ blocks → AreFew blocks self.old → AreFew blocks self.new }
@@ -90,11 +90,11 @@ impl Slots {
 
     /// Lets go what a slot holds.
     pub(crate) fn release(&mut self, slot: u8)
-        requires kept { (last : VersionView) × IsKept last self.old }
+        requires kept { (last : VersionView) × AreSlotsOf last self.old }
         requires held { (s : SessionView) × (slice_get self.old.sessions.items slot ≡ Some (Some s)) }
-        ensures slots { (last : VersionView) → IsKept last self.old → IsKept last self.new }
+        ensures slots { (last : VersionView) → AreSlotsOf last self.old → AreSlotsOf last self.new }
         ensures few { (blocks : ℕ) → AreFew blocks self.old → AreFew blocks self.new }
-        ensures released { (last : VersionView) → IsKept last self.old
+        ensures released { (last : VersionView) → AreSlotsOf last self.old
             → held_in self.new ≡ slice_set (held_in self.old) slot None }
     {
         let slot = usize::from(slot);
@@ -106,8 +106,8 @@ impl Slots {
 
     /// Raises the board's floor to the least of the desk's last number and all held numbers, and answers the copy of them all.
     pub(crate) fn copy(&mut self, desk: &Desk) -> PinCopy
-        requires { IsKept desk.now.desk.last self.old }
-        ensures slots { IsKept desk.now.desk.last self.new }
+        requires { AreSlotsOf desk.now.desk.last self.old }
+        ensures slots { AreSlotsOf desk.now.desk.last self.new }
         ensures few { (blocks : ℕ) → AreFew blocks self.old → AreFew blocks self.new }
         ensures held { held_in self.new ≡ held_in self.old }
         ensures copy { result ≡ states.copy_by (length desk.now.desk.last.batches) (states.held_numbers (held_in self.old)) }

@@ -1,6 +1,6 @@
 use Rattle.std.proofs.Common.{ap, arith, rules}
 use Rattle.std.proofs.lemmas.Grind.{common_steps}
-use Rattle.stinger_server.proofs.RunSoFar.{from_bytes}
+use Rattle.stinger_server.proofs.RunTexts.{from_bytes}
 use Rattle.stinger_server.proofs.script.serve.Goals as goal
 
 pub returns : goal.returns

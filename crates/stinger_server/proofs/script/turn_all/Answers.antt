@@ -1,6 +1,7 @@
 use Rattle.std.proofs.Common.{refl, ◌∙◌}
 use Rattle.stinger_server.proofs.RunEnd.{cause_ended, cause_stopped}
-use Rattle.stinger_server.proofs.RunSoFar.{all_ended, all_stopped, reaches_more, reaches_nothing, ready_more}
+use Rattle.stinger_server.proofs.RunSoFar.{reaches_more, reaches_nothing, ready_more}
+use Rattle.stinger_server.proofs.RunTexts.{all_ended, all_stopped}
 use Rattle.stinger_server.proofs.script.turn_all.Goals as goal
 
 pub records-init : goal.records-init

@@ -2,3 +2,6 @@ use Rattle.stinger_server.proofs.server.Server.obey.Goals as goal
 
 pub returns-in_ok-collect-in-Collect-clause-obeys : goal.returns-in_ok-collect-in-Collect-clause-obeys
 returns-in_ok-collect-in-Collect-clause-obeys g c = rw c.in-Collect.is c.in_ok-collect-in-Collect.ensures.obeys
+
+pub returns-in_ok-commit-in-Commit-clause-obeys : goal.returns-in_ok-commit-in-Commit-clause-obeys
+returns-in_ok-commit-in-Commit-clause-obeys g c = rw c.in-Commit.is c.in_ok-commit-in-Commit.ensures.obeys
