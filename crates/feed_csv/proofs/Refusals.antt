@@ -8,18 +8,13 @@ use Rattle.feed_csv.specs.Records.{Row}
 use Rattle.std.specs.Str.{bytes_eq}
 use Rattle.feed_csv.specs.Script.{FaultStep, Script, TakesRow}
 use Rattle.feed_csv.specs.declared.command.FeedWord.{FeedWord}
-use Rattle.feed_csv.specs.declared.command.FeedWord.TheVariants.{Read, BadCommand, BadFields, BadName, BadWeight, BadTime}
-use Rattle.feed_csv.specs.declared.command.FeedWord.TheVariants.{BadSlot, Memory}
+use Rattle.feed_csv.specs.declared.command.FeedWord.TheVariants.{Read, BadCommand}
+use Rattle.feed_csv.specs.declared.command.FeedWord.TheVariants.{Memory}
 
 abbrev pub IsOfRecord : FeedWord → Type 0
 IsOfRecord Read = ⊥
 IsOfRecord Memory = ⊥
-IsOfRecord BadCommand = Unit {0}
-IsOfRecord BadFields = Unit {0}
-IsOfRecord BadName = Unit {0}
-IsOfRecord BadWeight = Unit {0}
-IsOfRecord BadTime = Unit {0}
-IsOfRecord BadSlot = Unit {0}
+IsOfRecord _ = Unit {0}
 
 -- a result whose word, where it has one, is of the record
 pub record FailsByRecord {A : Type 0} (result : Result A FeedWord) : Type 0 where
@@ -196,9 +191,4 @@ pub refused_step : (word : FeedWord) (row : Row) (old new : Script) → word ≢
     → TakesRow old row new → FaultStep word old new
 refused_step Read row old new other same takes = absurd ((item_of-fails row).fails Read same)
 refused_step Memory row old new other same takes = absurd (other refl)
-refused_step BadCommand row old new other same takes = (row, same, takes)
-refused_step BadFields row old new other same takes = (row, same, takes)
-refused_step BadName row old new other same takes = (row, same, takes)
-refused_step BadWeight row old new other same takes = (row, same, takes)
-refused_step BadTime row old new other same takes = (row, same, takes)
-refused_step BadSlot row old new other same takes = (row, same, takes)
+refused_step _ row old new other same takes = (row, same, takes)

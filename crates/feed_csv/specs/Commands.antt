@@ -174,13 +174,7 @@ word_text Memory = codes "Memory"
 -- a word that stands for want of memory, or for the record's refusal
 abbrev pub Refuses : FeedWord → Result Command FeedWord → Type 0
 Refuses Memory item = Unit {0}
-Refuses Read item = item ≡ Err Read
-Refuses BadCommand item = item ≡ Err BadCommand
-Refuses BadFields item = item ≡ Err BadFields
-Refuses BadName item = item ≡ Err BadName
-Refuses BadWeight item = item ≡ Err BadWeight
-Refuses BadTime item = item ≡ Err BadTime
-Refuses BadSlot item = item ≡ Err BadSlot
+Refuses word item = item ≡ Err word
 
 -- a result is what the rules give, unless memory ran out
 abbrev pub Gives : Result Command FeedWord → Result Command FeedWord → Type 0

@@ -7,8 +7,4 @@ use Rattle.feed_csv.specs.declared.command.FeedWord.TheVariants.{Read, Memory}
 -- want of memory has a word of its own, and every other fault is the reader's
 abbrev pub fault_word : ErrorKind → FeedWord
 fault_word kind.OutOfMemory = Memory
-fault_word (kind.Io error) = Read
-fault_word (kind.Utf8 place error) = Read
-fault_word (kind.UnequalLengths place expected len) = Read
-fault_word (kind.Serialize text) = Read
-fault_word (kind.Deserialize place error) = Read
+fault_word _ = Read

@@ -5,8 +5,7 @@ use Rattle.feed_csv.specs.Records.{IsOver, Row, Takes, record_limit}
 use Rattle.feed_csv.specs.declared.command.Command.{Command}
 use Rattle.feed_csv.specs.declared.command.FeedFault.{FeedFault}
 use Rattle.feed_csv.specs.declared.command.FeedWord.{FeedWord}
-use Rattle.feed_csv.specs.declared.command.FeedWord.TheVariants.{Read, BadCommand, BadFields, BadName, BadWeight, BadTime}
-use Rattle.feed_csv.specs.declared.command.FeedWord.TheVariants.{BadSlot, Memory}
+use Rattle.feed_csv.specs.declared.command.FeedWord.TheVariants.{Read, Memory}
 use Rattle.feed_csv.specs.declared.phase.Phase.{Phase}
 use Rattle.feed_csv.specs.declared.phase.Phase.TheVariants.{Reading, Ended, Stopped}
 
@@ -56,15 +55,11 @@ ReadStops old new =
 abbrev pub RefusesRow : Script → FeedWord → Script → Type 0
 RefusesRow old word new = (row : Row) × (item_of row ≡ Err word) × TakesRow old row new
 
+-- a call that answers this word: the feed stops, or the word is the next record's refusal
 abbrev pub FaultStep : FeedWord → Script → Script → Type 0
 FaultStep Read old new = ReadStops old new × StopsAt old new
 FaultStep Memory old new = IsOpen old × StopsAt old new
-FaultStep BadCommand old new = RefusesRow old BadCommand new
-FaultStep BadFields old new = RefusesRow old BadFields new
-FaultStep BadName old new = RefusesRow old BadName new
-FaultStep BadWeight old new = RefusesRow old BadWeight new
-FaultStep BadTime old new = RefusesRow old BadTime new
-FaultStep BadSlot old new = RefusesRow old BadSlot new
+FaultStep word old new = RefusesRow old word new
 
 -- one call: the next record's command; or the end, then and later; or a fault, which bears the number of the
 -- record that was not given
