@@ -1,14 +1,12 @@
 -- What the commands of slots come to, from what the calls below them say.
-use Rattle.std.proofs.Common.{◌≡◌, ℕ, List, length, map, sym, ap, ◌∙◌, refl}
-use Rattle.std.specs.Prelude.{Option, None, Some, Ok, Err, slice_get}
+use Rattle.std.proofs.Common.{◌≡◌, ℕ, List, map, sym, ap, ◌∙◌, refl}
+use Rattle.std.specs.Prelude.{Option, None, Some, Err, slice_get}
 use Rattle.std.specs.Option.{option_map}
 use Rattle.std.proofs.lemmas.Option.{slice_get-map}
-use Rattle.feed_csv.specs.declared.command.Command.TheVariants.{CloseSlot, OpenSlot}
 use Rattle.stream_store.specs.Seats.{SessionView, held_version}
-use Rattle.script_lines.specs.Lines.{close_line, open_line}
 use Rattle.stinger_server.specs.Slots.{held_by, held_of}
-use Rattle.stinger_server.specs.States.{Held, IsCommandResult, State, version_in}
-use Rattle.script_lines.specs.declared.words.Word.TheVariants.{AlreadyOpen, NotOpen}
+use Rattle.stinger_server.specs.States.{Held, version_in}
+use Rattle.script_lines.specs.declared.words.Word.TheVariants.{NotOpen}
 
 not_open : (held : Option (Option Held)) → version_in held ≡ Err NotOpen → held ≡ Some None
 not_open None not = cc

@@ -1,6 +1,5 @@
 pub mod Writing
 pub mod Flushed
-pub mod EndLine
 pub mod SlotLaws
 pub mod DeskLaws
 pub mod NamesApart

@@ -1,10 +1,8 @@
 -- A desk that opened with what a session holds: which state it shows, and what its line says.
-use Rattle.std.proofs.Common.{◌≡◌, ℕ, zero, suc, ◌+◌, ◌-◌, ◌≤◌, Bool, true, false, cond, List, [], ◌∷◌, length, map, set}
-use Rattle.std.proofs.Common.{count_by, replicate, refl, sym, ap, ap₂, subst, ◌∙◌, arith}
-use Rattle.std.specs.Prelude.{All, IfSome, Option, None, Some, Ok, slice_get}
+use Rattle.std.proofs.Common.{◌≡◌, ℕ, zero, suc, ◌-◌, Bool, false, cond, List, [], ◌∷◌, length, map, set}
+use Rattle.std.proofs.Common.{count_by, replicate, refl, ap, ap₂, ◌∙◌, arith}
+use Rattle.std.specs.Prelude.{Ok, slice_get}
 use Rattle.std.specs.FinMap.{len}
-use Rattle.std.proofs.lemmas.List.Elements.{All-get_or, All-from_get_or}
-use Rattle.std.proofs.lemmas.Option.{get_or_from_slice_get, slice_get_within}
 use Rattle.block_layout.specs.Batches.{sum_below}
 use Rattle.block_layout.specs.Rows.{Shape, shape_of}
 use Rattle.block_pool.specs.Pools.{Status, Free, Used, is_retired, is_used, marked}
@@ -21,7 +19,6 @@ use Rattle.script_lines.specs.Lines.{rebase_line}
 use Rattle.store_steps.specs.Desks.{DeskView, IsDesk, birth_at, is_retired_by}
 use Rattle.store_steps.specs.Opening.{opened_desk}
 use Rattle.stream_store.specs.Refusals.{block_count}
-use Rattle.stream_store.specs.Seats.{SessionView, held_version}
 use Rattle.stinger_server.proofs.DeskLaws.{length-replicate, none_counted, parts}
 use Rattle.stinger_server.proofs.HeldBlocks.{blocks_counted}
 use Rattle.stinger_server.specs.Servers.{ShowsDesk}
@@ -137,25 +134,3 @@ rebase_done s v d slot number names edges many lines there rebased desk used sam
     let c : edges ≡ len (version (length v.batches) s).edges = edges_are ∙ ap (λ g. len g.edges) graph in
     let u : many ≡ held_blocks (held_of v) s = used_are ∙ (used ∙ count_rebased s v d rebased desk same) in
     rw (lines_are, there, a, b, c, u) refl
-
--- How many blocks a session holds
-
-abbrev IsFew : ℕ → Option SessionView → Type 0
-IsFew blocks session = IfSome session (λ s. block_count (held_version s) ≤ blocks)
-
-pub few_there : (blocks : ℕ) (sessions : List (Option SessionView)) (slot : ℕ) (s : SessionView) → All (IsFew blocks) sessions
-    → slice_get sessions slot ≡ Some (Some s) → block_count (held_version s) ≤ blocks
-few_there blocks sessions slot s few there =
-    subst (IsFew blocks) (get_or_from_slice_get sessions slot (Some s) None there)
-    (All-get_or (IsFew blocks) sessions slot None (slice_get_within sessions slot (Some s) there) few)
-
-pub few_none : (blocks : ℕ) (sessions : List (Option SessionView)) (n : ℕ) → sessions ≡ replicate n None
-    → All (IsFew blocks) sessions
-few_none blocks sessions n same =
-    subst (All (IsFew blocks)) (sym same)
-    (All-from_get_or (IsFew blocks) (replicate n None) None (λ i below. subst (IsFew blocks) (sym (none_or n i)) tt))
-  where
-    none_or : (n i : ℕ) → Rattle.std.proofs.Common.get_or (replicate n (let o : Option SessionView = None in o)) i None ≡ None
-    none_or zero i = refl
-    none_or (suc n) zero = refl
-    none_or (suc n) (suc i) = none_or n i

@@ -1,5 +1,5 @@
 -- Why a run ends as it does.
-use Rattle.std.proofs.Common.{◌≡◌, ℕ, ◌+◌, ◌<◌, List, length, refl, ◌∙◌, ap, subst, sym, arith, inl}
+use Rattle.std.proofs.Common.{◌≡◌, ℕ, ◌+◌, ◌<◌, List, length, ◌∙◌, ap, subst, sym, arith, inl}
 use Rattle.std.specs.Prelude.{Bool, false, true, Option, Some, Result, Ok, Err, IfErr, IfOk, is_err}
 use Rattle.std.proofs.lemmas.Bool.{true≢false}
 use Rattle.feed_csv.specs.Records.{record_limit}
@@ -9,20 +9,9 @@ use Rattle.stinger_server.specs.declared.script.Run.{Run}
 use Rattle.stinger_server.specs.declared.script.ServeFault.{ServeFault}
 use Rattle.stinger_server.specs.declared.script.ServeFault.TheVariants.{Read, Memory, Start, Write}
 use Rattle.stinger_server.specs.declared.script.Summary.{Summary}
-use Rattle.stinger_server.specs.States.{IsRebase, Setup}
-use Rattle.stinger_server.specs.Runs.{ExecutesRecord, FailsToWrite, HasCause, IsFresh, IsReady, IsStartup, IsTurn}
-use Rattle.stinger_server.specs.Runs.{done_by, is_start, is_write, records_done}
-
--- there was no store, or no memory for a first record
-pub cause_unstarted : (feed : Script) (setup : Setup) (before after : Option (List ℕ)) (failed : Bool) (fault : ServeFault)
-    → IsFresh feed → IsStartup setup before (Err fault) after → failed ≡ is_write {T = Run} (Err fault)
-    → HasCause feed failed (Err fault)
-cause_unstarted feed setup before after failed Read fresh ends marked = absurd ends
-cause_unstarted feed setup before after failed Memory fresh ends marked =
-    let none : records_done feed ≡ 0 = rw (fresh.reading, fresh.given) refl in
-    (subst (λ (n : ℕ). n < record_limit) (sym none) (omega arith), marked)
-cause_unstarted feed setup before after failed Start fresh ends marked = (fresh.reading, marked)
-cause_unstarted feed setup before after failed Write fresh ends marked = marked
+use Rattle.stinger_server.specs.States.{IsRebase}
+use Rattle.stinger_server.specs.Runs.{ExecutesRecord, FailsToWrite, HasCause, IsReady, IsTurn}
+use Rattle.stinger_server.specs.Runs.{done_by, is_start, is_write}
 
 -- a turn ended the run
 pub cause_stopped : (feed feed' : Script) (run run' : Run) (now after : Option (List ℕ)) (failed : Bool) (fault : ServeFault)

@@ -21,7 +21,7 @@ use Rattle.stinger_server.specs.States.{IsRecordResult, RecordResult, Setup, aft
 use Rattle.stinger_server.specs.Texts.{IsTextToFault, ExecutesPrefix, IsText, IsTextToRebase, IsIntendedText, IsFullText}
 use Rattle.stinger_server.specs.Writes.{AppendsPart, AppendsSome}
 use Rattle.stinger_server.proofs.Writing.{appends_nothing, appends_then, part_then}
-use Rattle.stinger_server.proofs.RunSoFar.{Leaves, Reaches, few_given, leaves-append, run-append}
+use Rattle.stinger_server.proofs.RunSoFar.{Reaches, few_given, leaves-append, run-append}
 
 -- the lines so far are those of some first records
 start_of : (setup : Setup) (rows : List Row) (left : Option (List Row)) (run : Run) (before now : Option (List ℕ))

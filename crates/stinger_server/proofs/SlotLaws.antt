@@ -9,7 +9,7 @@ use Rattle.std.specs.Iterator.{Yields}
 use Rattle.std.specs.Vec.Iter.{into_iter_items, into_iter_len, into_iter_steps}
 use Rattle.std.specs.declared.vec.IntoIter.{IntoIter}
 use Rattle.std.proofs.lemmas.Bool.{eq-eqb, eqb-true, true≢false}
-use Rattle.std.proofs.lemmas.List.{get_or-set_same, get_or-set_other, length-map, map-set, set-get_or}
+use Rattle.std.proofs.lemmas.List.{get_or-set_same, get_or-set_other, length-map, map-set}
 use Rattle.std.proofs.lemmas.List.{take-append-le, length-append, get_or-map}
 use Rattle.std.proofs.lemmas.List.FromFn.{get_or-range_with_len}
 use Rattle.std.proofs.lemmas.Option.{get_or_from_slice_get, slice_get_read, slice_get_within}
@@ -31,11 +31,6 @@ same_or_not a b = elim (a == b) as (λ t. (a == b) ≡ t → (a ≡ b) ⊎ (a �
   | true ↦ λ e. inl (eqb-true a b e)
   | false ↦ λ e. inr (λ same. true≢false (sym (eq-eqb a b same) ∙ e))
 ] refl
-
-get_or-none : {X : Type 0} (xs : List (Option X)) (i : ℕ) → length xs ≤ i → get_or xs i None ≡ None
-get_or-none [] i past = refl
-get_or-none (x ∷ xs) zero past = absurd (omega arith)
-get_or-none (x ∷ xs) (suc i) past = get_or-none xs i (omega arith)
 
 -- At first
 
@@ -116,13 +111,6 @@ session_number last slot None (Some session) s is same =
 session_number last slot (Some seat) (Some session) s is same = absurd is
 session_number last slot seat None s is same = cc
 
--- there is a seat where there is no session
-pub seat_there : (last : VersionView) (slot : ℕ) (seat : Option SeatView) (session : Option SessionView)
-    → IsSlot last slot seat session → session ≡ None → seat ≡ None → ⊥
-seat_there last slot (Some seat) session is none gone = cc
-seat_there last slot None (Some session) is none gone = cc
-seat_there last slot None None is none gone = is
-
 -- the pins with that slot's pin and session changed
 pinned_set : (last : ℕ) (board : BoardState) (sessions : List (Option SessionView)) (slot : ℕ) (pin : Option Pin)
     (session : Option SessionView) → IsPinned last board sessions → slot < length sessions → length sessions ≤ SEATS
@@ -194,16 +182,6 @@ slots_released last board new seats sessions slot seat session slots there is un
     rw (unpinned, is, number) (slots_set last board seats sessions slot None
     (Some (record { number = slot; seen = session.seen })) None slots below refl refl)
 
--- a seat that was taken and put back
-pub seat_back : (seats : List (Option SeatView)) (slot : ℕ) (seat : Option SeatView) → get_or seats slot None ≡ seat
-    → set (set seats slot None) slot seat ≡ seats
-seat_back seats slot seat there = set_again seats slot None seat ∙ (ap (set seats slot) (sym there) ∙ set-get_or seats slot None)
-  where
-    set_again : {X : Type 0} (xs : List X) (i : ℕ) (x y : X) → set (set xs i x) i y ≡ set xs i y
-    set_again [] i x y = refl
-    set_again (z ∷ zs) zero x y = refl
-    set_again (z ∷ zs) (suc i) x y = ap (λ ws. z ∷ ws) (set_again zs i x y)
-
 -- A batch more
 
 earlier_more : (last new v : VersionView) (batch : List NamedOp) → new.opening ≡ last.opening
@@ -239,10 +217,6 @@ slots_more last new batch board seats sessions opening batches slots = record {
     floor = omega (arith, slots.pinned.floor, ap length batches, length-append last.batches (batch ∷ []));
   };
 }
-
-pub slots_same : (last new : VersionView) (board : BoardState) (seats : List (Option SeatView))
-    (sessions : List (Option SessionView)) → new ≡ last → AreSlots last board seats sessions → AreSlots new board seats sessions
-slots_same last new board seats sessions same slots = rw same slots
 
 -- The copy of the pins, and its floor
 

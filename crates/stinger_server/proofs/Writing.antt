@@ -1,5 +1,5 @@
 -- Known bytes that grow by one text and then by another.
-use Rattle.std.proofs.Common.{◌≡◌, ℕ, ◌+◌, ◌-◌, List, [], ◌++◌, append_assoc, append-nil, refl, sym, ◌∙◌, ap, take, drop, length}
+use Rattle.std.proofs.Common.{◌≡◌, ℕ, ◌+◌, ◌-◌, List, [], ◌++◌, append_assoc, append-nil, sym, ◌∙◌, ap, take, drop, length}
 use Rattle.std.proofs.Common.{length-drop}
 use Rattle.std.specs.Prelude.{Option, None, Some, Result, Ok, Err, OnErr, OnOk}
 use Rattle.std.proofs.lemmas.List.{take-append-drop}
@@ -37,13 +37,6 @@ part_then a b c x y first second = (
 pub part_longer : (a b : Option (List ℕ)) (x y : List ℕ) → AppendsPart a b x → AppendsPart a b (x ++ y)
 part_longer a b x y part = (part.0, part.1 ++ y, ap (λ text. text ++ y) part.2 ∙ append_assoc part.0 part.1 y, part.3)
 
-pub part_of_whole : (a b : Option (List ℕ)) (x y : List ℕ) → Appends a b x → AppendsPart a b (x ++ y)
-part_of_whole a b x y whole = (x, y, refl, whole)
-
--- a text of which nothing more was written
-pub part_kept : (a b c : Option (List ℕ)) (x y : List ℕ) → Appends a b x → Keeps b c → AppendsPart a c (x ++ y)
-part_kept a b c x y whole kept = (x, y, refl, appends_kept a b c x whole kept)
-
 pub slice_rest : (at : ℕ) (text : List ℕ) → take (length text - at) (drop at text) ≡ drop at text
 slice_rest at text = rw (← length-drop at text) (take-length (drop at text))
 
@@ -58,12 +51,6 @@ pub part_taken : (a b c : Option (List ℕ)) (at : ℕ) (text : List ℕ) → Ap
     → AppendsPart a c text
 part_taken a b c at text before kept =
     (take at text, drop at text, sym (take-append-drop at text), appends_kept a b c (take at text) before kept)
-
--- the first bytes of a text, and then n more
-pub part_more : (a b c : Option (List ℕ)) (at n : ℕ) (text : List ℕ) → Appends a b (take at text)
-    → Appends b c (take n (take (length text - at) (drop at text))) → AppendsPart a c text
-part_more a b c at n text before more =
-    (take (at + n) text, drop (at + n) text, sym (take-append-drop (at + n) text), taken_more a b c at n text before more)
 
 pub on_err : {T E : Type 0} (r : Result T E) (P : Type 0) → P → OnErr r P
 on_err (Ok x) P h = tt
