@@ -6,3 +6,4 @@ pub mod Needs
 pub mod Resolving
 pub mod Leaving
 pub mod Sources
+pub mod Places

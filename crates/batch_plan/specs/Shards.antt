@@ -27,10 +27,14 @@ abbrev pub IsSourceBelow : ℕ → Resolved → Type 0
 IsSourceBelow n (AtKey source key change) = (k : Key) → key ≡ Some k → k.source < n
 IsSourceBelow n (InAll time) = Unit {0}
 
--- the sources in order of first appearance, with that of a key
+-- the sources in order of first appearance, with one that may be among them
+abbrev pub with_number : ℕ → List ℕ → List ℕ
+with_number source sources = if list_any (nat_eq source) sources then sources else sources ++ source ∷ []
+
+-- the sources with that of a key
 abbrev pub with_source : Option Key → List ℕ → List ℕ
 with_source None sources = sources
-with_source (Some k) sources = if list_any (nat_eq k.source) sources then sources else sources ++ k.source ∷ []
+with_source (Some k) sources = with_number k.source sources
 
 -- the sources with that of an operation
 abbrev pub with_op : Resolved → List ℕ → List ℕ

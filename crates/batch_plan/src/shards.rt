@@ -1,6 +1,7 @@
 //! A batch's operations by worker.
 
 ghost use Rattle.std.specs.Prelude.{◌≡◌, ◌≢◌, ◌+◌, ◌-◌, ◌≤◌, ◌<◌, ◌^◌, ℕ, List, length, map, min, IfOk, OnOk, All, AllPairs};
+ghost use Rattle.std.specs.Prelude.{IfSome, Some, nat_eq, position, slice_get};
 ghost use Rattle.std.specs.Option.{option_map};
 ghost use Rattle.indexmap.specs.IndexSet.{keys};
 ghost use Rattle.edge_block.specs.Slots.{BlockView};
@@ -11,7 +12,7 @@ ghost use Rattle.batch_shards.specs.Done.{layout_by, sources_in};
 ghost use Rattle.batch_shards.specs.Spending.{needed};
 ghost use Rattle.batch_plan.specs.Plan.{key_of, shown, IsInRange};
 ghost use Rattle.batch_plan.specs.OldRows.{AreOldRows, old_sources, own_rows, blocks_in};
-ghost use Rattle.batch_plan.specs.Shards.{IsShardOf, latest, unsourced, with_source, with_op};
+ghost use Rattle.batch_plan.specs.Shards.{IsShardOf, latest, unsourced, with_number, with_source, with_op};
 
 use crate::old::OldRow;
 use crate::resolve::{EdgeKey, ResolvedOp};
@@ -43,27 +44,94 @@ fn is_in_shard(workers: usize, worker: usize, op: ResolvedOp) -> bool
     }
 }
 
+/// So many operations ask for few sources: these are looked through, and need no table.
+const FEW: usize = 16;
+
+/// The table of a worker's sources, but none where they and as many operations are few.
+fn table_of_many(places: IndexSet<u32>, operations: usize) -> Option<IndexSet<u32>>
+    ensures { IfSome result (λ kept. kept.keys ≡ places.keys) }
+{
+    if places.len().saturating_add(operations) <= FEW {
+        None
+    } else {
+        Some(places)
+    }
+}
+
+/// The place of a source among the sources.
+fn find_source(sources: &[VertexId], source: u32) -> Option<usize>
+    ensures { result ≡ position (λ s. nat_eq source s.0) sources.now }
+{
+    sources.iter().position(|listed| source == listed.0)
+}
+
+/// The place of a source among few sources, to which a new one is added.
+fn place_among_few(sources: &mut Vec<VertexId>, source: u32) -> Result<usize, AllocError>
+    ensures sources { OnOk result (map (λ s. s.0) sources.new.items ≡ with_number source (map (λ s. s.0) sources.old.items)) }
+    ensures place { IfOk result (λ p. slice_get (map (λ s. s.0) sources.new.items) p ≡ Some source) }
+{
+    if let Some(place) = find_source(sources.as_slice(), source) {
+        return Ok(place);
+    }
+    let place = sources.len();
+    sources.push(VertexId(source))?;
+    Ok(place)
+}
+
+/// The place of a source among sources with a table, to which a new one is added.
+fn place_in_table(
+    sources: &mut Vec<VertexId>,
+    places: &mut IndexSet<u32>,
+    source: u32,
+) -> Result<usize, AllocError>
+    requires same { map (λ s. s.0) sources.old.items ≡ places.old.keys }
+    ensures same { OnOk result (map (λ s. s.0) sources.new.items ≡ places.new.keys) }
+    ensures sources { OnOk result (map (λ s. s.0) sources.new.items ≡ with_number source (map (λ s. s.0) sources.old.items)) }
+    ensures place { IfOk result (λ p. slice_get (map (λ s. s.0) sources.new.items) p ≡ Some source) }
+{
+    let (place, is_new) = places.insert_full(source)?;
+    if is_new {
+        sources.push(VertexId(source))?;
+    }
+    Ok(place)
+}
+
+/// The place of a source among the sources, to which a new one is added.
+fn place_of(
+    sources: &mut Vec<VertexId>,
+    places: &mut Option<IndexSet<u32>>,
+    source: u32,
+) -> Result<usize, AllocError>
+    requires same { IfSome places.old (λ p. map (λ s. s.0) sources.old.items ≡ p.keys) }
+    ensures same { OnOk result (IfSome places.new (λ p. map (λ s. s.0) sources.new.items ≡ p.keys)) }
+    ensures sources { OnOk result (map (λ s. s.0) sources.new.items ≡ with_number source (map (λ s. s.0) sources.old.items)) }
+    ensures place { IfOk result (λ p. slice_get (map (λ s. s.0) sources.new.items) p ≡ Some source) }
+{
+    match places {
+        None => place_among_few(sources, source),
+        Some(places) => place_in_table(sources, places, source),
+    }
+}
+
 /// Where a key's edge is: the place of its source among the sources, to which a new one is added.
 fn place_in(
     sources: &mut Vec<VertexId>,
-    places: &mut IndexSet<u32>,
+    places: &mut Option<IndexSet<u32>>,
     key: Option<EdgeKey>,
 ) -> Result<Option<Place>, AllocError>
-    requires few { length places.old.keys < 2 ^ 32 }
-    requires same { map (λ s. s.0) sources.old.items ≡ places.old.keys }
-    ensures same { OnOk result (map (λ s. s.0) sources.new.items ≡ places.new.keys) }
-    ensures sources { OnOk result (places.new.keys ≡ with_source (option_map key_of key) places.old.keys) }
-    ensures key { IfOk result (λ p. key_at places.new.keys p ≡ option_map key_of key) }
-    ensures place { IfOk result (λ p. IsPlace (length places.new.keys) p) }
-    ensures few { OnOk result (length places.new.keys ≤ length places.old.keys + 1) }
+    requires few { length sources.old.items < 2 ^ 32 }
+    requires same { IfSome places.old (λ p. map (λ s. s.0) sources.old.items ≡ p.keys) }
+    ensures same { OnOk result (IfSome places.new (λ p. map (λ s. s.0) sources.new.items ≡ p.keys)) }
+    ensures sources { OnOk result (map (λ s. s.0) sources.new.items
+        ≡ with_source (option_map key_of key) (map (λ s. s.0) sources.old.items)) }
+    ensures key { IfOk result (λ p. key_at (map (λ s. s.0) sources.new.items) p ≡ option_map key_of key) }
+    ensures place { IfOk result (λ p. IsPlace (length (map (λ s. s.0) sources.new.items)) p) }
+    ensures few { OnOk result (length sources.new.items ≤ length sources.old.items + 1) }
 {
     let Some(key) = key else {
         return Ok(None);
     };
-    let (row, is_new) = places.insert_full(key.source)?;
-    if is_new {
-        sources.push(VertexId(key.source))?;
-    }
+    let row = place_of(sources, places, key.source)?;
     Ok(Some(Place {
         row: row as u32,
         kind: key.kind,
@@ -74,17 +142,17 @@ fn place_in(
 /// What an operation of a shard does, where the place of its edge is by the sources, to which a new one is added.
 fn act_in(
     sources: &mut Vec<VertexId>,
-    places: &mut IndexSet<u32>,
+    places: &mut Option<IndexSet<u32>>,
     op: ResolvedOp,
 ) -> Result<Act, AllocError>
-    requires few { length places.old.keys < 2 ^ 32 }
-    requires same { map (λ s. s.0) sources.old.items ≡ places.old.keys }
+    requires few { length sources.old.items < 2 ^ 32 }
+    requires same { IfSome places.old (λ p. map (λ s. s.0) sources.old.items ≡ p.keys) }
     requires valid { IsInRange op }
-    ensures same { OnOk result (map (λ s. s.0) sources.new.items ≡ places.new.keys) }
-    ensures sources { OnOk result (places.new.keys ≡ with_op (shown op) places.old.keys) }
-    ensures act { IfOk result (λ act. unsourced (resolved_at places.new.keys act) ≡ unsourced (shown op)) }
-    ensures in_rows { IfOk result (IsAct (length places.new.keys)) }
-    ensures few { OnOk result (length places.new.keys ≤ length places.old.keys + 1) }
+    ensures same { OnOk result (IfSome places.new (λ p. map (λ s. s.0) sources.new.items ≡ p.keys)) }
+    ensures sources { OnOk result (map (λ s. s.0) sources.new.items ≡ with_op (shown op) (map (λ s. s.0) sources.old.items)) }
+    ensures act { IfOk result (λ act. unsourced (resolved_at (map (λ s. s.0) sources.new.items) act) ≡ unsourced (shown op)) }
+    ensures in_rows { IfOk result (IsAct (length (map (λ s. s.0) sources.new.items))) }
+    ensures few { OnOk result (length sources.new.items ≤ length sources.old.items + 1) }
 {
     match op {
         ResolvedOp::Edge(_, key, change) => {
@@ -162,9 +230,10 @@ pub fn shard_for(
 {
     let Listed {
         mut sources,
-        mut places,
+        places,
         mut blocks,
     } = list_old(alloc, workers, worker, old)?;
+    let mut places = table_of_many(places, ops.len());
     let mut steps = Vec::new(alloc);
     for k in 0..ops.len() {
         let op = ops[k];

@@ -1,9 +1,10 @@
 use Rattle.std.proofs.Common.{◌≡◌, ◌+◌, ◌-◌, ◌^◌, ◌<◌, true, false, ℕ, List, [], ◌∷◌, ◌++◌, length, map, get_or, take, min, cond, ap}
 use Rattle.std.proofs.Common.{sym, subst, ◌∙◌, arith}
 use mir.Val.{bool_byte}
-use Rattle.std.specs.Prelude.{pos, count_by, not, Bool}
+use Rattle.std.specs.Prelude.{pos, count_by, not, Bool, IfSome}
 use Rattle.std.specs.List.{sum_by}
-use Rattle.std.specs.declared.option.Option.TheVariants.{None}
+use Rattle.std.specs.declared.option.Option.{Option}
+use Rattle.std.specs.declared.option.Option.TheVariants.{None, Some}
 use Rattle.std.proofs.lemmas.List.{length-map, length-take-le, take_all, take_more, get_or-map}
 use Rattle.std.proofs.lemmas.List.Sums.{sum_by_push}
 use Rattle.graph_model.specs.declared.changes.EdgeChange.TheVariants.{Insert}
@@ -16,7 +17,7 @@ use Rattle.batch_shards.specs.declared.shard.Act.{Act}
 use Rattle.batch_shards.specs.declared.shard.Step.{Step}
 use Rattle.batch_plan.specs.Plan.{shown}
 use Rattle.batch_plan.specs.Shards.{AreShardSteps, is_old_row, latest}
-use Rattle.batch_plan.specs.OldRows.{own_rows, blocks_in}
+use Rattle.batch_plan.specs.OldRows.{own_rows, blocks_in, old_sources}
 use Rattle.batch_plan.specs.declared.old.OldRow.{OldRow}
 use Rattle.batch_plan.specs.declared.resolve.ResolvedOp.{ResolvedOp}
 use Rattle.batch_plan.specs.declared.resolve.ResolvedOp.TheVariants.{Edge}
@@ -30,19 +31,31 @@ byte_is : (b : Bool) (n : ℕ) → n ≡ bool_byte b → n ≡ cond b 1 0
 byte_is true n is = is
 byte_is false n is = is
 
+kept_same : {A : Type 0} (keys_of : A → List ℕ) (kept : Option A) (keys sources : List ℕ)
+    → IfSome kept (λ p. keys_of p ≡ keys) → sources ≡ keys → IfSome kept (λ p. sources ≡ keys_of p)
+kept_same keys_of None keys sources is same = tt
+kept_same keys_of (Some p) keys sources is same = same ∙ sym is
+
 pub loop-k-init : goal.loop-k-init
 loop-k-init c =
     let old : List OldRow = c.args.old.now in
     let (rows, are) = c.requires.old in
     let first : ℕ = blocks_in (own_rows c.args.workers c.args.worker old) in
     let none : first ≡ first + 0 = omega arith in
+    let listed : map (λ (s : VertexId). s.0) c.in_ok-sources.field-0.sources.items ≡ old_sources (own_rows c.args.workers c.args.worker old) =
+    c.in_ok-sources.ensures.same ∙ c.in_ok-sources.ensures.own in
     record {
-      steps = rw (c.in_ok-sources.ensures.own, c.new-steps.ensures.items) (start c.args.workers c.args.worker old are.distinct);
-      same = c.in_ok-sources.ensures.same;
-      old_blocks = rw c.in_ok-sources.ensures.own (own_blocks (latest (map shown c.args.ops.now)) rows old are c.args.workers
-          c.args.worker);
+      steps = rw (listed, c.new-steps.ensures.items) (start c.args.workers c.args.worker old are.distinct);
+      same = kept_same _ c.table_of_many-places.result c.in_ok-sources.field-0.places.keys _ c.table_of_many-places.ensures
+          c.in_ok-sources.ensures.same;
+      old_blocks = rw listed (own_blocks (latest (map shown c.args.ops.now)) rows old are c.args.workers c.args.worker);
       blocks = rw c.new-steps.ensures.items (c.in_ok-sources.ensures.blocks ∙ ap (λ n. min n (2 ^ 64 - 1)) none);
-      few = rw c.in_ok-sources.ensures.own (let few = own_few c.args.workers c.args.worker old in omega arith);
+      few = let few = own_few c.args.workers c.args.worker old in omega (
+        arith,
+        few,
+        ap length listed,
+        length-map c.in_ok-sources.field-0.sources.items (λ (s : VertexId). s.0),
+      );
     }
 
 pub loop-k-preserved : goal.loop-k-preserved
@@ -60,7 +73,7 @@ loop-k-preserved c =
     let within : i < length rs = omega arith in
     let at : get_or rs i (shown d) ≡ r = get_or-map shown ops i d (shown d) lt in
     let step : take (i + 1) rs ≡ take i rs ++ r ∷ [] = take_more rs i (shown d) within ∙ ap (λ x. take i rs ++ x ∷ []) at in
-    let keys : List ℕ = c.loop-k.places.keys in
+    let keys : List ℕ = map (λ (s : VertexId). s.0) c.loop-k.sources.items in
     let steps : List Step = c.loop-k.steps.items in
     elim c.if-is_in_shard.branch [
       | then-is_in_shard+in_ok-act+in_ok-push w ↦
@@ -68,7 +81,7 @@ loop-k-preserved c =
           let placed : IsPlaced r = subst IsPlaced at (c.requires.placed i (shown d) within) in
           let act : Act = w.in_ok-act.act in
           let s : Step = record { op = i; act = act } in
-          let next : List ℕ = w.act_in.new.places.keys in
+          let next : List ℕ = map (λ (s : VertexId). s.0) w.act_in.new.sources.items in
           let done : AreShardSteps workers (take i rs ++ r ∷ []) worker (is_listed old) next (steps ++ s ∷ []) =
           added workers worker (take i rs) r (is_listed old) keys steps c.loop-k.invariant.steps mine placed next i act
           w.in_ok-act.ensures.sources (sym (length-take-le i rs (omega arith))) w.in_ok-act.ensures.act
@@ -84,22 +97,22 @@ loop-k-preserved c =
           let sum : w.saturating_add-blocks.result ≡ min (blocks_in (own_rows workers worker old)
           + count_by (λ (t : Step). not (is_expiry t.act)) (steps ++ s ∷ [])) (2 ^ 64 - 1) = omega arith in
           record {
-            steps = rw (w.places-is, w.steps-is, w.in_ok-push.ensures.items, step) done;
+            steps = rw (w.sources-is, w.steps-is, w.in_ok-push.ensures.items, step) done;
             same = rw (w.sources-is, w.places-is) w.in_ok-act.ensures.same;
-            old_blocks = rw w.places-is (sums ∙ c.loop-k.invariant.old_blocks);
+            old_blocks = rw w.sources-is (sums ∙ c.loop-k.invariant.old_blocks);
             blocks = rw (w.blocks-is, w.steps-is, w.in_ok-push.ensures.items) sum;
-            few = rw w.places-is (omega (arith, w.in_ok-act.ensures.few, c.loop-k.invariant.few));
+            few = rw w.sources-is (omega (arith, w.in_ok-act.ensures.few, c.loop-k.invariant.few));
           }
       | else-is_in_shard w ↦
           let other : is_in_shard workers worker r ≡ false = sym c.is_in_shard.ensures ∙ w.if-is_in_shard.false in
           let done : AreShardSteps workers (take i rs ++ r ∷ []) worker (is_listed old) keys steps =
           passed workers worker (take i rs) r (is_listed old) keys steps c.loop-k.invariant.steps other in
           record {
-            steps = rw (w.places-is, w.steps-is, step) done;
+            steps = rw (w.sources-is, w.steps-is, step) done;
             same = rw (w.sources-is, w.places-is) c.loop-k.invariant.same;
-            old_blocks = rw w.places-is c.loop-k.invariant.old_blocks;
+            old_blocks = rw w.sources-is c.loop-k.invariant.old_blocks;
             blocks = rw (w.blocks-is, w.steps-is) c.loop-k.invariant.blocks;
-            few = rw w.places-is (omega (arith, c.loop-k.invariant.few));
+            few = rw w.sources-is (omega (arith, c.loop-k.invariant.few));
           }
     ]
 
@@ -110,7 +123,7 @@ returns-clause-shard c rows are =
     let long : length rs ≡ length c.args.ops.now = length-map c.args.ops.now shown in
     let whole : take c.loop-k.k rs ≡ rs = take_all c.loop-k.k rs (omega (arith, long, c.loop-k-test.false)) in
     let done : AreShardSteps c.args.workers rs c.args.worker (is_listed c.args.old.now) sources c.loop-k.steps.items =
-    rw (sym whole, c.loop-k.invariant.same) c.loop-k.invariant.steps in
+    rw (sym whole) c.loop-k.invariant.steps in
     same_old c.args.workers c.args.worker rs (is_listed c.args.old.now) (λ s. is_old_row (latest rs) (layout_by rows s)) sources
     c.loop-k.steps.items (listed_agrees (latest rs) rows c.args.old.now are) done
 
@@ -122,13 +135,13 @@ returns-clause-blocks c rows are =
     let long : length rs ≡ length c.args.ops.now = length-map c.args.ops.now shown in
     let whole : take c.loop-k.k rs ≡ rs = take_all c.loop-k.k rs (omega (arith, long, c.loop-k-test.false)) in
     let done : AreShardSteps c.args.workers rs c.args.worker (is_listed c.args.old.now) sources steps =
-    rw (sym whole, c.loop-k.invariant.same) c.loop-k.invariant.steps in
+    rw (sym whole) c.loop-k.invariant.steps in
     let time : latest_step steps ≡ latest rs = same_latest c.args.workers c.args.worker rs (is_listed c.args.old.now) sources steps
     done in
     let old : sum_by (λ s. old_blocks (latest_step steps) (rows s)) sources
     ≡ blocks_in (own_rows c.args.workers c.args.worker c.args.old.now) =
     ap (λ t. sum_by (λ s. old_blocks t (rows s)) sources) time ∙ sym (sum_agrees (latest rs) rows c.args.old.now are sources)
-    ∙ ap (sum_by (listed_blocks c.args.old.now)) c.loop-k.invariant.same ∙ c.loop-k.invariant.old_blocks in
+    ∙ c.loop-k.invariant.old_blocks in
     let edges : ℕ = count_by (λ (s : Step). not (is_expiry s.act)) steps in
     let both : blocks_in (own_rows c.args.workers c.args.worker c.args.old.now) + edges
     ≡ edges + sum_by (λ s. old_blocks (latest_step steps) (rows s)) sources = omega arith in
