@@ -125,6 +125,10 @@ fn take_last(blocks: &mut Vec<Arc<Block>>, count: usize) -> Result<Vec<Arc<Block
         → count_by q (numbers_of blocks.new.items) + count_by q (numbers_of v.items) ≡ count_by q (numbers_of blocks.old.items)) }
 {
     let rest = blocks.len() - count;
+    if rest == 0 {
+        let none = Vec::new(*blocks.allocator());
+        return Ok(std::mem::replace(blocks, none));
+    }
     let taken = blocks.split_off(rest)?;
     Ok(taken)
 }
@@ -185,9 +189,21 @@ fn add(all: &mut Gathered, done: ShardDone) -> Result<(), AllocError>
         mut left,
     } = done;
     write_outcomes(&mut all.outcomes, outcomes);
-    all.rows.append(&mut rows)?;
-    all.left.taken.append(&mut left.taken)?;
+    add_items(&mut all.rows, &mut rows)?;
+    add_items(&mut all.left.taken, &mut left.taken)?;
     add_blocks(&mut all.left, &mut left)?;
+    Ok(())
+}
+
+/// Adds items at the end. Where there were none, the list is taken over as it is.
+fn add_items<T: Drop>(all: &mut Vec<T>, more: &mut Vec<T>) -> Result<(), AllocError>
+    ensures { OnOk result (all.new.items ≡ all.old.items ++ more.old.items) }
+{
+    if all.is_empty() {
+        std::mem::swap(all, more);
+        return Ok(());
+    }
+    all.append(more)?;
     Ok(())
 }
 
@@ -199,8 +215,8 @@ fn add_blocks(all: &mut Leavings, left: &mut Leavings) -> Result<(), AllocError>
     ensures unused { OnOk result (numbers_of all.new.unused.items ≡ numbers_of all.old.unused.items
         ++ numbers_of left.old.unused.items) }
 {
-    all.dropped.append(&mut left.dropped)?;
-    all.unused.append(&mut left.unused)?;
+    add_items(&mut all.dropped, &mut left.dropped)?;
+    add_items(&mut all.unused, &mut left.unused)?;
     Ok(())
 }
 

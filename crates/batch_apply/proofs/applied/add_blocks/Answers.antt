@@ -8,10 +8,10 @@ use Rattle.batch_apply.proofs.applied.add_blocks.Goals as goal
 
 pub returns-clause-dropped : goal.returns-clause-dropped
 returns-clause-dropped c =
-    ap blocks_of c.in_ok-append.ensures.items
+    ap blocks_of c.in_ok-add_items.ensures
     ∙ map-append block_of c.args.all.now.dropped.items c.args.left.now.dropped.items
 
 pub returns-clause-unused : goal.returns-clause-unused
 returns-clause-unused c =
-    ap numbers_of c.in_ok-append-2.ensures.items
+    ap numbers_of c.in_ok-add_items-2.ensures
     ∙ map-append (λ (b : Arc Block Global). (block_of b).number) c.args.all.now.unused.items c.args.left.now.unused.items
