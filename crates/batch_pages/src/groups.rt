@@ -4,14 +4,15 @@ ghost use Rattle.std.specs.Prelude.{◌≡◌, ◌<◌, ◌^◌, ◌++◌, ◌�
 ghost use Rattle.batch_pages.specs.Batches.{batch_value};
 ghost use Rattle.batch_pages.specs.Pages.{in_pages, ArePages};
 
-use crate::pages::BatchPage;
+use crate::pages::{BatchPage, PAGE};
 use graph_model::Batch;
 use std::alloc::{AllocError, Global};
 use std::marker::Model;
 use std::sync::Arc;
+use std::vec::VecCloneMethods;
 
-/// How many batches stand in one page.
-const PAGE: usize = 32;
+/// How many pages stand in one group.
+const PAGES: usize = 32;
 
 /// At most 1,024 batches that follow one another, in pages of 32 that copies share.
 #[derive(Drop)]
@@ -35,10 +36,13 @@ impl Model for BatchGroup {
 impl Clone for BatchGroup {
     ghost is_clone = { λ group copy. copy ≡ group };
 
+    // With room for all that a group can have, so that the push behind a copy asks for no memory.
     fn clone(&self) -> Result<BatchGroup, AllocError> {
+        let mut pages = Vec::with_capacity(*self.pages.allocator(), PAGES)?;
+        VecCloneMethods::extend_from_slice(&mut pages, &self.pages)?;
         Ok(BatchGroup {
             len: self.len,
-            pages: self.pages.clone()?,
+            pages,
         })
     }
 }

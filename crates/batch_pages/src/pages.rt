@@ -7,6 +7,10 @@ use graph_model::Batch;
 use std::alloc::{AllocError, Global};
 use std::marker::Model;
 use std::sync::Arc;
+use std::vec::VecCloneMethods;
+
+/// How many batches stand in one page.
+pub(crate) const PAGE: usize = 32;
 
 /// At most 32 batches that follow one another.
 #[derive(Drop)]
@@ -27,10 +31,11 @@ impl Model for BatchPage {
 impl Clone for BatchPage {
     ghost is_clone = { λ page copy. copy ≡ page };
 
+    // With room for all that a page can have, so that the push behind a copy asks for no memory.
     fn clone(&self) -> Result<BatchPage, AllocError> {
-        Ok(BatchPage {
-            batches: self.batches.clone()?,
-        })
+        let mut batches = Vec::with_capacity(*self.batches.allocator(), PAGE)?;
+        VecCloneMethods::extend_from_slice(&mut batches, &self.batches)?;
+        Ok(BatchPage { batches })
     }
 }
 

@@ -1,14 +1,28 @@
-use Rattle.std.proofs.Common.{◌∙◌, ap, length}
-use Rattle.batch_pages.specs.Pages.{in_page}
+use Rattle.std.proofs.Common.{◌≡◌, ◌∙◌, ◌++◌, List, ap, sym, subst, length, flat_map}
+use Rattle.std.specs.List.{AllZip}
+use Rattle.std.specs.declared.sync.Arc.{Arc}
+use Rattle.std.specs.declared.alloc.Global.{Global}
+use Rattle.batch_pages.specs.Pages.{in_page, ArePages}
+use Rattle.batch_pages.specs.declared.pages.BatchPage.{BatchPage}
 use Rattle.list_pieces.proofs.Pieces.{zipped_pieces}
 use Rattle.list_pieces.proofs.Shown.{zipped_flat}
 use Rattle.batch_pages.proofs.groups.BatchGroupClone.clone.Goals as goal
 
 pub invariant_of-result : goal.invariant_of-result
-invariant_of-result c = (
-  ap length (zipped_flat in_page _ _ c.in_ok-clone.ensures.cases.0) ∙ c.self.invariant.0,
-  zipped_pieces 32 in_page _ _ c.in_ok-clone.ensures.cases.0 c.self.invariant.1,
-)
+invariant_of-result c =
+    let (ys, all, same) = c.in_ok-extend_from_slice.ensures.items in
+    let zipped : AllZip (λ x y. in_page y ≡ in_page x) c.self.inside.pages.items ys =
+    subst (λ (xs : List (Arc BatchPage Global)). AllZip (λ x y. in_page y ≡ in_page x) xs ys) c.deref.ensures.value same in
+    let whole : c.extend_from_slice.new.self.items ≡ ys = all ∙ ap (λ l. l ++ ys) c.in_ok-pages.ensures.items in (
+      ap (λ l. length (flat_map in_page l)) whole ∙ ap length (zipped_flat in_page _ _ zipped) ∙ c.self.invariant.0,
+      subst ArePages (sym whole) (zipped_pieces 32 in_page _ _ zipped c.self.invariant.1),
+    )
 
 pub returns : goal.returns
-returns c = record { cases = rw (← c.self.view_is) (zipped_flat in_page _ _ c.in_ok-clone.ensures.cases.0) }
+returns c =
+    let (ys, all, same) = c.in_ok-extend_from_slice.ensures.items in
+    record {
+      cases = rw (← c.self.view_is) (ap (flat_map in_page) (all ∙ ap (λ l. l ++ ys) c.in_ok-pages.ensures.items)
+          ∙ zipped_flat in_page _ _ (subst (λ (xs : List (Arc BatchPage Global)).
+          AllZip (λ x y. in_page y ≡ in_page x) xs ys) c.deref.ensures.value same));
+    }
