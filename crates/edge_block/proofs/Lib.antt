@@ -5,6 +5,7 @@ pub mod KeptColumns
 pub mod Selections
 pub mod Targets
 pub mod Views
+pub mod Runs
 pub mod Room
 pub mod Ranges
 pub mod Times

@@ -1,6 +1,7 @@
 //! The block and its calls.
 
-ghost use Rattle.std.specs.Prelude.{◌≡◌, ℕ, ℤ, ◌<◌, ◌≤◌, ◌↔◌, IsTrue, [], length, map, filter, not, All, MatchOption, IfSome};
+ghost use Rattle.std.specs.Prelude.{◌≡◌, ℕ, ℤ, ◌<◌, ◌≤◌, ◌↔◌, IsTrue, [], ◌++◌, length, map, filter, not, All, MatchOption, IfSome};
+ghost use Rattle.std.specs.Prelude.{OnOk};
 ghost use Rattle.std.specs.Prelude.{slice_index_or, slice_set, false};
 ghost use Rattle.std.specs.List.{list_any};
 ghost use Rattle.graph_model.specs.Graph.{IsWeight, IsTime};
@@ -10,9 +11,10 @@ ghost use Rattle.edge_block.specs.Slots.{IsBlock, IsStamp, edges_in, edge_slot, 
 ghost use Rattle.edge_block.specs.Slots.{slots_since, old_in, has_before, IsOld};
 ghost use Rattle.edge_block.specs.Slots.{has_room_for, put_slot, take_slot, stamp_at, targets_in, with_slots};
 
-use crate::columns::{SLOTS, bounds_without, places_within, used_places};
+use crate::columns::{SLOTS, bounds_without, first_places, places_within, used_places};
 use graph_model::{Filter, KindId, VertexId};
 use lane_scan::{equal_columns, find_target, widened};
+use std::alloc::AllocError;
 use std::marker::Model;
 
 /// A block: a number, a source and a kind, and 32 slots, each empty or an edge.
@@ -66,7 +68,8 @@ pub struct EdgeRef<'a> {
 }
 
 impl Block {
-    ghost use Rattle.edge_block.specs.Lending.{IsEdgeTo, lent_edge, lent_of, edges_left};
+    ghost use Rattle.lane_scan.specs.Masks.{selected};
+    ghost use Rattle.edge_block.specs.Lending.{IsEdgeTo, lent_edge, lent_in, lent_of, edges_left};
 
     /// A block without edges, of source 0 and kind 0.
     pub fn blank(number: u32) -> Self
@@ -272,12 +275,43 @@ impl Block {
         ensures few { length (edges_left result) ≤ 32 }
         ensures in_range { All (λ edge. IsStamp edge.stamp) (edges_left result) }
     {
-        let mask = if takes(view, self.kind) {
+        BlockIter {
+            block: self,
+            mask: self.places_of(view),
+        }
+    }
+
+    /// Adds the targets of a view's edges, in slot order, behind what `targets` has. Where they are at the block's first places, as
+    /// in a block that nothing was taken from, they are copied at once. The error is want of memory for the list, which then
+    /// may have some of them.
+    pub fn list_targets(&self, view: &Filter, targets: &mut Vec<u32>) -> Result<(), AllocError>
+        ensures { OnOk result (targets.new.items
+            ≡ targets.old.items ++ map (λ e. e.0.target) (filter (in_view view.now) (entries_of self.now))) }
+    {
+        let mask = self.places_of(view);
+        let used = used_places(mask & self.live);
+        if mask & self.live == first_places(used) {
+            targets.extend_from_slice(&self.targets[..used])?;
+        } else {
+            for edge in (BlockIter { block: self, mask }) {
+                targets.push(*edge.target)?;
+            }
+        }
+        Ok(())
+    }
+
+    /// A mask that has, of the live places, those of a view's edges.
+    fn places_of(&self, view: &Filter) -> u32
+        ensures lends { map (lent_in self.now) (edges_in (selected result self.now.slots))
+            ≡ map lent_of (filter (in_view view.now) (entries_of self.now)) }
+        ensures few { length (map lent_of (filter (in_view view.now) (entries_of self.now))) ≤ 32 }
+        ensures in_range { All (λ edge. IsStamp edge.stamp) (map lent_of (filter (in_view view.now) (entries_of self.now))) }
+    {
+        if takes(view, self.kind) {
             places_within(&self.recents, self.live, self.times, view.lo, view.hi)
         } else {
             0
-        };
-        BlockIter { block: self, mask }
+        }
     }
 
     /// Where an edge to a target goes.

@@ -1,6 +1,6 @@
 //! Looks into a block's columns, by its word of live places and the bounds of its recent times.
 
-ghost use Rattle.std.specs.Prelude.{◌≡◌, ℕ, ◌<◌, ◌≤◌, ◌^◌, ◌↔◌};
+ghost use Rattle.std.specs.Prelude.{◌≡◌, ℕ, ◌-◌, ◌<◌, ◌≤◌, ◌^◌, ◌↔◌};
 ghost use Rattle.std.specs.Int.RustNames.{bit_and};
 ghost use Rattle.lane_scan.specs.Masks.{InMask, IsPlaceWithin, AreBoundsOf, selected};
 ghost use Rattle.edge_block.specs.Columns.{AreTimes, cleared_at};
@@ -16,6 +16,14 @@ pub(crate) fn used_places(live: u32) -> usize
     ensures past { (place : ℕ) → result ≤ place → InMask live place → ⊥ }
 {
     SLOTS - live.leading_zeros() as usize
+}
+
+/// A mask of so many places, the first ones.
+pub(crate) fn first_places(count: usize) -> u32
+    requires { count ≤ 32 }
+    ensures { result ≡ 2 ^ count - 1 }
+{
+    ((1 << count) - 1_u64) as u32
 }
 
 /// The live places whose recent time is in `lo..=hi`, as a mask.

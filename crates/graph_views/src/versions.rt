@@ -1,11 +1,8 @@
 //! A view of a version.
 
-ghost use Rattle.std.specs.Prelude.{◌≡◌, ◌++◌, OnOk};
 ghost use Rattle.graph_version.specs.Versions.{content};
-ghost use Rattle.graph_views.specs.Shown.{shown, targets_of};
 
 use crate::source::ViewEdges;
-use edge_block::Block;
 use graph_model::{Filter, VertexId};
 use graph_version::Version;
 use std::alloc::AllocError;
@@ -33,18 +30,8 @@ impl ViewEdges for VersionEdges<'_> {
         let _number = self.version.number();
         targets.clear();
         for block in self.version.row_blocks(VertexId(source)) {
-            add_targets(block, &self.filter, targets)?;
+            block.list_targets(&self.filter, targets)?;
         }
         Ok(())
     }
-}
-
-/// Adds the targets of a block's edges that the filter lets through, in slot order.
-fn add_targets(block: &Block, view: &Filter, targets: &mut Vec<u32>) -> Result<(), AllocError>
-    ensures { OnOk result (targets.new.items ≡ targets.old.items ++ targets_of (shown view.now block.now)) }
-{
-    for edge in block.select(view) {
-        targets.push(*edge.target)?;
-    }
-    Ok(())
 }

@@ -5,7 +5,7 @@ ghost use Rattle.graph_model.specs.Graph.{IsTime};
 
 use edge_block::{Block, EdgeRef};
 use graph_model::{Filter, KindId, VertexId};
-use std::alloc::AllocError;
+use std::alloc::{AllocError, Global};
 use std::process::Abort;
 use std::sync::Arc;
 use std::test::Fail;
@@ -112,6 +112,36 @@ fn fills_the_lowest_free_slot(rt: HostRuntime) {
     put(&rt, &mut block, 99, 1);
     leads_to(&rt, block.select(&ALL).nth(2), Some(99));
     is_full(&rt, &block, false);
+}
+
+/// The view's targets come behind 1, or want of memory is told.
+fn lists(
+    rt: &impl Abort,
+    alloc: Global,
+    block: &Block,
+    filter: &Filter,
+    wanted: &[u32],
+) -> Result<(), AllocError> {
+    let mut targets = Vec::new(alloc);
+    targets.push(1)?;
+    block.list_targets(filter, &mut targets)?;
+    assert_eq!(rt; targets.as_slice(), wanted);
+    Ok(())
+}
+
+#[test]
+fn lists_targets_of_a_run_and_past_a_free_slot(rt: HostRuntime) -> Result<(), Fail> {
+    let mut block = Block::blank(4);
+    lists(&rt, rt.alloc(), &block, &ALL, &[1])?;
+    put(&rt, &mut block, 7, 10);
+    put(&rt, &mut block, 8, 20);
+    put(&rt, &mut block, 9, 30);
+    lists(&rt, rt.alloc(), &block, &ALL, &[1, 7, 8, 9])?;
+    lists(&rt, rt.alloc(), &block, &any_within(10, 20), &[1, 7, 8])?;
+    lists(&rt, rt.alloc(), &block, &any_within(20, 30), &[1, 8, 9])?;
+    take(&rt, &mut block, 7, true);
+    lists(&rt, rt.alloc(), &block, &ALL, &[1, 8, 9])?;
+    Ok(())
 }
 
 /// So many edges were touched before the time, and are gone; the others keep their slots.
