@@ -2,8 +2,7 @@
 
 ghost use Rattle.std.specs.Prelude.{◌≡◌};
 
-use crate::desks::{insertions, refused, vertex_name};
-use crate::edges::{Edges, Shape};
+use crate::edges::{Edges, insertions, refused, vertex_name};
 use batch_apply::PassAll;
 use graph_model::{NamedFilter, Request};
 use seat_board::Board;
@@ -17,10 +16,7 @@ use std::thread::{Threads, join, yield_now};
 use std::time::CpuClock;
 use stream_store::{Config, Desk, Naming, Seat, Session, Store, open_parts};
 
-/// The graph that is asked.
-const SHAPE: Shape = Shape::Rmat { scale: 14 };
-
-/// How many batches make it, and how many operations each has. The feed applies the same batches over and over, so that
+/// How many batches make the graph that is asked, and how many operations each has. The feed applies the same batches over and over, so that
 /// every batch copies blocks, and the graph stays as large as it is.
 const BATCHES: u32 = 16;
 
@@ -81,7 +77,7 @@ fn load<J: Naming, R: Threads + Wait + Sync + AllocGlobal>(
     rt: &R,
     store: &Store<J>,
 ) -> io::Result<()> {
-    let mut edges = Edges::new(SHAPE);
+    let mut edges = Edges::new();
     for _ in 0..BATCHES {
         feed_one(rt, store, &mut edges)?;
     }
@@ -110,10 +106,9 @@ fn measure_held<J: Naming + Send + Sync, R: Threads + Wait + Sync + CpuClock + P
     session: &Session,
     rounds: u32,
 ) -> io::Result<()> {
-    let requests = requests(rt.alloc())?;
     for _ in 0..rounds {
-        ask_each(rt, "alone", session, &requests)?;
-        ask_beside(rt, store, session, &requests)?;
+        ask_each(rt, "alone", session)?;
+        ask_beside(rt, store, session)?;
     }
     Ok(())
 }
@@ -123,7 +118,6 @@ fn ask_beside<J: Naming + Send + Sync, R: Threads + Wait + Sync + CpuClock + Pri
     rt: &R,
     store: &Store<J>,
     session: &Session,
-    requests: &[(&'static str, Request)],
 ) -> io::Result<()> {
     let signs = Signs {
         is_fed: AtomicBool::new(false),
@@ -132,7 +126,7 @@ fn ask_beside<J: Naming + Send + Sync, R: Threads + Wait + Sync + CpuClock + Pri
     let (fed, asked) = join(
         rt,
         || feed(rt, store, &signs),
-        || ask_fed(rt, session, requests, &signs),
+        || ask_fed(rt, session, &signs),
     );
     asked?;
     let fed = fed?;
@@ -145,13 +139,13 @@ fn feed<J: Naming, R: Threads + Wait + Sync + AllocGlobal>(
     store: &Store<J>,
     signs: &Signs,
 ) -> io::Result<u32> {
-    let mut edges = Edges::new(SHAPE);
+    let mut edges = Edges::new();
     for fed in 0..MOST_FED {
         if signs.is_done.load(SeqCst) {
             return Ok(fed);
         }
         if fed % BATCHES == 0 {
-            edges = Edges::new(SHAPE);
+            edges = Edges::new();
         }
         feed_one(rt, store, &mut edges)?;
         signs.is_fed.store(true, SeqCst);
@@ -160,14 +154,13 @@ fn feed<J: Naming, R: Threads + Wait + Sync + AllocGlobal>(
 }
 
 /// Asks once the feed has begun, and tells the feeder when all was asked.
-fn ask_fed<R: CpuClock + Print>(
+fn ask_fed<R: CpuClock + Print + AllocGlobal>(
     rt: &R,
     session: &Session,
-    requests: &[(&'static str, Request)],
     signs: &Signs,
 ) -> io::Result<()> {
     await_first(&signs.is_fed);
-    let asked = ask_each(rt, "beside", session, requests);
+    let asked = ask_each(rt, "beside", session);
     signs.is_done.store(true, SeqCst);
     asked
 }
@@ -182,42 +175,66 @@ fn await_first(is_fed: &AtomicBool) {
     }
 }
 
-fn ask_each<R: CpuClock + Print>(
+/// Asks each request, and prints what it took.
+fn ask_each<R: CpuClock + Print + AllocGlobal>(
     rt: &R,
     when: &str,
     session: &Session,
-    requests: &[(&'static str, Request)],
 ) -> io::Result<()> {
-    for (name, request) in requests {
-        let before = rt.thread_cpu_time()?.as_nanos();
-        if session.ask_in_numbers(request).is_err() {
-            return Err(refused());
-        }
-        let spent = rt.thread_cpu_time()?.as_nanos().saturating_sub(before);
-        println!(rt; "{when} {name} {spent}")?;
+    for analysis in [
+        Analysis::Levels,
+        Analysis::Labels,
+        Analysis::Cores,
+        Analysis::Degrees,
+    ] {
+        let spent = ask(rt, session, &request_of(rt.alloc(), analysis)?)?;
+        println!(rt; "{when} {} {spent}", analysis.name())?;
     }
     Ok(())
 }
 
-/// The edges of any kind and any time.
-fn every() -> NamedFilter {
-    NamedFilter {
-        kind: None,
-        lo: 0,
-        hi: u64::MAX,
+/// Asks a request, and answers nanoseconds of processor time of this thread.
+fn ask<R: CpuClock>(rt: &R, session: &Session, request: &Request) -> io::Result<u128> {
+    let before = rt.thread_cpu_time()?.as_nanos();
+    if session.ask_in_numbers(request).is_err() {
+        return Err(refused());
+    }
+    Ok(rt.thread_cpu_time()?.as_nanos().saturating_sub(before))
+}
+
+/// What is asked of all edges.
+#[derive(Clone, Copy)]
+enum Analysis {
+    Levels,
+    Labels,
+    Cores,
+    Degrees,
+}
+
+impl Analysis {
+    fn name(self) -> &'static str {
+        match self {
+            Analysis::Levels => "levels",
+            Analysis::Labels => "labels",
+            Analysis::Cores => "cores",
+            Analysis::Degrees => "degrees",
+        }
     }
 }
 
-/// The requests that are asked, and what the lines call them.
-fn requests(alloc: Global) -> Result<Vec<(&'static str, Request)>, AllocError> {
-    let levels = Request::Levels {
-        source: vertex_name(alloc, 0)?,
-        filter: every(),
+fn request_of(alloc: Global, analysis: Analysis) -> Result<Request, AllocError> {
+    let filter = NamedFilter {
+        kind: None,
+        lo: 0,
+        hi: u64::MAX,
     };
-    let mut requests = Vec::new(alloc);
-    requests.push(("levels", levels))?;
-    requests.push(("labels", Request::Labels { filter: every() }))?;
-    requests.push(("cores", Request::Cores { filter: every() }))?;
-    requests.push(("degrees", Request::Degrees { filter: every() }))?;
-    Ok(requests)
+    Ok(match analysis {
+        Analysis::Levels => Request::Levels {
+            source: vertex_name(alloc, 0)?,
+            filter,
+        },
+        Analysis::Labels => Request::Labels { filter },
+        Analysis::Cores => Request::Cores { filter },
+        Analysis::Degrees => Request::Degrees { filter },
+    })
 }

@@ -1,62 +1,44 @@
-//! Edges of graphs that a linear congruential generator draws; the programs in bench/ draw the same.
+//! The edges of an R-MAT graph (Chakrabarti, Zhan, Faloutsos 2004), and batches that insert them.
 
-/// Which graph; the number of vertices is 2^scale, where there is one.
-#[derive(Clone, Copy, Debug, PartialEq, Eq)]
-pub(crate) enum Shape {
-    /// The bits of both ends of an edge fall together: of 100 draws 57 give 0 and 0, 19 give 0 and 1, 19 give 1 and 0, and
-    /// 5 give 1 and 1.
-    Rmat { scale: u32 },
-    /// Each edge leaves vertex 0.
-    Hub { scale: u32 },
-    /// From vertex 0 to vertex 1, from there to vertex 2, and so on.
-    Path,
-    /// One edge from each vertex in turn, and then another one: to the vertex two numbers on, then three, and so on.
-    Turns { vertices: u32 },
+use graph_model::{Batch, Name, NamedOp};
+use std::alloc::{AllocError, Global};
+use std::io;
+
+/// The number of vertices is 2 to this power.
+const SCALE: u32 = 14;
+
+/// The error of a call of the store that was refused.
+pub(crate) fn refused() -> io::Error {
+    io::Error::other("the store refused a call")
 }
 
-/// The edges of a graph, without end. An edge may come again.
-#[derive(Drop)]
+/// The edges of the graph, without end, as a linear congruential generator draws them. An edge may come again.
+#[derive(Clone, Copy)]
 pub(crate) struct Edges {
-    shape: Shape,
-    made: u32,
     state: u64,
 }
 
 impl Edges {
-    pub(crate) fn new(shape: Shape) -> Edges {
-        Edges {
-            shape,
-            made: 0,
-            state: 1,
-        }
+    pub(crate) fn new() -> Edges {
+        Edges { state: 1 }
     }
 
-    /// The next draw, below the bound.
-    fn draw(&mut self, bound: u32) -> u32 {
+    /// The next draw, below 100.
+    fn draw(&mut self) -> u64 {
         self.state = self
             .state
             .wrapping_mul(6_364_136_223_846_793_005)
             .wrapping_add(1_442_695_040_888_963_407);
-        ((self.state >> 33) as u32).checked_rem(bound).unwrap_or(0)
+        (self.state >> 33) % 100
     }
 
-    /// The numbers of the next edge's source and target.
-    pub(crate) fn next_edge(&mut self) -> (u32, u32) {
-        let number = self.made;
-        self.made = number.wrapping_add(1);
-        match self.shape {
-            Shape::Rmat { scale } => self.rmat(scale),
-            Shape::Hub { scale } => (0, self.draw(1_u32.wrapping_shl(scale))),
-            Shape::Path => (number, number.wrapping_add(1)),
-            Shape::Turns { vertices } => turn(number, vertices),
-        }
-    }
-
-    fn rmat(&mut self, scale: u32) -> (u32, u32) {
+    /// The numbers of the next edge's source and target. The bits of both fall together: of 100 draws 57 give 0 and 0, 19 give
+    /// 0 and 1, 19 give 1 and 0, and 5 give 1 and 1.
+    fn next_edge(&mut self) -> (u32, u32) {
         let mut source = 0_u32;
         let mut target = 0_u32;
-        for _ in 0..scale {
-            let draw = self.draw(100);
+        for _ in 0..SCALE {
+            let draw = self.draw();
             source = source.wrapping_mul(2).wrapping_add(u32::from(draw >= 76));
             target = target
                 .wrapping_mul(2)
@@ -66,9 +48,34 @@ impl Edges {
     }
 }
 
-fn turn(number: u32, vertices: u32) -> (u32, u32) {
-    let source = number.checked_rem(vertices).unwrap_or(0);
-    let turns = number.checked_div(vertices).unwrap_or(0);
-    let target = source.wrapping_add(turns).wrapping_add(2);
-    (source, target.checked_rem(vertices).unwrap_or(0))
+pub(crate) fn vertex_name(alloc: Global, vertex: u32) -> Result<Name, AllocError> {
+    Ok(Name::of(format!(in alloc; "v{vertex}")?))
+}
+
+/// Inserts the next edge behind a batch's operations.
+fn push_insertion(alloc: Global, batch: &mut Batch, edges: &mut Edges) -> io::Result<()> {
+    let (source, target) = edges.next_edge();
+    let kind = Name::of(String::from_str(alloc, "k")?);
+    let source = vertex_name(alloc, source)?;
+    let target = vertex_name(alloc, target)?;
+    let op = NamedOp::Insert {
+        kind,
+        source,
+        target,
+        weight: 1,
+        time: 1,
+    };
+    match batch.push(op) {
+        Ok(()) => Ok(()),
+        Err(_) => Err(refused()),
+    }
+}
+
+/// The insertions of the next edges, at most 4,096.
+pub(crate) fn insertions(alloc: Global, edges: &mut Edges, count: u32) -> io::Result<Batch> {
+    let mut batch = Batch::new(alloc);
+    for _ in 0..count {
+        push_insertion(alloc, &mut batch, edges)?;
+    }
+    Ok(batch)
 }
