@@ -5,8 +5,8 @@ use graph_model::{AskError, Degree, Name, Reply};
 use std::alloc::{AllocError, Global};
 use std::fmt::Display;
 
-// An item behind a text.
-fn push_item<D: Display + Drop>(
+/// An item behind a text.
+pub(super) fn push_item<D: Display + Drop>(
     text: &mut String,
     before: &str,
     item: D,

@@ -4,8 +4,9 @@ ghost use Rattle.std.specs.Prelude.{◌≡◌, IfSome};
 ghost use Rattle.graph_model.specs.Changes.{AreMarks, IsChange};
 
 use super::parts::{LineError, batch, name, names, only_refused, push_op, refused, request};
+use super::texts::push_item;
 use graph_model::{
-    Batch, Content, Edge, EdgeChange, EdgeMarks, KindId, List, Outcome, PushError, VertexId,
+    Batch, Content, Edge, EdgeChange, EdgeMarks, KindId, List, Name, Outcome, PushError, VertexId,
     change_edge, is_kind_name, is_name, law_edge_order, law_expiry, law_first_time_stays,
     law_names_stay_names, law_one_answer, law_one_table, law_some_answer, law_some_table,
     law_within_limits,
@@ -15,60 +16,67 @@ use std::fmt::Debug;
 use std::process::Abort;
 use std::test::Fail;
 
-// A text, whether it is a name, and whether it is that of a kind. The two before the last five have 64 and 65 bytes.
-const TEXTS: [(&str, bool, bool); 14] = [
-    ("ann", true, true),
-    ("!", true, true),
-    ("~", true, true),
-    ("*", true, false),
-    ("**", true, true),
-    ("knows", true, true),
-    ("a,b\"c", true, true),
-    (
-        "0123456789012345678901234567890123456789012345678901234567890123",
-        true,
-        true,
-    ),
-    (
-        "01234567890123456789012345678901234567890123456789012345678901234",
-        false,
-        false,
-    ),
-    ("", false, false),
-    ("two words", false, false),
-    ("tab\t", false, false),
-    ("\u{7f}", false, false),
-    ("\u{e9}", false, false),
-];
+// Names that a kind may have, a line each. The last one has 64 bytes.
+const NAMES: &str = "ann
+!
+~
+**
+knows
+a,b\"c
+0123456789012345678901234567890123456789012345678901234567890123";
+
+// What is no name, a line each. The first one has 65 bytes, and the second one none.
+const NO_NAMES: &str = "01234567890123456789012345678901234567890123456789012345678901234
+
+two words
+tab\t
+\u{7f}
+\u{e9}";
+
+/// Whether each line is a name, and whether it is that of a kind.
+fn check_texts(rt: &impl Abort, lines: &str, are_names: bool, are_kinds: bool) {
+    for text in lines.lines() {
+        assert_eq!(rt; is_name(text), are_names, "{text}");
+        assert_eq!(rt; is_kind_name(text), are_kinds, "{text}");
+    }
+}
 
 #[test]
 fn names_are_short_printable_texts(rt: HostRuntime) {
-    for (text, is_a_name, is_a_kind) in TEXTS {
-        assert_eq!(rt;
-            (is_name(text), is_kind_name(text)),
-            (is_a_name, is_a_kind),
-            "{text}"
-        );
-    }
+    check_texts(&rt, NAMES, true, true);
+    check_texts(&rt, "*", true, false);
+    check_texts(&rt, NO_NAMES, false, false);
+}
+
+fn check_text(rt: &impl Abort, text: &str, wanted: &str) {
+    assert_eq!(rt; text, wanted);
+}
+
+fn check_name(rt: &impl Abort, name: &Name, wanted: &str) {
+    check_text(rt, name.as_str(), wanted);
 }
 
 #[test]
 fn a_name_shows_its_text(rt: HostRuntime) -> Result<(), Fail> {
     let alloc = rt.alloc();
-    assert_eq!(rt; name(alloc, "ann")?.as_str(), "ann");
-    assert_eq!(rt; name(alloc, "ann")?.into_string().as_str(), "ann");
-    assert_eq!(rt; name(alloc, "bob")?.clone()?.as_str(), "bob");
+    check_name(&rt, &name(alloc, "ann")?, "ann");
+    check_text(&rt, name(alloc, "ann")?.into_string().as_str(), "ann");
+    check_name(&rt, &name(alloc, "bob")?.clone()?, "bob");
     Ok(())
 }
 
 fn list(alloc: Global) -> Result<List<i32>, AllocError> {
-    Ok(List::of(vec![in alloc; 4, 9]?))
+    Ok(List::of(Vec::from_slice(alloc, &[4, 9])?))
+}
+
+fn check_items(rt: &impl Abort, items: &[i32]) {
+    assert_eq!(rt; items, [4, 9].as_slice());
 }
 
 #[test]
 fn a_list_shows_its_items(rt: HostRuntime) -> Result<(), Fail> {
-    assert_eq!(rt; list(rt.alloc())?.as_slice(), [4, 9].as_slice());
-    assert_eq!(rt; list(rt.alloc())?.into_vec().as_slice(), [4, 9].as_slice());
+    check_items(&rt, list(rt.alloc())?.as_slice());
+    check_items(&rt, list(rt.alloc())?.into_vec().as_slice());
     Ok(())
 }
 
@@ -198,9 +206,20 @@ const SHOWN: &str = "Batch { ops: [\
     Remove { kind: Name { text: \"knows\" }, source: Name { text: \"cat\" }, target: Name { text: \"bob\" } }] }";
 
 // The copy, and right behind it what it is a copy of.
-fn twice<T: Clone + Debug + Drop>(alloc: Global, item: &T) -> Result<String, AllocError> {
+fn push_twice<T: Clone + Debug + Drop>(text: &mut String, item: &T) -> Result<(), AllocError> {
     let copy = item.clone()?;
-    format!(in alloc; "{copy:?}{item:?}")
+    write!(text, "{copy:?}{item:?}")
+}
+
+// Whether the copy is shown so, and the item behind it, too.
+fn is_shown_twice<T: Clone + Debug + Drop>(
+    alloc: Global,
+    item: &T,
+    shown: &str,
+) -> Result<bool, AllocError> {
+    let mut text = String::new(alloc);
+    push_twice(&mut text, item)?;
+    Ok(text.as_str().strip_prefix(shown) == Some(shown))
 }
 
 fn check_kept(rt: &impl Abort, alloc: Global, batch: &Batch) -> Result<(), Fail> {
@@ -208,7 +227,7 @@ fn check_kept(rt: &impl Abort, alloc: Global, batch: &Batch) -> Result<(), Fail>
         (batch.is_empty(), batch.len(), batch.ops().len()),
         (false, 3, 3)
     );
-    assert_eq!(rt; twice(alloc, batch)?.strip_prefix(SHOWN), Some(SHOWN));
+    assert!(rt; is_shown_twice(alloc, batch, SHOWN)?);
     Ok(())
 }
 
@@ -218,9 +237,13 @@ fn a_batch_keeps_its_operations_in_order(rt: HostRuntime) -> Result<(), Fail> {
     check_kept(&rt, rt.alloc(), &batch(rt.alloc(), ONE_OF_EACH)?)
 }
 
+fn has_expire(alloc: Global, ops: &str) -> Result<bool, LineError> {
+    Ok(batch(alloc, ops)?.has_expire())
+}
+
 /// The batch of these operations expires edges, or doesn't.
 fn check_expires(rt: &impl Abort, alloc: Global, ops: &str, wanted: bool) -> Result<(), Fail> {
-    assert_eq!(rt; batch(alloc, ops)?.has_expire(), wanted, "{ops}");
+    assert_eq!(rt; has_expire(alloc, ops)?, wanted, "{ops}");
     Ok(())
 }
 
@@ -271,13 +294,15 @@ fn a_batch_refuses_bad_operations_in_order(rt: HostRuntime) {
     assert_eq!(rt; batch.len(), 0);
 }
 
+fn push_at(alloc: Global, batch: &mut Batch, time: u64) -> Result<(), LineError> {
+    let mut text = String::new(alloc);
+    push_item(&mut text, "i,knows,ann,bob,1,", time)?;
+    push_op(alloc, batch, text.as_str())
+}
+
 fn fill(alloc: Global, batch: &mut Batch) -> Result<(), LineError> {
     for time in 0..4096u64 {
-        push_op(
-            alloc,
-            batch,
-            format!(in alloc; "i,knows,ann,bob,1,{time}")?.as_str(),
-        )?;
+        push_at(alloc, batch, time)?;
     }
     Ok(())
 }
@@ -307,8 +332,8 @@ fn check_push(rt: &(impl Abort + Print), alloc: Global, batch: &mut Batch) -> Re
             Ok(())
         }
         Err(error) => {
-            assert_eq!(rt; (error, batch.len()), (LineError::OutOfMemory, 0));
-            refused(rt)
+            assert_eq!(rt; batch.len(), 0);
+            only_refused(rt, error)
         }
     }
 }
@@ -326,13 +351,13 @@ fn check_copies<T: Clone + Debug + Drop>(
     item: &T,
     shown: &str,
 ) -> Result<(), Fail> {
-    match twice(alloc, item) {
-        Ok(text) => {
-            assert_eq!(rt; text.strip_prefix(shown), Some(shown));
+    match is_shown_twice(alloc, item, shown) {
+        Ok(is_shown) => {
+            assert!(rt; is_shown);
             Ok(())
         }
         Err(AllocError) => {
-            assert_eq!(rt; twice(alloc, item)?.strip_prefix(shown), Some(shown));
+            assert!(rt; is_shown_twice(alloc, item, shown)?);
             refused(rt)
         }
     }
@@ -368,10 +393,13 @@ const LOOSE_EDGE: Edge = Edge {
 
 /// Vertices ann and bob, the kind knows, and one edge.
 fn small_content(alloc: Global) -> Result<Content, AllocError> {
+    let edges = List::of(Vec::from_slice(alloc, &[LOOSE_EDGE])?);
+    let kinds = names(alloc, "knows")?;
+    let names = names(alloc, "ann bob")?;
     Ok(Content {
-        names: names(alloc, "ann bob")?,
-        kinds: names(alloc, "knows")?,
-        edges: List::of(vec![in alloc; LOOSE_EDGE]?),
+        names,
+        kinds,
+        edges,
     })
 }
 

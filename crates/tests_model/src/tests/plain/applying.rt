@@ -4,7 +4,8 @@ ghost use Rattle.graph_model.specs.Graph.{IsContent};
 
 use super::{check_rows, empty, sizes};
 use crate::tests::parts::{LineError, batch, only_refused, refused};
-use graph_model::{Batch, Content, Name};
+use crate::tests::texts::push_item;
+use graph_model::{Batch, Content, Name, Outcome};
 use reference_graph::{PlainError, plain_apply};
 use std::alloc::{AllocError, Global};
 use std::process::Abort;
@@ -12,36 +13,54 @@ use std::test::Fail;
 
 fn push_names(text: &mut String, names: &[Name]) -> Result<(), AllocError> {
     for name in names {
-        write!(text, " {}", name.as_str())?;
+        push_item(text, " ", name.as_str())?;
     }
     text.push_str(";")
 }
 
-// What was told, the names and the kinds, and how many edges there are.
-fn content_text(alloc: Global, told: &str, content: &Content) -> Result<String, AllocError> {
-    let mut text = format!(in alloc; "{told};")?;
-    push_names(&mut text, content.names.as_slice())?;
-    push_names(&mut text, content.kinds.as_slice())?;
-    write!(text, " {}", content.edges.as_slice().len())?;
-    Ok(text)
+// The names and the kinds, and how many edges there are.
+fn push_content(text: &mut String, content: &Content) -> Result<(), AllocError> {
+    push_names(text, content.names.as_slice())?;
+    push_names(text, content.kinds.as_slice())?;
+    push_item(text, " ", content.edges.as_slice().len())
 }
 
-fn outcomes_of(alloc: Global, content: &mut Content, ops: &str) -> Result<String, LineError>
+fn push_outcomes(text: &mut String, outcomes: &[Outcome]) -> Result<(), AllocError> {
+    write!(text, "{outcomes:?};")
+}
+
+// What a batch is told.
+fn push_told(
+    alloc: Global,
+    text: &mut String,
+    content: &mut Content,
+    batch: &Batch,
+) -> Result<(), LineError>
     requires { IsContent content.old }
     ensures { IsContent content.new }
 {
-    match plain_apply(alloc, content, &batch(alloc, ops)?) {
-        Ok(outcomes) => Ok(format!(in alloc; "{:?}", outcomes.as_slice())?),
+    match plain_apply(alloc, content, batch) {
+        Ok(outcomes) => Ok(push_outcomes(text, outcomes.as_slice())?),
         Err(error) => Err(error)?,
     }
 }
 
-fn applied(alloc: Global, content: &mut Content, ops: &str) -> Result<String, LineError>
+// What is told of the operations, and then the content.
+fn push_applied(
+    alloc: Global,
+    text: &mut String,
+    content: &mut Content,
+    ops: &str,
+) -> Result<(), LineError>
     requires { IsContent content.old }
     ensures { IsContent content.new }
 {
-    let told = outcomes_of(alloc, content, ops)?;
-    Ok(content_text(alloc, told.as_str(), content)?)
+    push_told(alloc, text, content, &batch(alloc, ops)?)?;
+    Ok(push_content(text, content)?)
+}
+
+fn check_text(rt: &impl Abort, text: &str, wanted: &str) {
+    assert_eq!(rt; text, wanted);
 }
 
 /// A batch has these outcomes and leaves these names and kinds and so many edges.
@@ -55,7 +74,9 @@ fn check_applied(
     requires { IsContent content.old }
     ensures { IsContent content.new }
 {
-    assert_eq!(rt; applied(alloc, content, ops)?.as_str(), wanted, "{ops}");
+    let mut text = String::new(alloc);
+    push_applied(alloc, &mut text, content, ops)?;
+    check_text(rt, text.as_str(), wanted);
     Ok(())
 }
 
@@ -190,48 +211,56 @@ fn removals_make_no_names(rt: HostRuntime) -> Result<(), Fail> {
 }
 
 /// Insertions between one pair of vertices, of 63 kinds, and then these operations.
-fn ops_of_kinds(alloc: Global, last: &str) -> Result<String, AllocError> {
-    let mut text = String::new(alloc);
+fn push_kinds(text: &mut String, last: &str) -> Result<(), AllocError> {
     for kind in 0..63u8 {
-        write!(text, "i,kind{kind},a,b,1,1 ")?;
+        push_item(text, "i,kind", kind)?;
+        text.push_str(",a,b,1,1 ")?;
     }
-    text.push_str(last)?;
-    Ok(text)
+    text.push_str(last)
 }
 
-/// Applies 63 kinds and then these operations: the error, if there was one, and the content's sizes afterwards.
-fn apply_kinds(
+fn batch_of_kinds(alloc: Global, last: &str) -> Result<Batch, LineError> {
+    let mut text = String::new(alloc);
+    push_kinds(&mut text, last)?;
+    batch(alloc, text.as_str())
+}
+
+/// A batch comes to this error, if to any, and leaves these sizes of a content.
+fn check_kinds(
+    rt: &impl Abort,
     alloc: Global,
     content: &mut Content,
-    last: &str,
-) -> Result<(Option<PlainError>, (usize, usize, usize)), LineError>
+    batch: &Batch,
+    error: Option<PlainError>,
+    wanted: (usize, usize, usize),
+)
     requires { IsContent content.old }
 {
-    let batch = batch(alloc, ops_of_kinds(alloc, last)?.as_str())?;
-    let error = plain_apply(alloc, content, &batch).err();
-    Ok((error, sizes(content)))
+    assert_eq!(rt; plain_apply(alloc, content, batch).err(), error);
+    assert_eq!(rt; sizes(content), wanted);
+}
+
+/// So do 63 kinds and then these operations, over no content.
+fn check_last_kinds(
+    rt: &impl Abort,
+    alloc: Global,
+    last: &str,
+    error: Option<PlainError>,
+    wanted: (usize, usize, usize),
+) -> Result<(), Fail> {
+    let batch = batch_of_kinds(alloc, last)?;
+    let mut content = empty(alloc);
+    check_kinds(rt, alloc, &mut content, &batch, error, wanted);
+    Ok(())
 }
 
 // A removal makes no kind, the first insertion makes the last one that there is room for, and the second one is too many.
-const LAST_KINDS: [(&str, Option<PlainError>, (usize, usize, usize)); 2] = [
-    (
-        "r,knows,a,b i,knows,a,b,1,1 i,kind64,a,b,1,1",
-        Some(PlainError::KindsFull),
-        (0, 0, 0),
-    ),
-    ("r,knows,a,b i,knows,a,b,1,1", None, (2, 64, 64)),
-];
-
 #[test]
 fn refuses_a_kind_too_many(rt: HostRuntime) -> Result<(), Fail> {
-    for (last, error, sizes) in LAST_KINDS {
-        let mut content = empty(rt.alloc());
-        assert_eq!(rt;
-            apply_kinds(rt.alloc(), &mut content, last)?,
-            (error, sizes)
-        );
-    }
-    Ok(())
+    let alloc = rt.alloc();
+    let too_many = "r,knows,a,b i,knows,a,b,1,1 i,kind64,a,b,1,1";
+    check_last_kinds(&rt, alloc, too_many, Some(PlainError::KindsFull), (0, 0, 0))?;
+    check_last_kinds(&rt, alloc, "r,knows,a,b i,knows,a,b,1,1", None, (2, 64, 64))
 }
 
 fn check_growth(
@@ -248,10 +277,8 @@ fn check_growth(
             Ok(())
         }
         Some(error) => {
-            assert_eq!(rt;
-                (error, sizes(content)),
-                (PlainError::OutOfMemory, (0, 0, 0))
-            );
+            assert_eq!(rt; error, PlainError::OutOfMemory);
+            assert_eq!(rt; sizes(content), (0, 0, 0));
             refused(rt)
         }
     }
