@@ -5,9 +5,9 @@ use Rattle.std.specs.List.{enumerate_from}
 use Rattle.graph_model.specs.Graph.{Graph}
 use Rattle.graph_model.specs.declared.batches.NamedOp.{NamedOp}
 use Rattle.block_layout.specs.Rows.{Shape, untouched, row_end}
-use Rattle.block_layout.specs.Batches.{Resolved, resolved, is_in_shard, shard_ops, picked, rows_all, outcomes_all}
-use Rattle.block_layout.specs.Batches.{opened, layout_after}
-use Rattle.block_layout.proofs.ShardLaws.{shard_rows, shard_outcomes}
+use Rattle.block_layout.specs.Batches.{Resolved, resolved, is_in_shard, shard_ops, picked, outcomes_all}
+use Rattle.block_layout.specs.Batches.{opened}
+use Rattle.block_layout.proofs.ShardLaws.{shard_outcomes}
 use Rattle.graph_model.specs.declared.batches.Outcome.{Outcome}
 use Rattle.batch_apply.specs.Plans.{placed_ops, shard_at, ops_of}
 use Rattle.batch_shards.specs.Groups.{told}
@@ -59,13 +59,6 @@ module _ (workers w : ℕ) (ops : List NamedOp) (g : Graph) (layout : ℕ → Li
 
   pub same_ops : ops_of shard ≡ shard_ops workers w (resolved ops g.names g.kinds)
   same_ops = shard_is (is_in_shard workers w) (resolved ops g.names g.kinds) 0
-
-  -- the row that a shard leaves of one of its sources is the batch's
-  pub shard_layout : (source : ℕ) → (source % workers == w) ≡ true → row_end (rows_all (ops_of shard) (opened layout) source)
-      ≡ layout_after ops g layout source
-  shard_layout source is =
-      ap (λ rs. row_end (rows_all rs (opened layout) source)) same_ops
-      ∙ ap row_end (shard_rows workers w ops g.names g.kinds (opened layout) source is)
 
   -- a shard's outcomes over some of its sources stand at their places of the batch's over these
   pub shard_places : (sources : List ℕ) → All (λ s. (s % workers == w) ≡ true) sources

@@ -2,10 +2,8 @@
 use Rattle.std.proofs.Common.{drop, ◌≡◌, ℕ, ◌+◌, ◌≤◌, Bool, true, false, cond, not, ◌||◌, length-append, List, [], ◌∷◌, ◌++◌}
 use Rattle.std.proofs.Common.{length, IsTrue, Option, Some, None, Result, Ok, Err, subst, refl, sym, ap, ◌∙◌, arith, true≢false}
 use Rattle.std.proofs.Common.{if◌then◌else◌}
-use Rattle.std.specs.Option.{SomeIff}
 use Rattle.std.specs.Result.{IsErrAnd, IfErr}
 use Rattle.std.specs.Str.{bytes_eq}
-use Rattle.std.proofs.lemmas.Bool.{false_from_ne_true}
 use Rattle.std.proofs.lemmas.Slice.Eq.{bytes_eq-Decides}
 use Rattle.graph_model.specs.Step.{with_name, number_of}
 use Rattle.block_layout.specs.Operations.{names_after, kinds_after}
@@ -17,13 +15,6 @@ use Rattle.vertex_names.specs.declared.book.AddError.{AddError}
 use Rattle.vertex_names.specs.declared.book.AddError.TheVariants.{NamesFull, OutOfMemory}
 use Rattle.batch_plan.specs.declared.resolve.Ends.{Ends}
 use Rattle.batch_plan.specs.Plan.{known, names_all, kinds_all, IsRefusal}
-
--- what `number` answers is the known number
-pub known_from : (names : List (List ℕ)) (name : List ℕ) (found : Option ℕ)
-    → SomeIff found (IsTrue (is_listed names name)) (number_of names name) → found ≡ known names name
-known_from names name None none = ap (λ b. if b then Some (number_of names name) else None)
-    (sym (false_from_ne_true (is_listed names name) none))
-known_from names name (Some n) some = ap Some some.1 ∙ ap (λ b. if b then Some (number_of names name) else None) (sym some.0)
 
 -- a listed name is listed among more, with its number
 listed_next : (name x : List ℕ) (names more : List (List ℕ)) (found : Bool)
@@ -101,12 +92,6 @@ no_fewer_after (Expire time) names = omega arith
 pub no_fewer_all : (ops : List NamedOp) (names : List (List ℕ)) → length names ≤ length (names_all ops names)
 no_fewer_all [] names = omega arith
 no_fewer_all (op ∷ ops) names = let a = no_fewer_after op names in let b = no_fewer_all ops (names_after op names) in omega arith
-
--- a refusal stays one as more names appear
-pub refused_later : (error : AddError) (book : Book) (names later : List (List ℕ)) → length names ≤ length later
-    → IsRefusal error book names → IsRefusal error book later
-refused_later NamesFull book names later le refused = omega (arith, le, refused)
-refused_later OutOfMemory book names later le refused = tt
 
 -- a refusal of one operation is one of them all
 pub refused_all : (error : AddError) (old book : Book) (ops : List NamedOp) (k : ℕ) (op : NamedOp) → drop k ops ≡ op

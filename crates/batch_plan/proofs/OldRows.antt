@@ -80,14 +80,6 @@ pub record AreFound (time : ℕ) (rows : ℕ → List BlockView) (n : ℕ) (foun
   pub blocks : All (λ r. (r.blocks ≡ old_blocks time (rows r.source.0)) × (0 < r.blocks)) found
   pub listed : (s : ℕ) → s < n → 0 < old_blocks time (rows s) → list_any (nat_eq s) (old_sources found) ≡ true
 
-pub none_found : (time : ℕ) (rows : ℕ → List BlockView) → AreFound time rows 0 []
-none_found time rows = record {
-  distinct = λ i j d lt within. absurd (omega arith);
-  below = All-nil (λ (r : OldRow). r.source.0 < 0);
-  blocks = All-nil (λ (r : OldRow). (r.blocks ≡ old_blocks time (rows r.source.0)) × (0 < r.blocks));
-  listed = λ s lt old. absurd (omega arith);
-}
-
 module _ (time : ℕ) (rows : ℕ → List BlockView) (n : ℕ) (found : List OldRow) (are : AreFound time rows n found) where
   abbrev source : OldRow → ℕ
   source r = r.source.0

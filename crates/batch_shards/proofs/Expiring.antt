@@ -1,9 +1,8 @@
 -- An expiry, block by block, and how many fresh blocks operations need.
 use Rattle.std.proofs.Common.{◌≡◌, ℕ, zero, suc, ◌+◌, ◌%◌, ◌^◌, ◌<◌, ◌≤◌, Bool, true, false, cond, not, ◌&&◌, ◌||◌, List, [], ◌∷◌, ◌++◌}
-use Rattle.std.proofs.Common.{map, length, get_or, set, take, drop, count_by, refl, sym, ap, ◌∙◌, arith, subst, All}
-use Rattle.std.proofs.lemmas.Bool.{false≢true, lt-ltb, le-ltb, ltb-true}
-use Rattle.std.proofs.lemmas.List.Sums.{sum_by-cons, sum_by-append, count_by-le-length}
-use Rattle.std.proofs.lemmas.List.Elements.{All-head, All-tail}
+use Rattle.std.proofs.Common.{map, length, get_or, set, take, drop, count_by, refl, sym, ap, ◌∙◌, arith, subst}
+use Rattle.std.proofs.lemmas.Bool.{false≢true, lt-ltb, ltb-true}
+use Rattle.std.proofs.lemmas.List.Sums.{sum_by-cons, sum_by-append}
 use Rattle.std.specs.List.{list_any, sum_by}
 use Rattle.std.specs.declared.option.Option.{Option}
 use Rattle.std.specs.declared.option.Option.TheVariants.{None, Some}
@@ -15,11 +14,11 @@ use Rattle.graph_model.specs.declared.changes.EdgeChange.{EdgeChange}
 use Rattle.graph_model.specs.declared.changes.EdgeChange.TheVariants.{Insert, Incr, Remove}
 use Rattle.graph_model.specs.declared.batches.Outcome.{Outcome}
 use Rattle.graph_model.specs.declared.batches.Outcome.TheVariants.{Inserted, Updated, Removed, Absent, Overflow, Expired}
-use Rattle.edge_block.specs.Slots.{Slot, slot_since, slots_since, has_before, old_in, edges_in, holds, at_first, BlockView}
+use Rattle.edge_block.specs.Slots.{Slot, slots_since, has_before, old_in, edges_in, holds, at_first, BlockView}
 use Rattle.block_layout.specs.Rows.{OpenBlock, has_old, touch, expire_block, put_edge, set_edge}
 use Rattle.block_layout.specs.Rows.{edge_at, untouched, shape_of, has_edge, has_room, new_block, touches}
 use Rattle.block_layout.specs.Batches.{key_step, key_outcome, together}
-use Rattle.batch_shards.specs.Groups.{told, is_expiry}
+use Rattle.batch_shards.specs.Groups.{told}
 use Rattle.batch_shards.specs.Spending.{is_unspent, unspent, old_blocks, needed, time_of, latest, spends, takes}
 use Rattle.batch_shards.specs.declared.shard.Act.{Act}
 use Rattle.batch_shards.specs.declared.shard.Act.TheVariants.{Edge, Expire}
@@ -354,42 +353,3 @@ needed_row f sources row lt =
     let same : suc row ≡ row + 1 = omega arith in
     needed_next f sources row lt
     ∙ ap (λ n. f (get_or sources row (record { 0 = 0 })).0 + sum_by f (drop n (map (λ (s : VertexId). s.0) sources))) same
-
--- where no operation is an expiry, they need one block each
-pub needed_edges : (rows : ℕ → List BlockView) (sources : List ℕ) (steps : List Step)
-    → All (λ s. is_expiry s.act ≡ false) steps → needed rows sources steps ≤ length steps
-needed_edges rows sources steps edges =
-    let a = count_by-le-length (λ (s : Step). not (is_expiry s.act)) steps in
-    let b = none_old_yet sources in
-    omega arith where
-      never : (steps : List Step) → All (λ s. is_expiry s.act ≡ false) steps → latest steps ≡ 0
-      never [] all = refl
-      never (s ∷ steps) all =
-          let here = no_time s.act (All-head (λ (s : Step). is_expiry s.act ≡ false) s steps all) in
-          let rest = never steps (All-tail (λ (s : Step). is_expiry s.act ≡ false) s steps all) in
-          omega arith where
-            no_time : (act : Act) → is_expiry act ≡ false → time_of act ≡ 0
-            no_time (Edge place change) e = refl
-            no_time (Expire time) e = absurd (false≢true (sym e))
-
-      young : (slots : List (Option Slot)) → has_before 0 slots ≡ false
-      young [] = refl
-      young (None ∷ slots) = young slots
-      young (Some x ∷ slots) =
-          ap (λ b. b || has_before 0 slots) (le-ltb x.stamp.recent 0 (omega arith)) ∙ young slots
-
-      none_in : (row : List BlockView) → old_blocks 0 row ≡ 0
-      none_in [] = refl
-      none_in (b ∷ row) =
-          let c = sum_by-cons (λ (x : BlockView). cond (has_before 0 x.slots) 1 0) b row in
-          let d : (let n : ℕ = cond (has_before 0 b.slots) 1 0 in n) ≡ 0 = ap (λ t. let n : ℕ = cond t 1 0 in n) (young b.slots) in
-          let e = none_in row in
-          omega arith
-
-      none_old_yet : (sources : List ℕ) → sum_by (λ source. old_blocks (latest steps) (rows source)) sources ≡ 0
-      none_old_yet [] = refl
-      none_old_yet (s ∷ sources) =
-          let c = sum_by-cons (λ source. old_blocks (latest steps) (rows source)) s sources in
-          let d = ap (λ t. old_blocks t (rows s)) (never steps edges) ∙ none_in (rows s) in
-          let e = none_old_yet sources in
-          omega arith

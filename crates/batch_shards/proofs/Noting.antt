@@ -1,17 +1,16 @@
 -- Notes of a row: what an operation leaves of its targets, and the first of the noted places.
 use Rattle.std.proofs.Common.{◌≡◌, ◌⊎◌, ℕ, zero, suc, ◌+◌, ◌<◌, ◌≤◌, ◌==◌, Bool, true, false, cond, List, [], ◌∷◌, ◌++◌, length}
-use Rattle.std.proofs.Common.{get_or, set, refl, sym, ap, ◌∙◌, subst, inl, inr, arith, ◌||◌, min}
+use Rattle.std.proofs.Common.{get_or, set, refl, sym, ap, ◌∙◌, inl, inr, arith, ◌||◌}
 use Rattle.std.specs.Prelude.{replicate}
 use Rattle.std.specs.List.{list_any, position, position_or_len}
 use Rattle.std.specs.Option.{IfSome, MatchOption}
 use Rattle.std.specs.declared.option.Option.{Option}
 use Rattle.std.specs.declared.option.Option.TheVariants.{None, Some}
 use Rattle.std.proofs.lemmas.Bool.{true≢false, false≢true, false_from_ne_true, lt-ltb}
-use Rattle.std.proofs.lemmas.Bool.{le-ltb, eqb-true, eqb-false, eq-eqb, or_cases}
+use Rattle.std.proofs.lemmas.Bool.{le-ltb, eqb-true, eqb-false, or_cases}
 use Rattle.std.proofs.lemmas.Bool.{or_left, or_right}
 use Rattle.std.proofs.lemmas.List.{get_or-set_same, get_or-set_other, get_or_default, get_or_append_left}
 use Rattle.std.proofs.lemmas.List.Sums.{position_or_len_is}
-use Rattle.std.proofs.lemmas.List.Folds.{list_any-append}
 use Rattle.std.proofs.Math.ListN.{length-set}
 use Rattle.graph_model.specs.Graph.{Stamp}
 use Rattle.graph_model.specs.Step.{stamp_after, outcome_at}
@@ -20,7 +19,7 @@ use Rattle.edge_block.specs.Slots.{Slot, holds, is_free, put_slot, take_slot, at
 use Rattle.edge_block.proofs.SlotLaws.{target_of_edge}
 use Rattle.block_layout.specs.Rows.{OpenBlock, touch, touches, new_block}
 use Rattle.batch_shards.specs.RowBlocks.{block_of, open_of, set_slot, IsTouched, IsChanged}
-use Rattle.batch_shards.specs.Notes.{has_target, may_stand, stands, HasMore, IsNoted, Gains}
+use Rattle.batch_shards.specs.Notes.{has_target, may_stand, stands, IsNoted, Gains}
 use Rattle.batch_shards.specs.declared.notes.Notes.{Notes}
 use Rattle.batch_shards.specs.declared.row_blocks.RowBlock.{RowBlock}
 
@@ -58,52 +57,6 @@ module _ (p : RowBlock → Bool) (row : List RowBlock) where
         position_is p (x ∷ xs) f x lt (here x)
         (λ k below. false_from_ne_true (p (get_or (x ∷ xs) k x))
         (λ t. let le = least k x (omega arith) t in absurd (omega arith)))
-
-  -- a place at which a block passes
-  pub first_found : (done : List ℕ) (first : Option ℕ) (place f : ℕ) → IsFirstOf p row done first → place < length row
-      → ((h : RowBlock) → p (get_or row place h) ≡ true)
-      → MatchOption first (f ≡ place) (λ g. f ≡ min g place) → IsFirstOf p row (done ++ place ∷ []) (Some f)
-  first_found done None place f is lt at e = record {
-    found = (omega arith, λ h. ap (λ n. p (get_or row n h)) e ∙ at h);
-    least = λ i h short passes there. elim (or_cases (stands done i) (stands (place ∷ []) i)
-        (sym (list_any-append (λ q. q == i) done (place ∷ [])) ∙ there)) [
-          | inl before ↦ absurd (is.least i h short passes before)
-          | inr here ↦ let same = only i here in omega arith
-        ];
-  } where
-    only : (i : ℕ) → stands (place ∷ []) i ≡ true → place ≡ i
-    only i here = elim (or_cases (place == i) false here) [ inl t ↦ eqb-true place i t | inr n ↦ absurd (false≢true n) ]
-  first_found done (Some g) place f is lt at e = record {
-    found = elim (Rattle.std.proofs.lemmas.Bool.cases_lt g place) [
-      | inl below ↦ let same : f ≡ g = e ∙ omega arith in
-          (omega (arith, is.found.0), λ h. ap (λ n. p (get_or row n h)) same ∙ is.found.1 h)
-      | inr above ↦ let same : f ≡ place = e ∙ omega arith in
-          (omega arith, λ h. ap (λ n. p (get_or row n h)) same ∙ at h)
-    ];
-    least = λ i h short passes there. elim (or_cases (stands done i) (stands (place ∷ []) i)
-        (sym (list_any-append (λ q. q == i) done (place ∷ [])) ∙ there)) [
-          | inl before ↦ let le : g ≤ i = is.least i h short passes before in omega arith
-          | inr here ↦ let same = only i here in omega arith
-        ];
-  } where
-    only : (i : ℕ) → stands (place ∷ []) i ≡ true → place ≡ i
-    only i here = elim (or_cases (place == i) false here) [ inl t ↦ eqb-true place i t | inr n ↦ absurd (false≢true n) ]
-
-  -- a place at which none does
-  pub first_missed : (done : List ℕ) (first : Option ℕ) (place : ℕ) → IsFirstOf p row done first
-      → ((h : RowBlock) → place < length row → p (get_or row place h) ≡ false) → IsFirstOf p row (done ++ place ∷ []) first
-  first_missed done first place is misses = record {
-    found = is.found;
-    least = λ i h short passes there. elim (or_cases (stands done i) (stands (place ∷ []) i)
-        (sym (list_any-append (λ q. q == i) done (place ∷ [])) ∙ there)) [
-          | inl before ↦ is.least i h short passes before
-          | inr here ↦ elim (or_cases (place == i) false here) [
-            | inl t ↦ let same : place ≡ i = eqb-true place i t in
-                absurd (true≢false (sym passes ∙ ap (λ n. p (get_or row n h)) (sym same) ∙ misses h (omega arith)))
-            | inr n ↦ absurd (false≢true n)
-          ]
-        ];
-  }
 
 -- What a change leaves of the targets of a block
 
@@ -241,11 +194,3 @@ gains_push target row y only_one = record {
             inr (only_one t (ap (has_target t) (sym is) ∙ has), same)
       ];
 }
-
-pub noted_gains : (old new : Notes) (target place : ℕ) → HasMore old new → may_stand new target place ≡ true
-    → (row row' : List RowBlock) → IsNoted (Some old) row → Gains target place row row' → IsNoted (Some new) row'
-noted_gains old new target place more at row row' noted gains = λ t i d lt has.
-    elim (gains.only t i d lt has) [
-      | inl there ↦ more.stays t i (noted t i d there.0 there.1)
-      | inr here ↦ ap (λ k. may_stand new k i) here.0 ∙ ap (may_stand new target) here.1 ∙ at
-    ]

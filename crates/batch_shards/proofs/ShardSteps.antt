@@ -1,7 +1,7 @@
 -- The operations of a shard, one after another.
-use Rattle.std.proofs.Common.{◌≡◌, ◌≢◌, ℕ, zero, suc, ◌+◌, ◌<◌, ◌≤◌, ◌==◌, Bool, true, false, cond, List, [], ◌∷◌, ◌++◌, length}
-use Rattle.std.proofs.Common.{get_or, set, map, flat_map, count_by, refl, sym, ap, ◌∙◌, arith, subst, All, AllPairs, nat_eq}
-use Rattle.std.proofs.Common.{zip, take, ap₂, ltb}
+use Rattle.std.proofs.Common.{◌≡◌, ◌≢◌, ℕ, suc, ◌+◌, ◌<◌, ◌≤◌, ◌==◌, Bool, true, false, List, [], ◌∷◌, ◌++◌, length}
+use Rattle.std.proofs.Common.{get_or, refl, sym, ap, ◌∙◌, arith, AllPairs}
+use Rattle.std.proofs.Common.{take, ap₂, ltb}
 use Rattle.std.proofs.lemmas.Bool.{true≢false, false≢true, eqb-true, false_from_ne_true, ltb-true, ltb-false}
 use Rattle.std.proofs.lemmas.List.{map-append, take_more}
 use Rattle.block_layout.specs.Rows.{OpenBlock}

@@ -1,5 +1,5 @@
 -- For each place, the first expiry that is not before it.
-use Rattle.std.proofs.Common.{◌≡◌, ℕ, ◌+◌, ◌<◌, ◌==◌, Bool, true, false, cond, List, length, get_or, set, replicate, refl, sym, ap, ◌∙◌, arith}
+use Rattle.std.proofs.Common.{◌≡◌, ℕ, ◌+◌, ◌<◌, ◌==◌, Bool, true, false, cond, List, length, get_or, set, refl, sym, ap, ◌∙◌, arith}
 use Rattle.std.proofs.Common.{subst}
 use Rattle.std.specs.declared.option.Option.TheVariants.{Some}
 use Rattle.std.proofs.lemmas.Bool.{eqb-true, eqb-false, false≢true}
@@ -116,20 +116,4 @@ expiry_more steps i n v lt x is = record {
             subst (IsNext is_expiry steps k) (sym (get_or-set_other v i k n 0 other))
             (x.are k (further k i ge other) le)
       ] refl;
-}
-
-pub no_expiry : (steps : List Step) (v : List ℕ) → v ≡ replicate (length steps + 1) (length steps)
-    → AreExpiries (length steps) steps v
-no_expiry steps v e = record {
-  long = ap length e ∙ Rattle.std.proofs.lemmas.List.length-replicate (length steps + 1) (length steps);
-  are = λ k ge le.
-      let last : k ≡ length steps = omega arith in
-      let there : get_or v k 0 ≡ length steps = ap (λ l. get_or l k 0) e
-      ∙ Rattle.std.proofs.lemmas.List.get_or-replicate (length steps + 1) k (length steps) 0 (omega arith) in
-      record {
-        ahead = omega (arith, there);
-        within = omega (arith, there);
-        between = λ j s from below. absurd (omega (arith, there));
-        there = λ s inside. absurd (omega (arith, there));
-      };
 }

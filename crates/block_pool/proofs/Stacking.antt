@@ -236,15 +236,6 @@ module _ (pool : List Status) (pins : List (Option ℕ)) (least : ℕ) (lists : 
         ];
   }
 
-  -- a lesser least, and any where no number is late
-  pub sorted_less : (m : ℕ) → m ≤ least → IsSorted pool pins m lists
-  sorted_less m le = record {
-    many = are.many;
-    listed = are.listed;
-    held = are.held;
-    late = λ copy less. are.late copy (omega arith);
-  }
-
   pub sorted_least : (m : ℕ) → stack_of lists LATE ≡ [] → IsSorted pool pins m lists
   sorted_least m empty = record {
     many = are.many;

@@ -5,7 +5,7 @@ use Rattle.std.specs.declared.option.Option.{Option}
 use Rattle.std.specs.declared.option.Option.TheVariants.{None, Some}
 use Rattle.std.proofs.lemmas.List.{ext_get_or, length-append, length-take, length-drop, get_or-take, get_or_append_left}
 use Rattle.std.proofs.lemmas.Bool.{cases_lt}
-use Rattle.lane_scan.specs.Masks.{InMask, AreBoundsOf, selected}
+use Rattle.lane_scan.specs.Masks.{InMask, selected}
 use Rattle.edge_block.specs.Slots.{Slot, BlockView, edge_slot}
 use Rattle.edge_block.specs.Columns.{slots_of, AreColumns, AreTimes}
 use Rattle.edge_block.proofs.Places.{length-slots_of, slot_live, slot_dead, lives_or_not}

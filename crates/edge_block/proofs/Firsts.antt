@@ -28,13 +28,6 @@ at_first-none p f (x ∷ xs) none =
     let parts : (p x ≡ false) × (list_any p xs ≡ false) = or_parts (p x) (list_any p xs) none in
     rw parts.0 (ap (λ ys. x ∷ ys) (at_first-none p f xs parts.1))
 
-pub length-at_first : {A : Type 0} (p : A → Bool) (f : A → A) (xs : List A) → length (at_first p f xs) ≡ length xs
-length-at_first p f [] = refl
-length-at_first p f (x ∷ xs) = go (p x) (length-at_first p f xs) where
-  go : (b : Bool) → length (at_first p f xs) ≡ length xs → length (if b then f x ∷ xs else x ∷ at_first p f xs) ≡ suc (length xs)
-  go true rest = refl
-  go false rest = ap suc rest
-
 pub All-at_first : {A : Type 0} (P : A → Type 0) (p : A → Bool) (f : A → A) (xs : List A) → ((x : A) → P (f x)) → All P xs
     → All P (at_first p f xs)
 All-at_first P p f [] holds all = all

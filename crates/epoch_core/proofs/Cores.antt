@@ -2,7 +2,7 @@
 use Rattle.std.proofs.Common.{◌≡◌, ℕ, zero, suc, ◌+◌, ◌≤◌, min, inl, inr, List, [], ◌∷◌, ◌++◌, length, refl, sym, ap, subst, ◌∙◌}
 use Rattle.std.proofs.Common.{arith}
 use Rattle.std.specs.Prelude.{if◌then◌else◌, is_some}
-use Rattle.std.specs.Option.{option_map, unwrap_or}
+use Rattle.std.specs.Option.{unwrap_or}
 use Rattle.std.specs.declared.option.Option.{Option}
 use Rattle.std.specs.declared.option.Option.TheVariants.{None, Some}
 use Rattle.std.proofs.lemmas.Bool.{cases_eq}
@@ -26,12 +26,6 @@ use Rattle.epoch_core.proofs.Changes.{graph_before, graph_next, length_next}
 use Rattle.epoch_core.proofs.Steps.{sound_next, sound_start, start_is_start}
 use Rattle.epoch_core.proofs.Sizes.{size_next}
 use Rattle.epoch_core.proofs.Answering.{Adds, asked, adds}
-
--- a step of a part is a step of the whole
-pub stepped_map : {A B : Type 0} (f : A → B) (o : Option A) (outcome : Step) (old new : A) (whole : B) → f old ≡ whole
-    → Stepped o outcome old new → Stepped (option_map f o) outcome whole (f new)
-stepped_map f None outcome old new whole same is = (is.0, ap f is.1 ∙ same)
-stepped_map f (Some after) outcome old new whole same is = (is.0, ap f is.1)
 
 -- a step leads to what next_world, and says whether the event is done
 stepped_to : (o : Option World) (outcome : Step) (old new : World) → Stepped o outcome old new → new ≡ unwrap_or o old

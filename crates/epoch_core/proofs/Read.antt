@@ -3,7 +3,7 @@ use Rattle.std.proofs.Common.{◌≡◌, ◌≢◌, ℕ, ◌<◌, ◌≤◌, Lis
 use Rattle.std.specs.Prelude.{AllPairs}
 use Rattle.std.specs.FinMap.{get}
 use Rattle.std.proofs.lemmas.List.{take_all}
-use Rattle.graph_model.specs.Graph.{Graph, key_of, stamp_of, map_of, graph_of, IsContent, IsEdgeWithin, IsWeight, IsTime}
+use Rattle.graph_model.specs.Graph.{Graph, key_of, stamp_of, map_of, IsContent, IsEdgeWithin, IsWeight, IsTime}
 use Rattle.graph_model.specs.declared.ids.Edge.{Edge}
 use Rattle.graph_model.proofs.Keys.{get_is, get_listed, find_listed}
 use Rattle.epoch_blocks.specs.declared.states.Version.{Version}
@@ -55,15 +55,6 @@ last_is_content w sound contents =
     let named : IsNamed w (last_number w) = sound.named (last_number w) (omega arith) in
     is_content (version_at w.opening w.versions (last_number w)) (edges_of w.heap (last_blocks w)) (last_graph w)
     (contents (last_number w) (omega arith)) named.names named.kinds sound.shown
-
-pub last_is_graph : (w : World) → IsSound w → graph_of (last_content w.opening w.heap w.versions)
-    ≡ graph_at w.opening w.versions (length w.versions)
-last_is_graph w sound =
-    let named : IsNamed w (last_number w) = sound.named (last_number w) (omega arith) in
-    let names = named.names in
-    let kinds = named.kinds in
-    let edges = sound.shown.same in
-    λ i. record { names = names i; kinds = kinds i; edges = edges i }
 
 -- what a session has read
 reads_at : (w : World) (session : SessionState) → IsSound w → HasContents w.opening w.versions → IsSessionSound w session

@@ -10,7 +10,6 @@ use Rattle.graph_model.specs.Graph.{Graph}
 use Rattle.graph_model.specs.Analyses.{LeadsTo}
 use Rattle.graph_model.specs.Arcs.{AreWithin}
 use Rattle.graph_model.specs.declared.ids.Filter.{Filter}
-use Rattle.graph_model.proofs.Counts.{Contains-nil}
 use Rattle.graph_cores.specs.Links.{AreLinks, IsLinked}
 
 -- one more pair
@@ -106,12 +105,6 @@ module _ (f : Filter) (g : Graph) where
   -- the links by edges out of the vertices below i
   abbrev pub LinksBelow : ℕ → List (ℕ × ℕ) → Type 0
   LinksBelow i links = (v w : ℕ) → Contains links (v, w) ↔ ((w ≢ v) × (((v < i) × LeadsTo f g v w) ⊎ ((w < i) × LeadsTo f g w v)))
-
-  pub links_none : LinksBelow 0 []
-  links_none v w = (
-    (λ c. absurd (Contains-nil (v, w) c)),
-    (λ h. absurd (elim h.1 [ inl x ↦ (let lt = x.0 in omega arith) | inr x ↦ (let lt = x.0 in omega arith) ])),
-  )
 
   pub links_more : (i : ℕ) (old new : List (ℕ × ℕ)) (ts : List ℕ) → LinksBelow i old
       → ((b : ℕ) → Contains ts b ↔ LeadsTo f g i b) → LinkedSoFar old i ts new → LinksBelow (i + 1) new

@@ -99,12 +99,6 @@ flat_more ps i lt low flat = λ v below.
           ap (parent new) here ∙ parent_set_other ps i a q q_ne ∙ flat v (omega arith) ∙ sym here
     ]
 
-pub flat_all : (ps : List ℕ) → FlatBelow ps (length ps) → (v : ℕ) → parent ps (parent ps v) ≡ parent ps v
-flat_all ps flat v = elim (cases_lt v (length ps)) [
-  | inl lt ↦ flat v lt
-  | inr le ↦ let out : parent ps v ≡ v = get_or_past ps v v le in ap (parent ps) out
-]
-
 -- the parent's parent, as the code reads it
 abbrev pub up : List ℕ → ℕ → ℕ
 up ps v = get_or ps (get_or ps v 0) 0

@@ -1,13 +1,13 @@
 -- A name's place in a list, and whether it is listed.
 use Rattle.std.proofs.Common.{◌≡◌, ℕ, suc, ◌+◌, ◌<◌, ◌≤◌, Bool, true, false, cond, not, ◌||◌, ltb, List, [], ◌∷◌, ◌++◌, length}
-use Rattle.std.proofs.Common.{Option, Some, None, refl, sym, ap, subst, ◌∙◌, arith}
+use Rattle.std.proofs.Common.{Option, Some, None, refl, sym, subst, ◌∙◌, arith}
 use Rattle.std.specs.Prelude.{bytes_eq, position, is_some, IfSome}
 use Rattle.std.specs.List.{list_any, position_or_len}
 use Rattle.std.proofs.lemmas.Bool.Decides.{nat_tests}
 use Rattle.graph_model.specs.Answer.{is_listed}
 use Rattle.std.proofs.lemmas.Bool.{false≢true}
-use Rattle.graph_model.specs.Step.{with_name, number_of}
-use Rattle.graph_model.proofs.NameLists.{number_of-lt, appears-with_name, same_bytes}
+use Rattle.graph_model.specs.Step.{number_of}
+use Rattle.graph_model.proofs.NameLists.{number_of-lt}
 
 later : (m n : ℕ) → ltb m n ≡ ltb (1 + m) (suc n)
 later m n = grind (arith, nat_tests)
@@ -72,39 +72,4 @@ number_at_most (x ∷ xs) name =
     elim (bytes_eq name x) as (λ b. cond (not b) (1 + number_of xs name) 0 ≤ suc (length xs)) [
       | true ↦ omega arith
       | false ↦ omega (arith, number_at_most xs name)
-    ]
-
--- a name that is listed keeps its number where another is added behind
-number_behind : (names : List (List ℕ)) (name other : List ℕ) → is_listed names name ≡ true
-    → number_of (names ++ other ∷ []) name ≡ number_of names name
-number_behind [] name other h = absurd (false≢true h)
-number_behind (x ∷ xs) name other h =
-    elim (bytes_eq name x) as (λ b. (b || is_listed xs name) ≡ true
-    → cond (not b) (1 + number_of (xs ++ other ∷ []) name) 0 ≡ cond (not b) (1 + number_of xs name) 0) [
-      | true ↦ λ _. refl
-      | false ↦ λ t. ap (λ n. 1 + n) (number_behind xs name other t)
-    ] h
-
-number_last : (names : List (List ℕ)) (name : List ℕ) → is_listed names name ≡ false
-    → number_of (names ++ name ∷ []) name ≡ length names
-number_last [] name h = ap (λ b. cond (not b) 1 0) (same_bytes name)
-number_last (x ∷ xs) name h =
-    elim (bytes_eq name x) as (λ b. (b || is_listed xs name) ≡ false
-    → cond (not b) (1 + number_of (xs ++ name ∷ []) name) 0 ≡ suc (length xs)) [
-      | true ↦ λ t. absurd (false≢true (sym t))
-      | false ↦ λ t. omega (arith, number_last xs name t)
-    ] h
-
--- the number that a name gets that is added behind
-pub number_new : (names : List (List ℕ)) (name : List ℕ) → None ≡ position (bytes_eq name) names
-    → number_of (names ++ name ∷ []) name ≡ length names
-number_new names name is = number_last names name (place_none names name is)
-
-pub number_kept : (names : List (List ℕ)) (source target : List ℕ)
-    → number_of (with_name (with_name names source) target) source ≡ number_of (with_name names source) source
-number_kept names source target =
-    let all = with_name names source in
-    elim (is_listed all target) as (λ b. number_of (cond b all (all ++ target ∷ [])) source ≡ number_of all source) [
-      | true ↦ refl
-      | false ↦ number_behind all source target (appears-with_name names source)
     ]

@@ -1,6 +1,6 @@
 -- How many blocks rows have: a version at most 2 ^ 38, since each of its blocks has an edge.
-use Rattle.std.proofs.Common.{◌≡◌, ℕ, zero, suc, ◌+◌, ◌<◌, ◌≤◌, ◌^◌, false, List, [], ◌∷◌, length, take, Option, Some, None}
-use Rattle.std.proofs.Common.{ap, sym, ◌∙◌, arith, All, length-append}
+use Rattle.std.proofs.Common.{◌≡◌, ℕ, suc, ◌+◌, ◌<◌, ◌≤◌, ◌^◌, false, List, [], ◌∷◌, length, Option, Some, None}
+use Rattle.std.proofs.Common.{◌∙◌, arith, All, length-append}
 use Rattle.std.specs.List.{list_all}
 use Rattle.std.proofs.lemmas.List.Elements.{All-head, All-tail, All-append}
 use Rattle.edge_block.specs.Slots.{Slot, BlockView, is_free, edges_in}
@@ -35,15 +35,3 @@ pub few_blocks : (v : VersionView) → IsVersion v → length (blocks_of v.rows)
 few_blocks v is =
     let many = as_many_edges (blocks_of v.rows) (all_have v.rows (λ s k d h. (is.rows.blocks s k d h).has_edges)) in
     omega (arith, many, count_is_total v is, few_total v is)
-
--- one row more
-pub blocks_more : (rows : List (List BlockView)) (i : ℕ) → i < length rows
-    → length (blocks_of (take (i + 1) rows)) ≡ length (blocks_of (take i rows)) + length (row_of rows i)
-blocks_more [] i lt = absurd (omega arith)
-blocks_more (row ∷ rows) zero lt = omega (arith, length-append row [])
-blocks_more (row ∷ rows) (suc i) lt =
-    let further : suc (i + 1) ≡ suc i + 1 = omega arith in
-    let rest = blocks_more rows i (omega arith) in
-    let one = length-append row (blocks_of (take (i + 1) rows)) in
-    let other = length-append row (blocks_of (take i rows)) in
-    ap (λ n. length (blocks_of (take n (row ∷ rows)))) (sym further) ∙ omega (arith, rest, one, other)

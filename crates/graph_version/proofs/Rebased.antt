@@ -120,15 +120,6 @@ pub record AreSoFar (rows : List (List BlockView)) (blocks : List BlockView) (k 
   pub rest : rows_like (drop k rows) left ≡ drop k (rows_like rows blocks)
   pub many : length left ≡ length (blocks_of (drop k rows))
 
-pub none_so_far : (rows : List (List BlockView)) (blocks : List BlockView) → length blocks ≡ length (blocks_of rows)
-    → AreSoFar rows blocks 0 [] blocks
-none_so_far rows blocks long = record {
-  made = λ s lt. absurd (omega arith);
-  none = λ s le. refl;
-  rest = refl;
-  many = long;
-}
-
 -- the blocks left are enough for the next row
 pub enough : (rows : List (List BlockView)) (blocks : List BlockView) (k : ℕ) (copy : List (List BlockView))
     (left : List BlockView) → AreSoFar rows blocks k copy left → k < length rows → length (row_of rows k) ≤ length left

@@ -2,7 +2,7 @@
 use Rattle.std.proofs.Common.{◌≡◌, ℕ, suc, ◌+◌, ◌<◌, ◌≤◌, Bool, true, false, List, [], ◌∷◌, ◌++◌, length, get_or, take, refl, ap}
 use Rattle.std.proofs.Common.{arith, min, max, zero, inl, inr}
 use Rattle.std.specs.Prelude.{if◌then◌else◌, All, Contains}
-use Rattle.std.specs.declared.option.Option.TheVariants.{None, Some}
+use Rattle.std.specs.declared.option.Option.TheVariants.{Some}
 use Rattle.std.specs.Int.{bit_at}
 use Rattle.std.proofs.lemmas.Bool.{eq-eqb, ne_eqb, cases_lt}
 use Rattle.std.proofs.lemmas.List.{take_more, length-take}
@@ -124,16 +124,3 @@ pub bounds_push : (values : List ℕ) (time least greatest m n : ℕ) → m ≡ 
     AreBoundsOf (values ++ time ∷ []) (Some (m, n))
 bounds_push values time least greatest m n e f h =
     rw (e, f) (least_push values time least h.0, greatest_push values time greatest h.1)
-
--- the bounds of one value
-pub bounds_of_one : (values : List ℕ) (time : ℕ) → AreBoundsOf values None → AreBoundsOf (values ++ time ∷ []) (Some (time, time))
-bounds_of_one values time e = rw e (
-  record {
-    reached = (0, omega arith, refl);
-    bound = All-push (λ value. time ≤ value) [] time (λ k d within. absurd (omega arith)) (omega arith);
-  },
-  record {
-    reached = (0, omega arith, refl);
-    bound = All-push (λ value. value ≤ time) [] time (λ k d within. absurd (omega arith)) (omega arith);
-  },
-)

@@ -5,7 +5,7 @@ use Rattle.std.proofs.lemmas.Bool.{cases_lt}
 use Rattle.std.proofs.lemmas.Bool.Decides.{nat_tests}
 use Rattle.std.specs.List.{list_any}
 use Rattle.pin_copy.specs.declared.copies.PinCopy.{PinCopy}
-use Rattle.pin_copy.specs.Copies.{lesser, least_of, floor_of, reach_of, is_between, is_before, needs}
+use Rattle.pin_copy.specs.Copies.{lesser, least_of, reach_of, is_between, is_before, needs}
 
 lesser_below : (n : ℕ) (o : Option ℕ) → lesser n o ≤ n
 lesser_below n None = omega arith

@@ -79,15 +79,6 @@ pub first_used : (n : ℕ) (ns : List ℕ) (s : Status) (pool end : List Status)
     → is_used_at pool n ≡ true
 first_used n ns s pool end m = (moving is_used n ns s pool (record { pass = m.once.pass; apart = m.once.apart })).0
 
-pub later_moving : (n : ℕ) (ns : List ℕ) (s : Status) (pool next end : List Status) → next ≡ set pool n s
-    → IsMoving (n ∷ ns) s pool end → IsMoving ns s next end
-later_moving n ns s pool next end moved m =
-    let rest = (moving is_used n ns s pool (record { pass = m.once.pass; apart = m.once.apart })).1 in
-    record {
-      once = subst (AreUsedOnce ns) (sym moved) (record { pass = rest.pass; apart = rest.apart });
-      ends = ap (marked ns s) moved ∙ m.ends;
-    }
-
 -- what stays to be retired, and what the pool will be
 pub record IsRetiring (numbers : List ℕ) (number : ℕ) (pool end : List Status) : Type 0 where
   pub once : AreBornOnce numbers pool

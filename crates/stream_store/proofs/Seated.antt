@@ -1,5 +1,5 @@
 -- Seats: a pin set twice, and the seats of an opening.
-use Rattle.std.proofs.Common.{◌≡◌, ℕ, zero, suc, ◌+◌, ◌<◌, List, [], ◌∷◌, ◌++◌, length, get_or, map, take, drop, refl, sym, ap, subst}
+use Rattle.std.proofs.Common.{◌≡◌, ℕ, zero, suc, ◌+◌, ◌<◌, List, [], ◌∷◌, ◌++◌, length, map, take, drop, refl, sym, ap, subst}
 use Rattle.std.proofs.Common.{◌∙◌, arith}
 use Rattle.std.specs.Prelude.{All, Option, slice_set, slice_index_or}
 use Rattle.std.specs.List.{range_with_len}
@@ -11,7 +11,6 @@ use Rattle.version_shelf.specs.Shelves.{ToldView}
 use Rattle.seat_board.specs.Board.{BoardState, with_pin}
 use Rattle.seat_board.specs.declared.board.Pin.{Pin}
 use Rattle.stream_store.specs.Seats.{SeatView, HasSeen}
-use Rattle.stream_store.specs.Stores.{IsSeatOf}
 
 set_again : {X : Type 0} (xs : List X) (i : ℕ) (x y : X) → slice_set (slice_set xs i x) i y ≡ slice_set xs i y
 set_again [] i x y = refl
@@ -41,13 +40,6 @@ new_seats book other version seats readers same all is =
     each other version seats
     (subst (λ (b : Book). All (IsNew b version) (map (λ (s : SeatView). s.seen) seats)) (sym is)
     (subst (λ (rs : List ToldView). All (IsNew book version) rs) (sym same) all))
-
--- they are seats of the shelf
-pub seats_of_opening : (book : Book) (version : VersionView) (seats : List SeatView) → All (HasSeen book version) seats
-    → All (IsSeatOf book version.opening) seats
-seats_of_opening book version seats new = λ k d h.
-    let seen : (get_or seats k d).seen ≡ record { book = book; version = version } = new k d h in
-    record { book_is = ap (λ (x : ToldView). x.book) seen; opening_is = ap (λ (x : ToldView). x.version.opening) seen }
 
 range_more : (a n : ℕ) → range_with_len a (suc n) ≡ range_with_len a n ++ (a + n) ∷ []
 range_more a zero = let same : a ≡ a + 0 = omega arith in ap (λ (k : ℕ). k ∷ []) same

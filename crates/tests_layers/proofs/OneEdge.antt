@@ -16,7 +16,7 @@ use Rattle.block_layout.specs.Batches.{IsLayoutOf, IsWithin, layout_after, outco
 use Rattle.block_layout.proofs.GraphLaws.{batch_layout}
 use Rattle.row_pages.specs.Rows.{row_of, numbers_of}
 use Rattle.graph_model.specs.declared.batches.NamedOp.{NamedOp}
-use Rattle.graph_version.specs.Versions.{VersionView, IsBlockOf, AreRowsOf, content, empty_version}
+use Rattle.graph_version.specs.Versions.{VersionView, IsBlockOf, AreRowsOf, empty_version}
 use Rattle.graph_version.specs.Kept.{vertex_book, kind_book}
 use Rattle.graph_version.specs.Drafts.{DraftView, drafted_over, with_batch, ReplacesRow, IsWhole}
 use Rattle.graph_version.proofs.Totals.{same_blocks, at_source, elsewhere}

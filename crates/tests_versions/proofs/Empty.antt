@@ -1,5 +1,5 @@
 -- The content without names and edges.
-use Rattle.std.proofs.Common.{◌≡◌, ◌≢◌, ◌<◌, ◌≤◌, ℕ, List, [], length, All, AllPairs, arith}
+use Rattle.std.proofs.Common.{◌≡◌, ◌≢◌, ◌<◌, ◌≤◌, ℕ, [], arith}
 use Rattle.graph_model.specs.Graph.{IsContent}
 
 pub empty_content : IsContent (record { names = []; kinds = []; edges = [] })

@@ -7,7 +7,7 @@ use Rattle.std.proofs.lemmas.Bool.{eqb-true, true≢false}
 use mathlib.Core.List.{IsPrefix}
 use prog.Atomic.{either}
 use Rattle.logbook.specs.Pages.{Cell, cell, keeps, gives, adds, nib, no_nib, may_make, step, Moves, Goes}
-use Rattle.version_shelf.specs.Histories.{IsCounted, Makes, Adds, Confirms, right_at, rights, cells_of}
+use Rattle.version_shelf.specs.Histories.{IsCounted, Makes, Adds, right_at, rights, cells_of}
 use Rattle.version_shelf.proofs.Beginnings.{prefix_whole, prefix_length}
 use Rattle.version_shelf.proofs.Rights.{length_cells, first_left, use_up, one_more}
 
@@ -117,31 +117,3 @@ adds_moves v e old cs log kept pre away =
     subst P (sym is) (omega arith, refl, adds_goes log v e old all.1.0 pre all.0)
 
 -- Nothing is added.
-
-confirms_goes : (log v : List (List NamedOp)) (e : List NamedOp) (place old left : ℕ) → length log ≡ place
-    → Goes IsCounted shown moved 0 (v, (right_at place, None)) (λ n. either (n == old) old n)
-    (Confirms (step 0 old old e) (v, (right_at place, None))) (cells_of (length log) left) log
-confirms_goes log v e place old left as_long =
-    let same : length (log ++ []) ≡ length log = ap length (append-nil log) in
-    let word : either (length log + left == old) old (length log + left) ≡ length (log ++ []) + left =
-    stays (length log + left) old ∙ omega arith in (
-      keeps,
-      [],
-      None,
-      tt,
-      record { left = left; words = ap₂ as_counted word (ap (λ k. rights k left) (sym same)) },
-      inl (refl, refl),
-      (ap (λ k. suc (suc k)) (sym as_long ∙ sym same), refl),
-    )
-
--- whatever the history is, it is no longer than the right says
-pub confirms_moves : (v : List (List NamedOp)) (e : List NamedOp) (place old : ℕ) → place ≤ length v
-    → Moves IsCounted shown moved 0 (v, (right_at place, None)) (λ n. either (n == old) old n)
-    (Confirms (step 0 old old e) (v, (right_at place, None)))
-confirms_moves v e place old few cs log kept pre away =
-    let P : List Cell → Type 0 = λ c. (0 < length c) × ((cell c 0).1 ≡ true)
-    × Goes IsCounted shown moved 0 (v, (right_at place, None)) (λ n. either (n == old) old n)
-    (Confirms (step 0 old old e) (v, (right_at place, None))) c log in
-    let more = prefix_length v log pre in
-    let all = all_added cs log kept place (omega arith) (away refl) in
-    subst P (sym kept.words) (omega arith, refl, confirms_goes log v e place old kept.left all.0)

@@ -88,14 +88,6 @@ showing_on shown old new batch true is book added =
 showing_on shown old new batch false is book same =
     (is.0 ∙ sym book, subst (λ (h : HistoryView). IsPrefix shown.version.batches h.batches) (sym same) is.1)
 
--- of two versions of one shelf, the one whose history begins the other's begins the other
-pub begins_by : (x y : ToldView) (h k : HistoryView) → x.version.batches ≡ h.batches → y.version.batches ≡ k.batches
-    → IsOfOneShelf x y
-    → (t : Bool) → MatchBool t (IsPrefix h.batches k.batches) (IsPrefix k.batches h.batches)
-    → MatchBool t (Begins x y) (Begins y x)
-begins_by x y h k e f one true p = (one.0, (one.1, rw (e, f) p))
-begins_by x y h k e f one false p = (sym one.0, (sym one.1, rw (e, f) p))
-
 -- a copy that was to be had is of the same shelf
 pub copy_of_one_shelf : {E : Type 0} (before shown got : ToldView) (copy : Result ToldView E) → got ≡ shown
     → IfOk copy (λ told. told ≡ got)

@@ -2,7 +2,7 @@
 use Rattle.std.proofs.Common.{◌≡◌, ◌≢◌, ℕ, zero, suc, ◌+◌, ◌<◌, ◌≤◌, List, [], ◌∷◌, length, get_or, set, take, drop}
 use Rattle.std.proofs.Common.{if◌then◌else◌}
 use Rattle.std.proofs.Common.{◌-◌, Some, None, refl, sym, ap, ◌∙◌, arith, nat_eq, inl, inr}
-use Rattle.std.specs.List.{insert, AllZip}
+use Rattle.std.specs.List.{insert}
 use Rattle.std.specs.Map.{lookup}
 use Rattle.std.proofs.lemmas.Bool.{cases_lt}
 use Rattle.std.proofs.lemmas.Bool.Decides.{nat_tests}
@@ -135,16 +135,6 @@ take_rest es n = let long = length-drop n es in take_whole (drop n es) (length e
 
 pub first_at : {X : Type 0} (xs : List (ℕ × X)) (i : ℕ) (x : ℕ × X) → i < length xs → get_or (firsts xs) i 0 ≡ (get_or xs i x).0
 first_at {X} xs i x lt = get_or-map (λ (p : ℕ × X). p.0) xs i x 0 lt
-
--- copies of pairs
-pub pairs_same : (xs ys : Pairs) → AllZip (λ x y. (y.0 ≡ x.0) × (y.1 ≡ x.1)) xs ys → ys ≡ xs
-pairs_same [] [] same = refl
-pairs_same [] (y ∷ ys) same = absurd same
-pairs_same (x ∷ xs) [] same = absurd same
-pairs_same (x ∷ xs) (y ∷ ys) same =
-    let tail : ys ≡ xs = pairs_same xs ys same.1 in
-    let one : y.0 ≡ x.0 = same.0.0 in let two : y.1 ≡ x.1 = same.0.1 in
-    let head : y ≡ x = ap (λ n. (n, y.1)) one ∙ ap (λ n. (x.0, n)) two in cc
 
 -- where the search of a hash ends
 module _ (es : Pairs) (rising : IsRising (firsts es)) (q i : ℕ) where

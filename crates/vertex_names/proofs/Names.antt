@@ -14,7 +14,7 @@ use Rattle.std.proofs.lemmas.Bool.Decides.{eqb_tells}
 use Rattle.std.proofs.lemmas.List.{get_or_append_left}
 use Rattle.std.proofs.lemmas.Option.{slice_get_within, get_or_from_slice_get}
 use Rattle.std.proofs.Math.Seq.{get_or-append_seam}
-use Rattle.graph_model.specs.Step.{with_name, number_of}
+use Rattle.graph_model.specs.Step.{number_of}
 use Rattle.graph_model.specs.Answer.{is_listed}
 use Rattle.graph_model.specs.Valid.{is_name}
 use Rattle.vertex_names.specs.Index.{text_hash, found_at, Stands, IsIndexed}
@@ -43,10 +43,6 @@ differs : (names : List (List ℕ)) (name : List ℕ) → is_listed names name �
 differs names name new k d in_range same =
     true≢false (sym (list_any_at (bytes_eq name) names k d in_range ((bytes_eq-Decides name (get_or names k d)).1 (sym same)))
     ∙ new)
-
--- a name that is not listed goes last
-pub with_new : (names : List (List ℕ)) (name : List ℕ) → is_listed names name ≡ false → names ++ name ∷ [] ≡ with_name names name
-with_new names name new = ap (λ listed. if listed then names else names ++ name ∷ []) (sym new)
 
 -- a new name within the limit leaves a book
 pub IsBook-pushed : (limit : ℕ) (names : List (List ℕ)) (name : List ℕ) → IsTrue (is_name name) → is_listed names name ≡ false

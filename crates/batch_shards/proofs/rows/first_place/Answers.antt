@@ -1,4 +1,4 @@
-use Rattle.std.proofs.Common.{sym, subst, take, true, ◌≡◌, ◌<◌, ℕ, List, get_or, length}
+use Rattle.std.proofs.Common.{sym, subst, ◌≡◌, ◌<◌, ℕ, List}
 use Rattle.std.proofs.lemmas.List.{take_all}
 use Rattle.batch_shards.specs.declared.row_blocks.RowBlock.{RowBlock}
 use Rattle.batch_shards.proofs.RowSteps.{at_edge}

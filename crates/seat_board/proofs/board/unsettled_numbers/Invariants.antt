@@ -1,4 +1,4 @@
-use Rattle.std.proofs.Common.{◌≡◌, ◌≤◌, ◌-◌, ◌++◌, length, map, take, replicate}
+use Rattle.std.proofs.Common.{◌≡◌, ◌≤◌, ◌-◌, ◌++◌, map, take, replicate}
 use Rattle.std.specs.declared.option.Option.TheVariants.{None}
 use Rattle.seat_board.specs.Board.{unsettled_number}
 use Rattle.seat_board.proofs.board.unsettled_numbers.Given as goal

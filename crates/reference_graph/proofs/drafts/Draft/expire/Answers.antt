@@ -1,9 +1,6 @@
 -- The edges that stay show the map without the others, and the list is shorter by those that went.
-use Rattle.std.proofs.Common.{◌≡◌, ℕ, ◌+◌, ◌-◌, ◌≤◌, List, length, ap, sym, ◌∙◌, arith, subst}
-use Rattle.std.specs.Prelude.{count_by}
-use Rattle.graph_model.specs.Graph.{Graph, map_of, content_of, graph_of, IsContent}
-use Rattle.graph_model.specs.Step.{was_before, later, count_before}
-use Rattle.graph_model.specs.declared.ids.Edge.{Edge}
+use Rattle.std.proofs.Common.{◌≡◌, ℕ, ◌+◌, ◌-◌, ◌≤◌, length, ap, sym, ◌∙◌, arith, subst}
+use Rattle.graph_model.specs.Graph.{Graph, content_of, graph_of, IsContent}
 use Rattle.graph_model.proofs.Expiry.{map_of-later, count_before-map_of, count-later}
 use Rattle.graph_model.specs.declared.batches.Outcome.TheVariants.{Expired}
 use Rattle.reference_graph.proofs.OneOperation.{IsContent-later}

@@ -1,6 +1,4 @@
-use Rattle.std.proofs.Common.{◌∙◌, List, ap}
-use Rattle.graph_model.specs.declared.batches.NamedOp.{NamedOp}
-use Rattle.graph_version.specs.Drafts.{with_batch}
+use Rattle.std.proofs.Common.{◌∙◌}
 use Rattle.tests_layers.proofs.OneEdge.{one_edge_made}
 use Rattle.tests_layers.proofs.tests.drafts.of_one_edge.Goals as goal
 

@@ -1,5 +1,4 @@
 use Rattle.std.proofs.Common.{List, sym, subst, rules}
-use Rattle.std.specs.Arc.{arc_value}
 use Rattle.graph_model.specs.declared.batches.NamedOp.{NamedOp}
 use Rattle.row_pages.specs.Rows.{row_of}
 use Rattle.graph_version.specs.Versions.{content}
