@@ -1,9 +1,7 @@
 -- A text that is told in two parts, of which the second is its end.
-use Rattle.std.proofs.Common.{◌≡◌, ◌++◌, ℕ, List, [], append-nil, inl, inr, refl, sym}
-use Rattle.std.specs.Prelude.{Option, Result, Ok, Err, OnErr, OnOk}
-use Rattle.std.specs.Io.KnownBytes.{Appends}
+use Rattle.std.proofs.Common.{◌≡◌, ◌++◌, ℕ, List, [], inl, inr, refl}
+use Rattle.std.specs.Prelude.{Option}
 use Rattle.stinger_cli.specs.Program.{EndsWith, IsTold}
-use Rattle.stinger_server.specs.Writes.{AppendsPart}
 use Rattle.stinger_server.proofs.Writing.{appends_nothing}
 
 -- a text of two parts ends with the second
@@ -19,9 +17,3 @@ told_ending front end told status old new said = elim said [
 pub told_nothing : (IsSaid : List ℕ → Type 0) (text : List ℕ) (told : ℕ) (old : Option (List ℕ)) → IsSaid text
     → IsTold IsSaid told 1 old old
 told_nothing IsSaid text told old said = inr (refl, (text, said, ([], text, refl, appends_nothing old)))
-
--- a text was written, or a part of it
-pub either_part : {T E : Type 0} (r : Result T E) (old new : Option (List ℕ)) (text : List ℕ) → OnOk r (Appends old new text)
-    → OnErr r (AppendsPart old new text) → AppendsPart old new text
-either_part (Ok x) old new text whole part = (text, [], sym (append-nil text), whole)
-either_part (Err e) old new text whole part = part

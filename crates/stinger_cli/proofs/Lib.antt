@@ -1,5 +1,6 @@
 pub mod Options
 pub mod OneFault
+pub mod Levels
 pub mod Asked
 pub mod Served
 pub mod HelpText

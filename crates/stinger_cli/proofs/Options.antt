@@ -2,27 +2,21 @@
 use Rattle.std.proofs.Common.{◌≡◌, ◌⊎◌, ◌<◌, ◌≤◌, ◌^◌, ◌∙◌, ℕ, Bool, true, false, codes, List, ap, arith}
 use Rattle.std.proofs.Common.{inl, inr, refl, subst, sym}
 use Rattle.std.proofs.lemmas.Bool.Decides.{leb_tells, nat_tests}
-use Rattle.std.proofs.lemmas.Slice.Eq.{bytes_eq-Decides}
-use Rattle.std.specs.Prelude.{◌&&◌, Box, MatchResult, Option, None, Some, Result, Ok, Err, if◌then◌else◌, nat_le}
+use Rattle.std.specs.Prelude.{◌&&◌, MatchResult, Option, None, Some, Result, Ok, Err, if◌then◌else◌, nat_le}
 use Rattle.std.specs.Prelude.{option_and_then, option_map}
-use Rattle.std.specs.Box.{box_value}
 use Rattle.std.specs.Option.{option_map_or}
 use Rattle.std.specs.Str.{bytes_eq}
 use Rattle.std.specs.Str.Parse.{ExplainsUnsignedError, HasUnsignedDigitsIfOk, ParsesUnsigned, digits_value, without_leading_plus}
-use Rattle.clap.specs.Matches.{ReadsOne, first_value, one_text, subcommand_name_of}
-use Rattle.clap.specs.Simple.{subcommand_rows, subcommand_rows_of}
+use Rattle.clap.specs.Matches.{ReadsOne, first_value, one_text}
 use Rattle.clap.specs.ValueTests.{is_unsigned_in}
 use Rattle.clap.specs.declared.builder.value_parser.ValueParser.TheVariants.{Unsigned}
 use Rattle.clap.specs.Walk.{Row, Text, one_of, rows_of}
 use Rattle.clap.specs.declared.parser.matches.Found.{Found}
-use Rattle.clap.specs.declared.parser.matches.ArgMatches.{ArgMatches}
-use Rattle.clap.specs.declared.parser.matches.ArgMatches.TheViews.{out-ArgMatches, out-SubCommand}
-use Rattle.clap.specs.declared.parser.matches.SubCommand.{SubCommand}
 use Rattle.clap.proofs.WalkLemmas.{first_value-rows, one_text-rows}
 use Rattle.clap.proofs.ValueTestLemmas.{Accepts-accepts, accepts-Accepts}
 use Rattle.stream_store.specs.Configs.{IsWithinLimits, ConfigView}
-use Rattle.stinger_cli.specs.Program.{Drive, RunView, Serve, Usage, asked_of_subcommand, is_quiet, number_within, readers_of}
-use Rattle.stinger_cli.specs.Program.{run_of, sizes_given, sizes_of}
+use Rattle.stinger_cli.specs.Program.{is_quiet, number_within, readers_of}
+use Rattle.stinger_cli.specs.Program.{sizes_given, sizes_of}
 use Rattle.stream_store.specs.declared.config.BadConfig.{BadConfig}
 
 -- a number, where it lies within limits
@@ -242,50 +236,3 @@ quiet_met (Some p) f b e is = is ∙ (ap flagged (first_value-rows f (codes "qui
 
     unsome : Some p.1 ≡ Some (rows_of f) → p.1 ≡ rows_of f
     unsome e = cc
-
--- no subcommand was met
-pub no_flag : (met : Option (Text × List Row)) → option_map (λ p. p.1) met ≡ None
-    → false ≡ option_map_or (λ p. is_quiet p.1) met false
-no_flag None e = refl
-no_flag (Some p) e = cc
-
--- the run of the subcommand that was met
-pub run_met : (met : Option (Text × List Row)) (sizes : ConfigView) (quiet : Bool)
-    → Some sizes ≡ option_and_then (λ p. sizes_of p.1) met → quiet ≡ option_map_or (λ p. is_quiet p.1) met false
-    → Some (record { sizes = sizes; quiet = quiet }) ≡ option_and_then (λ p. run_of p.1) met
-run_met None sizes quiet e q = cc
-run_met (Some p) sizes quiet e q = rw (← e, q) refl
-
-pub no_run_met : (met : Option (Text × List Row)) → None ≡ option_and_then (λ p. sizes_of p.1) met
-    → None ≡ option_and_then (λ p. run_of p.1) met
-no_run_met None e = refl
-no_run_met (Some p) e = rw (← e) refl
-
--- ---- which subcommand was met
-
-pub name_met : (m : ArgMatches) → subcommand_name_of m ≡ option_map (λ p. p.0) (subcommand_rows_of m)
-name_met m = go (out-ArgMatches m).subcommand
-  where
-    go : {Z : Type 0} (s : Option (Box SubCommand Z))
-        → option_map (λ b. (out-SubCommand (box_value b)).name.now) s ≡ option_map (λ p. p.0) (subcommand_rows s)
-    go None = refl
-    go (Some b) = refl
-
--- it is `drive`
-pub drive_met : (met : Option (Text × List Row)) (readers : Option ℕ) → option_map (λ p. p.0) met ≡ Some (codes "drive")
-    → readers ≡ option_and_then (λ p. readers_of p.1) met → option_map_or Drive readers Usage ≡ asked_of_subcommand met
-drive_met None readers is e = cc
-drive_met (Some p) readers is e =
-    let same : p.0 ≡ codes "drive" = cc in
-    rw ((bytes_eq-Decides p.0 (codes "drive")).1 same) (ap (λ r. option_map_or Drive r Usage) e)
-
--- it is another, or there is none
-pub served_met : (met : Option (Text × List Row)) (run : Option RunView)
-    → (option_map (λ p. p.0) met ≡ Some (codes "drive") → ⊥)
-    → run ≡ option_and_then (λ p. run_of p.1) met → option_map_or Serve run Usage ≡ asked_of_subcommand met
-served_met None run other e = rw e refl
-served_met (Some p) run other e = go (bytes_eq p.0 (codes "drive")) refl
-  where
-    go : (b : Bool) → bytes_eq p.0 (codes "drive") ≡ b → option_map_or Serve run Usage ≡ asked_of_subcommand (Some p)
-    go true is = absurd (other (ap Some ((bytes_eq-Decides p.0 (codes "drive")).0 is)))
-    go false is = rw is (ap (λ r. option_map_or Serve r Usage) e)

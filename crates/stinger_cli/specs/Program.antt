@@ -22,7 +22,7 @@ use Rattle.stinger_cli.specs.declared.program.RunOptions.{RunOptions}
 use Rattle.stinger_cli.specs.declared.program.Order.{Order}
 use Rattle.stinger_cli.specs.declared.program.Order.TheVariants as order
 use Rattle.stinger_server.specs.declared.script.ServeFault.{ServeFault}
-use Rattle.stinger_server.specs.declared.script.ServeFault.TheVariants.{Read, Memory, Start, Write}
+use Rattle.stinger_server.specs.declared.script.ServeFault.TheVariants.{Read, Start, Write}
 use Rattle.stinger_server.specs.declared.script.Summary.{Summary}
 use Rattle.stinger_server.specs.States.{set_up}
 use Rattle.stinger_server.specs.Texts.{IsText}
@@ -55,18 +55,12 @@ default_run = record { sizes = default_sizes; quiet = false }
 -- a script is to be served
 abbrev pub is_served : Asked → Bool
 is_served (Serve run) = true
-is_served (Drive readers) = false
-is_served Help = false
-is_served Version = false
-is_served Usage = false
+is_served _ = false
 
 -- a script is to be served, and its progress may be shown
 abbrev pub shows_progress : Asked → Bool
 shows_progress (Serve run) = not run.quiet
-shows_progress (Drive readers) = false
-shows_progress Help = false
-shows_progress Version = false
-shows_progress Usage = false
+shows_progress _ = false
 
 -- ---- the command line
 
@@ -213,9 +207,8 @@ begins_with_h flags = option_map_or (λ c. 104 == c) (slice_get (chars flags) 0)
 -- `--help`, or `-h`, behind which more letters mean nothing
 abbrev pub is_help_flag : Option (List ℕ × Option (List ℕ)) → Option (List ℕ) → Bool
 is_help_flag (Some (name, None)) flags = bytes_eq (codes "help") name
-is_help_flag (Some (name, Some value)) flags = false
 is_help_flag None (Some flags) = begins_with_h flags
-is_help_flag None None = false
+is_help_flag _ _ = false
 
 abbrev pub asks_for_help : List ℕ → Bool
 asks_for_help argument = is_help_flag (long_of argument) (short_of argument)
@@ -319,11 +312,10 @@ status_of (Err fault) = 1
 -- what is said on standard error of a run that came to this: these lines where the output could not be written, where the
 -- store was not opened, and where the input could not be read or had a record too many
 abbrev pub fault_line : List ℕ → List ℕ → List ℕ → Result Summary ServeFault → Option (List ℕ)
-fault_line unwritten unopened unread (Ok summary) = None
 fault_line unwritten unopened unread (Err Read) = Some unread
-fault_line unwritten unopened unread (Err Memory) = None
 fault_line unwritten unopened unread (Err Start) = Some unopened
 fault_line unwritten unopened unread (Err Write) = Some unwritten
+fault_line unwritten unopened unread _ = None
 
 -- standard error is as it was; or, where there is a line to say, it grew by a first part of that
 abbrev pub IsNoted : {F : Type 0} → (F → Option (List ℕ)) → Option (List ℕ) → F → F → Type 0
