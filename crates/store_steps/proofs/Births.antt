@@ -8,7 +8,7 @@ use Rattle.std.proofs.lemmas.Bool.{eq-eqb, or_right}
 use Rattle.edge_block.specs.Slots.{BlockView}
 use Rattle.row_pages.specs.Rows.{row_of, blocks_of, numbers_of}
 use Rattle.graph_version.specs.Versions.{is_in}
-use Rattle.block_pool.specs.Pools.{Status, Free, Granted, Used, Retired, is_free, passes}
+use Rattle.block_pool.specs.Pools.{Status, Free, is_free, passes}
 use Rattle.store_steps.specs.Desks.{birth_of, birth_at}
 use Rattle.store_steps.proofs.OneNumber.{number_after}
 
@@ -32,11 +32,8 @@ birth_taken n (Some s) false free = refl
 
 -- and all else keeps its birth, also what it drops
 pub birth_stays : (n : ℕ) (p : Option Status) (dropped : Bool) → birth_in (number_after n p false dropped) ≡ birth_in p
-birth_stays n None true = refl
 birth_stays n (Some Free) true = refl
-birth_stays n (Some Granted) true = refl
-birth_stays n (Some (Used birth)) true = refl
-birth_stays n (Some (Retired birth since)) true = refl
+birth_stays n _ true = refl
 birth_stays n p false = refl
 
 -- Rows

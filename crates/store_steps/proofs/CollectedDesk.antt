@@ -12,7 +12,7 @@ use Rattle.edge_block.specs.Slots.{BlockView}
 use Rattle.row_pages.specs.Rows.{row_of, numbers_of}
 use Rattle.graph_version.specs.Versions.{VersionView, is_in}
 use Rattle.pin_copy.specs.declared.copies.PinCopy.{PinCopy}
-use Rattle.block_pool.specs.Pools.{Status, Free, Granted, Used, Retired, is_retired, is_past, is_born, passes, recycled}
+use Rattle.block_pool.specs.Pools.{Status, Free, Used, Retired, is_retired, is_past, is_born, passes, recycled}
 use Rattle.block_pool.proofs.Tallies.{count_more}
 use Rattle.epoch_blocks.proofs.Lists.{get_map}
 use Rattle.store_steps.specs.Journal.{Collected, Ledger, opened_ledger, is_legal, after_entry, entered, replay}
@@ -24,12 +24,10 @@ use Rattle.store_steps.proofs.Births.{birth_in, birth_from, row_listed}
 -- one status is freed, or retired still, or was never retired
 past_one : (copy : PinCopy) (x : Status) → cond (is_past copy x) 1 0 + cond (is_retired (recycled copy x)) 1 0
     ≡ cond (is_retired x) 1 0
-past_one copy Free = refl
-past_one copy Granted = refl
-past_one copy (Used b) = refl
 past_one copy (Retired b v) =
     elim (is_past copy (Retired b v)) as (λ t. cond t 1 0 + cond (is_retired (if t then Free else Retired b v)) 1 0
     ≡ 1) [ true ↦ refl | false ↦ refl ]
+past_one copy _ = refl
 
 -- what is freed and what is left are the retired blocks
 pub past_and_left : (copy : PinCopy) (xs : List Status) → count_by (is_past copy) xs + count_by is_retired (map (recycled copy) xs)
@@ -54,13 +52,10 @@ same_if_none copy (x ∷ xs) none =
     cc
 
 born_recycled : (copy : PinCopy) (o : Option Status) → passes is_born (option_map (recycled copy) o) ≡ passes is_born o
-born_recycled copy None = refl
-born_recycled copy (Some Free) = refl
-born_recycled copy (Some Granted) = refl
-born_recycled copy (Some (Used b)) = refl
 born_recycled copy (Some (Retired b v)) =
     elim (is_past copy (Retired b v)) as (λ t. passes is_born (Some (if t then Free else Retired b v))
     ≡ false) [ true ↦ refl | false ↦ refl ]
+born_recycled copy _ = refl
 
 legal_if : (l : Ledger) (copy : PinCopy) (count : ℕ) → copy.last ≤ length l.batches → 0 < count → count ≡ count_by (is_past copy) l.pool
     → is_legal l (Collected copy count) ≡ true
@@ -122,11 +117,8 @@ collected_is_desk d e copy desk low is = subst IsDesk (sym (is_desk_collected d 
 
 birth_recycled : (copy : PinCopy) (p : Option Status) → passes is_born p ≡ true
     → birth_in (option_map (recycled copy) p) ≡ birth_in p
-birth_recycled copy None born = cc
-birth_recycled copy (Some Free) born = cc
-birth_recycled copy (Some Granted) born = cc
 birth_recycled copy (Some (Used b)) born = refl
-birth_recycled copy (Some (Retired b v)) born = cc
+birth_recycled copy _ born = cc
 
 same_births : (p q : List Status) (bs : List BlockView)
     → ((m : ℕ) → is_in m (numbers_of bs) ≡ true → birth_at p m ≡ birth_at q m)

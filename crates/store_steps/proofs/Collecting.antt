@@ -37,11 +37,8 @@ freed false is = refl
 
 -- what goes is free then
 goes_free : (copy : PinCopy) (o : Option Status) → goes copy o ≡ true → option_and_then (recycled copy) o ≡ Some Free
-goes_free copy None is = cc
-goes_free copy (Some Free) is = cc
-goes_free copy (Some Fresh) is = cc
-goes_free copy (Some (Used birth)) is = cc
 goes_free copy (Some (Retired birth since)) is = freed (needs copy birth since) is
+goes_free copy _ is = cc
 
 recycle_done : (w : World) (n : ℕ) → goes w.copy (slice_get w.status n) ≡ true
     → step w (Recycle n) ≡ Some (with_status w (set w.status n Free))
@@ -129,16 +126,10 @@ goes_if false is = refl
 -- what the pool frees goes in the machine
 goes_there : (copy : PinCopy) (p : Option PoolStatus) (s : Option Status) → SameStatus p s → passes (is_past copy) p ≡ true
     → goes copy s ≡ true
-goes_there copy None s same is = cc
-goes_there copy (Some p) None same is = absurd same
-goes_there copy (Some PoolFree) (Some s) same is = cc
-goes_there copy (Some PoolGranted) (Some s) same is = cc
-goes_there copy (Some (PoolUsed b)) (Some s) same is = cc
-goes_there copy (Some (PoolRetired b v)) (Some Free) same is = absurd same
-goes_there copy (Some (PoolRetired b v)) (Some Fresh) same is = absurd same
-goes_there copy (Some (PoolRetired b v)) (Some (Used birth)) same is = absurd same
 goes_there copy (Some (PoolRetired b v)) (Some (Retired birth since)) same is =
     goes_if (needs copy birth since) (ap (λ m. not (needs copy m since)) same.0 ∙ ap (λ m. not (needs copy b m)) same.1 ∙ is)
+goes_there copy (Some (PoolRetired b v)) _ same is = absurd same
+goes_there copy _ s same is = cc
 
 freed_same : (p : PoolStatus) (s : Status) (t : Bool) → SameStatus (Some p) (Some s)
     → SameStatus (Some (if t then PoolFree else p)) (if t then Some Free else Some s)
@@ -148,9 +139,8 @@ freed_same p s false same = same
 same_collected : (copy : PinCopy) (p : Option PoolStatus) (s : Option Status) → SameStatus p s
     → SameStatus (option_map (pool_recycled copy) p) (if passes (is_past copy) p then option_map (λ _. Free) s else s)
 same_collected copy None None same = tt
-same_collected copy None (Some s) same = absurd same
-same_collected copy (Some p) None same = absurd same
 same_collected copy (Some p) (Some s) same = freed_same p s (is_past copy p) same
+same_collected copy _ _ same = absurd same
 
 stays_if : (copy : PinCopy) (b v birth since : ℕ) (t : Bool) → needs copy b v ≡ t → birth ≡ b → since ≡ v
     → goes copy (if not t then Some Free else Some (Retired birth since)) ≡ false
@@ -162,25 +152,12 @@ stays_if copy b v birth since false e born same = refl
 none_goes : (copy : PinCopy) (p : Option PoolStatus) (s : Option Status) → SameStatus p s
     → goes copy (if passes (is_past copy) p then option_map (λ _. Free) s else s) ≡ false
 none_goes copy None None same = refl
-none_goes copy None (Some s) same = absurd same
-none_goes copy (Some p) None same = absurd same
 none_goes copy (Some PoolFree) (Some Free) same = refl
-none_goes copy (Some PoolFree) (Some Fresh) same = absurd same
-none_goes copy (Some PoolFree) (Some (Used birth)) same = absurd same
-none_goes copy (Some PoolFree) (Some (Retired birth since)) same = absurd same
-none_goes copy (Some PoolGranted) (Some Free) same = absurd same
 none_goes copy (Some PoolGranted) (Some Fresh) same = refl
-none_goes copy (Some PoolGranted) (Some (Used birth)) same = absurd same
-none_goes copy (Some PoolGranted) (Some (Retired birth since)) same = absurd same
-none_goes copy (Some (PoolUsed b)) (Some Free) same = absurd same
-none_goes copy (Some (PoolUsed b)) (Some Fresh) same = absurd same
 none_goes copy (Some (PoolUsed b)) (Some (Used birth)) same = refl
-none_goes copy (Some (PoolUsed b)) (Some (Retired birth since)) same = absurd same
-none_goes copy (Some (PoolRetired b v)) (Some Free) same = absurd same
-none_goes copy (Some (PoolRetired b v)) (Some Fresh) same = absurd same
-none_goes copy (Some (PoolRetired b v)) (Some (Used birth)) same = absurd same
 none_goes copy (Some (PoolRetired b v)) (Some (Retired birth since)) same =
     stays_if copy b v birth since (needs copy b v) refl same.0 same.1
+none_goes copy _ _ same = absurd same
 
 -- the world after a collection
 abbrev collected_world : PinCopy → DeskView → World → World

@@ -23,11 +23,9 @@ use Rattle.store_steps.proofs.Posting.{IsLegalBatch, legal_batch}
 -- One number
 
 still_dated : (o : Bool) (last : ℕ) (p : Option Status) → IsDated o last p → IsDated o (last + 1) p
-still_dated o last None is = tt
-still_dated o last (Some Free) is = tt
-still_dated o last (Some Granted) is = is
 still_dated o last (Some (Used b)) is = let low = is.1 in (is.0, omega arith)
 still_dated o last (Some (Retired b v)) is = let low = is.2 in (is.0, is.1, omega arith)
+still_dated o last _ is = is
 
 number_dated : (o : Bool) (last : ℕ) (p : Option Status) (t d : Bool) → IsDated o last p
     → (t ≡ true → passes is_free p ≡ true) → (d ≡ true → passes is_born p ≡ true)
@@ -50,15 +48,12 @@ number_dated o last (Some (Retired b v)) false false is f g = still_dated o last
 
 recycled_dated : (o : Bool) (last : ℕ) (copy : PinCopy) (p : Option Status) → IsDated o last p
     → IsDated o last (option_map (recycled copy) p)
-recycled_dated o last copy None is = tt
-recycled_dated o last copy (Some Free) is = tt
-recycled_dated o last copy (Some Granted) is = absurd is
-recycled_dated o last copy (Some (Used b)) is = is
 recycled_dated o last copy (Some (Retired b v)) is =
     elim (is_past copy (Retired b v)) as (λ t. IsDated o last (Some (if t then Free else Retired b v))) [
       | true ↦ tt
       | false ↦ is
     ]
+recycled_dated o last copy _ is = is
 
 -- Entries
 

@@ -2,10 +2,10 @@
 use Rattle.std.proofs.Common.{◌≡◌, ℕ, not, false, take, refl, sym, ap, subst, ◌∙◌, arith}
 use Rattle.std.specs.Prelude.{slice_get}
 use Rattle.std.specs.declared.option.Option.{Option}
-use Rattle.std.specs.declared.option.Option.TheVariants.{None, Some}
+use Rattle.std.specs.declared.option.Option.TheVariants.{Some}
 use Rattle.std.proofs.lemmas.List.{take-map}
 use Rattle.graph_model.specs.Step.{left_by}
-use Rattle.block_pool.specs.Pools.{Status as PoolStatus, Free as PoolFree, Granted as PoolGranted, Used as PoolUsed}
+use Rattle.block_pool.specs.Pools.{Status as PoolStatus, Free as PoolFree}
 use Rattle.block_pool.specs.Pools.{Retired as PoolRetired, is_free, is_past, passes}
 use Rattle.pin_copy.specs.declared.copies.PinCopy.{PinCopy}
 use Rattle.pin_copy.specs.Copies.{needs}
@@ -13,7 +13,7 @@ use Rattle.epoch_core.specs.declared.states.Hold.{Hold}
 use Rattle.epoch_core.specs.declared.states.SessionState.{SessionState}
 use Rattle.epoch_core.specs.declared.states.SessionState.TheVariants.{Idle, Pinned, Holding, Asking}
 use Rattle.epoch_blocks.specs.declared.states.Status.{Status}
-use Rattle.epoch_blocks.specs.declared.states.Status.TheVariants.{Free, Fresh, Used, Retired}
+use Rattle.epoch_blocks.specs.declared.states.Status.TheVariants.{Free, Retired}
 use Rattle.epoch_blocks.specs.Blocks.{is_listed}
 use Rattle.epoch_core.specs.Sound.{IsSound, IsSessionSound, IsHeld, IsCovered, IsKeptAt}
 use Rattle.epoch_core.specs.Worlds.{World, session_of, held_in}
@@ -39,28 +39,16 @@ holder_of w (Asking hold inquiry) n sound held = record { hold = hold; version_i
 
 -- a block that is kept for the holders of a version is neither free nor freed by a copy that covers it
 not_free : (n : ℕ) (p : Option PoolStatus) (s : Option Status) → SameStatus p s → IsKeptAt n s → passes is_free p ≡ false
-not_free n None s same kept = refl
-not_free n (Some PoolFree) None same kept = absurd same
 not_free n (Some PoolFree) (Some Free) same kept = absurd kept
-not_free n (Some PoolFree) (Some Fresh) same kept = absurd same
-not_free n (Some PoolFree) (Some (Used birth)) same kept = absurd same
-not_free n (Some PoolFree) (Some (Retired birth since)) same kept = absurd same
-not_free n (Some PoolGranted) s same kept = refl
-not_free n (Some (PoolUsed b)) s same kept = refl
-not_free n (Some (PoolRetired b v)) s same kept = refl
+not_free n (Some PoolFree) _ same kept = absurd same
+not_free n _ s same kept = refl
 
 not_past : (n : ℕ) (copy : PinCopy) (p : Option PoolStatus) (s : Option Status) → SameStatus p s → IsKeptAt n s
     → IsCovered copy n → passes (is_past copy) p ≡ false
-not_past n copy None s same kept covered = refl
-not_past n copy (Some PoolFree) s same kept covered = refl
-not_past n copy (Some PoolGranted) s same kept covered = refl
-not_past n copy (Some (PoolUsed b)) s same kept covered = refl
-not_past n copy (Some (PoolRetired b v)) None same kept covered = absurd same
-not_past n copy (Some (PoolRetired b v)) (Some Free) same kept covered = absurd same
-not_past n copy (Some (PoolRetired b v)) (Some Fresh) same kept covered = absurd same
-not_past n copy (Some (PoolRetired b v)) (Some (Used birth)) same kept covered = absurd same
 not_past n copy (Some (PoolRetired b v)) (Some (Retired birth since)) same kept covered =
     ap not (sym (ap (λ m. needs copy m since) same.0 ∙ ap (needs copy b) same.1) ∙ covered birth since kept.0 kept.1)
+not_past n copy (Some (PoolRetired b v)) _ same kept covered = absurd same
+not_past n copy _ s same kept covered = refl
 
 -- the graph of the machine's version is what the desk's first batches leave
 graph_first : (d : DeskView) (w : World) (n : ℕ) → Shows d w → graph_at w.opening w.versions n

@@ -3,9 +3,9 @@ use Rattle.std.proofs.Common.{◌≡◌, ℕ, zero, suc, ◌+◌, ◌≤◌, Boo
 use Rattle.std.specs.Prelude.{if◌then◌else◌}
 use Rattle.std.specs.Option.{option_map}
 use Rattle.std.specs.declared.option.Option.{Option}
-use Rattle.std.specs.declared.option.Option.TheVariants.{None, Some}
+use Rattle.std.specs.declared.option.Option.TheVariants.{Some}
 use Rattle.std.proofs.lemmas.Bool.{true≢false}
-use Rattle.block_pool.specs.Pools.{Status, Free, Granted, Used, Retired, is_free, is_born, passes, retired}
+use Rattle.block_pool.specs.Pools.{Status, Free, Granted, Used, is_free, is_born, passes, retired}
 use Rattle.store_steps.proofs.Counting.{is_some_times}
 
 -- granted, then some born with version n, then some of the last version's retired by it, then some given back
@@ -26,26 +26,17 @@ pub record OneNumber (n : ℕ) (p : Option Status) (kept dropped taken unused : 
   pub born : passes is_born (number_after n p (is_some_times taken) (is_some_times dropped)) ≡ is_some_times (kept + taken)
 
 pub free_is : (p : Option Status) → passes is_free p ≡ true → p ≡ Some Free
-free_is None e = cc
 free_is (Some Free) e = refl
-free_is (Some Granted) e = cc
-free_is (Some (Used b)) e = cc
-free_is (Some (Retired b r)) e = cc
+free_is _ e = cc
 
 pub born_is : (p : Option Status) → passes is_born p ≡ true → (birth : ℕ) × (p ≡ Some (Used birth))
-born_is None e = cc
-born_is (Some Free) e = cc
-born_is (Some Granted) e = cc
 born_is (Some (Used b)) e = (b, refl)
-born_is (Some (Retired b r)) e = cc
+born_is _ e = cc
 
 -- no number is both
 pub not_both : (p : Option Status) → passes is_free p ≡ true → passes is_born p ≡ true → ⊥
-not_both None e f = true≢false (sym e)
 not_both (Some Free) e f = true≢false (sym f)
-not_both (Some Granted) e f = true≢false (sym e)
-not_both (Some (Used b)) e f = true≢false (sym e)
-not_both (Some (Retired b r)) e f = true≢false (sym e)
+not_both _ e f = true≢false (sym e)
 
 pub one_number : (n : ℕ) (p : Option Status) (kept dropped taken unused : ℕ) → kept + dropped ≤ 1 → taken + unused ≤ 1
     → passes is_born p ≡ is_some_times (kept + dropped) → (is_some_times (taken + unused) ≡ true → passes is_free p ≡ true)

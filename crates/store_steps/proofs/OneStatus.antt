@@ -23,45 +23,26 @@ same_after n None None true true same f g = tt
 same_after n None None true false same f g = tt
 same_after n None None false true same f g = tt
 same_after n None None false false same f g = tt
-same_after n None (Some s) t d same f g = absurd same
-same_after n (Some p) None t d same f g = absurd same
 same_after n (Some PoolFree) (Some Free) true true same f g = let no = g refl in cc
 same_after n (Some PoolFree) (Some Free) true false same f g = refl
 same_after n (Some PoolFree) (Some Free) false true same f g = let no = g refl in cc
 same_after n (Some PoolFree) (Some Free) false false same f g = tt
-same_after n (Some PoolFree) (Some Fresh) t d same f g = absurd same
-same_after n (Some PoolFree) (Some (Used birth)) t d same f g = absurd same
-same_after n (Some PoolFree) (Some (Retired birth since)) t d same f g = absurd same
-same_after n (Some PoolGranted) (Some Free) t d same f g = absurd same
 same_after n (Some PoolGranted) (Some Fresh) true d same f g = let no = f refl in cc
 same_after n (Some PoolGranted) (Some Fresh) false true same f g = let no = g refl in cc
 same_after n (Some PoolGranted) (Some Fresh) false false same f g = tt
-same_after n (Some PoolGranted) (Some (Used birth)) t d same f g = absurd same
-same_after n (Some PoolGranted) (Some (Retired birth since)) t d same f g = absurd same
-same_after n (Some (PoolUsed b)) (Some Free) t d same f g = absurd same
-same_after n (Some (PoolUsed b)) (Some Fresh) t d same f g = absurd same
 same_after n (Some (PoolUsed b)) (Some (Used birth)) true d same f g = let no = f refl in cc
 same_after n (Some (PoolUsed b)) (Some (Used birth)) false true same f g = (same, refl)
 same_after n (Some (PoolUsed b)) (Some (Used birth)) false false same f g = same
-same_after n (Some (PoolUsed b)) (Some (Retired birth since)) t d same f g = absurd same
-same_after n (Some (PoolRetired b v)) (Some Free) t d same f g = absurd same
-same_after n (Some (PoolRetired b v)) (Some Fresh) t d same f g = absurd same
-same_after n (Some (PoolRetired b v)) (Some (Used birth)) t d same f g = absurd same
 same_after n (Some (PoolRetired b v)) (Some (Retired birth since)) true d same f g = let no = f refl in cc
 same_after n (Some (PoolRetired b v)) (Some (Retired birth since)) false true same f g = let no = g refl in cc
 same_after n (Some (PoolRetired b v)) (Some (Retired birth since)) false false same f g = same
+same_after n _ _ t d same f g = absurd same
 
 -- what is free in the pool is free in the machine
 pub free_there : (p : Option PoolStatus) (s : Option Status) → SameStatus p s → passes is_free p ≡ true → s ≡ Some Free
-free_there None s same is = cc
-free_there (Some p) None same is = absurd same
 free_there (Some PoolFree) (Some Free) same is = refl
-free_there (Some PoolFree) (Some Fresh) same is = absurd same
-free_there (Some PoolFree) (Some (Used birth)) same is = absurd same
-free_there (Some PoolFree) (Some (Retired birth since)) same is = absurd same
-free_there (Some PoolGranted) (Some s) same is = cc
-free_there (Some (PoolUsed b)) (Some s) same is = cc
-free_there (Some (PoolRetired b v)) (Some s) same is = cc
+free_there (Some PoolFree) _ same is = absurd same
+free_there _ s same is = cc
 
 -- a taken number is born afterwards
 pub born_mark : (n : ℕ) (p : Option PoolStatus) (t d : Bool) → (t ≡ true → passes is_free p ≡ true)

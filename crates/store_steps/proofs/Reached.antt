@@ -125,9 +125,7 @@ some_step (Some after) is = (after, refl)
 
 idle_if : (session : SessionState) → seat_pin session ≡ None → session ≡ Idle
 idle_if Idle is = refl
-idle_if (Pinned pin) is = cc
-idle_if (Holding hold) is = cc
-idle_if (Asking hold inquiry) is = cc
+idle_if _ is = cc
 
 pin_done : (start : World) (s : Store) (seat : ℕ) (events : List Event) → IsReached start events s
     → seat < length start.sessions → pin_at s.board.pins seat ≡ None
@@ -164,11 +162,9 @@ settle_done w s n held =
     move_done w s to_settle (session_of w s) next.0 (found_at w.sessions s n held) next.1
 
 held_entered : (last : ℕ) (session next : SessionState) → to_enter last session ≡ Some next → held_in next ≡ Some last
-held_entered last Idle next is = cc
 held_entered last (Pinned pin) next is =
     let e : Holding (record { pin = pin; settled = false; version = last }) ≡ next = cc in ap held_in (sym e)
-held_entered last (Holding hold) next is = cc
-held_entered last (Asking hold inquiry) next is = cc
+held_entered last _ next is = cc
 
 pub same_count : (d : DeskView) (w : World) → Shows d w → last_number w ≡ length d.last.batches
 same_count d w shows = sym (length-map w.versions (λ v. v.batch)) ∙ ap length shows.batches

@@ -201,12 +201,10 @@ accepted_counts old new ops taken dropped accepted =
 
 free_one : (copy : PinCopy) (s : Status) → cond {A = ℕ} (is_free (recycled copy s)) 1 0
     ≡ cond (is_free s) 1 0 + cond (is_past copy s) 1 0
-free_one copy Free = refl
-free_one copy Granted = refl
-free_one copy (Used b) = refl
 free_one copy (Retired b v) =
     elim (is_past copy (Retired b v)) as (λ t. cond {A = ℕ} (is_free (if t then Free else Retired b v)) 1 0
     ≡ cond (is_free (Retired b v)) 1 0 + cond t 1 0) [ true ↦ refl | false ↦ refl ]
+free_one copy _ = refl
 
 free_more : (copy : PinCopy) (pool : List Status) → count_by is_free (map (recycled copy) pool)
     ≡ count_by is_free pool + count_by (is_past copy) pool
@@ -221,14 +219,12 @@ free_more copy (s ∷ pool) =
 
 needed_one : (q : ℕ → ℕ → Bool) (copy : PinCopy) (s : Status) → is_retired_by q (recycled copy s)
     ≡ is_retired_by (λ birth since. needs copy birth since && q birth since) s
-needed_one q copy Free = refl
-needed_one q copy Granted = refl
-needed_one q copy (Used b) = refl
 needed_one q copy (Retired b v) = elim (needs copy b v) as (λ t.
     is_retired_by q (if not t then Free else Retired b v) ≡ (t && q b v)) [
       | true ↦ refl
       | false ↦ refl
     ]
+needed_one q copy _ = refl
 
 needed_all : (q : ℕ → ℕ → Bool) (copy : PinCopy) (pool : List Status) → count_by (is_retired_by q) (map (recycled copy) pool)
     ≡ count_by (is_retired_by (λ birth since. needs copy birth since && q birth since)) pool
