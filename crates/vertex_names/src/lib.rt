@@ -9,6 +9,7 @@
 #![tactic(auto)]
 
 mod book;
+mod cache;
 mod index;
 mod part;
 mod piece;
