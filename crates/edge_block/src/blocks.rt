@@ -17,6 +17,9 @@ use lane_scan::{equal_columns, find_target, widened};
 use std::alloc::AllocError;
 use std::marker::Model;
 
+/// How many targets are copied at once, and not one by one: for fewer a call of `memcpy` takes longer.
+const RUN: usize = 8;
+
 /// A block: a number, a source and a kind, and 32 slots, each empty or an edge.
 ///
 /// What a search reads lies together and first: a header of the live places, the kind, the source, the number and the
@@ -281,7 +284,7 @@ impl Block {
         }
     }
 
-    /// Adds the targets of a view's edges, in slot order, behind what `targets` has. Where they are at the block's first places, as
+    /// Adds the targets of a view's edges, in slot order, behind what `targets` has. Where many are at the block's first places, as
     /// in a block that nothing was taken from, they are copied at once. The error is want of memory for the list, which then
     /// may have some of them.
     pub fn list_targets(&self, view: &Filter, targets: &mut Vec<u32>) -> Result<(), AllocError>
@@ -290,7 +293,7 @@ impl Block {
     {
         let mask = self.places_of(view);
         let used = used_places(mask & self.live);
-        if mask & self.live == first_places(used) {
+        if used >= RUN && mask & self.live == first_places(used) {
             targets.extend_from_slice(&self.targets[..used])?;
         } else {
             for edge in (BlockIter { block: self, mask }) {
