@@ -2,13 +2,15 @@
 #![tactic(auto)]
 
 use progress_reader::ProgressReader;
-use std::env;
+use std::alloc::AllocError;
 use std::env::Env;
-use std::io::{ErrorKind, IsTerminal, Read, Write};
+use std::io::{ErrorKind, IsTerminal, Write};
 use std::process::ExitCode;
+use std::rt::{Stderr, Stdin, Stdout};
 use std::sync::Wait;
 use std::thread::Threads;
 use std::time::Clock;
+use std::{env, io};
 use stinger_cli::{refuse_arguments, serves, shows_progress, stinger};
 
 // What stands on standard error where somebody at a terminal is to give the script.
@@ -20,52 +22,60 @@ A script is awaited here, a record a line, and its end (Ctrl-D). `stinger --help
 const NO_MEMORY: &str = "error: out of memory: the arguments can't be read\n";
 
 fn main(rt: HostRuntime) -> ExitCode {
-    let mut writer = rt.stdout();
-    let mut faults = rt.stderr();
-    match run(&rt, rt.stdin(), &mut writer, &mut faults, rt.stderr()) {
+    match run(&rt, rt.stdin(), rt.stdout(), rt.stderr()) {
         Ok(status) => ExitCode::from(status),
+        Err(error) if error.kind() == ErrorKind::InvalidData => {
+            ExitCode::from(refuse_arguments(&mut rt.stderr()))
+        }
         Err(_) => {
-            let _ = faults.write_all(NO_MEMORY.as_bytes());
+            let _ = rt.stderr().write_all(NO_MEMORY.as_bytes());
             ExitCode::FAILURE
         }
     }
 }
 
-/// The arguments after the program's name, over these streams, of which the last takes the line of progress.
-fn run<A, R, W: Write + IsTerminal, F: Write, P>(
-    rt: &A,
-    reader: R,
-    writer: &mut W,
-    faults: &mut F,
-    progress: P,
-) -> anyhow::Result<u8>
-where
-    A: AllocGlobal + Clock + Env + Threads + Wait + Sync,
-    R: Read + IsTerminal + Drop,
-    P: Write + IsTerminal + Drop,
-{
-    let all = match env::args(rt) {
-        Ok(all) => all,
-        Err(error) if error.kind() == ErrorKind::InvalidData => {
-            return Ok(refuse_arguments(faults));
-        }
-        Err(error) => return Err(error.into()),
-    };
-    let given: Vec<String> = all.skip(1).collect(rt.alloc())?;
+fn run<R: AllocGlobal + Clock + Env + Threads + Wait + Sync>(
+    rt: &R,
+    reader: Stdin,
+    writer: Stdout,
+    faults: Stderr,
+) -> io::Result<u8> {
+    let words: Vec<String> = env::args(rt)?.collect(rt.alloc())?;
+    Ok(run_words(rt, &words, reader, writer, faults)?)
+}
+
+/// The words of a command line, of which the first is the program's name.
+fn run_words<R: AllocGlobal + Clock + Threads + Wait + Sync>(
+    rt: &R,
+    words: &[String],
+    reader: Stdin,
+    writer: Stdout,
+    faults: Stderr,
+) -> Result<u8, AllocError> {
     let mut arguments = Vec::new(rt.alloc());
-    for argument in &given {
-        arguments.push(argument.as_str())?;
+    for word in words.iter().skip(1) {
+        arguments.push(word.as_str())?;
     }
+    run_arguments(rt, arguments.as_slice(), reader, writer, faults)
+}
+
+fn run_arguments<R: AllocGlobal + Clock + Threads + Wait + Sync>(
+    rt: &R,
+    arguments: &[&str],
+    reader: Stdin,
+    mut writer: Stdout,
+    mut faults: Stderr,
+) -> Result<u8, AllocError> {
     let is_typed = reader.is_terminal();
-    if serves(rt, arguments.as_slice())? && is_typed {
+    if serves(rt, arguments)? && is_typed {
         let _ = faults.write_all(AWAITED.as_bytes());
     }
-    let is_seen = progress.is_terminal() && !writer.is_terminal() && !is_typed;
-    let progress = if is_seen && shows_progress(rt, arguments.as_slice())? {
-        Some(progress)
+    let is_seen = faults.is_terminal() && !writer.is_terminal() && !is_typed;
+    let progress = if is_seen && shows_progress(rt, arguments)? {
+        Some(faults)
     } else {
         None
     };
     let reader = ProgressReader::over(rt, reader, progress);
-    Ok(stinger(rt, arguments.as_slice(), reader, writer, faults))
+    Ok(stinger(rt, arguments, reader, &mut writer, &mut faults))
 }
