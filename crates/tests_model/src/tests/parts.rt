@@ -4,6 +4,7 @@ use graph_model::{Batch, List, Name, NamedFilter, NamedOp, PushError, Request};
 use reference_graph::PlainError;
 use std::alloc::{AllocError, Global};
 use std::num::ParseIntError;
+use std::process::Abort;
 use std::test::Fail;
 
 /// Why a text gives nothing.
@@ -58,6 +59,11 @@ pub(super) fn only_refused(rt: &impl Print, error: LineError) -> Result<(), Fail
         LineError::OutOfMemory => refused(rt),
         _ => Err(error)?,
     }
+}
+
+/// Compares two texts.
+pub(super) fn check_text(rt: &impl Abort, text: &str, wanted: &str) {
+    assert_eq!(rt; text, wanted);
 }
 
 pub(super) fn name(alloc: Global, text: &str) -> Result<Name, AllocError> {

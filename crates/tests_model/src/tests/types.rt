@@ -3,7 +3,9 @@
 ghost use Rattle.std.specs.Prelude.{◌≡◌, IfSome};
 ghost use Rattle.graph_model.specs.Changes.{AreMarks, IsChange};
 
-use super::parts::{LineError, batch, name, names, only_refused, push_op, refused, request};
+use super::parts::{
+    LineError, batch, check_text, name, names, only_refused, push_op, refused, request,
+};
 use super::texts::push_item;
 use graph_model::{
     Batch, Content, Edge, EdgeChange, EdgeMarks, KindId, List, Name, Outcome, PushError, VertexId,
@@ -46,10 +48,6 @@ fn names_are_short_printable_texts(rt: HostRuntime) {
     check_texts(&rt, NAMES, true, true);
     check_texts(&rt, "*", true, false);
     check_texts(&rt, NO_NAMES, false, false);
-}
-
-fn check_text(rt: &impl Abort, text: &str, wanted: &str) {
-    assert_eq!(rt; text, wanted);
 }
 
 fn check_name(rt: &impl Abort, name: &Name, wanted: &str) {
@@ -268,30 +266,32 @@ fn check_refused(rt: &impl Abort, alloc: Global, batch: &mut Batch, op: &str, re
     );
 }
 
-// Weights and times past their limits, of which the first refusal is told.
-const BAD_OPERATIONS: [(&str, PushError); 7] = [
-    (
-        "i,*,ann,bob,1099511627777,9223372036854775808",
-        PushError::BadName,
-    ),
-    ("r,knows,,bob", PushError::BadName),
-    (
-        "i,knows,ann,bob,1099511627777,9223372036854775808",
-        PushError::BadWeight,
-    ),
-    ("a,knows,ann,bob,-1099511627777,0", PushError::BadWeight),
-    ("i,knows,ann,bob,0,9223372036854775808", PushError::BadTime),
-    ("a,knows,ann,bob,0,9223372036854775808", PushError::BadTime),
-    ("x,9223372036854775808", PushError::BadTime),
-];
+fn check_bad_operations(rt: &impl Abort, alloc: Global, batch: &mut Batch) {
+    let bad = "i,*,ann,bob,1099511627777,9223372036854775808";
+    check_refused(rt, alloc, batch, bad, PushError::BadName);
+    check_refused(rt, alloc, batch, "r,knows,,bob", PushError::BadName);
+    let bad = "i,knows,ann,bob,1099511627777,9223372036854775808";
+    check_refused(rt, alloc, batch, bad, PushError::BadWeight);
+    let bad = "a,knows,ann,bob,-1099511627777,0";
+    check_refused(rt, alloc, batch, bad, PushError::BadWeight);
+    let bad = "i,knows,ann,bob,0,9223372036854775808";
+    check_refused(rt, alloc, batch, bad, PushError::BadTime);
+    let bad = "a,knows,ann,bob,0,9223372036854775808";
+    check_refused(rt, alloc, batch, bad, PushError::BadTime);
+    check_refused(
+        rt,
+        alloc,
+        batch,
+        "x,9223372036854775808",
+        PushError::BadTime,
+    );
+    assert_eq!(rt; batch.len(), 0);
+}
 
+// Weights and times past their limits, of which the first refusal is told.
 #[test]
 fn a_batch_refuses_bad_operations_in_order(rt: HostRuntime) {
-    let mut batch = Batch::new(rt.alloc());
-    for (op, refusal) in BAD_OPERATIONS {
-        check_refused(&rt, rt.alloc(), &mut batch, op, refusal);
-    }
-    assert_eq!(rt; batch.len(), 0);
+    check_bad_operations(&rt, rt.alloc(), &mut Batch::new(rt.alloc()));
 }
 
 fn push_at(alloc: Global, batch: &mut Batch, time: u64) -> Result<(), LineError> {

@@ -3,7 +3,7 @@
 ghost use Rattle.graph_model.specs.Graph.{IsContent};
 
 use super::{check_rows, empty, sizes};
-use crate::tests::parts::{LineError, batch, only_refused, refused};
+use crate::tests::parts::{LineError, batch, check_text, only_refused, refused};
 use crate::tests::texts::push_item;
 use graph_model::{Batch, Content, Name, Outcome};
 use reference_graph::{PlainError, plain_apply};
@@ -57,10 +57,6 @@ fn push_applied(
 {
     push_told(alloc, text, content, &batch(alloc, ops)?)?;
     Ok(push_content(text, content)?)
-}
-
-fn check_text(rt: &impl Abort, text: &str, wanted: &str) {
-    assert_eq!(rt; text, wanted);
 }
 
 /// A batch has these outcomes and leaves these names and kinds and so many edges.
@@ -127,68 +123,68 @@ fn inserts_anew_after_a_removal(rt: HostRuntime) -> Result<(), Fail> {
     )
 }
 
-// Expiries among other operations: what is told of each, and the edges that are left.
-const EXPIRIES: [(&str, &str, &str); 4] = [
-    (
+#[test]
+fn expires_what_was_touched_before_a_time(rt: HostRuntime) -> Result<(), Fail> {
+    let alloc = rt.alloc();
+    check_first(
+        &rt,
+        alloc,
         "x,0 x,9223372036854775807",
         "[Expired(0), Expired(0)];;; 0",
         "",
-    ),
-    (
+    )?;
+    check_first(
+        &rt,
+        alloc,
         "i,k,a,b,1,10 i,k,a,c,2,20 i,k,b,a,3,15 x,15",
         "[Inserted, Inserted, Inserted, Expired(1)]; a b c; k; 2",
         "edge k,a,c => edge 2 20 20\nedge k,b,a => edge 3 15 15",
-    ),
+    )?;
     // by the recent time, and not the first
-    (
+    check_first(
+        &rt,
+        alloc,
         "i,k,a,b,1,10 a,k,a,b,1,30 i,k,b,a,3,40 a,k,b,a,1,5 x,30 x,30",
         "[Inserted, Updated, Inserted, Updated, Expired(1), Expired(0)]; a b; k; 1",
         "edge k,a,b => edge 2 10 30",
-    ),
+    )?;
     // one that went is inserted anew
-    (
+    check_first(
+        &rt,
+        alloc,
         "i,k,a,b,1,1 x,2 a,k,a,b,4,7",
         "[Inserted, Expired(1), Inserted]; a b; k; 1",
         "edge k,a,b => edge 4 7 7",
-    ),
-];
-
-#[test]
-fn expires_what_was_touched_before_a_time(rt: HostRuntime) -> Result<(), Fail> {
-    for (ops, wanted, edges) in EXPIRIES {
-        check_first(&rt, rt.alloc(), ops, wanted, edges)?;
-    }
-    Ok(())
+    )
 }
 
-// Operations, and the edge that they leave.
-const OVERFLOWS: [(&str, &str); 3] = [
-    (
-        "i,knows,a,b,1099511627776,10 a,knows,a,b,1,99 a,knows,a,b,-1,20",
-        "edge knows,a,b => edge 1099511627775 10 20",
-    ),
-    (
-        "i,knows,a,b,-1099511627776,10 a,knows,a,b,-1,99 a,knows,a,b,1,20",
-        "edge knows,a,b => edge -1099511627775 10 20",
-    ),
-    (
-        "i,knows,a,b,1,10 a,knows,a,b,1099511627776,99 a,knows,a,b,-1099511627776,20",
-        "edge knows,a,b => edge -1099511627775 10 20",
-    ),
-];
+/// The second of three operations on one edge would take its weight past the limit. The third one's edge is left.
+fn check_overflow(rt: &impl Abort, alloc: Global, ops: &str, edge: &str) -> Result<(), Fail> {
+    let told = "[Inserted, Overflow, Updated]; a b; knows; 1";
+    check_first(rt, alloc, ops, told, edge)
+}
 
 #[test]
 fn overflow_changes_nothing(rt: HostRuntime) -> Result<(), Fail> {
-    for (ops, edge) in OVERFLOWS {
-        check_first(
-            &rt,
-            rt.alloc(),
-            ops,
-            "[Inserted, Overflow, Updated]; a b; knows; 1",
-            edge,
-        )?;
-    }
-    Ok(())
+    let alloc = rt.alloc();
+    check_overflow(
+        &rt,
+        alloc,
+        "i,knows,a,b,1099511627776,10 a,knows,a,b,1,99 a,knows,a,b,-1,20",
+        "edge knows,a,b => edge 1099511627775 10 20",
+    )?;
+    check_overflow(
+        &rt,
+        alloc,
+        "i,knows,a,b,-1099511627776,10 a,knows,a,b,-1,99 a,knows,a,b,1,20",
+        "edge knows,a,b => edge -1099511627775 10 20",
+    )?;
+    check_overflow(
+        &rt,
+        alloc,
+        "i,knows,a,b,1,10 a,knows,a,b,1099511627776,99 a,knows,a,b,-1099511627776,20",
+        "edge knows,a,b => edge -1099511627775 10 20",
+    )
 }
 
 fn check_removal(rt: &impl Abort, alloc: Global, content: &mut Content) -> Result<(), Fail>
