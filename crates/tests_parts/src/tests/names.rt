@@ -1,7 +1,7 @@
 // Books of names.
 
 use graph_model::is_name;
-use std::alloc::Global;
+use std::alloc::{AllocError, Global};
 use std::io::Print;
 use std::process::Abort;
 use std::test::Fail;
@@ -16,6 +16,11 @@ fn add(rt: &impl Abort, book: &mut NameBook, name: &str) -> Result<u32, AddError
 // Adding the text, which is a name, answers this.
 fn added(rt: &impl Abort, book: &mut NameBook, name: &str, answer: Result<u32, AddError>) {
     assert_eq!(rt; add(rt, book, name), answer);
+}
+
+// The name v0, v1 .. of that number.
+fn push_plain(text: &mut String, number: u32) -> Result<(), AllocError> {
+    write!(text, "v{number}")
 }
 
 // The name has this number.
@@ -76,48 +81,104 @@ fn keeps_a_shared_book_as_it_was(rt: HostRuntime) -> Result<(), Fail> {
     Ok(())
 }
 
-#[test]
-fn takes_as_many_names_as_a_graph_may_have(rt: HostRuntime) -> Result<(), Fail> {
-    let mut book = NameBook::new(rt.alloc(), 65_536);
-    for number in 0..65_536u32 {
-        let name = format!(in rt.alloc(); "v{number}")?;
-        added(&rt, &mut book, name.as_str(), Ok(number));
-    }
-    added(&rt, &mut book, "v65536", Err(AddError::NamesFull));
-    assert_absent(&rt, &book, "v65536", 65_536);
-    assert_numbered(&rt, &book, "v40000", 40_000);
-    let shared = book.share()?;
-    assert_numbered(&rt, &shared, "v65535", 65_535);
+// Adds the name of that number in the book of v0, v1 ..
+fn add_plain(
+    rt: &impl Abort,
+    alloc: Global,
+    book: &mut NameBook,
+    number: u32,
+) -> Result<(), AllocError> {
+    let mut name = String::new(alloc);
+    push_plain(&mut name, number)?;
+    added(rt, book, name.as_str(), Ok(number));
     Ok(())
 }
 
-/// Adds the name of that number in the book of v0, v1 ..
-fn add_plain(rt: &impl Abort, alloc: Global, book: &mut NameBook, number: u32) {
-    let name = format!(in alloc; "v{number}").expect(rt, "memory for a name");
-    added(rt, book, name.as_str(), Ok(number));
+// The limit of a graph's names is met.
+fn check_full(rt: &impl Abort, book: &mut NameBook) {
+    added(rt, book, "v65536", Err(AddError::NamesFull));
+    assert_absent(rt, book, "v65536", 65_536);
+    assert_numbered(rt, book, "v40000", 40_000);
 }
 
-/// The book has the names v0, v1 .. in this order, so many of them, and no other.
-fn assert_plain(rt: &impl Abort, alloc: Global, book: &NameBook, len: u32) {
-    for number in 0..len {
-        let name = format!(in alloc; "v{number}").expect(rt, "memory for a name");
-        assert_numbered(rt, book, name.as_str(), number);
+fn check_many(rt: &impl Abort, alloc: Global, book: &mut NameBook) -> Result<(), Fail> {
+    for number in 0..65_536u32 {
+        add_plain(rt, alloc, book, number)?;
     }
-    let next = format!(in alloc; "v{len}").expect(rt, "memory for a name");
-    assert_absent(rt, book, next.as_str(), len);
+    check_full(rt, book);
+    let shared = book.share()?;
+    assert_numbered(rt, &shared, "v65535", 65_535);
+    Ok(())
 }
 
 #[test]
-fn shares_at_the_end_of_a_chunk(rt: HostRuntime) {
-    let mut book = NameBook::new(rt.alloc(), 300);
-    for number in 0..258u32 {
-        let before = book.share().expect(&rt, "memory to share");
-        add_plain(&rt, rt.alloc(), &mut book, number);
-        if number >= 254 {
-            assert_plain(&rt, rt.alloc(), &before, number);
-            assert_plain(&rt, rt.alloc(), &book, number + 1);
-        }
+fn takes_as_many_names_as_a_graph_may_have(rt: HostRuntime) -> Result<(), Fail> {
+    check_many(&rt, rt.alloc(), &mut NameBook::new(rt.alloc(), 65_536))
+}
+
+fn check_plain(
+    rt: &impl Abort,
+    alloc: Global,
+    book: &NameBook,
+    number: u32,
+) -> Result<(), AllocError> {
+    let mut name = String::new(alloc);
+    push_plain(&mut name, number)?;
+    assert_numbered(rt, book, name.as_str(), number);
+    Ok(())
+}
+
+fn check_no_plain(
+    rt: &impl Abort,
+    alloc: Global,
+    book: &NameBook,
+    number: u32,
+) -> Result<(), AllocError> {
+    let mut name = String::new(alloc);
+    push_plain(&mut name, number)?;
+    assert_absent(rt, book, name.as_str(), number);
+    Ok(())
+}
+
+// The book has the names v0, v1 .. in this order, so many of them, and no other.
+fn check_names(
+    rt: &impl Abort,
+    alloc: Global,
+    book: &NameBook,
+    len: u32,
+) -> Result<(), AllocError> {
+    for number in 0..len {
+        check_plain(rt, alloc, book, number)?;
     }
+    check_no_plain(rt, alloc, book, len)
+}
+
+// Adds the name of that number. The book that shares the names before is as it was.
+fn check_shared(
+    rt: &impl Abort,
+    alloc: Global,
+    book: &mut NameBook,
+    number: u32,
+) -> Result<(), AllocError> {
+    let before = book.share()?;
+    add_plain(rt, alloc, book, number)?;
+    if number < 254 {
+        return Ok(());
+    }
+    check_names(rt, alloc, &before, number)?;
+    check_names(rt, alloc, book, number.saturating_add(1))
+}
+
+fn check_chunk(rt: &impl Abort, alloc: Global, book: &mut NameBook) -> Result<(), Fail> {
+    for number in 0..258u32 {
+        check_shared(rt, alloc, book, number)?;
+    }
+    Ok(())
+}
+
+#[test]
+fn shares_at_the_end_of_a_chunk(rt: HostRuntime) -> Result<(), Fail> {
+    check_chunk(&rt, rt.alloc(), &mut NameBook::new(rt.alloc(), 300))
 }
 
 #[test]
