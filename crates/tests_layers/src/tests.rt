@@ -9,5 +9,6 @@ mod levels;
 mod plans;
 mod shards;
 mod shelves;
+mod texts;
 mod views;
 mod workers;

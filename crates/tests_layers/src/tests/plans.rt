@@ -1,5 +1,6 @@
 ghost use Rattle.std.specs.Prelude.{◌<◌, ◌≤◌};
 
+use super::texts::push_item;
 use batch_plan::{Plan, PlanError, law_sources_within, old_rows, plan, resolve_batch};
 use batch_shards::{Act, Shard, Step};
 use graph_model::{Batch, Name, NamedOp, PushError, VertexId};
@@ -63,13 +64,9 @@ fn batch(alloc: Global) -> Result<Batch, PushError> {
 
 /// An insertion of a kind of its own.
 fn insertion_of_kind(alloc: Global, number: u32) -> Result<NamedOp, AllocError> {
-    operation(
-        alloc,
-        false,
-        format!(in alloc; "k{number}")?.as_str(),
-        "a",
-        "b",
-    )
+    let mut kind = String::from_str(alloc, "k")?;
+    push_item(&mut kind, number, "")?;
+    operation(alloc, false, kind.as_str(), "a", "b")
 }
 
 /// Insertions of so many kinds.
@@ -110,55 +107,60 @@ fn planned(
 }
 
 /// Adds an operation's place in the batch and its source's place in the shard, `-` where a name is unknown, `*` for all.
-fn push_step(alloc: Global, text: &mut String, step: &Step) -> Result<(), AllocError> {
-    let op = step.op;
-    let word = match step.act {
-        Act::Edge(Some(place), _) => format!(in alloc; "{op}@{} ", place.row)?,
-        Act::Edge(None, _) => format!(in alloc; "{op}@- ")?,
-        Act::Expire(_) => format!(in alloc; "{op}@* ")?,
-    };
-    text.push_str(word.as_str())
+fn push_step(text: &mut String, step: &Step) -> Result<(), AllocError> {
+    push_item(text, step.op, "@")?;
+    match step.act {
+        Act::Edge(Some(place), _) => push_item(text, place.row, " "),
+        Act::Edge(None, _) => text.push_str("- "),
+        Act::Expire(_) => text.push_str("* "),
+    }
 }
 
-fn push_steps(alloc: Global, text: &mut String, steps: &[Step]) -> Result<(), AllocError> {
+fn push_steps(text: &mut String, steps: &[Step]) -> Result<(), AllocError> {
     for step in steps {
-        push_step(alloc, text, step)?;
+        push_step(text, step)?;
     }
     Ok(())
 }
 
-fn push_source(alloc: Global, text: &mut String, source: u32) -> Result<(), AllocError> {
-    text.push_str(format!(in alloc; " {source}")?.as_str())
-}
-
-fn push_sources(alloc: Global, text: &mut String, sources: &[VertexId]) -> Result<(), AllocError> {
+fn push_sources(text: &mut String, sources: &[VertexId]) -> Result<(), AllocError> {
     text.push_str("of")?;
     for source in sources {
-        push_source(alloc, text, source.0)?;
+        text.push_str(" ")?;
+        push_item(text, source.0, "")?;
     }
     Ok(())
-}
-
-fn push_shard(alloc: Global, text: &mut String, shard: &Shard) -> Result<(), AllocError> {
-    push_steps(alloc, text, shard.steps.as_slice())?;
-    push_sources(alloc, text, shard.sources.as_slice())
 }
 
 /// The shard's operations, and then its sources.
-fn shard_text(alloc: Global, shard: &Shard) -> Result<String, AllocError> {
+fn push_shard(text: &mut String, shard: &Shard) -> Result<(), AllocError> {
+    push_steps(text, shard.steps.as_slice())?;
+    push_sources(text, shard.sources.as_slice())
+}
+
+fn check_text(rt: &impl Abort, text: &str, line: Option<&str>) {
+    assert_eq!(rt; Some(text), line);
+}
+
+/// The shard has this line, and no fresh block.
+fn check_shard(
+    rt: &impl Abort,
+    alloc: Global,
+    shard: &Shard,
+    line: Option<&str>,
+) -> Result<(), AllocError> {
+    assert!(rt; shard.fresh.is_empty());
     let mut text = String::new(alloc);
-    match push_shard(alloc, &mut text, shard) {
-        Ok(()) => Ok(text),
-        Err(error) => Err(error),
-    }
+    push_shard(&mut text, shard)?;
+    check_text(rt, text.as_str(), line);
+    Ok(())
 }
 
 /// These are the plan's shards, a line each; each has no fresh block.
 fn check_shards(rt: &impl Abort, alloc: Global, plan: &Plan, table: &str) -> Result<(), Fail> {
     let mut lines = table.lines();
     for shard in &plan.shards {
-        assert!(rt; shard.fresh.is_empty());
-        assert_eq!(rt; Some(shard_text(alloc, shard)?.as_str()), lines.next());
+        check_shard(rt, alloc, shard, lines.next())?;
     }
     assert_eq!(rt; lines.next(), None);
     Ok(())

@@ -1,5 +1,6 @@
 //! Views from text, and tables of their vertices as text.
 
+use super::texts::push_item;
 use graph_views::ListedArcs;
 use std::alloc::{AllocError, Global};
 
@@ -24,14 +25,10 @@ pub(super) fn view_of(alloc: Global, text: &str) -> Option<ListedArcs> {
     Some(ListedArcs { count, arcs })
 }
 
-fn push_number(text: &mut String, number: u32) -> Result<(), AllocError> {
-    write!(text, "{number},")
-}
-
 /// Each number, with a comma behind it.
 pub(super) fn write_numbers(text: &mut String, numbers: &[u32]) -> Result<(), AllocError> {
     for number in numbers {
-        push_number(text, *number)?;
+        push_item(text, *number, ",")?;
     }
     Ok(())
 }
@@ -40,7 +37,7 @@ pub(super) fn write_numbers(text: &mut String, numbers: &[u32]) -> Result<(), Al
 pub(super) fn write_levels(text: &mut String, levels: &[Option<u32>]) -> Result<(), AllocError> {
     for level in levels {
         match level {
-            Some(level) => push_number(text, *level)?,
+            Some(level) => push_item(text, *level, ",")?,
             None => text.push_str("-,")?,
         }
     }
