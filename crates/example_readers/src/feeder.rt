@@ -63,20 +63,45 @@ pub fn name(alloc: Global, text: &str) -> Result<Name, AllocError> {
 /// The batch that inserts an edge from `ann` to each target.
 fn batch_of(alloc: Global, targets: &[&str]) -> Result<Batch, AllocError> {
     let mut batch = Batch::new(alloc);
-    for target in targets {
-        if batch.push(insertion(alloc, target)?).is_err() {
-            return Err(AllocError);
-        }
+    match push_insertions(alloc, &mut batch, targets) {
+        Ok(()) => Ok(batch),
+        Err(error) => Err(error),
     }
-    Ok(batch)
+}
+
+fn push_insertions(alloc: Global, batch: &mut Batch, targets: &[&str]) -> Result<(), AllocError> {
+    for target in targets {
+        push(batch, insertion(alloc, target))?;
+    }
+    Ok(())
+}
+
+fn push(batch: &mut Batch, op: Result<NamedOp, AllocError>) -> Result<(), AllocError> {
+    match op {
+        Ok(op) => batch.push(op).map_err(|_| AllocError),
+        Err(error) => Err(error),
+    }
+}
+
+/// The names of a source and a target.
+fn ends_of(alloc: Global, source: &str, target: &str) -> Result<(Name, Name), AllocError> {
+    let source = name(alloc, source)?;
+    match name(alloc, target) {
+        Ok(target) => Ok((source, target)),
+        Err(error) => Err(error),
+    }
 }
 
 fn insertion(alloc: Global, target: &str) -> Result<NamedOp, AllocError> {
-    Ok(NamedOp::Insert {
-        kind: name(alloc, "knows")?,
-        source: name(alloc, "ann")?,
-        target: name(alloc, target)?,
-        weight: 1,
-        time: 1,
-    })
+    let kind = name(alloc, "knows")?;
+    match ends_of(alloc, "ann", target) {
+        Ok((source, target)) => Ok(NamedOp::Insert {
+            kind,
+            source,
+            target,
+            weight: 1,
+            time: 1,
+        }),
+        Err(error) => Err(error),
+    }
 }

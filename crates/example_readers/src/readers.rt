@@ -6,7 +6,7 @@ ghost use Rattle.stream_store.specs.Stores.{IsOfOpening};
 use crate::feeder::name;
 use crate::signs::{COLLECTED, Signs, Slot};
 use graph_model::{NamedFilter, Reply, Request};
-use std::alloc::Global;
+use std::alloc::{AllocError, Global};
 use std::sync::Wait;
 use std::sync::atomic::Ordering::SeqCst;
 use stream_store::{Naming, Seat, Session, Store};
@@ -21,22 +21,43 @@ pub struct Sight {
     pub reached: usize,
 }
 
-/// What a session shows, which is asked for the levels from `ann` over all edges; nothing where it refuses, or memory was refused.
-fn sight_of(alloc: Global, session: &Session) -> Option<Sight> {
-    let source = name(alloc, "ann").ok()?;
-    let filter = NamedFilter {
-        kind: None,
-        lo: 0,
-        hi: u64::MAX,
-    };
-    match session.ask(&Request::Levels { source, filter }) {
-        Ok(Reply::Levels(levels)) => Some(Sight {
+/// The request of the levels from `ann` over all edges.
+fn levels_from_ann(alloc: Global) -> Result<Request, AllocError> {
+    Ok(Request::Levels {
+        source: name(alloc, "ann")?,
+        filter: NamedFilter {
+            kind: None,
+            lo: 0,
+            hi: u64::MAX,
+        },
+    })
+}
+
+/// What a session shows that answered so.
+fn sight_by(session: &Session, reply: &Reply) -> Option<Sight> {
+    match reply {
+        Reply::Levels(levels) => Some(Sight {
             number: session.version().number(),
             names: session.version().names().len(),
             edges: session.version().edge_count(),
             reached: levels.as_slice().len(),
         }),
         _ => None,
+    }
+}
+
+fn sight_at(session: &Session, request: &Request) -> Option<Sight> {
+    match session.ask(request) {
+        Ok(reply) => sight_by(session, &reply),
+        Err(_) => None,
+    }
+}
+
+/// What a session shows, which is asked for the levels from `ann`; nothing where it refuses, or memory was refused.
+fn sight_of(alloc: Global, session: &Session) -> Option<Sight> {
+    match levels_from_ann(alloc) {
+        Ok(request) => sight_at(session, &request),
+        Err(AllocError) => None,
     }
 }
 
