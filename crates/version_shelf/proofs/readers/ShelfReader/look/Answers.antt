@@ -1,4 +1,4 @@
-use Rattle.std.proofs.Common.{subst, sym}
+use Rattle.std.proofs.Common.{rules, subst, sym}
 use Rattle.version_shelf.specs.Shelves.{ToldView, Begins}
 use Rattle.version_shelf.proofs.Steps.{begins_self}
 use Rattle.version_shelf.proofs.readers.ShelfReader.look.Goals as goal
@@ -9,3 +9,9 @@ returns-else-is_below c = subst (λ (x : ToldView). Begins c.args.self.now x) (s
 -- Its search is long where it fails.
 pub returns-then-is_below : goal.returns-then-is_below
 returns-then-is_below c = subst (λ (x : ToldView). Begins x c.in-Some.told) c.self.view_is c.if-is_below.ensures
+
+pub invariant_of-self : goal.invariant_of-self
+invariant_of-self c = search rules
+
+pub invariant_of-self-else-is_below : goal.invariant_of-self-else-is_below
+invariant_of-self-else-is_below c = search rules
