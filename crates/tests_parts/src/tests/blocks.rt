@@ -144,6 +144,32 @@ fn lists_targets_of_a_run_and_past_a_free_slot(rt: HostRuntime) -> Result<(), Fa
     Ok(())
 }
 
+// So many are copied in one piece.
+#[test]
+fn lists_targets_of_a_long_run(rt: HostRuntime) -> Result<(), Fail> {
+    let mut block = Block::blank(4);
+    for target in 20..29 {
+        put(&rt, &mut block, target, 10);
+    }
+    lists(
+        &rt,
+        rt.alloc(),
+        &block,
+        &ALL,
+        &[1, 20, 21, 22, 23, 24, 25, 26, 27, 28],
+    )?;
+    lists(&rt, rt.alloc(), &block, &any_within(11, 20), &[1])?;
+    take(&rt, &mut block, 28, true);
+    lists(
+        &rt,
+        rt.alloc(),
+        &block,
+        &ALL,
+        &[1, 20, 21, 22, 23, 24, 25, 26, 27],
+    )?;
+    Ok(())
+}
+
 /// So many edges were touched before the time, and are gone; the others keep their slots.
 fn expires(rt: &impl Abort, block: &mut Block, time: u64, count: u32) {
     assert_eq!(rt; block.has_before(time), count > 0);
