@@ -2,55 +2,38 @@
 use Rattle.std.proofs.Common.{◌≡◌, ◌≢◌, ℕ, suc, ◌+◌, ◌<◌, ◌≤◌, ◌==◌, Bool, true, false, List, [], ◌∷◌, ◌++◌}
 use Rattle.std.proofs.Common.{length, length-append, map, flat_map, zip, count_by, replicate, refl, sym, ap, ◌∙◌, arith}
 use Rattle.std.proofs.Common.{subst, All, AllPairs, ltb}
-use Rattle.std.specs.List.{range_with_len, AllZip}
-use Rattle.std.proofs.lemmas.Bool.{ltb-true, ltb-false}
-use Rattle.std.proofs.lemmas.List.{length-map}
-use Rattle.std.proofs.lemmas.List.FromFn.{length-range_with_len}
-use Rattle.graph_model.specs.Graph.{Graph}
-use Rattle.graph_model.specs.Limits.{name_limit, kind_limit, batch_limit, operation_limit}
-use Rattle.std.specs.FinMap.{len}
+use Rattle.std.specs.{List.range_with_len, List.AllZip, FinMap.len}
+use Rattle.std.proofs.lemmas.{Bool.ltb-true, Bool.ltb-false, List.length-map, List.FromFn.length-range_with_len}
+use Rattle.graph_model.specs.{Graph.Graph, Limits.name_limit, Limits.kind_limit, Limits.batch_limit, Limits.operation_limit}
 use Rattle.graph_model.specs.Step.{after_all, outcomes, left_by}
-use Rattle.graph_model.specs.declared.batches.NamedOp.{NamedOp}
-use Rattle.graph_model.specs.declared.batches.Outcome.TheVariants.{Absent}
+use Rattle.graph_model.specs.declared.batches.{NamedOp.NamedOp, Outcome.TheVariants.Absent}
 use Rattle.edge_block.specs.Slots.{BlockView}
 use Rattle.vertex_names.specs.Book.{Book}
 use Rattle.block_layout.specs.Rows.{OpenBlock, shape_of, row_at, IsRow}
-use Rattle.block_layout.specs.Batches.{Resolved, resolved, outcomes_all, opened, layout_after}
-use Rattle.block_layout.specs.Batches.{IsWithin, IsLayoutOf}
+use Rattle.block_layout.specs.Batches.{Resolved, resolved, outcomes_all, opened, layout_after, IsWithin, IsLayoutOf}
 use Rattle.block_layout.proofs.GraphLaws.{batch_layout}
 use Rattle.row_pages.specs.Rows as rows
 use Rattle.row_pages.specs.Rows.{row_of}
-use Rattle.batch_shards.specs.RowBlocks.{block_of, blocks_of, numbers_of}
+use Rattle.batch_shards.specs.{RowBlocks.block_of, RowBlocks.blocks_of, RowBlocks.numbers_of, Groups.told}
 use Rattle.batch_shards.specs.Done.{IsShardDone, Exchanges, sources_in, rows_by}
 use Rattle.batch_shards.specs.Births.{births_end, births_dropped, open_row, births_after, dropped_births}
-use Rattle.batch_shards.specs.declared.shard.Shard.{Shard}
-use Rattle.batch_shards.specs.declared.shard.ShardDone.{ShardDone}
+use Rattle.batch_shards.specs.declared.shard.{Shard.Shard, ShardDone.ShardDone}
 use Rattle.graph_version.specs.Versions.{VersionView, IsVersion, IsBlockOf, AreRowsOf, content, layout_of, is_in}
 use Rattle.graph_version.specs.Kept.{vertex_book, kind_book, edge_total}
 use Rattle.graph_version.specs.Drafts.{DraftView, drafted_over, with_batch, IsWhole}
 use Rattle.graph_version.proofs.Few.{few_total}
-use Rattle.batch_plan.specs.Shards.{IsShardOf}
-use Rattle.batch_plan.specs.Planned.{MeetsNeitherLimit}
-use Rattle.batch_apply.specs.Plans.{written_all}
-use Rattle.batch_shards.specs.Groups.{told}
-use Rattle.batch_apply.specs.Sums.{ArePlanned}
+use Rattle.batch_plan.specs.{Shards.IsShardOf, Planned.MeetsNeitherLimit}
+use Rattle.batch_apply.specs.{Plans.written_all, Sums.ArePlanned, declared.applied.Applied.Applied, declared.workers.Job.Job}
 use Rattle.batch_apply.specs.Applied.{IsApplied, ReplacesRows, row_among, written_from}
-use Rattle.batch_apply.specs.declared.applied.Applied.{Applied}
-use Rattle.batch_apply.proofs.Told.{told_exact}
-use Rattle.batch_apply.proofs.Written.{all_written, all_sources}
+use Rattle.batch_apply.proofs.{Told.told_exact, Written.all_written, Written.all_sources, Placed.times, Placed.among_is}
 use Rattle.batch_apply.proofs.Together.{all_once, all_within, once, quiet_layout, batch_totals, outcomes_over}
-use Rattle.batch_apply.proofs.Together.{quiet_row, births_sum, together_at}
-use Rattle.batch_apply.proofs.Placed.{times, among_is}
-use Rattle.batch_apply.proofs.Kept.{count_append, pairs, exchanged_all}
+use Rattle.batch_apply.proofs.{Together.quiet_row, Together.births_sum, Together.together_at, Numbers.numbers_once}
+use Rattle.batch_apply.proofs.{Kept.count_append, Kept.pairs, Kept.exchanged_all, Left.outcomes_left}
 use Rattle.batch_apply.specs.Jobs.{IsDealt, AreDone}
-use Rattle.batch_apply.specs.declared.workers.Job.{Job}
 use Rattle.batch_apply.proofs.Dealt.{length-resolved, shards_in, needs_of, dealt_planned, done_in, fresh_in}
-use Rattle.batch_apply.proofs.BirthCounts.{map_same, untouched_births, untouched_dropped, count_births, count_pieces}
-use Rattle.batch_apply.proofs.BirthCounts.{count_lists}
-use Rattle.batch_apply.proofs.Numbers.{numbers_once}
+use Rattle.batch_apply.proofs.BirthCounts.{map_same, untouched_births, untouched_dropped, count_births, count_pieces, count_lists}
 use Rattle.batch_apply.proofs.Left.{length_flat, sum_each, rows_left, taken_left, dropped_left, unused_left, fresh_all}
 use Rattle.batch_apply.proofs.Left.{sources_left, blocks_left, exchanged_left, handed_left, layouts_left, births_left}
-use Rattle.batch_apply.proofs.Left.{outcomes_left}
 
 all_shards : (shards : List Shard) → all_sources (map sources_in shards) ≡ flat_map sources_in shards
 all_shards [] = refl

@@ -3,35 +3,23 @@
 use Rattle.std.proofs.Common.{◌≡◌, ℕ, zero, suc, ◌+◌, ◌<◌, ◌≤◌, ◌==◌, ◌||◌, Bool, true, false, cond, not, List, [], ◌∷◌}
 use Rattle.std.proofs.Common.{length, map, flat_map, count_by, max, refl, sym, ap, ap₂, ◌∙◌, arith, Option, All}
 use Rattle.std.specs.List.{sum_by, range_with_len, AllZip, list_any}
-use Rattle.std.proofs.lemmas.Bool.{eqb-true, true≢false, le-ltb}
+use Rattle.std.proofs.lemmas.{Bool.eqb-true, Bool.true≢false, Bool.le-ltb, List.Elements.All-nil, List.Elements.All-cons}
 use Rattle.std.proofs.lemmas.List.Sums.{sum_by-cons, sum_by-append, count_by-le-length}
-use Rattle.std.proofs.lemmas.List.Elements.{All-nil, All-cons}
-use Rattle.graph_model.specs.Graph.{Graph, Key}
-use Rattle.graph_model.specs.Step.{is_before, is_expire}
-use Rattle.graph_model.specs.declared.batches.NamedOp.{NamedOp}
+use Rattle.graph_model.specs.{Graph.Graph, Graph.Key, Step.is_before, Step.is_expire}
+use Rattle.graph_model.specs.declared.{batches.NamedOp.NamedOp, changes.EdgeChange.EdgeChange}
 use Rattle.graph_model.specs.declared.batches.NamedOp.TheVariants.{Insert, Incr, Remove, Expire}
-use Rattle.graph_model.specs.declared.changes.EdgeChange.{EdgeChange}
 use Rattle.edge_block.specs.Slots.{BlockView, Slot, edges_in, has_before}
 use Rattle.block_layout.specs.Operations.{names_after, kinds_after}
 use Rattle.block_layout.specs.Batches.{Resolved, AtKey, InAll, resolved, shard_of, shard_ops}
 use Rattle.row_pages.specs.Rows.{row_of, blocks_of}
-use Rattle.batch_shards.specs.Done.{layout_by, sources_in, steps_in}
-use Rattle.batch_shards.specs.Groups.{is_expiry}
-use Rattle.batch_shards.specs.Shards.{resolved_at, resolved_in}
-use Rattle.batch_shards.specs.Spending.{old_blocks}
-use Rattle.batch_shards.specs.declared.shard.Act.{Act}
+use Rattle.batch_shards.specs.{Done.layout_by, Done.sources_in, Done.steps_in, Groups.is_expiry, Spending.old_blocks}
+use Rattle.batch_shards.specs.{Shards.resolved_at, Shards.resolved_in, declared.shard.Act.Act}
 use Rattle.batch_shards.specs.declared.shard.Act.TheVariants as act
-use Rattle.batch_shards.specs.declared.shard.Shard.{Shard}
-use Rattle.batch_shards.specs.declared.shard.Step.{Step}
-use Rattle.batch_plan.specs.Planned.{IsPlan}
-use Rattle.batch_plan.specs.Shards.{acts, unsourced, latest, IsShardOf}
+use Rattle.batch_shards.specs.declared.shard.{Shard.Shard, Step.Step}
+use Rattle.batch_plan.specs.{Planned.IsPlan, Shards.acts, Shards.unsourced, Shards.latest, Shards.IsShardOf}
 use Rattle.batch_plan.specs.declared.plans.Plan.{Plan}
-use Rattle.batch_plan.proofs.Growth.{other_number}
-use Rattle.batch_plan.proofs.Listing.{same_latest}
-use Rattle.batch_apply.proofs.Totals.{count_more}
-use Rattle.batch_apply.proofs.Together.{all_once}
-use Rattle.batch_apply.proofs.Placed.{times}
-use Rattle.batch_apply.proofs.Kept.{sum_lists, split_rows}
+use Rattle.batch_plan.proofs.{Growth.other_number, Listing.same_latest}
+use Rattle.batch_apply.proofs.{Totals.count_more, Together.all_once, Placed.times, Kept.sum_lists, Kept.split_rows}
 use Rattle.batch_apply.proofs.Dealt.{length-resolved, needs_of}
 
 -- Operations on edges, each of which is in one shard

@@ -1,16 +1,11 @@
 -- Births over lists of blocks, and how many births of dropped blocks pass a test.
-use Rattle.std.proofs.Common.{◌≡◌, ℕ, zero, suc, ◌+◌, ◌==◌, Bool, true, false, ◌||◌, List, [], ◌∷◌, ◌++◌}
+use Rattle.std.proofs.Common.{◌≡◌, ℕ, zero, suc, ◌+◌, ◌==◌, Bool, true, false, ◌||◌, List, [], ◌∷◌, ◌++◌, All}
 use Rattle.std.proofs.Common.{map, flat_map, count_by, refl, sym, ap, ap₂, ◌∙◌}
-use Rattle.std.proofs.Common.{All}
 use Rattle.std.specs.List.{sum_by}
-use Rattle.std.proofs.lemmas.List.{map-append}
-use Rattle.std.proofs.lemmas.List.Sums.{sum_by-cons}
-use Rattle.std.proofs.lemmas.List.Elements.{All-head, All-tail}
-use Rattle.graph_model.specs.Graph.{Graph}
-use Rattle.graph_model.specs.declared.batches.NamedOp.{NamedOp}
+use Rattle.std.proofs.lemmas.List.{map-append, Sums.sum_by-cons, Elements.All-head, Elements.All-tail}
+use Rattle.graph_model.specs.{Graph.Graph, declared.batches.NamedOp.NamedOp}
 use Rattle.edge_block.specs.Slots.{BlockView}
-use Rattle.block_layout.specs.Rows.{Shape, shape_of, untouched}
-use Rattle.block_layout.specs.Batches.{sum_below}
+use Rattle.block_layout.specs.{Rows.Shape, Rows.shape_of, Rows.untouched, Batches.sum_below}
 use Rattle.batch_shards.specs.Births.{births_end, births_dropped, later_births, open_row, dropped_births}
 use Rattle.graph_version.specs.Versions.{is_in}
 use Rattle.batch_apply.proofs.Kept.{count_append}

@@ -2,25 +2,14 @@
 use Rattle.std.proofs.Common.{◌≡◌, ℕ, zero, suc, ◌+◌, ◌<◌, List, [], ◌∷◌, ◌++◌, length, map, flat_map, zip, take, get_or}
 use Rattle.std.proofs.Common.{refl, sym, ap, ap₂, ◌∙◌, arith, subst, All, Bool}
 use Rattle.std.specs.List.{sum_by, range_with_len, AllZip}
-use Rattle.std.proofs.lemmas.List.{length-map}
-use Rattle.std.proofs.lemmas.List.Sums.{sum_by-cons}
-use Rattle.std.proofs.lemmas.List.Elements.{All-nil, All-cons}
-use Rattle.graph_model.specs.declared.ids.VertexId.{VertexId}
-use Rattle.graph_model.specs.declared.batches.NamedOp.{NamedOp}
+use Rattle.std.proofs.lemmas.List.{length-map, Sums.sum_by-cons, Elements.All-nil, Elements.All-cons}
+use Rattle.graph_model.specs.declared.{ids.VertexId.VertexId, batches.NamedOp.NamedOp}
 use Rattle.edge_block.specs.Slots.{BlockView}
-use Rattle.block_layout.specs.Operations.{names_after, kinds_after}
-use Rattle.block_layout.specs.Rows.{Shape}
-use Rattle.block_layout.specs.Batches.{Resolved, resolved}
-use Rattle.batch_shards.specs.RowBlocks.{numbers_of}
-use Rattle.batch_shards.specs.Shards.{AreSteps}
-use Rattle.batch_shards.specs.Done.{IsShardDone, sources_in}
-use Rattle.batch_shards.specs.Spending.{needed}
-use Rattle.batch_shards.specs.declared.shard.Shard.{Shard}
-use Rattle.batch_shards.specs.declared.shard.ShardDone.{ShardDone}
-use Rattle.batch_shards.specs.declared.shard.Step.{Step}
+use Rattle.block_layout.specs.{Operations.names_after, Operations.kinds_after, Rows.Shape, Batches.Resolved, Batches.resolved}
+use Rattle.batch_shards.specs.{RowBlocks.numbers_of, Shards.AreSteps, Done.IsShardDone, Done.sources_in, Spending.needed}
+use Rattle.batch_shards.specs.declared.shard.{Shard.Shard, ShardDone.ShardDone, Step.Step}
 use Rattle.batch_plan.specs.Shards.{latest, is_old_row, AreShardSteps, IsShardOf}
-use Rattle.batch_apply.specs.Jobs.{IsDealt, IsShard, AreDone}
-use Rattle.batch_apply.specs.declared.workers.Job.{Job}
+use Rattle.batch_apply.specs.{Jobs.IsDealt, Jobs.IsShard, Jobs.AreDone, declared.workers.Job.Job}
 
 pub length-resolved : (ops : List NamedOp) (names kinds : List (List ℕ)) → length (resolved ops names kinds) ≡ length ops
 length-resolved [] names kinds = refl

@@ -1,26 +1,17 @@
 -- How many edges operations leave: as many as before, with one more for each that was inserted and one less for each that
 -- was removed or has expired.
 use Rattle.std.proofs.Common.{◌≡◌, ℕ, zero, suc, ◌+◌, ◌-◌, ◌<◌, true, false, cond, List, [], ◌∷◌, refl, sym, ap, ◌∙◌, arith}
-use Rattle.std.specs.Prelude.{◌+ℤ◌, count_by, if◌then◌else◌}
-use Rattle.std.specs.List.{sum_by}
-use Rattle.std.proofs.lemmas.Bool.{true≢false}
-use Rattle.std.proofs.lemmas.List.Sums.{sum_by-cons}
-use Rattle.std.specs.declared.option.Option.{Option}
-use Rattle.std.specs.declared.option.Option.TheVariants.{None, Some}
-use Rattle.std.specs.Option.{is_some}
+use Rattle.std.specs.{Prelude.◌+ℤ◌, Prelude.count_by, Prelude.if◌then◌else◌, List.sum_by, Option.is_some}
+use Rattle.std.proofs.lemmas.{Bool.true≢false, List.Sums.sum_by-cons}
+use Rattle.std.specs.declared.option.Option.{Option, TheVariants.None, TheVariants.Some}
 use Rattle.std.specs.FinMap.{FinMap, get, insert, remove, len, len-insert, len-remove, empty_of_len, get-empty}
-use Rattle.graph_model.specs.Limits.{is_weight}
-use Rattle.graph_model.specs.Graph.{Graph, Key, Stamp, key_cmp}
+use Rattle.graph_model.specs.{Limits.is_weight, Graph.Graph, Graph.Key, Graph.Stamp, Graph.key_cmp, Step.change_outcome}
 use Rattle.graph_model.specs.Step.{after, outcome, after_all, outcomes, stamp_after, outcome_at, set_at, changed, changed_key}
-use Rattle.graph_model.specs.Step.{change_outcome}
-use Rattle.graph_model.specs.declared.batches.NamedOp.{NamedOp}
+use Rattle.graph_model.specs.declared.{batches.NamedOp.NamedOp, changes.EdgeChange.EdgeChange}
 use Rattle.graph_model.specs.declared.batches.NamedOp.TheVariants.{Insert, Incr, Remove, Expire}
-use Rattle.graph_model.specs.declared.batches.Outcome.{Outcome}
-use Rattle.graph_model.specs.declared.batches.Outcome.TheVariants.{Updated, Overflow}
-use Rattle.graph_model.specs.declared.changes.EdgeChange.{EdgeChange}
+use Rattle.graph_model.specs.declared.batches.Outcome.{Outcome, TheVariants.Updated, TheVariants.Overflow}
 use Rattle.graph_model.specs.declared.changes.EdgeChange.TheVariants.{Insert as ToInsert, Incr as ToIncr, Remove as ToRemove}
-use Rattle.graph_model.proofs.Keys.{keys_total}
-use Rattle.graph_model.proofs.Expiry.{fewer}
+use Rattle.graph_model.proofs.{Keys.keys_total, Expiry.fewer}
 use Rattle.batch_apply.specs.Counts.{is_inserted, taken_away}
 
 -- how many edges there are with a stamp at a key

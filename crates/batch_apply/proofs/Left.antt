@@ -1,32 +1,21 @@
 -- What shards leave, one after another.
-use Rattle.std.proofs.Common.{◌≡◌, ℕ, zero, suc, ◌+◌, Bool, true, List, [], ◌∷◌, ◌++◌}
+use Rattle.std.proofs.Common.{◌≡◌, ℕ, zero, suc, ◌+◌, Bool, true, List, [], ◌∷◌, ◌++◌, subst, All}
 use Rattle.std.proofs.Common.{length, length-append, map, flat_map, count_by, refl, sym, ap, ap₂, ◌∙◌, arith}
-use Rattle.std.proofs.Common.{subst, All}
 use Rattle.std.specs.List.{sum_by, range_with_len, AllZip}
-use Rattle.std.proofs.lemmas.List.{map-append}
+use Rattle.std.proofs.lemmas.List.{map-append, Sums.sum_by-cons, Elements.All-nil, Elements.All-append}
 use Rattle.std.proofs.lemmas.Grind.{flat_map-append}
-use Rattle.std.proofs.lemmas.List.Sums.{sum_by-cons}
-use Rattle.std.proofs.lemmas.List.Elements.{All-nil, All-append}
-use Rattle.graph_model.specs.Graph.{Graph}
-use Rattle.graph_model.specs.declared.batches.NamedOp.{NamedOp}
-use Rattle.graph_model.specs.declared.batches.Outcome.{Outcome}
+use Rattle.graph_model.specs.{Graph.Graph, declared.batches.NamedOp.NamedOp, declared.batches.Outcome.Outcome}
 use Rattle.edge_block.specs.Slots.{BlockView}
 use Rattle.block_layout.specs.Rows.{Shape, shape_of}
 use Rattle.block_layout.specs.Batches.{Resolved, resolved, opened, layout_after, rows_all}
-use Rattle.batch_shards.specs.RowBlocks.{blocks_of, numbers_of}
-use Rattle.batch_shards.specs.Closing.{row_values}
+use Rattle.batch_shards.specs.{RowBlocks.blocks_of, RowBlocks.numbers_of, Closing.row_values, Births.births_end}
 use Rattle.batch_shards.specs.Done.{IsShardDone, Exchanges, sources_in}
-use Rattle.batch_shards.specs.Births.{births_end}
-use Rattle.batch_shards.specs.declared.shard.Shard.{Shard}
-use Rattle.batch_shards.specs.declared.shard.ShardDone.{ShardDone}
+use Rattle.batch_shards.specs.declared.shard.{Shard.Shard, ShardDone.ShardDone}
 use Rattle.graph_version.specs.Versions.{IsBlockOf, is_in}
 use Rattle.batch_plan.specs.Shards.{IsShardOf}
-use Rattle.batch_apply.specs.Plans.{written, written_all}
-use Rattle.batch_apply.specs.Applied.{written_from}
-use Rattle.batch_apply.proofs.Together.{shard_outcomes_at, shard_layout_at, shard_births_at}
-use Rattle.batch_apply.proofs.Placed.{sources_of}
-use Rattle.batch_apply.proofs.Kept.{count_append}
-use Rattle.batch_apply.proofs.BirthCounts.{in_left, in_right}
+use Rattle.batch_apply.specs.{Plans.written, Plans.written_all, Applied.written_from}
+use Rattle.batch_apply.proofs.{Together.shard_outcomes_at, Together.shard_layout_at, Together.shard_births_at, Placed.sources_of}
+use Rattle.batch_apply.proofs.{Kept.count_append, BirthCounts.in_left, BirthCounts.in_right}
 
 -- What shards leave, one after another
 

@@ -1,26 +1,17 @@
 -- What loops have done, with one more.
 use Rattle.std.proofs.Common.{◌≡◌, ℕ, zero, suc, ◌+◌, ◌≤◌, ◌==◌, Bool, cond, List, [], ◌∷◌, ◌++◌, length, flat_map, get_or}
 use Rattle.std.proofs.Common.{count_by, set, take, drop, refl, sym, ap, ◌∙◌}
-use Rattle.std.specs.declared.sync.Arc.{Arc}
-use Rattle.std.specs.declared.alloc.Global.{Global}
-use Rattle.std.specs.declared.vec.Vec.{Vec}
-use Rattle.std.proofs.lemmas.List.{map-append, set_past}
-use Rattle.std.proofs.lemmas.Grind.{flat_map-append}
-use Rattle.graph_model.specs.declared.ids.VertexId.{VertexId}
-use Rattle.graph_model.specs.declared.batches.Outcome.{Outcome}
+use Rattle.std.specs.declared.{sync.Arc.Arc, alloc.Global.Global, vec.Vec.Vec}
+use Rattle.std.proofs.lemmas.{List.map-append, List.set_past, Grind.flat_map-append}
+use Rattle.graph_model.specs.declared.{ids.VertexId.VertexId, batches.Outcome.Outcome, batches.Outcome.TheVariants.Absent}
 use Rattle.edge_block.specs.declared.blocks.Block.{Block}
 use Rattle.row_pages.specs.Rows.{row_of}
-use Rattle.batch_shards.specs.RowBlocks.{block_of, blocks_of, numbers_of}
-use Rattle.batch_shards.specs.Closing.{row_values}
+use Rattle.batch_shards.specs.{RowBlocks.block_of, RowBlocks.blocks_of, RowBlocks.numbers_of, Closing.row_values, Groups.told}
 use Rattle.batch_shards.specs.declared.shard.ShardDone.{ShardDone}
 use Rattle.graph_version.specs.Drafts.{DraftView, ReplacesRow}
-use Rattle.graph_model.specs.declared.batches.Outcome.TheVariants.{Absent}
 use Rattle.block_layout.specs.Batches.{together}
-use Rattle.batch_apply.specs.Plans.{written}
-use Rattle.batch_shards.specs.Groups.{told}
-use Rattle.batch_apply.specs.Applied.{ReplacesRows, written_from, row_among}
-use Rattle.batch_apply.proofs.Kept.{count_append}
-use Rattle.batch_apply.proofs.Placed.{among_more}
+use Rattle.batch_apply.specs.{Plans.written, Applied.ReplacesRows, Applied.written_from, Applied.row_among}
+use Rattle.batch_apply.proofs.{Kept.count_append, Placed.among_more}
 
 pub written_more : (ps : List (ℕ × Outcome)) (p : ℕ × Outcome) (xs : List Outcome)
     → written (ps ++ p ∷ []) xs ≡ set (written ps xs) p.0 (told (together (get_or (written ps xs) p.0 Absent) p.1))

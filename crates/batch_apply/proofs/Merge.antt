@@ -2,13 +2,10 @@
 use Rattle.std.proofs.Common.{◌≡◌, ℕ, ◌+◌, ◌%◌, ◌==◌, List, [], ◌∷◌, map, filter, zip, Bool, true, false, cond, refl, ap}
 use Rattle.std.proofs.Common.{◌∙◌, All}
 use Rattle.std.specs.List.{enumerate_from}
-use Rattle.graph_model.specs.Graph.{Graph}
-use Rattle.graph_model.specs.declared.batches.NamedOp.{NamedOp}
+use Rattle.graph_model.specs.{Graph.Graph, declared.batches.NamedOp.NamedOp, declared.batches.Outcome.Outcome}
 use Rattle.block_layout.specs.Rows.{Shape, untouched, row_end}
-use Rattle.block_layout.specs.Batches.{Resolved, resolved, is_in_shard, shard_ops, picked, outcomes_all}
-use Rattle.block_layout.specs.Batches.{opened}
+use Rattle.block_layout.specs.Batches.{Resolved, resolved, is_in_shard, shard_ops, picked, outcomes_all, opened}
 use Rattle.block_layout.proofs.ShardLaws.{shard_outcomes}
-use Rattle.graph_model.specs.declared.batches.Outcome.{Outcome}
 use Rattle.batch_apply.specs.Plans.{placed_ops, shard_at, ops_of}
 use Rattle.batch_shards.specs.Groups.{told}
 

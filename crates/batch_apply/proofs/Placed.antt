@@ -1,8 +1,7 @@
 -- Rows that took the places of others.
 use Rattle.std.proofs.Common.{◌≡◌, ℕ, ◌≤◌, ◌==◌, true, false, cond, List, [], ◌∷◌, ◌++◌, map, flat_map, count_by}
 use Rattle.std.proofs.Common.{refl, sym, ap, ap₂, ◌∙◌, arith, subst, All}
-use Rattle.std.proofs.lemmas.Bool.{eqb-true, eqb-false}
-use Rattle.std.proofs.lemmas.List.Elements.{All-head, All-tail}
+use Rattle.std.proofs.lemmas.{Bool.eqb-true, Bool.eqb-false, List.Elements.All-head, List.Elements.All-tail}
 use Rattle.edge_block.specs.Slots.{BlockView}
 use Rattle.batch_plan.proofs.Growth.{same_number, other_number}
 use Rattle.batch_apply.specs.Applied.{row_among}

@@ -4,12 +4,9 @@ use Rattle.std.proofs.Common.{count_by, Bool, true, false, cond, refl, sym, ap, 
 use Rattle.std.specs.List.{sum_by, range_with_len, list_any}
 use Rattle.std.proofs.Math.Nat.{le-max_left, le-max_right}
 use Rattle.std.proofs.lemmas.Bool.{eqb-true, eqb-false, false_from_ne_true, true≢false, le-ltb, ltb-false}
-use Rattle.std.proofs.lemmas.List.Sums.{sum_by-cons}
-use Rattle.std.proofs.lemmas.List.FromFn.{sum_by-map-range_with_len_more}
+use Rattle.std.proofs.lemmas.List.{Sums.sum_by-cons, FromFn.sum_by-map-range_with_len_more}
 use Rattle.std.proofs.lemmas.List.Elements.{All-head, All-tail, All-cons, All-nil}
-use Rattle.graph_model.specs.Step.{is_before}
-use Rattle.graph_model.specs.declared.batches.Outcome.{Outcome}
-use Rattle.graph_model.specs.declared.batches.Outcome.TheVariants.{Expired}
+use Rattle.graph_model.specs.{Step.is_before, declared.batches.Outcome.Outcome, declared.batches.Outcome.TheVariants.Expired}
 use Rattle.edge_block.specs.Slots.{Slot, edges_in, has_before, old_in, slots_since}
 use Rattle.block_layout.specs.Rows.{Shape, OpenBlock, untouched, touch, expire_row, old_in_row}
 use Rattle.block_layout.specs.Batches.{Resolved, AtKey, InAll, IsPlaced, key_is_of, shard_of, is_in_shard, shard_ops, sum_below}

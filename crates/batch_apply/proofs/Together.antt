@@ -2,40 +2,26 @@
 use Rattle.std.proofs.Common.{◌≡◌, ◌≢◌, ℕ, zero, suc, ◌+◌, ◌%◌, ◌<◌, ◌≤◌, ◌==◌, List, [], ◌∷◌, ◌++◌, length, map, flat_map}
 use Rattle.std.proofs.Common.{get_or, count_by, true, false, cond, refl, sym, ap, ap₂, ◌∙◌, arith, subst, Option, Some}
 use Rattle.std.proofs.Common.{None, All, AllPairs, mod-lt, zip, ◌||◌}
-use Rattle.std.specs.List.{sum_by, range_with_len, AllZip, list_any}
+use Rattle.std.specs.{List.sum_by, List.range_with_len, List.AllZip, List.list_any, Prelude.nat_eq}
 use Rattle.std.proofs.lemmas.Bool.{eqb-true, eqb-false, false_from_ne_true, true_from_ne_false, true≢false}
-use Rattle.std.proofs.lemmas.List.{length-map, get_or-map}
-use Rattle.std.proofs.lemmas.List.Sums.{sum_by-cons, sum_by-append}
+use Rattle.std.proofs.lemmas.List.{length-map, get_or-map, Sums.sum_by-cons, Sums.sum_by-append}
 use Rattle.std.proofs.lemmas.List.Elements.{All-head, All-tail, All-cons, All-nil, All-append, All-map}
-use Rattle.graph_model.specs.Graph.{Graph}
-use Rattle.graph_model.specs.Step.{after_all}
-use Rattle.graph_model.specs.declared.batches.NamedOp.{NamedOp}
+use Rattle.graph_model.specs.{Graph.Graph, Step.after_all, declared.batches.NamedOp.NamedOp, declared.batches.Outcome.Outcome}
 use Rattle.block_layout.specs.Rows.{Shape, OpenBlock, untouched, taken_in, dropped_in, shape_of, row_end}
 use Rattle.block_layout.specs.Batches.{Resolved, AtKey, InAll, resolved, is_in_shard, shard_ops, rows_all, opened, key_is_of}
 use Rattle.block_layout.specs.Batches.{taken_by, dropped_by, outcomes_all, layout_after, sum_below, IsWithin, IsLayoutOf}
-use Rattle.batch_shards.specs.Births.{births_end}
+use Rattle.batch_shards.specs.{Births.births_end, Shards.IsAct, Shards.IsPlace, Shards.key_at, Shards.resolved_at}
 use Rattle.graph_version.specs.Versions.{is_in}
-use Rattle.batch_shards.specs.Shards.{IsAct, IsPlace, key_at, resolved_at}
-use Rattle.batch_shards.specs.declared.shard.Act.{Act}
-use Rattle.batch_shards.specs.declared.shard.Act.TheVariants.{Edge, Expire}
+use Rattle.batch_shards.specs.declared.shard.{Act.Act, Act.TheVariants.Edge, Act.TheVariants.Expire, Shard.Shard, Step.Step}
 use Rattle.batch_shards.specs.Done.{IsShardDone, sources_in, steps_in, rows_by, layout_by, sum_of}
-use Rattle.batch_shards.specs.declared.shard.Shard.{Shard}
-use Rattle.batch_shards.specs.declared.shard.ShardDone.{ShardDone}
-use Rattle.batch_shards.specs.declared.shard.Step.{Step}
-use Rattle.batch_shards.specs.declared.shard.Place.{Place}
-use Rattle.std.specs.Prelude.{nat_eq}
-use Rattle.batch_plan.specs.Shards.{acts, unsourced, latest, is_old_row, IsShardOf}
-use Rattle.batch_apply.specs.Plans.{results, told}
+use Rattle.batch_shards.specs.{declared.shard.ShardDone.ShardDone, declared.shard.Place.Place, Closing.row_values}
+use Rattle.batch_plan.specs.{Shards.acts, Shards.unsourced, Shards.latest, Shards.is_old_row, Shards.IsShardOf, Plan.ends_all}
+use Rattle.batch_apply.specs.{Plans.results, Plans.told, Sums.ArePlanned}
 use Rattle.batch_apply.proofs.Spared.{Spares, KeepsOff, rows_spared, over_all, all_spare, off_all}
-use Rattle.batch_plan.specs.Plan.{ends_all}
-use Rattle.batch_plan.proofs.Resolving.{placed_in, resolved_is}
-use Rattle.batch_apply.specs.Sums.{ArePlanned}
+use Rattle.batch_plan.proofs.{Resolving.placed_in, Resolving.resolved_is, Sources.sources_within}
 use Rattle.batch_apply.proofs.Totals.{sum_all, worker_rows, none_taken, none_dropped, count_more, same_outcomes}
-use Rattle.batch_plan.proofs.Sources.{sources_within}
 use Rattle.batch_apply.proofs.Merge.{same_ops, shard_places, kept_all}
-use Rattle.batch_shards.specs.Closing.{row_values}
 use Rattle.edge_block.specs.Slots.{BlockView}
-use Rattle.graph_model.specs.declared.batches.Outcome.{Outcome}
 
 abbrev times : ℕ → List ℕ → ℕ
 times m xs = count_by (λ x. x == m) xs

@@ -1,19 +1,13 @@
 -- A batch's outcomes are told as they are: no expiry takes 2 ^ 64 edges.
 use Rattle.std.proofs.Common.{◌≡◌, ℕ, ◌+◌, ◌^◌, ◌<◌, ◌≤◌, Bool, true, false, cond, List, [], ◌∷◌, length, map, refl, ap, ap₂}
-use Rattle.std.proofs.Common.{arith}
-use Rattle.std.specs.Prelude.{◌+ℤ◌, if◌then◌else◌}
-use Rattle.std.specs.declared.option.Option.{Option}
-use Rattle.std.specs.declared.option.Option.TheVariants.{None, Some}
-use Rattle.std.specs.FinMap.{get, len}
-use Rattle.std.proofs.Math.Nat.{mod-eq_of_lt}
-use Rattle.graph_model.specs.Limits.{is_weight}
-use Rattle.graph_model.specs.Graph.{Graph, Stamp}
+use Rattle.std.proofs.{Common.arith, Math.Nat.mod-eq_of_lt}
+use Rattle.std.specs.{Prelude.◌+ℤ◌, Prelude.if◌then◌else◌, FinMap.get, FinMap.len}
+use Rattle.std.specs.declared.option.Option.{Option, TheVariants.None, TheVariants.Some}
+use Rattle.graph_model.specs.{Limits.is_weight, Graph.Graph, Graph.Stamp}
 use Rattle.graph_model.specs.Step.{after, outcome, outcomes, outcome_at, changed_key}
-use Rattle.graph_model.specs.declared.batches.NamedOp.{NamedOp}
+use Rattle.graph_model.specs.declared.{batches.NamedOp.NamedOp, changes.EdgeChange.EdgeChange}
 use Rattle.graph_model.specs.declared.batches.NamedOp.TheVariants.{Insert, Incr, Remove, Expire}
-use Rattle.graph_model.specs.declared.batches.Outcome.{Outcome}
-use Rattle.graph_model.specs.declared.batches.Outcome.TheVariants.{Updated, Overflow, Expired}
-use Rattle.graph_model.specs.declared.changes.EdgeChange.{EdgeChange}
+use Rattle.graph_model.specs.declared.batches.Outcome.{Outcome, TheVariants.Updated, TheVariants.Overflow, TheVariants.Expired}
 use Rattle.graph_model.specs.declared.changes.EdgeChange.TheVariants.{Insert as ToInsert, Incr as ToIncr, Remove as ToRemove}
 use Rattle.graph_model.proofs.Expiry.{fewer}
 use Rattle.batch_shards.specs.Groups.{told}

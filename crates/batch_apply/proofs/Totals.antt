@@ -1,20 +1,16 @@
 -- Sums over the sources of shards are sums over all sources.
-use Rattle.std.proofs.Common.{◌≡◌, ℕ, zero, suc, ◌+◌, ◌%◌, ◌<◌, ◌≤◌, ◌==◌, List, [], ◌∷◌, map, filter}
+use Rattle.std.proofs.Common.{◌≡◌, ℕ, zero, suc, ◌+◌, ◌%◌, ◌<◌, ◌≤◌, ◌==◌, List, [], ◌∷◌, map, filter, All}
 use Rattle.std.proofs.Common.{count_by, Bool, true, false, cond, not, ◌&&◌, refl, sym, ap, ap₂, ◌∙◌, arith}
-use Rattle.std.proofs.Common.{All}
 use Rattle.std.specs.List.{sum_by}
 use Rattle.std.proofs.lemmas.Bool.{eqb-true, eqb-false, false_from_ne_true}
-use Rattle.std.proofs.lemmas.List.Sums.{sum_by-cons}
-use Rattle.std.proofs.lemmas.List.Elements.{All-head, All-tail, All-cons, All-nil}
-use Rattle.graph_model.specs.Graph.{Graph}
-use Rattle.graph_model.specs.declared.batches.NamedOp.{NamedOp}
+use Rattle.std.proofs.lemmas.List.{Sums.sum_by-cons, Elements.All-head, Elements.All-tail, Elements.All-cons, Elements.All-nil}
+use Rattle.graph_model.specs.{Graph.Graph, declared.batches.NamedOp.NamedOp}
 use Rattle.block_layout.specs.Rows.{Shape, OpenBlock, untouched, taken_in, dropped_in, has_none}
 use Rattle.block_layout.specs.Batches.{Resolved, AtKey, InAll, resolved, shard_ops, sum_below, rows_all, rows_step, outcome_in}
 use Rattle.block_layout.specs.Batches.{outcomes_all}
 use Rattle.block_layout.proofs.ShardLaws.{shard_rows}
 use Rattle.batch_plan.specs.Shards.{acts, unsourced, IsShardOf}
-use Rattle.batch_shards.specs.Done.{steps_in}
-use Rattle.batch_shards.specs.declared.shard.Shard.{Shard}
+use Rattle.batch_shards.specs.{Done.steps_in, declared.shard.Shard.Shard}
 
 -- rows and outcomes don't depend on the sources' numbers beside the keys
 unsourced_rows : (r : Resolved) (rows : ℕ → List OpenBlock) → rows_step (unsourced r) rows ≡ rows_step r rows

@@ -2,23 +2,15 @@
 use Rattle.std.proofs.Common.{◌≡◌, ◌≢◌, ℕ, zero, suc, ◌+◌, ◌<◌, ◌≤◌, ◌%◌, ◌==◌, ◌||◌, true, false, cond, List, [], ◌∷◌, ◌++◌}
 use Rattle.std.proofs.Common.{length, length-append, get_or, map, filter, refl, sym, ap, ap₂, ◌∙◌, arith, subst, All, AllPairs}
 use Rattle.std.proofs.Common.{nat_eq, Bool}
-use Rattle.std.proofs.lemmas.List.Folds.{list_any-append}
-use Rattle.std.specs.Prelude.{slice_index}
-use Rattle.std.specs.List.{enumerate_from, list_any, sum_by}
-use Rattle.std.specs.declared.option.Option.{Option}
-use Rattle.std.specs.declared.option.Option.TheVariants.{None, Some}
-use Rattle.std.proofs.lemmas.Bool.{true≢false, eqb-true, eqb-false}
-use Rattle.std.proofs.lemmas.List.{map-append, get_or_append_left}
-use Rattle.std.proofs.lemmas.List.Sums.{sum_by_push}
+use Rattle.std.proofs.lemmas.List.{Folds.list_any-append, map-append, get_or_append_left, Sums.sum_by_push}
+use Rattle.std.specs.{Prelude.slice_index, List.enumerate_from, List.list_any, List.sum_by}
+use Rattle.std.specs.declared.option.Option.{Option, TheVariants.None, TheVariants.Some}
+use Rattle.std.proofs.lemmas.{Bool.true≢false, Bool.eqb-true, Bool.eqb-false, List.Quantifiers.all_pairs_push}
 use Rattle.std.proofs.lemmas.List.Elements.{All-head, All-tail, All-nil, All-cons, All-push, filter-append}
-use Rattle.std.proofs.lemmas.List.Quantifiers.{all_pairs_push}
 use Rattle.graph_model.specs.Graph.{Key}
 use Rattle.block_layout.specs.Batches.{Resolved, AtKey, InAll, IsPlaced, shard_of, is_in_shard, shard_ops}
 use Rattle.batch_shards.specs.Shards.{AreSteps, IsAct, IsPlace, key_at, resolved_at, resolved_in}
-use Rattle.batch_shards.specs.declared.shard.Act.{Act}
-use Rattle.batch_shards.specs.declared.shard.Act.TheVariants.{Edge, Expire}
-use Rattle.batch_shards.specs.declared.shard.Place.{Place}
-use Rattle.batch_shards.specs.declared.shard.Step.{Step}
+use Rattle.batch_shards.specs.declared.shard.{Act.Act, Act.TheVariants.Edge, Act.TheVariants.Expire, Place.Place, Step.Step}
 use Rattle.batch_plan.specs.Shards.{acts, unsourced, IsSourceBelow, AreShardSteps, with_source, with_op}
 
 no_more : {A : Type 0} (xs : List A) → xs ++ [] ≡ xs

@@ -1,16 +1,13 @@
 -- A plan's names are those that the batch rule leaves, and its refusals the batch rule's.
 use Rattle.std.proofs.Common.{◌≡◌, ◌∙◌, ◌+◌, ◌<◌, ◌≤◌, ℕ, zero, suc, List, [], ◌∷◌, ◌++◌, length, refl, ap, subst, arith}
 use Rattle.std.specs.List.{range_with_len, AllZip}
-use Rattle.graph_model.specs.Graph.{Graph}
-use Rattle.graph_model.specs.Step.{after, after_all}
-use Rattle.graph_model.specs.declared.batches.NamedOp.{NamedOp}
+use Rattle.graph_model.specs.{Graph.Graph, Step.after, Step.after_all, declared.batches.NamedOp.NamedOp}
 use Rattle.graph_model.specs.declared.batches.NamedOp.TheVariants.{Insert, Incr, Remove, Expire}
 use Rattle.block_layout.specs.Operations.{names_after, kinds_after}
 use Rattle.vertex_names.specs.Book.{Book}
 use Rattle.graph_version.specs.Kept.{vertex_book, kind_book}
 use Rattle.batch_plan.specs.Plan.{names_all, kinds_all, with_names, IsUnplanned}
-use Rattle.batch_plan.specs.Planned.{MeetsNeitherLimit, IsPlanRefusal}
-use Rattle.batch_plan.specs.declared.plans.PlanError.{PlanError}
+use Rattle.batch_plan.specs.{Planned.MeetsNeitherLimit, Planned.IsPlanRefusal, declared.plans.PlanError.PlanError}
 use Rattle.batch_plan.specs.declared.plans.PlanError.TheVariants.{NamesFull, KindsFull, OutOfMemory}
 
 one_names : (op : NamedOp) (g : Graph) → names_after op g.names ≡ (after op g).names

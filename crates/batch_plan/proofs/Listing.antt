@@ -2,9 +2,8 @@
 use Rattle.std.proofs.Common.{◌≡◌, ◌≢◌, ℕ, zero, suc, ◌+◌, ◌<◌, ◌≤◌, ◌%◌, ◌==◌, ◌||◌, Bool, true, false, cond, List, [], ◌∷◌, ◌++◌}
 use Rattle.std.proofs.Common.{length, map, take, get_or, refl, sym, ap, ◌∙◌, arith, subst, All, AllPairs, nat_eq, max}
 use Rattle.std.specs.List.{list_any, sum_by}
-use Rattle.std.proofs.lemmas.Bool.{true≢false, eqb-true}
+use Rattle.std.proofs.lemmas.{Bool.true≢false, Bool.eqb-true, List.Folds.list_any_none, List.Folds.list_any_at}
 use Rattle.std.proofs.lemmas.List.{append-nil, map-append, length-map, length-take-le, get_or-take, get_or-map}
-use Rattle.std.proofs.lemmas.List.Folds.{list_any_none, list_any_at}
 use Rattle.std.proofs.lemmas.List.Sums.{sum_by-cons, sum_by_push, length-filter, count_by-le-length}
 use Rattle.std.proofs.lemmas.List.Elements.{All-nil, All-head, All-tail, All-map, All-filter, All-weaker, filter_more, filter_passes}
 use Rattle.edge_block.specs.Slots.{BlockView, has_before}
@@ -12,12 +11,9 @@ use Rattle.block_layout.specs.Rows.{shape_of}
 use Rattle.block_layout.specs.Batches.{Resolved, AtKey, InAll, is_in_shard, shard_ops}
 use Rattle.batch_shards.specs.Shards.{IsAct, resolved_at, resolved_in}
 use Rattle.batch_shards.specs.Spending.{time_of, old_blocks, latest as latest_step}
-use Rattle.batch_shards.specs.declared.shard.Act.{Act}
-use Rattle.batch_shards.specs.declared.shard.Act.TheVariants.{Edge, Expire}
-use Rattle.batch_shards.specs.declared.shard.Step.{Step}
-use Rattle.batch_plan.specs.Shards.{acts, is_old_row, latest, AreShardSteps}
+use Rattle.batch_shards.specs.declared.shard.{Act.Act, Act.TheVariants.Edge, Act.TheVariants.Expire, Step.Step}
+use Rattle.batch_plan.specs.{Shards.acts, Shards.is_old_row, Shards.latest, Shards.AreShardSteps, declared.old.OldRow.OldRow}
 use Rattle.batch_plan.specs.OldRows.{AreOldRows, old_sources, own_rows, blocks_in}
-use Rattle.batch_plan.specs.declared.old.OldRow.{OldRow}
 use Rattle.batch_plan.proofs.Growth.{same_number, other_number}
 
 -- whether a source's row is one of these, and its old blocks, none where it isn't

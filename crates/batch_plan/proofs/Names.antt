@@ -1,20 +1,14 @@
 -- What names keep as more appear.
 use Rattle.std.proofs.Common.{drop, ◌≡◌, ℕ, ◌+◌, ◌≤◌, Bool, true, false, cond, not, ◌||◌, length-append, List, [], ◌∷◌, ◌++◌}
 use Rattle.std.proofs.Common.{length, IsTrue, Option, Some, None, Result, Ok, Err, subst, refl, sym, ap, ◌∙◌, arith, true≢false}
-use Rattle.std.proofs.Common.{if◌then◌else◌}
-use Rattle.std.specs.Result.{IsErrAnd, IfErr}
-use Rattle.std.specs.Str.{bytes_eq}
-use Rattle.std.proofs.lemmas.Slice.Eq.{bytes_eq-Decides}
-use Rattle.graph_model.specs.Step.{with_name, number_of}
+use Rattle.std.proofs.{Common.if◌then◌else◌, lemmas.Slice.Eq.bytes_eq-Decides}
+use Rattle.std.specs.{Result.IsErrAnd, Result.IfErr, Str.bytes_eq}
+use Rattle.graph_model.specs.{Step.with_name, Step.number_of, Answer.is_listed, declared.batches.NamedOp.NamedOp}
 use Rattle.block_layout.specs.Operations.{names_after, kinds_after}
-use Rattle.graph_model.specs.Answer.{is_listed}
-use Rattle.graph_model.specs.declared.batches.NamedOp.{NamedOp}
 use Rattle.graph_model.specs.declared.batches.NamedOp.TheVariants.{Insert, Incr, Remove, Expire}
 use Rattle.vertex_names.specs.Book.{Book}
-use Rattle.vertex_names.specs.declared.book.AddError.{AddError}
-use Rattle.vertex_names.specs.declared.book.AddError.TheVariants.{NamesFull, OutOfMemory}
-use Rattle.batch_plan.specs.declared.resolve.Ends.{Ends}
-use Rattle.batch_plan.specs.Plan.{known, names_all, kinds_all, IsRefusal}
+use Rattle.vertex_names.specs.declared.book.AddError.{AddError, TheVariants.NamesFull, TheVariants.OutOfMemory}
+use Rattle.batch_plan.specs.{declared.resolve.Ends.Ends, Plan.known, Plan.names_all, Plan.kinds_all, Plan.IsRefusal}
 
 -- a listed name is listed among more, with its number
 listed_next : (name x : List ℕ) (names more : List (List ℕ)) (found : Bool)

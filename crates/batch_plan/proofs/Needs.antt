@@ -3,12 +3,10 @@ use Rattle.std.proofs.Common.{◌≡◌, ◌≢◌, ℕ, zero, suc, ◌+◌, ◌
 use Rattle.std.proofs.Common.{◌||◌, eqb, get_or, length, length-append, min, max, refl, sym, ap, ap₂, ◌∙◌, arith, subst, All, AllPairs, Option, Some, None}
 use Rattle.std.specs.Prelude.{filter, not}
 use Rattle.std.specs.List.{IsDistinct, sum_by, list_all, list_any, enumerate_from, range_with_len, AllZip}
-use Rattle.std.proofs.lemmas.Bool.{true≢false, eqb-true, eqb-false}
-use Rattle.std.proofs.lemmas.List.{length-map}
+use Rattle.std.proofs.lemmas.{Bool.true≢false, Bool.eqb-true, Bool.eqb-false, List.length-map}
 use Rattle.std.proofs.lemmas.List.Sums.{sum_by-cons, sum_by-le, sum_by-le-sum_by, count_by-le-length, length-filter}
 use Rattle.std.proofs.lemmas.List.Elements.{All-nil, All-head, All-tail, All-append, All-map, All-weaker}
-use Rattle.std.proofs.lemmas.Map.Keys.{IsDistinct-from_apart}
-use Rattle.std.proofs.lemmas.Map.Steps.{length-le_from_distinct_below}
+use Rattle.std.proofs.lemmas.Map.{Keys.IsDistinct-from_apart, Steps.length-le_from_distinct_below}
 use Rattle.graph_model.specs.declared.batches.NamedOp.{NamedOp}
 use Rattle.edge_block.specs.Slots.{BlockView, Slot, has_before, is_free, edges_in, entry_in, entries_of}
 use Rattle.block_layout.specs.Operations.{Parts, OfEdge, OfAll, parts_of, names_after, kinds_after}
@@ -17,17 +15,12 @@ use Rattle.row_pages.specs.Rows.{row_of, blocks_of}
 use Rattle.graph_version.specs.Versions.{VersionView, IsBlockOf, IsVersion}
 use Rattle.graph_version.specs.Edges.{edge_from, edges_in_block, edges_in_blocks}
 use Rattle.graph_version.proofs.Few.{count_is_total, few_total}
-use Rattle.batch_shards.specs.Done.{layout_by, sources_in}
-use Rattle.batch_shards.specs.Groups.{is_expiry}
+use Rattle.batch_shards.specs.{Done.layout_by, Done.sources_in, Groups.is_expiry}
 use Rattle.batch_shards.specs.Spending.{old_blocks, needed, latest as latest_step}
-use Rattle.batch_shards.specs.declared.shard.Shard.{Shard}
-use Rattle.batch_shards.specs.declared.shard.Step.{Step}
-use Rattle.batch_plan.specs.Shards.{AreShardSteps, IsShardOf, latest}
+use Rattle.batch_shards.specs.declared.shard.{Shard.Shard, Step.Step}
+use Rattle.batch_plan.specs.{Shards.AreShardSteps, Shards.IsShardOf, Shards.latest, declared.old.OldRow.OldRow}
 use Rattle.batch_plan.specs.OldRows.{AreOldRows, old_sources, time_in, expiry_time}
-use Rattle.batch_plan.specs.declared.old.OldRow.{OldRow}
-use Rattle.batch_plan.proofs.Growth.{other_number}
-use Rattle.batch_plan.proofs.OldRows.{old_is_within}
-use Rattle.batch_plan.proofs.Listing.{pairs_head, pairs_tail}
+use Rattle.batch_plan.proofs.{Growth.other_number, OldRows.old_is_within, Listing.pairs_head, Listing.pairs_tail}
 
 sum_add : (f g : ℕ → ℕ) (xs : List ℕ) → sum_by (λ x. f x + g x) xs ≡ sum_by f xs + sum_by g xs
 sum_add f g [] = refl

@@ -1,24 +1,17 @@
 -- The rows from which a batch's expiries may take edges.
 use Rattle.std.proofs.Common.{◌≡◌, ◌≢◌, ℕ, ◌+◌, ◌<◌, ◌==◌, ◌||◌, Bool, true, false, cond, List, [], ◌∷◌, ◌++◌, map}
 use Rattle.std.proofs.Common.{length, get_or, refl, sym, ap, ap₂, ◌∙◌, arith, subst, All, AllPairs, Option, Some, None, ltb, nat_eq}
-use Rattle.std.specs.List.{list_any}
-use Rattle.std.specs.Option.{option_or, is_some}
-use Rattle.std.specs.FinMap.{get}
+use Rattle.std.specs.{List.list_any, Option.option_or, Option.is_some, FinMap.get}
 use Rattle.std.proofs.lemmas.Bool.{true≢false, eqb-false, true_from_ne_false, le-ltb, ltb-true, ltb-false}
-use Rattle.std.proofs.lemmas.List.{length-map, map-append, get_or-map}
-use Rattle.std.proofs.lemmas.List.Folds.{list_any-append}
+use Rattle.std.proofs.lemmas.List.{length-map, map-append, get_or-map, Folds.list_any-append, Quantifiers.all_pairs_push}
 use Rattle.std.proofs.lemmas.List.Elements.{All-nil, All-push, All-weaker}
-use Rattle.std.proofs.lemmas.List.Quantifiers.{all_pairs_push}
 use Rattle.graph_model.specs.Graph.{Graph, Key, Stamp}
 use Rattle.edge_block.specs.Slots.{BlockView, Slot, has_before, stamp_at}
-use Rattle.block_layout.specs.Rows.{Shape, shape_of, block_at, row_at}
-use Rattle.block_layout.specs.Batches.{IsWithin, IsLayoutOf}
+use Rattle.block_layout.specs.{Rows.Shape, Rows.shape_of, Rows.block_at, Rows.row_at, Batches.IsWithin, Batches.IsLayoutOf}
 use Rattle.row_pages.specs.Rows.{row_of}
 use Rattle.graph_version.specs.Versions.{VersionView, content, layout_of, IsVersion}
 use Rattle.batch_shards.specs.Spending.{old_blocks}
-use Rattle.batch_plan.specs.Shards.{is_old_row}
-use Rattle.batch_plan.specs.OldRows.{AreOldRows, old_sources}
-use Rattle.batch_plan.specs.declared.old.OldRow.{OldRow}
+use Rattle.batch_plan.specs.{Shards.is_old_row, OldRows.AreOldRows, OldRows.old_sources, declared.old.OldRow.OldRow}
 use Rattle.batch_plan.proofs.Listing.{none_old_blocks}
 
 -- nothing is from before the time 0

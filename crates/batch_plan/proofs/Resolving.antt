@@ -1,15 +1,11 @@
 -- Both passes together give the batch's operations with the numbers of their names.
 use Rattle.std.proofs.Common.{◌≡◌, ℕ, List, [], ◌∷◌, length, map, Bool, true, false, cond, ◌&&◌, refl, sym, ap, subst, All}
 use Rattle.std.proofs.Common.{Option, Some, None, arith}
-use Rattle.graph_model.specs.Graph.{Key}
-use Rattle.graph_model.specs.Step.{number_of}
-use Rattle.graph_model.specs.declared.batches.NamedOp.{NamedOp}
+use Rattle.graph_model.specs.{Graph.Key, Step.number_of, declared.batches.NamedOp.NamedOp}
 use Rattle.block_layout.specs.Operations.{Parts, OfEdge, OfAll, parts_of, names_after, kinds_after}
 use Rattle.block_layout.specs.Batches.{Resolved, AtKey, IsPlaced, is_known, resolve_parts, resolved}
-use Rattle.std.proofs.lemmas.List.Elements.{All-nil, All-cons}
-use Rattle.batch_plan.specs.declared.resolve.Ends.{Ends}
-use Rattle.std.proofs.lemmas.List.{length-map}
-use Rattle.batch_plan.specs.declared.resolve.ResolvedOp.{ResolvedOp}
+use Rattle.std.proofs.lemmas.List.{Elements.All-nil, Elements.All-cons, length-map}
+use Rattle.batch_plan.specs.declared.resolve.{Ends.Ends, ResolvedOp.ResolvedOp}
 use Rattle.batch_plan.specs.Plan.{known, shown, ends_by, ends_all, key_from, with_kind, with_kinds}
 
 key_cases : (a b c : Bool) (k s t : ℕ)

@@ -1,21 +1,14 @@
 -- An operation's source is one of the vertices that the batch leaves.
 use Rattle.std.proofs.Common.{◌≡◌, ◌<◌, ℕ, List, [], ◌∷◌, length, ◌≤◌, Bool, true, false, cond, ◌&&◌, refl, ap, subst, All}
-use Rattle.std.proofs.Common.{Some, None, arith}
-use Rattle.std.proofs.lemmas.List.Elements.{All-nil, All-cons}
-use Rattle.graph_model.specs.Graph.{Graph, Key}
-use Rattle.graph_model.specs.Step.{after_all, key_in}
-use Rattle.graph_model.specs.declared.batches.NamedOp.{NamedOp}
+use Rattle.std.proofs.{Common.Some, Common.None, Common.arith, lemmas.List.Elements.All-nil, lemmas.List.Elements.All-cons}
+use Rattle.graph_model.specs.{Graph.Graph, Graph.Key, Step.after_all, Step.key_in, declared.batches.NamedOp.NamedOp}
 use Rattle.graph_model.proofs.NameLists.{number_of-lt}
 use Rattle.block_layout.specs.Rows.{Shape}
 use Rattle.block_layout.specs.Batches.{is_known, resolve_parts, resolved, IsWithin, IsLayoutOf}
 use Rattle.block_layout.specs.Operations.{Parts, OfEdge, OfAll, parts_of, names_after, kinds_after}
-use Rattle.batch_shards.specs.Done.{sources_in}
-use Rattle.batch_shards.specs.declared.shard.Shard.{Shard}
-use Rattle.batch_plan.specs.Plan.{names_all}
-use Rattle.batch_plan.specs.Shards.{IsSourceBelow, IsShardOf, latest}
-use Rattle.batch_plan.proofs.OldRows.{old_within}
-use Rattle.batch_plan.proofs.Names.{no_fewer_all}
-use Rattle.batch_plan.proofs.Leaving.{names_left}
+use Rattle.batch_shards.specs.{Done.sources_in, declared.shard.Shard.Shard}
+use Rattle.batch_plan.specs.{Plan.names_all, Shards.IsSourceBelow, Shards.IsShardOf, Shards.latest}
+use Rattle.batch_plan.proofs.{OldRows.old_within, Names.no_fewer_all, Leaving.names_left}
 
 below_if : (a b c : Bool) (q k : Key) (n : ℕ) → cond (a && (b && c)) (Some q) None ≡ Some k → (b ≡ true → q.source < n)
     → k.source < n

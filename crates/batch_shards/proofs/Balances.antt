@@ -7,12 +7,9 @@ use Rattle.edge_block.specs.Slots.{BlockView}
 use Rattle.block_layout.specs.Rows.{shape_of, has_none}
 use Rattle.batch_shards.specs.RowBlocks.{block_of, had_here, had_in, own_here, own_in}
 use Rattle.batch_shards.specs.Closing.{after_here, stays_here, written_here, dropped_here, unused_here, after_of, stays_of}
-use Rattle.batch_shards.specs.Closing.{written_of, dropped_of, unused_of, stays_all, written_all}
-use Rattle.batch_shards.specs.Closing.{dropped_all, unused_all}
-use Rattle.batch_shards.specs.Shards.{had_all}
-use Rattle.batch_shards.specs.Shards.{own_all}
-use Rattle.batch_shards.specs.declared.row_blocks.RowBlock.{RowBlock}
-use Rattle.batch_shards.specs.declared.shard.OpenRow.{OpenRow}
+use Rattle.batch_shards.specs.Closing.{written_of, dropped_of, unused_of, stays_all, written_all, dropped_all, unused_all}
+use Rattle.batch_shards.specs.Shards.{had_all, own_all}
+use Rattle.batch_shards.specs.declared.{row_blocks.RowBlock.RowBlock, shard.OpenRow.OpenRow}
 use Rattle.batch_shards.proofs.Places.{count_by-append}
 
 -- what balances in each element balances in the whole list

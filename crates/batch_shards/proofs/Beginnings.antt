@@ -1,36 +1,20 @@
 -- Before a shard's first row is done: the rows as they are opened, no outcome yet, and the blocks that are needed.
-use Rattle.std.proofs.Common.{◌≡◌, ℕ, ◌≤◌, true, false, not, List, [], ◌∷◌}
-use Rattle.std.proofs.Common.{length, get_or}
+use Rattle.std.proofs.Common.{◌≡◌, ℕ, ◌≤◌, true, false, not, List, [], ◌∷◌, length, get_or, take}
 use Rattle.std.proofs.Common.{map, refl, sym, ap, ◌∙◌, arith, subst, All}
-use Rattle.std.proofs.Common.{take}
-use Rattle.std.specs.declared.option.Option.TheVariants.{None, Some}
-use Rattle.std.specs.declared.sync.Arc.{Arc}
-use Rattle.std.specs.declared.alloc.Global.{Global}
+use Rattle.std.specs.declared.{option.Option.TheVariants.None, option.Option.TheVariants.Some, sync.Arc.Arc, alloc.Global.Global}
 use Rattle.std.proofs.lemmas.Bool.{false≢true, le-ltb}
-use Rattle.std.proofs.lemmas.List.{get_or-map, get_or_default, length-map}
+use Rattle.std.proofs.lemmas.List.{get_or-map, get_or_default, length-map, Elements.All-nil}
 use Rattle.graph_model.specs.declared.batches.Outcome.{Outcome}
 use Rattle.block_layout.specs.Batches.{opened, rows_all, outcome_in}
-use Rattle.std.proofs.lemmas.List.Elements.{All-nil}
-use Rattle.edge_block.specs.declared.blocks.Block.{Block}
-use Rattle.edge_block.specs.Slots.{BlockView}
+use Rattle.edge_block.specs.{declared.blocks.Block.Block, Slots.BlockView}
 use Rattle.block_layout.specs.Rows.{OpenBlock, shape_of, untouched}
-use Rattle.batch_shards.specs.RowBlocks.{block_of, blocks_of, kept_of, opens, had_in}
-use Rattle.batch_shards.specs.RowBlocks.{numbers_of, IsOf}
-use Rattle.batch_shards.specs.Closing.{row_values}
-use Rattle.batch_shards.specs.Shards.{resolved_at, resolved_in}
-use Rattle.batch_shards.specs.Groups.{is_past, is_expiry, told, none_told}
-use Rattle.batch_shards.specs.Spending.{needed, needed_past}
-use Rattle.batch_shards.specs.declared.shard.Act.{Act}
-use Rattle.batch_shards.specs.declared.shard.Act.TheVariants.{Edge, Expire}
-use Rattle.batch_shards.specs.Progress.{AreOutcomes, AreRowsDone}
-use Rattle.batch_shards.specs.declared.shard.Step.{Step}
+use Rattle.batch_shards.specs.RowBlocks.{block_of, blocks_of, kept_of, opens, had_in, numbers_of, IsOf}
+use Rattle.batch_shards.specs.{Closing.row_values, Shards.resolved_at, Shards.resolved_in, Spending.needed, Spending.needed_past}
+use Rattle.batch_shards.specs.{Groups.is_past, Groups.is_expiry, Groups.told, Groups.none_told, Done.layout_by}
+use Rattle.batch_shards.specs.declared.shard.{Act.Act, Act.TheVariants.Edge, Act.TheVariants.Expire, Step.Step, OpenRow.OpenRow}
+use Rattle.batch_shards.specs.{Progress.AreOutcomes, Progress.AreRowsDone, declared.shard.ShardDone.ShardDone}
 use Rattle.graph_version.specs.Versions.{IsBlockOf}
-use Rattle.batch_shards.specs.Done.{layout_by}
-use Rattle.batch_shards.specs.declared.shard.ShardDone.{ShardDone}
-use Rattle.batch_shards.specs.declared.shard.OpenRow.{OpenRow}
-use Rattle.batch_shards.proofs.ShardSteps.{first_step}
-use Rattle.batch_shards.proofs.SourceSteps.{outcome_of}
-use Rattle.batch_shards.proofs.Expiring.{count_wider}
+use Rattle.batch_shards.proofs.{ShardSteps.first_step, SourceSteps.outcome_of, Expiring.count_wider}
 
 -- the row that is opened
 pub kept_all : (bs : List (Arc Block Global)) → map kept_of bs ≡ map untouched (map shape_of (blocks_of bs))

@@ -1,26 +1,16 @@
 -- What closed rows are: their layout, how many blocks they took and dropped, and whose blocks they have.
-use Rattle.std.proofs.Common.{◌≡◌, ℕ, ◌+◌, Bool, true, false, cond, not, ◌&&◌, ◌||◌, List, [], ◌∷◌, ◌++◌}
-use Rattle.std.proofs.Common.{length}
+use Rattle.std.proofs.Common.{◌≡◌, ℕ, ◌+◌, Bool, true, false, cond, not, ◌&&◌, ◌||◌, List, [], ◌∷◌, ◌++◌, length}
 use Rattle.std.proofs.Common.{map, filter, flat_map, count_by, refl, sym, ap, ap₂, ◌∙◌, All, length-append}
-use Rattle.std.proofs.lemmas.List.Sums.{sum_by-cons}
-use Rattle.std.specs.Option.{is_some, option_to_list}
-use Rattle.std.specs.declared.option.Option.{Option}
-use Rattle.std.specs.declared.option.Option.TheVariants.{None, Some}
-use Rattle.std.specs.declared.sync.Arc.{Arc}
-use Rattle.std.specs.declared.alloc.Global.{Global}
-use Rattle.std.proofs.lemmas.List.Elements.{All-head, All-tail, All-cons, All-nil}
-use Rattle.edge_block.specs.declared.blocks.Block.{Block}
-use Rattle.edge_block.specs.Slots.{BlockView}
+use Rattle.std.proofs.lemmas.List.{Sums.sum_by-cons, Elements.All-head, Elements.All-tail, Elements.All-cons, Elements.All-nil}
+use Rattle.std.specs.{Option.is_some, Option.option_to_list, declared.alloc.Global.Global}
+use Rattle.std.specs.declared.{option.Option.Option, option.Option.TheVariants.None, option.Option.TheVariants.Some, sync.Arc.Arc}
+use Rattle.edge_block.specs.{declared.blocks.Block.Block, Slots.BlockView}
 use Rattle.block_layout.specs.Rows.{OpenBlock, shape_of, shapes, has_none, is_kept, row_end, taken_in, dropped_in}
-use Rattle.batch_shards.specs.RowBlocks.{block_of, open_of, opens, had_here, had_in}
-use Rattle.batch_shards.specs.RowBlocks.{IsOf}
-use Rattle.batch_shards.specs.Closing.{written_here, dropped_here, after_of}
-use Rattle.batch_shards.specs.Closing.{written_of, dropped_of, closed_rows}
-use Rattle.batch_shards.specs.Shards.{AreOpen, AreOwn, sources_of, had_all}
+use Rattle.batch_shards.specs.RowBlocks.{block_of, open_of, opens, had_here, had_in, IsOf}
+use Rattle.batch_shards.specs.Closing.{written_here, dropped_here, after_of, written_of, dropped_of, closed_rows}
+use Rattle.batch_shards.specs.{Shards.AreOpen, Shards.AreOwn, Shards.sources_of, Shards.had_all, Done.sum_of}
 use Rattle.graph_version.specs.Versions.{IsBlockOf}
-use Rattle.batch_shards.specs.Done.{sum_of}
-use Rattle.batch_shards.specs.declared.row_blocks.RowBlock.{RowBlock}
-use Rattle.batch_shards.specs.declared.shard.OpenRow.{OpenRow}
+use Rattle.batch_shards.specs.declared.{row_blocks.RowBlock.RowBlock, shard.OpenRow.OpenRow}
 
 -- the layout at the batch's end
 pub after_end : (row : List RowBlock) → map shape_of (after_of row) ≡ row_end (opens row)

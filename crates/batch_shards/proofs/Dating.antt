@@ -1,25 +1,18 @@
 -- The births of a closed row's blocks.
 use Rattle.std.proofs.Common.{◌≡◌, ℕ, Bool, true, false, cond, not, ◌&&◌, ◌||◌, ◌==◌, List, [], ◌∷◌, ◌++◌, map, flat_map, All}
 use Rattle.std.proofs.Common.{refl, sym, ap, ap₂, ◌∙◌, subst}
-use Rattle.std.specs.Prelude.{if◌then◌else◌}
-use Rattle.std.specs.Option.{is_some, option_to_list}
-use Rattle.std.specs.declared.option.Option.{Option}
-use Rattle.std.specs.declared.option.Option.TheVariants.{None, Some}
-use Rattle.std.specs.declared.sync.Arc.{Arc}
-use Rattle.std.specs.declared.alloc.Global.{Global}
+use Rattle.std.specs.{Prelude.if◌then◌else◌, Option.is_some, Option.option_to_list, declared.alloc.Global.Global}
+use Rattle.std.specs.declared.{option.Option.Option, option.Option.TheVariants.None, option.Option.TheVariants.Some, sync.Arc.Arc}
 use Rattle.std.proofs.lemmas.Bool.{eq-eqb, or_right}
-use Rattle.std.proofs.lemmas.List.{map-append}
-use Rattle.std.proofs.lemmas.List.Elements.{All-head, All-tail, All-cons, All-nil}
-use Rattle.edge_block.specs.declared.blocks.Block.{Block}
-use Rattle.edge_block.specs.Slots.{BlockView}
+use Rattle.std.proofs.lemmas.List.{map-append, Elements.All-head, Elements.All-tail, Elements.All-cons, Elements.All-nil}
+use Rattle.edge_block.specs.{declared.blocks.Block.Block, Slots.BlockView}
 use Rattle.graph_version.specs.Versions.{is_in}
 use Rattle.block_layout.specs.Rows.{OpenBlock, shape_of, has_none}
 use Rattle.batch_shards.specs.RowBlocks.{block_of, opens, had_here, had_in}
 use Rattle.batch_shards.specs.Closing.{written_here, after_of, written_of, dropped_of, closed_rows, written_all, dropped_all}
 use Rattle.batch_shards.specs.Shards.{AreOpen, sources_of}
 use Rattle.batch_shards.specs.Births.{first_birth, left_over, births_end, births_dropped}
-use Rattle.batch_shards.specs.declared.row_blocks.RowBlock.{RowBlock}
-use Rattle.batch_shards.specs.declared.shard.OpenRow.{OpenRow}
+use Rattle.batch_shards.specs.declared.{row_blocks.RowBlock.RowBlock, shard.OpenRow.OpenRow}
 
 left_all : {A : Type 0} (P : A → Type 0) (xs ys : List A) → All P (xs ++ ys) → All P xs
 left_all P [] ys all = All-nil P

@@ -1,38 +1,21 @@
 -- What a shard leaves, from the rows that it has opened, changed and closed.
-use Rattle.std.proofs.Common.{◌≡◌, ℕ, zero, suc, ◌+◌, ◌<◌, false, not, List, [], ◌∷◌, ◌++◌}
-use Rattle.std.proofs.Common.{length, get_or}
+use Rattle.std.proofs.Common.{◌≡◌, ℕ, zero, suc, ◌+◌, ◌<◌, false, not, List, [], ◌∷◌, ◌++◌, length, get_or, take}
 use Rattle.std.proofs.Common.{map, flat_map, count_by, zip, refl, sym, ap, ap₂, ◌∙◌, arith, subst, All}
-use Rattle.std.proofs.Common.{take}
-use Rattle.std.specs.declared.option.Option.TheVariants.{None, Some}
-use Rattle.std.specs.declared.sync.Arc.{Arc}
-use Rattle.std.specs.declared.alloc.Global.{Global}
-use Rattle.std.proofs.lemmas.Bool.{lt-ltb}
-use Rattle.std.proofs.lemmas.List.{get_or-map, length-map, take_all}
-use Rattle.graph_model.specs.declared.batches.Outcome.{Outcome}
-use Rattle.graph_model.specs.declared.batches.Outcome.TheVariants.{Absent}
-use Rattle.block_layout.specs.Batches.{opened, outcomes_all}
-use Rattle.edge_block.specs.declared.blocks.Block.{Block}
-use Rattle.edge_block.specs.Slots.{BlockView}
-use Rattle.block_layout.specs.Rows.{shape_of, row_end, taken_in, dropped_in}
-use Rattle.batch_shards.specs.RowBlocks.{block_of, blocks_of}
-use Rattle.batch_shards.specs.RowBlocks.{numbers_of}
-use Rattle.batch_shards.specs.Closing.{written_here, dropped_here}
-use Rattle.batch_shards.specs.Closing.{closed_rows, row_values, stays_all, written_all}
-use Rattle.batch_shards.specs.Closing.{dropped_all, unused_all}
+use Rattle.std.specs.declared.{option.Option.TheVariants.None, option.Option.TheVariants.Some, sync.Arc.Arc, alloc.Global.Global}
+use Rattle.std.proofs.lemmas.{Bool.lt-ltb, List.get_or-map, List.length-map, List.take_all}
+use Rattle.graph_model.specs.declared.batches.Outcome.{Outcome, TheVariants.Absent}
+use Rattle.block_layout.specs.{Batches.opened, Batches.outcomes_all, Rows.shape_of, Rows.row_end, Rows.taken_in, Rows.dropped_in}
+use Rattle.edge_block.specs.{declared.blocks.Block.Block, Slots.BlockView}
+use Rattle.batch_shards.specs.RowBlocks.{block_of, blocks_of, numbers_of}
+use Rattle.batch_shards.specs.Closing.{written_here, dropped_here, closed_rows, row_values, stays_all, written_all}
+use Rattle.batch_shards.specs.{Closing.dropped_all, Closing.unused_all, Groups.is_past, Groups.told, Groups.outcome_over}
 use Rattle.batch_shards.specs.Shards.{IsAct, AreSteps, resolved_at, resolved_in, sources_of, had_all}
-use Rattle.batch_shards.specs.Groups.{is_past, told, outcome_over}
-use Rattle.batch_shards.specs.declared.shard.Act.{Act}
-use Rattle.batch_shards.specs.declared.shard.Act.TheVariants.{Edge, Expire}
-use Rattle.batch_shards.specs.Progress.{AreOutcomes, AreRowsDone}
-use Rattle.batch_shards.specs.declared.shard.Step.{Step}
+use Rattle.batch_shards.specs.declared.shard.{Act.Act, Act.TheVariants.Edge, Act.TheVariants.Expire, Step.Step, Shard.Shard}
+use Rattle.batch_shards.specs.{Progress.AreOutcomes, Progress.AreRowsDone, Births.births_end, Births.births_dropped}
 use Rattle.graph_version.specs.Versions.{IsBlockOf, is_in}
-use Rattle.batch_shards.specs.Births.{births_end, births_dropped}
-use Rattle.batch_shards.proofs.Dating.{all_births, all_dropped, written_births}
+use Rattle.batch_shards.proofs.{Dating.all_births, Dating.all_dropped, Dating.written_births, Places.count_by-append}
 use Rattle.batch_shards.specs.Done.{AreBlockRows, IsShardDone, sum_of, layout_by, rows_by, sources_in}
-use Rattle.batch_shards.specs.declared.shard.Shard.{Shard}
-use Rattle.batch_shards.specs.declared.shard.ShardDone.{ShardDone}
-use Rattle.batch_shards.specs.declared.shard.OpenRow.{OpenRow}
-use Rattle.batch_shards.proofs.Places.{count_by-append}
+use Rattle.batch_shards.specs.declared.shard.{ShardDone.ShardDone, OpenRow.OpenRow}
 use Rattle.batch_shards.proofs.ShardSteps.{first_step, length-outcomes_all}
 use Rattle.batch_shards.proofs.Balances.{all_before, all_after, all_numbers}
 use Rattle.batch_shards.proofs.Closed.{length-written, length-dropped, sum_open, same_sources, pieces_closed, all_layout}

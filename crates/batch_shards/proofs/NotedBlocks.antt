@@ -1,23 +1,16 @@
 -- The notes of a block's targets, edge by edge as it lends them.
-use Rattle.std.proofs.Common.{◌≡◌, ℕ, ◌<◌, ◌==◌, Bool, true, false, List, []}
+use Rattle.std.proofs.Common.{◌≡◌, ℕ, ◌<◌, ◌==◌, Bool, true, false, List, [], inl, inr, arith, ◌||◌, not}
 use Rattle.std.proofs.Common.{◌∷◌, ◌++◌, length, get_or, set, map, refl, sym, ap, ◌∙◌}
-use Rattle.std.proofs.Common.{inl, inr, arith, ◌||◌, not}
-use Rattle.std.specs.Prelude.{filter, All, nat_lt, nat_le, ◌^◌, ◌-◌}
-use Rattle.std.specs.List.{list_any}
-use Rattle.std.specs.declared.option.Option.{Option}
-use Rattle.std.specs.declared.option.Option.TheVariants.{None, Some}
-use Rattle.std.specs.declared.vec.Vec.{Vec}
+use Rattle.std.specs.{Prelude.filter, Prelude.All, Prelude.nat_lt, Prelude.nat_le, Prelude.◌^◌, Prelude.◌-◌, List.list_any}
+use Rattle.std.specs.declared.{option.Option.Option, option.Option.TheVariants.None, option.Option.TheVariants.Some, vec.Vec.Vec}
 use Rattle.std.specs.declared.alloc.Global.{Global}
 use Rattle.std.proofs.lemmas.Bool.{false≢true, eqb-true, eqb-false, eq-eqb, or_cases, or_left, or_right, le-leb, and_from}
-use Rattle.std.proofs.lemmas.List.Elements.{All-head, All-tail}
-use Rattle.graph_model.specs.View.{in_view}
-use Rattle.graph_model.specs.declared.ids.Filter.{Filter}
+use Rattle.std.proofs.lemmas.List.{Elements.All-head, Elements.All-tail, get_or-map, get_or-set_same, get_or-set_other, map-set}
+use Rattle.graph_model.specs.{View.in_view, declared.ids.Filter.Filter}
 use Rattle.edge_block.specs.Slots.{Slot, BlockView, holds, edges_in, entry_in, IsSlot}
 use Rattle.edge_block.specs.Lending.{LentEdge, lent_of}
 use Rattle.edge_block.proofs.SlotLaws.{target_of_edge}
-use Rattle.std.proofs.lemmas.List.{get_or-map, get_or-set_same, get_or-set_other, map-set}
-use Rattle.std.proofs.lemmas.List.Folds.{list_any-append}
-use Rattle.std.proofs.Math.ListN.{length-set}
+use Rattle.std.proofs.{lemmas.List.Folds.list_any-append, Math.ListN.length-set}
 use Rattle.batch_shards.proofs.ShardSteps.{same_number}
 use Rattle.batch_shards.specs.Notes.{may_stand, list_of, places_in, stands, HasMore}
 use Rattle.batch_shards.specs.declared.notes.Notes.{Notes}

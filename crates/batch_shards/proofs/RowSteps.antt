@@ -1,18 +1,12 @@
 -- One operation on a row of the program's blocks.
 use Rattle.std.proofs.Common.{◌≡◌, ℕ, ◌<◌, ◌==◌, Bool, true, false, cond, List, [], ◌∷◌, ◌++◌, length, get_or, set, flat_map}
 use Rattle.std.proofs.Common.{refl, sym, ap, ◌∙◌, arith, rules, w64, FitsSigned, ℤ, subst, All}
-use Rattle.std.proofs.lemmas.List.{map-append}
-use Rattle.std.specs.List.{list_any, position}
-use Rattle.std.specs.Option.{is_some, option_or}
-use Rattle.std.specs.declared.option.Option.{Option}
-use Rattle.std.specs.declared.option.Option.TheVariants.{None, Some}
+use Rattle.std.proofs.lemmas.List.{map-append, Elements.All-head, Elements.All-tail, Quantifiers.position-Some}
+use Rattle.std.specs.{List.list_any, List.position, Option.is_some, Option.option_or}
+use Rattle.std.specs.declared.option.Option.{Option, TheVariants.None, TheVariants.Some}
 use Rattle.std.proofs.lemmas.Bool.{false≢true, and_parts}
-use Rattle.std.proofs.lemmas.List.Elements.{All-head, All-tail}
-use Rattle.std.proofs.lemmas.List.Quantifiers.{position-Some}
-use Rattle.graph_model.specs.Graph.{Stamp, IsWeight, IsTime}
-use Rattle.graph_model.specs.Step.{stamp_after, outcome_at}
-use Rattle.graph_model.specs.declared.changes.EdgeChange.{EdgeChange}
-use Rattle.graph_model.specs.declared.changes.EdgeChange.TheVariants.{Insert, Incr, Remove}
+use Rattle.graph_model.specs.{Graph.Stamp, Graph.IsWeight, Graph.IsTime, Step.stamp_after, Step.outcome_at}
+use Rattle.graph_model.specs.declared.changes.EdgeChange.{EdgeChange, TheVariants.Insert, TheVariants.Incr, TheVariants.Remove}
 use Rattle.edge_block.proofs.Entries.{list_any-holds}
 use Rattle.edge_block.specs.Slots.{Slot, holds, stamp_at, is_free, put_slot, has_room_for, IsSlot, first_some, at_first}
 use Rattle.block_layout.specs.Rows.{OpenBlock, has_edge, has_room, open_at, edge_at, touch, touches, put_edge, set_edge}

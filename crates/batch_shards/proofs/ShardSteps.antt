@@ -1,16 +1,12 @@
 -- The operations of a shard, one after another.
 use Rattle.std.proofs.Common.{◌≡◌, ◌≢◌, ℕ, suc, ◌+◌, ◌<◌, ◌≤◌, ◌==◌, Bool, true, false, List, [], ◌∷◌, ◌++◌, length}
-use Rattle.std.proofs.Common.{get_or, refl, sym, ap, ◌∙◌, arith, AllPairs}
-use Rattle.std.proofs.Common.{take, ap₂, ltb}
+use Rattle.std.proofs.Common.{get_or, refl, sym, ap, ◌∙◌, arith, AllPairs, take, ap₂, ltb}
 use Rattle.std.proofs.lemmas.Bool.{true≢false, false≢true, eqb-true, false_from_ne_true, ltb-true, ltb-false}
 use Rattle.std.proofs.lemmas.List.{map-append, take_more}
-use Rattle.block_layout.specs.Rows.{OpenBlock}
-use Rattle.block_layout.specs.Batches.{Resolved, rows_step, rows_all, outcomes_all}
+use Rattle.block_layout.specs.{Rows.OpenBlock, Batches.Resolved, Batches.rows_step, Batches.rows_all, Batches.outcomes_all}
 use Rattle.batch_shards.specs.Shards.{resolved_at, resolved_in}
-use Rattle.batch_shards.specs.declared.shard.Step.{Step}
-use Rattle.batch_shards.specs.declared.shard.Act.TheVariants.{Edge}
-use Rattle.std.specs.Prelude.{pos}
-use Rattle.std.specs.declared.option.Option.TheVariants.{None}
+use Rattle.batch_shards.specs.declared.shard.{Step.Step, Act.TheVariants.Edge}
+use Rattle.std.specs.{Prelude.pos, declared.option.Option.TheVariants.None}
 use Rattle.graph_model.specs.declared.changes.EdgeChange.TheVariants.{Insert}
 
 pub same_number : (a : ℕ) → (a == a) ≡ true

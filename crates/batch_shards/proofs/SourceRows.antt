@@ -1,35 +1,22 @@
 -- One more source's row is done.
 use Rattle.std.proofs.Common.{◌≡◌, ℕ, ◌+◌, ◌<◌, true, false, List, [], ◌∷◌, ◌++◌, length, get_or, map, flat_map, count_by, take}
 use Rattle.std.proofs.Common.{refl, sym, ap, ap₂, ◌∙◌, arith, All}
-use Rattle.std.specs.declared.sync.Arc.{Arc}
-use Rattle.std.specs.declared.alloc.Global.{Global}
-use Rattle.std.proofs.lemmas.Bool.{false≢true}
-use Rattle.std.proofs.lemmas.List.{map-append, take_more, append-nil, get_or_default}
-use Rattle.std.proofs.lemmas.List.Sums.{sum_by-append}
-use Rattle.std.specs.List.{sum_by}
-use Rattle.std.proofs.lemmas.List.Elements.{All-push}
-use Rattle.std.proofs.lemmas.Grind.{flat_map-append}
-use Rattle.graph_model.specs.declared.batches.Outcome.{Outcome}
-use Rattle.graph_model.specs.declared.batches.Outcome.TheVariants.{Expired}
-use Rattle.edge_block.specs.declared.blocks.Block.{Block}
-use Rattle.edge_block.specs.Slots.{BlockView}
+use Rattle.std.specs.{declared.sync.Arc.Arc, declared.alloc.Global.Global, List.sum_by}
+use Rattle.std.proofs.lemmas.{Bool.false≢true, Grind.flat_map-append}
+use Rattle.std.proofs.lemmas.List.{map-append, take_more, append-nil, get_or_default, Sums.sum_by-append, Elements.All-push}
+use Rattle.graph_model.specs.declared.batches.Outcome.{Outcome, TheVariants.Expired}
+use Rattle.edge_block.specs.{declared.blocks.Block.Block, Slots.BlockView}
 use Rattle.block_layout.specs.Batches.{outcome_in, together, rows_all, opened}
 use Rattle.block_layout.specs.Rows.{OpenBlock, old_in_row}
 use Rattle.batch_shards.specs.RowBlocks.{blocks_of, numbers_of, opens, had_in, own_in, HaveSame, IsOf}
 use Rattle.batch_shards.specs.Closing.{row_values, after_of, written_of, dropped_of, unused_of, written_all}
-use Rattle.batch_shards.specs.Shards.{key_at, resolved_at, resolved_in, own_all}
+use Rattle.batch_shards.specs.{Shards.key_at, Shards.resolved_at, Shards.resolved_in, Shards.own_all, Done.layout_by}
 use Rattle.batch_shards.specs.Groups.{is_past, does_act, told, outcome_over, IsTold, IsSourceRow, IsOneMore}
 use Rattle.batch_shards.specs.Progress.{AreOutcomes, AreRowsDone}
-use Rattle.batch_shards.specs.Done.{layout_by}
-use Rattle.batch_shards.specs.declared.shard.OpenRow.{OpenRow}
-use Rattle.batch_shards.specs.declared.shard.ShardDone.{ShardDone}
-use Rattle.batch_shards.specs.declared.shard.Step.{Step}
-use Rattle.batch_shards.proofs.Places.{count_by-append}
-use Rattle.batch_shards.proofs.ShardSteps.{first_step}
-use Rattle.batch_shards.proofs.SourceSteps.{outcome_of, past_here}
+use Rattle.batch_shards.specs.declared.shard.{OpenRow.OpenRow, ShardDone.ShardDone, Step.Step}
+use Rattle.batch_shards.proofs.{Places.count_by-append, ShardSteps.first_step, SourceSteps.outcome_of, SourceSteps.past_here}
 use Rattle.batch_shards.proofs.Expiring.{edge_stands, told_more}
-use Rattle.batch_shards.specs.declared.shard.Act.{Act}
-use Rattle.batch_shards.specs.declared.shard.Act.TheVariants.{Edge, Expire}
+use Rattle.batch_shards.specs.declared.shard.Act.{Act, TheVariants.Edge, TheVariants.Expire}
 
 -- a list of pieces, with one more
 pub one_piece : {A B : Type 0} (f : A → List B) (xs : List A) (x : A) → flat_map f (xs ++ x ∷ []) ≡ flat_map f xs ++ f x

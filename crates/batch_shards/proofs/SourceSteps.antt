@@ -1,30 +1,21 @@
 -- The operations on one source's row, among those of a shard.
 use Rattle.std.proofs.Common.{◌≡◌, ℕ, zero, suc, ◌+◌, ◌-◌, ◌<◌, ◌≤◌, ◌==◌, not, Bool, true, false, cond, List, [], ◌∷◌, length}
-use Rattle.std.proofs.Common.{get_or, set, ◌||◌, min}
-use Rattle.std.proofs.Common.{take, count_by, refl, sym, ap, ◌∙◌, arith, subst}
-use Rattle.std.specs.Prelude.{slice_index, nat_lt}
-use Rattle.std.specs.List.{sum_by}
+use Rattle.std.proofs.Common.{get_or, set, ◌||◌, min, take, count_by, refl, sym, ap, ◌∙◌, arith, subst}
+use Rattle.std.specs.{Prelude.slice_index, Prelude.nat_lt, List.sum_by}
 use Rattle.std.specs.declared.option.Option.TheVariants.{None, Some}
 use Rattle.std.proofs.lemmas.Bool.{false≢true, or_right, eqb-true, eqb-false, ltb-true, ltb-false, lt-ltb, le-ltb}
 use Rattle.std.proofs.lemmas.List.{get_or-set_same, get_or-set_other}
 use Rattle.std.proofs.lemmas.List.Sums.{count_by_more_yes, count_by_more_no, sum_by-cons}
-use Rattle.graph_model.specs.Step.{outcome_at}
-use Rattle.graph_model.specs.declared.batches.Outcome.{Outcome}
-use Rattle.graph_model.specs.declared.batches.Outcome.TheVariants.{Expired}
+use Rattle.graph_model.specs.{Step.outcome_at, declared.batches.Outcome.Outcome, declared.batches.Outcome.TheVariants.Expired}
 use Rattle.graph_model.specs.declared.changes.EdgeChange.{EdgeChange}
 use Rattle.block_layout.specs.Rows.{OpenBlock, change_row, edge_at, old_in_row}
 use Rattle.block_layout.specs.Batches.{key_step, rows_step, rows_all, outcome_in, together}
-use Rattle.batch_shards.specs.Shards.{IsAct, resolved_at, resolved_in}
+use Rattle.batch_shards.specs.{Shards.IsAct, Shards.resolved_at, Shards.resolved_in, Spending.takes}
 use Rattle.batch_shards.specs.Groups.{is_at, is_past, does_act, may_change, key_of, IsNext, LeadsTo, IsSourceRow, IsOneMore}
 use Rattle.batch_shards.specs.Groups.{IsTold, told, outcome_over, act_step, act_outcome}
-use Rattle.batch_shards.specs.Spending.{takes}
-use Rattle.batch_shards.specs.declared.shard.Act.{Act}
-use Rattle.batch_shards.specs.declared.shard.Act.TheVariants.{Edge, Expire}
-use Rattle.batch_shards.specs.declared.shard.Place.{Place}
-use Rattle.batch_shards.specs.declared.shard.Step.{Step}
+use Rattle.batch_shards.specs.declared.shard.{Act.Act, Act.TheVariants.Edge, Act.TheVariants.Expire, Place.Place, Step.Step}
 use Rattle.batch_shards.proofs.ShardSteps.{same_number, other_number, further, apart, first_step, all_rows_more}
-use Rattle.batch_shards.proofs.Expiring.{told_none}
-use Rattle.batch_shards.proofs.Young.{young_before, young_stays}
+use Rattle.batch_shards.proofs.{Expiring.told_none, Young.young_before, Young.young_stays}
 
 -- the outcome of an operation is that of the rows which those before it leave
 pub outcome_of : (counted sources : List ℕ) (steps : List Step) (k : ℕ) (rows : ℕ → List OpenBlock) → k < length steps

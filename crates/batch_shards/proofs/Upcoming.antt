@@ -1,17 +1,12 @@
 -- For each place, the first expiry that is not before it.
 use Rattle.std.proofs.Common.{◌≡◌, ℕ, ◌+◌, ◌<◌, ◌==◌, Bool, true, false, cond, List, length, get_or, set, refl, sym, ap, ◌∙◌, arith}
-use Rattle.std.proofs.Common.{subst}
+use Rattle.std.proofs.{Common.subst, lemmas.Bool.eqb-true, lemmas.Bool.eqb-false, lemmas.Bool.false≢true, Math.ListN.length-set}
 use Rattle.std.specs.declared.option.Option.TheVariants.{Some}
-use Rattle.std.proofs.lemmas.Bool.{eqb-true, eqb-false, false≢true}
 use Rattle.std.proofs.lemmas.List.{get_or-set_same, get_or-set_other, get_or_default}
-use Rattle.std.proofs.Math.ListN.{length-set}
 use Rattle.batch_shards.specs.Groups.{is_at, is_expiry, IsNext, AreGroups, AreExpiries}
-use Rattle.batch_shards.specs.declared.shard.Step.{Step}
+use Rattle.batch_shards.specs.declared.shard.{Step.Step, Place.Place, Act.Act, Act.TheVariants.Edge}
 use Rattle.batch_shards.proofs.ShardSteps.{first_step, same_number, other_number, further}
 use Rattle.graph_model.specs.declared.changes.EdgeChange.{EdgeChange}
-use Rattle.batch_shards.specs.declared.shard.Place.{Place}
-use Rattle.batch_shards.specs.declared.shard.Act.{Act}
-use Rattle.batch_shards.specs.declared.shard.Act.TheVariants.{Edge}
 
 -- the next operation of a kind is here, or it is the next behind
 module _ (of : Act → Bool) (steps : List Step) (i : ℕ) (lt : i < length steps) where

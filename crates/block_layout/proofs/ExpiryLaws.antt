@@ -1,11 +1,9 @@
 -- What an expiry changes in slots, in blocks and in a source's row.
 use Rattle.std.proofs.Common.{◌≡◌, ℕ, ◌==◌, List, [], ◌∷◌, Bool, true, false, cond, ◌||◌, refl, sym, ap, ◌∙◌, map, All}
-use Rattle.std.proofs.Common.{Option, Some, None, is_some, subst}
+use Rattle.std.proofs.{Common.Option, Common.Some, Common.None, Common.is_some, Common.subst, lemmas.Bool.true≢false}
 use Rattle.std.specs.Option.{option_or}
-use Rattle.std.proofs.lemmas.Bool.{true≢false}
 use Rattle.std.proofs.lemmas.List.Elements.{All-head, All-tail, All-cons, All-nil}
-use Rattle.graph_model.specs.Graph.{Stamp}
-use Rattle.graph_model.specs.Step.{is_before, stays_from}
+use Rattle.graph_model.specs.{Graph.Stamp, Step.is_before, Step.stays_from}
 use Rattle.edge_block.specs.Slots.{Slot, slot_at, stamp_at, AreDistinct, NoKeyTwice, first_some, slot_since, slots_since}
 use Rattle.edge_block.specs.Slots.{has_before}
 use Rattle.block_layout.specs.Rows.{OpenBlock, open_at, edge_at, touch, has_old, expire_block, expire_row}

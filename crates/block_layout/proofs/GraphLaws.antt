@@ -1,22 +1,17 @@
 -- What rows are at a batch's end, and the laws of a batch and of an expiry.
 use Rattle.std.proofs.Common.{◌≡◌, ℕ, ◌<◌, ◌==◌, List, [], ◌∷◌, length, map, filter, Bool, true, false, cond, not, ◌&&◌}
 use Rattle.std.proofs.Common.{◌≤◌, refl, sym, ap, ◌∙◌, Option, Some, None, is_some, All}
-use Rattle.std.specs.List.{list_all, range_with_len}
-use Rattle.std.specs.Option.{option_or}
-use Rattle.std.specs.FinMap.{FinMap, get}
+use Rattle.std.specs.{List.list_all, List.range_with_len, Option.option_or, FinMap.FinMap, FinMap.get}
 use Rattle.std.proofs.lemmas.Bool.{true≢false, false≢true, and_parts}
 use Rattle.std.proofs.lemmas.List.Elements.{All-head, All-tail, All-cons, All-nil}
 use Rattle.graph_model.specs.Graph.{Graph, Key, Stamp, key_cmp}
-use Rattle.graph_model.specs.Step.{after_all}
-use Rattle.graph_model.specs.Step.{outcomes, expired, count_before}
-use Rattle.graph_model.specs.declared.batches.NamedOp.{NamedOp}
-use Rattle.graph_model.specs.declared.batches.Outcome.TheVariants.{Expired}
+use Rattle.graph_model.specs.Step.{after_all, outcomes, expired, count_before}
+use Rattle.graph_model.specs.declared.batches.{NamedOp.NamedOp, Outcome.TheVariants.Expired}
 use Rattle.edge_block.specs.Slots.{Slot, NoKeyTwice, stamp_at, is_free, AreDistinct}
 use Rattle.block_layout.specs.Rows.{Shape, OpenBlock, block_at, row_at, open_at, edge_at, IsRow, has_none, is_kept}
 use Rattle.block_layout.specs.Rows.{row_end, shapes, untouched, expire_row}
-use Rattle.block_layout.specs.Batches.{InAll, resolved, rows_step}
+use Rattle.block_layout.specs.Batches.{InAll, resolved, rows_step, IsWithin}
 use Rattle.block_layout.specs.Batches.{rows_all, outcome_in, outcomes_all, IsLayoutOf, opened, layout_after}
-use Rattle.block_layout.specs.Batches.{IsWithin}
 use Rattle.block_layout.proofs.RowLaws.{IsOpenRow}
 use Rattle.block_layout.proofs.OperationLaws.{Shows, AreOpenRows, expiry_shows, all_shows}
 

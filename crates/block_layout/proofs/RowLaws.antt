@@ -1,25 +1,19 @@
 -- What one operation changes in a source's row.
 use Rattle.std.proofs.Common.{◌≡◌, ℕ, zero, suc, ◌==◌, List, [], ◌∷◌, ◌++◌, Bool, true, false, cond, ◌&&◌, refl, sym, ap, ◌∙◌}
 use Rattle.std.proofs.Common.{subst, Option, Some, None, is_some, All, replicate, ◌+ℤ◌}
-use Rattle.std.specs.List.{list_any}
+use Rattle.std.specs.{List.list_any, Option.option_or}
 use Rattle.std.proofs.lemmas.Bool.{true≢false, false≢true, and_parts, eqb-true, or_left, or_right}
 use Rattle.std.proofs.lemmas.List.Elements.{All-head, All-tail, All-cons, All-push}
-use Rattle.graph_model.specs.Graph.{Stamp}
-use Rattle.graph_model.specs.Limits.{is_weight}
-use Rattle.graph_model.specs.Step.{stamp_after, outcome_at}
-use Rattle.graph_model.specs.declared.changes.EdgeChange.{EdgeChange}
-use Rattle.graph_model.specs.declared.changes.EdgeChange.TheVariants.{Insert, Incr, Remove}
+use Rattle.graph_model.specs.{Graph.Stamp, Limits.is_weight, Step.stamp_after, Step.outcome_at}
+use Rattle.graph_model.specs.declared.changes.EdgeChange.{EdgeChange, TheVariants.Insert, TheVariants.Incr, TheVariants.Remove}
 use Rattle.graph_model.specs.declared.batches.Outcome.TheVariants.{Updated, Overflow}
 use Rattle.edge_block.specs.Slots.{Slot, at_first, slot_at, stamp_at, holds, is_free, AreDistinct, NoKeyTwice, put_slot}
 use Rattle.edge_block.specs.Slots.{take_slot}
 use Rattle.block_layout.specs.Rows.{OpenBlock, open_at, edge_at, has_edge, has_room, touch, new_block, put_edge, take_edge}
 use Rattle.block_layout.specs.Rows.{set_edge, touches, change_row}
-use Rattle.std.specs.Option.{option_or}
 use Rattle.edge_block.proofs.Changes.{or_none, set_first, set_unique, set_last, unique_last, Fits, Puts, fits_key, fits_room}
-use Rattle.edge_block.proofs.Changes.{any_key, none_is}
-use Rattle.edge_block.proofs.Entries.{stamp_at-put_slot, stamp_at-take_slot}
-use Rattle.edge_block.proofs.KeptColumns.{distinct_none}
-use Rattle.edge_block.proofs.SlotLaws.{AreDistinct-put_slot, AreDistinct-take_slot}
+use Rattle.edge_block.proofs.{Changes.any_key, Changes.none_is, Entries.stamp_at-put_slot, Entries.stamp_at-take_slot}
+use Rattle.edge_block.proofs.{KeptColumns.distinct_none, SlotLaws.AreDistinct-put_slot, SlotLaws.AreDistinct-take_slot}
 use Rattle.edge_block.proofs.Firsts.{at_first-none}
 
 abbrev pub same_place : ℕ × ℕ → ℕ × ℕ → Bool

@@ -5,20 +5,15 @@ use Rattle.std.specs.List.{sum_by}
 use Rattle.std.proofs.lemmas.Bool.{true≢false, false≢true, eqb-true, eq-eqb}
 use Rattle.std.proofs.lemmas.List.Elements.{All-head, All-tail, All-nil, All-cons, All-weaker}
 use Rattle.std.proofs.lemmas.List.Sums.{sum_by-cons, sum_by-append}
-use Rattle.graph_model.specs.Graph.{Key, Stamp}
-use Rattle.graph_model.specs.Limits.{is_weight}
-use Rattle.graph_model.specs.declared.batches.NamedOp.{NamedOp}
-use Rattle.graph_model.specs.declared.batches.Outcome.{Outcome}
+use Rattle.graph_model.specs.{Graph.Key, Graph.Stamp, Limits.is_weight, Step.number_of, Step.key_in, Step.outcome_at}
+use Rattle.graph_model.specs.{declared.batches.NamedOp.NamedOp, declared.batches.Outcome.Outcome, Answer.is_listed}
 use Rattle.graph_model.specs.declared.batches.Outcome.TheVariants.{Inserted, Updated, Removed, Absent, Overflow, Expired}
-use Rattle.graph_model.specs.Step.{number_of, key_in, outcome_at}
 use Rattle.block_layout.specs.Operations.{Parts, OfEdge, OfAll, parts_of, names_after, kinds_after}
-use Rattle.graph_model.specs.declared.changes.EdgeChange.{EdgeChange}
-use Rattle.graph_model.specs.declared.changes.EdgeChange.TheVariants.{Insert, Incr, Remove}
+use Rattle.graph_model.specs.declared.changes.EdgeChange.{EdgeChange, TheVariants.Insert, TheVariants.Incr, TheVariants.Remove}
 use Rattle.block_layout.specs.Rows.{OpenBlock, edge_at, old_in_row}
 use Rattle.block_layout.specs.Batches.{Resolved, AtKey, InAll, key_is_of, acts_on, key_step, row_step, key_outcome, outcome_in}
 use Rattle.block_layout.specs.Batches.{rows_step, rows_all, outcomes_all, picked, together, joined, IsPlaced, shard_of}
 use Rattle.block_layout.specs.Batches.{is_in_shard, shard_ops, resolve_parts, resolved}
-use Rattle.graph_model.specs.Answer.{is_listed}
 
 sum_same : (own : ℕ → Bool) (f g : ℕ → ℕ) → ((s : ℕ) → own s ≡ true → f s ≡ g s) → (xs : List ℕ)
     → All (λ s. own s ≡ true) xs → sum_by f xs ≡ sum_by g xs

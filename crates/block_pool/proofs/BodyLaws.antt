@@ -1,13 +1,9 @@
 -- The bodies that a pool keeps.
 use Rattle.std.proofs.Common.{◌≡◌, ℕ, ◌+◌, ◌<◌, ◌==◌, ◌++◌, Some, List, [], ◌∷◌, get_or, set, true, false, refl, sym, ap, ◌∙◌}
 use Rattle.std.proofs.Common.{subst, Option, None, IfSome, arith}
-use Rattle.std.proofs.Math.ListN.{length-set}
-use Rattle.std.proofs.lemmas.Bool.{eqb-true, eqb-false}
+use Rattle.std.proofs.{Math.ListN.length-set, Math.Seq.get_or-append_seam, lemmas.Bool.eqb-true, lemmas.Bool.eqb-false}
 use Rattle.std.proofs.lemmas.List.{get_or-set_same, get_or-set_other, get_or_append_left, length-append}
-use Rattle.std.proofs.Math.Seq.{get_or-append_seam}
-use Rattle.std.specs.Arc.{arc_value}
-use Rattle.std.specs.declared.sync.Arc.{Arc}
-use Rattle.std.specs.declared.alloc.Global.{Global}
+use Rattle.std.specs.{Arc.arc_value, declared.sync.Arc.Arc, declared.alloc.Global.Global}
 use Rattle.edge_block.specs.declared.blocks.Block.{Block}
 use Rattle.block_pool.specs.Bodies.{AreBodies}
 

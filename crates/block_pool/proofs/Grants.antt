@@ -3,8 +3,7 @@ use Rattle.std.proofs.Common.{◌≡◌, ℕ, zero, suc, ◌+◌, ◌-◌, ◌<�
 use Rattle.std.proofs.Common.{take, Bool, true, false, cond, ◌&&◌, refl, sym, ap, ◌∙◌, arith, length-take}
 use Rattle.std.proofs.lemmas.Bool.{true≢false, false≢true, eqb-true, eqb-false, and_parts}
 use Rattle.std.proofs.lemmas.List.{get_or-take, get_or-set_same, get_or-set_other, take_more_set}
-use Rattle.std.proofs.Math.ListN.{length-set}
-use Rattle.std.proofs.Math.Seq.{take-set-lt}
+use Rattle.std.proofs.Math.{ListN.length-set, Seq.take-set-lt}
 use Rattle.block_pool.specs.Pools.{Status, is_free, marked, AreFree}
 use Rattle.block_pool.specs.Kept.{status_of, tally, Lists, popped}
 use Rattle.block_pool.proofs.Tallies.{count_more, count_last, count_here, count_at, listed_at, same_number, passes_at}

@@ -1,9 +1,7 @@
 -- What the code reads of a number.
 use Rattle.std.proofs.Common.{◌≡◌, ℕ, ◌<◌, length, get_or, sym, ap, ◌∙◌, true}
 use Rattle.std.proofs.lemmas.List.{get_or-map}
-use Rattle.block_pool.specs.declared.numbers.Place.{Place}
-use Rattle.block_pool.specs.declared.numbers.Numbers.{Numbers}
-use Rattle.block_pool.specs.Pools.{Granted, is_retired}
+use Rattle.block_pool.specs.{declared.numbers.Place.Place, declared.numbers.Numbers.Numbers, Pools.Granted, Pools.is_retired}
 use Rattle.block_pool.specs.Kept.{statuses, status_from, status_of}
 
 pub status_read : (n : Numbers) (r : ℕ) (p : Place) → r < length n.places.items → is_retired (status_of (statuses n) r) ≡ true

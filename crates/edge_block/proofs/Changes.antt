@@ -1,10 +1,8 @@
 -- A list whose elements have something at keys, and one change to the first element that passes a test.
 use Rattle.std.proofs.Common.{◌≡◌, List, [], ◌∷◌, ◌++◌, Bool, true, false, cond, ◌||◌, refl, sym, ap, ◌∙◌, subst, Option, Some}
 use Rattle.std.proofs.Common.{None, is_some, ◌⊎◌, inl, inr, All}
-use Rattle.std.specs.List.{list_any}
-use Rattle.std.specs.Option.{option_or}
-use Rattle.std.proofs.lemmas.Bool.{true≢false, false≢true}
-use Rattle.std.proofs.lemmas.List.Elements.{All-head, All-tail}
+use Rattle.std.specs.{List.list_any, Option.option_or}
+use Rattle.std.proofs.lemmas.{Bool.true≢false, Bool.false≢true, List.Elements.All-head, List.Elements.All-tail}
 use Rattle.edge_block.specs.Slots.{first_some, NoKeyTwice, at_first}
 
 pub or_none : {B : Type 0} (o : Option B) → option_or o None ≡ o

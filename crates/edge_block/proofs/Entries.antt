@@ -1,18 +1,13 @@
 -- What a search for a target finds: after a put, after a take, and among a block's entries.
 use Rattle.std.proofs.Common.{◌≡◌, ℕ, zero, suc, ◌<◌, ◌==◌, ◌↔◌, List, [], ◌∷◌, length, get_or, map, Bool, true, false, cond}
 use Rattle.std.proofs.Common.{refl, sym, ap, ◌∙◌, subst, arith, ◌⊎◌, inl, inr}
-use Rattle.std.specs.Prelude.{◌||◌, Contains}
-use Rattle.std.specs.List.{list_any}
-use Rattle.std.specs.Option.{is_some, option_or}
-use Rattle.std.specs.declared.option.Option.{Option}
-use Rattle.std.specs.declared.option.Option.TheVariants.{None, Some}
+use Rattle.std.specs.{Prelude.◌||◌, Prelude.Contains, List.list_any, Option.is_some, Option.option_or}
+use Rattle.std.specs.declared.option.Option.{Option, TheVariants.None, TheVariants.Some}
 use Rattle.std.proofs.lemmas.Bool.{false≢true, eqb-true, eq-eqb, ne_eqb, cases_eq}
-use Rattle.std.proofs.lemmas.List.{length-map, get_or-map}
-use Rattle.std.proofs.lemmas.List.Elements.{Contains-get_or}
+use Rattle.std.proofs.lemmas.List.{length-map, get_or-map, Elements.Contains-get_or}
 use Rattle.graph_model.specs.Graph.{Key, Stamp}
 use Rattle.edge_block.specs.Slots.{Slot, BlockView, at_first, slot_at, stamp_at, holds, is_free, has_room_for, AreDistinct}
-use Rattle.edge_block.specs.Slots.{put_slot, take_slot, edges_in, entry_in, entries_of}
-use Rattle.edge_block.specs.Laws.{StandsIn}
+use Rattle.edge_block.specs.{Slots.put_slot, Slots.take_slot, Slots.edges_in, Slots.entry_in, Slots.entries_of, Laws.StandsIn}
 use Rattle.edge_block.proofs.Firsts.{at_first-none}
 use Rattle.edge_block.proofs.Changes.{set_first, Fits, Puts, fits_key, fits_room, any_key, none_is}
 

@@ -1,8 +1,7 @@
 -- When an edge can be put.
 use Rattle.std.proofs.Common.{◌≡◌, ℕ, true, List, sym, ◌∙◌}
 use Rattle.std.specs.List.{list_any}
-use Rattle.std.specs.declared.option.Option.{Option}
-use Rattle.std.specs.declared.option.Option.TheVariants.{None, Some}
+use Rattle.std.specs.declared.option.Option.{Option, TheVariants.None, TheVariants.Some}
 use Rattle.std.proofs.lemmas.Bool.{or_left, or_right, true_from_ne_false}
 use Rattle.graph_model.specs.Graph.{Stamp}
 use Rattle.edge_block.specs.Slots.{Slot, holds, is_free, slot_at, stamp_at, has_room_for}

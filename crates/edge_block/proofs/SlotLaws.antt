@@ -1,10 +1,7 @@
 -- What a put and a take leave of slots.
 use Rattle.std.proofs.Common.{◌≡◌, ℕ, Bool, true, false, List, refl, sym, inl, inr}
-use Rattle.std.specs.Prelude.{◌==◌, if◌then◌else◌, All}
-use Rattle.std.specs.List.{list_any}
-use Rattle.std.specs.Option.{is_some}
-use Rattle.std.specs.declared.option.Option.{Option}
-use Rattle.std.specs.declared.option.Option.TheVariants.{None, Some}
+use Rattle.std.specs.{Prelude.◌==◌, Prelude.if◌then◌else◌, Prelude.All, List.list_any, Option.is_some}
+use Rattle.std.specs.declared.option.Option.{Option, TheVariants.None, TheVariants.Some}
 use Rattle.std.proofs.lemmas.Bool.{eqb-true, true≢false}
 use Rattle.edge_block.specs.Slots.{Slot, AreDistinct, IsSlot, at_first, holds, is_free, slot_at, put_slot, take_slot}
 use Rattle.edge_block.proofs.Firsts.{NoKeyTwice-at_first, All-at_first, first_some-by_any}

@@ -4,14 +4,11 @@ use Rattle.std.proofs.Common.{length, get_or, set, refl, sym, ap, ◌∙◌, sub
 use Rattle.std.specs.Option.{unwrap_or}
 use lib.Bits.{and_le_l}
 use Rattle.std.specs.Prelude.{slice_index, Contains}
-use Rattle.std.specs.Int.{bit_at, bit_not, w32, trailing_zeros}
-use Rattle.std.specs.Int.RustNames.{bit_or}
-use Rattle.std.specs.declared.option.Option.{Option}
-use Rattle.std.specs.declared.option.Option.TheVariants.{None, Some}
+use Rattle.std.specs.Int.{bit_at, bit_not, w32, trailing_zeros, RustNames.bit_or}
+use Rattle.std.specs.declared.option.Option.{Option, TheVariants.None, TheVariants.Some}
 use Rattle.std.proofs.lemmas.Bool.{eq-eqb, ne_eqb, cases_eq, cases_lt}
-use Rattle.std.proofs.lemmas.List.{length-set, get_or-set_same, get_or-set_other}
+use Rattle.std.proofs.lemmas.List.{length-set, get_or-set_same, get_or-set_other, Elements.Contains-append_left}
 use Rattle.std.proofs.lemmas.List.Elements.{All-contains, Contains-get_or, Contains-push, Contains-push_cases}
-use Rattle.std.proofs.lemmas.List.Elements.{Contains-append_left}
 use Rattle.std.proofs.lemmas.Nat.Bits.{bit_at-zero, bit_at_set_same, bit_at_set_other, bit_at_clear_same}
 use Rattle.std.proofs.lemmas.Nat.Bits.{bit_at_clear_other, bit_at_above, bit_at-trailing_zeros}
 use Rattle.lane_scan.specs.Masks.{InMask, IsPlaceWithin, AreBoundsOf, selected_from, selected}

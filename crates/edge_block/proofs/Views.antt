@@ -2,23 +2,16 @@
 use Rattle.std.proofs.Common.{◌≡◌, ◌≢◌, ℕ, zero, suc, ◌+◌, ◌*◌, ◌%◌, ◌^◌, ◌<◌, ◌≤◌, ℤ, Bool, true, false, List, [], ◌∷◌, length}
 use Rattle.std.proofs.Common.{get_or, map, refl, sym, ap, ◌∙◌, inl, inr, arith, cond}
 use Rattle.std.specs.Prelude.{◌==◌, ◌&&◌, nat_le, if◌then◌else◌, filter, slice_index, ◌↔◌}
-use Rattle.std.specs.Int.{bit_at, w32, bit_not, trailing_zeros}
-use Rattle.std.specs.Int.RustNames.{bit_and}
-use Rattle.std.specs.declared.option.Option.{Option}
-use Rattle.std.specs.declared.option.Option.TheVariants.{None, Some}
+use Rattle.std.specs.Int.{bit_at, w32, bit_not, trailing_zeros, RustNames.bit_and}
+use Rattle.std.specs.declared.option.Option.{Option, TheVariants.None, TheVariants.Some}
 use Rattle.std.proofs.lemmas.Bool.{eq-eqb, ne_eqb, le-leb, lt-leb, cases_lt, true≢false}
 use Rattle.std.proofs.lemmas.Nat.Bits.{bit_at-zero, bit_at-lt, bit_at_and, bit_at-trailing_zeros, bit_at_clear_same}
-use Rattle.std.proofs.lemmas.Nat.Bits.{bit_at_clear_other}
-use Rattle.std.proofs.lemmas.List.{length-map}
-use Rattle.std.proofs.lemmas.List.Sums.{length-filter, count_by-le-length}
+use Rattle.std.proofs.lemmas.{Nat.Bits.bit_at_clear_other, List.length-map, List.Sums.length-filter, List.Sums.count_by-le-length}
 use lib.Bits.{and_le_r}
-use Rattle.graph_model.specs.Graph.{Key, Stamp}
-use Rattle.graph_model.specs.View.{in_view, takes_kind}
-use Rattle.graph_model.specs.declared.ids.Filter.{Filter}
+use Rattle.graph_model.specs.{Graph.Key, Graph.Stamp, View.in_view, View.takes_kind, declared.ids.Filter.Filter}
 use Rattle.lane_scan.specs.Masks.{InMask, IsPlaceWithin, selected_from, selected}
 use Rattle.edge_block.specs.Slots.{Slot, BlockView, edges_in, entry_in, entries_of}
-use Rattle.edge_block.specs.Columns.{slots_of, column_slot}
-use Rattle.edge_block.specs.Lending.{LentEdge, lent_of, lent_in}
+use Rattle.edge_block.specs.{Columns.slots_of, Columns.column_slot, Lending.LentEdge, Lending.lent_of, Lending.lent_in}
 use Rattle.edge_block.proofs.Places.{length-slots_of, slot_live, slot_dead, lives_or_not}
 use Rattle.edge_block.proofs.Selections.{edges_filtered, edges_few}
 

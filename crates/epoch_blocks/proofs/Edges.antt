@@ -1,10 +1,8 @@
 -- Edges and stamps compared, and when edges are each once the edges of a graph.
 use Rattle.std.proofs.Common.{◌≡◌, ◌≢◌, suc, ◌-◌, Bool, true, false, cond, not, List, [], ◌∷◌, length, get_or}
 use Rattle.std.proofs.Common.{Decides, refl, sym, ap, subst, ◌∙◌, arith}
-use Rattle.std.specs.Prelude.{All, is_some}
-use Rattle.std.specs.List.{list_any, list_all}
-use Rattle.std.specs.declared.option.Option.{Option}
-use Rattle.std.specs.declared.option.Option.TheVariants.{None, Some}
+use Rattle.std.specs.{Prelude.All, Prelude.is_some, List.list_any, List.list_all}
+use Rattle.std.specs.declared.option.Option.{Option, TheVariants.None, TheVariants.Some}
 use Rattle.std.specs.FinMap.{FinMap, get, same_map, insert, remove, len, get-insert, get-remove, len-remove, empty_of_len}
 use Rattle.std.proofs.lemmas.Bool.Decides.{Decides-and, Decides-by_and, Decides-eqb, Decides-int_eq, Decides-like, Decides-not}
 use Rattle.graph_model.specs.Graph.{Graph, Key, Stamp, key_cmp, key_of, stamp_of, map_of}

@@ -1,43 +1,29 @@
 -- What a session asks in a run is what its holdings say.
 use Rattle.std.proofs.Common.{◌≡◌, ℕ, zero, suc, ◌≤◌, Bool, true, false, inl, inr, List, [], ◌∷◌, ◌++◌, length, get_or, set, map}
 use Rattle.std.proofs.Common.{replicate, refl, sym, ap, subst, ◌∙◌, arith}
-use Rattle.std.specs.Prelude.{slice_get, if◌then◌else◌, ◌==◌, is_some}
-use Rattle.std.specs.List.{AllZip}
+use Rattle.std.specs.{Prelude.slice_get, Prelude.if◌then◌else◌, Prelude.◌==◌, Prelude.is_some, List.AllZip}
 use Rattle.std.specs.Option.{option_map, option_to_list, unwrap_or, option_and_then}
-use Rattle.std.specs.declared.option.Option.{Option}
-use Rattle.std.specs.declared.option.Option.TheVariants.{None, Some}
-use Rattle.std.proofs.lemmas.Bool.{eq-eqb, cases_eq}
-use Rattle.std.proofs.lemmas.List.{take_all, length-replicate}
-use Rattle.graph_model.specs.Graph.{Graph, map_of}
-use Rattle.graph_model.specs.declared.ids.Edge.{Edge}
-use Rattle.graph_model.specs.declared.requests.Request.{Request}
-use Rattle.epoch_blocks.specs.declared.states.Status.{Status}
-use Rattle.epoch_blocks.specs.declared.states.Version.{Version}
-use Rattle.epoch_core.specs.declared.states.Hold.{Hold}
-use Rattle.epoch_core.specs.declared.states.Inquiry.{Inquiry}
-use Rattle.epoch_core.specs.declared.states.SessionState.{SessionState}
+use Rattle.std.specs.declared.option.Option.{Option, TheVariants.None, TheVariants.Some}
+use Rattle.std.proofs.lemmas.{Bool.eq-eqb, Bool.cases_eq, List.take_all, List.length-replicate}
+use Rattle.graph_model.specs.{Graph.Graph, Graph.map_of, declared.ids.Edge.Edge, declared.requests.Request.Request}
+use Rattle.epoch_blocks.specs.declared.states.{Status.Status, Version.Version, Opening.Opening}
+use Rattle.epoch_core.specs.declared.states.{Hold.Hold, Inquiry.Inquiry, SessionState.SessionState}
 use Rattle.epoch_core.specs.declared.states.SessionState.TheVariants.{Idle, Pinned, Holding as Holds, Asking}
-use Rattle.epoch_core.specs.declared.events.Event.{Event}
+use Rattle.epoch_core.specs.declared.events.Event.{Event, TheVariants.Reply, TheVariants.Release}
 use Rattle.epoch_core.specs.declared.events.Event.TheVariants.{Take, Fill, Post, Floor, Recycle, Pin, Enter, Settle, Ask, Read}
-use Rattle.epoch_core.specs.declared.events.Event.TheVariants.{Reply, Release}
 use Rattle.epoch_blocks.specs.Blocks.{changed_at, filled, put, recycled, taken}
-use Rattle.epoch_blocks.specs.declared.states.Opening.{Opening}
 use Rattle.epoch_core.specs.Worlds.{Answer, IsStart, State, World, graph_with, held_in, last_graph, last_number, replies_of}
-use Rattle.epoch_core.specs.Worlds.{session_of, start}
+use Rattle.epoch_core.specs.{Worlds.session_of, Worlds.start, Posts.posted, Machine.with_status}
 use Rattle.epoch_blocks.specs.Versions.{blocks_at, edges_of, graph_at, version_at}
 use Rattle.epoch_blocks.specs.Posting.{can_post, version_by}
-use Rattle.epoch_core.specs.Posts.{posted}
 use Rattle.epoch_core.specs.Machine.{Answers, Question, is_all_read, move, question_in, question_of, read_on, settled_at, to_ask}
 use Rattle.epoch_core.specs.Machine.{to_enter, to_pin, to_read, to_release, to_reply, to_settle, with_heap, with_sessions}
-use Rattle.epoch_core.specs.Machine.{with_status}
-use Rattle.epoch_core.specs.Runs.{Runs, is_done, next_world}
+use Rattle.epoch_core.specs.{Runs.Runs, Runs.is_done, Runs.next_world, Sound.IsNamed, Sound.IsSessionSound, Sound.IsSound}
 use Rattle.epoch_core.specs.Holdings.{Entered, Observation, Released, Replied, answered_first, holdings}
 use Rattle.epoch_core.specs.Holdings.{holdings_of, observations, observed_at, questions, request_in}
-use Rattle.epoch_core.specs.Sound.{IsNamed, IsSessionSound, IsSound}
 use Rattle.epoch_blocks.proofs.Lists.{option_map_some}
-use Rattle.epoch_core.proofs.Changes.{graph_before}
+use Rattle.epoch_core.proofs.{Changes.graph_before, Steps.sound_next, Steps.sound_start, Steps.idle_at}
 use Rattle.epoch_core.proofs.Moves.{Moved, moved, session_after, session_else, replying}
-use Rattle.epoch_core.proofs.Steps.{sound_next, sound_start, idle_at}
 use Rattle.epoch_core.proofs.Answering.{asked, all_asked, Adds, adds_all, same_answers, other}
 
 abbrev question_on : Graph → Request → Question

@@ -1,20 +1,15 @@
 -- Replies are the answers to what a session asks in a run.
 use Rattle.std.proofs.Common.{◌≡◌, ◌≢◌, ℕ, ◌<◌, true, false, inl, inr, List, [], ◌∷◌, ◌++◌, length, get_or, refl, sym, ap, subst}
 use Rattle.std.proofs.Common.{◌∙◌, arith, eqb}
-use Rattle.std.specs.Prelude.{slice_get, if◌then◌else◌, MatchOption, ◌==◌}
-use Rattle.std.specs.List.{AllZip}
-use Rattle.std.specs.Option.{option_to_list}
-use Rattle.std.specs.declared.option.Option.TheVariants.{None, Some}
-use Rattle.std.proofs.lemmas.Bool.{eq-eqb, cases_eq}
-use Rattle.std.proofs.lemmas.Bool.Decides.{Decides-eqb}
+use Rattle.std.specs.{Prelude.slice_get, Prelude.if◌then◌else◌, Prelude.MatchOption, Prelude.◌==◌, List.AllZip}
+use Rattle.std.specs.{Option.option_to_list, declared.option.Option.TheVariants.None, declared.option.Option.TheVariants.Some}
+use Rattle.std.proofs.lemmas.Bool.{eq-eqb, cases_eq, Decides.Decides-eqb}
 use Rattle.std.proofs.lemmas.List.{append-nil, append_assoc, get_or-set_same, get_or-set_other, length-set}
 use Rattle.graph_model.proofs.OneAnswer.{one_answer}
-use Rattle.epoch_core.specs.declared.events.Event.{Event}
+use Rattle.epoch_core.specs.declared.events.Event.{Event, TheVariants.Reply, TheVariants.Release}
 use Rattle.epoch_core.specs.declared.events.Event.TheVariants.{Take, Fill, Post, Floor, Recycle, Pin, Enter, Settle, Ask, Read}
-use Rattle.epoch_core.specs.declared.events.Event.TheVariants.{Reply, Release}
-use Rattle.epoch_core.specs.Worlds.{Answer, World}
+use Rattle.epoch_core.specs.{Worlds.Answer, Worlds.World, Runs.AllReplies, Runs.next_world}
 use Rattle.epoch_core.specs.Machine.{Answers, IsAnswered, Question, Replies, question_in, question_of}
-use Rattle.epoch_core.specs.Runs.{AllReplies, next_world}
 use Rattle.epoch_blocks.proofs.Lists.{and_then_some, within}
 use Rattle.epoch_core.proofs.Sizes.{size_next}
 

@@ -1,25 +1,18 @@
 -- What a whole collection leaves.
 use Rattle.std.proofs.Common.{◌≡◌, ℕ, zero, suc, ◌≤◌, Bool, true, false, ◌||◌, ◌⊎◌, inl, inr, List, []}
 use Rattle.std.proofs.Common.{◌∷◌, ◌++◌, map, replicate, get_or, set, refl, sym, ap, subst, ◌∙◌, arith, eqb, ltb}
-use Rattle.std.specs.Prelude.{slice_get, if◌then◌else◌}
-use Rattle.std.specs.List.{list_any}
+use Rattle.std.specs.{Prelude.slice_get, Prelude.if◌then◌else◌, List.list_any}
 use Rattle.std.specs.Option.{option_map, option_and_then, unwrap_or}
-use Rattle.std.specs.declared.option.Option.{Option}
-use Rattle.std.specs.declared.option.Option.TheVariants.{None, Some}
-use Rattle.std.proofs.lemmas.Bool.{cases_eq}
-use Rattle.std.proofs.lemmas.Bool.Decides.{nat_tests}
-use Rattle.pin_copy.specs.declared.copies.PinCopy.{PinCopy}
-use Rattle.pin_copy.specs.Copies.{needs, is_between, is_before}
+use Rattle.std.specs.declared.option.Option.{Option, TheVariants.None, TheVariants.Some}
+use Rattle.std.proofs.lemmas.Bool.{cases_eq, Decides.nat_tests}
+use Rattle.pin_copy.specs.{declared.copies.PinCopy.PinCopy, Copies.needs, Copies.is_between, Copies.is_before}
 use Rattle.epoch_blocks.specs.declared.states.Status.{Status}
 use Rattle.epoch_blocks.specs.declared.states.Status.TheVariants.{Free, Fresh, Used, Retired}
-use Rattle.epoch_core.specs.declared.states.SessionState.{SessionState}
+use Rattle.epoch_core.specs.declared.{states.SessionState.SessionState, events.Event.TheVariants.Recycle}
 use Rattle.epoch_core.specs.declared.states.SessionState.TheVariants.{Idle, Pinned, Holding, Asking}
-use Rattle.epoch_core.specs.declared.events.Event.TheVariants.{Recycle}
 use Rattle.epoch_core.specs.Worlds.{World, last_number, session_of, pin_in, settled_in, unsettled_in, copy_of}
-use Rattle.epoch_core.specs.Machine.{step, with_status}
+use Rattle.epoch_core.specs.{Machine.step, Machine.with_status, Runs.next_world, Runs.run, Sound.IsDatedAt, Sound.IsSound}
 use Rattle.epoch_blocks.specs.Blocks.{is_at, is_listed, is_retired, recycled, put}
-use Rattle.epoch_core.specs.Runs.{next_world, run}
-use Rattle.epoch_core.specs.Sound.{IsDatedAt, IsSound}
 use Rattle.epoch_core.specs.Collections.{IsSettledNeed, IsUnsettledNeed, IsPinned, collecting}
 use Rattle.epoch_core.specs.Collections.{LeavesWhatPinsNeed, LeavesNoneUnpinned}
 use Rattle.epoch_blocks.proofs.Lists.{option_map_some, ChangedAt, changed_at-some, set_same, set_else}

@@ -1,30 +1,18 @@
 -- Steps of the whole state.
 use Rattle.std.proofs.Common.{◌≡◌, ℕ, zero, suc, ◌+◌, ◌≤◌, min, inl, inr, List, [], ◌∷◌, ◌++◌, length, refl, sym, ap, subst, ◌∙◌}
-use Rattle.std.proofs.Common.{arith}
-use Rattle.std.specs.Prelude.{if◌then◌else◌, is_some}
-use Rattle.std.specs.Option.{unwrap_or}
-use Rattle.std.specs.declared.option.Option.{Option}
-use Rattle.std.specs.declared.option.Option.TheVariants.{None, Some}
-use Rattle.std.proofs.lemmas.Bool.{cases_eq}
-use Rattle.std.proofs.lemmas.List.{length-replicate}
-use Rattle.graph_model.specs.Graph.{IsContent}
-use Rattle.graph_model.specs.declared.batches.NamedOp.{NamedOp}
-use Rattle.graph_model.specs.declared.contents.Content.{Content}
-use Rattle.epoch_blocks.specs.declared.states.Version.{Version}
-use Rattle.epoch_core.specs.declared.states.SessionState.TheVariants.{Idle}
-use Rattle.epoch_core.specs.declared.events.Event.{Event}
-use Rattle.epoch_blocks.specs.declared.steps.Step.{Step}
-use Rattle.epoch_blocks.specs.declared.states.Opening.{Opening}
+use Rattle.std.proofs.{Common.arith, lemmas.Bool.cases_eq, lemmas.List.length-replicate}
+use Rattle.std.specs.{Prelude.if◌then◌else◌, Prelude.is_some, Option.unwrap_or}
+use Rattle.std.specs.declared.option.Option.{Option, TheVariants.None, TheVariants.Some}
+use Rattle.graph_model.specs.{Graph.IsContent, declared.batches.NamedOp.NamedOp, declared.contents.Content.Content}
+use Rattle.epoch_blocks.specs.declared.{states.Version.Version, states.Opening.Opening, steps.Step.Step}
+use Rattle.epoch_core.specs.declared.{states.SessionState.TheVariants.Idle, events.Event.Event}
 use Rattle.epoch_core.specs.Worlds.{Answer, HasContents, State, World, empty_opening, start}
-use Rattle.epoch_blocks.specs.Versions.{IsContentGraph, graph_at}
-use Rattle.epoch_blocks.specs.Posting.{graph_after, version_by}
-use Rattle.epoch_core.specs.Machine.{Replies, step}
+use Rattle.epoch_blocks.specs.{Versions.IsContentGraph, Versions.graph_at, Posting.graph_after, Posting.version_by}
+use Rattle.epoch_core.specs.{Machine.Replies, Machine.step, Sound.IsCore, Sound.IsSound}
 use Rattle.epoch_core.specs.Runs.{AllReplies, Runs, Steps, count_of, done_in, is_done, next_world, run}
 use Rattle.epoch_blocks.specs.Blocks.{Stepped}
-use Rattle.epoch_core.specs.Sound.{IsCore, IsSound}
-use Rattle.epoch_core.proofs.Changes.{graph_before, graph_next, length_next}
+use Rattle.epoch_core.proofs.{Changes.graph_before, Changes.graph_next, Changes.length_next, Sizes.size_next}
 use Rattle.epoch_core.proofs.Steps.{sound_next, sound_start, start_is_start}
-use Rattle.epoch_core.proofs.Sizes.{size_next}
 use Rattle.epoch_core.proofs.Answering.{Adds, asked, adds}
 
 -- a step leads to what next_world, and says whether the event is done

@@ -1,19 +1,14 @@
 -- The epoch law, from what is sound.
 use Rattle.std.proofs.Common.{◌≡◌, ℕ, zero, suc, ◌≤◌, true, inl, inr, List, [], ◌∷◌, length, refl, sym}
-use Rattle.std.proofs.Common.{ap, subst, ◌∙◌, arith, ltb}
-use Rattle.std.specs.Prelude.{slice_get, if◌then◌else◌, count_by, is_some}
-use Rattle.std.specs.Option.{option_map}
-use Rattle.std.specs.declared.option.Option.{Option}
-use Rattle.std.specs.declared.option.Option.TheVariants.{None, Some}
-use Rattle.std.proofs.lemmas.Bool.Decides.{nat_tests}
-use Rattle.epoch_blocks.specs.declared.states.Status.{Status}
+use Rattle.std.proofs.{Common.ap, Common.subst, Common.◌∙◌, Common.arith, Common.ltb, lemmas.Bool.Decides.nat_tests}
+use Rattle.std.specs.{Prelude.slice_get, Prelude.if◌then◌else◌, Prelude.count_by, Prelude.is_some, Option.option_map}
+use Rattle.std.specs.declared.option.Option.{Option, TheVariants.None, TheVariants.Some}
+use Rattle.epoch_blocks.specs.{declared.states.Status.Status, Versions.blocks_at}
 use Rattle.epoch_blocks.specs.declared.states.Status.TheVariants.{Free, Fresh, Used, Retired}
-use Rattle.epoch_core.specs.declared.states.SessionState.{SessionState}
+use Rattle.epoch_core.specs.{declared.states.SessionState.SessionState, Machine.with_heap}
 use Rattle.epoch_core.specs.declared.states.SessionState.TheVariants.{Idle, Pinned, Holding, Asking}
 use Rattle.epoch_blocks.specs.Blocks.{filled, is_at, is_free, is_fresh, is_listed, is_retired, is_used}
 use Rattle.epoch_core.specs.Worlds.{World, held_in, pin_in, session_of}
-use Rattle.epoch_blocks.specs.Versions.{blocks_at}
-use Rattle.epoch_core.specs.Machine.{with_heap}
 use Rattle.epoch_core.specs.Epochs.{FillsNoHeldBlock, IsPartition, PinsInOrder}
 use Rattle.epoch_core.specs.Sound.{IsKeptAt, IsSessionSound, IsSound}
 use Rattle.epoch_blocks.proofs.Lists.{true_or_false}

@@ -1,25 +1,16 @@
 -- Small runs, computed.
-use Rattle.std.proofs.Common.{◌≡◌, ℕ, true, false, cond, List, [], ◌∷◌, ◌++◌, refl, sym, ap, ◌∙◌, arith, pos}
-use Rattle.std.proofs.Common.{negsuc, length}
-use Rattle.std.specs.Prelude.{ℤ, if◌then◌else◌, is_some}
-use Rattle.std.specs.Option.{unwrap_or}
-use Rattle.std.specs.Ordering.{eq_by_cmp}
+use Rattle.std.proofs.Common.{◌≡◌, ℕ, true, false, cond, List, [], ◌∷◌, ◌++◌, refl, sym, ap, ◌∙◌, arith, pos, negsuc, length}
+use Rattle.std.specs.{Prelude.ℤ, Prelude.if◌then◌else◌, Prelude.is_some, Option.unwrap_or, Ordering.eq_by_cmp}
 use Rattle.std.specs.FinMap.{FinMap, get, insert, empty, get-empty, get-insert, same_map}
 use Rattle.std.specs.declared.option.Option.TheVariants.{None, Some}
-use Rattle.graph_model.specs.Graph.{Graph, Key, Stamp, key_cmp}
-use Rattle.graph_model.specs.Step.{after_all, set_at, stamp_after}
-use Rattle.graph_model.specs.declared.ids.Edge.{Edge}
-use Rattle.graph_model.specs.declared.batches.NamedOp.{NamedOp}
+use Rattle.graph_model.specs.{Graph.Graph, Graph.Key, Graph.Stamp, Graph.key_cmp, Step.after_all, Step.set_at, Step.stamp_after}
+use Rattle.graph_model.specs.declared.{ids.Edge.Edge, batches.NamedOp.NamedOp}
 use Rattle.graph_model.specs.declared.changes.EdgeChange.TheVariants.{Insert, Incr}
 use Rattle.graph_model.proofs.Keys.{keys_total, exact_keys, once_none, once_cons, HasKeysOnce}
-use Rattle.epoch_core.specs.declared.events.Event.{Event}
+use Rattle.epoch_core.specs.{declared.events.Event.Event, declared.events.Event.TheVariants.Release, Posts.posted, Runs.run}
 use Rattle.epoch_core.specs.declared.events.Event.TheVariants.{Take, Fill, Post, Floor, Pin, Enter, Settle, Ask, Read, Reply}
-use Rattle.epoch_core.specs.declared.events.Event.TheVariants.{Release}
 use Rattle.epoch_core.specs.Worlds.{World, empty_opening, start_world}
-use Rattle.epoch_blocks.specs.Versions.{left}
-use Rattle.epoch_blocks.specs.Posting.{can_post, are_edges_of}
-use Rattle.epoch_core.specs.Posts.{posted}
-use Rattle.epoch_core.specs.Runs.{run}
+use Rattle.epoch_blocks.specs.{Versions.left, Posting.can_post, Posting.are_edges_of}
 use Rattle.epoch_core.specs.Holdings.{Holding, holdings_of, observations}
 use Rattle.epoch_core.specs.Examples.{AreExamples, name_a, name_b, kind_k, put_edge, add_to_edge, edge_of, ask_edge}
 use Rattle.epoch_core.specs.Examples.{short_batches, long_batches, of_short, of_long}

@@ -1,19 +1,14 @@
 -- Each event keeps what is sound: blocks and versions.
 use Rattle.std.proofs.Common.{◌≡◌, ◌≢◌, ℕ, ◌≤◌, Bool, true, false, inl, inr, List, [], set, take, refl, sym, ap, subst, ◌∙◌}
-use Rattle.std.proofs.Common.{arith}
+use Rattle.std.proofs.{Common.arith, lemmas.Bool.cases_eq, lemmas.List.get_or-set_other, lemmas.List.length-set}
 use Rattle.std.specs.Prelude.{slice_get, if◌then◌else◌}
-use Rattle.std.specs.declared.option.Option.{Option}
-use Rattle.std.specs.declared.option.Option.TheVariants.{None, Some}
-use Rattle.std.proofs.lemmas.Bool.{cases_eq}
-use Rattle.std.proofs.lemmas.List.{get_or-set_other, length-set}
+use Rattle.std.specs.declared.option.Option.{Option, TheVariants.None, TheVariants.Some}
 use Rattle.graph_model.specs.declared.ids.Edge.{Edge}
 use Rattle.epoch_blocks.specs.declared.states.Status.{Status}
 use Rattle.epoch_blocks.specs.declared.states.Status.TheVariants.{Free, Fresh, Used, Retired}
-use Rattle.epoch_core.specs.declared.states.Hold.{Hold}
-use Rattle.epoch_core.specs.declared.states.SessionState.{SessionState}
+use Rattle.epoch_core.specs.declared.states.{Hold.Hold, SessionState.SessionState}
 use Rattle.epoch_core.specs.declared.states.SessionState.TheVariants.{Idle, Pinned, Holding, Asking}
-use Rattle.pin_copy.specs.declared.copies.PinCopy.{PinCopy}
-use Rattle.pin_copy.specs.Copies.{needs}
+use Rattle.pin_copy.specs.{declared.copies.PinCopy.PinCopy, Copies.needs}
 use Rattle.epoch_blocks.specs.Blocks.{filled, is_at, is_fresh, is_listed, is_used, recycled, taken}
 use Rattle.epoch_blocks.specs.Versions.{Shows, blocks_at, edges_at, edges_of, graph_at, version_at}
 use Rattle.epoch_core.specs.Worlds.{World, last_blocks, last_graph, last_number, session_of}

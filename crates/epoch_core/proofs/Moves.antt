@@ -2,27 +2,19 @@
 use Rattle.std.proofs.Common.{◌≡◌, ◌≢◌, ℕ, zero, suc, ◌+◌, ◌<◌, ◌≤◌, Bool, true, false, not, inl, inr, List, [], ◌∷◌, ◌++◌}
 use Rattle.std.proofs.Common.{length, map, get_or, set, take, refl, sym, ap, subst, ◌∙◌, arith, add-one, min}
 use Rattle.std.specs.Prelude.{slice_get, if◌then◌else◌}
-use Rattle.std.specs.declared.option.Option.{Option}
-use Rattle.std.specs.declared.option.Option.TheVariants.{None, Some}
-use Rattle.std.proofs.lemmas.Bool.{cases_eq}
-use Rattle.std.proofs.lemmas.Grind.{flat_map-append}
-use Rattle.std.proofs.lemmas.List.{get_or-set_same, get_or-set_other, append-nil}
-use Rattle.graph_model.specs.declared.ids.Edge.{Edge}
-use Rattle.graph_model.specs.declared.requests.Request.{Request}
-use Rattle.epoch_blocks.specs.declared.states.Status.{Status}
+use Rattle.std.specs.declared.option.Option.{Option, TheVariants.None, TheVariants.Some}
+use Rattle.std.proofs.lemmas.{Bool.cases_eq, Grind.flat_map-append, List.get_or-set_same, List.get_or-set_other, List.append-nil}
+use Rattle.graph_model.specs.declared.{ids.Edge.Edge, requests.Request.Request}
+use Rattle.epoch_blocks.specs.{declared.states.Status.Status, Blocks.is_at, Blocks.is_listed, Blocks.is_used}
 use Rattle.epoch_blocks.specs.declared.states.Status.TheVariants.{Free, Fresh, Used, Retired}
-use Rattle.epoch_core.specs.declared.states.Hold.{Hold}
-use Rattle.epoch_core.specs.declared.states.Inquiry.{Inquiry}
-use Rattle.epoch_core.specs.declared.states.SessionState.{SessionState}
+use Rattle.epoch_core.specs.declared.states.{Hold.Hold, Inquiry.Inquiry, SessionState.SessionState}
 use Rattle.epoch_core.specs.declared.states.SessionState.TheVariants.{Idle, Pinned, Holding, Asking}
-use Rattle.epoch_blocks.specs.Blocks.{is_at, is_listed, is_used}
 use Rattle.pin_copy.specs.Copies.{needs}
 use Rattle.pin_copy.proofs.Least.{late_needed, settled_needed, unsettled_needed}
 use Rattle.epoch_core.specs.Worlds.{World, copy_of, last_blocks, last_number, pin_if, pin_in, session_of, settled_in}
-use Rattle.epoch_core.specs.Worlds.{unsettled_in}
+use Rattle.epoch_core.specs.{Worlds.unsettled_in, Machine.to_release, Machine.to_reply, Machine.to_settle, Machine.with_sessions}
 use Rattle.epoch_blocks.specs.Versions.{blocks_at, edges_at, edges_of}
 use Rattle.epoch_core.specs.Machine.{is_all_read, least_pin, lesser, move, read_on, settled_at, to_ask, to_enter, to_pin, to_read}
-use Rattle.epoch_core.specs.Machine.{to_release, to_reply, to_settle, with_sessions}
 use Rattle.epoch_core.specs.Sound.{IsCovered, IsDatedAt, IsHeld, IsKeptAt, IsNamed, IsSessionSound, IsSound}
 use Rattle.epoch_blocks.proofs.Lists.{option_map_some, ChangedAt, changed_at-some, within, get_at, take_one_more}
 use Rattle.epoch_core.proofs.Keeping.{Carries, carry}

@@ -1,12 +1,9 @@
 -- What calls on one element do to the whole.
 use Rattle.std.proofs.Common.{◌≡◌, ℕ, ◌<◌, List, length, get_or, set, sym, ap, subst, ◌∙◌}
-use Rattle.std.specs.Prelude.{slice_get}
-use Rattle.std.specs.Option.{option_and_then}
-use Rattle.std.specs.declared.option.Option.{Option}
-use Rattle.std.specs.declared.option.Option.TheVariants.{None, Some}
+use Rattle.std.specs.{Prelude.slice_get, Option.option_and_then}
+use Rattle.std.specs.declared.option.Option.{Option, TheVariants.None, TheVariants.Some}
 use Rattle.std.proofs.lemmas.List.{set-get_or}
-use Rattle.epoch_blocks.specs.Blocks.{changed_at, put, Stepped}
-use Rattle.epoch_blocks.specs.declared.steps.Step.{Step}
+use Rattle.epoch_blocks.specs.{Blocks.changed_at, Blocks.put, Blocks.Stepped, declared.steps.Step.Step}
 use Rattle.epoch_blocks.proofs.Lists.{at_from_within}
 
 put_at : {A : Type 0} (o : Option A) (xs : List A) (i : ℕ) (d : A) (outcome : Step) (new : A)

@@ -1,23 +1,15 @@
 -- The start over an opening content is one from which a run may start.
 use Rattle.std.proofs.Common.{◌≡◌, ◌≢◌, ℕ, zero, suc, ◌<◌, ◌==◌, ◌||◌, Bool, true, false, cond, List, [], ◌∷◌, ◌++◌, length}
 use Rattle.std.proofs.Common.{set, replicate, refl, sym, ap, subst, ◌∙◌, arith, All, AllPairs}
-use Rattle.std.specs.Prelude.{slice_get}
-use Rattle.std.specs.List.{flat_map}
-use Rattle.std.specs.declared.option.Option.TheVariants.{Some}
+use Rattle.std.specs.{Prelude.slice_get, List.flat_map, declared.option.Option.TheVariants.Some}
 use Rattle.std.proofs.lemmas.Bool.{eqb-true, eqb-false}
 use Rattle.std.proofs.lemmas.List.{length-replicate, length-set, get_or-set_same, get_or-set_other}
 use Rattle.std.proofs.lemmas.List.Elements.{All-head, All-tail, All-nil, All-cons}
-use Rattle.graph_model.specs.Graph.{graph_of}
-use Rattle.graph_model.specs.declared.ids.Edge.{Edge}
-use Rattle.graph_model.specs.declared.contents.Content.{Content}
-use Rattle.epoch_blocks.specs.declared.states.Status.{Status}
-use Rattle.epoch_blocks.specs.declared.states.Status.TheVariants.{Free, Used}
-use Rattle.epoch_blocks.specs.Blocks.{is_listed}
-use Rattle.epoch_blocks.specs.Versions.{Shows, edges_at}
+use Rattle.graph_model.specs.{Graph.graph_of, declared.ids.Edge.Edge, declared.contents.Content.Content}
+use Rattle.epoch_blocks.specs.declared.states.Status.{Status, TheVariants.Free, TheVariants.Used}
+use Rattle.epoch_blocks.specs.{Blocks.is_listed, Versions.Shows, Versions.edges_at}
 use Rattle.epoch_blocks.proofs.Lists.{set_same, set_else}
-use Rattle.epoch_core.specs.declared.states.SessionState.TheVariants.{Idle}
-use Rattle.epoch_core.specs.Worlds.{IsStart, HasContents}
-use Rattle.epoch_core.specs.Sound.{IsCore}
+use Rattle.epoch_core.specs.{declared.states.SessionState.TheVariants.Idle, Worlds.IsStart, Worlds.HasContents, Sound.IsCore}
 use Rattle.epoch_core.specs.Opened.{Lists, numbers_in, heap_with, status_with, opened_state, IsOpening}
 use Rattle.epoch_core.proofs.Steps.{sound_start, free_at}
 

@@ -2,24 +2,17 @@
 use Rattle.std.proofs.Common.{◌≡◌, ◌≢◌, ◌⊎◌, ◌↔◌, ℕ, suc, ◌<◌, Bool, true, false, not, inl, inr, List, [], ◌∷◌}
 use Rattle.std.proofs.Common.{length, Decides, refl, sym, ◌∙◌, arith, eqb, leb}
 use Rattle.std.specs.Prelude.{slice_get, if◌then◌else◌, is_some, All, AllPairs, IsTrue}
-use Rattle.std.specs.declared.option.Option.{Option}
-use Rattle.std.specs.declared.option.Option.TheVariants.{None, Some}
+use Rattle.std.specs.declared.option.Option.{Option, TheVariants.None, TheVariants.Some}
 use Rattle.std.proofs.lemmas.Bool.Decides.{Decides-and, Decides-or, Decides-not, Decides-like, Decides-by_and, Decides-eqb}
-use Rattle.std.proofs.lemmas.Bool.Decides.{Decides-ltb, leb_tells}
-use Rattle.std.proofs.lemmas.List.Kept.{AllPairs-cons}
-use Rattle.graph_model.specs.Limits.{batch_limit, name_limit, kind_limit}
-use Rattle.graph_model.specs.declared.batches.NamedOp.{NamedOp}
-use Rattle.epoch_blocks.specs.declared.states.Status.{Status}
+use Rattle.std.proofs.lemmas.{Bool.Decides.Decides-ltb, Bool.Decides.leb_tells, List.Kept.AllPairs-cons}
+use Rattle.graph_model.specs.{Limits.batch_limit, Limits.name_limit, Limits.kind_limit, declared.batches.NamedOp.NamedOp}
+use Rattle.epoch_blocks.specs.{declared.states.Status.Status, Blocks.all_differ, Blocks.is_at, Blocks.is_fresh, Blocks.is_listed}
 use Rattle.epoch_blocks.specs.declared.states.Status.TheVariants.{Free, Fresh, Used, Retired}
-use Rattle.epoch_core.specs.declared.events.Event.TheVariants.{Post}
-use Rattle.epoch_blocks.specs.Blocks.{all_differ, is_at, is_fresh, is_listed}
-use Rattle.epoch_core.specs.Worlds.{World, last_blocks, last_number}
+use Rattle.epoch_core.specs.{declared.events.Event.TheVariants.Post, Worlds.World, Worlds.last_blocks, Worlds.last_number}
 use Rattle.epoch_blocks.specs.Versions.{edges_of}
-use Rattle.epoch_core.specs.Posts.{MayPost, posted}
+use Rattle.epoch_core.specs.{Posts.MayPost, Posts.posted, Runs.is_done}
 use Rattle.epoch_blocks.specs.Posting.{all_listable, can_post, graph_after, is_listable}
-use Rattle.epoch_core.specs.Runs.{is_done}
-use Rattle.epoch_blocks.proofs.Lists.{and_left, and_right, neither}
-use Rattle.epoch_blocks.proofs.Edges.{Decides-edges}
+use Rattle.epoch_blocks.proofs.{Lists.and_left, Lists.and_right, Lists.neither, Edges.Decides-edges}
 
 Decides-fresh : (o : Option Status) → Decides (is_at is_fresh o) (o ≡ Some Fresh)
 Decides-fresh None = (λ e. cc, λ e. cc)

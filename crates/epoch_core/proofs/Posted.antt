@@ -1,25 +1,20 @@
 -- Each event keeps what is sound: a batch is posted.
 use Rattle.std.proofs.Common.{◌≡◌, ◌≢◌, ◌||◌, add-one, ℕ, suc, ◌+◌, ◌<◌, ◌≤◌, Bool, true, false, inl, inr, List, [], ◌∷◌, ◌++◌}
 use Rattle.std.proofs.Common.{length, refl, sym, ap, subst, ◌∙◌, arith}
-use Rattle.std.specs.Prelude.{slice_get, AllPairs}
-use Rattle.std.specs.Option.{option_map}
-use Rattle.std.specs.declared.option.Option.{Option}
-use Rattle.std.specs.declared.option.Option.TheVariants.{None, Some}
+use Rattle.std.specs.{Prelude.slice_get, Prelude.AllPairs, Option.option_map}
+use Rattle.std.specs.declared.option.Option.{Option, TheVariants.None, TheVariants.Some}
 use Rattle.std.proofs.lemmas.Bool.{cases_eq}
 use Rattle.graph_model.specs.declared.batches.NamedOp.{NamedOp}
-use Rattle.epoch_blocks.specs.declared.states.Status.{Status}
+use Rattle.epoch_blocks.specs.declared.states.{Status.Status, Version.Version}
 use Rattle.epoch_blocks.specs.declared.states.Status.TheVariants.{Free, Fresh, Used, Retired}
-use Rattle.epoch_blocks.specs.declared.states.Version.{Version}
 use Rattle.epoch_blocks.specs.Blocks.{after_post, is_at, is_fresh, is_listed, is_used, status_after}
 use Rattle.epoch_blocks.specs.Versions.{Shows, edges_of, graph_at, version_at}
 use Rattle.epoch_core.specs.Worlds.{World, last_blocks, last_graph, last_number, session_of}
-use Rattle.epoch_core.specs.Posts.{MayPost, posted}
+use Rattle.epoch_core.specs.{Posts.MayPost, Posts.posted, Sound.IsDatedAt, Sound.IsKeptAt, Sound.IsNamed, Sound.IsSound}
 use Rattle.epoch_blocks.specs.Posting.{all_listable, can_post, graph_after, is_listable, version_by}
-use Rattle.epoch_core.specs.Sound.{IsDatedAt, IsKeptAt, IsNamed, IsSound}
 use Rattle.epoch_blocks.proofs.Lists.{get_enumerated, length_enumerated, all_listed}
 use Rattle.epoch_core.proofs.Changes.{length_next, version_before, graph_before, version_next, graph_next}
-use Rattle.epoch_core.proofs.PostRule.{Decides-post, listable_of}
-use Rattle.epoch_core.proofs.Keeping.{Carries, carry}
+use Rattle.epoch_core.proofs.{PostRule.Decides-post, PostRule.listable_of, Keeping.Carries, Keeping.carry}
 
 -- the status of each block afterwards
 pub status_at : (n : ℕ) (blocks : List ℕ) (status : List Status) (b : ℕ) → slice_get (status_after n blocks status) b

@@ -1,22 +1,15 @@
 -- No event changes how many blocks and sessions there are.
 use Rattle.std.proofs.Common.{◌≡◌, ℕ, ◌+◌, Bool, true, false, List, [], ◌∷◌, length, refl, sym, ap, subst, ◌∙◌}
-use Rattle.std.specs.Prelude.{if◌then◌else◌}
-use Rattle.std.specs.Option.{option_map, unwrap_or}
-use Rattle.std.specs.declared.option.Option.{Option}
-use Rattle.std.specs.declared.option.Option.TheVariants.{None, Some}
+use Rattle.std.specs.{Prelude.if◌then◌else◌, Option.option_map, Option.unwrap_or}
+use Rattle.std.specs.declared.option.Option.{Option, TheVariants.None, TheVariants.Some}
 use Rattle.std.proofs.lemmas.List.{length-set}
-use Rattle.epoch_blocks.specs.declared.states.Status.{Status}
-use Rattle.epoch_core.specs.declared.states.SessionState.{SessionState}
-use Rattle.epoch_core.specs.declared.events.Event.{Event}
+use Rattle.epoch_blocks.specs.{declared.states.Status.Status, Posting.can_post}
+use Rattle.epoch_core.specs.{declared.states.SessionState.SessionState, Worlds.World, Worlds.last_number, Posts.posted}
+use Rattle.epoch_core.specs.declared.events.Event.{Event, TheVariants.Reply, TheVariants.Release}
 use Rattle.epoch_core.specs.declared.events.Event.TheVariants.{Take, Fill, Post, Floor, Recycle, Pin, Enter, Settle, Ask, Read}
-use Rattle.epoch_core.specs.declared.events.Event.TheVariants.{Reply, Release}
 use Rattle.epoch_blocks.specs.Blocks.{after_post, changed_at, filled, is_listed, recycled, taken}
-use Rattle.epoch_core.specs.Worlds.{World, last_number}
-use Rattle.epoch_blocks.specs.Posting.{can_post}
-use Rattle.epoch_core.specs.Posts.{posted}
 use Rattle.epoch_core.specs.Machine.{move, step, to_ask, to_enter, to_pin, to_read, to_release, to_reply, to_settle, with_heap}
-use Rattle.epoch_core.specs.Machine.{with_status}
-use Rattle.epoch_core.specs.Runs.{next_world, run}
+use Rattle.epoch_core.specs.{Machine.with_status, Runs.next_world, Runs.run}
 use Rattle.epoch_blocks.proofs.Lists.{option_map_some, ChangedAt, changed_at-some, length_enumerated}
 use Rattle.epoch_core.proofs.Moves.{Moved, moved}
 

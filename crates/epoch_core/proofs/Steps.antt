@@ -3,31 +3,24 @@ use Rattle.std.proofs.Common.{◌≡◌, ◌≢◌, ◌||◌, ◌<◌, inl, inr,
 use Rattle.std.proofs.Common.{get_or, replicate, refl, sym, ap, subst, ◌∙◌, arith}
 use Rattle.std.specs.Prelude.{slice_get, if◌then◌else◌, All, AllPairs}
 use Rattle.std.specs.Option.{option_map, unwrap_or}
-use Rattle.std.specs.declared.option.Option.{Option}
-use Rattle.std.specs.declared.option.Option.TheVariants.{None, Some}
-use Rattle.std.proofs.lemmas.List.{length-replicate}
-use Rattle.std.proofs.lemmas.Option.{slice_get_past}
+use Rattle.std.specs.declared.option.Option.{Option, TheVariants.None, TheVariants.Some}
+use Rattle.std.proofs.lemmas.{List.length-replicate, Option.slice_get_past}
 use Rattle.graph_model.specs.declared.ids.Edge.{Edge}
-use Rattle.epoch_blocks.specs.declared.states.Status.{Status}
-use Rattle.epoch_blocks.specs.declared.states.Status.TheVariants.{Free, Used}
-use Rattle.epoch_core.specs.declared.states.SessionState.TheVariants.{Idle}
-use Rattle.epoch_core.specs.declared.events.Event.{Event}
+use Rattle.epoch_blocks.specs.declared.states.Status.{Status, TheVariants.Free, TheVariants.Used}
+use Rattle.epoch_core.specs.{declared.states.SessionState.TheVariants.Idle, Posts.posted, Runs.next_world, Runs.run}
+use Rattle.epoch_core.specs.declared.events.Event.{Event, TheVariants.Reply, TheVariants.Release}
 use Rattle.epoch_core.specs.declared.events.Event.TheVariants.{Take, Fill, Post, Floor, Recycle, Pin, Enter, Settle, Ask, Read}
-use Rattle.epoch_core.specs.declared.events.Event.TheVariants.{Reply, Release}
 use Rattle.epoch_blocks.specs.Blocks.{changed_at, is_at, is_listed, is_used, recycled, taken}
 use Rattle.epoch_blocks.specs.Versions.{opening_graph, blocks_at, edges_of, graph_at, Shows}
 use Rattle.epoch_core.specs.Worlds.{IsStart, World, last_blocks, last_graph, last_number, session_of, start, State}
 use Rattle.epoch_blocks.specs.Posting.{can_post}
-use Rattle.epoch_core.specs.Posts.{posted}
 use Rattle.epoch_core.specs.Machine.{step, with_heap, with_status}
-use Rattle.epoch_core.specs.Runs.{next_world, run}
 use Rattle.epoch_core.specs.Sound.{IsDated, IsDatedAt, IsNamed, IsSessionSound, IsSound}
 use Rattle.epoch_blocks.proofs.Lists.{true_or_false, below_or_past, option_map_some, ChangedAt, changed_at-some}
 use Rattle.graph_model.proofs.Keys.{once_none}
 use Rattle.epoch_core.proofs.Keeping.{FreesNone, frees_taken, frees_recycled, sound_status, Fills, fills, sound_fill}
-use Rattle.epoch_core.proofs.Posted.{sound_posted}
+use Rattle.epoch_core.proofs.{Posted.sound_posted, Moves.keeps_read, Moves.keeps_reply, Moves.keeps_release}
 use Rattle.epoch_core.proofs.Moves.{sound_floor, floored, sound_move, keeps_pin, keeps_enter, keeps_settle, keeps_ask}
-use Rattle.epoch_core.proofs.Moves.{keeps_read, keeps_reply, keeps_release}
 
 sound_changed : (w after : World) (b : ℕ) (change : Status → Option Status) → IsSound w
     → ((s t : Status) → change s ≡ Some t → FreesNone w.copy s t)

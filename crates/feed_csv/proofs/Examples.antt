@@ -1,8 +1,6 @@
 -- Records and what they give, computed from the definitions.
 use Rattle.std.proofs.Common.{◌≡◌, ◌∷◌, [], codes, refl, None, Ok, Err, pos, negsuc}
-use Rattle.csv.specs.Machine.{next_record}
-use Rattle.csv.specs.Reading.{records_from, strip_bom}
-use Rattle.csv.specs.Records.{field_at}
+use Rattle.csv.specs.{Machine.next_record, Reading.records_from, Reading.strip_bom, Records.field_at}
 use Rattle.graph_model.specs.declared.batches.NamedOp.TheVariants.{Insert, Incr}
 use Rattle.graph_model.specs.declared.requests.Request.TheVariants.{Degrees, Levels}
 use Rattle.feed_csv.specs.Commands.{collect_of, commit_of, degrees_of, incr_of, insert_of, item_of, levels_of, rebase_of, stat_of}

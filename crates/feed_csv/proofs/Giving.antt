@@ -1,9 +1,7 @@
 -- What the rules for commands give.
 use Rattle.std.proofs.Common.{◌≡◌, Result, Ok, Err, sym}
 use Rattle.feed_csv.specs.Commands.{Gives, Refuses}
-use Rattle.feed_csv.specs.declared.command.Command.{Command}
-use Rattle.feed_csv.specs.declared.command.FeedWord.{FeedWord}
-use Rattle.feed_csv.specs.declared.command.FeedWord.TheVariants.{Memory}
+use Rattle.feed_csv.specs.declared.command.{Command.Command, FeedWord.FeedWord, FeedWord.TheVariants.Memory}
 
 pub refuses_same : (word : FeedWord) (item : Result Command FeedWord) → item ≡ Err word → Refuses word item
 refuses_same Memory item same = tt

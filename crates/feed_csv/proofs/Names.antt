@@ -1,9 +1,7 @@
 -- A name is text.
 use Rattle.std.proofs.Common.{◌≡◌, ℕ, zero, suc, ◌<◌, List, [], ◌∷◌, get_or, Bool, true, false, ◌&&◌, refl, arith}
-use Rattle.std.specs.List.{list_all}
-use Rattle.std.specs.Str.{IsAscii, IsUtf8}
-use Rattle.std.proofs.lemmas.Bool.Decides.{nat_tests}
-use Rattle.std.proofs.lemmas.Str.{IsUtf8-from_ascii}
+use Rattle.std.specs.{List.list_all, Str.IsAscii, Str.IsUtf8}
+use Rattle.std.proofs.lemmas.{Bool.Decides.nat_tests, Str.IsUtf8-from_ascii}
 use Rattle.graph_model.specs.Valid.{is_kind_name, is_name, is_printable}
 
 both : (a b : Bool) → (a && b) ≡ true → (a ≡ true) × (b ≡ true)

@@ -1,15 +1,11 @@
 -- A record is refused for what it says, and never for a failed read or want of memory.
 use Rattle.std.proofs.Common.{◌≡◌, ◌≢◌, ℕ, Bool, true, false, cond, codes, List, Option, Some, None, Result, Ok, Err, refl, rules}
 use Rattle.feed_csv.specs.Commands.{Refuses, close_of, commit_of, cores_of, degrees_of, edge_of, expire_of, incr_of, insert_of, item_of}
-use Rattle.feed_csv.specs.Commands.{collect_of, rebase_of, stat_of}
-use Rattle.feed_csv.specs.Commands.{labels_of, levels_of, open_of, remove_of}
+use Rattle.feed_csv.specs.Commands.{collect_of, rebase_of, stat_of, labels_of, levels_of, open_of, remove_of}
 use Rattle.feed_csv.specs.Fields.{◌>>=◌, any_kind_at, field, kind_at, name_at, of_length, required, slot_at, time_at, weight_at}
-use Rattle.feed_csv.specs.Records.{Row}
+use Rattle.feed_csv.specs.{Records.Row, Script.FaultStep, Script.Script, Script.TakesRow}
 use Rattle.std.specs.Str.{bytes_eq}
-use Rattle.feed_csv.specs.Script.{FaultStep, Script, TakesRow}
-use Rattle.feed_csv.specs.declared.command.FeedWord.{FeedWord}
-use Rattle.feed_csv.specs.declared.command.FeedWord.TheVariants.{Read, BadCommand}
-use Rattle.feed_csv.specs.declared.command.FeedWord.TheVariants.{Memory}
+use Rattle.feed_csv.specs.declared.command.FeedWord.{FeedWord, TheVariants.Read, TheVariants.BadCommand, TheVariants.Memory}
 
 abbrev pub IsOfRecord : FeedWord → Type 0
 IsOfRecord Read = ⊥

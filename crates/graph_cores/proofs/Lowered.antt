@@ -1,12 +1,9 @@
 -- What taking a neighbor from each listed vertex does.
 use Rattle.std.proofs.Common.{◌≡◌, ℕ, ◌+◌, ◌-◌, ◌<◌, ◌≤◌, suc, arith, refl, sym, ap, ◌∙◌, subst, inl, inr, List, [], ◌∷◌, ◌++◌}
 use Rattle.std.proofs.Common.{length, set, cond, true, false, Bool}
-use Rattle.std.specs.Prelude.{◌==◌, All, sum}
-use Rattle.std.specs.List.{Contains}
-use Rattle.std.proofs.lemmas.Bool.{cases_eq}
-use Rattle.std.proofs.lemmas.Bool.Decides.{Decides-eqb}
-use Rattle.std.proofs.lemmas.List.{get_or-set_same, get_or-set_other, length-set, length-append}
-use Rattle.std.proofs.lemmas.List.Sums.{sum_by-set}
+use Rattle.std.specs.{Prelude.◌==◌, Prelude.All, Prelude.sum, List.Contains}
+use Rattle.std.proofs.lemmas.Bool.{cases_eq, Decides.Decides-eqb}
+use Rattle.std.proofs.lemmas.List.{get_or-set_same, get_or-set_other, length-set, length-append, Sums.sum_by-set}
 use Rattle.std.proofs.lemmas.List.Elements.{All-weaker, All-push, All-tail, Contains-push, Contains-append_left}
 use Rattle.graph_model.specs.Arcs.{at}
 use Rattle.graph_cores.specs.Peel.{lowered}

@@ -1,12 +1,8 @@
 -- How often a number is listed, and how many of a list are left.
 use Rattle.std.proofs.Common.{◌≡◌, ◌≢◌, ℕ, ◌+◌, ◌<◌, ◌≤◌, arith, refl, ap, ◌∙◌, inl, inr, List, [], ◌∷◌, length, set, true, false}
-use Rattle.std.proofs.Common.{Bool}
-use Rattle.std.specs.Prelude.{◌==◌, All, AllPairs, count_by}
-use Rattle.std.specs.List.{Contains, range_with_len}
-use Rattle.std.proofs.lemmas.Bool.{cases_eq, cases_Bool, cases_lt}
-use Rattle.std.proofs.lemmas.Bool.Decides.{Decides-eqb}
-use Rattle.std.proofs.lemmas.List.{get_or-set_same, get_or-set_other}
-use Rattle.std.proofs.lemmas.List.Elements.{All-contains}
+use Rattle.std.proofs.{Common.Bool, lemmas.List.get_or-set_same, lemmas.List.get_or-set_other, lemmas.List.Elements.All-contains}
+use Rattle.std.specs.{Prelude.◌==◌, Prelude.All, Prelude.AllPairs, Prelude.count_by, List.Contains, List.range_with_len}
+use Rattle.std.proofs.lemmas.Bool.{cases_eq, cases_Bool, cases_lt, Decides.Decides-eqb}
 use Rattle.std.proofs.lemmas.List.FromFn.{length-range_with_len, get_or-range_with_len}
 use Rattle.graph_model.proofs.Counts.{Contains-cons_cases, Contains-nil, Contains-first, Contains-cons, apart_tail, apart_head}
 use Rattle.graph_model.proofs.Counts.{count_yes, count_no, sub_length}

@@ -1,16 +1,10 @@
 -- The edges that blocks lend under a filter.
 use Rattle.std.proofs.Common.{◌≡◌, ℕ, ◌+◌, ◌<◌, List, [], ◌∷◌, ◌++◌, length, get_or, map, drop, add-one, drop-cons, true, false}
-use Rattle.std.proofs.Common.{cond, refl, ap, ◌∙◌}
-use Rattle.std.specs.Prelude.{filter}
-use Rattle.std.specs.declared.sync.Arc.{Arc}
-use Rattle.std.specs.declared.alloc.Global.{Global}
-use Rattle.std.proofs.lemmas.List.Elements.{filter-append}
-use Rattle.graph_model.specs.View.{in_view}
-use Rattle.graph_model.specs.declared.ids.Edge.{Edge}
-use Rattle.graph_model.specs.declared.ids.Filter.{Filter}
+use Rattle.std.proofs.{Common.cond, Common.refl, Common.ap, Common.◌∙◌, lemmas.List.Elements.filter-append}
+use Rattle.std.specs.{Prelude.filter, declared.sync.Arc.Arc, declared.alloc.Global.Global}
+use Rattle.graph_model.specs.{View.in_view, declared.ids.Edge.Edge, declared.ids.Filter.Filter}
 use Rattle.edge_block.specs.Slots.{Slot, BlockView, edges_in, entry_in, entries_of}
-use Rattle.edge_block.specs.Lending.{LentEdge, lent_of}
-use Rattle.edge_block.specs.declared.blocks.Block.{Block}
+use Rattle.edge_block.specs.{Lending.LentEdge, Lending.lent_of, declared.blocks.Block.Block}
 use Rattle.row_pages.specs.Sharing.{block_value, block_values}
 use Rattle.graph_version.specs.Edges.{edge_from, edges_in_block, edges_in_blocks}
 use Rattle.graph_degrees.specs.Tallies.{passes, shown_block, shown_edges}

@@ -2,17 +2,11 @@
 use Rattle.std.proofs.Common.{◌≡◌, ℕ, ◌+◌, ◌<◌, Bool, true, false, cond, ◌&&◌, eqb, List, [], ◌∷◌, ◌++◌, length, map, ℤ, pos}
 use Rattle.std.proofs.Common.{◌+ℤ◌, refl, sym, ap, subst, ◌∙◌, arith, rules, w64, FitsSigned}
 use Rattle.std.specs.Prelude.{filter, fold, All}
-use Rattle.std.proofs.lemmas.Int.{ints}
-use Rattle.std.proofs.lemmas.List.{map-append}
+use Rattle.std.proofs.lemmas.{Int.ints, List.map-append, List.Sums.sum_by_push, List.Sums.fold-append}
 use Rattle.std.proofs.lemmas.List.Elements.{filter-append, All-append, All-cons, All-nil, All-head}
-use Rattle.std.proofs.lemmas.List.Sums.{sum_by_push, fold-append}
-use Rattle.graph_model.specs.Graph.{entry_of, stamp_of}
-use Rattle.graph_model.specs.Limits.{IsWeight, kind_limit}
-use Rattle.graph_model.specs.View.{leaves, enters}
+use Rattle.graph_model.specs.{Graph.entry_of, Graph.stamp_of, Limits.IsWeight, Limits.kind_limit, View.leaves, View.enters}
 use Rattle.graph_model.specs.Degrees.{listed_degree, with_edge, CountsEdge, IsWithinLimits}
-use Rattle.graph_model.specs.declared.ids.Edge.{Edge}
-use Rattle.graph_model.specs.declared.ids.Degree.{Degree}
-use Rattle.graph_model.specs.declared.ids.Filter.{Filter}
+use Rattle.graph_model.specs.declared.ids.{Edge.Edge, Degree.Degree, Filter.Filter}
 use Rattle.graph_model.proofs.DegreeBounds.{degree_within}
 use Rattle.edge_block.specs.Slots.{IsStamp}
 use Rattle.graph_degrees.specs.Tallies.{passes, HasRoomFor, Counts}

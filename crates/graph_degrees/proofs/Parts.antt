@@ -3,10 +3,7 @@ use Rattle.std.proofs.Common.{◌≡◌, ◌≢◌, ℕ, true, ◌+◌, ◌<◌,
 use Rattle.std.proofs.Common.{length-append, sym, ap, ◌∙◌, subst, arith}
 use Rattle.std.specs.Prelude.{All, AllPairs}
 use Rattle.std.proofs.lemmas.List.{get_or_append_left, get_or-append-add}
-use Rattle.graph_model.specs.declared.ids.Degree.{Degree}
-use Rattle.graph_model.specs.declared.ids.Edge.{Edge}
-use Rattle.graph_model.specs.declared.ids.Filter.{Filter}
-use Rattle.graph_model.specs.Graph.{key_of}
+use Rattle.graph_model.specs.{declared.ids.Degree.Degree, declared.ids.Edge.Edge, declared.ids.Filter.Filter, Graph.key_of}
 use Rattle.graph_model.specs.Limits.{kind_limit}
 use Rattle.graph_degrees.specs.Tallies.{passes, IsCounted, AreViewEdges, HasRoomFor, Counts}
 

@@ -1,14 +1,10 @@
 -- One turn of the loop over the edges that a block lends.
 use Rattle.std.proofs.Common.{◌≡◌, ℕ, List, [], ◌∷◌, length, ap, subst}
-use Rattle.graph_model.specs.Degrees.{CountsEdge}
-use Rattle.graph_model.specs.declared.ids.Degree.{Degree}
-use Rattle.graph_model.specs.declared.ids.Filter.{Filter}
-use Rattle.edge_block.specs.Slots.{BlockView, IsStamp}
-use Rattle.edge_block.specs.Lending.{LentEdge}
+use Rattle.graph_model.specs.{Degrees.CountsEdge, declared.ids.Degree.Degree, declared.ids.Filter.Filter}
+use Rattle.edge_block.specs.{Slots.BlockView, Slots.IsStamp, Lending.LentEdge}
 use Rattle.graph_degrees.specs.Tallies.{edge_between, shown_block, HasRoomFor}
-use Rattle.graph_degrees.proofs.Parts.{IsBegun, begun_room, begun_more}
+use Rattle.graph_degrees.proofs.{Parts.IsBegun, Parts.begun_room, Parts.begun_more, Blocks.edge_lent, Blocks.edges_lent}
 use Rattle.graph_degrees.proofs.Counting.{IsCountable, countable, counts_edge}
-use Rattle.graph_degrees.proofs.Blocks.{edge_lent, edges_lent}
 
 module _ (f : Filter) (b : BlockView) (old table : List Degree) (left rest : List LentEdge) (l : LentEdge)
     (next : left ≡ l ∷ rest)

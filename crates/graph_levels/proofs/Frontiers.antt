@@ -1,16 +1,11 @@
 -- Steps of a search by frontiers.
 use Rattle.std.proofs.Common.{◌≡◌, ℕ, ◌+◌, ◌<◌, ◌≤◌, zero, suc, arith, refl, sym, ap, ◌∙◌, subst, ◌⊎◌, inl, inr, List, [], ◌∷◌}
 use Rattle.std.proofs.Common.{◌++◌, length, set, Option, Some, None, cond, true, false, Bool}
-use Rattle.std.specs.Prelude.{All, replicate}
-use Rattle.std.specs.List.{Contains}
-use Rattle.std.proofs.lemmas.Bool.{cases_eq, cases_lt}
-use Rattle.std.proofs.lemmas.Option.{get_or_from_slice_get}
+use Rattle.std.specs.{Prelude.All, Prelude.replicate, List.Contains}
+use Rattle.std.proofs.lemmas.{Bool.cases_eq, Bool.cases_lt, Option.get_or_from_slice_get}
 use Rattle.std.proofs.lemmas.List.{get_or-set_same, get_or-set_other, get_or_past, length-set, length-append, length-replicate}
-use Rattle.std.proofs.lemmas.List.{get_or-replicate}
-use Rattle.std.proofs.lemmas.List.Sums.{sum_by-set, count_by-le-length}
-use Rattle.std.proofs.lemmas.List.Elements.{All-tail}
-use Rattle.graph_model.specs.Graph.{Graph}
-use Rattle.graph_model.specs.Analyses.{LeadsTo, Walk, IsLevel, IsTable}
+use Rattle.std.proofs.lemmas.List.{get_or-replicate, Sums.sum_by-set, Sums.count_by-le-length, Elements.All-tail}
+use Rattle.graph_model.specs.{Graph.Graph, Analyses.LeadsTo, Analyses.Walk, Analyses.IsLevel, Analyses.IsTable}
 use Rattle.graph_model.specs.declared.ids.Filter.{Filter}
 use Rattle.graph_levels.specs.Visit.{visited, has_none}
 use Rattle.graph_levels.specs.Search.{level_of, HasLevel, IsReached, IsSearch, unreached}

@@ -1,14 +1,10 @@
 -- Changes of trees that keep what they say.
 use Rattle.std.proofs.Common.{◌≡◌, ℕ, ◌+◌, ◌<◌, ◌≤◌, arith, sym, ap, ◌∙◌, subst, inl, inr, List, length, get_or, set, ◌++◌, ◌∷◌}
-use Rattle.std.proofs.Common.{[]}
-use Rattle.std.proofs.lemmas.Bool.{cases_eq, cases_lt}
-use Rattle.std.proofs.lemmas.List.{get_or-set_same, get_or-set_other, get_or_default, get_or_past}
+use Rattle.std.proofs.{Common.[], lemmas.Bool.cases_eq, lemmas.Bool.cases_lt}
+use Rattle.std.proofs.lemmas.List.{get_or-set_same, get_or-set_other, get_or_default, get_or_past, map-id}
 use Rattle.std.specs.List.{range_with_len}
 use Rattle.std.proofs.lemmas.List.FromFn.{length-range_with_len, get_or-range_with_len, map-range_with_len_more}
-use Rattle.std.proofs.lemmas.List.{map-id}
-use Rattle.graph_model.specs.Graph.{Graph}
-use Rattle.graph_model.specs.Analyses.{Connects}
-use Rattle.graph_model.specs.declared.ids.Filter.{Filter}
+use Rattle.graph_model.specs.{Graph.Graph, Analyses.Connects, declared.ids.Filter.Filter}
 use Rattle.graph_levels.specs.Forest.{parent, IsForest, IsSound, Respects}
 use Rattle.graph_levels.proofs.Walks.{itself, then}
 

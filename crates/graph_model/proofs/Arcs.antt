@@ -1,21 +1,14 @@
 -- The arcs of a view are its edges.
 use Rattle.std.proofs.Common.{◌≡◌, ℕ, zero, suc, ◌<◌, arith, refl, sym, ap, ◌∙◌, subst, inl, inr, List, [], ◌∷◌, length, map}
 use Rattle.std.proofs.Common.{Some, true, Bool}
-use Rattle.std.specs.Prelude.{filter, IsTrue}
-use Rattle.std.specs.List.{Contains}
-use Rattle.std.specs.FinMap.{get}
+use Rattle.std.specs.{Prelude.filter, Prelude.IsTrue, List.Contains, FinMap.get}
 use Rattle.std.proofs.lemmas.List.Elements.{All-contains, All-append, All-map, All-filter, Contains-append_left}
-use Rattle.std.proofs.lemmas.List.Elements.{Contains-append_right, Contains-append_cases}
-use Rattle.std.proofs.lemmas.List.{get_or-map, length-map}
+use Rattle.std.proofs.lemmas.List.{Elements.Contains-append_right, Elements.Contains-append_cases, get_or-map, length-map}
 use Rattle.graph_model.specs.Graph.{Key, Stamp, graph_of, map_of, key_of, stamp_of, IsContent}
-use Rattle.graph_model.specs.View.{in_view}
-use Rattle.graph_model.specs.Analyses.{LeadsTo, Joins}
+use Rattle.graph_model.specs.{View.in_view, Analyses.LeadsTo, Analyses.Joins}
 use Rattle.graph_model.specs.Arcs.{Arc, AreWithin, arcs_of, two_way}
-use Rattle.graph_model.specs.declared.contents.Content.{Content}
-use Rattle.graph_model.specs.declared.ids.Edge.{Edge}
-use Rattle.graph_model.specs.declared.ids.Filter.{Filter}
-use Rattle.graph_model.proofs.Keys.{get_is, get_listed, find_listed}
-use Rattle.graph_model.proofs.Counts.{contains_filter, filter_contains}
+use Rattle.graph_model.specs.declared.{contents.Content.Content, ids.Edge.Edge, ids.Filter.Filter}
+use Rattle.graph_model.proofs.{Keys.get_is, Keys.get_listed, Keys.find_listed, Counts.contains_filter, Counts.filter_contains}
 
 module _ {X Y : Type 0} (h : X → Y) where
   pub contains_map : (xs : List X) (x : X) → Contains xs x → Contains (map h xs) (h x)

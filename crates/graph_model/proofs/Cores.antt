@@ -4,22 +4,16 @@ use Rattle.std.proofs.Common.{◌≡◌, ◌≢◌, ℕ, zero, suc, ◌<◌, ◌
 use Rattle.std.proofs.Common.{length, get_or, set, map, true, false, Bool, ◌&&◌, ◌||◌, not}
 use Rattle.std.specs.Prelude.{sum, nat_le, count_by, filter, IsTrue, ◌==◌}
 use Rattle.std.specs.List.{Contains, range_with_len, list_any}
-use Rattle.std.proofs.lemmas.Bool.{cases_eq, cases_lt, cases_Bool, and_parts, eqb-true}
-use Rattle.std.proofs.lemmas.Bool.Decides.{nat_tests, Decides-eqb}
-use Rattle.std.proofs.lemmas.Option.{get_or_from_slice_get, slice_get_within}
+use Rattle.std.proofs.lemmas.Bool.{cases_eq, cases_lt, cases_Bool, and_parts, eqb-true, Decides.nat_tests, Decides.Decides-eqb}
+use Rattle.std.proofs.lemmas.{Option.get_or_from_slice_get, Option.slice_get_within, List.FromFn.get_or-map-range_with_len}
 use Rattle.std.proofs.lemmas.List.{get_or-set_same, get_or-set_other, length-set, get_or_past, get_or_default}
-use Rattle.std.proofs.lemmas.List.Sums.{length-filter, count_by-le-length}
-use Rattle.std.proofs.lemmas.List.Elements.{All-contains}
-use Rattle.std.proofs.lemmas.List.Kept.{AllPairs-filter}
+use Rattle.std.proofs.lemmas.List.{Sums.length-filter, Sums.count_by-le-length, Elements.All-contains, Kept.AllPairs-filter}
 use Rattle.std.proofs.lemmas.List.FromFn.{length-range_with_len, get_or-range_with_len, length-map-range_with_len}
-use Rattle.std.proofs.lemmas.List.FromFn.{get_or-map-range_with_len}
-use Rattle.graph_model.specs.Graph.{Graph}
-use Rattle.graph_model.specs.Analyses.{Joins, HasNeighbors, IsCoreNumber, IsTable}
+use Rattle.graph_model.specs.{Graph.Graph, Analyses.Joins, Analyses.HasNeighbors, Analyses.IsCoreNumber, Analyses.IsTable}
 use Rattle.graph_model.specs.Arcs.{Arc, AreWithin, at, AreNeighbors, support, AreUpper}
 use Rattle.graph_model.specs.declared.ids.Filter.{Filter}
 use Rattle.graph_model.proofs.Counts.{Contains-cons_cases, Contains-nil, Contains-first, Contains-cons, passing_length}
-use Rattle.graph_model.proofs.Counts.{filter_contains, contains_filter}
-use Rattle.graph_model.proofs.Settling.{sum_falls}
+use Rattle.graph_model.proofs.{Counts.filter_contains, Counts.contains_filter, Settling.sum_falls}
 
 same_le : (k : ℕ) → nat_le k k ≡ true
 same_le k = grind (arith, nat_tests)

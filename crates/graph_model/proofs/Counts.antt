@@ -1,11 +1,8 @@
 -- Lists of distinct numbers, and how many of a list pass a test.
 use Rattle.std.proofs.Common.{◌≡◌, ◌≢◌, ℕ, zero, suc, ◌+◌, ◌<◌, ◌≤◌, arith, refl, sym, ap, ◌∙◌, ◌⊎◌, inl, inr, List, [], ◌∷◌}
 use Rattle.std.proofs.Common.{length, cond, true, false, Bool, not}
-use Rattle.std.specs.Prelude.{◌==◌, AllPairs, count_by, filter}
-use Rattle.std.specs.List.{Contains}
-use Rattle.std.proofs.lemmas.Bool.{cases_Bool}
-use Rattle.std.proofs.lemmas.Bool.Decides.{Decides-eqb}
-use Rattle.std.proofs.lemmas.List.Sums.{sum_by-cons, length-filter}
+use Rattle.std.specs.{Prelude.◌==◌, Prelude.AllPairs, Prelude.count_by, Prelude.filter, List.Contains}
+use Rattle.std.proofs.lemmas.{Bool.cases_Bool, Bool.Decides.Decides-eqb, List.Sums.sum_by-cons, List.Sums.length-filter}
 
 module _ {X : Type 0} where
   pub Contains-cons_cases : (x : X) (xs : List X) (y : X) → Contains (x ∷ xs) y → (x ≡ y) ⊎ Contains xs y

@@ -3,19 +3,12 @@
 use Rattle.std.proofs.Common.{◌≡◌, ℕ, zero, suc, ◌+◌, ◌*◌, ◌^◌, ◌<◌, ◌≤◌, Bool, true, false, cond, ◌&&◌, eqb, ltb, List, [], ◌∷◌}
 use Rattle.std.proofs.Common.{get_or, map, ℤ, pos, negsuc, neg_ℤ, ◌+ℤ◌, ◌≤ℤ◌, nat_abs, refl, sym, subst, arith}
 use Rattle.std.specs.Prelude.{count_by, sum_by, filter, fold, All}
-use Rattle.std.proofs.lemmas.Int.{ints}
-use Rattle.std.proofs.lemmas.Bool.{and_parts, eqb-true}
-use Rattle.std.proofs.lemmas.Bool.Decides.{nat_tests}
-use Rattle.std.proofs.lemmas.List.Sums.{sum_by-cons, sum_by-le-sum_by, sum_by-le}
-use Rattle.std.proofs.lemmas.List.Elements.{All-tail}
-use Rattle.graph_model.specs.Graph.{Key, entry_of, IsEdgeWithin}
-use Rattle.graph_model.specs.Limits.{IsWeight}
-use Rattle.graph_model.specs.View.{in_view, leaves, enters}
-use Rattle.graph_model.specs.Degrees.{listed_degree, IsWithinLimits}
-use Rattle.graph_model.specs.declared.ids.Edge.{Edge}
-use Rattle.graph_model.specs.declared.ids.Filter.{Filter}
-use Rattle.graph_model.proofs.Keys.{HasKeysOnce, is_key_of, is_key_of_at, count_key}
-use Rattle.graph_model.proofs.Folds.{fold_from}
+use Rattle.std.proofs.lemmas.{Int.ints, Bool.and_parts, Bool.eqb-true, Bool.Decides.nat_tests}
+use Rattle.std.proofs.lemmas.List.{Sums.sum_by-cons, Sums.sum_by-le-sum_by, Sums.sum_by-le, Elements.All-tail}
+use Rattle.graph_model.specs.{Graph.Key, Graph.entry_of, Graph.IsEdgeWithin, Limits.IsWeight}
+use Rattle.graph_model.specs.{View.in_view, View.leaves, View.enters, Degrees.listed_degree, Degrees.IsWithinLimits}
+use Rattle.graph_model.specs.declared.ids.{Edge.Edge, Filter.Filter}
+use Rattle.graph_model.proofs.{Keys.HasKeysOnce, Keys.is_key_of, Keys.is_key_of_at, Keys.count_key, Folds.fold_from}
 
 step_up : (b : Bool) (c k : ℕ) → cond (b && ltb c (suc k)) 1 0 ≤ cond (b && ltb c k) 1 0 + cond (b && eqb c k) 1 0
 step_up true c k = grind (arith, nat_tests)

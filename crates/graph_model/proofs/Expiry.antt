@@ -1,20 +1,15 @@
 -- Edges that expire: what stays at each key, in the map and in a list of edges.
 use Rattle.std.proofs.Common.{◌≡◌, ◌≢◌, ℕ, ◌+◌, Bool, true, false, cond, not, ◌&&◌, List, [], ◌∷◌, Option, Some, None, is_some}
 use Rattle.std.proofs.Common.{map, length, refl, sym, ap, ◌∙◌, subst, arith}
-use Rattle.std.specs.Prelude.{count_by, All, T}
-use Rattle.std.specs.declared.cmp.Ordering.{Ordering}
-use Rattle.std.specs.declared.cmp.Ordering.TheVariants.{Less, Equal, Greater}
-use Rattle.std.specs.Ordering.{is_lt}
+use Rattle.std.specs.{Prelude.count_by, Prelude.All, Prelude.T, Ordering.is_lt}
+use Rattle.std.specs.declared.cmp.Ordering.{Ordering, TheVariants.Less, TheVariants.Equal, TheVariants.Greater}
 use Rattle.std.specs.FinMap.{FinMap, get, len, entries, entries_sorted, find, get-entries, get-retain_keys, same_map}
 use Rattle.std.specs.FinMap.Entries.{is_sorted, below_all}
 use Rattle.std.proofs.lemmas.Cmp.{tied_itself}
-use Rattle.std.proofs.lemmas.List.Elements.{All-cons, All-nil}
-use Rattle.std.proofs.lemmas.List.Sums.{sum_by-cons}
-use Rattle.std.proofs.lemmas.List.Kept.{AllPairs-filter}
+use Rattle.std.proofs.lemmas.List.{Elements.All-cons, Elements.All-nil, Sums.sum_by-cons, Kept.AllPairs-filter}
 use Rattle.graph_model.specs.Graph.{Key, Stamp, key_cmp, key_of, stamp_of, entry_of, map_of}
 use Rattle.graph_model.specs.Step.{is_before, stays_from, expired, count_before, was_before, later}
-use Rattle.graph_model.specs.Laws.{Expires}
-use Rattle.graph_model.specs.declared.ids.Edge.{Edge}
+use Rattle.graph_model.specs.{Laws.Expires, declared.ids.Edge.Edge}
 use Rattle.graph_model.proofs.Keys.{keys_total, exact_keys, HasKeysOnce, once_head, once_tail, once_none, once_cons, find_absent}
 use Rattle.graph_model.proofs.Keys.{get_is, get_cons, is_key_of, is_key_of-true, len_once}
 use Rattle.graph_model.proofs.Folds.{count_entries}

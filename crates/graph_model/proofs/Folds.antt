@@ -1,17 +1,11 @@
 -- What is gathered over a graph's map is what is gathered over the list of its edges: a finite map has its
 -- entries in the order of their keys, so this holds of each fold whose steps commute.
 use Rattle.std.proofs.Common.{◌≡◌, ◌+◌, Bool, true, false, cond, List, [], ◌∷◌, map, ℤ, pos, ◌+ℤ◌, refl, sym, ap, ◌∙◌, arith}
-use Rattle.std.specs.Prelude.{count_by, filter, fold}
+use Rattle.std.specs.{Prelude.count_by, Prelude.filter, Prelude.fold, Ordering.is_eq, FinMap.Entries.put, FinMap.Entries.by_order}
 use Rattle.std.specs.declared.cmp.Ordering.TheVariants.{Less, Equal, Greater}
 use Rattle.std.specs.declared.option.Option.TheVariants.{None, Some}
-use Rattle.std.specs.Ordering.{is_eq}
 use Rattle.std.specs.FinMap.{entries, empty, find, get-entries, get-from_entries, entries-insert, len-entries, len-empty}
-use Rattle.std.specs.FinMap.Entries.{put, by_order}
-use Rattle.std.proofs.lemmas.List.{nil_from_length}
-use Rattle.std.proofs.lemmas.List.Sums.{sum_by-cons}
-use Rattle.std.proofs.lemmas.List.Folds.{fold-map}
-use Rattle.std.proofs.lemmas.Option.{none-some}
-use Rattle.std.proofs.lemmas.Int.{ints}
+use Rattle.std.proofs.lemmas.{List.nil_from_length, List.Sums.sum_by-cons, List.Folds.fold-map, Option.none-some, Int.ints}
 use Rattle.graph_model.specs.Graph.{Key, Stamp, key_cmp, key_of, stamp_of, entry_of, map_of}
 use Rattle.graph_model.specs.declared.ids.Edge.{Edge}
 use Rattle.graph_model.proofs.Keys.{keys_total, HasKeysOnce, once_head, once_tail, find_absent}

@@ -1,13 +1,9 @@
 -- The degrees that a content shows are those that its list of edges shows.
 use Rattle.std.proofs.Common.{◌≡◌, ℕ, length, map, sym, ap}
 use Rattle.std.specs.List.{range_with_len}
-use Rattle.graph_model.specs.Graph.{graph_of, IsContent}
-use Rattle.graph_model.specs.View.{leaves, enters}
-use Rattle.graph_model.specs.Answer.{degree_at, degree_table}
+use Rattle.graph_model.specs.{Graph.graph_of, Graph.IsContent, View.leaves, View.enters, Answer.degree_at, Answer.degree_table}
 use Rattle.graph_model.specs.Degrees.{listed_degree}
-use Rattle.graph_model.specs.declared.contents.Content.{Content}
-use Rattle.graph_model.specs.declared.ids.Degree.{Degree}
-use Rattle.graph_model.specs.declared.ids.Filter.{Filter}
+use Rattle.graph_model.specs.declared.{contents.Content.Content, ids.Degree.Degree, ids.Filter.Filter}
 use Rattle.graph_model.proofs.Folds.{count_entries, weight_entries}
 
 -- the degrees over the list are those over the graph

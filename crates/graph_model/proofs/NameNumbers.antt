@@ -1,12 +1,9 @@
 -- A name's place in a list, and whether it is listed.
 use Rattle.std.proofs.Common.{◌≡◌, ℕ, suc, ◌+◌, ◌<◌, ◌≤◌, Bool, true, false, cond, not, ◌||◌, ltb, List, [], ◌∷◌, ◌++◌, length}
 use Rattle.std.proofs.Common.{Option, Some, None, refl, sym, subst, ◌∙◌, arith}
-use Rattle.std.specs.Prelude.{bytes_eq, position, is_some, IfSome}
-use Rattle.std.specs.List.{list_any, position_or_len}
-use Rattle.std.proofs.lemmas.Bool.Decides.{nat_tests}
-use Rattle.graph_model.specs.Answer.{is_listed}
-use Rattle.std.proofs.lemmas.Bool.{false≢true}
-use Rattle.graph_model.specs.Step.{number_of}
+use Rattle.std.specs.{Prelude.bytes_eq, Prelude.position, Prelude.is_some, Prelude.IfSome, List.list_any, List.position_or_len}
+use Rattle.std.proofs.lemmas.Bool.{Decides.nat_tests, false≢true}
+use Rattle.graph_model.specs.{Answer.is_listed, Step.number_of}
 use Rattle.graph_model.proofs.NameLists.{number_of-lt}
 
 later : (m n : ℕ) → ltb m n ≡ ltb (1 + m) (suc n)

@@ -1,22 +1,14 @@
 -- Over a graph a request has one answer, and over that of a content it has one.
 use Rattle.std.proofs.Common.{◌≡◌, Some, None, Bool, true, false, not, refl, sym, ap, ◌∙◌}
-use Rattle.std.specs.Prelude.{Result, Ok, Err, zip, nat_lt}
-use Rattle.std.specs.Option.{option_map}
-use Rattle.std.specs.FinMap.{get}
-use Rattle.graph_model.specs.Graph.{Graph, graph_of, IsContent}
-use Rattle.graph_model.specs.Step.{key_in, number_of}
+use Rattle.std.specs.{Prelude.Result, Prelude.Ok, Prelude.Err, Prelude.zip, Prelude.nat_lt, Option.option_map, FinMap.get}
+use Rattle.graph_model.specs.{Graph.Graph, Graph.graph_of, Graph.IsContent, Step.key_in, Step.number_of}
 use Rattle.graph_model.specs.Answer.{IsAnswer, IsReply, refusal, first_refusal, resolved, degree_table, shown, reached, names_of}
-use Rattle.graph_model.specs.Answer.{is_listed, is_kind_listed}
-use Rattle.graph_model.specs.declared.requests.Request.{Request}
+use Rattle.graph_model.specs.{Answer.is_listed, Answer.is_kind_listed, declared.contents.Content.Content}
+use Rattle.graph_model.specs.declared.requests.{Request.Request, Reply.Reply, AskError.AskError}
 use Rattle.graph_model.specs.declared.requests.Request.TheVariants.{Levels as AskLevels, Labels as AskLabels, Cores as AskCores}
 use Rattle.graph_model.specs.declared.requests.Request.TheVariants.{Degrees as AskDegrees, OneEdge as AskOneEdge}
-use Rattle.graph_model.specs.declared.requests.Reply.{Reply}
 use Rattle.graph_model.specs.declared.requests.Reply.TheVariants.{Levels, Labels, Cores, Degrees, OneEdge}
-use Rattle.graph_model.specs.declared.requests.AskError.{AskError}
-use Rattle.graph_model.specs.declared.contents.Content.{Content}
-use Rattle.graph_model.proofs.NameLists.{number_of-lt}
-use Rattle.graph_model.proofs.OneTable.{one_table}
-use Rattle.graph_model.proofs.SomeTable.{some_table}
+use Rattle.graph_model.proofs.{NameLists.number_of-lt, OneTable.one_table, SomeTable.some_table}
 
 pub one_reply : (request : Request) (g : Graph) (x y : Reply) → IsReply request g x → IsReply request g y → x ≡ y
 one_reply (AskLevels source filter) g x y a b =

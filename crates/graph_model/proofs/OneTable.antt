@@ -1,11 +1,8 @@
 -- At most one table of levels, of labels and of core numbers.
 use Rattle.std.proofs.Common.{◌≡◌, ℕ, List, length, get_or, Option, Some, None, refl, sym, ap, ◌∙◌, arith}
-use Rattle.std.proofs.lemmas.Option.{slice_get-get_or}
-use Rattle.std.proofs.lemmas.List.{same_lists}
-use Rattle.graph_model.specs.Graph.{Graph}
-use Rattle.graph_model.specs.Analyses.{IsLevel, IsLabel, IsCoreNumber, IsTable}
-use Rattle.graph_model.specs.Tables.{HasOneTable}
-use Rattle.graph_model.specs.declared.ids.Filter.{Filter}
+use Rattle.std.proofs.lemmas.{Option.slice_get-get_or, List.same_lists}
+use Rattle.graph_model.specs.{Graph.Graph, Analyses.IsLevel, Analyses.IsLabel, Analyses.IsCoreNumber, Analyses.IsTable}
+use Rattle.graph_model.specs.{Tables.HasOneTable, declared.ids.Filter.Filter}
 
 -- where each vertex has at most one value, there is at most one table
 same_table : {X : Type 0} (Is : ℕ → X → Type 0) → ((v : ℕ) (x y : X) → Is v x → Is v y → x ≡ y) → (n : ℕ) (a b : List X)

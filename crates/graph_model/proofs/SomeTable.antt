@@ -1,12 +1,9 @@
 -- Each content has levels, labels and core numbers.
-use Rattle.std.proofs.Common.{length, sym, subst, map}
+use Rattle.std.proofs.{Common.length, Common.sym, Common.subst, Common.map, lemmas.List.FromFn.length-range_with_len}
 use Rattle.std.specs.List.{range_with_len}
-use Rattle.std.proofs.lemmas.List.FromFn.{length-range_with_len}
-use Rattle.graph_model.specs.Graph.{graph_of, IsContent}
+use Rattle.graph_model.specs.{Graph.graph_of, Graph.IsContent, Tables.HasSomeTable}
 use Rattle.graph_model.specs.Arcs.{AreWithin, arcs_of, two_way, level_start, level_of}
-use Rattle.graph_model.specs.Tables.{HasSomeTable}
-use Rattle.graph_model.specs.declared.contents.Content.{Content}
-use Rattle.graph_model.specs.declared.ids.Filter.{Filter}
+use Rattle.graph_model.specs.declared.{contents.Content.Content, ids.Filter.Filter}
 use Rattle.graph_model.proofs.Arcs.{arc_leads, leads_arc, arcs_within, arc_joins, joins_arc, two_way_within}
 use Rattle.graph_model.proofs.Cores.{cores_by_arcs}
 use Rattle.graph_model.proofs.Settling.{some_settled, settled_levels, settled_labels, level_start_long}

@@ -1,13 +1,9 @@
 -- One graph, listed in two orders: two edges between two vertices, and the degrees that both lists show.
 use Rattle.std.proofs.Common.{◌≡◌, ◌≢◌, zero, suc, List, [], ◌∷◌, get_or, pos, ap, arith}
-use Rattle.std.specs.Prelude.{All, AllPairs}
-use Rattle.std.specs.declared.option.Option.TheVariants.{None}
+use Rattle.std.specs.{Prelude.All, Prelude.AllPairs, declared.option.Option.TheVariants.None}
 use Rattle.graph_model.specs.Graph.{Key, graph_of, content_of, key_of, IsContent, IsEdgeWithin}
 use Rattle.graph_model.specs.Answer.{degree_table}
-use Rattle.graph_model.specs.declared.contents.Content.{Content}
-use Rattle.graph_model.specs.declared.ids.Edge.{Edge}
-use Rattle.graph_model.specs.declared.ids.Degree.{Degree}
-use Rattle.graph_model.specs.declared.ids.Filter.{Filter}
+use Rattle.graph_model.specs.declared.{contents.Content.Content, ids.Edge.Edge, ids.Degree.Degree, ids.Filter.Filter}
 use Rattle.graph_model.proofs.ListedDegrees.{degree_table_is}
 
 abbrev there : Edge

@@ -1,8 +1,6 @@
 -- Walks: put together, turned, and along steps of another kind.
 use Rattle.std.proofs.Common.{ℕ, zero, suc, refl, sym, subst, inl, inr}
-use Rattle.graph_model.specs.Graph.{Graph}
-use Rattle.graph_model.specs.Analyses.{Joins, Walk, Connects}
-use Rattle.graph_model.specs.declared.ids.Filter.{Filter}
+use Rattle.graph_model.specs.{Graph.Graph, Analyses.Joins, Analyses.Walk, Analyses.Connects, declared.ids.Filter.Filter}
 
 -- where each step of one kind is one of another, so is a walk
 pub walk_map : (P Q : ℕ → ℕ → Type 0) → ((a b : ℕ) → P a b → Q a b) → (a b n : ℕ) → Walk P a b n → Walk Q a b n

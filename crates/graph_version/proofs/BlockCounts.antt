@@ -5,10 +5,8 @@ use Rattle.std.specs.List.{list_all}
 use Rattle.std.proofs.lemmas.List.Elements.{All-head, All-tail, All-append}
 use Rattle.edge_block.specs.Slots.{Slot, BlockView, is_free, edges_in}
 use Rattle.row_pages.specs.Rows.{row_of, blocks_of}
-use Rattle.graph_version.specs.Versions.{VersionView, IsVersion}
-use Rattle.graph_version.specs.Edges.{edges_in_block, edges_in_blocks}
-use Rattle.graph_version.proofs.Few.{count_is_total, few_total}
-use Rattle.graph_version.proofs.Totals.{count_one}
+use Rattle.graph_version.specs.{Versions.VersionView, Versions.IsVersion, Edges.edges_in_block, Edges.edges_in_blocks}
+use Rattle.graph_version.proofs.{Few.count_is_total, Few.few_total, Totals.count_one}
 
 some_edges : (slots : List (Option Slot)) → list_all is_free slots ≡ false → 1 ≤ length (edges_in slots)
 some_edges [] is = cc

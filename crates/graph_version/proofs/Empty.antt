@@ -1,14 +1,10 @@
 -- The version without batches is a version.
 use Rattle.std.proofs.Common.{◌≡◌, ◌∙◌, ℕ, List, [], refl, sym, ap, arith, true≢false}
-use Rattle.std.specs.Option.{is_some}
-use Rattle.std.specs.FinMap.{get-empty, len-empty}
-use Rattle.graph_model.specs.Graph.{Graph, Stamp, key_cmp}
-use Rattle.graph_model.specs.Step.{empty_graph}
-use Rattle.graph_model.specs.declared.batches.NamedOp.{NamedOp}
+use Rattle.std.specs.{Option.is_some, FinMap.get-empty, FinMap.len-empty}
+use Rattle.graph_model.specs.{Graph.Graph, Graph.Stamp, Graph.key_cmp, Step.empty_graph, declared.batches.NamedOp.NamedOp}
 use Rattle.edge_block.specs.Slots.{BlockView}
 use Rattle.vertex_names.specs.Book.{Book, empty_book}
-use Rattle.graph_version.specs.Versions.{IsVersion, empty_version}
-use Rattle.graph_version.specs.Kept.{version_of, IsKept}
+use Rattle.graph_version.specs.{Versions.IsVersion, Versions.empty_version, Kept.version_of, Kept.IsKept}
 use Rattle.block_layout.specs.Rows.{IsRow}
 
 pub no_row : IsRow []

@@ -1,20 +1,12 @@
 -- A search of a row for an edge, block by block.
 use Rattle.std.proofs.Common.{◌≡◌, ℕ, zero, suc, ◌+◌, ◌<◌, true, List, [], ◌∷◌, length, get_or, map, take, Option, None, Some}
 use Rattle.std.proofs.Common.{refl, sym, ap, ◌∙◌, arith}
-use Rattle.std.specs.Option.{is_some, option_or}
-use Rattle.std.specs.declared.sync.Arc.{Arc}
-use Rattle.std.specs.declared.alloc.Global.{Global}
+use Rattle.std.specs.{Option.is_some, Option.option_or, declared.sync.Arc.Arc, declared.alloc.Global.Global, FinMap.get}
 use Rattle.graph_model.specs.Graph.{Stamp}
-use Rattle.std.specs.FinMap.{get}
-use Rattle.edge_block.specs.Slots.{BlockView, first_some}
-use Rattle.edge_block.specs.Lending.{LentEdge}
-use Rattle.row_pages.specs.Rows.{row_of}
-use Rattle.graph_version.specs.Versions.{VersionView, content, IsVersion}
-use Rattle.graph_version.specs.Edges.{lent_to}
-use Rattle.graph_version.specs.Lending.{lent_at}
-use Rattle.edge_block.specs.declared.blocks.Block.{Block}
+use Rattle.edge_block.specs.{Slots.BlockView, Slots.first_some, Lending.LentEdge, declared.blocks.Block.Block}
+use Rattle.row_pages.specs.{Rows.row_of, Sharing.block_value, Sharing.block_values}
+use Rattle.graph_version.specs.{Versions.VersionView, Versions.content, Versions.IsVersion, Edges.lent_to, Lending.lent_at}
 use Rattle.block_layout.specs.Rows.{shape_of, block_at, row_at}
-use Rattle.row_pages.specs.Sharing.{block_value, block_values}
 
 -- what a shared block has at a kind and a target
 abbrev pub place_at : ℕ × ℕ → Arc Block Global → Option Stamp

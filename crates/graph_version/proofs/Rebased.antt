@@ -1,33 +1,22 @@
 -- A version 0 over copies of another version's blocks.
 use Rattle.std.proofs.Common.{◌≡◌, ◌≢◌, ℕ, zero, suc, ◌+◌, ◌-◌, ◌<◌, ◌≤◌, List, [], ◌∷◌, ◌++◌, map, length, take}
 use Rattle.std.proofs.Common.{drop, get_or, refl, sym, ap, ap₂, subst, ◌∙◌, arith, ◌⊎◌, inl, inr, All, AllPairs, length-append}
-use Rattle.std.proofs.lemmas.List.{append-nil, take_all, drop_all}
-use Rattle.std.specs.List.{list_all}
-use Rattle.std.proofs.lemmas.Bool.Decides.{eqb_tells}
-use Rattle.std.specs.declared.sync.Arc.{Arc}
-use Rattle.std.specs.declared.alloc.Global.{Global}
-use Rattle.std.proofs.lemmas.List.{length-map, map-append}
-use Rattle.std.proofs.lemmas.List.Elements.{All-head, All-tail, All-cons}
-use Rattle.std.specs.FinMap.{len}
-use Rattle.graph_model.specs.Graph.{Graph, graph_of, map_of}
-use Rattle.graph_model.specs.Limits.{name_limit, kind_limit}
-use Rattle.graph_model.specs.declared.batches.NamedOp.{NamedOp}
-use Rattle.graph_model.specs.declared.contents.Content.{Content}
-use Rattle.graph_model.specs.declared.ids.Edge.{Edge}
+use Rattle.std.proofs.lemmas.List.{append-nil, take_all, drop_all, length-map, map-append}
+use Rattle.std.specs.{List.list_all, declared.sync.Arc.Arc, declared.alloc.Global.Global, FinMap.len}
+use Rattle.std.proofs.lemmas.{Bool.Decides.eqb_tells, List.Elements.All-head, List.Elements.All-tail, List.Elements.All-cons}
+use Rattle.graph_model.specs.{Graph.Graph, Graph.graph_of, Graph.map_of, Limits.name_limit, Limits.kind_limit}
+use Rattle.graph_model.specs.declared.{batches.NamedOp.NamedOp, contents.Content.Content, ids.Edge.Edge}
 use Rattle.edge_block.specs.Slots.{Slot, BlockView, is_free, entry_in, entries_of, edges_in}
-use Rattle.edge_block.specs.Lending.{LentEdge, lent_of}
-use Rattle.block_layout.specs.Rows.{shape_of}
-use Rattle.block_layout.specs.Batches.{IsLayoutOf, IsWithin}
+use Rattle.edge_block.specs.{Lending.LentEdge, Lending.lent_of, declared.blocks.Block.Block}
+use Rattle.block_layout.specs.{Rows.shape_of, Batches.IsLayoutOf, Batches.IsWithin}
 use Rattle.vertex_names.specs.Book.{Book}
 use Rattle.row_pages.specs.Rows.{row_of, blocks_of, numbers_of, Replaces}
 use Rattle.row_pages.specs.Sharing.{block_value, block_values}
-use Rattle.edge_block.specs.declared.blocks.Block.{Block}
 use Rattle.graph_version.specs.Versions.{VersionView, IsBlockOf, AreRowsOf, IsVersion, content, layout_of}
 use Rattle.graph_version.specs.Edges.{edge_from, edges_in_block, edges_in_blocks}
 use Rattle.graph_version.specs.Kept.{vertex_book, kind_book, version_of, IsKept}
 use Rattle.graph_version.specs.Rebased.{AreCopies, IsRebased, rows_like, unnumbered}
-use Rattle.graph_version.proofs.Shown.{rows_each_once}
-use Rattle.graph_version.proofs.Totals.{same_blocks, at_source, elsewhere}
+use Rattle.graph_version.proofs.{Shown.rows_each_once, Totals.same_blocks, Totals.at_source, Totals.elsewhere}
 
 -- Lists cut in two
 

@@ -1,15 +1,10 @@
 -- Rows that are tied to a graph by look-up list each of its edges once.
 use Rattle.std.proofs.Common.{◌≡◌, ℕ, zero, suc, ◌+◌, ◌<◌, ◌≤◌, List, [], ◌∷◌, ◌++◌, map, length, refl, sym, ap, ap₂, ◌∙◌}
 use Rattle.std.proofs.Common.{subst, arith, inl, inr, All, true, None}
-use Rattle.std.specs.Option.{is_some}
-use Rattle.std.specs.FinMap.{get}
-use Rattle.std.proofs.lemmas.Bool.{false≢true}
-use Rattle.std.proofs.lemmas.Bool.Decides.{leb_tells}
-use Rattle.std.proofs.lemmas.Grind.{flat_map-append}
-use Rattle.std.proofs.lemmas.List.{map-append}
-use Rattle.std.proofs.lemmas.List.Elements.{All-head, All-tail}
-use Rattle.graph_model.specs.Graph.{Graph, Key, Stamp}
-use Rattle.graph_model.specs.declared.ids.Edge.{Edge}
+use Rattle.std.specs.{Option.is_some, FinMap.get}
+use Rattle.std.proofs.lemmas.{Bool.false≢true, Bool.Decides.leb_tells, Grind.flat_map-append}
+use Rattle.std.proofs.lemmas.List.{map-append, Elements.All-head, Elements.All-tail}
+use Rattle.graph_model.specs.{Graph.Graph, Graph.Key, Graph.Stamp, declared.ids.Edge.Edge}
 use Rattle.edge_block.specs.Slots.{Slot, BlockView, edges_in}
 use Rattle.block_layout.specs.Rows.{Shape, shape_of, row_at, row_entries}
 use Rattle.block_layout.specs.Listed.{edge_from, edges_in_row, edges_in_rows}

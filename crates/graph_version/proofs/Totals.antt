@@ -1,15 +1,10 @@
 -- How many edges rows have, and rows that look the same.
 use Rattle.std.proofs.Common.{◌≡◌, ◌≢◌, ◌==◌, ℕ, zero, suc, ◌+◌, ◌<◌, List, [], ◌∷◌, ◌++◌, length, get_or, take}
 use Rattle.std.proofs.Common.{refl, sym, ap, ◌∙◌, arith, length-append, inl, inr, if◌then◌else◌}
-use Rattle.std.specs.declared.sync.Arc.{Arc}
-use Rattle.std.specs.declared.alloc.Global.{Global}
-use Rattle.std.proofs.lemmas.Grind.{flat_map-append}
-use Rattle.std.proofs.lemmas.List.{length-map}
-use Rattle.std.proofs.lemmas.Bool.Decides.{eqb_tells}
-use Rattle.edge_block.specs.Slots.{BlockView, entry_in, entries_of, edges_in}
-use Rattle.edge_block.specs.declared.blocks.Block.{Block}
-use Rattle.row_pages.specs.Rows.{row_of, blocks_of}
-use Rattle.row_pages.specs.Sharing.{block_value, block_values}
+use Rattle.std.specs.declared.{sync.Arc.Arc, alloc.Global.Global}
+use Rattle.std.proofs.lemmas.{Grind.flat_map-append, List.length-map, Bool.Decides.eqb_tells}
+use Rattle.edge_block.specs.{Slots.BlockView, Slots.entry_in, Slots.entries_of, Slots.edges_in, declared.blocks.Block.Block}
+use Rattle.row_pages.specs.{Rows.row_of, Rows.blocks_of, Sharing.block_value, Sharing.block_values}
 use Rattle.graph_version.specs.Edges.{edge_from, edges_in_block, edges_in_blocks}
 
 abbrev pub count_in : List BlockView → ℕ

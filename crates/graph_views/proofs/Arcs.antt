@@ -1,16 +1,12 @@
 -- Edges along arcs lead where the arcs do.
 use Rattle.std.proofs.Common.{◌≡◌, ℕ, zero, suc, ◌<◌, arith, refl, sym, ap, ◌∙◌, subst, List, [], ◌∷◌, ◌++◌, length, map}
 use Rattle.std.proofs.Common.{append-nil, append_assoc, Some, true, false, Bool, cond, Option}
-use Rattle.std.specs.Prelude.{filter, nat_lt, ◌&&◌, ◌==◌, ◌↔◌}
-use Rattle.std.specs.List.{Contains}
-use Rattle.std.specs.FinMap.{find}
-use Rattle.std.proofs.lemmas.Bool.{and_parts, eqb-true}
-use Rattle.std.proofs.lemmas.Bool.Decides.{nat_tests, Decides-eqb}
+use Rattle.std.specs.{Prelude.filter, Prelude.nat_lt, Prelude.◌&&◌, Prelude.◌==◌, Prelude.◌↔◌, List.Contains, FinMap.find}
+use Rattle.std.proofs.lemmas.Bool.{and_parts, eqb-true, Decides.nat_tests, Decides.Decides-eqb}
 use Rattle.std.proofs.lemmas.List.{length-replicate}
 use Rattle.graph_model.specs.Graph.{Key, Stamp, key_cmp, key_of, stamp_of, entry_of}
 use Rattle.graph_model.specs.Analyses.{LeadsTo}
-use Rattle.graph_model.proofs.Arcs.{contains_map, map_contains}
-use Rattle.graph_model.proofs.Counts.{contains_filter, filter_contains}
+use Rattle.graph_model.proofs.{Arcs.contains_map, Arcs.map_contains, Counts.contains_filter, Counts.filter_contains}
 use Rattle.graph_model.proofs.Keys.{get_is, find_listed, is_key_of, is_key_of_at}
 use Rattle.graph_views.specs.Listed.{edge_along, is_within, leaves, along, all_edges, put_targets}
 

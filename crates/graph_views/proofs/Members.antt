@@ -1,7 +1,6 @@
 -- What several lists, one behind the other, contain; and the blocks of rows.
 use Rattle.std.proofs.Common.{ℕ, zero, suc, sym, subst, inl, inr, List, [], ◌∷◌}
-use Rattle.std.specs.Prelude.{flat_map}
-use Rattle.std.specs.List.{Contains}
+use Rattle.std.specs.{Prelude.flat_map, List.Contains}
 use Rattle.std.proofs.lemmas.List.Elements.{Contains-append_left, Contains-append_right, Contains-append_cases}
 use Rattle.graph_model.proofs.Counts.{Contains-cons_cases, Contains-nil, Contains-first, Contains-cons}
 use Rattle.edge_block.specs.Slots.{BlockView}

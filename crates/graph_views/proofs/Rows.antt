@@ -1,16 +1,10 @@
 -- The targets in a source's row are those that edges of the view lead to.
 use Rattle.std.proofs.Common.{◌≡◌, ℕ, sym, ap, ◌∙◌, subst, List, Some, true}
-use Rattle.std.specs.Prelude.{IsTrue, ◌↔◌}
-use Rattle.std.specs.List.{Contains}
-use Rattle.std.specs.FinMap.{get}
+use Rattle.std.specs.{Prelude.IsTrue, Prelude.◌↔◌, List.Contains, FinMap.get}
 use Rattle.std.proofs.lemmas.List.Elements.{All-contains}
-use Rattle.graph_model.specs.Graph.{Graph, Key, Stamp, key_of, stamp_of, map_of}
-use Rattle.graph_model.specs.View.{in_view}
-use Rattle.graph_model.specs.Analyses.{LeadsTo}
-use Rattle.graph_model.specs.declared.ids.Edge.{Edge}
-use Rattle.graph_model.specs.declared.ids.Filter.{Filter}
-use Rattle.graph_model.proofs.Arcs.{contains_map, map_contains}
-use Rattle.graph_model.proofs.Counts.{contains_filter, filter_contains}
+use Rattle.graph_model.specs.{Graph.Graph, Graph.Key, Graph.Stamp, Graph.key_of, Graph.stamp_of, Graph.map_of, View.in_view}
+use Rattle.graph_model.specs.{Analyses.LeadsTo, declared.ids.Edge.Edge, declared.ids.Filter.Filter}
+use Rattle.graph_model.proofs.{Arcs.contains_map, Arcs.map_contains, Counts.contains_filter, Counts.filter_contains}
 use Rattle.graph_model.proofs.Keys.{get_is, get_listed, find_listed}
 use Rattle.edge_block.specs.Slots.{BlockView, edges_in, entry_in, entries_of}
 use Rattle.row_pages.specs.Rows.{row_of, blocks_of}

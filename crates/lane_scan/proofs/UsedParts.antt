@@ -1,11 +1,8 @@
 -- Scans that end at the last place of a mask.
 use Rattle.std.proofs.Common.{◌≡◌, ℕ, zero, suc, ◌+◌, ◌*◌, ◌^◌, ◌<◌, ◌≤◌, List, [], ◌∷◌, length, get_or, take, refl, sym, ap, ◌∙◌}
 use Rattle.std.proofs.Common.{arith, inl, inr}
-use Rattle.std.specs.Prelude.{slice_index}
-use Rattle.std.specs.Int.{bit_at, w32, leading_zeros}
-use Rattle.std.proofs.lemmas.Bool.{ne_eqb, cases_lt}
-use Rattle.std.proofs.lemmas.Nat.{leading_length}
-use Rattle.std.proofs.lemmas.Nat.Bits.{bit_at_above}
+use Rattle.std.specs.{Prelude.slice_index, Int.bit_at, Int.w32, Int.leading_zeros}
+use Rattle.std.proofs.lemmas.{Bool.ne_eqb, Bool.cases_lt, Nat.leading_length, Nat.Bits.bit_at_above}
 use Rattle.std.proofs.lemmas.List.{length-take, get_or-take, take_all}
 use Rattle.lane_scan.specs.Masks.{InMask, IsUsedPart, IsPlaceWithin, selected_from, selected}
 use Rattle.lane_scan.proofs.Selected.{same_after}

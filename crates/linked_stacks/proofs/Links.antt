@@ -4,9 +4,8 @@ use Rattle.std.proofs.Common.{false, refl, sym, ap, ap₂, subst, ◌∙◌, ari
 use Rattle.std.proofs.lemmas.Bool.{cases_eq, eq-eqb, true≢false, or_parts}
 use Rattle.std.proofs.lemmas.List.{get_or-set_same, get_or-set_other, get_or-map, map-set, length-map, length-replicate}
 use Rattle.std.proofs.Math.ListN.{length-set}
-use Rattle.linked_stacks.specs.declared.stacks.Stack.{Stack}
+use Rattle.linked_stacks.specs.{declared.stacks.Stack.Stack, Chains.chain, Chains.chain_of, Chains.AreBelow, Chains.AreWithin}
 use Rattle.linked_stacks.specs.Stacks.{Stacks, stack_of, below_top, is_in, AreAbsent}
-use Rattle.linked_stacks.specs.Chains.{chain, chain_of, AreBelow, AreWithin}
 
 -- the link of a number that a chain hasn't
 pub chain_else : (below : List ℕ) (top height n v : ℕ) → is_in n (chain below top height) ≡ false

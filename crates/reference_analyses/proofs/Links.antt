@@ -2,26 +2,20 @@
 use Rattle.std.proofs.Common.{◌≡◌, ◌≢◌, ℕ, zero, suc, ◌+◌, ◌<◌, ◌≤◌, arith, refl, sym, ap, ◌∙◌, subst, ◌⊎◌, inl, inr, List, []}
 use Rattle.std.proofs.Common.{◌∷◌, length, get_or, map, cond, true, false, Bool, ◌&&◌, not}
 use Rattle.std.specs.Prelude.{All, AllPairs, ◌==◌, nat_le, count_by, filter, replicate, IsPermutation, IsTrue}
-use Rattle.std.specs.List.{Contains, range_with_len, dedup}
+use Rattle.std.specs.List.{Contains, range_with_len, dedup, Sorted.IsSorted, Sorted.IsStrictlySortedBy}
 use Rattle.std.specs.Cmp.{IsTotalOrder, IsEquivalence}
 use Rattle.std.specs.Ordering.{nat_cmp, ordering_then, is_eq, eq_by_cmp}
-use Rattle.std.specs.List.Sorted.{IsSorted, IsStrictlySortedBy}
-use Rattle.std.specs.declared.cmp.Ordering.{Ordering}
-use Rattle.std.specs.declared.cmp.Ordering.TheVariants.{Less, Equal, Greater}
+use Rattle.std.specs.declared.cmp.Ordering.{Ordering, TheVariants.Less, TheVariants.Equal, TheVariants.Greater}
 use Rattle.std.proofs.lemmas.Cmp.{then_total, on_total, nat_cmp_total, tied_itself, and_equiv, on_equiv, nat_eq_equiv}
-use Rattle.std.proofs.lemmas.Option.{slice_get-get_or}
-use Rattle.std.proofs.lemmas.Bool.{cases_Bool, eqb-true, and_parts}
-use Rattle.std.proofs.lemmas.Bool.Decides.{nat_tests, Decides-eqb}
-use Rattle.std.proofs.lemmas.List.{get_or_default}
+use Rattle.std.proofs.lemmas.{Option.slice_get-get_or, List.FromFn.length-range_with_len, List.FromFn.get_or-range_with_len}
+use Rattle.std.proofs.lemmas.Bool.{cases_Bool, eqb-true, and_parts, Decides.nat_tests, Decides.Decides-eqb}
+use Rattle.std.proofs.lemmas.List.{get_or_default, Sorted.Contains-permutation, Sorted.IsPermutation-sym}
 use Rattle.std.proofs.lemmas.List.Elements.{All-contains, All-weaker, All-from_recursion, Contains-get_or}
 use Rattle.std.proofs.lemmas.List.Kept.{AllPairs-cons, IsStrictlySortedBy-dedup, Contains-dedup, Contains-from_dedup}
-use Rattle.std.proofs.lemmas.List.Sorted.{Contains-permutation, IsPermutation-sym}
-use Rattle.std.proofs.lemmas.List.FromFn.{length-range_with_len, get_or-range_with_len}
 use Rattle.graph_model.specs.Graph.{Graph, graph_of, IsContent}
 use Rattle.graph_model.specs.Analyses.{Joins, IsCoreNumber, IsTable}
 use Rattle.graph_model.specs.Arcs.{Arc, arcs_of, two_way, AreWithin, at, AreNeighbors, support, AreUpper}
-use Rattle.graph_model.specs.declared.contents.Content.{Content}
-use Rattle.graph_model.specs.declared.ids.Filter.{Filter}
+use Rattle.graph_model.specs.declared.{contents.Content.Content, ids.Filter.Filter}
 use Rattle.graph_model.proofs.Counts.{apart_tail, apart_head, count_yes, count_no, sub_length, contains_filter, filter_contains}
 use Rattle.graph_model.proofs.Arcs.{contains_map, map_contains, arc_joins, joins_arc, two_way_within}
 use Rattle.graph_model.proofs.Cores.{upper_first, upper_more, settled_cores}

@@ -1,14 +1,11 @@
 -- Rounds that lower numbers, one step after another.
 use Rattle.std.proofs.Common.{◌≡◌, ℕ, suc, ◌+◌, ◌-◌, ◌<◌, ◌≤◌, arith, refl, sym, ap, ◌∙◌, subst, ◌⊎◌, inl, inr, List, [], ◌∷◌}
 use Rattle.std.proofs.Common.{◌++◌, length, get_or, set, take, map, cond, true, false, Bool, ◌&&◌}
-use Rattle.std.specs.Prelude.{All, sum, count_by, ◌==◌, nat_le}
-use Rattle.std.specs.List.{range_with_len}
-use Rattle.std.proofs.lemmas.Bool.{cases_eq, eqb-true}
-use Rattle.std.proofs.lemmas.Bool.Decides.{nat_tests, Decides-eqb}
+use Rattle.std.specs.{Prelude.All, Prelude.sum, Prelude.count_by, Prelude.◌==◌, Prelude.nat_le, List.range_with_len}
+use Rattle.std.proofs.lemmas.Bool.{cases_eq, eqb-true, Decides.nat_tests, Decides.Decides-eqb}
 use Rattle.std.proofs.lemmas.List.{get_or-set_same, get_or-set_other, length-set, take_more, take_all, length-take}
-use Rattle.std.proofs.lemmas.List.Sums.{sum_by_push, count_by-le-length}
+use Rattle.std.proofs.lemmas.List.{Sums.sum_by_push, Sums.count_by-le-length, FromFn.map-range_with_len_more}
 use Rattle.std.proofs.lemmas.List.Elements.{All-set, All-nil, All-more, Contains-get_or}
-use Rattle.std.proofs.lemmas.List.FromFn.{map-range_with_len_more}
 use Rattle.graph_model.specs.Arcs.{AreWithin, at, IsLowered, IsClosed}
 use Rattle.graph_model.proofs.Settling.{lowered_more, sum_falls}
 use Rattle.reference_analyses.specs.Links.{supports}

@@ -1,14 +1,11 @@
 -- Levels and labels of a content, once its numbers are settled.
 use Rattle.std.proofs.Common.{◌≡◌, ℕ, ◌<◌, ◌≤◌, arith, sym, ap, ◌∙◌, subst, List, length, map}
-use Rattle.std.specs.Prelude.{All, replicate}
-use Rattle.std.specs.List.{range_with_len}
+use Rattle.std.specs.{Prelude.All, Prelude.replicate, List.range_with_len}
 use Rattle.std.proofs.lemmas.List.Elements.{All-set, All-replicate}
 use Rattle.std.proofs.lemmas.List.FromFn.{length-range_with_len, get_or-range_with_len}
-use Rattle.graph_model.specs.Graph.{graph_of, IsContent}
-use Rattle.graph_model.specs.Analyses.{AreLevels, AreLabels}
+use Rattle.graph_model.specs.{Graph.graph_of, Graph.IsContent, Analyses.AreLevels, Analyses.AreLabels}
 use Rattle.graph_model.specs.Arcs.{arcs_of, two_way, AreWithin, IsLowered, IsClosed, level_start, level_of}
-use Rattle.graph_model.specs.declared.contents.Content.{Content}
-use Rattle.graph_model.specs.declared.ids.Filter.{Filter}
+use Rattle.graph_model.specs.declared.{contents.Content.Content, ids.Filter.Filter}
 use Rattle.graph_model.proofs.Arcs.{arc_leads, leads_arc, arcs_within, arc_joins, joins_arc, two_way_within}
 use Rattle.graph_model.proofs.Settling.{level_start_long, settled_levels, settled_labels}
 

@@ -2,22 +2,15 @@
 use Rattle.std.proofs.Common.{◌≡◌, ℕ, ◌+◌, ◌<◌, Bool, true, false, List, [], ◌∷◌, ◌++◌, length, get_or, take, Option, Some, None}
 use Rattle.std.proofs.Common.{not, subst, refl, sym, ap, ◌∙◌, arith}
 use Rattle.std.specs.Prelude.{All, zip, Ok, position, bytes_eq, nat_lt}
-use Rattle.std.specs.List.{filter_map, cons_option}
-use Rattle.std.specs.Option.{option_to_list}
-use Rattle.std.proofs.lemmas.List.Elements.{filter_map-append}
+use Rattle.std.specs.{List.filter_map, List.cons_option, Option.option_to_list}
+use Rattle.std.proofs.lemmas.List.{Elements.filter_map-append, get_or-map, length-map, get_or_default}
 use Rattle.std.proofs.lemmas.Option.{slice_get-get_or}
-use Rattle.std.proofs.lemmas.List.{get_or-map, length-map, get_or_default}
-use Rattle.graph_model.specs.Graph.{Graph, graph_of}
-use Rattle.graph_model.specs.Analyses.{AreLevels, AreLabels, AreCoreNumbers}
+use Rattle.graph_model.specs.{Graph.Graph, Graph.graph_of, Analyses.AreLevels, Analyses.AreLabels, Analyses.AreCoreNumbers}
 use Rattle.graph_model.specs.Answer.{IsAnswer, first_refusal, filter_refusal, is_listed, is_kind_listed, resolved, reached}
-use Rattle.graph_model.specs.Answer.{names_of, level_row}
-use Rattle.graph_model.specs.declared.ids.Filter.{Filter}
-use Rattle.graph_model.specs.declared.contents.Content.{Content}
-use Rattle.graph_model.specs.declared.requests.NamedFilter.{NamedFilter}
+use Rattle.graph_model.specs.{Answer.names_of, Answer.level_row, declared.ids.Filter.Filter, declared.contents.Content.Content}
+use Rattle.graph_model.specs.declared.requests.{NamedFilter.NamedFilter, AskError.AskError, AskError.TheVariants.NoVertex}
 use Rattle.graph_model.specs.declared.requests.Request.TheVariants.{Levels as AskLevels, Labels as AskLabels, Cores as AskCores}
 use Rattle.graph_model.specs.declared.requests.Reply.TheVariants.{Levels, Labels, Cores}
-use Rattle.graph_model.specs.declared.requests.AskError.{AskError}
-use Rattle.graph_model.specs.declared.requests.AskError.TheVariants.{NoVertex}
 use Rattle.graph_model.proofs.NameNumbers.{place_some, place_number}
 use Rattle.reference_graph.proofs.ZippedRows.{next_row}
 

@@ -1,15 +1,11 @@
 -- What one operation exceeds, a batch exceeds; and the names that are left without looking at edges.
 use Rattle.std.proofs.Common.{◌≡◌, ℕ, ◌<◌, ◌≤◌, List, [], ◌∷◌, length, get_or, zero, suc, drop, inl, inr, refl, sym, ap, subst}
 use Rattle.std.proofs.Common.{arith}
-use Rattle.graph_model.specs.Limits.{name_limit}
-use Rattle.graph_model.specs.Graph.{Graph}
-use Rattle.graph_model.specs.Step.{after, after_all}
-use Rattle.graph_model.specs.declared.batches.NamedOp.{NamedOp}
+use Rattle.graph_model.specs.{Limits.name_limit, Graph.Graph, Step.after, Step.after_all, declared.batches.NamedOp.NamedOp}
 use Rattle.graph_model.specs.declared.batches.NamedOp.TheVariants.{Insert, Incr, Remove, Expire}
 use Rattle.graph_model.proofs.NameLists.{length-after-names, length-after_all-names, length-after_all-kinds}
-use Rattle.reference_graph.specs.Drafts.{names_after, names_left}
+use Rattle.reference_graph.specs.{Drafts.names_after, Drafts.names_left, declared.apply.PlainError.PlainError}
 use Rattle.reference_graph.specs.Refusals.{Refuses, Exceeds, IsNamesRefusal}
-use Rattle.reference_graph.specs.declared.apply.PlainError.{PlainError}
 use Rattle.reference_graph.specs.declared.apply.PlainError.TheVariants.{NamesFull, KindsFull, OutOfMemory}
 
 length-names_after : (op : NamedOp) (names : List (List ℕ)) → length names ≤ length (names_after op names)

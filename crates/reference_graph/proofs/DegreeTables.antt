@@ -2,22 +2,14 @@
 use Rattle.std.proofs.Common.{◌≡◌, ℕ, ◌+◌, ◌<◌, ◌≤◌, Bool, true, false, cond, ◌&&◌, eqb, List, [], ◌∷◌, ◌++◌, length, get_or}
 use Rattle.std.proofs.Common.{take, replicate, map, pos, ◌+ℤ◌, refl, sym, ap, subst, ◌∙◌, arith}
 use Rattle.std.specs.Prelude.{filter, fold, All}
-use Rattle.std.proofs.lemmas.Int.{ints}
+use Rattle.std.proofs.lemmas.{Int.ints, List.FromFn.fill_by_all}
 use Rattle.std.proofs.lemmas.List.{map-append, get_or-replicate, length-replicate, get_or-take, length-take, take_more, take_all}
-use Rattle.std.proofs.lemmas.List.Elements.{filter-append, All-take}
-use Rattle.std.proofs.lemmas.List.Sums.{sum_by_push, fold-append}
-use Rattle.std.proofs.lemmas.List.FromFn.{fill_by_all}
+use Rattle.std.proofs.lemmas.List.{Elements.filter-append, Elements.All-take, Sums.sum_by_push, Sums.fold-append}
 use Rattle.graph_model.specs.Graph.{graph_of, key_of, entry_of, IsContent, IsEdgeWithin}
-use Rattle.graph_model.specs.View.{in_view, leaves, enters}
-use Rattle.graph_model.specs.Answer.{degree_at, degree_table}
+use Rattle.graph_model.specs.{View.in_view, View.leaves, View.enters, Answer.degree_at, Answer.degree_table}
 use Rattle.graph_model.specs.Degrees.{listed_degree, with_edge, IsTally, CountsEdge, IsWithinLimits}
-use Rattle.graph_model.specs.declared.contents.Content.{Content}
-use Rattle.graph_model.specs.declared.ids.Edge.{Edge}
-use Rattle.graph_model.specs.declared.ids.Degree.{Degree}
-use Rattle.graph_model.specs.declared.ids.Filter.{Filter}
-use Rattle.graph_model.proofs.Keys.{HasKeysOnce}
-use Rattle.graph_model.proofs.DegreeBounds.{degree_within}
-use Rattle.graph_model.proofs.ListedDegrees.{listed_at}
+use Rattle.graph_model.specs.declared.{contents.Content.Content, ids.Edge.Edge, ids.Degree.Degree, ids.Filter.Filter}
+use Rattle.graph_model.proofs.{Keys.HasKeysOnce, DegreeBounds.degree_within, ListedDegrees.listed_at}
 
 -- what an edge makes of the degrees of v, where b says whether the filter lets it through
 abbrev with_shown : Bool → Edge → ℕ → Degree → Degree

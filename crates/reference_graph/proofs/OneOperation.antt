@@ -1,27 +1,19 @@
 -- A change that is applied to plain lists does to the graph that they show what its definition says.
 use Rattle.std.proofs.Common.{◌≡◌, ◌≢◌, ℕ, ◌≤◌, List, [], ◌∷◌, ◌++◌, true, false, cond, not, length, get_or, All, AllPairs}
 use Rattle.std.proofs.Common.{Option, Some, None, option_map, option_to_list, IfSome, refl, sym, ap, subst, ◌∙◌, arith}
-use Rattle.std.specs.List.{find}
-use Rattle.std.specs.FinMap.{get}
-use Rattle.std.proofs.lemmas.Bool.{false≢true}
-use Rattle.std.proofs.lemmas.List.{append-nil}
+use Rattle.std.specs.{List.find, FinMap.get}
+use Rattle.std.proofs.lemmas.{Bool.false≢true, List.append-nil, List.Kept.AllPairs-filter, List.Quantifiers.all_pairs_push}
 use Rattle.std.proofs.lemmas.List.Elements.{All-head, All-tail, All-filter, All-weaker, All-push, All-get_or, filter_passes}
-use Rattle.std.proofs.lemmas.List.Kept.{AllPairs-filter}
-use Rattle.std.proofs.lemmas.List.Quantifiers.{all_pairs_push}
 use Rattle.graph_model.specs.Limits.{IsWeight, IsTime, name_limit, kind_limit}
 use Rattle.graph_model.specs.Graph.{Graph, Key, Stamp, key_of, stamp_of, map_of, graph_of, has_key, without, IsAt, IsEdgeWithin}
-use Rattle.graph_model.specs.Graph.{IsContent, content_of}
-use Rattle.graph_model.specs.Changes.{AreMarks, option_stamp}
+use Rattle.graph_model.specs.{Graph.IsContent, Graph.content_of, Changes.AreMarks, Changes.option_stamp}
 use Rattle.graph_model.specs.Step.{names_made, kinds_made, stamp_after, set_at, changed_key, changed, was_before, later}
-use Rattle.graph_model.specs.declared.ids.Edge.{Edge}
-use Rattle.graph_model.specs.declared.changes.EdgeChange.{EdgeChange}
-use Rattle.graph_model.specs.declared.changes.EdgeMarks.{EdgeMarks}
+use Rattle.graph_model.specs.declared.{ids.Edge.Edge, changes.EdgeChange.EdgeChange, changes.EdgeMarks.EdgeMarks}
 use Rattle.graph_model.specs.declared.contents.Content.{Content}
 use Rattle.graph_model.proofs.NameLists.{IsNamed, IsNamed-changed_key, length-names_made, length-kinds_made, AllPairs-names_made}
 use Rattle.graph_model.proofs.NameLists.{AllPairs-kinds_made}
 use Rattle.graph_model.proofs.EdgeLookup.{Decides-has_key, get-map_of, map_of-put}
-use Rattle.reference_graph.specs.Drafts.{shown_key, edge_with}
-use Rattle.reference_graph.specs.declared.edges.EdgeKey.{EdgeKey}
+use Rattle.reference_graph.specs.{Drafts.shown_key, Drafts.edge_with, declared.edges.EdgeKey.EdgeKey}
 
 -- one change on plain lists: what stood at its key is taken away, and what is to stand there comes at the end
 pub record IsApplied (change : EdgeChange) (kind source target : List ℕ) (old new : Content) (key : Key)

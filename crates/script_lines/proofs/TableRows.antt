@@ -2,22 +2,13 @@
 use mir.Val.{bool_byte}
 use Rattle.std.proofs.Common.{◌≡◌, ◌≢◌, ℕ, ◌+◌, ◌<◌, ◌≤◌, List, [], ◌∷◌, ◌++◌, Bool, true, false, cond, length, min, max, take}
 use Rattle.std.proofs.Common.{get_or, append_assoc, append-nil, bytes_eq, arith, refl, sym, ap, subst, ◌∙◌, inl, inr}
-use Rattle.std.proofs.Common.{length-append}
+use Rattle.std.proofs.{Common.length-append, lemmas.Slice.Eq.bytes_eq-Decides, Math.Nat.eq-or-lt_of_le}
 use Rattle.std.specs.Prelude.{IsTrue, Option, None, Some, sum_by, count_by, zip, ◌==◌, is_some}
-use Rattle.std.specs.List.{flat_map, filter_map}
-use Rattle.std.specs.Option.{option_to_list}
-use Rattle.std.proofs.lemmas.Bool.{cases_lt, false≢true}
-use Rattle.std.proofs.lemmas.Bool.Decides.{eqb_tells}
-use Rattle.std.proofs.lemmas.Grind.{flat_map-append}
-use Rattle.std.proofs.lemmas.List.{get_or_default, get_or_past}
-use Rattle.std.proofs.lemmas.List.Elements.{All-get_or}
-use Rattle.std.proofs.lemmas.List.Sums.{fold-append, sum_by-append}
-use Rattle.std.proofs.lemmas.Slice.Eq.{bytes_eq-Decides}
-use Rattle.std.proofs.Math.Nat.{eq-or-lt_of_le}
-use Rattle.graph_model.specs.Answer.{level_row, names_of}
-use Rattle.graph_model.specs.Valid.{is_name}
-use Rattle.graph_model.specs.declared.ids.Degree.{Degree}
-use Rattle.graph_model.specs.declared.ids.VertexId.{VertexId}
+use Rattle.std.specs.{List.flat_map, List.filter_map, Option.option_to_list}
+use Rattle.std.proofs.lemmas.{Bool.cases_lt, Bool.false≢true, Bool.Decides.eqb_tells, Grind.flat_map-append}
+use Rattle.std.proofs.lemmas.List.{get_or_default, get_or_past, Elements.All-get_or, Sums.fold-append, Sums.sum_by-append}
+use Rattle.graph_model.specs.{Answer.level_row, Answer.names_of, Valid.is_name}
+use Rattle.graph_model.specs.declared.ids.{Degree.Degree, VertexId.VertexId}
 use Rattle.graph_levels.specs.Vertices.{numbers_of}
 use Rattle.vertex_names.specs.Book.{Book, IsBook}
 use Rattle.version_answers.proofs.NamedRows.{label_at, length-labels, level_rows_more, next_row, rows_all}

@@ -1,18 +1,12 @@
 -- Without options, what the arguments ask for is what the kinds of clap's errors say of them.
 use Rattle.std.proofs.Common.{◌≡◌, ◌⊎◌, ◌++◌, ◌∙◌, Bool, true, false, codes, List, []}
 use Rattle.std.proofs.Common.{◌∷◌, append_assoc, append-nil, refl, subst, sym, ap, ap₂, fold, inl, inr}
-use Rattle.std.specs.Prelude.{None, Some, if◌then◌else◌}
-use Rattle.std.specs.Str.{bytes_eq}
+use Rattle.std.specs.{Prelude.None, Prelude.Some, Prelude.if◌then◌else◌, Str.bytes_eq}
 use Rattle.std.proofs.lemmas.Slice.Eq.{bytes_eq-Decides}
-use Rattle.clap.specs.Faults.{fault_of, level_fault}
-use Rattle.clap.specs.Faults.{walk_fault}
-use Rattle.clap.specs.Kinds.{Kinds}
-use Rattle.clap.specs.Simple.{Shape, subcommand_of}
-use Rattle.clap.specs.Walk.{Names, Rule, Text, Walk, idle, nothing_held}
-use Rattle.clap.specs.Walk.{subcommand_met, walk_from, walked}
+use Rattle.clap.specs.{Faults.fault_of, Faults.level_fault, Faults.walk_fault, Kinds.Kinds, Simple.Shape, Simple.subcommand_of}
+use Rattle.clap.specs.Walk.{Names, Rule, Text, Walk, idle, nothing_held, subcommand_met, walk_from, walked}
 use Rattle.clap.specs.declared.error.kind.ErrorKind.TheVariants.{DisplayHelp, InvalidSubcommand, MissingRequiredArgument}
-use Rattle.clap.specs.declared.error.kind.ErrorKind.TheVariants.{MissingSubcommand}
-use Rattle.clap.specs.declared.error.kind.ErrorKind.TheVariants.{UnknownArgument}
+use Rattle.clap.specs.declared.error.kind.ErrorKind.TheVariants.{MissingSubcommand, UnknownArgument}
 use Rattle.clap.proofs.OnLiterals.{clap_on_literals}
 use Rattle.stinger_cli.specs.Program.{Asked, Drive, Help, RunView, Serve, Usage, Version, asked, asked_by, asked_of_command}
 use Rattle.stinger_cli.specs.Program.{asked_of_subcommand, asks_for_help, begins_with_option, default_run}

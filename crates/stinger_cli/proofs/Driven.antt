@@ -3,9 +3,7 @@ use Rattle.std.proofs.Common.{◌≡◌, ◌⊎◌, ◌++◌, ℕ, List, subst}
 use Rattle.std.specs.Prelude.{IfOk, Option, Result}
 use Rattle.stinger_cli.specs.Program.{IsDriven, IsTold, drive_line, drive_status}
 use Rattle.stinger_server.specs.Writes.{AppendsPart}
-use Rattle.store_drive.specs.Reports.{IsReport}
-use Rattle.store_drive.specs.declared.reports.DriveFault.{DriveFault}
-use Rattle.store_drive.specs.declared.reports.DriveReport.{DriveReport}
+use Rattle.store_drive.specs.{Reports.IsReport, declared.reports.DriveFault.DriveFault, declared.reports.DriveReport.DriveReport}
 
 pub told_of_drive : {F : Type 0} (readers status wanted : ℕ) (old new : Option (List ℕ)) (contents : F → Option (List ℕ))
     (unwritten : List ℕ) (faults faults' : F) (outcome : Result DriveReport DriveFault) (text end : List ℕ)

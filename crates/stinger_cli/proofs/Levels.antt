@@ -1,22 +1,14 @@
 -- Which kinds of errors clap finds at one level of a command line without options.
-use Rattle.std.proofs.Common.{◌≡◌, ◌==◌, ℕ, Bool, true, false, codes, List, []}
-use Rattle.std.proofs.Common.{◌∷◌, refl, ap}
+use Rattle.std.proofs.Common.{◌≡◌, ◌==◌, ℕ, Bool, true, false, codes, List, [], ◌∷◌, refl, ap}
 use Rattle.std.specs.Prelude.{Option, None, Some, if◌then◌else◌, slice_get, unwrap_or}
 use Rattle.std.specs.Str.{bytes_eq, chars}
-use Rattle.clap.specs.Faults.{bundle_fault, flags_fault, level_fault, long_fault, step_fault, stray_fault, turn_fault}
-use Rattle.clap.specs.Faults.{walk_fault}
-use Rattle.clap.specs.Kinds.{Kinds, or_else}
-use Rattle.clap.specs.Lexer.{long_of, short_of}
-use Rattle.clap.specs.Simple.{Shape, built, names_of}
+use Rattle.clap.specs.Faults.{bundle_fault, flags_fault, level_fault, long_fault, step_fault, stray_fault, turn_fault, walk_fault}
+use Rattle.clap.specs.{Kinds.Kinds, Kinds.or_else, Lexer.long_of, Lexer.short_of, Simple.Shape, Simple.built, Simple.names_of}
 use Rattle.clap.specs.Walk.{Names, Rule, Text, arg_by_index, arg_by_long, arg_by_short, bundle_met, idle, nothing_held}
-use Rattle.clap.specs.Walk.{short_word, subcommand_met, walk_from}
-use Rattle.clap.specs.declared.error.kind.ErrorKind.{ErrorKind}
-use Rattle.clap.specs.declared.error.kind.ErrorKind.TheVariants.{DisplayHelp, InvalidSubcommand}
-use Rattle.clap.specs.declared.error.kind.ErrorKind.TheVariants.{TooManyValues, UnknownArgument}
-use Rattle.stinger_cli.specs.Program.{Asked, Drive, Help, Serve, Usage, Version}
-use Rattle.stinger_cli.specs.Program.{asks_for_help, begins_with_h}
+use Rattle.clap.specs.{Walk.short_word, Walk.subcommand_met, Walk.walk_from, declared.error.kind.ErrorKind.ErrorKind}
+use Rattle.clap.specs.declared.error.kind.ErrorKind.TheVariants.{DisplayHelp, InvalidSubcommand, TooManyValues, UnknownArgument}
+use Rattle.stinger_cli.specs.Program.{Asked, Drive, Help, Serve, Usage, Version, asks_for_help, begins_with_h, program}
 use Rattle.stinger_cli.specs.Program.{is_drive_option, is_help_flag, is_option, is_wish_for_help}
-use Rattle.stinger_cli.specs.Program.{program}
 
 -- the kinds of errors that come of what the command is asked for, where it has no options: a drive has one
 abbrev pub HasKinds : Asked → Kinds → Type 0

@@ -3,21 +3,15 @@ use Rattle.std.proofs.Common.{◌≡◌, ◌⊎◌, ◌<◌, ◌≤◌, ◌^◌,
 use Rattle.std.proofs.Common.{inl, inr, refl, subst, sym}
 use Rattle.std.proofs.lemmas.Bool.Decides.{leb_tells, nat_tests}
 use Rattle.std.specs.Prelude.{◌&&◌, MatchResult, Option, None, Some, Result, Ok, Err, if◌then◌else◌, nat_le}
-use Rattle.std.specs.Prelude.{option_and_then, option_map}
-use Rattle.std.specs.Option.{option_map_or}
-use Rattle.std.specs.Str.{bytes_eq}
+use Rattle.std.specs.{Prelude.option_and_then, Prelude.option_map, Option.option_map_or, Str.bytes_eq}
 use Rattle.std.specs.Str.Parse.{ExplainsUnsignedError, HasUnsignedDigitsIfOk, ParsesUnsigned, digits_value, without_leading_plus}
-use Rattle.clap.specs.Matches.{ReadsOne, first_value, one_text}
-use Rattle.clap.specs.ValueTests.{is_unsigned_in}
-use Rattle.clap.specs.declared.builder.value_parser.ValueParser.TheVariants.{Unsigned}
+use Rattle.clap.specs.{Matches.ReadsOne, Matches.first_value, Matches.one_text, ValueTests.is_unsigned_in}
+use Rattle.clap.specs.declared.{builder.value_parser.ValueParser.TheVariants.Unsigned, parser.matches.Found.Found}
 use Rattle.clap.specs.Walk.{Row, Text, one_of, rows_of}
-use Rattle.clap.specs.declared.parser.matches.Found.{Found}
 use Rattle.clap.proofs.WalkLemmas.{first_value-rows, one_text-rows}
 use Rattle.clap.proofs.ValueTestLemmas.{Accepts-accepts, accepts-Accepts}
-use Rattle.stream_store.specs.Configs.{IsWithinLimits, ConfigView}
-use Rattle.stinger_cli.specs.Program.{is_quiet, number_within, readers_of}
-use Rattle.stinger_cli.specs.Program.{sizes_given, sizes_of}
-use Rattle.stream_store.specs.declared.config.BadConfig.{BadConfig}
+use Rattle.stream_store.specs.{Configs.IsWithinLimits, Configs.ConfigView, declared.config.BadConfig.BadConfig}
+use Rattle.stinger_cli.specs.Program.{is_quiet, number_within, readers_of, sizes_given, sizes_of}
 
 -- a number, where it lies within limits
 abbrev pub within : ℕ → ℕ → ℕ → Option ℕ

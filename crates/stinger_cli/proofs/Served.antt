@@ -2,22 +2,15 @@
 -- what is asked for.
 use Rattle.std.proofs.Common.{◌≡◌, ◌≢◌, ◌⊎◌, ◌∙◌, ℕ, Bool, true, false, codes, List, [], ◌∷◌, ap, ap₂, inl, inr, refl, subst, sym}
 use Rattle.std.specs.Prelude.{Err, IfOk, Ok, OnOk, Option, None, Result, Some, if◌then◌else◌, option_map}
-use Rattle.std.specs.Option.{option_map_or}
-use Rattle.std.specs.Str.{bytes_eq}
-use Rattle.clap.specs.Faults.{fault_of}
-use Rattle.clap.specs.Kinds.{IsAmong, Kinds}
-use Rattle.clap.specs.Simple.{subcommand_of}
-use Rattle.clap.specs.Walk.{Row, Text}
-use Rattle.clap.specs.declared.error.kind.ErrorKind.{ErrorKind}
-use Rattle.clap.specs.declared.error.kind.ErrorKind.TheVariants.{OutOfMemory}
-use Rattle.stinger_cli.proofs.OneFault.{fault_meaning}
-use Rattle.stinger_cli.proofs.Options.{number_limits, sizes_limits}
+use Rattle.std.specs.{Option.option_map_or, Str.bytes_eq}
+use Rattle.clap.specs.{Faults.fault_of, Kinds.IsAmong, Kinds.Kinds, Simple.subcommand_of, Walk.Row, Walk.Text, Walk.one_of}
+use Rattle.clap.specs.declared.error.kind.ErrorKind.{ErrorKind, TheVariants.OutOfMemory}
+use Rattle.stinger_cli.proofs.{OneFault.fault_meaning, Options.number_limits, Options.sizes_limits}
 use Rattle.stinger_cli.specs.Program.{Asked, Drive, Help, RunView, Serve, Usage, Version, asked, asked_by, asked_by_kind}
 use Rattle.stinger_cli.specs.Program.{asked_for, asked_of_command, asked_of_subcommand, is_quiet, is_version}
 use Rattle.stinger_cli.specs.Program.{is_wish_for_help, program, readers_of, sizes_of, without_help}
 use Rattle.stinger_cli.specs.declared.program.Order.{Order}
 use Rattle.stream_store.specs.Configs.{IsWithinLimits, ConfigView}
-use Rattle.clap.specs.Walk.{one_of}
 use Rattle.store_drive.specs.Reports.{IsReaderCount}
 
 abbrev Met : Type 0

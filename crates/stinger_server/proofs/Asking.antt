@@ -2,23 +2,17 @@
 use Rattle.std.proofs.Common.{◌≡◌, ◌≢◌, ℕ, List, length, take, get_or, sym, ap, subst, ◌∙◌}
 use Rattle.std.specs.Prelude.{◌⊎◌, Option, None, Some, Result, Ok, Err, slice_get}
 use Rattle.std.proofs.lemmas.Option.{get_or_from_slice_get, slice_get_within}
-use Rattle.graph_model.specs.Graph.{Graph}
-use Rattle.graph_model.specs.Step.{left_by}
-use Rattle.graph_model.specs.declared.requests.AskError.{AskError}
+use Rattle.graph_model.specs.{Graph.Graph, Step.left_by, declared.requests.AskError.AskError}
 use Rattle.graph_model.specs.declared.requests.AskError.TheVariants as ask
 use Rattle.graph_model.specs.declared.requests.Request.{Request}
 use Rattle.graph_version.specs.Versions.{VersionView}
 use Rattle.stream_store.specs.Seats.{SeatView, SessionView, held_graph, held_version}
-use Rattle.version_answers.specs.Numbered.{IsNumberedAnswer, named}
-use Rattle.version_answers.specs.declared.numbered.NumberedReply.{NumberedReply}
-use Rattle.script_lines.specs.Lines.{shown_lines}
-use Rattle.stinger_server.specs.Servers.{IsServer, Shows}
-use Rattle.stinger_server.specs.Slots.{IsEarlier, IsSlot, held_of}
+use Rattle.version_answers.specs.{Numbered.IsNumberedAnswer, Numbered.named, declared.numbered.NumberedReply.NumberedReply}
+use Rattle.script_lines.specs.{Lines.shown_lines, declared.words.Word.Word}
+use Rattle.stinger_server.specs.{Servers.IsServer, Servers.Shows, Slots.IsEarlier, Slots.IsSlot, Slots.held_of}
 use Rattle.stinger_server.specs.States.{IsReplied, State, ask_word, version, version_in}
 use Rattle.stinger_server.specs.declared.server.Server.{Server}
-use Rattle.script_lines.specs.declared.words.Word.{Word}
-use Rattle.stinger_server.proofs.Commands.{held_there}
-use Rattle.stinger_server.proofs.NamesApart.{AreApart}
+use Rattle.stinger_server.proofs.{Commands.held_there, NamesApart.AreApart}
 use Rattle.stinger_server.proofs.Replies.{IsAsked, asked_version, replied_err, replied_ok}
 
 earlier_in : (last : VersionView) (slot : ℕ) (seat : Option SeatView) (session : Option SessionView) (s : SessionView)

@@ -1,11 +1,9 @@
 -- What the commands of slots come to, from what the calls below them say.
 use Rattle.std.proofs.Common.{◌≡◌, ℕ, List, map, sym, ap, ◌∙◌, refl}
-use Rattle.std.specs.Prelude.{Option, None, Some, Err, slice_get}
-use Rattle.std.specs.Option.{option_map}
+use Rattle.std.specs.{Prelude.Option, Prelude.None, Prelude.Some, Prelude.Err, Prelude.slice_get, Option.option_map}
 use Rattle.std.proofs.lemmas.Option.{slice_get-map}
 use Rattle.stream_store.specs.Seats.{SessionView, held_version}
-use Rattle.stinger_server.specs.Slots.{held_by, held_of}
-use Rattle.stinger_server.specs.States.{Held, version_in}
+use Rattle.stinger_server.specs.{Slots.held_by, Slots.held_of, States.Held, States.version_in}
 use Rattle.script_lines.specs.declared.words.Word.TheVariants.{NotOpen}
 
 not_open : (held : Option (Option Held)) → version_in held ≡ Err NotOpen → held ≡ Some None

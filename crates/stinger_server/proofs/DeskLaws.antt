@@ -1,10 +1,7 @@
 -- A desk that shows a state: what batches, collections and counts come to.
-use Rattle.std.proofs.Common.{◌≡◌, ◌≢◌, ℕ, zero, suc, ◌+◌, Bool, true, false, cond, ◌&&◌, List, [], ◌∷◌, ◌++◌}
-use Rattle.std.proofs.Common.{subst}
-use Rattle.std.proofs.Common.{length, map, not}
-use Rattle.std.proofs.Common.{count_by, filter, replicate, refl, sym, ap, ◌∙◌, arith}
-use Rattle.std.specs.Prelude.{Ok, Err, if◌then◌else◌}
-use Rattle.std.specs.FinMap.{len}
+use Rattle.std.proofs.Common.{◌≡◌, ◌≢◌, ℕ, zero, suc, ◌+◌, Bool, true, false, cond, ◌&&◌, List, [], ◌∷◌, ◌++◌, subst}
+use Rattle.std.proofs.Common.{length, map, not, count_by, filter, replicate, refl, sym, ap, ◌∙◌, arith}
+use Rattle.std.specs.{Prelude.Ok, Prelude.Err, Prelude.if◌then◌else◌, FinMap.len}
 use Rattle.std.proofs.lemmas.List.{length-append}
 use Rattle.batch_apply.proofs.Kept.{count_append}
 use Rattle.block_layout.specs.Batches.{layout_after, taken_by}
@@ -16,24 +13,18 @@ use Rattle.pin_copy.specs.Copies.{needs}
 use Rattle.batch_shards.specs.Births.{births_after, dropped_births}
 use Rattle.feed_csv.specs.declared.command.Command.TheVariants.{Collect, Commit, Stat}
 use Rattle.graph_model.specs.Step.{after_all, left_by, outcomes}
-use Rattle.graph_model.specs.declared.batches.NamedOp.{NamedOp}
-use Rattle.graph_model.specs.declared.batches.Outcome.{Outcome}
-use Rattle.graph_version.specs.Kept.{edge_total}
-use Rattle.graph_version.specs.Versions.{content, layout_of, empty_version}
+use Rattle.graph_model.specs.declared.batches.{NamedOp.NamedOp, Outcome.Outcome}
+use Rattle.graph_version.specs.{Kept.edge_total, Versions.content, Versions.layout_of, Versions.empty_version}
 use Rattle.store_steps.specs.Desks.{DeskView, IsCollected, AcceptedCounts, CollectedCounts, births_in, is_retired_by}
-use Rattle.store_steps.specs.Opening.{opened_desk}
-use Rattle.store_steps.specs.Steps.{Accepts}
+use Rattle.store_steps.specs.{Opening.opened_desk, Steps.Accepts}
 use Rattle.store_steps.proofs.StatusCounts.{accepted_counts, collected_counts}
-use Rattle.stream_store.specs.Configs.{ConfigView}
+use Rattle.stream_store.specs.{Configs.ConfigView, declared.receipts.ApplyError.ApplyError}
 use Rattle.stream_store.specs.Refusals.{Attempt, BatchRefusal, IsAdmissible, IsWithin, Refuses, attempt_on, block_count}
-use Rattle.stream_store.specs.declared.receipts.ApplyError.{ApplyError}
 use Rattle.stream_store.specs.declared.receipts.ApplyError.TheVariants as refused
 use Rattle.script_lines.specs.Lines.{collect_line, commit_line, stat_line}
 use Rattle.stinger_server.proofs.SlotLaws.{floor_is}
-use Rattle.stinger_server.specs.Servers.{ShowsDesk}
+use Rattle.stinger_server.specs.{Servers.ShowsDesk, States.dates, States.dropped, States.floor_of, States.held_numbers}
 use Rattle.stinger_server.specs.States.{Dates, IsCommandResult, State, after_collect, after_commit, attempt, batch_word, beginning, copy_of}
-use Rattle.stinger_server.specs.States.{dates, dropped}
-use Rattle.stinger_server.specs.States.{floor_of, held_numbers}
 use Rattle.stinger_server.specs.States.{last_version, left_by_pending, recycled, set_up, taken, used}
 
 -- Counts

@@ -1,7 +1,6 @@
 -- A text that is written whole, and then flushed.
 use Rattle.std.proofs.Common.{ℕ, List, [], append-nil, sym}
-use Rattle.std.specs.Prelude.{Option}
-use Rattle.std.specs.Io.KnownBytes.{Appends, Keeps}
+use Rattle.std.specs.{Prelude.Option, Io.KnownBytes.Appends, Io.KnownBytes.Keeps}
 use Rattle.stinger_server.specs.Writes.{AppendsPart}
 use Rattle.stinger_server.proofs.Writing.{appends_kept}
 

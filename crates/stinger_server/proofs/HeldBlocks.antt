@@ -2,12 +2,10 @@
 use Rattle.std.proofs.Common.{◌≡◌, ℕ, zero, suc, ◌+◌, ◌<◌, ◌≤◌, List, [], ◌∷◌, length, map, refl, sym, ap, ◌∙◌, arith}
 use Rattle.std.proofs.Common.{length-append}
 use Rattle.std.specs.List.{range_with_len}
-use Rattle.std.proofs.lemmas.List.{length-map}
-use Rattle.std.proofs.lemmas.List.FromFn.{get_or-map-range_with_len, length-map-range_with_len}
+use Rattle.std.proofs.lemmas.List.{length-map, FromFn.get_or-map-range_with_len, FromFn.length-map-range_with_len}
 use Rattle.edge_block.specs.Slots.{BlockView}
 use Rattle.row_pages.specs.Rows.{blocks_of, row_of}
-use Rattle.block_layout.specs.Batches.{sum_below}
-use Rattle.block_layout.specs.Rows.{shape_of}
+use Rattle.block_layout.specs.{Batches.sum_below, Rows.shape_of}
 use Rattle.graph_version.specs.Versions.{IsVersion, VersionView, content, layout_of}
 use Rattle.graph_degrees.proofs.Whole.{all_below}
 

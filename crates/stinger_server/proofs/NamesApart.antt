@@ -1,9 +1,7 @@
 -- The names of a graph that batches leave differ where they did before.
 use Rattle.std.proofs.Common.{◌≢◌, ℕ, List, [], ◌∷◌, arith}
 use Rattle.std.specs.Prelude.{AllPairs}
-use Rattle.graph_model.specs.Graph.{Graph}
-use Rattle.graph_model.specs.Step.{after, after_all, left_by}
-use Rattle.graph_model.specs.declared.batches.NamedOp.{NamedOp}
+use Rattle.graph_model.specs.{Graph.Graph, Step.after, Step.after_all, Step.left_by, declared.batches.NamedOp.NamedOp}
 use Rattle.graph_model.specs.declared.batches.NamedOp.TheVariants.{Insert, Incr, Remove, Expire}
 use Rattle.graph_model.specs.declared.changes.EdgeChange.TheVariants.{Insert as ToInsert, Incr as ToIncr, Remove as ToRemove}
 use Rattle.graph_model.proofs.NameLists.{AllPairs-names_made}

@@ -1,21 +1,16 @@
 -- A script has one text: each record comes to one outcome.
 use Rattle.std.proofs.Common.{◌≡◌, ◌≢◌, ℕ, ◌+◌, List, [], ◌∷◌, ◌++◌, length, refl, sym, ◌∙◌, ap, subst, arith}
 use Rattle.std.specs.Prelude.{Result, Ok, Err, slice_get}
-use Rattle.feed_csv.specs.Commands.{item_of}
-use Rattle.feed_csv.specs.Records.{Row}
-use Rattle.feed_csv.specs.declared.command.Command.{Command}
+use Rattle.feed_csv.specs.{Commands.item_of, Records.Row, declared.command.Command.Command, declared.command.FeedWord.FeedWord}
 use Rattle.feed_csv.specs.declared.command.Command.TheVariants.{Op, Commit, OpenSlot, CloseSlot, Query, Collect, Stat, Rebase}
-use Rattle.feed_csv.specs.declared.command.FeedWord.{FeedWord}
 use Rattle.graph_model.proofs.OneAnswer.{one_answer}
 use Rattle.graph_model.specs.declared.requests.Request.{Request}
-use Rattle.script_lines.specs.declared.words.Word.{Word}
-use Rattle.script_lines.specs.Lines.{end_line}
+use Rattle.script_lines.specs.{declared.words.Word.Word, Lines.end_line}
 use Rattle.stream_store.specs.Refusals.{Attempt, BatchRefusal, IsAdmissible}
 use Rattle.stream_store.specs.declared.receipts.ApplyError.{ApplyError}
 use Rattle.stream_store.specs.declared.receipts.ApplyError.TheVariants as refused
-use Rattle.stinger_server.specs.States.{IsCommitted, attempt, batch_word}
+use Rattle.stinger_server.specs.States.{IsCommitted, attempt, batch_word, answer_result, beginning, printed, version, version_in}
 use Rattle.stinger_server.specs.States.{Held, IsRecordResult, IsReplied, Progress, RecordResult, Setup, State, after_record}
-use Rattle.stinger_server.specs.States.{answer_result, beginning, printed, version, version_in}
 use Rattle.stinger_server.specs.Texts.{Executes, IsFullText}
 
 one_replied : (slot : ℕ) (request : Request) (s : State) (held : Result Held Word) (a b : RecordResult)

@@ -1,30 +1,21 @@
 -- A desk that opened with what a session holds: which state it shows, and what its line says.
 use Rattle.std.proofs.Common.{◌≡◌, ℕ, zero, suc, ◌-◌, Bool, false, cond, List, [], ◌∷◌, length, map, set}
 use Rattle.std.proofs.Common.{count_by, replicate, refl, ap, ap₂, ◌∙◌, arith}
-use Rattle.std.specs.Prelude.{Ok, slice_get}
-use Rattle.std.specs.FinMap.{len}
-use Rattle.block_layout.specs.Batches.{sum_below}
-use Rattle.block_layout.specs.Rows.{Shape, shape_of}
+use Rattle.std.specs.{Prelude.Ok, Prelude.slice_get, FinMap.len}
+use Rattle.block_layout.specs.{Batches.sum_below, Rows.Shape, Rows.shape_of}
 use Rattle.block_pool.specs.Pools.{Status, Free, Used, is_retired, is_used, marked}
-use Rattle.block_pool.proofs.Grants.{length-marked}
-use Rattle.block_pool.proofs.Tallies.{count_more}
+use Rattle.block_pool.proofs.{Grants.length-marked, Tallies.count_more}
 use Rattle.edge_block.specs.Slots.{BlockView}
 use Rattle.feed_csv.specs.declared.command.Command.TheVariants.{Rebase}
 use Rattle.graph_model.specs.Step.{left_by}
-use Rattle.graph_version.specs.Kept.{edge_total}
-use Rattle.graph_version.specs.Rebased.{IsRebased}
-use Rattle.graph_version.specs.Versions.{VersionView, content}
+use Rattle.graph_version.specs.{Kept.edge_total, Rebased.IsRebased, Versions.VersionView, Versions.content}
 use Rattle.row_pages.specs.Rows.{blocks_of, numbers_of, row_of}
 use Rattle.script_lines.specs.Lines.{rebase_line}
-use Rattle.store_steps.specs.Desks.{DeskView, IsDesk, birth_at, is_retired_by}
-use Rattle.store_steps.specs.Opening.{opened_desk}
+use Rattle.store_steps.specs.{Desks.DeskView, Desks.IsDesk, Desks.birth_at, Desks.is_retired_by, Opening.opened_desk}
 use Rattle.stream_store.specs.Refusals.{block_count}
-use Rattle.stinger_server.proofs.DeskLaws.{length-replicate, none_counted, parts}
-use Rattle.stinger_server.proofs.HeldBlocks.{blocks_counted}
-use Rattle.stinger_server.specs.Servers.{ShowsDesk}
-use Rattle.stinger_server.specs.Slots.{held_of}
-use Rattle.stinger_server.specs.States.{IsCommandResult, State, after_rebase, version, version_in}
-use Rattle.stinger_server.specs.States.{blocks_of as held_blocks}
+use Rattle.stinger_server.proofs.{DeskLaws.length-replicate, DeskLaws.none_counted, DeskLaws.parts, HeldBlocks.blocks_counted}
+use Rattle.stinger_server.specs.{Servers.ShowsDesk, Slots.held_of}
+use Rattle.stinger_server.specs.States.{IsCommandResult, State, after_rebase, version, version_in, blocks_of as held_blocks}
 
 -- The pool
 

@@ -1,26 +1,19 @@
 -- The lines of a reply, from what the reply says.
 use Rattle.std.proofs.Common.{◌≡◌, ◌≢◌, ℕ, List, refl, ◌∙◌, ap, inl, inr}
-use Rattle.std.specs.Prelude.{AllPairs, Result, Ok, Err, ◌⊎◌, slice_get}
-use Rattle.std.specs.List.{zip}
-use Rattle.graph_model.specs.Answer.{IsAnswer, IsReply, resolved, degree_table, names_of}
-use Rattle.graph_model.specs.Graph.{Graph}
+use Rattle.std.specs.{Prelude.AllPairs, Prelude.Result, Prelude.Ok, Prelude.Err, Prelude.◌⊎◌, Prelude.slice_get, List.zip}
+use Rattle.graph_model.specs.{Answer.IsAnswer, Answer.IsReply, Answer.resolved, Answer.degree_table, Answer.names_of, Graph.Graph}
 use Rattle.graph_version.specs.Versions.{IsVersion, VersionView, content}
 use Rattle.block_layout.specs.Batches.{IsWithin}
 use Rattle.graph_model.specs.declared.requests.Request.{Request}
 use Rattle.graph_model.specs.declared.requests.Request.TheVariants as request
-use Rattle.graph_model.specs.declared.requests.Reply.{Reply}
-use Rattle.graph_model.specs.declared.requests.AskError.{AskError}
+use Rattle.graph_model.specs.declared.requests.{Reply.Reply, AskError.AskError}
 use Rattle.graph_model.specs.declared.requests.AskError.TheVariants as ask
 use Rattle.graph_levels.specs.Vertices.{numbers_of}
 use Rattle.version_answers.specs.Numbered.{IsNumberedAnswer, IsNumberedReply, named}
 use Rattle.version_answers.specs.declared.numbered.NumberedReply.{NumberedReply}
-use Rattle.stinger_server.proofs.Edges.{edges_in_view}
-use Rattle.stinger_server.proofs.NamesApart.{AreApart, apart_names}
-use Rattle.stinger_server.proofs.OwnLabels.{own_labels}
-use Rattle.script_lines.specs.Lines.{degree_lines, label_lines}
-use Rattle.script_lines.specs.Lines.{shown_lines}
+use Rattle.stinger_server.proofs.{Edges.edges_in_view, NamesApart.AreApart, NamesApart.apart_names, OwnLabels.own_labels}
+use Rattle.script_lines.specs.{Lines.degree_lines, Lines.label_lines, Lines.shown_lines, declared.words.Word.Word}
 use Rattle.stinger_server.specs.States.{Held, IsReplied, State, ask_word, reply_lines, version, version_in}
-use Rattle.script_lines.specs.declared.words.Word.{Word}
 
 -- a graph whose names differ, and whose edges join its vertices
 pub record IsAsked (g : Graph) : Type 0 where

@@ -2,16 +2,11 @@
 use Rattle.std.proofs.Common.{◌≡◌, ℕ, ◌+◌, ◌<◌, List, length, ◌∙◌, ap, subst, sym, arith, inl}
 use Rattle.std.specs.Prelude.{Bool, false, true, Option, Some, Result, Ok, Err, IfErr, IfOk, is_err}
 use Rattle.std.proofs.lemmas.Bool.{true≢false}
-use Rattle.feed_csv.specs.Records.{record_limit}
-use Rattle.feed_csv.specs.Script.{NextStep, Script}
-use Rattle.feed_csv.specs.declared.command.Command.{Command}
-use Rattle.stinger_server.specs.declared.script.Run.{Run}
-use Rattle.stinger_server.specs.declared.script.ServeFault.{ServeFault}
+use Rattle.feed_csv.specs.{Records.record_limit, Script.NextStep, Script.Script, declared.command.Command.Command}
+use Rattle.stinger_server.specs.declared.script.{Run.Run, ServeFault.ServeFault, Summary.Summary}
 use Rattle.stinger_server.specs.declared.script.ServeFault.TheVariants.{Read, Memory, Start, Write}
-use Rattle.stinger_server.specs.declared.script.Summary.{Summary}
 use Rattle.stinger_server.specs.States.{IsRebase}
-use Rattle.stinger_server.specs.Runs.{ExecutesRecord, FailsToWrite, HasCause, IsReady, IsTurn}
-use Rattle.stinger_server.specs.Runs.{done_by, is_start, is_write}
+use Rattle.stinger_server.specs.Runs.{ExecutesRecord, FailsToWrite, HasCause, IsReady, IsTurn, done_by, is_start, is_write}
 
 -- a turn ended the run
 pub cause_stopped : (feed feed' : Script) (run run' : Run) (now after : Option (List ℕ)) (failed : Bool) (fault : ServeFault)

@@ -3,17 +3,12 @@ use Rattle.std.proofs.Common.{◌≡◌, ℕ, ◌+◌, ◌<◌, List, [], ◌∷
 use Rattle.std.proofs.Common.{subst, inl, inr}
 use Rattle.std.specs.Prelude.{false, Option, None, Some, Result, Ok, Err, IfErr, IfOk, IfSome, OnErr, OnOk, option_map}
 use Rattle.std.specs.Io.KnownBytes.{Appends}
-use Rattle.feed_csv.specs.Commands.{item_of}
-use Rattle.feed_csv.specs.Records.{IsOver, Row, Takes, record_limit, records_of}
-use Rattle.feed_csv.specs.Script.{MeetsEnd, Script, TakesRow}
-use Rattle.feed_csv.specs.declared.command.Command.TheVariants.{Rebase}
+use Rattle.feed_csv.specs.{Commands.item_of, Records.IsOver, Records.Row, Records.Takes, Records.record_limit, Records.records_of}
+use Rattle.feed_csv.specs.{Script.MeetsEnd, Script.Script, Script.TakesRow, declared.command.Command.TheVariants.Rebase}
 use Rattle.feed_csv.specs.declared.command.FeedWord.TheVariants as feed_word
-use Rattle.stinger_server.specs.declared.script.Run.{Run}
-use Rattle.stinger_server.specs.declared.script.ServeFault.{ServeFault}
+use Rattle.stinger_server.specs.declared.script.{Run.Run, ServeFault.ServeFault, Summary.Summary}
 use Rattle.stinger_server.specs.declared.script.ServeFault.TheVariants.{Read, Memory, Start, Write}
-use Rattle.stinger_server.specs.declared.script.Summary.{Summary}
-use Rattle.script_lines.specs.declared.words.Word.{Word}
-use Rattle.script_lines.specs.declared.words.Word.TheVariants.{Feed}
+use Rattle.script_lines.specs.declared.words.Word.{Word, TheVariants.Feed}
 use Rattle.script_lines.specs.declared.words.Word.TheVariants as told
 use Rattle.script_lines.specs.Lines.{end_line, error_line}
 use Rattle.stinger_server.specs.Runs.{FailsToWrite, IsFresh, IsReady, ShowsRun, IsStartup, IsTurn, records_done}

@@ -1,27 +1,19 @@
 -- Slots that stay slots: as sessions are acquired and released, batches come, and the floor rises.
-use Rattle.std.proofs.Common.{◌≡◌, ◌≢◌, ℕ, zero, suc, ◌+◌, ◌<◌, ◌≤◌, ◌==◌, max, true, false, List, [], ◌∷◌, ◌++◌, length}
-use Rattle.std.proofs.Common.{map}
+use Rattle.std.proofs.Common.{◌≡◌, ◌≢◌, ℕ, zero, suc, ◌+◌, ◌<◌, ◌≤◌, ◌==◌, max, true, false, List, [], ◌∷◌, ◌++◌, length, map}
 use Rattle.std.proofs.Common.{take, get_or, set, replicate, append-nil, refl, sym, ap, ap₂, subst, ◌∙◌, arith, inl, inr, ◌-◌, min}
-use Rattle.std.specs.Prelude.{◌⊎◌, Option, None, Some, IfSome, slice_get}
-use Rattle.std.specs.List.{range_with_len}
-use Rattle.std.specs.Option.{option_map}
-use Rattle.std.specs.Iterator.{Yields}
+use Rattle.std.specs.{Prelude.◌⊎◌, Prelude.Option, Prelude.None, Prelude.Some, Prelude.IfSome, Prelude.slice_get, Iterator.Yields}
+use Rattle.std.specs.{List.range_with_len, Option.option_map, declared.vec.IntoIter.IntoIter}
 use Rattle.std.specs.Vec.Iter.{into_iter_items, into_iter_len, into_iter_steps}
-use Rattle.std.specs.declared.vec.IntoIter.{IntoIter}
 use Rattle.std.proofs.lemmas.Bool.{eq-eqb, eqb-true, true≢false}
-use Rattle.std.proofs.lemmas.List.{get_or-set_same, get_or-set_other, length-map, map-set}
+use Rattle.std.proofs.lemmas.List.{get_or-set_same, get_or-set_other, length-map, map-set, FromFn.get_or-range_with_len}
 use Rattle.std.proofs.lemmas.List.{take-append-le, length-append, get_or-map}
-use Rattle.std.proofs.lemmas.List.FromFn.{get_or-range_with_len}
 use Rattle.std.proofs.lemmas.Option.{get_or_from_slice_get, slice_get_read, slice_get_within}
-use Rattle.std.proofs.Math.ListN.{length-set}
-use Rattle.std.proofs.Math.Seq.{take-length}
-use Rattle.std.proofs.Math.Nat.{max-eq_right}
+use Rattle.std.proofs.Math.{ListN.length-set, Seq.take-length, Nat.max-eq_right}
 use Rattle.graph_model.specs.declared.batches.NamedOp.{NamedOp}
 use Rattle.graph_version.specs.Versions.{IsVersion, VersionView}
 use Rattle.pin_copy.specs.Copies.{floor_of, least_of, lesser}
 use Rattle.seat_board.specs.Board.{BoardState, copy_of, no_pins, pin_at, settled_number, unsettled_number, with_pin}
-use Rattle.seat_board.specs.declared.board.Pin.{Pin}
-use Rattle.seat_board.specs.declared.board.TheConstants.{SEATS}
+use Rattle.seat_board.specs.declared.board.{Pin.Pin, TheConstants.SEATS}
 use Rattle.stream_store.specs.Seats.{SeatView, SessionView, held_version, lent_to, seat_of}
 use Rattle.stinger_server.specs.Slots.{AreSlots, IsEarlier, IsPinned, IsSlot, held_by, held_of, holding}
 use Rattle.stinger_server.specs.States.{Held, copy_by, least_held, held_numbers}

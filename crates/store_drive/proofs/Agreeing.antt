@@ -1,12 +1,8 @@
 -- Two answers to one request over one graph, for neither of which a growth was refused, are equal.
 use Rattle.std.proofs.Common.{◌≡◌, ◌≢◌, ◌⊎◌, inl, inr}
 use Rattle.std.specs.Prelude.{Result, Err}
-use Rattle.graph_model.specs.Graph.{Graph}
-use Rattle.graph_model.specs.Answer.{IsAnswer}
-use Rattle.graph_model.specs.declared.requests.Request.{Request}
-use Rattle.graph_model.specs.declared.requests.Reply.{Reply}
-use Rattle.graph_model.specs.declared.requests.AskError.{AskError}
-use Rattle.graph_model.specs.declared.requests.AskError.TheVariants.{OutOfMemory}
+use Rattle.graph_model.specs.{Graph.Graph, Answer.IsAnswer}
+use Rattle.graph_model.specs.declared.requests.{Request.Request, Reply.Reply, AskError.AskError, AskError.TheVariants.OutOfMemory}
 use Rattle.graph_model.proofs.OneAnswer.{one_answer}
 
 answered : (request : Request) (g : Graph) (x : Result Reply AskError) → (x ≡ Err OutOfMemory) ⊎ IsAnswer request g x

@@ -1,31 +1,22 @@
 -- A batch that was applied with granted blocks is accepted, and the desk after it is a desk.
 use Rattle.std.proofs.Common.{◌≡◌, ℕ, zero, suc, ◌<◌, Bool, true, false, List, [], ◌∷◌, ◌++◌, length, get_or}
 use Rattle.std.proofs.Common.{count_by, refl, sym, ap, ◌∙◌, arith}
-use Rattle.std.specs.Prelude.{slice_get, if◌then◌else◌, Contains}
-use Rattle.std.specs.List.{list_all}
-use Rattle.std.specs.Option.{option_and_then}
-use Rattle.std.specs.declared.option.Option.{Option}
-use Rattle.std.specs.declared.option.Option.TheVariants.{None, Some}
-use Rattle.std.proofs.lemmas.Bool.{true≢false}
-use Rattle.std.proofs.lemmas.List.{length-map}
+use Rattle.std.specs.{Prelude.slice_get, Prelude.if◌then◌else◌, Prelude.Contains, List.list_all, Option.option_and_then}
+use Rattle.std.specs.declared.option.Option.{Option, TheVariants.None, TheVariants.Some}
+use Rattle.std.proofs.lemmas.{Bool.true≢false, List.length-map}
 use Rattle.edge_block.specs.Slots.{BlockView}
 use Rattle.row_pages.specs.Rows.{row_of, blocks_of, numbers_of}
 use Rattle.graph_version.specs.Versions.{is_in}
-use Rattle.block_pool.specs.Pools.{Used, is_born, passes, retired, is_free_at}
-use Rattle.block_pool.specs.Pools.{is_born_at, marked}
+use Rattle.block_pool.specs.Pools.{Used, is_born, passes, retired, is_free_at, is_born_at, marked}
 use Rattle.epoch_blocks.specs.Blocks.{all_differ}
 use Rattle.store_steps.specs.Journal.{Entry, Ledger, opened_ledger, is_legal, after_entry, entered, replay}
-use Rattle.store_steps.specs.Desks.{IsDesk, IsAccepted, FollowsBirths, birth_at, last_numbers}
-use Rattle.store_steps.specs.Desks.{ledger_of}
-use Rattle.store_steps.proofs.NumberLists.{all_by, number_in}
-use Rattle.store_steps.proofs.ChangedLists.{length-marked, length-changed}
-use Rattle.store_steps.proofs.Counting.{is_some_times, in_times, apart_if, same_block}
-use Rattle.store_steps.proofs.Counting.{counted, listed}
+use Rattle.store_steps.specs.Desks.{IsDesk, IsAccepted, FollowsBirths, birth_at, last_numbers, ledger_of}
+use Rattle.store_steps.proofs.{NumberLists.all_by, NumberLists.number_in, ChangedLists.length-marked, ChangedLists.length-changed}
+use Rattle.store_steps.proofs.Counting.{is_some_times, in_times, apart_if, same_block, counted, listed}
 use Rattle.store_steps.proofs.OneNumber.{number_after}
 use Rattle.store_steps.proofs.Births.{birth_in, birth_from, birth_taken, birth_stays, births_of, number_of_row, row_listed}
 use Rattle.store_steps.proofs.Applications.{Application, number_in_desk, dropped_numbers, next_desk, entry_in, after_times}
-use Rattle.store_steps.proofs.Applications.{handed_once, granted_free, one, dropped_differ, dropped_born}
-use Rattle.store_steps.proofs.Applications.{exchanged_at, next_at}
+use Rattle.store_steps.proofs.Applications.{handed_once, granted_free, one, dropped_differ, dropped_born, exchanged_at, next_at}
 use Rattle.store_steps.proofs.GrantedBlocks.{not_granted, taken_granted, not_taken}
 
 -- The entry is legal, and the desk is one

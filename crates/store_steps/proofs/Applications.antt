@@ -1,14 +1,11 @@
 -- A batch that was applied to a desk with granted blocks: how often it has a number, and what it leaves of the pool.
-use Rattle.std.proofs.Common.{◌≡◌, ℕ, zero, suc, ◌+◌, ◌≤◌, ◌==◌, true, List, length}
-use Rattle.std.proofs.Common.{count_by, sym, ap, ◌∙◌, arith}
-use Rattle.std.specs.Prelude.{slice_get, if◌then◌else◌}
-use Rattle.std.specs.Option.{option_map}
+use Rattle.std.proofs.Common.{◌≡◌, ℕ, zero, suc, ◌+◌, ◌≤◌, ◌==◌, true, List, length, count_by, sym, ap, ◌∙◌, arith}
+use Rattle.std.specs.{Prelude.slice_get, Prelude.if◌then◌else◌, Option.option_map}
 use Rattle.graph_model.specs.declared.batches.NamedOp.{NamedOp}
 use Rattle.edge_block.specs.Slots.{BlockView}
 use Rattle.row_pages.specs.Rows.{blocks_of, numbers_of}
 use Rattle.graph_version.specs.Versions.{VersionView, is_in}
-use Rattle.block_pool.specs.Pools.{Status, Free, Granted, Used, retired, is_free_at}
-use Rattle.block_pool.specs.Pools.{is_born_at, marked, changed, AreFree}
+use Rattle.block_pool.specs.Pools.{Status, Free, Granted, Used, retired, is_free_at, is_born_at, marked, changed, AreFree}
 use Rattle.epoch_blocks.specs.Blocks.{all_differ}
 use Rattle.epoch_blocks.proofs.Lists.{all_listed}
 use Rattle.store_steps.specs.Journal.{Entry, Applied, exchanged}

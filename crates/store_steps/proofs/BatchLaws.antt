@@ -1,7 +1,6 @@
 -- The laws in the words of their clauses.
 use Rattle.std.proofs.Common.{◌≡◌, ℕ, ◌+◌, Bool, true, false, List, length, refl, sym, ap, ◌∙◌}
-use Rattle.std.specs.Prelude.{if◌then◌else◌}
-use Rattle.std.specs.declared.option.Option.TheVariants.{None, Some}
+use Rattle.std.specs.{Prelude.if◌then◌else◌, declared.option.Option.TheVariants.None, declared.option.Option.TheVariants.Some}
 use Rattle.graph_model.specs.declared.batches.NamedOp.{NamedOp}
 use Rattle.edge_block.specs.Slots.{BlockView}
 use Rattle.row_pages.specs.Rows.{numbers_of}
@@ -11,8 +10,7 @@ use Rattle.epoch_blocks.proofs.Lists.{all_listed}
 use Rattle.store_steps.specs.Journal.{Entry, Applied, Ledger, is_legal, after_entry, entered}
 use Rattle.store_steps.specs.Desks.{DeskView, IsDesk, IsAppliedTo, IsAccepted, desk_after}
 use Rattle.store_steps.specs.Steps.{Takes, posting}
-use Rattle.store_steps.proofs.Applications.{Application, moves_left}
-use Rattle.store_steps.proofs.Accepting.{made_accepted, made_desk}
+use Rattle.store_steps.proofs.{Applications.Application, Applications.moves_left, Accepting.made_accepted, Accepting.made_desk}
 use Rattle.store_steps.proofs.Posting.{legal_batch, accepted_takes}
 
 -- an entry that isn't legal isn't entered

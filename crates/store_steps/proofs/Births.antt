@@ -1,10 +1,8 @@
 -- The births of blocks over a batch: what one number's is, and which numbers a row has.
 use Rattle.std.proofs.Common.{◌≡◌, ℕ, zero, suc, ◌<◌, ◌==◌, Bool, true, false, ◌||◌, List, [], ◌∷◌, ◌++◌, length, get_or, map, refl}
-use Rattle.std.proofs.Common.{ap, arith}
+use Rattle.std.proofs.{Common.ap, Common.arith, lemmas.Bool.eq-eqb, lemmas.Bool.or_right}
 use Rattle.std.specs.Prelude.{slice_get}
-use Rattle.std.specs.declared.option.Option.{Option}
-use Rattle.std.specs.declared.option.Option.TheVariants.{None, Some}
-use Rattle.std.proofs.lemmas.Bool.{eq-eqb, or_right}
+use Rattle.std.specs.declared.option.Option.{Option, TheVariants.None, TheVariants.Some}
 use Rattle.edge_block.specs.Slots.{BlockView}
 use Rattle.row_pages.specs.Rows.{row_of, blocks_of, numbers_of}
 use Rattle.graph_version.specs.Versions.{is_in}

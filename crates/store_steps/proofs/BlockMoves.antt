@@ -1,9 +1,8 @@
 -- One block after another is given back or retired.
 use Rattle.std.proofs.Common.{◌≡◌, ℕ, ◌==◌, true, false, List, [], ◌∷◌, set, refl, sym, ap, ◌∙◌}
-use Rattle.std.specs.List.{list_all}
+use Rattle.std.specs.{List.list_all, Prelude.slice_get, Prelude.Bool}
 use Rattle.std.proofs.lemmas.Bool.{eq-eqb, true≢false}
 use Rattle.block_pool.specs.Pools.{Status, passes}
-use Rattle.std.specs.Prelude.{slice_get, Bool}
 use Rattle.graph_version.specs.Versions.{is_in}
 use Rattle.epoch_blocks.specs.Blocks.{all_differ}
 use Rattle.epoch_blocks.proofs.Lists.{set_else, and_left, and_right, or_false}

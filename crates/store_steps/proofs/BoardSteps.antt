@@ -1,26 +1,20 @@
 -- The board's calls are the machine's steps.
 use Rattle.std.proofs.Common.{◌≡◌, ℕ, zero, suc, ◌<◌, ◌≤◌, ◌-◌, ◌⊎◌, inl, inr, Bool, not, List, [], ◌∷◌, ◌++◌, length, map, replicate, get_or, set, max, min}
-use Rattle.std.proofs.Common.{true, false, length-append}
-use Rattle.std.proofs.Common.{refl, sym, ap, subst, ◌∙◌, arith}
+use Rattle.std.proofs.Common.{true, false, length-append, refl, sym, ap, subst, ◌∙◌, arith}
 use Rattle.std.specs.Prelude.{Option, Some, None, option_map, IfSome, IsSomeAnd}
-use Rattle.std.proofs.lemmas.Bool.{cases_eq}
-use Rattle.std.proofs.lemmas.List.{get_or-set_same, get_or-set_other, length-map, length-replicate}
-use Rattle.epoch_core.specs.declared.states.SessionState.{SessionState}
+use Rattle.std.proofs.lemmas.{Bool.cases_eq, List.get_or-set_same, List.get_or-set_other, List.length-map, List.length-replicate}
+use Rattle.epoch_core.specs.{declared.states.SessionState.SessionState, Worlds.copy_of as world_copy}
 use Rattle.epoch_core.specs.declared.states.SessionState.TheVariants.{Idle, Pinned, Holding, Asking}
 use Rattle.epoch_core.specs.Worlds.{World, session_of, pin_in, pin_if, settled_in, unsettled_in, seated, held_in, last_number}
-use Rattle.epoch_core.specs.Worlds.{copy_of as world_copy}
 use Rattle.epoch_core.specs.Machine.{least_pin, lesser, to_pin, to_settle, to_release}
 use Rattle.epoch_core.proofs.Moves.{Moved, moved, floored, session_after, session_else, least_first, least_each}
 use Rattle.pin_copy.specs.Copies.{floor_of}
 use Rattle.seat_board.specs.Board.{BoardState, IsBoard, IsLeast, IsBelowPins, pin_at, with_pin, unsettled, settled, copy_of}
 use Rattle.seat_board.specs.Board.{number_if, settled_number, unsettled_number}
 use Rattle.seat_board.proofs.Copied.{floor_is_least}
-use Rattle.seat_board.specs.declared.board.Pin.{Pin as SeatPin}
-use Rattle.seat_board.specs.declared.board.TheConstants.{SEATS}
-use Rattle.store_steps.specs.Desks.{DeskView}
-use Rattle.store_steps.specs.Shown.{Shows}
+use Rattle.seat_board.specs.declared.board.{Pin.Pin as SeatPin, TheConstants.SEATS}
+use Rattle.store_steps.specs.{Desks.DeskView, Shown.Shows, Boards.RaisesAsMachine}
 use Rattle.store_steps.specs.Boards.{seat_pin, ShowsBoard, raised_board, PinsAsMachine, SettlesAsMachine, UnpinsAsMachine}
-use Rattle.store_steps.specs.Boards.{RaisesAsMachine}
 
 -- a desk shows no session, no floor and no copy
 pub shows_sessions : (d : DeskView) (w : World) (sessions : List SessionState) → Shows d w

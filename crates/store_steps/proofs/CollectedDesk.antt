@@ -3,11 +3,8 @@ use Rattle.std.proofs.Common.{◌≡◌, ℕ, zero, suc, ◌+◌, ◌<◌, ◌�
 use Rattle.std.proofs.Common.{count_by, refl, sym, ap, ap₂, subst, ◌∙◌, arith}
 use Rattle.std.specs.Prelude.{slice_get, if◌then◌else◌, nat_le, nat_lt}
 use Rattle.std.specs.Option.{option_map, option_and_then}
-use Rattle.std.specs.declared.option.Option.{Option}
-use Rattle.std.specs.declared.option.Option.TheVariants.{None, Some}
-use Rattle.std.proofs.lemmas.List.{append-nil, length-map}
-use Rattle.std.proofs.lemmas.Bool.{eq-eqb, or_right}
-use Rattle.std.proofs.lemmas.Bool.Decides.{nat_tests}
+use Rattle.std.specs.declared.option.Option.{Option, TheVariants.None, TheVariants.Some}
+use Rattle.std.proofs.lemmas.{List.append-nil, List.length-map, Bool.eq-eqb, Bool.or_right, Bool.Decides.nat_tests}
 use Rattle.edge_block.specs.Slots.{BlockView}
 use Rattle.row_pages.specs.Rows.{row_of, numbers_of}
 use Rattle.graph_version.specs.Versions.{VersionView, is_in}
@@ -17,8 +14,7 @@ use Rattle.block_pool.proofs.Tallies.{count_more}
 use Rattle.epoch_blocks.proofs.Lists.{get_map}
 use Rattle.store_steps.specs.Journal.{Collected, Ledger, opened_ledger, is_legal, after_entry, entered, replay}
 use Rattle.store_steps.specs.Desks.{DeskView, IsDesk, IsCollected, birth_at, births_in, ledger_of, collections}
-use Rattle.store_steps.proofs.NumberLists.{apart_test}
-use Rattle.store_steps.proofs.Accepting.{replay_more}
+use Rattle.store_steps.proofs.{NumberLists.apart_test, Accepting.replay_more}
 use Rattle.store_steps.proofs.Births.{birth_in, birth_from, row_listed}
 
 -- one status is freed, or retired still, or was never retired

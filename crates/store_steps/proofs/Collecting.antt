@@ -1,31 +1,22 @@
 -- A collection is Recycle of each block that the copy frees, all done, and no further block goes afterwards.
 use Rattle.std.proofs.Common.{◌≡◌, ◌≢◌, ℕ, zero, suc, ◌+◌, ◌<◌, ◌==◌, Bool, true, false, not, ◌||◌, List, [], ◌∷◌, map, set, refl, sym}
 use Rattle.std.proofs.Common.{ap, subst, ◌∙◌, arith}
-use Rattle.std.specs.Prelude.{slice_get, if◌then◌else◌, filter}
-use Rattle.std.specs.List.{enumerate_from}
+use Rattle.std.specs.{Prelude.slice_get, Prelude.if◌then◌else◌, Prelude.filter, List.enumerate_from}
 use Rattle.std.specs.Option.{option_map, option_and_then, is_some}
-use Rattle.std.specs.declared.option.Option.{Option}
-use Rattle.std.specs.declared.option.Option.TheVariants.{None, Some}
+use Rattle.std.specs.declared.option.Option.{Option, TheVariants.None, TheVariants.Some}
 use Rattle.std.proofs.lemmas.Bool.{eq-eqb, true≢false, or_right}
 use Rattle.graph_version.specs.Versions.{is_in}
 use Rattle.block_pool.specs.Pools.{Status as PoolStatus, Free as PoolFree, Granted as PoolGranted, Used as PoolUsed}
-use Rattle.block_pool.specs.Pools.{Retired as PoolRetired, is_past}
-use Rattle.pin_copy.specs.declared.copies.PinCopy.{PinCopy}
-use Rattle.pin_copy.specs.Copies.{needs}
-use Rattle.block_pool.specs.Pools.{recycled as pool_recycled, passes, marked}
-use Rattle.epoch_blocks.specs.declared.states.Status.{Status}
+use Rattle.block_pool.specs.Pools.{Retired as PoolRetired, is_past, recycled as pool_recycled, passes, marked}
+use Rattle.pin_copy.specs.{declared.copies.PinCopy.PinCopy, Copies.needs}
+use Rattle.epoch_blocks.specs.{declared.states.Status.Status, Blocks.recycled, Blocks.put, Blocks.all_differ}
 use Rattle.epoch_blocks.specs.declared.states.Status.TheVariants.{Free, Fresh, Used, Retired}
-use Rattle.epoch_core.specs.declared.events.Event.TheVariants.{Recycle}
-use Rattle.epoch_blocks.specs.Blocks.{recycled, put, all_differ}
-use Rattle.epoch_core.specs.Worlds.{World}
-use Rattle.epoch_core.specs.Machine.{step, with_status}
+use Rattle.epoch_core.specs.{declared.events.Event.TheVariants.Recycle, Worlds.World, Machine.step, Machine.with_status}
 use Rattle.epoch_blocks.proofs.Lists.{set_else, get_map}
-use Rattle.store_steps.specs.Desks.{DeskView, IsCollected}
-use Rattle.store_steps.specs.Shown.{SameStatus, Shows}
+use Rattle.store_steps.specs.{Desks.DeskView, Desks.IsCollected, Shown.SameStatus, Shown.Shows}
 use Rattle.store_steps.specs.Steps.{all_done, past_numbers, recycling, TakesAt}
-use Rattle.store_steps.proofs.NumberLists.{apart_test, differ_head, differ_tail}
+use Rattle.store_steps.proofs.{NumberLists.apart_test, NumberLists.differ_head, NumberLists.differ_tail, Filling.step_then}
 use Rattle.store_steps.proofs.ChangedLists.{marked_at, length-marked}
-use Rattle.store_steps.proofs.Filling.{step_then}
 
 -- whether the machine recycles a block by the copy
 abbrev goes : PinCopy → Option Status → Bool

@@ -1,11 +1,8 @@
 -- A journal that replays leaves blocks whose births and retirements are numbers of its versions.
 use Rattle.std.proofs.Common.{◌≡◌, ℕ, zero, suc, ◌+◌, Bool, true, false, List, [], ◌∷◌, ◌++◌, length, refl, sym, subst, arith}
-use Rattle.std.proofs.Common.{length-append, replicate}
-use Rattle.std.specs.Prelude.{slice_get, if◌then◌else◌}
-use Rattle.std.specs.Option.{option_map, option_and_then}
-use Rattle.std.specs.declared.option.Option.{Option}
-use Rattle.std.specs.declared.option.Option.TheVariants.{None, Some}
-use Rattle.std.proofs.lemmas.Bool.{true≢false}
+use Rattle.std.proofs.{Common.length-append, Common.replicate, lemmas.Bool.true≢false}
+use Rattle.std.specs.{Prelude.slice_get, Prelude.if◌then◌else◌, Option.option_map, Option.option_and_then}
+use Rattle.std.specs.declared.option.Option.{Option, TheVariants.None, TheVariants.Some}
 use Rattle.graph_model.specs.declared.batches.NamedOp.{NamedOp}
 use Rattle.graph_version.specs.Versions.{is_in}
 use Rattle.pin_copy.specs.declared.copies.PinCopy.{PinCopy}
@@ -13,11 +10,8 @@ use Rattle.block_pool.specs.Pools.{Status, Free, Granted, Used, Retired, is_free
 use Rattle.block_pool.specs.Pools.{recycled}
 use Rattle.epoch_blocks.proofs.Lists.{all_listed, get_map}
 use Rattle.store_steps.specs.Journal.{Entry, Applied, Collected, Ledger, opened_ledger, is_legal, after_entry, exchanged, replay}
-use Rattle.store_steps.specs.Desks.{DeskView, IsDesk, ledger_of}
-use Rattle.store_steps.specs.Dates.{IsDated, AreDated}
-use Rattle.store_steps.proofs.ChangedLists.{marked_at}
-use Rattle.store_steps.proofs.OneNumber.{number_after}
-use Rattle.store_steps.proofs.Applications.{exchanged_at}
+use Rattle.store_steps.specs.{Desks.DeskView, Desks.IsDesk, Desks.ledger_of, Dates.IsDated, Dates.AreDated}
+use Rattle.store_steps.proofs.{ChangedLists.marked_at, OneNumber.number_after, Applications.exchanged_at}
 use Rattle.store_steps.proofs.Posting.{IsLegalBatch, legal_batch}
 
 -- One number

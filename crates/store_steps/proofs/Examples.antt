@@ -1,18 +1,13 @@
 -- Small stores, computed.
 use Rattle.std.proofs.Common.{◌≡◌, ℕ, zero, suc, Bool, false, [], ◌∷◌, get_or, refl, sym, ap, ◌∙◌, arith}
 use Rattle.std.specs.Prelude.{All, slice_get, Option, Some, None}
-use Rattle.std.proofs.lemmas.Bool.{true≢false}
-use Rattle.std.proofs.lemmas.List.Elements.{All-cons}
+use Rattle.std.proofs.lemmas.{Bool.true≢false, List.Elements.All-cons}
 use Rattle.graph_version.specs.Edges.{edges_in_block}
-use Rattle.epoch_core.specs.declared.states.SessionState.TheVariants.{Idle}
+use Rattle.epoch_core.specs.declared.{states.SessionState.TheVariants.Idle, events.Event.TheVariants.Pin}
 use Rattle.epoch_core.specs.Worlds.{start_world, session_of}
 use Rattle.epoch_blocks.specs.Versions.{edges_at}
-use Rattle.seat_board.specs.Board.{pin_at, no_pins, with_pin, unsettled}
-use Rattle.seat_board.specs.declared.board.Pin.{Pin as SeatPin}
-use Rattle.epoch_core.specs.declared.events.Event.TheVariants.{Pin}
-use Rattle.store_steps.specs.Reached.{world_by}
-use Rattle.store_steps.specs.Shown.{SameStatus}
-use Rattle.store_steps.specs.Boards.{seat_pin}
+use Rattle.seat_board.specs.{Board.pin_at, Board.no_pins, Board.with_pin, Board.unsettled, declared.board.Pin.Pin as SeatPin}
+use Rattle.store_steps.specs.{Reached.world_by, Shown.SameStatus, Boards.seat_pin}
 use Rattle.store_steps.specs.Examples.{AreExamples, block_one, desk_of_edge, world_of_edge, board_of_two, world_of_two}
 use Rattle.store_steps.proofs.OpeningShown.{no_pin}
 

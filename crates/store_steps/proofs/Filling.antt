@@ -1,27 +1,19 @@
 -- Take and Fill of several blocks.
 use Rattle.std.proofs.Common.{◌≡◌, ◌≢◌, ℕ, ◌<◌, ◌==◌, true, false, List, [], ◌∷◌, ◌++◌, length, set, refl, sym, ap, ◌∙◌, arith}
-use Rattle.std.proofs.Common.{get_or-set_same, get_or-set_other}
-use Rattle.std.specs.Prelude.{slice_get, if◌then◌else◌, All}
-use Rattle.std.specs.List.{flat_map}
+use Rattle.std.proofs.{Common.get_or-set_same, Common.get_or-set_other, lemmas.Bool.eq-eqb, lemmas.Bool.true≢false}
+use Rattle.std.specs.{Prelude.slice_get, Prelude.if◌then◌else◌, Prelude.All, List.flat_map}
 use Rattle.std.specs.Option.{option_map, option_and_then}
 use Rattle.std.specs.declared.option.Option.TheVariants.{None, Some}
-use Rattle.std.proofs.lemmas.List.{length-set}
-use Rattle.std.proofs.lemmas.List.Elements.{All-head, All-tail, All-cons}
-use Rattle.std.proofs.lemmas.Bool.{eq-eqb, true≢false}
+use Rattle.std.proofs.lemmas.List.{length-set, Elements.All-head, Elements.All-tail, Elements.All-cons}
 use Rattle.graph_model.specs.declared.ids.Edge.{Edge}
 use Rattle.edge_block.specs.Slots.{BlockView}
 use Rattle.row_pages.specs.Rows.{numbers_of}
-use Rattle.graph_version.specs.Versions.{is_in}
-use Rattle.graph_version.specs.Edges.{edges_in_block, edges_in_blocks}
+use Rattle.graph_version.specs.{Versions.is_in, Edges.edges_in_block, Edges.edges_in_blocks}
 use Rattle.block_pool.specs.Pools.{marked}
-use Rattle.epoch_blocks.specs.declared.states.Status.{Status}
-use Rattle.epoch_blocks.specs.declared.states.Status.TheVariants.{Free, Fresh}
-use Rattle.epoch_core.specs.declared.events.Event.{Event}
-use Rattle.epoch_core.specs.declared.events.Event.TheVariants.{Take, Fill}
-use Rattle.epoch_blocks.specs.Blocks.{taken, is_fresh, put, all_differ}
-use Rattle.epoch_core.specs.Worlds.{World}
-use Rattle.epoch_blocks.specs.Versions.{edges_at, edges_of}
-use Rattle.epoch_core.specs.Machine.{step, with_status, with_heap}
+use Rattle.epoch_blocks.specs.declared.states.Status.{Status, TheVariants.Free, TheVariants.Fresh}
+use Rattle.epoch_core.specs.declared.events.Event.{Event, TheVariants.Take, TheVariants.Fill}
+use Rattle.epoch_blocks.specs.{Blocks.taken, Blocks.is_fresh, Blocks.put, Blocks.all_differ, Versions.edges_at, Versions.edges_of}
+use Rattle.epoch_core.specs.{Worlds.World, Machine.step, Machine.with_status, Machine.with_heap}
 use Rattle.epoch_blocks.proofs.Lists.{set_same, set_else, or_false}
 use Rattle.store_steps.specs.Steps.{all_done, filling}
 use Rattle.store_steps.proofs.NumberLists.{differ_head, differ_tail}

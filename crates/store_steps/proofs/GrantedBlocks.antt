@@ -1,21 +1,15 @@
 -- The blocks that a batch was granted can be born, and given back.
-use Rattle.std.proofs.Common.{◌≡◌, ℕ, zero, suc, ◌+◌, ◌≤◌, Bool, true, false, List}
-use Rattle.std.proofs.Common.{refl, sym, ap, ◌∙◌, arith}
-use Rattle.std.specs.Prelude.{slice_get, if◌then◌else◌}
-use Rattle.std.specs.Option.{option_map}
-use Rattle.std.specs.declared.option.Option.{Option}
-use Rattle.std.specs.declared.option.Option.TheVariants.{None, Some}
+use Rattle.std.proofs.Common.{◌≡◌, ℕ, zero, suc, ◌+◌, ◌≤◌, Bool, true, false, List, refl, sym, ap, ◌∙◌, arith}
+use Rattle.std.specs.{Prelude.slice_get, Prelude.if◌then◌else◌, Option.option_map}
+use Rattle.std.specs.declared.option.Option.{Option, TheVariants.None, TheVariants.Some}
 use Rattle.std.proofs.lemmas.Bool.{true≢false}
 use Rattle.graph_version.specs.Versions.{is_in}
 use Rattle.block_pool.specs.Pools.{Status, Free, Granted, Used, Retired, is_free, is_used, is_born, passes, retired, is_free_at}
 use Rattle.block_pool.specs.Pools.{is_used_at, is_born_at, marked, AreFree}
 use Rattle.store_steps.specs.Desks.{DeskView, IsDesk, last_numbers}
-use Rattle.store_steps.proofs.NumberLists.{all_by, differ_from}
-use Rattle.store_steps.proofs.ChangedLists.{marked_at, changed_at, same_list}
-use Rattle.store_steps.proofs.Counting.{times, is_some_times, in_times, apart_if}
-use Rattle.store_steps.proofs.Counting.{listed}
-use Rattle.store_steps.proofs.OneNumber.{marked_if, not_both}
-use Rattle.store_steps.proofs.BlockMoves.{AreMovable}
+use Rattle.store_steps.proofs.{NumberLists.all_by, NumberLists.differ_from, OneNumber.marked_if, OneNumber.not_both}
+use Rattle.store_steps.proofs.{ChangedLists.marked_at, ChangedLists.changed_at, ChangedLists.same_list, BlockMoves.AreMovable}
+use Rattle.store_steps.proofs.Counting.{times, is_some_times, in_times, apart_if, listed}
 use Rattle.store_steps.proofs.Applications.{Application, number_in_desk, dropped_numbers, handed_once, granted_free, in_numbers}
 use Rattle.store_steps.proofs.Applications.{some_either, dropped_differ, dropped_born, granted_pool, born_pool, retired_pool}
 

@@ -1,27 +1,19 @@
 -- What a session holds is a snapshot.
 use Rattle.std.proofs.Common.{◌≡◌, ℕ, not, false, take, refl, sym, ap, subst, ◌∙◌, arith}
-use Rattle.std.specs.Prelude.{slice_get}
-use Rattle.std.specs.declared.option.Option.{Option}
-use Rattle.std.specs.declared.option.Option.TheVariants.{Some}
+use Rattle.std.specs.{Prelude.slice_get, declared.option.Option.Option, declared.option.Option.TheVariants.Some}
 use Rattle.std.proofs.lemmas.List.{take-map}
 use Rattle.graph_model.specs.Step.{left_by}
-use Rattle.block_pool.specs.Pools.{Status as PoolStatus, Free as PoolFree}
-use Rattle.block_pool.specs.Pools.{Retired as PoolRetired, is_free, is_past, passes}
-use Rattle.pin_copy.specs.declared.copies.PinCopy.{PinCopy}
-use Rattle.pin_copy.specs.Copies.{needs}
-use Rattle.epoch_core.specs.declared.states.Hold.{Hold}
-use Rattle.epoch_core.specs.declared.states.SessionState.{SessionState}
+use Rattle.block_pool.specs.Pools.{Status as PoolStatus, Free as PoolFree, Retired as PoolRetired, is_free, is_past, passes}
+use Rattle.pin_copy.specs.{declared.copies.PinCopy.PinCopy, Copies.needs}
+use Rattle.epoch_core.specs.declared.states.{Hold.Hold, SessionState.SessionState}
 use Rattle.epoch_core.specs.declared.states.SessionState.TheVariants.{Idle, Pinned, Holding, Asking}
-use Rattle.epoch_blocks.specs.declared.states.Status.{Status}
-use Rattle.epoch_blocks.specs.declared.states.Status.TheVariants.{Free, Retired}
+use Rattle.epoch_blocks.specs.declared.states.Status.{Status, TheVariants.Free, TheVariants.Retired}
 use Rattle.epoch_blocks.specs.Blocks.{is_listed}
 use Rattle.epoch_core.specs.Sound.{IsSound, IsSessionSound, IsHeld, IsCovered, IsKeptAt}
 use Rattle.epoch_core.specs.Worlds.{World, session_of, held_in}
 use Rattle.epoch_blocks.specs.Versions.{Shows as ShowsGraph, opening_graph, blocks_at, edges_of, graph_at}
 use Rattle.epoch_core.proofs.Steps.{always_sound}
-use Rattle.store_steps.specs.Desks.{DeskView}
-use Rattle.store_steps.specs.Shown.{SameStatus, Shows}
-use Rattle.store_steps.specs.Reached.{world_by}
+use Rattle.store_steps.specs.{Desks.DeskView, Shown.SameStatus, Shown.Shows, Reached.world_by}
 use Rattle.store_steps.specs.Held.{IsSnapshot, HeldIsSnapshot}
 use Rattle.store_steps.proofs.Reached.{same_count}
 

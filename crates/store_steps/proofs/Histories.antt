@@ -1,27 +1,17 @@
 -- The steps of the store's calls inside whole runs of the machine.
 use Rattle.std.proofs.Common.{◌≡◌, ℕ, inl, inr, true, false, List, [], ◌∷◌, get_or, set, refl, sym, ap, subst, ◌∙◌}
-use Rattle.std.specs.Prelude.{if◌then◌else◌, slice_get}
-use Rattle.std.specs.Option.{unwrap_or, option_and_then, option_map}
-use Rattle.std.specs.declared.option.Option.{Option}
-use Rattle.std.specs.declared.option.Option.TheVariants.{None, Some}
+use Rattle.std.specs.{Prelude.if◌then◌else◌, Prelude.slice_get, Option.unwrap_or, Option.option_and_then, Option.option_map}
+use Rattle.std.specs.declared.option.Option.{Option, TheVariants.None, TheVariants.Some}
 use Rattle.std.proofs.lemmas.Bool.{cases_eq}
 use Rattle.graph_model.specs.declared.requests.Request.{Request}
-use Rattle.epoch_blocks.specs.declared.states.Version.{Version}
-use Rattle.epoch_blocks.specs.declared.states.Opening.{Opening}
-use Rattle.epoch_core.specs.declared.states.Hold.{Hold}
-use Rattle.epoch_core.specs.declared.states.Inquiry.{Inquiry}
-use Rattle.epoch_core.specs.declared.states.SessionState.{SessionState}
+use Rattle.epoch_blocks.specs.{declared.states.Version.Version, declared.states.Opening.Opening, Versions.blocks_at}
+use Rattle.epoch_core.specs.declared.states.{Hold.Hold, Inquiry.Inquiry, SessionState.SessionState}
 use Rattle.epoch_core.specs.declared.states.SessionState.TheVariants.{Idle, Pinned, Holding, Asking}
-use Rattle.epoch_core.specs.Worlds.{World, session_of, last_number}
-use Rattle.epoch_blocks.specs.Versions.{blocks_at}
+use Rattle.epoch_core.specs.{Worlds.World, Worlds.session_of, Worlds.last_number, Runs.run}
 use Rattle.epoch_core.specs.Machine.{step, read_on, is_all_read, to_enter, to_ask, to_read, to_reply}
-use Rattle.epoch_core.specs.Runs.{run}
 use Rattle.epoch_core.proofs.Moves.{Moved, moved, session_after, session_else}
 use Rattle.seat_board.specs.Board.{BoardState}
-use Rattle.store_steps.specs.Desks.{DeskView}
-use Rattle.store_steps.specs.Shown.{Shows}
-use Rattle.store_steps.specs.Boards.{seat_pin, ShowsBoard}
-use Rattle.store_steps.specs.Steps.{all_done}
+use Rattle.store_steps.specs.{Desks.DeskView, Shown.Shows, Boards.seat_pin, Boards.ShowsBoard, Steps.all_done}
 use Rattle.store_steps.specs.Histories.{DoneIsRun, ReadersAreUnseen}
 use Rattle.store_steps.proofs.BoardSteps.{shows_sessions}
 

@@ -1,8 +1,7 @@
 -- Numbers in lists, and blocks that are picked by their numbers.
 use Rattle.std.proofs.Common.{◌≡◌, ◌≢◌, ℕ, zero, suc, ◌<◌, ◌==◌, Bool, true, false, not, ◌&&◌, ◌||◌, List, [], ◌∷◌, length}
 use Rattle.std.proofs.Common.{get_or, refl, sym, ap, ◌∙◌, arith}
-use Rattle.std.specs.Prelude.{if◌then◌else◌, All, AllPairs, filter}
-use Rattle.std.specs.List.{list_all}
+use Rattle.std.specs.{Prelude.if◌then◌else◌, Prelude.All, Prelude.AllPairs, Prelude.filter, List.list_all}
 use Rattle.std.proofs.lemmas.List.Elements.{All-head, All-tail, All-cons}
 use Rattle.std.proofs.lemmas.Bool.{eq-eqb, eqb-true, true≢false, or_right}
 use Rattle.edge_block.specs.Slots.{BlockView}

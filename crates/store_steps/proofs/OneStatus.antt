@@ -1,14 +1,11 @@
 -- One number in the pool and in the machine: what a batch makes of it on both sides.
 use Rattle.std.proofs.Common.{◌≡◌, ℕ, Bool, true, false, refl}
-use Rattle.std.specs.Prelude.{if◌then◌else◌}
-use Rattle.std.specs.Option.{option_map}
-use Rattle.std.specs.declared.option.Option.{Option}
-use Rattle.std.specs.declared.option.Option.TheVariants.{None, Some}
+use Rattle.std.specs.{Prelude.if◌then◌else◌, Option.option_map}
+use Rattle.std.specs.declared.option.Option.{Option, TheVariants.None, TheVariants.Some}
 use Rattle.block_pool.specs.Pools.{Status as PoolStatus, Free as PoolFree, Granted as PoolGranted, Used as PoolUsed}
 use Rattle.block_pool.specs.Pools.{Retired as PoolRetired, is_free, is_born, passes}
-use Rattle.epoch_blocks.specs.declared.states.Status.{Status}
+use Rattle.epoch_blocks.specs.{declared.states.Status.Status, Blocks.after_post}
 use Rattle.epoch_blocks.specs.declared.states.Status.TheVariants.{Free, Fresh, Used, Retired}
-use Rattle.epoch_blocks.specs.Blocks.{after_post}
 use Rattle.store_steps.specs.Shown.{SameStatus}
 use Rattle.store_steps.proofs.OneNumber.{number_after}
 

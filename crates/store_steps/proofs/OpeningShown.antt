@@ -1,40 +1,27 @@
 -- The opening.
 use Rattle.std.proofs.Common.{◌≡◌, ◌≢◌, ℕ, zero, suc, ◌<◌, ◌==◌, ◌||◌, Bool, true, false, List, [], ◌∷◌, ◌++◌, length}
 use Rattle.std.proofs.Common.{replicate, refl, sym, ap, subst, ◌∙◌, arith, All, AllPairs}
-use Rattle.std.specs.Prelude.{map, slice_get, slice_set, if◌then◌else◌}
-use Rattle.std.specs.List.{flat_map}
-use Rattle.std.specs.Option.{option_map}
-use Rattle.std.specs.declared.option.Option.{Option}
-use Rattle.std.specs.declared.option.Option.TheVariants.{None, Some}
+use Rattle.std.specs.{Prelude.map, Prelude.slice_get, Prelude.slice_set, Prelude.if◌then◌else◌, List.flat_map, Option.option_map}
+use Rattle.std.specs.declared.option.Option.{Option, TheVariants.None, TheVariants.Some}
 use Rattle.std.proofs.lemmas.Bool.{eqb-true}
-use Rattle.std.proofs.lemmas.List.{length-replicate}
-use Rattle.std.proofs.lemmas.List.Elements.{All-head, All-tail, All-cons}
-use Rattle.graph_model.specs.Graph.{Graph, graph_of, content_of, IsContent}
-use Rattle.graph_model.specs.Step.{left_by}
-use Rattle.graph_model.specs.declared.ids.Edge.{Edge}
-use Rattle.graph_model.specs.declared.contents.Content.{Content}
+use Rattle.std.proofs.lemmas.List.{length-replicate, Elements.All-head, Elements.All-tail, Elements.All-cons}
+use Rattle.graph_model.specs.{Graph.Graph, Graph.graph_of, Graph.content_of, Graph.IsContent, Step.left_by}
+use Rattle.graph_model.specs.declared.{ids.Edge.Edge, contents.Content.Content}
 use Rattle.edge_block.specs.Slots.{BlockView}
 use Rattle.row_pages.specs.Rows.{blocks_of, numbers_of}
 use Rattle.graph_version.specs.Versions.{VersionView, content, empty_version, is_in}
 use Rattle.graph_version.specs.Edges.{edges_in_block, edges_in_blocks, AreEachOnce}
-use Rattle.graph_version.proofs.Empty.{is_empty_version}
-use Rattle.graph_version.proofs.Shown.{rows_each_once}
+use Rattle.graph_version.proofs.{Empty.is_empty_version, Shown.rows_each_once}
 use Rattle.block_pool.specs.Pools.{Status as PoolStatus, Free as PoolFree, Used as PoolUsed, is_born, is_born_at, passes, marked}
-use Rattle.epoch_blocks.specs.declared.states.Status.{Status}
-use Rattle.epoch_blocks.specs.declared.states.Status.TheVariants.{Free, Used}
-use Rattle.epoch_blocks.specs.Blocks.{is_listed}
-use Rattle.epoch_blocks.specs.Versions.{Shows as ShowsGraph, edges_at, edges_of}
+use Rattle.epoch_blocks.specs.declared.states.Status.{Status, TheVariants.Free, TheVariants.Used}
+use Rattle.epoch_blocks.specs.{Blocks.is_listed, Versions.Shows as ShowsGraph, Versions.edges_at, Versions.edges_of}
 use Rattle.epoch_core.specs.Opened.{Lists, numbers_in, heap_with, status_with, IsOpening}
-use Rattle.epoch_core.specs.Worlds.{IsStart}
-use Rattle.epoch_core.specs.declared.states.SessionState.TheVariants.{Idle}
+use Rattle.epoch_core.specs.{Worlds.IsStart, declared.states.SessionState.TheVariants.Idle}
 use Rattle.epoch_core.proofs.Steps.{all_idle, free_at}
 use Rattle.seat_board.specs.Board.{pin_at}
-use Rattle.store_steps.specs.Desks.{IsDesk}
-use Rattle.store_steps.specs.Shown.{Shows, SameStatus}
-use Rattle.store_steps.specs.Boards.{seat_pin}
+use Rattle.store_steps.specs.{Desks.IsDesk, Shown.Shows, Shown.SameStatus, Boards.seat_pin}
 use Rattle.store_steps.specs.Opening.{opened_desk, opened_start, lists_of, IsVersionZero, OpensAsMachine, OpensBlank}
-use Rattle.store_steps.proofs.NumberLists.{differ_from}
-use Rattle.store_steps.proofs.ChangedLists.{marked_at, length-marked}
+use Rattle.store_steps.proofs.{NumberLists.differ_from, ChangedLists.marked_at, ChangedLists.length-marked}
 use Rattle.store_steps.proofs.Filling as filling
 
 -- The pool

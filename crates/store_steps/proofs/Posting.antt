@@ -2,47 +2,32 @@
 use Rattle.std.proofs.Common.{◌≡◌, ℕ, zero, suc, ◌+◌, ◌<◌, ◌≤◌, Bool, true, false, ◌&&◌, ◌||◌, List, [], ◌∷◌, ◌++◌, length}
 use Rattle.std.proofs.Common.{get_or, refl, sym, ap, subst, ◌∙◌, arith, length-append}
 use Rattle.std.specs.Prelude.{slice_get, if◌then◌else◌, All, Contains, nat_lt, nat_le}
-use Rattle.std.specs.List.{list_all}
-use Rattle.std.specs.Option.{option_map}
+use Rattle.std.specs.{List.list_all, Option.option_map}
 use Rattle.std.specs.declared.option.Option.TheVariants.{None, Some}
-use Rattle.std.proofs.lemmas.List.{map-append, length-map}
-use Rattle.std.proofs.lemmas.Bool.{or_right}
-use Rattle.std.proofs.lemmas.Bool.Decides.{nat_tests}
-use Rattle.graph_model.specs.Graph.{Graph}
-use Rattle.graph_model.specs.Limits.{batch_limit}
-use Rattle.graph_model.specs.GraphLimits.{is_within_limits}
-use Rattle.graph_model.specs.Step.{left_by, after_all}
+use Rattle.std.proofs.lemmas.{List.map-append, List.length-map, Bool.or_right, Bool.Decides.nat_tests}
+use Rattle.graph_model.specs.{Graph.Graph, Limits.batch_limit, GraphLimits.is_within_limits, Step.left_by, Step.after_all}
 use Rattle.graph_model.specs.declared.batches.NamedOp.{NamedOp}
 use Rattle.edge_block.specs.Slots.{BlockView}
 use Rattle.row_pages.specs.Rows.{blocks_of, numbers_of}
-use Rattle.graph_version.specs.Versions.{content, is_in}
-use Rattle.graph_version.specs.Edges.{edges_in_block, edges_in_blocks, AreEachOnce}
+use Rattle.graph_version.specs.{Versions.content, Versions.is_in, Edges.edges_in_block, Edges.edges_in_blocks, Edges.AreEachOnce}
 use Rattle.graph_version.proofs.Shown.{rows_each_once}
 use Rattle.block_pool.specs.Pools.{Status as PoolStatus, is_born, passes, is_free_at, is_born_at}
-use Rattle.epoch_blocks.specs.declared.states.Status.TheVariants.{Free, Fresh}
-use Rattle.epoch_blocks.specs.declared.states.Version.{Version}
-use Rattle.epoch_core.specs.declared.events.Event.TheVariants.{Post}
+use Rattle.epoch_blocks.specs.declared.states.{Status.TheVariants.Free, Status.TheVariants.Fresh, Version.Version}
+use Rattle.epoch_core.specs.{declared.events.Event.TheVariants.Post, Worlds.World, Worlds.last_blocks, Posts.posted}
 use Rattle.epoch_blocks.specs.Blocks.{is_at, is_fresh, is_listed, all_differ, after_post}
-use Rattle.epoch_core.specs.Worlds.{World, last_blocks}
 use Rattle.epoch_blocks.specs.Versions.{Shows as ShowsGraph, opening_graph, edges_at, edges_of}
 use Rattle.epoch_blocks.specs.Posting.{is_listable, version_by, can_post, graph_after, are_edges_of}
-use Rattle.epoch_core.specs.Posts.{posted}
 use Rattle.epoch_blocks.proofs.Edges.{Decides-edges}
 use Rattle.epoch_blocks.proofs.Lists.{within, and_left, and_right, all_listed, length_enumerated}
-use Rattle.epoch_core.proofs.Changes.{version_next, batches_all}
-use Rattle.epoch_core.proofs.Posted.{status_at}
-use Rattle.store_steps.specs.Journal.{Applied, Ledger, is_legal}
+use Rattle.epoch_core.proofs.{Changes.version_next, Changes.batches_all, Posted.status_at}
+use Rattle.store_steps.specs.{Journal.Applied, Journal.Ledger, Journal.is_legal, Shown.SameStatus, Shown.Shows}
 use Rattle.store_steps.specs.Desks.{DeskView, IsDesk, IsAccepted, last_numbers, ledger_of}
-use Rattle.store_steps.specs.Shown.{SameStatus, Shows}
 use Rattle.store_steps.specs.Steps.{fresh_in, posting, Takes}
 use Rattle.store_steps.proofs.NumberLists.{same_bool, differ_from, number_in, numbers_all, picked, in_picked, picked_in}
-use Rattle.store_steps.proofs.NumberLists.{picked_apart, picked_all}
-use Rattle.store_steps.proofs.ChangedLists.{marked_at, length-marked}
-use Rattle.store_steps.proofs.OneNumber.{number_after}
-use Rattle.store_steps.proofs.Applications.{exchanged_at}
+use Rattle.store_steps.proofs.{NumberLists.picked_apart, NumberLists.picked_all, OneNumber.number_after, Filling.edges_from}
+use Rattle.store_steps.proofs.{ChangedLists.marked_at, ChangedLists.length-marked, Applications.exchanged_at}
 use Rattle.store_steps.proofs.OneStatus.{status_by, same_after, free_there, born_mark}
 use Rattle.store_steps.proofs.Filling.{filled_world, fills_done, step_then, AllAre, length-heap_with, heap_else, heap_here}
-use Rattle.store_steps.proofs.Filling.{edges_from}
 
 -- what a legal batch asks of the pool
 pub record IsLegalBatch (pool : List PoolStatus) (taken dropped : List ℕ) : Type 0 where

@@ -1,38 +1,26 @@
 -- The desk and the board beside a run of the machine.
 use Rattle.std.proofs.Common.{◌≡◌, ℕ, zero, suc, ◌<◌, true, false, List, [], ◌∷◌, ◌++◌, length, get_or, set, refl, sym, ap, subst}
-use Rattle.std.proofs.Common.{◌∙◌, arith}
-use Rattle.std.specs.Prelude.{slice_get, is_some}
-use Rattle.std.specs.Option.{unwrap_or, option_map, option_and_then}
-use Rattle.std.specs.declared.option.Option.{Option}
-use Rattle.std.specs.declared.option.Option.TheVariants.{None, Some}
-use Rattle.std.proofs.lemmas.List.{length-map}
-use Rattle.epoch_core.specs.declared.events.Event.{Event}
+use Rattle.std.proofs.{Common.◌∙◌, Common.arith, lemmas.List.length-map}
+use Rattle.std.specs.{Prelude.slice_get, Prelude.is_some, Option.unwrap_or, Option.option_map, Option.option_and_then}
+use Rattle.std.specs.declared.option.Option.{Option, TheVariants.None, TheVariants.Some}
+use Rattle.epoch_core.specs.{declared.events.Event.Event, declared.states.SessionState.SessionState, Epochs.PinsInOrder}
 use Rattle.epoch_core.specs.declared.events.Event.TheVariants.{Floor, Pin, Enter, Settle, Ask, Read, Reply, Release}
-use Rattle.epoch_core.specs.declared.states.SessionState.{SessionState}
 use Rattle.epoch_core.specs.declared.states.SessionState.TheVariants.{Idle, Pinned, Holding, Asking}
 use Rattle.epoch_blocks.specs.Blocks.{put}
-use Rattle.epoch_core.specs.Epochs.{PinsInOrder}
 use Rattle.epoch_core.specs.Worlds.{World, State, IsStart, start_world, last_number, session_of, held_in}
 use Rattle.epoch_core.specs.Machine.{step, move, to_pin, to_enter, to_settle, with_sessions}
 use Rattle.epoch_core.specs.Runs.{run, next_world, is_done}
 use Rattle.epoch_blocks.proofs.Lists.{at_from_within}
-use Rattle.epoch_core.proofs.Moves.{Moved, moved, floored, session_after}
-use Rattle.epoch_core.proofs.Steps.{always_sound, idle_at}
-use Rattle.epoch_core.proofs.Sizes.{size_run}
-use Rattle.epoch_core.proofs.Epochs.{pins_in_order}
+use Rattle.epoch_core.proofs.{Moves.Moved, Moves.moved, Moves.floored, Moves.session_after, Steps.always_sound, Steps.idle_at}
+use Rattle.epoch_core.proofs.{Sizes.size_run, Epochs.pins_in_order}
 use Rattle.graph_version.specs.Versions.{empty_version}
 use Rattle.pin_copy.specs.declared.copies.PinCopy.{PinCopy}
 use Rattle.seat_board.specs.Board.{BoardState, pin_at, with_pin, unsettled, settled, copy_of}
-use Rattle.store_steps.specs.Desks.{DeskView}
-use Rattle.store_steps.specs.Shown.{Shows}
+use Rattle.store_steps.specs.{Desks.DeskView, Shown.Shows, Histories.IsUnseen, Steps.IsTaken, Opening.opened_desk}
 use Rattle.store_steps.specs.Boards.{seat_pin, ShowsBoard, ShowsIfDone, raised_board}
-use Rattle.store_steps.specs.Histories.{IsUnseen}
-use Rattle.store_steps.specs.Steps.{IsTaken}
 use Rattle.store_steps.specs.Reached.{Store, opened_store, world_by, IsReached, Leads, IsReaders, StaysReached}
 use Rattle.store_steps.proofs.BoardSteps.{pins_as_machine, settles_as_machine, unpins_as_machine, raises_as_machine}
-use Rattle.store_steps.proofs.Histories.{done_is_run, readers_are_unseen}
-use Rattle.store_steps.specs.Opening.{opened_desk}
-use Rattle.store_steps.proofs.OpeningShown.{no_pin, opens_blank}
+use Rattle.store_steps.proofs.{Histories.done_is_run, Histories.readers_are_unseen, OpeningShown.no_pin, OpeningShown.opens_blank}
 
 run_more : (es fs : List Event) (w : World) → run (es ++ fs) w ≡ run fs (run es w)
 run_more [] fs w = refl

@@ -1,28 +1,21 @@
 -- How many blocks are free, and how many retired, after a batch and after a collection.
 use Rattle.std.proofs.Common.{◌≡◌, ◌≢◌, ℕ, zero, suc, ◌+◌, ◌==◌, Bool, true, false, not, cond, ◌||◌, List, [], ◌∷◌, length, get_or}
 use Rattle.std.proofs.Common.{map, set, count_by, refl, sym, ap, ◌∙◌, arith, ◌&&◌}
-use Rattle.std.specs.Prelude.{slice_get, if◌then◌else◌}
-use Rattle.std.proofs.lemmas.List.{length-map}
-use Rattle.block_pool.proofs.Grants.{length-marked}
-use Rattle.std.specs.Option.{option_map}
-use Rattle.std.specs.declared.option.Option.TheVariants.{Some}
-use Rattle.std.proofs.lemmas.Bool.{eq-eqb, true≢false, or_right}
+use Rattle.std.specs.{Prelude.slice_get, Prelude.if◌then◌else◌, Option.option_map, declared.option.Option.TheVariants.Some}
+use Rattle.std.proofs.lemmas.{List.length-map, Bool.eq-eqb, Bool.true≢false, Bool.or_right}
+use Rattle.block_pool.proofs.{Grants.length-marked, Tallies.count_more}
 use Rattle.graph_model.specs.declared.batches.NamedOp.{NamedOp}
 use Rattle.graph_version.specs.Versions.{is_in}
-use Rattle.pin_copy.specs.declared.copies.PinCopy.{PinCopy}
-use Rattle.pin_copy.specs.Copies.{needs}
+use Rattle.pin_copy.specs.{declared.copies.PinCopy.PinCopy, Copies.needs}
 use Rattle.block_pool.specs.Pools.{Status, Free, Granted, Used, Retired, is_free, is_retired, is_past, recycled, retired}
 use Rattle.block_pool.specs.Pools.{is_free_at, is_born_at, marked, changed}
-use Rattle.block_pool.proofs.Tallies.{count_more}
 use Rattle.epoch_blocks.specs.Blocks.{all_differ}
 use Rattle.epoch_blocks.proofs.Lists.{set_else, get_at, all_listed}
 use Rattle.store_steps.specs.Desks.{DeskView, IsAccepted, IsCollected, AcceptedCounts, CollectedCounts, is_retired_by, birth_of, birth_at}
 use Rattle.store_steps.specs.Desks.{ledger_of}
-use Rattle.store_steps.proofs.NumberLists.{differ_head, differ_tail}
-use Rattle.store_steps.proofs.ChangedLists.{marked_at, length-changed}
+use Rattle.store_steps.proofs.{NumberLists.differ_head, NumberLists.differ_tail, CollectedDesk.past_and_left}
+use Rattle.store_steps.proofs.{ChangedLists.marked_at, ChangedLists.length-changed, Posting.IsLegalBatch, Posting.legal_batch}
 use Rattle.store_steps.proofs.OneNumber.{free_is, born_is, not_both}
-use Rattle.store_steps.proofs.CollectedDesk.{past_and_left}
-use Rattle.store_steps.proofs.Posting.{IsLegalBatch, legal_batch}
 
 -- one status is set
 count_set : (p : Status → Bool) (pool : List Status) (n : ℕ) (s t : Status) → slice_get pool n ≡ Some s

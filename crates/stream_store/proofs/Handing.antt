@@ -1,42 +1,28 @@
 -- A batch handed over: what the desk's call does with what was made of it.
 use Rattle.std.proofs.Common.{◌≡◌, ℕ, zero, suc, ◌+◌, ◌<◌, ◌≤◌, ◌==◌, true, false, List, [], ◌∷◌, ◌++◌, length, get_or, map}
 use Rattle.std.proofs.Common.{refl, sym, ap, subst, ◌∙◌, arith, count_by}
-use Rattle.std.specs.Prelude.{All}
-use Rattle.std.specs.List.{sum_by}
-use Rattle.std.specs.Arc.{arc_value}
-use Rattle.std.specs.declared.sync.Arc.{Arc}
-use Rattle.std.specs.declared.alloc.Global.{Global}
-use Rattle.std.proofs.lemmas.List.{map-append, length-map}
-use Rattle.std.proofs.lemmas.Bool.{eq-eqb, or_right}
-use Rattle.graph_model.specs.Limits.{batch_limit}
-use Rattle.graph_model.specs.declared.batches.NamedOp.{NamedOp}
+use Rattle.std.specs.{Prelude.All, List.sum_by, Arc.arc_value, declared.sync.Arc.Arc, declared.alloc.Global.Global}
+use Rattle.std.proofs.lemmas.{List.map-append, List.length-map, Bool.eq-eqb, Bool.or_right}
+use Rattle.graph_model.specs.{Limits.batch_limit, declared.batches.NamedOp.NamedOp}
 use Rattle.edge_block.specs.declared.blocks.Block.{Block}
 use Rattle.row_pages.specs.Rows as rows
 use Rattle.batch_shards.specs.RowBlocks.{block_of, blocks_of, numbers_of}
-use Rattle.graph_version.specs.declared.versions.Version.{Version}
-use Rattle.graph_version.specs.Versions.{VersionView, content, is_in}
+use Rattle.graph_version.specs.{declared.versions.Version.Version, Versions.VersionView, Versions.content, Versions.is_in}
 use Rattle.block_pool.specs.Pools.{Status, Free, Granted, Used, is_free, is_retired, is_used, retired, marked, changed, AreFree}
 use Rattle.version_shelf.specs.Shelves.{ShelfView, IsNext}
 use Rattle.store_steps.specs.Journal as journal
-use Rattle.store_steps.specs.Desks.{DeskView, IsDesk, FollowsLayout}
-use Rattle.store_steps.specs.Steps.{Accepts}
+use Rattle.store_steps.specs.{Desks.DeskView, Desks.IsDesk, Desks.FollowsLayout, Steps.Accepts}
 use Rattle.store_steps.proofs.Applications.{Application, next_desk, born_pool, retired_pool, moves_left}
-use Rattle.store_steps.proofs.Accepting.{made_accepted, made_desk}
+use Rattle.store_steps.proofs.{Accepting.made_accepted, Accepting.made_desk, BatchLaws.accepted_steps, RetiredCounts.retired_room}
 use Rattle.store_steps.proofs.GrantedBlocks.{taken_granted, taken_movable, dropped_movable, unused_movable}
 use Rattle.store_steps.proofs.GrantedBlocks.{granted_movable, given_back, born_movable, born_given_back, granted_unlisted}
-use Rattle.store_steps.proofs.BatchLaws.{accepted_steps}
-use Rattle.store_steps.proofs.RetiredCounts.{retired_room}
-use Rattle.batch_plan.specs.Planned.{MeetsNeitherLimit}
-use Rattle.batch_plan.specs.declared.plans.Plan.{Plan}
+use Rattle.batch_plan.specs.{Planned.MeetsNeitherLimit, declared.plans.Plan.Plan}
 use Rattle.batch_apply.proofs.Asked.{needs_within}
 use Rattle.stream_store.specs.declared.entries.JournalEntry.{JournalEntry}
 use Rattle.stream_store.specs.declared.entries.JournalEntry.TheVariants as entries
-use Rattle.stream_store.specs.declared.applying.Prepared.{Prepared}
-use Rattle.stream_store.specs.declared.receipts.ApplyError.{ApplyError}
+use Rattle.stream_store.specs.{declared.applying.Prepared.Prepared, declared.receipts.ApplyError.ApplyError, Applying.IsPrepared}
 use Rattle.stream_store.specs.declared.receipts.ApplyError.TheVariants.{BatchLimit, NamesFull, KindsFull, PoolEmpty, OutOfMemory}
-use Rattle.stream_store.specs.Applying.{IsPrepared}
-use Rattle.stream_store.specs.Kept.{DeskState, IsKept, entry_of}
-use Rattle.stream_store.specs.Moves.{AreUsedOnce, AreBornOnce}
+use Rattle.stream_store.specs.{Kept.DeskState, Kept.IsKept, Kept.entry_of, Moves.AreUsedOnce, Moves.AreBornOnce}
 use Rattle.stream_store.specs.Refusals.{Refuses, RefusesGrant, IsAdmitted, IsWithin, asked, block_count, workers_for}
 use Rattle.stream_store.proofs.UsedBlocks.{used_blocks}
 

@@ -1,11 +1,8 @@
 -- The last of some blocks is moved, and then the rest.
-use Rattle.std.proofs.Common.{◌≡◌, ℕ, ◌==◌, Bool, true, List, [], ◌∷◌, ◌++◌, get_or, set}
-use Rattle.std.proofs.Common.{refl, sym, ap, subst, ◌∙◌, arith}
-use Rattle.std.specs.Prelude.{slice_get, if◌then◌else◌}
-use Rattle.std.specs.Option.{option_map}
+use Rattle.std.proofs.Common.{◌≡◌, ℕ, ◌==◌, Bool, true, List, [], ◌∷◌, ◌++◌, get_or, set, refl, sym, ap, subst, ◌∙◌, arith}
+use Rattle.std.specs.{Prelude.slice_get, Prelude.if◌then◌else◌, Option.option_map}
 use Rattle.std.proofs.lemmas.List.{map-append}
-use Rattle.std.specs.declared.sync.Arc.{Arc}
-use Rattle.std.specs.declared.alloc.Global.{Global}
+use Rattle.std.specs.declared.{sync.Arc.Arc, alloc.Global.Global}
 use Rattle.edge_block.specs.declared.blocks.Block.{Block}
 use Rattle.batch_shards.specs.RowBlocks.{block_of, numbers_of}
 use Rattle.graph_version.specs.Versions.{is_in}
@@ -13,8 +10,7 @@ use Rattle.block_pool.specs.Pools.{Status, Granted, is_used, is_born, is_used_at
 use Rattle.block_pool.proofs.Tallies.{count_more}
 use Rattle.epoch_blocks.specs.Blocks.{all_differ}
 use Rattle.epoch_blocks.proofs.Lists.{all_listed}
-use Rattle.store_steps.proofs.NumberLists.{all_by}
-use Rattle.store_steps.proofs.ChangedLists.{marked_at, changed_at, same_list}
+use Rattle.store_steps.proofs.{NumberLists.all_by, ChangedLists.marked_at, ChangedLists.changed_at, ChangedLists.same_list}
 use Rattle.store_steps.proofs.Counting.{times, is_some_times, in_times, once_at_most, apart_if}
 use Rattle.store_steps.proofs.BlockMoves.{AreMovable, moving}
 use Rattle.stream_store.specs.Moves.{AreOnce, AreUsedOnce, AreBornOnce}

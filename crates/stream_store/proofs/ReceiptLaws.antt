@@ -1,18 +1,12 @@
 -- What a store's receipts and refusals say where the desk behind the lock is not known.
 use Rattle.std.proofs.Common.{◌≡◌, ℕ, List, length, sym, ap, subst, ◌∙◌, Result, Ok, Err}
 use Rattle.std.specs.Prelude.{IfOk, OnOk}
-use Rattle.graph_model.specs.Graph.{Graph}
-use Rattle.graph_model.specs.Step.{outcomes, left_by}
-use Rattle.graph_model.specs.declared.batches.NamedOp.{NamedOp}
-use Rattle.graph_model.specs.declared.batches.Outcome.{Outcome}
+use Rattle.graph_model.specs.{Graph.Graph, Step.outcomes, Step.left_by}
+use Rattle.graph_model.specs.declared.batches.{NamedOp.NamedOp, Outcome.Outcome}
 use Rattle.batch_plan.specs.Planned.{MeetsNeitherLimit}
 use Rattle.version_shelf.specs.Shelves.{ToldView}
-use Rattle.store_steps.specs.Journal.{Ledger}
-use Rattle.store_steps.specs.Steps.{Accepts}
-use Rattle.stream_store.specs.Applying.{IsReceipt}
-use Rattle.stream_store.specs.Kept.{DeskState}
-use Rattle.stream_store.specs.Refusals.{IsWithin}
-use Rattle.stream_store.specs.Stores.{IsReceiptOf}
+use Rattle.store_steps.specs.{Journal.Ledger, Steps.Accepts}
+use Rattle.stream_store.specs.{Applying.IsReceipt, Kept.DeskState, Refusals.IsWithin, Stores.IsReceiptOf}
 
 -- what is true of a value, by what is true of it and of the call
 pub by_three : {T E : Type 0} (r : Result T E) (P R : T → Type 0) (Q S : Type 0) → ((x : T) → P x → Q → S → R x) → IfOk r P

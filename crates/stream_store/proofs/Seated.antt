@@ -1,15 +1,12 @@
 -- Seats: a pin set twice, and the seats of an opening.
 use Rattle.std.proofs.Common.{◌≡◌, ℕ, zero, suc, ◌+◌, ◌<◌, List, [], ◌∷◌, ◌++◌, length, map, take, drop, refl, sym, ap, subst}
 use Rattle.std.proofs.Common.{◌∙◌, arith}
-use Rattle.std.specs.Prelude.{All, Option, slice_set, slice_index_or}
-use Rattle.std.specs.List.{range_with_len}
-use Rattle.std.proofs.lemmas.List.{map-append, length-append}
-use Rattle.std.proofs.lemmas.List.Elements.{All-head, All-tail, All-cons}
+use Rattle.std.specs.{Prelude.All, Prelude.Option, Prelude.slice_set, Prelude.slice_index_or, List.range_with_len}
+use Rattle.std.proofs.lemmas.List.{map-append, length-append, Elements.All-head, Elements.All-tail, Elements.All-cons}
 use Rattle.logbook.specs.Pages.{Book}
 use Rattle.graph_version.specs.Versions.{VersionView}
 use Rattle.version_shelf.specs.Shelves.{ToldView}
-use Rattle.seat_board.specs.Board.{BoardState, with_pin}
-use Rattle.seat_board.specs.declared.board.Pin.{Pin}
+use Rattle.seat_board.specs.{Board.BoardState, Board.with_pin, declared.board.Pin.Pin}
 use Rattle.stream_store.specs.Seats.{SeatView, HasSeen}
 
 set_again : {X : Type 0} (xs : List X) (i : ℕ) (x y : X) → slice_set (slice_set xs i x) i y ≡ slice_set xs i y

@@ -1,10 +1,8 @@
 -- The used blocks of a desk are those of its last version.
 use Rattle.std.proofs.Common.{◌≡◌, ◌≢◌, ℕ, zero, suc, ◌+◌, ◌==◌, Bool, true, false, cond, ◌||◌, List, [], ◌∷◌, length}
 use Rattle.std.proofs.Common.{set, count_by, refl, sym, ap, ◌∙◌, arith}
-use Rattle.std.specs.Prelude.{slice_get}
-use Rattle.std.specs.declared.option.Option.TheVariants.{Some}
-use Rattle.std.proofs.lemmas.List.{length-map}
-use Rattle.std.proofs.lemmas.Bool.{eq-eqb, eqb-true, true≢false}
+use Rattle.std.specs.{Prelude.slice_get, declared.option.Option.TheVariants.Some}
+use Rattle.std.proofs.lemmas.{List.length-map, Bool.eq-eqb, Bool.eqb-true, Bool.true≢false}
 use Rattle.edge_block.specs.Slots.{BlockView}
 use Rattle.row_pages.specs.Rows.{blocks_of}
 use Rattle.graph_version.specs.Versions.{is_in}
@@ -12,10 +10,8 @@ use Rattle.block_pool.specs.Pools.{Status, Free, Granted, Used, Retired, is_born
 use Rattle.block_pool.proofs.Tallies.{count_more}
 use Rattle.epoch_blocks.specs.Blocks.{all_differ}
 use Rattle.epoch_blocks.proofs.Lists.{set_else}
-use Rattle.store_steps.specs.Dates.{IsDated}
-use Rattle.store_steps.specs.Desks.{DeskView, IsDesk, last_numbers}
-use Rattle.store_steps.proofs.NumberLists.{differ_from, differ_head, differ_tail}
-use Rattle.store_steps.proofs.Dated.{desk_dated}
+use Rattle.store_steps.specs.{Dates.IsDated, Desks.DeskView, Desks.IsDesk, Desks.last_numbers}
+use Rattle.store_steps.proofs.{NumberLists.differ_from, NumberLists.differ_head, NumberLists.differ_tail, Dated.desk_dated}
 use Rattle.stream_store.specs.Refusals.{block_count}
 
 -- none is born

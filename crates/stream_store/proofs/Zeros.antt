@@ -1,20 +1,15 @@
 -- Version 0 over copies of a version's blocks.
 use Rattle.std.proofs.Common.{◌≡◌, ℕ, zero, suc, ◌<◌, true, false, List, length, get_or, replicate}
 use Rattle.std.proofs.Common.{refl, sym, ap, subst, ◌∙◌, arith, All, if◌then◌else◌, Bool}
-use Rattle.std.specs.Prelude.{slice_get}
-use Rattle.std.specs.Option.{option_map}
-use Rattle.std.specs.declared.option.Option.{Option}
-use Rattle.std.specs.declared.option.Option.TheVariants.{None, Some}
+use Rattle.std.specs.{Prelude.slice_get, Option.option_map, Arc.arc_value}
+use Rattle.std.specs.declared.option.Option.{Option, TheVariants.None, TheVariants.Some}
 use Rattle.row_pages.specs.Rows.{blocks_of, numbers_of}
-use Rattle.graph_version.specs.Versions.{VersionView, IsVersion, is_in}
-use Rattle.graph_version.specs.Rebased.{IsRebased}
+use Rattle.graph_version.specs.{Versions.VersionView, Versions.IsVersion, Versions.is_in, Rebased.IsRebased}
 use Rattle.graph_version.specs.declared.versions.Version.{Version}
-use Rattle.std.specs.Arc.{arc_value}
 use Rattle.block_pool.specs.Pools.{Status, Free, Granted, Used, is_free_at, marked, AreFree}
 use Rattle.store_steps.specs.Opening.{IsVersionZero, opened_desk}
 use Rattle.store_steps.proofs.ChangedLists.{marked_at, same_list}
-use Rattle.stream_store.specs.Openings.{OpensWith}
-use Rattle.stream_store.specs.declared.zero.Zero.{Zero}
+use Rattle.stream_store.specs.{Openings.OpensWith, declared.zero.Zero.Zero}
 
 -- what is marked twice is as it was marked last
 twice_marked : (t : Bool) (p : Option Status) (x y : Status)

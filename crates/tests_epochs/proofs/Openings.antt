@@ -1,10 +1,7 @@
 -- Contents whose edges stand in one block.
-use Rattle.std.proofs.Common.{◌≡◌, ℕ, ◌<◌, List, [], ◌∷◌, ◌++◌}
-use Rattle.std.proofs.Common.{append-nil, refl, sym, subst, ◌∙◌, arith}
+use Rattle.std.proofs.Common.{◌≡◌, ℕ, ◌<◌, List, [], ◌∷◌, ◌++◌, append-nil, refl, sym, subst, ◌∙◌, arith}
 use Rattle.std.proofs.lemmas.List.Elements.{All-nil, All-cons}
-use Rattle.graph_model.specs.Graph.{IsContent, graph_of}
-use Rattle.graph_model.specs.declared.ids.Edge.{Edge}
-use Rattle.graph_model.specs.declared.contents.Content.{Content}
+use Rattle.graph_model.specs.{Graph.IsContent, Graph.graph_of, declared.ids.Edge.Edge, declared.contents.Content.Content}
 use Rattle.epoch_blocks.specs.Versions.{Shows}
 use Rattle.epoch_core.specs.Opened.{IsOpening}
 

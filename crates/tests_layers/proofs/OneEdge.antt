@@ -2,25 +2,18 @@
 -- batch, is a version.
 use Rattle.std.proofs.Common.{◌≡◌, ◌≢◌, ◌∙◌, ◌==◌, ◌≤◌, ℕ, zero, suc, All, List, [], ◌∷◌, refl, sym, ap, subst, map, arith}
 use Rattle.std.proofs.Common.{true≢false, inl, inr, if◌then◌else◌}
-use Rattle.std.specs.Prelude.{AllPairs}
-use Rattle.std.specs.List.{range_with_len}
-use Rattle.std.specs.Option.{is_some}
-use Rattle.std.specs.FinMap.{get-empty}
-use Rattle.std.proofs.lemmas.Bool.Decides.{eqb_tells}
-use Rattle.std.proofs.lemmas.List.Elements.{All-cons}
-use Rattle.graph_model.specs.Graph.{key_cmp}
-use Rattle.graph_model.specs.Step.{empty_graph, after_all, outcomes}
+use Rattle.std.specs.{Prelude.AllPairs, List.range_with_len, Option.is_some, FinMap.get-empty}
+use Rattle.std.proofs.lemmas.{Bool.Decides.eqb_tells, List.Elements.All-cons}
+use Rattle.graph_model.specs.{Graph.key_cmp, Step.empty_graph, Step.after_all, Step.outcomes, declared.batches.NamedOp.NamedOp}
 use Rattle.edge_block.specs.Slots.{BlockView}
 use Rattle.block_layout.specs.Rows.{Shape, shape_of, row_at, IsRow}
 use Rattle.block_layout.specs.Batches.{IsLayoutOf, IsWithin, layout_after, outcomes_all, resolved, opened}
 use Rattle.block_layout.proofs.GraphLaws.{batch_layout}
 use Rattle.row_pages.specs.Rows.{row_of, numbers_of}
-use Rattle.graph_model.specs.declared.batches.NamedOp.{NamedOp}
 use Rattle.graph_version.specs.Versions.{VersionView, IsBlockOf, AreRowsOf, empty_version}
 use Rattle.graph_version.specs.Kept.{vertex_book, kind_book}
 use Rattle.graph_version.specs.Drafts.{DraftView, drafted_over, with_batch, ReplacesRow, IsWhole}
-use Rattle.graph_version.proofs.Totals.{same_blocks, at_source, elsewhere}
-use Rattle.graph_version.proofs.Empty.{no_row}
+use Rattle.graph_version.proofs.{Totals.same_blocks, Totals.at_source, Totals.elsewhere, Empty.no_row}
 use Rattle.tests_layers.specs.OneEdge.{one_insert, one_edge_block, named_over}
 
 no_edges_within : IsWithin empty_graph

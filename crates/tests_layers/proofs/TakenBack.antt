@@ -1,18 +1,14 @@
 -- A draft over the version without batches whose one replaced row is taken back, with a batch without operations, is a version.
 use Rattle.std.proofs.Common.{◌≡◌, ◌≢◌, ◌∙◌, ℕ, All, List, [], refl, sym, ap, subst, map, arith, true≢false, inl, inr}
-use Rattle.std.specs.Prelude.{AllPairs}
-use Rattle.std.specs.Option.{is_some}
-use Rattle.std.specs.FinMap.{get-empty}
+use Rattle.std.specs.{Prelude.AllPairs, Option.is_some, FinMap.get-empty}
 use Rattle.std.proofs.lemmas.Bool.Decides.{eqb_tells}
-use Rattle.graph_model.specs.Graph.{key_cmp}
-use Rattle.graph_model.specs.Step.{empty_graph}
+use Rattle.graph_model.specs.{Graph.key_cmp, Step.empty_graph}
 use Rattle.edge_block.specs.Slots.{BlockView}
 use Rattle.block_layout.specs.Rows.{shape_of, row_at, IsRow}
 use Rattle.row_pages.specs.Rows.{row_of, numbers_of}
 use Rattle.graph_version.specs.Versions.{IsBlockOf, AreRowsOf, empty_version}
 use Rattle.graph_version.specs.Drafts.{DraftView, drafted_over, with_batch, ReplacesRow, IsWhole}
-use Rattle.graph_version.proofs.Totals.{same_blocks, at_source, elsewhere}
-use Rattle.graph_version.proofs.Empty.{no_row}
+use Rattle.graph_version.proofs.{Totals.same_blocks, Totals.at_source, Totals.elsewhere, Empty.no_row}
 
 no_block : (s : ℕ) → All (IsBlockOf s) []
 no_block s k d h = absurd (omega arith)

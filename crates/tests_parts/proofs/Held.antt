@@ -1,11 +1,7 @@
 -- Blocks that a pool granted stay used until they are moved.
 use Rattle.std.proofs.Common.{◌≡◌, ◌≢◌, ℕ, zero, suc, ◌<◌, List, [], ◌∷◌, length, get_or, set, take, drop, ◌++◌, All, true}
-use Rattle.std.proofs.Common.{refl, sym, ap, subst, ◌∙◌, arith}
-use Rattle.std.specs.Prelude.{slice_get}
-use Rattle.std.specs.declared.sync.Arc.{Arc}
-use Rattle.std.specs.declared.alloc.Global.{Global}
-use Rattle.std.specs.Arc.{arc_value}
-use Rattle.std.proofs.lemmas.List.{length-set}
+use Rattle.std.proofs.{Common.refl, Common.sym, Common.ap, Common.subst, Common.◌∙◌, Common.arith, lemmas.List.length-set}
+use Rattle.std.specs.{Prelude.slice_get, declared.sync.Arc.Arc, declared.alloc.Global.Global, Arc.arc_value}
 use Rattle.edge_block.specs.declared.blocks.Block.{Block}
 use Rattle.block_pool.specs.Pools.{Status, Granted, Used, is_free, is_used, passes, is_used_at, is_born_at, marked, AreFree}
 use Rattle.block_pool.specs.Pools.{changed, retired}

@@ -1,9 +1,7 @@
 -- What a book answers of a name, and refusals that stay what they are where a vertex is asked for as well.
 use Rattle.std.proofs.Common.{◌≡◌, ℕ, ◌<◌, Bool, true, false, List, length, Some, None, subst, sym, ap, ◌∙◌}
-use Rattle.graph_model.specs.Step.{number_of}
-use Rattle.graph_model.specs.Answer.{is_listed, first_refusal}
-use Rattle.graph_model.specs.declared.requests.AskError.{AskError}
-use Rattle.graph_model.specs.declared.requests.AskError.TheVariants.{NoVertex}
+use Rattle.graph_model.specs.{Step.number_of, Answer.is_listed, Answer.first_refusal}
+use Rattle.graph_model.specs.declared.requests.AskError.{AskError, TheVariants.NoVertex}
 use Rattle.graph_model.proofs.NameLists.{number_of-lt}
 
 -- the number of a listed name is below their count

@@ -1,15 +1,10 @@
 -- Rows of names and values, put together one vertex after another.
 use Rattle.std.proofs.Common.{◌≡◌, ℕ, ◌+◌, ◌<◌, min, List, [], ◌∷◌, ◌++◌, length, get_or, take, Option, Some, None, refl, sym, ap}
 use Rattle.std.proofs.Common.{◌∙◌, arith}
-use Rattle.std.specs.Prelude.{zip}
-use Rattle.std.specs.List.{filter_map, cons_option, slice_get}
-use Rattle.std.specs.Option.{option_to_list, unwrap_or}
-use Rattle.std.proofs.lemmas.List.{take_more, take_all, get_or-map, length-map, get_or_default}
-use Rattle.std.proofs.lemmas.List.Elements.{filter_map-append}
-use Rattle.std.proofs.lemmas.Option.{unwrap_or-slice_get}
-use Rattle.std.proofs.lemmas.Slice.Zip.{length-zip, get_or-zip}
-use Rattle.graph_model.specs.Answer.{names_of, level_row}
-use Rattle.graph_model.specs.declared.ids.VertexId.{VertexId}
+use Rattle.std.specs.{Prelude.zip, List.filter_map, List.cons_option, List.slice_get, Option.option_to_list, Option.unwrap_or}
+use Rattle.std.proofs.lemmas.List.{take_more, take_all, get_or-map, length-map, get_or_default, Elements.filter_map-append}
+use Rattle.std.proofs.lemmas.{Option.unwrap_or-slice_get, Slice.Zip.length-zip, Slice.Zip.get_or-zip}
+use Rattle.graph_model.specs.{Answer.names_of, Answer.level_row, declared.ids.VertexId.VertexId}
 use Rattle.graph_levels.specs.Vertices.{numbers_of}
 
 -- a vertex's name, and the empty one past the last vertex

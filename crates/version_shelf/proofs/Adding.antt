@@ -2,8 +2,7 @@
 use Rattle.graph_model.specs.declared.batches.NamedOp.{NamedOp}
 use Rattle.std.proofs.Common.{◌≡◌, ℕ, suc, ◌+◌, ◌<◌, ◌≤◌, ◌==◌, Bool, true, false, List, [], ◌∷◌, ◌++◌, length, set, refl, ap, ap₂, sym}
 use Rattle.std.proofs.Common.{subst, ◌∙◌, arith, inl, length-append, None}
-use Rattle.std.proofs.lemmas.List.{append-nil}
-use Rattle.std.proofs.lemmas.Bool.{eqb-true, true≢false}
+use Rattle.std.proofs.lemmas.{List.append-nil, Bool.eqb-true, Bool.true≢false}
 use mathlib.Core.List.{IsPrefix}
 use prog.Atomic.{either}
 use Rattle.logbook.specs.Pages.{Cell, cell, keeps, gives, adds, nib, no_nib, may_make, step, Moves, Goes}

@@ -1,13 +1,9 @@
 -- What stands at a hash among pairs whose hashes rise, and what an edit of the pairs does to it.
 use Rattle.std.proofs.Common.{◌≡◌, ◌≢◌, ℕ, zero, suc, ◌+◌, ◌<◌, ◌≤◌, List, [], ◌∷◌, length, get_or, set, take, drop}
-use Rattle.std.proofs.Common.{if◌then◌else◌}
-use Rattle.std.proofs.Common.{◌-◌, Some, None, refl, sym, ap, ◌∙◌, arith, nat_eq, inl, inr}
-use Rattle.std.specs.List.{insert}
-use Rattle.std.specs.Map.{lookup}
-use Rattle.std.proofs.lemmas.Bool.{cases_lt}
-use Rattle.std.proofs.lemmas.Bool.Decides.{nat_tests}
+use Rattle.std.proofs.Common.{if◌then◌else◌, ◌-◌, Some, None, refl, sym, ap, ◌∙◌, arith, nat_eq, inl, inr}
+use Rattle.std.specs.{List.insert, Map.lookup}
+use Rattle.std.proofs.{lemmas.Bool.cases_lt, lemmas.Bool.Decides.nat_tests, Math.Seq.map-set_same}
 use Rattle.std.proofs.lemmas.List.{length-map, get_or-map, get_or-take, get_or-drop, length-take, length-drop}
-use Rattle.std.proofs.Math.Seq.{map-set_same}
 use Rattle.vertex_names.specs.Order.{firsts, IsRising, IsAt, IsGap, last_place}
 use Rattle.vertex_names.proofs.Places.{rising-tail, rising_gap, above_place, up_to_place}
 

@@ -1,24 +1,13 @@
 -- Names in a book: their numbers, and what one more name leaves true.
 use Rattle.std.proofs.Common.{◌≡◌, ◌≢◌, ◌⊎◌, ℕ, ◌+◌, ◌<◌, Bool, true, false, cond, not, ◌||◌, suc, length-append, List, [], ◌∷◌}
 use Rattle.std.proofs.Common.{◌++◌, length, get_or, IsTrue, Option, Some, None, inl, inr, refl, sym, ap, subst, ◌∙◌, arith}
-use Rattle.std.proofs.Common.{true≢false, if◌then◌else◌, All, AllPairs}
-use Rattle.std.specs.Option.{SomeIff, IfSome, IfNone, is_some}
-use Rattle.std.specs.List.{slice_get}
-use Rattle.std.specs.Str.{bytes_eq}
-use Rattle.std.proofs.lemmas.Bool.{false_from_ne_true}
-use Rattle.std.proofs.lemmas.Slice.Eq.{bytes_eq-Decides}
-use Rattle.std.proofs.lemmas.List.Folds.{list_any_at}
-use Rattle.std.proofs.lemmas.List.Elements.{All-push}
-use Rattle.std.proofs.lemmas.List.Quantifiers.{all_pairs_push}
-use Rattle.std.proofs.lemmas.Bool.Decides.{eqb_tells}
-use Rattle.std.proofs.lemmas.List.{get_or_append_left}
+use Rattle.std.proofs.{Common.true≢false, Common.if◌then◌else◌, Common.All, Common.AllPairs, Math.Seq.get_or-append_seam}
+use Rattle.std.specs.{Option.SomeIff, Option.IfSome, Option.IfNone, Option.is_some, List.slice_get, Str.bytes_eq}
+use Rattle.std.proofs.lemmas.{Bool.false_from_ne_true, Bool.Decides.eqb_tells, Slice.Eq.bytes_eq-Decides}
+use Rattle.std.proofs.lemmas.List.{Folds.list_any_at, Elements.All-push, Quantifiers.all_pairs_push, get_or_append_left}
 use Rattle.std.proofs.lemmas.Option.{slice_get_within, get_or_from_slice_get}
-use Rattle.std.proofs.Math.Seq.{get_or-append_seam}
-use Rattle.graph_model.specs.Step.{number_of}
-use Rattle.graph_model.specs.Answer.{is_listed}
-use Rattle.graph_model.specs.Valid.{is_name}
-use Rattle.vertex_names.specs.Index.{text_hash, found_at, Stands, IsIndexed}
-use Rattle.vertex_names.specs.Book.{Book, IsBook}
+use Rattle.graph_model.specs.{Step.number_of, Answer.is_listed, Valid.is_name}
+use Rattle.vertex_names.specs.{Index.text_hash, Index.found_at, Index.Stands, Index.IsIndexed, Book.Book, Book.IsBook}
 
 number_of-next : (found rest : Bool) (place count : ℕ) → (found || rest) ≡ false → (rest ≡ false → place ≡ count)
     → cond (not found) (1 + place) 0 ≡ suc count

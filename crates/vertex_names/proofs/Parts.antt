@@ -1,11 +1,9 @@
 -- Parts of an index.
 use Rattle.std.proofs.Common.{◌≡◌, ℕ, ◌%◌, ◌<◌, false, List, map, set, get_or, length, [], sym, ap, ◌∙◌, arith, Some}
 use Rattle.std.proofs.Common.{inl, inr, if◌then◌else◌, nat_eq}
-use Rattle.std.proofs.lemmas.Bool.{ne_eqb}
-use Rattle.std.proofs.lemmas.Bool.Decides.{eqb_tells}
+use Rattle.std.proofs.lemmas.Bool.{ne_eqb, Decides.eqb_tells}
 use Rattle.std.proofs.lemmas.List.{map-set, get_or-set_same, get_or-set_other, get_or-map, length-map}
-use Rattle.vertex_names.specs.Order.{found_in}
-use Rattle.vertex_names.specs.Index.{found_at}
+use Rattle.vertex_names.specs.{Order.found_in, Index.found_at}
 
 module _ {X : Type 0} (f : X → List (ℕ × List (ℕ × ℕ))) where
   -- a part with one more number is the index with one more number

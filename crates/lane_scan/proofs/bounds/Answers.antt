@@ -1,8 +1,5 @@
-use Rattle.std.proofs.Common.{arith}
-use Rattle.std.proofs.lemmas.List.{take_all}
-use Rattle.std.proofs.lemmas.Bool.{iff_false}
-use Rattle.lane_scan.proofs.Selected.{selected_more_in, selected_more_out}
-use Rattle.lane_scan.proofs.UsedParts.{selected_used}
+use Rattle.std.proofs.{Common.arith, lemmas.List.take_all, lemmas.Bool.iff_false}
+use Rattle.lane_scan.proofs.{Selected.selected_more_in, Selected.selected_more_out, UsedParts.selected_used}
 use Rattle.lane_scan.proofs.bounds.Goals as goal
 use Rattle.lane_scan.proofs.bounds.Goals.{then-is_in, else-is_in}
 

@@ -1,7 +1,5 @@
-use Rattle.std.proofs.Common.{arith, inl, inr}
+use Rattle.std.proofs.{Common.arith, Common.inl, Common.inr, lemmas.Bool.cases_lt, lemmas.Nat.Bits.bit_at-trailing_zeros}
 use Rattle.std.specs.Int.{w32, trailing_zeros}
-use Rattle.std.proofs.lemmas.Bool.{cases_lt}
-use Rattle.std.proofs.lemmas.Nat.Bits.{bit_at-trailing_zeros}
 use Rattle.lane_scan.proofs.find_target.Goals as goal
 
 pub returns : goal.returns

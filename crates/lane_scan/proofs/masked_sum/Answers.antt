@@ -1,7 +1,5 @@
 use Rattle.std.proofs.Common.{◌≡◌, pos, ◌+ℤ◌, arith, get_or, sym, ap, ◌∙◌}
-use Rattle.std.proofs.lemmas.Int.{ints}
-use Rattle.std.proofs.lemmas.Bool.{iff_false}
-use Rattle.std.proofs.lemmas.List.Sums.{fold_push}
+use Rattle.std.proofs.lemmas.{Int.ints, Bool.iff_false, List.Sums.fold_push}
 use Rattle.lane_scan.proofs.Selected.{selected_more_in, selected_more_out, All-selected_at}
 use Rattle.lane_scan.specs.Masks.{IsWeight}
 use Rattle.lane_scan.proofs.masked_sum.Goals as goal

@@ -1,5 +1,4 @@
-use Rattle.std.proofs.Common.{arith, length, inl, inr}
-use Rattle.std.proofs.lemmas.Bool.{iff_false, cases_lt}
+use Rattle.std.proofs.{Common.arith, Common.length, Common.inl, Common.inr, lemmas.Bool.iff_false, lemmas.Bool.cases_lt}
 use Rattle.lane_scan.specs.Masks.{IsPlaceOf}
 use Rattle.lane_scan.proofs.Windows.{judged_in, judged_out}
 use Rattle.lane_scan.proofs.target_mask_one_by_one.Goals as goal

@@ -1,5 +1,4 @@
-use Rattle.std.proofs.Common.{arith, length, inl, inr}
-use Rattle.std.proofs.lemmas.Bool.{iff_false, cases_lt}
+use Rattle.std.proofs.{Common.arith, Common.length, Common.inl, Common.inr, lemmas.Bool.iff_false, lemmas.Bool.cases_lt}
 use Rattle.lane_scan.specs.Masks.{IsPlaceWithin}
 use Rattle.lane_scan.proofs.UsedParts.{used_few, within_from_used, within_in_used}
 use Rattle.lane_scan.proofs.Windows.{judged_in, judged_out}

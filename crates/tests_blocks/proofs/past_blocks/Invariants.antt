@@ -1,6 +1,5 @@
 use Rattle.std.proofs.Common.{◌≡◌, ◌<◌, ◌++◌, All}
-use Rattle.graph_version.specs.Lending.{numbers_left}
-use Rattle.graph_version.specs.Rows.{blocks_of, numbers_of}
+use Rattle.graph_version.specs.{Lending.numbers_left, Rows.blocks_of, Rows.numbers_of}
 use Rattle.tests_blocks.proofs.past_blocks.Given as goal
 
 abbrev pub invariant-loop-number : goal.invariant-loop-number

@@ -1,7 +1,5 @@
-use Rattle.std.proofs.Common.{ap, ◌∙◌}
-use Rattle.std.proofs.lemmas.List.{map-append}
-use Rattle.std.specs.declared.sync.Arc.{Arc}
-use Rattle.std.specs.declared.alloc.Global.{Global}
+use Rattle.std.proofs.{Common.ap, Common.◌∙◌, lemmas.List.map-append}
+use Rattle.std.specs.declared.{sync.Arc.Arc, alloc.Global.Global}
 use Rattle.edge_block.specs.declared.blocks.Block.{Block}
 use Rattle.batch_shards.specs.RowBlocks.{block_of, blocks_of, numbers_of}
 use Rattle.batch_apply.proofs.applied.add_blocks.Goals as goal

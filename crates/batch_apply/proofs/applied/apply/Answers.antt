@@ -1,26 +1,16 @@
 use Rattle.std.proofs.Common.{◌≡◌, ℕ, ◌+◌, ◌%◌, ◌^◌, ◌≤◌, List, length, replicate, zip, sym, ap, ◌∙◌, subst}
-use Rattle.std.specs.Prelude.{count_by}
-use Rattle.std.specs.List.{sum_by, AllZip}
+use Rattle.std.specs.{Prelude.count_by, List.sum_by, List.AllZip, FinMap.len}
 use Rattle.std.proofs.lemmas.List.{length-map}
-use Rattle.graph_model.specs.Limits.{operation_limit}
-use Rattle.std.specs.FinMap.{len}
-use Rattle.graph_model.specs.declared.batches.NamedOp.{NamedOp}
-use Rattle.graph_model.specs.Step.{after_all, outcomes}
-use Rattle.graph_model.specs.declared.batches.Outcome.TheVariants.{Absent}
+use Rattle.graph_model.specs.{Limits.operation_limit, Step.after_all, Step.outcomes}
+use Rattle.graph_model.specs.declared.batches.{NamedOp.NamedOp, Outcome.TheVariants.Absent}
 use Rattle.block_layout.specs.Batches.{resolved}
 use Rattle.row_pages.specs.Rows.{row_of}
 use Rattle.batch_pages.specs.Batches.{batch_value}
 use Rattle.batch_shards.specs.RowBlocks.{numbers_of}
-use Rattle.graph_version.specs.Versions.{VersionView, content, layout_of}
-use Rattle.graph_version.specs.Drafts.{DraftView}
-use Rattle.batch_apply.specs.Counts.{is_inserted, taken_away}
-use Rattle.batch_apply.specs.Applied.{ReplacesRows, written_from}
-use Rattle.batch_apply.proofs.EdgeCounts.{len_after_all}
-use Rattle.batch_apply.specs.Jobs.{IsDealt}
-use Rattle.batch_apply.proofs.Dealt.{needs_of, dealt_ready}
-use Rattle.batch_apply.proofs.Applying.{version_made, outcomes_made, applied_made}
-use Rattle.batch_apply.proofs.Left.{rows_left}
-use Rattle.batch_apply.proofs.Applying.{draft_is, draft_among, draft_whole, edges_left}
+use Rattle.graph_version.specs.{Versions.VersionView, Versions.content, Versions.layout_of, Drafts.DraftView}
+use Rattle.batch_apply.specs.{Counts.is_inserted, Counts.taken_away, Applied.ReplacesRows, Applied.written_from, Jobs.IsDealt}
+use Rattle.batch_apply.proofs.{EdgeCounts.len_after_all, Dealt.needs_of, Dealt.dealt_ready, Left.rows_left}
+use Rattle.batch_apply.proofs.Applying.{version_made, outcomes_made, applied_made, draft_is, draft_among, draft_whole, edges_left}
 use Rattle.batch_apply.proofs.applied.apply.Goals as goal
 
 pub deal-requires-clause-long : goal.deal-requires-clause-long

@@ -1,17 +1,10 @@
 use Rattle.std.proofs.Common.{◌≡◌, ◌<◌, ◌+◌, ◌++◌, ◌∷◌, [], ℕ, List, flat_map, count_by, length, length-append, zip, take, get_or}
 use Rattle.std.proofs.Common.{slice_index_or, arith, refl, sym, ap, ◌∙◌, subst}
 use Rattle.std.specs.List.{sum_by, AllZip}
-use Rattle.std.proofs.lemmas.Iterator.Adapters.{YieldsList-from_vec}
-use Rattle.std.proofs.lemmas.Iterator.Consumers.{YieldsList-turn}
-use Rattle.std.proofs.lemmas.List.Sums.{sum_by-take-le}
-use Rattle.batch_shards.specs.RowBlocks.{numbers_of}
-use Rattle.batch_shards.specs.declared.shard.Shard.{Shard}
-use Rattle.batch_apply.specs.Jobs.{IsDealt}
-use Rattle.batch_apply.specs.declared.workers.Job.{Job}
-use Rattle.batch_apply.proofs.Dealt.{sum_taken, zip_push}
-use Rattle.batch_apply.proofs.Halves.{zip_more}
-use Rattle.batch_apply.proofs.Kept.{count_append}
-use Rattle.batch_apply.proofs.Loops.{flat_more}
+use Rattle.std.proofs.lemmas.{Iterator.Adapters.YieldsList-from_vec, Iterator.Consumers.YieldsList-turn, List.Sums.sum_by-take-le}
+use Rattle.batch_shards.specs.{RowBlocks.numbers_of, declared.shard.Shard.Shard}
+use Rattle.batch_apply.specs.{Jobs.IsDealt, declared.workers.Job.Job}
+use Rattle.batch_apply.proofs.{Dealt.sum_taken, Dealt.zip_push, Halves.zip_more, Kept.count_append, Loops.flat_more}
 use Rattle.batch_apply.proofs.applied.deal.Goals as goal
 
 -- what the plan's next shard needs is left

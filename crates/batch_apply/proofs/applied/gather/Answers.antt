@@ -1,9 +1,6 @@
-use Rattle.std.proofs.Common.{◌++◌, List, replicate, sym, ap, ◌∙◌}
-use Rattle.std.proofs.lemmas.List.{append_assoc}
+use Rattle.std.proofs.{Common.◌++◌, Common.List, Common.replicate, Common.sym, Common.ap, Common.◌∙◌, lemmas.List.append_assoc}
 use Rattle.graph_model.specs.declared.batches.Outcome.TheVariants.{Absent}
-use Rattle.batch_shards.specs.RowBlocks.{blocks_of, numbers_of}
-use Rattle.batch_shards.specs.Closing.{row_values}
-use Rattle.batch_shards.specs.declared.shard.ShardDone.{ShardDone}
+use Rattle.batch_shards.specs.{RowBlocks.blocks_of, RowBlocks.numbers_of, Closing.row_values, declared.shard.ShardDone.ShardDone}
 use Rattle.batch_apply.specs.Plans.{written}
 use Rattle.batch_apply.proofs.Loops.{flat_more, from_more}
 use Rattle.batch_apply.proofs.applied.gather.Goals as goal

@@ -1,11 +1,8 @@
 use Rattle.std.proofs.Common.{◌++◌, ◌∷◌, [], length, sym, ◌∙◌, subst}
-use Rattle.std.proofs.lemmas.Iterator.Adapters.{YieldsList-from_vec}
-use Rattle.std.proofs.lemmas.Iterator.Consumers.{YieldsList-turn}
+use Rattle.std.proofs.lemmas.Iterator.{Adapters.YieldsList-from_vec, Consumers.YieldsList-turn}
 use Rattle.row_pages.specs.Rows.{row_of}
-use Rattle.batch_shards.specs.Done.{IsShardDone}
-use Rattle.batch_shards.specs.declared.shard.ShardDone.{ShardDone}
-use Rattle.batch_apply.specs.Jobs.{IsShard, AreDone}
-use Rattle.batch_apply.specs.declared.workers.Job.{Job}
+use Rattle.batch_shards.specs.{Done.IsShardDone, declared.shard.ShardDone.ShardDone}
+use Rattle.batch_apply.specs.{Jobs.IsShard, Jobs.AreDone, declared.workers.Job.Job}
 use Rattle.batch_apply.proofs.Halves.{zip_more}
 use Rattle.batch_apply.proofs.workers.do_each.Goals as goal
 

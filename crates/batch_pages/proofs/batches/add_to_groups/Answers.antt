@@ -1,11 +1,7 @@
 use Rattle.std.proofs.Common.{◌≡◌, ◌∙◌, ◌∷◌, ◌/◌, ◌%◌, [], ap, inl, inr, length, rules, arith}
-use Rattle.std.specs.Result.{IsOk}
-use Rattle.std.specs.declared.sync.Arc.{Arc}
-use Rattle.std.specs.declared.alloc.Global.{Global}
+use Rattle.std.specs.{Result.IsOk, declared.sync.Arc.Arc, declared.alloc.Global.Global}
 use Rattle.std.proofs.lemmas.Result.{IfErr-at_err}
-use Rattle.batch_pages.specs.Batches.{batch_value}
-use Rattle.batch_pages.specs.Groups.{in_group}
-use Rattle.batch_pages.specs.declared.groups.BatchGroup.{BatchGroup}
+use Rattle.batch_pages.specs.{Batches.batch_value, Groups.in_group, declared.groups.BatchGroup.BatchGroup}
 use Rattle.list_pieces.proofs.Pieces.{last_place, last_room, push_piece, pushed_last, same_last}
 use Rattle.list_pieces.proofs.Shown.{always-OnErr}
 use Rattle.batch_pages.proofs.batches.add_to_groups.Goals as goal

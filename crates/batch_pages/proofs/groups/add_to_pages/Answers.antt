@@ -1,13 +1,8 @@
 use Rattle.std.proofs.Common.{◌≡◌, ◌∙◌, ◌∷◌, ◌/◌, ◌%◌, [], ap, inl, inr, length, rules, arith}
-use Rattle.std.specs.Result.{IsOk}
-use Rattle.std.specs.declared.sync.Arc.{Arc}
-use Rattle.std.specs.declared.alloc.Global.{Global}
+use Rattle.std.specs.{Result.IsOk, declared.sync.Arc.Arc, declared.alloc.Global.Global}
 use Rattle.std.proofs.lemmas.Result.{IfErr-at_err}
-use Rattle.batch_pages.specs.Batches.{batch_value}
-use Rattle.batch_pages.specs.Pages.{in_page}
-use Rattle.batch_pages.specs.declared.pages.BatchPage.{BatchPage}
-use Rattle.list_pieces.proofs.Pieces.{last_place, push_piece, pushed_last, same_last}
-use Rattle.list_pieces.proofs.Shown.{always-OnErr}
+use Rattle.batch_pages.specs.{Batches.batch_value, Pages.in_page, declared.pages.BatchPage.BatchPage}
+use Rattle.list_pieces.proofs.{Pieces.last_place, Pieces.push_piece, Pieces.pushed_last, Pieces.same_last, Shown.always-OnErr}
 use Rattle.batch_pages.proofs.groups.add_to_pages.Goals as goal
 
 pub returns-then-len-eq0-clause-pages : goal.returns-then-len-eq0-clause-pages

@@ -4,8 +4,7 @@ use Rattle.vertex_names.specs.Book.{Book}
 use Rattle.row_pages.specs.Rows.{row_of}
 use Rattle.graph_version.specs.Versions.{content}
 use Rattle.batch_shards.specs.Spending.{old_blocks}
-use Rattle.batch_plan.specs.OldRows.{AreOldRows, expiry_time}
-use Rattle.batch_plan.specs.declared.old.OldRow.{OldRow}
+use Rattle.batch_plan.specs.{OldRows.AreOldRows, OldRows.expiry_time, declared.old.OldRow.OldRow}
 use Rattle.batch_plan.proofs.OldRows.{found_no_more, found_more, found_all, none_at_zero, old_is_within}
 use Rattle.batch_plan.proofs.old.old_rows.Goals.{then-blocks-gt0+in_ok-push, else-blocks-gt0}
 use Rattle.batch_plan.proofs.old.old_rows.Goals as goal

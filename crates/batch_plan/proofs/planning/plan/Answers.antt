@@ -1,21 +1,15 @@
 use Rattle.std.proofs.Common.{◌≡◌, ◌≤◌, length, map, arith, ap, sym, subst, ◌∙◌, ℕ, List}
 use Rattle.std.specs.List.{range_with_len, AllZip}
 use Rattle.std.proofs.lemmas.List.{length-map}
-use Rattle.graph_model.specs.Graph.{Graph}
-use Rattle.graph_model.specs.declared.batches.NamedOp.{NamedOp}
+use Rattle.graph_model.specs.{Graph.Graph, declared.batches.NamedOp.NamedOp}
 use Rattle.edge_block.specs.Slots.{BlockView}
 use Rattle.block_layout.specs.Batches.{Resolved, resolved}
 use Rattle.row_pages.specs.Rows.{row_of}
-use Rattle.graph_version.specs.Kept.{vertex_book, kind_book}
-use Rattle.graph_version.specs.Versions.{VersionView, content}
-use Rattle.batch_shards.specs.Done.{layout_by}
-use Rattle.batch_shards.specs.declared.shard.Shard.{Shard}
-use Rattle.batch_plan.specs.Plan.{shown, names_all, kinds_all, with_names}
-use Rattle.batch_plan.specs.Shards.{IsShardOf, latest}
-use Rattle.batch_plan.specs.OldRows.{AreOldRows, expiry_time}
-use Rattle.batch_plan.specs.declared.resolve.ResolvedOp.{ResolvedOp}
-use Rattle.batch_plan.proofs.Resolving.{as_many_shown}
-use Rattle.batch_plan.proofs.Leaving.{names_book, kinds_book}
+use Rattle.graph_version.specs.{Kept.vertex_book, Kept.kind_book, Versions.VersionView, Versions.content}
+use Rattle.batch_shards.specs.{Done.layout_by, declared.shard.Shard.Shard}
+use Rattle.batch_plan.specs.{Plan.shown, Plan.names_all, Plan.kinds_all, Plan.with_names, Shards.IsShardOf, Shards.latest}
+use Rattle.batch_plan.specs.{OldRows.AreOldRows, OldRows.expiry_time, declared.resolve.ResolvedOp.ResolvedOp}
+use Rattle.batch_plan.proofs.{Resolving.as_many_shown, Leaving.names_book, Leaving.kinds_book}
 use Rattle.batch_plan.proofs.Needs.{same_time, exact_needs, few_old_rows}
 use Rattle.batch_plan.proofs.planning.plan.Goals as goal
 

@@ -1,10 +1,7 @@
 use Rattle.std.proofs.Common.{◌≡◌, ◌-◌, ◌^◌, ℕ, List, [], ◌∷◌, ◌++◌, map, min, ap₂, sym, ◌∙◌}
 use Rattle.std.proofs.lemmas.List.{map-append}
-use Rattle.batch_shards.specs.Done.{layout_by, sources_in}
-use Rattle.batch_shards.specs.Spending.{needed}
-use Rattle.batch_shards.specs.declared.shard.Shard.{Shard}
-use Rattle.batch_plan.specs.Plan.{shown}
-use Rattle.batch_plan.specs.Shards.{IsShardOf}
+use Rattle.batch_shards.specs.{Done.layout_by, Done.sources_in, Spending.needed, declared.shard.Shard.Shard}
+use Rattle.batch_plan.specs.{Plan.shown, Shards.IsShardOf}
 use Rattle.batch_plan.proofs.Leaving.{one_more_shard}
 use Rattle.batch_plan.proofs.planning.shards_for.Goals as goal
 

@@ -1,11 +1,8 @@
 use Rattle.std.proofs.Common.{◌≡◌, ◌-◌, ◌^◌, ℕ, List, map, min}
 use Rattle.std.specs.List.{range_with_len, AllZip}
 use Rattle.edge_block.specs.Slots.{BlockView}
-use Rattle.batch_shards.specs.Done.{layout_by, sources_in}
-use Rattle.batch_shards.specs.Spending.{needed}
-use Rattle.batch_plan.specs.Plan.{shown}
-use Rattle.batch_plan.specs.Shards.{IsShardOf, latest}
-use Rattle.batch_plan.specs.OldRows.{AreOldRows}
+use Rattle.batch_shards.specs.{Done.layout_by, Done.sources_in, Spending.needed}
+use Rattle.batch_plan.specs.{Plan.shown, Shards.IsShardOf, Shards.latest, OldRows.AreOldRows}
 use Rattle.batch_plan.proofs.planning.shards_for.Given as goal
 
 abbrev pub invariant-loop-worker : goal.invariant-loop-worker

@@ -1,14 +1,10 @@
 use Rattle.std.proofs.Common.{◌≡◌, ◌∷◌, ◌++◌, ◌+◌, ℕ, List, [], map, append_assoc, drop, drop-cons, get_or, rules, sym, ap, ap₂}
-use Rattle.std.proofs.Common.{◌∙◌}
-use Rattle.std.proofs.lemmas.List.{map-append}
+use Rattle.std.proofs.{Common.◌∙◌, lemmas.List.map-append, lemmas.List.Elements.All-push}
 use Rattle.std.specs.declared.option.Option.TheVariants.{None}
-use Rattle.std.proofs.lemmas.List.Elements.{All-push}
 use Rattle.graph_model.specs.declared.batches.NamedOp.{NamedOp}
-use Rattle.block_layout.specs.Operations.{parts_of, kinds_after}
-use Rattle.block_layout.specs.Batches.{Resolved}
+use Rattle.block_layout.specs.{Operations.parts_of, Operations.kinds_after, Batches.Resolved}
 use Rattle.vertex_names.specs.Book.{Book}
-use Rattle.batch_plan.specs.declared.resolve.Ends.{Ends}
-use Rattle.batch_plan.specs.declared.resolve.ResolvedOp.{ResolvedOp}
+use Rattle.batch_plan.specs.declared.resolve.{Ends.Ends, ResolvedOp.ResolvedOp}
 use Rattle.batch_plan.specs.Plan.{kinds_all, shown, with_kind, with_kinds, with_names, IsInRange, IsRefusal}
 use Rattle.batch_plan.proofs.Names.{refused_kinds, err_then}
 use Rattle.batch_plan.proofs.resolve.with_kinds.Goals as goal

@@ -1,10 +1,8 @@
 use Rattle.std.proofs.Common.{◌≡◌, ◌-◌, ◌^◌, ◌<◌, ◌%◌, ◌==◌, ◌++◌, true, false, cond, ℕ, List, [], ◌∷◌, length, get_or, min, ap}
-use Rattle.std.proofs.Common.{sym, ◌∙◌, arith, nat_eq}
+use Rattle.std.proofs.{Common.sym, Common.◌∙◌, Common.arith, Common.nat_eq, lemmas.List.map-append}
 use Rattle.std.specs.List.{list_any}
-use Rattle.std.proofs.lemmas.List.{map-append}
 use Rattle.graph_model.specs.declared.ids.VertexId.{VertexId}
-use Rattle.batch_plan.specs.OldRows.{old_sources, blocks_in}
-use Rattle.batch_plan.specs.declared.old.OldRow.{OldRow}
+use Rattle.batch_plan.specs.{OldRows.old_sources, OldRows.blocks_in, declared.old.OldRow.OldRow}
 use Rattle.batch_plan.proofs.Growth.{same_number, other_number}
 use Rattle.batch_plan.proofs.Listing.{not_before, one_other, one_source, one_row}
 use Rattle.batch_plan.proofs.shards.list_old.Goals.{then-row-workers+in_ok-insert_full+in_ok-push, else-row-workers}

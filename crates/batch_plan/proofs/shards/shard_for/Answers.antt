@@ -1,29 +1,18 @@
 use Rattle.std.proofs.Common.{◌≡◌, ◌+◌, ◌-◌, ◌^◌, ◌<◌, true, false, ℕ, List, [], ◌∷◌, ◌++◌, length, map, get_or, take, min, cond, ap}
 use Rattle.std.proofs.Common.{sym, subst, ◌∙◌, arith}
 use mir.Val.{bool_byte}
-use Rattle.std.specs.Prelude.{pos, count_by, not, Bool, IfSome}
-use Rattle.std.specs.List.{sum_by}
-use Rattle.std.specs.declared.option.Option.{Option}
-use Rattle.std.specs.declared.option.Option.TheVariants.{None, Some}
-use Rattle.std.proofs.lemmas.List.{length-map, length-take-le, take_all, take_more, get_or-map}
-use Rattle.std.proofs.lemmas.List.Sums.{sum_by_push}
-use Rattle.graph_model.specs.declared.changes.EdgeChange.TheVariants.{Insert}
-use Rattle.graph_model.specs.declared.ids.VertexId.{VertexId}
+use Rattle.std.specs.{Prelude.pos, Prelude.count_by, Prelude.not, Prelude.Bool, Prelude.IfSome, List.sum_by}
+use Rattle.std.specs.declared.option.Option.{Option, TheVariants.None, TheVariants.Some}
+use Rattle.std.proofs.lemmas.List.{length-map, length-take-le, take_all, take_more, get_or-map, Sums.sum_by_push}
+use Rattle.graph_model.specs.declared.{changes.EdgeChange.TheVariants.Insert, ids.VertexId.VertexId}
 use Rattle.block_layout.specs.Batches.{Resolved, IsPlaced, is_in_shard}
-use Rattle.batch_shards.specs.Done.{layout_by}
-use Rattle.batch_shards.specs.Groups.{is_expiry}
-use Rattle.batch_shards.specs.Spending.{old_blocks, latest as latest_step}
-use Rattle.batch_shards.specs.declared.shard.Act.{Act}
-use Rattle.batch_shards.specs.declared.shard.Step.{Step}
-use Rattle.batch_plan.specs.Plan.{shown}
-use Rattle.batch_plan.specs.Shards.{AreShardSteps, is_old_row, latest}
+use Rattle.batch_shards.specs.{Done.layout_by, Groups.is_expiry, Spending.old_blocks, Spending.latest as latest_step}
+use Rattle.batch_shards.specs.declared.shard.{Act.Act, Step.Step}
+use Rattle.batch_plan.specs.{Plan.shown, Shards.AreShardSteps, Shards.is_old_row, Shards.latest}
 use Rattle.batch_plan.specs.OldRows.{own_rows, blocks_in, old_sources}
-use Rattle.batch_plan.specs.declared.old.OldRow.{OldRow}
-use Rattle.batch_plan.specs.declared.resolve.ResolvedOp.{ResolvedOp}
-use Rattle.batch_plan.specs.declared.resolve.ResolvedOp.TheVariants.{Edge}
-use Rattle.batch_plan.proofs.Growth.{passed, added, same_sum}
+use Rattle.batch_plan.specs.declared.{old.OldRow.OldRow, resolve.ResolvedOp.ResolvedOp, resolve.ResolvedOp.TheVariants.Edge}
+use Rattle.batch_plan.proofs.{Growth.passed, Growth.added, Growth.same_sum, Listing.sum_agrees}
 use Rattle.batch_plan.proofs.Listing.{is_listed, listed_blocks, not_listed, start, own_few, own_blocks, same_old, same_latest, listed_agrees}
-use Rattle.batch_plan.proofs.Listing.{sum_agrees}
 use Rattle.batch_plan.proofs.shards.shard_for.Goals.{then-is_in_shard+in_ok-act+in_ok-push, else-is_in_shard}
 use Rattle.batch_plan.proofs.shards.shard_for.Goals as goal
 

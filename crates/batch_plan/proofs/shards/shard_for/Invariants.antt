@@ -1,10 +1,7 @@
 use Rattle.std.proofs.Common.{◌≡◌, ◌+◌, ◌-◌, ◌^◌, ◌≤◌, length, map, min, take}
-use Rattle.std.specs.Prelude.{count_by, not, IfSome}
-use Rattle.std.specs.List.{sum_by}
+use Rattle.std.specs.{Prelude.count_by, Prelude.not, Prelude.IfSome, List.sum_by}
 use Rattle.batch_shards.specs.Groups.{is_expiry}
-use Rattle.batch_plan.specs.Plan.{shown}
-use Rattle.batch_plan.specs.Shards.{AreShardSteps}
-use Rattle.batch_plan.specs.OldRows.{own_rows, blocks_in}
+use Rattle.batch_plan.specs.{Plan.shown, Shards.AreShardSteps, OldRows.own_rows, OldRows.blocks_in}
 use Rattle.batch_plan.proofs.Listing.{is_listed, listed_blocks}
 use Rattle.batch_plan.proofs.shards.shard_for.Given as goal
 

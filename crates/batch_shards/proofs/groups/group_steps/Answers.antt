@@ -1,12 +1,8 @@
 use Rattle.std.proofs.Common.{◌≡◌, ◌-◌, ◌+◌, ◌<◌, ℕ, List, Some, None, get_or, length, sym, ap, ◌∙◌, subst, arith, rules, set}
-use Rattle.std.proofs.Math.ListN.{length-set}
-use Rattle.std.proofs.lemmas.Grind.{get_or_default_zero}
+use Rattle.std.proofs.{Math.ListN.length-set, lemmas.Grind.get_or_default_zero}
 use Rattle.batch_shards.specs.Groups.{is_at, AreGroups}
-use Rattle.batch_shards.specs.declared.shard.Act.TheVariants.{Edge, Expire}
-use Rattle.batch_shards.specs.declared.shard.Place.{Place}
-use Rattle.batch_shards.specs.declared.shard.Step.{Step}
-use Rattle.batch_shards.proofs.ShardSteps.{first_step}
-use Rattle.batch_shards.proofs.Upcoming.{groups_more, groups_pass}
+use Rattle.batch_shards.specs.declared.shard.{Act.TheVariants.Edge, Act.TheVariants.Expire, Place.Place, Step.Step}
+use Rattle.batch_shards.proofs.{ShardSteps.first_step, Upcoming.groups_more, Upcoming.groups_pass}
 use Rattle.batch_shards.proofs.groups.group_steps.Goals as goal
 
 -- the groups are those behind the place that the loop comes to

@@ -1,6 +1,5 @@
 use Rattle.std.proofs.Common.{◌≡◌, ◌-◌, ◌≤◌, ◌<◌, length, get_or, true}
-use Rattle.batch_shards.specs.Groups.{is_at}
-use Rattle.batch_shards.specs.declared.shard.Step.{Step}
+use Rattle.batch_shards.specs.{Groups.is_at, declared.shard.Step.Step}
 use Rattle.batch_shards.proofs.groups.targets_of.Given as goal
 
 abbrev pub invariant-loop-index : goal.invariant-loop-index

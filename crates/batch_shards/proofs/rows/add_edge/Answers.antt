@@ -1,16 +1,12 @@
 use Rattle.std.proofs.Common.{◌≡◌, true, get_or, length, arith, [], ◌∷◌, ◌++◌, sym, ap, ◌∙◌, subst, w64}
-use Rattle.std.specs.List.{position}
-use Rattle.std.specs.declared.option.Option.TheVariants.{None, Some}
+use Rattle.std.specs.{List.position, declared.option.Option.TheVariants.None, declared.option.Option.TheVariants.Some}
 use Rattle.std.proofs.lemmas.Int.{to_z-of_z}
 use Rattle.edge_block.specs.Slots.{Slot, has_room_for, edge_slot, put_slot}
 use Rattle.block_layout.specs.Rows.{touch}
 use Rattle.batch_shards.specs.RowBlocks.{block_of, open_of, had_here, numbers_of, own_here, HaveSame, IsTouched}
-use Rattle.batch_shards.specs.declared.row_blocks.RowBlock.{RowBlock}
-use Rattle.batch_shards.proofs.Places.{flat_map-set}
+use Rattle.batch_shards.specs.{declared.row_blocks.RowBlock.RowBlock, Notes.Gains, Room.IsFull}
+use Rattle.batch_shards.proofs.{Places.flat_map-set, Rooms.full_set, Rooms.full_before, Rooms.full_all}
 use Rattle.batch_shards.proofs.RowSteps.{at_room, weight_fits, put_into, put_last, room_is, room_within, row_numbers}
-use Rattle.batch_shards.specs.Notes.{Gains}
-use Rattle.batch_shards.specs.Room.{IsFull}
-use Rattle.batch_shards.proofs.Rooms.{full_set, full_before, full_all}
 use Rattle.batch_shards.proofs.Noting.{gains_put, gains_push, put_block_targets, new_block_targets}
 use Rattle.batch_shards.proofs.rows.add_edge.Goals as goal
 

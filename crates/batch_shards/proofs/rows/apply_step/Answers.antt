@@ -1,20 +1,14 @@
 use Rattle.std.proofs.Common.{◌≡◌, ◌<◌, List, true, sym, ap, ◌∙◌, subst, get_or, set, length}
-use Rattle.std.specs.List.{position}
-use Rattle.std.specs.Option.{is_some}
+use Rattle.std.specs.{List.position, Option.is_some}
 use Rattle.std.specs.declared.option.Option.TheVariants.{None, Some}
-use Rattle.graph_model.specs.Step.{stamp_after}
+use Rattle.graph_model.specs.{Step.stamp_after, Changes.option_stamp, Changes.stamp_in}
 use Rattle.edge_block.specs.Slots.{stamp_at}
 use Rattle.batch_shards.specs.RowBlocks.{block_of, opens, had_here, numbers_of, own_here, HaveSame, IsChanged}
-use Rattle.batch_shards.specs.declared.row_blocks.RowBlock.{RowBlock}
-use Rattle.graph_model.specs.Changes.{option_stamp, stamp_in}
-use Rattle.batch_shards.proofs.Places.{flat_map-set}
+use Rattle.batch_shards.specs.{declared.row_blocks.RowBlock.RowBlock, Notes.has_target, Room.IsRoom}
+use Rattle.batch_shards.proofs.{Places.flat_map-set, RowSteps.absent_edge, RowSteps.absent_puts, RowSteps.absent_stays}
 use Rattle.batch_shards.proofs.RowSteps.{at_edge, row_numbers, found_within, found_edge, found_some, found_changed, absent_any}
-use Rattle.batch_shards.proofs.RowSteps.{absent_edge, absent_puts, absent_stays}
 use Rattle.edge_block.proofs.Entries.{list_any-holds}
-use Rattle.batch_shards.specs.Notes.{has_target}
-use Rattle.batch_shards.specs.Room.{IsRoom}
-use Rattle.batch_shards.proofs.Noting.{noted_kept, changed_targets}
-use Rattle.batch_shards.proofs.Young.{none_at_start}
+use Rattle.batch_shards.proofs.{Noting.noted_kept, Noting.changed_targets, Young.none_at_start}
 use Rattle.batch_shards.proofs.rows.apply_step.Goals as goal
 
 pub change_here-requires-clause-edge : goal.change_here-requires-clause-edge

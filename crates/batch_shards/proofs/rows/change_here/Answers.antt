@@ -1,5 +1,4 @@
-use Rattle.std.proofs.Common.{rules, ◌≡◌, true, subst, w64}
-use Rattle.std.proofs.lemmas.Int.{to_z-of_z}
+use Rattle.std.proofs.{Common.rules, Common.◌≡◌, Common.true, Common.subst, Common.w64, lemmas.Int.to_z-of_z}
 use Rattle.edge_block.specs.Slots.{has_room_for}
 use Rattle.batch_shards.proofs.RowSteps.{stamped_at, weight_fits}
 use Rattle.edge_block.proofs.Room.{room_found}

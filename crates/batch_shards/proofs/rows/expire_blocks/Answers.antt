@@ -2,11 +2,8 @@ use Rattle.std.proofs.Common.{◌≡◌, ℕ, ◌<◌, List, refl, ap, ◌∙◌
 use Rattle.std.proofs.lemmas.List.{length-map}
 use Rattle.block_layout.specs.Rows.{OpenBlock, expire_block}
 use Rattle.batch_shards.specs.RowBlocks.{open_of, opens, had_here, numbers_of, own_here, HaveSame}
-use Rattle.batch_shards.specs.Spending.{unspent}
-use Rattle.batch_shards.specs.declared.row_blocks.RowBlock.{RowBlock}
-use Rattle.batch_shards.proofs.Places.{flat_map-set}
-use Rattle.batch_shards.proofs.RowSteps.{row_numbers}
-use Rattle.batch_shards.proofs.Expiring.{map_first_all}
+use Rattle.batch_shards.specs.{Spending.unspent, declared.row_blocks.RowBlock.RowBlock}
+use Rattle.batch_shards.proofs.{Places.flat_map-set, RowSteps.row_numbers, Expiring.map_first_all}
 use Rattle.batch_shards.proofs.ExpiringRows.{owes_here, set_here, count_here, few_here, all_set}
 use Rattle.batch_shards.proofs.rows.expire_blocks.Goals as goal
 

@@ -1,6 +1,5 @@
 use Rattle.std.proofs.Common.{take}
-use Rattle.batch_shards.proofs.RowSteps.{at_edge}
-use Rattle.batch_shards.proofs.Noting.{IsFirstOf}
+use Rattle.batch_shards.proofs.{RowSteps.at_edge, Noting.IsFirstOf}
 use Rattle.batch_shards.proofs.rows.first_place.Given as goal
 
 abbrev pub invariant-loop-place : goal.invariant-loop-place

@@ -1,7 +1,5 @@
 use Rattle.std.proofs.Common.{ap, arith}
-use Rattle.batch_shards.specs.RowBlocks.{opens}
-use Rattle.batch_shards.specs.Groups.{key_of}
-use Rattle.batch_shards.specs.Spending.{takes, time_of}
+use Rattle.batch_shards.specs.{RowBlocks.opens, Groups.key_of, Spending.takes, Spending.time_of}
 use Rattle.batch_shards.proofs.Expiring.{edge_owes}
 use Rattle.batch_shards.proofs.shard.do_act.Goals as goal
 

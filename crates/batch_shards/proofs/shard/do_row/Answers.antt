@@ -1,23 +1,13 @@
 use Rattle.std.proofs.Common.{◌≡◌, ℕ, ◌++◌, List, [], ◌∷◌, arith, ap, sym, subst, ap₂, ◌∙◌, map, length, get_or, count_by}
 use Rattle.std.proofs.lemmas.List.{get_or-map, length-map, map-append}
 use Rattle.graph_model.specs.declared.ids.VertexId.{VertexId}
-use Rattle.edge_block.specs.Slots.{BlockView}
-use Rattle.block_layout.specs.Rows.{OpenBlock, untouched, shape_of}
-use Rattle.block_layout.specs.Batches.{opened}
+use Rattle.edge_block.specs.{Slots.BlockView, declared.blocks.Block.Block}
+use Rattle.block_layout.specs.{Rows.OpenBlock, Rows.untouched, Rows.shape_of, Batches.opened}
 use Rattle.row_pages.specs.Rows.{row_of}
-use Rattle.batch_shards.specs.RowBlocks.{blocks_of, kept_of, opens}
-use Rattle.batch_shards.specs.Groups.{IsSourceRow}
-use Rattle.std.specs.declared.sync.Arc.{Arc}
-use Rattle.std.specs.declared.alloc.Global.{Global}
-use Rattle.std.specs.declared.vec.Vec.{Vec}
-use Rattle.edge_block.specs.declared.blocks.Block.{Block}
-use Rattle.batch_shards.specs.Shards.{AreSteps}
-use Rattle.batch_shards.specs.Closing.{row_values}
-use Rattle.batch_shards.specs.Done.{layout_by}
-use Rattle.batch_shards.specs.declared.shard.OpenRow.{OpenRow}
-use Rattle.batch_shards.proofs.Beginnings.{kept_all}
-use Rattle.batch_shards.proofs.SourceSteps.{past_more}
-use Rattle.batch_shards.proofs.Expiring.{opened_owes, needed_row}
+use Rattle.batch_shards.specs.{RowBlocks.blocks_of, RowBlocks.kept_of, RowBlocks.opens, Groups.IsSourceRow, Shards.AreSteps}
+use Rattle.std.specs.declared.{sync.Arc.Arc, alloc.Global.Global, vec.Vec.Vec}
+use Rattle.batch_shards.specs.{Closing.row_values, Done.layout_by, declared.shard.OpenRow.OpenRow}
+use Rattle.batch_shards.proofs.{Beginnings.kept_all, SourceSteps.past_more, Expiring.opened_owes, Expiring.needed_row}
 use Rattle.batch_shards.specs.Spending.{latest, unspent, old_blocks}
 use Rattle.batch_shards.proofs.SourceRows.{outcomes_more, row_done}
 use Rattle.batch_shards.proofs.shard.do_row.Goals as goal

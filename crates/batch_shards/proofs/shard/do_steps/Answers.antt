@@ -1,21 +1,13 @@
 use Rattle.std.proofs.Common.{◌≡◌, ℕ, ◌+◌, ◌-◌, ◌<◌, true, rules, arith, ap, sym, refl, subst, ◌∙◌, get_or, length, List, take}
-use Rattle.std.proofs.lemmas.Bool.{false≢true}
-use Rattle.std.proofs.lemmas.List.{get_or-set_other, get_or_default}
+use Rattle.std.proofs.lemmas.{Bool.false≢true, List.get_or-set_other, List.get_or_default, Grind.get_or_default_zero}
 use Rattle.std.proofs.Math.Seq.{map-set_same}
-use Rattle.std.proofs.lemmas.Grind.{get_or_default_zero}
-use Rattle.graph_model.specs.declared.ids.VertexId.{VertexId}
-use Rattle.batch_shards.specs.RowBlocks.{opens}
-use Rattle.graph_model.specs.declared.batches.Outcome.{Outcome}
-use Rattle.block_layout.specs.Batches.{rows_all, together}
+use Rattle.graph_model.specs.declared.{ids.VertexId.VertexId, batches.Outcome.Outcome}
+use Rattle.batch_shards.specs.{RowBlocks.opens, Groups.told, Groups.act_step, Groups.act_outcome, Shards.resolved_in}
+use Rattle.block_layout.specs.{Batches.rows_all, Batches.together, Rows.OpenBlock, Rows.old_in_row}
 use Rattle.batch_shards.specs.Groups.{is_at, is_expiry, is_later, does_act, may_change, IsNext, LeadsTo, IsSourceRow, IsOneMore}
-use Rattle.batch_shards.specs.Groups.{told, act_step, act_outcome}
-use Rattle.batch_shards.specs.Shards.{resolved_in}
-use Rattle.block_layout.specs.Rows.{OpenBlock, old_in_row}
-use Rattle.batch_shards.specs.Spending.{latest}
-use Rattle.batch_shards.specs.declared.shard.Act.{Act}
-use Rattle.batch_shards.proofs.ShardSteps.{first_step}
+use Rattle.batch_shards.specs.{Spending.latest, declared.shard.Act.Act}
+use Rattle.batch_shards.proofs.{ShardSteps.first_step, SourceSteps.earlier_next, SourceSteps.next_from, SourceSteps.edge_behind}
 use Rattle.batch_shards.proofs.SourceSteps.{stepped, outcome_here, left_alone, left_told, skipped_count, at_row, wrote, beside}
-use Rattle.batch_shards.proofs.SourceSteps.{earlier_next, next_from, edge_behind}
 use Rattle.batch_shards.proofs.Expiring.{not_later, spends_least}
 use Rattle.batch_shards.proofs.shard.do_steps.Goals as goal
 

@@ -1,13 +1,9 @@
 use Rattle.std.proofs.Common.{◌≡◌, ◌+◌, ◌-◌, ◌≤◌, ◌<◌, ℕ, List, All, length, get_or, map, take, count_by, vec_len, true, false}
-use Rattle.block_layout.specs.Rows.{OpenBlock}
-use Rattle.block_layout.specs.Batches.{rows_all}
+use Rattle.block_layout.specs.{Rows.OpenBlock, Batches.rows_all}
 use Rattle.graph_model.specs.declared.batches.Outcome.{Outcome}
 use Rattle.batch_shards.specs.RowBlocks.{opens, had_in, own_in, numbers_of, HaveSame, IsOf}
-use Rattle.batch_shards.specs.Room.{AreHints}
-use Rattle.batch_shards.specs.Shards.{resolved_in}
+use Rattle.batch_shards.specs.{Room.AreHints, Shards.resolved_in, Spending.latest, Spending.unspent, declared.shard.Step.Step}
 use Rattle.batch_shards.specs.Groups.{is_at, does_act, IsNext, IsSourceRow, IsOneMore, IsTold}
-use Rattle.batch_shards.specs.Spending.{latest, unspent}
-use Rattle.batch_shards.specs.declared.shard.Step.{Step}
 use Rattle.batch_shards.proofs.shard.do_steps.Given as goal
 
 abbrev pub invariant-loop-index : goal.invariant-loop-index

@@ -1,7 +1,5 @@
 use Rattle.std.proofs.Common.{List, subst, arith}
-use Rattle.batch_shards.specs.RowBlocks.{opens}
-use Rattle.batch_shards.specs.Notes.{IsNoted}
-use Rattle.batch_shards.specs.declared.row_blocks.RowBlock.{RowBlock}
+use Rattle.batch_shards.specs.{RowBlocks.opens, Notes.IsNoted, declared.row_blocks.RowBlock.RowBlock}
 use Rattle.batch_shards.proofs.Young.{none_at_start}
 use Rattle.batch_shards.proofs.shard.open_row.Goals as goal
 

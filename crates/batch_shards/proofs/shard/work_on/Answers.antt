@@ -1,21 +1,12 @@
 use Rattle.std.proofs.Common.{◌≡◌, ◌≤◌, ◌+◌, ℕ, List, map, refl, ap, sym, subst, ◌∙◌, arith, length, vec_len}
 use Rattle.std.proofs.lemmas.List.{length-map, map-append}
-use Rattle.edge_block.specs.Slots.{BlockView}
+use Rattle.edge_block.specs.{Slots.BlockView, declared.blocks.Block.Block}
 use Rattle.row_pages.specs.Rows.{row_of}
-use Rattle.batch_shards.specs.RowBlocks.{block_of, numbers_of}
-use Rattle.batch_shards.specs.Shards.{AreSteps}
-use Rattle.batch_shards.specs.Done.{sources_in}
-use Rattle.batch_shards.specs.Progress.{AreRowsDone}
-use Rattle.batch_shards.specs.Spending.{needed_past}
-use Rattle.batch_shards.specs.declared.shard.Step.{Step}
-use Rattle.graph_model.specs.declared.ids.VertexId.{VertexId}
-use Rattle.graph_model.specs.declared.batches.Outcome.{Outcome}
-use Rattle.batch_shards.specs.Groups.{none_told}
-use Rattle.std.specs.declared.sync.Arc.{Arc}
-use Rattle.std.specs.declared.alloc.Global.{Global}
-use Rattle.edge_block.specs.declared.blocks.Block.{Block}
-use Rattle.batch_shards.proofs.Beginnings.{few_past, none_yet}
-use Rattle.batch_shards.proofs.Finish.{finish}
+use Rattle.batch_shards.specs.{RowBlocks.block_of, RowBlocks.numbers_of, Shards.AreSteps, Done.sources_in, Progress.AreRowsDone}
+use Rattle.batch_shards.specs.{Spending.needed_past, declared.shard.Step.Step, Groups.none_told}
+use Rattle.graph_model.specs.declared.{ids.VertexId.VertexId, batches.Outcome.Outcome}
+use Rattle.std.specs.declared.{sync.Arc.Arc, alloc.Global.Global}
+use Rattle.batch_shards.proofs.{Beginnings.few_past, Beginnings.none_yet, Finish.finish}
 use Rattle.batch_shards.proofs.shard.work_on.Goals as goal
 
 pub loop-row-init : goal.loop-row-init

@@ -1,8 +1,6 @@
 use Rattle.std.proofs.Common.{◌≤◌, map, vec_len}
 use Rattle.row_pages.specs.Rows.{row_of}
-use Rattle.batch_shards.specs.RowBlocks.{numbers_of}
-use Rattle.batch_shards.specs.Spending.{needed_past}
-use Rattle.batch_shards.specs.Progress.{AreRowsDone}
+use Rattle.batch_shards.specs.{RowBlocks.numbers_of, Spending.needed_past, Progress.AreRowsDone}
 use Rattle.batch_shards.proofs.shard.work_on.Given as goal
 
 abbrev pub invariant-loop-row : goal.invariant-loop-row

@@ -1,5 +1,4 @@
-use Rattle.std.proofs.Common.{◌+◌, sym, subst, arith}
-use Rattle.std.proofs.lemmas.Grind.{common_steps}
+use Rattle.std.proofs.{Common.◌+◌, Common.sym, Common.subst, Common.arith, lemmas.Grind.common_steps}
 use Rattle.block_pool.specs.Bodies.{AreBodies}
 use Rattle.block_pool.proofs.BodyLaws.{bodies_more}
 use Rattle.block_pool.proofs.pool.blank_bodies.Goals as goal

@@ -1,15 +1,9 @@
 use Rattle.std.proofs.Common.{◌≡◌, ◌∙◌, ◌-◌, ◌++◌, ◌∷◌, [], ℕ, None, length, get_or, map, sym, ap, subst, arith}
 use Rattle.std.proofs.lemmas.List.{get_or_read, length-map, map-append}
-use Rattle.std.specs.Arc.{arc_value}
-use Rattle.std.specs.declared.sync.Arc.{Arc}
-use Rattle.std.specs.declared.alloc.Global.{Global}
+use Rattle.std.specs.{Arc.arc_value, declared.sync.Arc.Arc, declared.alloc.Global.Global}
 use Rattle.edge_block.specs.declared.blocks.Block.{Block}
-use Rattle.block_pool.specs.Pools.{is_free}
-use Rattle.block_pool.specs.Kept.{statuses, status_from, popped}
-use Rattle.block_pool.specs.Bodies.{AreBodies}
-use Rattle.block_pool.proofs.Tallies.{listed_at}
-use Rattle.block_pool.proofs.Grants.{popped_last}
-use Rattle.block_pool.proofs.BodyLaws.{bodies_set}
+use Rattle.block_pool.specs.{Pools.is_free, Kept.statuses, Kept.status_from, Kept.popped, Bodies.AreBodies}
+use Rattle.block_pool.proofs.{Tallies.listed_at, Grants.popped_last, BodyLaws.bodies_set}
 use Rattle.block_pool.proofs.pool.gather.Goals as goal
 
 abbrev number_of : Arc Block Global → ℕ

@@ -1,8 +1,7 @@
 use Rattle.std.proofs.Common.{◌≡◌, map, length}
 use Rattle.std.specs.Arc.{arc_value}
 use Rattle.edge_block.specs.declared.blocks.Block.{Block}
-use Rattle.block_pool.specs.Kept.{popped}
-use Rattle.block_pool.specs.Bodies.{AreBodies}
+use Rattle.block_pool.specs.{Kept.popped, Bodies.AreBodies}
 use Rattle.block_pool.proofs.pool.gather.Given as goal
 
 abbrev pub invariant-loop-i : goal.invariant-loop-i

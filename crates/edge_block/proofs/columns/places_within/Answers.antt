@@ -1,5 +1,4 @@
-use Rattle.std.proofs.Common.{arith, inl, inr}
-use Rattle.std.proofs.lemmas.Nat.Bits.{bit_at-zero}
+use Rattle.std.proofs.{Common.arith, Common.inl, Common.inr, lemmas.Nat.Bits.bit_at-zero}
 use Rattle.edge_block.proofs.Times.{window_misses, window_covers}
 use Rattle.edge_block.proofs.columns.places_within.Goals as goal
 

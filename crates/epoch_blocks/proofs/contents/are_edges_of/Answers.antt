@@ -1,8 +1,6 @@
 use Rattle.std.proofs.Common.{ap, sym, ◌∙◌, ◌&&◌, Bool, List, eqb, length}
-use Rattle.std.specs.List.{list_all}
-use Rattle.std.specs.FinMap.{get}
-use Rattle.graph_model.specs.Graph.{graph_of, key_of, stamp_of, map_of}
-use Rattle.graph_model.specs.declared.ids.Edge.{Edge}
+use Rattle.std.specs.{List.list_all, FinMap.get}
+use Rattle.graph_model.specs.{Graph.graph_of, Graph.key_of, Graph.stamp_of, Graph.map_of, declared.ids.Edge.Edge}
 use Rattle.epoch_blocks.specs.Posting as posting
 use Rattle.graph_model.proofs.Keys.{len_once}
 use Rattle.epoch_blocks.proofs.Edges.{Decides-edges}

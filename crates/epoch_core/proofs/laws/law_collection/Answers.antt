@@ -1,5 +1,4 @@
-use Rattle.epoch_core.proofs.Steps.{always_sound}
-use Rattle.epoch_core.proofs.Collected.{leaves_what_pins_need, leaves_none_unpinned}
+use Rattle.epoch_core.proofs.{Steps.always_sound, Collected.leaves_what_pins_need, Collected.leaves_none_unpinned}
 use Rattle.epoch_core.proofs.laws.law_collection.Goals as goal
 
 pub returns-clause-left : goal.returns-clause-left

@@ -1,6 +1,4 @@
-use Rattle.epoch_core.proofs.Steps.{always_sound}
-use Rattle.epoch_core.proofs.Sizes.{blocks_run}
-use Rattle.epoch_core.proofs.Epochs.{fills_no_held, pins_in_order, partition}
+use Rattle.epoch_core.proofs.{Steps.always_sound, Sizes.blocks_run, Epochs.fills_no_held, Epochs.pins_in_order, Epochs.partition}
 use Rattle.epoch_core.proofs.laws.law_epoch.Goals as goal
 
 pub returns-clause-fills : goal.returns-clause-fills

@@ -1,15 +1,10 @@
 use Rattle.std.proofs.Common.{◌≡◌, List, ◌∷◌, [], ◌++◌, sym, ap, subst, ◌∙◌}
-use Rattle.std.specs.Option.{option_map}
-use Rattle.std.specs.declared.option.Option.TheVariants.{Some}
+use Rattle.std.specs.{Option.option_map, declared.option.Option.TheVariants.Some}
 use Rattle.graph_model.specs.Graph.{IsContent}
-use Rattle.epoch_blocks.specs.declared.states.Version.{Version}
-use Rattle.epoch_blocks.specs.declared.states.Opening.{Opening}
-use Rattle.epoch_core.specs.Worlds.{HasContents}
-use Rattle.epoch_blocks.specs.Versions.{IsContentGraph}
+use Rattle.epoch_blocks.specs.{declared.states.Version.Version, declared.states.Opening.Opening, Versions.IsContentGraph}
+use Rattle.epoch_core.specs.{Worlds.HasContents, Cores.state_of}
 use Rattle.epoch_blocks.specs.Posting.{IsPlanOf, graph_after, last_content, version_by}
-use Rattle.epoch_core.specs.Cores.{state_of}
-use Rattle.epoch_core.proofs.Read.{last_is_content}
-use Rattle.epoch_core.proofs.Cores.{contents_posted}
+use Rattle.epoch_core.proofs.{Read.last_is_content, Cores.contents_posted}
 use Rattle.epoch_core.proofs.machine.post.Goals as goal
 
 pub plan_post-requires-clause-content : goal.plan_post-requires-clause-content

@@ -1,8 +1,6 @@
 use Rattle.std.proofs.Common.{sym, subst}
 use Rattle.std.specs.Prelude.{slice_index_or}
-use Rattle.epoch_core.specs.declared.states.SessionState.TheVariants.{Idle}
-use Rattle.epoch_core.specs.Machine.{ReadsContent}
-use Rattle.epoch_core.specs.Cores.{state_of}
+use Rattle.epoch_core.specs.{declared.states.SessionState.TheVariants.Idle, Machine.ReadsContent, Cores.state_of}
 use Rattle.epoch_core.proofs.Read.{reads_content}
 use Rattle.epoch_core.proofs.machine.reply_to.Goals as goal
 

@@ -1,7 +1,6 @@
 use Rattle.std.proofs.Common.{◌≡◌, ◌<◌, ◌+◌, ◌-◌, ◌^◌, List, [], ◌∷◌, ◌++◌, length, take, sym, ap, subst, ◌∙◌, arith}
 use Rattle.std.proofs.lemmas.List.{take_more}
-use Rattle.epoch_core.specs.declared.events.Event.{Event}
-use Rattle.epoch_core.specs.Runs.{Runs, count_of, done_in}
+use Rattle.epoch_core.specs.{declared.events.Event.Event, Runs.Runs, Runs.count_of, Runs.done_in}
 use Rattle.epoch_core.proofs.Cores.{runs_more, count_more, capped_more}
 use Rattle.epoch_core.proofs.machine.run.Goals as goal
 

@@ -1,6 +1,5 @@
 use Rattle.std.proofs.Common.{◌≡◌, take, true, ◌≤◌, length}
-use Rattle.std.specs.Char.{is_ascii_digit}
-use Rattle.std.specs.List.{list_all}
+use Rattle.std.specs.{Char.is_ascii_digit, List.list_all}
 use Rattle.feed_csv.specs.Number.{decimal_value}
 use Rattle.feed_csv.proofs.number.number.Given as goal
 

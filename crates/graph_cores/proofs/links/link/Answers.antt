@@ -1,7 +1,6 @@
 use Rattle.std.proofs.Common.{◌≡◌, ◌<◌, ◌+◌, ◌++◌, ◌∷◌, [], ℕ, List, arith, length, get_or, take, subst, sym, ap, ◌∙◌, refl}
 use Rattle.std.proofs.lemmas.List.{take_all}
-use Rattle.std.specs.declared.alloc.Global.{Global}
-use Rattle.std.specs.declared.vec.Vec.{Vec}
+use Rattle.std.specs.declared.{alloc.Global.Global, vec.Vec.Vec}
 use Rattle.graph_cores.proofs.LinkSteps.{LinkedSoFar, linked, not_linked}
 use Rattle.graph_cores.proofs.links.link.Goals as goal
 use Rattle.graph_cores.proofs.links.link.Goals.{then-target-source+in_ok-push+in_ok-push-2, else-target-source}

@@ -1,7 +1,6 @@
 use Rattle.std.proofs.Common.{arith, ◌∙◌, ap}
 use Rattle.graph_model.specs.Arcs.{at}
-use Rattle.graph_cores.proofs.RowSteps.{all_lengths}
-use Rattle.graph_cores.proofs.PeelSteps.{numbers_within, numbers_all}
+use Rattle.graph_cores.proofs.{RowSteps.all_lengths, PeelSteps.numbers_within, PeelSteps.numbers_all}
 use Rattle.graph_cores.proofs.peeling.peel.Goals as goal
 
 pub rounds-requires-clause-degrees : goal.rounds-requires-clause-degrees

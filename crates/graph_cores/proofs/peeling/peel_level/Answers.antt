@@ -1,12 +1,9 @@
 use Rattle.std.proofs.Common.{◌≡◌, ◌<◌, ◌≤◌, ◌+◌, ◌++◌, ◌∷◌, [], ℕ, List, arith, length, set, ◌∙◌, sym, ap, subst, false}
 use Rattle.std.specs.Prelude.{All, sum}
-use Rattle.std.proofs.lemmas.List.{length-append}
-use Rattle.std.proofs.lemmas.List.Elements.{All-contains, Contains-push}
+use Rattle.std.proofs.lemmas.List.{length-append, Elements.All-contains, Elements.Contains-push}
 use Rattle.graph_model.specs.Arcs.{at}
-use Rattle.graph_cores.specs.Rows.{row_of}
-use Rattle.graph_cores.specs.Peel.{lowered, IsPeeling}
-use Rattle.graph_cores.proofs.RowSteps.{row_within}
-use Rattle.graph_cores.proofs.Lowered.{lowered_sum, lowered_all, lowered_at}
+use Rattle.graph_cores.specs.{Rows.row_of, Peel.lowered, Peel.IsPeeling}
+use Rattle.graph_cores.proofs.{RowSteps.row_within, Lowered.lowered_sum, Lowered.lowered_all, Lowered.lowered_at}
 use Rattle.graph_cores.proofs.PeelSteps.{take_out, skip, front_low, still}
 use Rattle.graph_cores.proofs.peeling.peel_level.Goals as goal
 

@@ -1,10 +1,7 @@
 use Rattle.std.proofs.Common.{◌<◌, ◌≤◌, ◌+◌, ℕ, All, length}
 use Rattle.std.specs.Prelude.{sum, IsTrue}
-use Rattle.graph_model.specs.Graph.{Graph}
-use Rattle.graph_model.specs.Arcs.{AreNeighbors, at}
-use Rattle.graph_model.specs.declared.ids.Filter.{Filter}
-use Rattle.graph_cores.specs.Rows.{row_of}
-use Rattle.graph_cores.specs.Peel.{IsPeeling, is_alive}
+use Rattle.graph_model.specs.{Graph.Graph, Arcs.AreNeighbors, Arcs.at, declared.ids.Filter.Filter}
+use Rattle.graph_cores.specs.{Rows.row_of, Peel.IsPeeling, Peel.is_alive}
 use Rattle.graph_cores.proofs.peeling.peel_level.Given as goal
 
 abbrev pub invariant-loop-vertex : goal.invariant-loop-vertex

@@ -1,17 +1,10 @@
 use Rattle.std.proofs.Common.{◌≡◌, ◌<◌, ◌+◌, ◌++◌, [], ℕ, List, Bool, arith, length, inl, inr, ◌∙◌, sym, ap, subst, false}
-use Rattle.std.specs.Prelude.{All, IsTrue, filter}
-use Rattle.std.specs.List.{Contains}
-use Rattle.std.proofs.lemmas.Grind.{common_steps}
-use Rattle.std.proofs.lemmas.Bool.{cases_Bool}
-use Rattle.std.proofs.lemmas.List.Elements.{All-filter}
-use Rattle.std.proofs.lemmas.List.Sums.{count_by-le-length}
-use Rattle.std.specs.declared.alloc.Global.{Global}
-use Rattle.std.specs.declared.vec.Vec.{Vec}
+use Rattle.std.specs.{Prelude.All, Prelude.IsTrue, Prelude.filter, List.Contains}
+use Rattle.std.proofs.lemmas.{Grind.common_steps, Bool.cases_Bool, List.Elements.All-filter, List.Sums.count_by-le-length}
+use Rattle.std.specs.declared.{alloc.Global.Global, vec.Vec.Vec}
 use Rattle.graph_model.proofs.Counts.{Contains-nil}
-use Rattle.graph_cores.specs.Rows.{row_of}
-use Rattle.graph_cores.specs.Peel.{is_alive, is_low, is_high, IsPeeling, IsBetween}
-use Rattle.graph_cores.proofs.RowSteps.{row_within}
-use Rattle.graph_cores.proofs.PeelSteps.{round, after, none_left, first}
+use Rattle.graph_cores.specs.{Rows.row_of, Peel.is_alive, Peel.is_low, Peel.is_high, Peel.IsPeeling, Peel.IsBetween}
+use Rattle.graph_cores.proofs.{RowSteps.row_within, PeelSteps.round, PeelSteps.after, PeelSteps.none_left, PeelSteps.first}
 use Rattle.graph_cores.proofs.peeling.rounds.Goals as goal
 
 all_gone : (alive : List Bool) (n : ℕ) → ((v : ℕ) → IsTrue (is_alive alive v) → ⊥) → (v : ℕ) → v < n → is_alive alive v ≡ false

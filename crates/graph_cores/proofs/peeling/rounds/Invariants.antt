@@ -1,9 +1,6 @@
 use Rattle.std.proofs.Common.{◌≡◌, ◌<◌, All, [], length}
-use Rattle.graph_model.specs.Graph.{Graph}
-use Rattle.graph_model.specs.Arcs.{AreNeighbors}
-use Rattle.graph_model.specs.declared.ids.Filter.{Filter}
-use Rattle.graph_cores.specs.Rows.{row_of}
-use Rattle.graph_cores.specs.Peel.{IsBetween}
+use Rattle.graph_model.specs.{Graph.Graph, Arcs.AreNeighbors, declared.ids.Filter.Filter}
+use Rattle.graph_cores.specs.{Rows.row_of, Peel.IsBetween}
 use Rattle.graph_cores.proofs.peeling.rounds.Given as goal
 
 abbrev pub invariant-loop-k : goal.invariant-loop-k

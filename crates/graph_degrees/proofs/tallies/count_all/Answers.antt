@@ -1,10 +1,8 @@
 use Rattle.std.proofs.Common.{◌≡◌, ◌∙◌, ◌++◌, ◌+◌, ◌≤◌, List, length, ap, sym, subst, arith, pos}
 use Rattle.std.proofs.lemmas.List.{length-replicate}
-use Rattle.graph_model.specs.declared.ids.Degree.{Degree}
-use Rattle.graph_model.specs.declared.ids.Edge.{Edge}
+use Rattle.graph_model.specs.declared.ids.{Degree.Degree, Edge.Edge}
 use Rattle.edge_block.specs.Slots.{BlockView}
-use Rattle.row_pages.specs.Rows.{row_of}
-use Rattle.row_pages.specs.Sharing.{block_values}
+use Rattle.row_pages.specs.{Rows.row_of, Sharing.block_values}
 use Rattle.graph_version.specs.Versions.{content}
 use Rattle.graph_degrees.specs.Tallies.{shown_edges, IsCounted, AreViewEdges, Counts}
 use Rattle.graph_degrees.proofs.Whole.{blocks_below, below_within, shown_more, table_is}

@@ -1,13 +1,9 @@
 use Rattle.std.proofs.Common.{◌∙◌, ap, subst, sym, arith, w64}
 use Rattle.std.specs.Prelude.{All}
-use Rattle.std.proofs.lemmas.List.Elements.{All-head, All-tail}
-use Rattle.std.proofs.lemmas.Int.{to_z-of_z}
-use Rattle.edge_block.specs.Slots.{IsStamp}
-use Rattle.edge_block.specs.Lending.{LentEdge, lent_edge, edges_left}
+use Rattle.std.proofs.lemmas.{List.Elements.All-head, List.Elements.All-tail, Int.to_z-of_z}
+use Rattle.edge_block.specs.{Slots.IsStamp, Lending.LentEdge, Lending.lent_edge, Lending.edges_left}
 use Rattle.graph_degrees.specs.Tallies.{shown_block}
-use Rattle.graph_degrees.proofs.Blocks.{edges_lent, lent_block}
-use Rattle.graph_degrees.proofs.Counting.{weight_fits}
-use Rattle.graph_degrees.proofs.Parts.{begun_start, begun_end}
+use Rattle.graph_degrees.proofs.{Blocks.edges_lent, Blocks.lent_block, Counting.weight_fits, Parts.begun_start, Parts.begun_end}
 use Rattle.graph_degrees.proofs.Turns.{next_room, next_begun}
 use Rattle.graph_degrees.proofs.tallies.count_block.Goals as goal
 

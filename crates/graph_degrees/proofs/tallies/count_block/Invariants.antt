@@ -1,9 +1,7 @@
 use Rattle.std.specs.Prelude.{All}
-use Rattle.edge_block.specs.Slots.{IsStamp}
-use Rattle.edge_block.specs.Lending.{edges_left}
+use Rattle.edge_block.specs.{Slots.IsStamp, Lending.edges_left}
 use Rattle.graph_degrees.specs.Tallies.{shown_block}
-use Rattle.graph_degrees.proofs.Blocks.{edges_lent}
-use Rattle.graph_degrees.proofs.Parts.{IsBegun}
+use Rattle.graph_degrees.proofs.{Blocks.edges_lent, Parts.IsBegun}
 use Rattle.graph_degrees.proofs.tallies.count_block.Given as goal
 
 abbrev pub invariant-loop-edge : goal.invariant-loop-edge

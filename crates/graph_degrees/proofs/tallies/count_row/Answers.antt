@@ -1,13 +1,10 @@
 use Rattle.std.proofs.Common.{◌≡◌, ◌∙◌, ◌+◌, List, [], get_or, drop, ap, sym, subst, arith}
 use Rattle.std.proofs.lemmas.List.{drop_all}
-use Rattle.std.specs.declared.sync.Arc.{Arc}
-use Rattle.std.specs.declared.alloc.Global.{Global}
-use Rattle.edge_block.specs.Slots.{BlockView}
-use Rattle.edge_block.specs.declared.blocks.Block.{Block}
+use Rattle.std.specs.declared.{sync.Arc.Arc, alloc.Global.Global}
+use Rattle.edge_block.specs.{Slots.BlockView, declared.blocks.Block.Block}
 use Rattle.row_pages.specs.Sharing.{block_value, block_values}
 use Rattle.graph_degrees.specs.Tallies.{shown_block, shown_edges, HasRoomFor, Counts}
-use Rattle.graph_degrees.proofs.Blocks.{next_block}
-use Rattle.graph_degrees.proofs.Parts.{begun_room, begun_more, begun_end}
+use Rattle.graph_degrees.proofs.{Blocks.next_block, Parts.begun_room, Parts.begun_more, Parts.begun_end}
 use Rattle.graph_degrees.proofs.tallies.count_row.Goals as goal
 
 pub count_block-requires : goal.count_block-requires

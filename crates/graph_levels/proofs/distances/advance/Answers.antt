@@ -2,8 +2,7 @@ use Rattle.std.proofs.Common.{◌≡◌, ◌<◌, ◌+◌, ◌∷◌, List, Opti
 use Rattle.std.proofs.Common.{add-one}
 use Rattle.std.specs.Prelude.{All}
 use Rattle.graph_model.specs.Analyses.{LeadsTo}
-use Rattle.graph_levels.specs.Search.{IsSearch, IsReached, unreached}
-use Rattle.graph_levels.specs.Visit.{visited}
+use Rattle.graph_levels.specs.{Search.IsSearch, Search.IsReached, Search.unreached, Visit.visited}
 use Rattle.graph_levels.proofs.Targets.{told, each_target}
 use Rattle.graph_levels.proofs.Frontiers.{Visited, visit_all, visited_count, done}
 use Rattle.graph_levels.proofs.distances.advance.Goals as goal

@@ -1,6 +1,5 @@
 use Rattle.std.proofs.Common.{◌≡◌, ◌<◌, ◌∷◌, [], Some, arith, length, ◌∙◌, sym, ap, set, subst}
-use Rattle.std.proofs.lemmas.Grind.{common_steps}
-use Rattle.std.proofs.lemmas.List.{length-replicate, length-set}
+use Rattle.std.proofs.lemmas.{Grind.common_steps, List.length-replicate, List.length-set}
 use Rattle.graph_levels.specs.Search.{IsSearch}
 use Rattle.graph_levels.proofs.Frontiers.{begin, begin_count, deeper, found}
 use Rattle.graph_levels.proofs.distances.search.Goals as goal

@@ -1,7 +1,6 @@
 use Rattle.std.proofs.Common.{◌≡◌, ◌++◌, ◌∙◌, List, map, ap, rules}
 use Rattle.graph_model.specs.declared.ids.Edge.{Edge}
-use Rattle.edge_block.specs.Lending.{edges_left}
-use Rattle.edge_block.specs.declared.blocks.BlockIter.{BlockIter}
+use Rattle.edge_block.specs.{Lending.edges_left, declared.blocks.BlockIter.BlockIter}
 use Rattle.graph_version.proofs.Rebased.{edge_lent, lent_edges}
 use Rattle.graph_version.proofs.rebase.push_edges.Goals as goal
 

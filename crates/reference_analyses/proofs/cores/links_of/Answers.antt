@@ -1,6 +1,4 @@
-use Rattle.std.proofs.Common.{◌∙◌, ap, rules}
-use Rattle.std.proofs.lemmas.Fn.{filter_same}
-use Rattle.std.proofs.lemmas.List.Filters.{dedup_is}
+use Rattle.std.proofs.{Common.◌∙◌, Common.ap, Common.rules, lemmas.Fn.filter_same, lemmas.List.Filters.dedup_is}
 use Rattle.graph_model.specs.Arcs.{two_way}
 use Rattle.reference_analyses.proofs.Links.{is_proper, links_made, links_within}
 use Rattle.reference_analyses.proofs.cores.links_of.Goals as goal

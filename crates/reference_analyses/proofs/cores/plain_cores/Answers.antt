@@ -1,12 +1,7 @@
 use Rattle.std.proofs.Common.{◌≡◌, ◌<◌, ◌≤◌, ◌⊎◌, ℕ, suc, length, ◌∙◌, sym, ap, List, subst, drop}
-use Rattle.std.specs.Prelude.{All, count_by, replicate}
-use Rattle.std.specs.declared.alloc.Global.{Global}
-use Rattle.std.specs.declared.vec.Vec.{Vec}
-use Rattle.std.proofs.lemmas.List.{take_at, length-replicate}
-use Rattle.std.proofs.lemmas.Result.{IfOk-weaker}
-use Rattle.graph_model.specs.Graph.{graph_of}
-use Rattle.graph_model.specs.Analyses.{AreCoreNumbers}
-use Rattle.graph_model.specs.Arcs.{at, AreUpper}
+use Rattle.std.specs.{Prelude.All, Prelude.count_by, Prelude.replicate, declared.alloc.Global.Global, declared.vec.Vec.Vec}
+use Rattle.std.proofs.lemmas.{List.take_at, List.length-replicate, Result.IfOk-weaker}
+use Rattle.graph_model.specs.{Graph.graph_of, Analyses.AreCoreNumbers, Arcs.at, Arcs.AreUpper}
 use Rattle.reference_analyses.specs.Links.{supports}
 use Rattle.reference_analyses.proofs.Links.{joined_within, first_upper, more_upper, cores_done, cores_few}
 use Rattle.reference_analyses.proofs.cores.plain_cores.Goals as goal

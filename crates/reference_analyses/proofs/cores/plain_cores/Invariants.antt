@@ -1,7 +1,6 @@
 use Rattle.std.proofs.Common.{◌≡◌, length}
 use Rattle.std.specs.Prelude.{sum}
-use Rattle.graph_model.specs.Graph.{graph_of}
-use Rattle.graph_model.specs.Arcs.{AreUpper}
+use Rattle.graph_model.specs.{Graph.graph_of, Arcs.AreUpper}
 use Rattle.reference_analyses.proofs.cores.plain_cores.Given as goal
 
 abbrev pub invariant-rounds : goal.invariant-rounds

@@ -1,5 +1,4 @@
-use Rattle.std.proofs.Common.{ℕ, ◌<◌, length, get_or, arith}
-use Rattle.std.proofs.lemmas.List.{get_or_default}
+use Rattle.std.proofs.{Common.ℕ, Common.◌<◌, Common.length, Common.get_or, Common.arith, lemmas.List.get_or_default}
 use Rattle.reference_analyses.proofs.Rounds.{count_room}
 use Rattle.reference_analyses.proofs.cores.supports.Goals as goal
 

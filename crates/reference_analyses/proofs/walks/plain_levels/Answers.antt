@@ -1,11 +1,7 @@
 use Rattle.std.proofs.Common.{◌≡◌, length, map, ◌∙◌, sym, ap, ℕ, List, subst, drop, Option}
-use Rattle.std.specs.declared.alloc.Global.{Global}
-use Rattle.std.specs.declared.vec.Vec.{Vec}
-use Rattle.std.proofs.lemmas.List.{take_at}
-use Rattle.std.proofs.lemmas.Result.{IfOk-weaker}
-use Rattle.graph_model.specs.Graph.{graph_of}
-use Rattle.graph_model.specs.Analyses.{AreLevels}
-use Rattle.graph_model.specs.Arcs.{level_start, level_of}
+use Rattle.std.specs.declared.{alloc.Global.Global, vec.Vec.Vec}
+use Rattle.std.proofs.lemmas.{List.take_at, Result.IfOk-weaker}
+use Rattle.graph_model.specs.{Graph.graph_of, Analyses.AreLevels, Arcs.level_start, Arcs.level_of}
 use Rattle.reference_analyses.proofs.Tables.{levels_within, levels_few, levels_done}
 use Rattle.reference_analyses.proofs.walks.plain_levels.Goals as goal
 

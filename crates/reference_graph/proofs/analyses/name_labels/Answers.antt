@@ -1,9 +1,7 @@
 use Rattle.std.proofs.Common.{◌≡◌, ◌<◌, length, sym, subst, ◌∙◌, ◌++◌, ◌∷◌, [], arith}
-use Rattle.std.proofs.lemmas.List.{length_push, length-map}
-use Rattle.std.proofs.lemmas.Slice.Zip.{zip_turn, zip_end}
+use Rattle.std.proofs.lemmas.{List.length_push, List.length-map, Slice.Zip.zip_turn, Slice.Zip.zip_end}
 use Rattle.graph_model.specs.Answer.{names_of}
-use Rattle.reference_graph.proofs.ZippedRows.{rows_more, rows_all}
-use Rattle.reference_graph.proofs.AnalysisReplies.{label_turn}
+use Rattle.reference_graph.proofs.{ZippedRows.rows_more, ZippedRows.rows_all, AnalysisReplies.label_turn}
 use Rattle.reference_graph.proofs.analyses.name_labels.Goals as goal
 
 pub loop-name-preserved : goal.loop-name-preserved

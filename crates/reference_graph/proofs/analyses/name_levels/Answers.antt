@@ -1,11 +1,8 @@
 use Rattle.std.proofs.Common.{take, length, ap, ◌∙◌}
-use Rattle.std.specs.Prelude.{zip}
-use Rattle.std.specs.List.{filter_map}
-use Rattle.std.proofs.lemmas.List.{length_push}
-use Rattle.std.proofs.lemmas.Slice.Zip.{zip_turn, zip_end}
+use Rattle.std.specs.{Prelude.zip, List.filter_map}
+use Rattle.std.proofs.lemmas.{List.length_push, Slice.Zip.zip_turn, Slice.Zip.zip_end}
 use Rattle.graph_model.specs.Answer.{level_row}
-use Rattle.reference_graph.proofs.ZippedRows.{rows_all}
-use Rattle.reference_graph.proofs.AnalysisReplies.{level_rows_more}
+use Rattle.reference_graph.proofs.{ZippedRows.rows_all, AnalysisReplies.level_rows_more}
 use Rattle.reference_graph.proofs.analyses.name_levels.Goals as goal
 
 pub loop-name-preserved : goal.loop-name-preserved

@@ -1,7 +1,6 @@
 use Rattle.std.proofs.Common.{◌<◌, ◌∙◌, ℕ, List, length, sym, subst, inr}
 use Rattle.std.specs.Prelude.{All, zip}
-use Rattle.graph_model.specs.Graph.{graph_of}
-use Rattle.graph_model.specs.Answer.{names_of}
+use Rattle.graph_model.specs.{Graph.graph_of, Answer.names_of}
 use Rattle.reference_graph.proofs.AnalysisReplies.{labels_below, labels_answer}
 use Rattle.reference_graph.proofs.analyses.reply_labels.Goals as goal
 

@@ -1,9 +1,7 @@
 -- What one operation exceeds, all of them exceed.
-use Rattle.std.proofs.Common.{subst}
-use Rattle.std.proofs.lemmas.Result.{err_from_is_err_and}
+use Rattle.std.proofs.{Common.subst, lemmas.Result.err_from_is_err_and}
 use Rattle.graph_model.specs.Graph.{graph_of}
-use Rattle.reference_graph.specs.Drafts.{shown_by}
-use Rattle.reference_graph.specs.Refusals.{Exceeds}
+use Rattle.reference_graph.specs.{Drafts.shown_by, Refusals.Exceeds}
 use Rattle.reference_graph.proofs.BatchRefusals.{Exceeds-drop}
 use Rattle.reference_graph.proofs.apply.apply_ops.Goals as goal
 

@@ -1,7 +1,6 @@
 -- The outcomes so far and those of the operations that are left are those of all, and these leave what all leave.
 use Rattle.std.proofs.Common.{◌≡◌, ◌++◌, drop}
-use Rattle.graph_model.specs.Graph.{graph_of, IsContent}
-use Rattle.graph_model.specs.Step.{after_all, outcomes}
+use Rattle.graph_model.specs.{Graph.graph_of, Graph.IsContent, Step.after_all, Step.outcomes}
 use Rattle.reference_graph.specs.Drafts.{shown_by}
 use Rattle.reference_graph.proofs.apply.apply_ops.Given as goal
 

@@ -1,9 +1,7 @@
 -- The names that are left are counted once more.
 use Rattle.std.proofs.Common.{◌≤◌, length, sym, ap, subst, ◌∙◌}
-use Rattle.graph_model.specs.Graph.{graph_of}
-use Rattle.graph_model.specs.Limits.{name_limit}
-use Rattle.reference_graph.specs.Drafts.{names_left}
-use Rattle.reference_graph.specs.Refusals.{Refuses, IsNamesRefusal}
+use Rattle.graph_model.specs.{Graph.graph_of, Limits.name_limit}
+use Rattle.reference_graph.specs.{Drafts.names_left, Refusals.Refuses, Refusals.IsNamesRefusal}
 use Rattle.reference_graph.proofs.BatchRefusals.{names_fit, Refuses-names}
 use Rattle.reference_graph.proofs.apply.kinds_refusal.Goals as goal
 use Rattle.reference_graph.proofs.apply.kinds_refusal.Goals.{in-Ok, in-Err}

@@ -1,6 +1,5 @@
 -- What `retain` keeps is a filter.
-use Rattle.std.proofs.Common.{not, rules}
-use Rattle.std.proofs.lemmas.Fn.{filter_same}
+use Rattle.std.proofs.{Common.not, Common.rules, lemmas.Fn.filter_same}
 use Rattle.graph_model.specs.Graph.{has_key}
 use Rattle.reference_graph.specs.Drafts.{shown_key}
 use Rattle.reference_graph.proofs.edges.clear_at.Goals as goal

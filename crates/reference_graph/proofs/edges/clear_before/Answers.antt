@@ -1,6 +1,5 @@
 -- What `retain` keeps is a filter.
-use Rattle.std.proofs.Common.{not, rules, ◌<◌, ◌≤◌}
-use Rattle.std.proofs.lemmas.Fn.{filter_same}
+use Rattle.std.proofs.{Common.not, Common.rules, Common.◌<◌, Common.◌≤◌, lemmas.Fn.filter_same}
 use Rattle.graph_model.specs.Step.{was_before}
 use Rattle.reference_graph.proofs.edges.clear_before.Goals as goal
 

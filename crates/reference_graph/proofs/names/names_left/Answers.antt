@@ -1,6 +1,5 @@
 -- The names that one operation makes are among those that are left in the end.
-use Rattle.std.proofs.Common.{◌≤◌, length, subst}
-use Rattle.std.proofs.lemmas.Result.{err_from_is_err_and}
+use Rattle.std.proofs.{Common.◌≤◌, Common.length, Common.subst, lemmas.Result.err_from_is_err_and}
 use Rattle.reference_graph.specs.Drafts.{names_after, names_left}
 use Rattle.reference_graph.proofs.BatchRefusals.{IsNamesRefusal-more, length-names_left-drop}
 use Rattle.reference_graph.proofs.names.names_left.Goals as goal

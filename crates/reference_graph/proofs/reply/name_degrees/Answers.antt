@@ -1,6 +1,5 @@
 use Rattle.std.proofs.Common.{ap, ◌∙◌, ◌++◌, ◌∷◌, []}
-use Rattle.std.proofs.lemmas.List.{length_push}
-use Rattle.std.proofs.lemmas.Slice.Zip.{zip_turn, zip_end}
+use Rattle.std.proofs.lemmas.{List.length_push, Slice.Zip.zip_turn, Slice.Zip.zip_end}
 use Rattle.reference_graph.proofs.ZippedRows.{rows_more, rows_all}
 use Rattle.reference_graph.proofs.reply.name_degrees.Goals as goal
 

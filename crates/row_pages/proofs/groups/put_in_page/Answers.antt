@@ -1,11 +1,7 @@
 use Rattle.std.proofs.Common.{◌≡◌, ◌∙◌, ◌/◌, ◌%◌, inl, inr, ap, List, set, get_or, rules, arith}
-use Rattle.std.specs.Result.{IsOk}
-use Rattle.std.specs.declared.sync.Arc.{Arc}
-use Rattle.std.specs.declared.alloc.Global.{Global}
+use Rattle.std.specs.{Result.IsOk, declared.sync.Arc.Arc, declared.alloc.Global.Global}
 use Rattle.edge_block.specs.Slots.{BlockView}
-use Rattle.row_pages.specs.Sharing.{row_values}
-use Rattle.row_pages.specs.Pages.{in_page}
-use Rattle.row_pages.specs.declared.pages.Page.{Page}
+use Rattle.row_pages.specs.{Sharing.row_values, Pages.in_page, declared.pages.Page.Page}
 use Rattle.list_pieces.proofs.Full.{set_piece}
 use Rattle.std.proofs.lemmas.Result.{on_ok_weaker}
 use Rattle.row_pages.proofs.groups.put_in_page.Goals as goal

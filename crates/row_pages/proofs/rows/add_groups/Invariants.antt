@@ -1,6 +1,5 @@
 use Rattle.std.proofs.Common.{◌≡◌, ◌-◌, ◌≤◌, ◌^◌, ℕ, length}
-use Rattle.row_pages.specs.Rows.{row_of}
-use Rattle.row_pages.specs.Groups.{in_groups, AreGroups}
+use Rattle.row_pages.specs.{Rows.row_of, Groups.in_groups, Groups.AreGroups}
 use Rattle.row_pages.proofs.rows.add_groups.Given as goal
 
 abbrev pub invariant-loop-alloc : goal.invariant-loop-alloc

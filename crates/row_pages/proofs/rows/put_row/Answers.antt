@@ -1,15 +1,9 @@
 use Rattle.std.proofs.Common.{◌≡◌, ◌∙◌, ◌+◌, ◌/◌, ◌%◌, ◌<◌, ◌≤◌, ◌==◌, [], inl, inr, ap, List, length, set, get_or, rules, arith}
-use Rattle.std.proofs.Common.{if◌then◌else◌}
-use Rattle.std.specs.Result.{IsOk}
-use Rattle.std.specs.declared.sync.Arc.{Arc}
-use Rattle.std.specs.declared.alloc.Global.{Global}
+use Rattle.std.proofs.{Common.if◌then◌else◌, lemmas.Result.on_ok_weaker}
+use Rattle.std.specs.{Result.IsOk, declared.sync.Arc.Arc, declared.alloc.Global.Global}
 use Rattle.edge_block.specs.Slots.{BlockView}
-use Rattle.row_pages.specs.Rows.{row_of}
-use Rattle.row_pages.specs.Sharing.{row_values}
-use Rattle.row_pages.specs.Groups.{in_group, in_groups}
-use Rattle.row_pages.specs.declared.groups.Group.{Group}
+use Rattle.row_pages.specs.{Rows.row_of, Sharing.row_values, Groups.in_group, Groups.in_groups, declared.groups.Group.Group}
 use Rattle.list_pieces.proofs.Full.{long, set_piece, set_look_up}
-use Rattle.std.proofs.lemmas.Result.{on_ok_weaker}
 use Rattle.row_pages.proofs.rows.put_row.Goals as goal
 
 pub returns-clause-rows : goal.returns-clause-rows

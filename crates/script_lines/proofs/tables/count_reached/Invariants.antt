@@ -1,6 +1,5 @@
 use Rattle.std.proofs.Common.{◌≡◌, ◌≤◌, length, take}
-use Rattle.std.specs.Prelude.{zip}
-use Rattle.std.specs.List.{filter_map}
+use Rattle.std.specs.{Prelude.zip, List.filter_map}
 use Rattle.graph_model.specs.Answer.{level_row}
 use Rattle.script_lines.proofs.tables.count_reached.Given as goal
 

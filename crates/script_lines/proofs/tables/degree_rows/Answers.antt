@@ -1,5 +1,4 @@
-use Rattle.std.proofs.Common.{◌<◌, [], length, arith, string_bytes}
-use Rattle.std.proofs.lemmas.List.{get_or_default}
+use Rattle.std.proofs.{Common.◌<◌, Common.[], Common.length, Common.arith, Common.string_bytes, lemmas.List.get_or_default}
 use Rattle.script_lines.specs.Lines.{degree_line}
 use Rattle.script_lines.proofs.TableRows.{lines_all, lines_more}
 use Rattle.script_lines.proofs.tables.degree_rows.Goals as goal

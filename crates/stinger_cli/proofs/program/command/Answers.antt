@@ -1,10 +1,8 @@
 use Rattle.std.proofs.Common.{◌≡◌, ◌∙◌, ◌&&◌, [], Bool, ap, ap₂, codes, false, refl, rules, true}
 use Rattle.std.specs.Prelude.{is_some, not}
 use Rattle.std.proofs.lemmas.Result.{IfOk-weaker}
-use Rattle.clap.specs.Simple.{App, app_of, new_shape, with_subcommand}
-use Rattle.clap.specs.Walk.{is_empty}
-use Rattle.clap.specs.declared.builder.command.Command.{Command}
-use Rattle.clap.specs.declared.builder.command.Command.TheViews.{out-Command}
+use Rattle.clap.specs.{Simple.App, Simple.app_of, Simple.new_shape, Simple.with_subcommand, Walk.is_empty}
+use Rattle.clap.specs.declared.builder.command.Command.{Command, TheViews.out-Command}
 use Rattle.stinger_cli.proofs.program.command.Goals as goal
 
 abbrev top_app : App

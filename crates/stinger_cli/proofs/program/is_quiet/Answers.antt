@@ -1,9 +1,6 @@
 use Rattle.std.proofs.Common.{◌≡◌, ◌∙◌, ap, codes, false, rules, sym}
-use Rattle.std.specs.Prelude.{None, Some, option_map}
-use Rattle.std.specs.Option.{option_map_or}
-use Rattle.std.specs.Str.{bytes_eq}
-use Rattle.clap.specs.Matches.{first_value}
-use Rattle.clap.specs.Words.{found_of, rows_of, subcommand_rows_of}
+use Rattle.std.specs.{Prelude.None, Prelude.Some, Prelude.option_map, Option.option_map_or, Str.bytes_eq}
+use Rattle.clap.specs.{Matches.first_value, Words.found_of, Words.rows_of, Words.subcommand_rows_of}
 use Rattle.stinger_cli.proofs.Options.{quiet_met}
 use Rattle.stinger_cli.proofs.program.is_quiet.Goals as goal
 

@@ -1,5 +1,4 @@
-use Rattle.std.proofs.Common.{◌≡◌, ◌∙◌, ap₂, codes, rules}
-use Rattle.std.proofs.lemmas.Result.{IfOk-weaker}
+use Rattle.std.proofs.{Common.◌≡◌, Common.◌∙◌, Common.ap₂, Common.codes, Common.rules, lemmas.Result.IfOk-weaker}
 use Rattle.clap.specs.Simple.{app_of, new_app, with_rule}
 use Rattle.stinger_cli.proofs.program.run_command.Goals as goal
 

@@ -1,6 +1,5 @@
 use Rattle.std.proofs.Common.{rules}
-use Rattle.stinger_server.proofs.Flushed.{all_of_it}
-use Rattle.stinger_server.proofs.Writing.{on_err}
+use Rattle.stinger_server.proofs.{Flushed.all_of_it, Writing.on_err}
 use Rattle.stinger_server.proofs.output.put_flushed.Goals as goal
 
 pub returns-clause-flushed : goal.returns-clause-flushed

@@ -1,5 +1,4 @@
-use Rattle.stinger_server.proofs.RunEnd.{flushed_there}
-use Rattle.stinger_server.proofs.RunTexts.{from_run, never_started}
+use Rattle.stinger_server.proofs.{RunEnd.flushed_there, RunTexts.from_run, RunTexts.never_started}
 use Rattle.stinger_server.proofs.script.run_script.Goals as goal
 
 pub returns-in-Err-clause-text : goal.returns-in-Err-clause-text

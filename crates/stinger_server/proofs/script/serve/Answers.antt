@@ -1,5 +1,4 @@
-use Rattle.std.proofs.Common.{ap, arith, rules}
-use Rattle.std.proofs.lemmas.Grind.{common_steps}
+use Rattle.std.proofs.{Common.ap, Common.arith, Common.rules, lemmas.Grind.common_steps}
 use Rattle.stinger_server.proofs.RunTexts.{from_bytes}
 use Rattle.stinger_server.proofs.script.serve.Goals as goal
 

@@ -1,7 +1,5 @@
-use Rattle.std.proofs.Common.{rules, arith, inl}
-use Rattle.std.proofs.lemmas.Grind.{common_steps}
-use Rattle.stinger_server.proofs.RunEnd.{turn_broken}
-use Rattle.stinger_server.proofs.OneRecord.{breaks_refused, fault_row, refused}
+use Rattle.std.proofs.{Common.rules, Common.arith, Common.inl, lemmas.Grind.common_steps}
+use Rattle.stinger_server.proofs.{RunEnd.turn_broken, OneRecord.breaks_refused, OneRecord.fault_row, OneRecord.refused}
 use Rattle.stinger_server.proofs.script.turn.Goals as goal
 
 pub returns-in-Ok-clause-turns : goal.returns-in-Ok-clause-turns

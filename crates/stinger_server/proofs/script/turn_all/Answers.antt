@@ -1,7 +1,6 @@
 use Rattle.std.proofs.Common.{refl, ◌∙◌}
-use Rattle.stinger_server.proofs.RunEnd.{cause_ended, cause_stopped}
+use Rattle.stinger_server.proofs.{RunEnd.cause_ended, RunEnd.cause_stopped, RunTexts.all_ended, RunTexts.all_stopped}
 use Rattle.stinger_server.proofs.RunSoFar.{reaches_more, reaches_nothing, ready_more}
-use Rattle.stinger_server.proofs.RunTexts.{all_ended, all_stopped}
 use Rattle.stinger_server.proofs.script.turn_all.Goals as goal
 
 pub records-init : goal.records-init

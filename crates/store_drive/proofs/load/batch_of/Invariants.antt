@@ -1,6 +1,5 @@
 use Rattle.std.proofs.Common.{◌≡◌}
-use Rattle.std.specs.Prelude.{map}
-use Rattle.std.specs.List.{range_with_len}
+use Rattle.std.specs.{Prelude.map, List.range_with_len}
 use Rattle.store_drive.specs.Load.{operation_at}
 use Rattle.store_drive.proofs.load.batch_of.Given as goal
 

@@ -1,9 +1,7 @@
 -- What the session answers and what the plain function does are the answer over one graph.
 use Rattle.std.proofs.Common.{◌≡◌, ◌⊎◌, ◌∙◌, sym, subst}
 use Rattle.std.specs.Prelude.{Err}
-use Rattle.graph_model.specs.Graph.{Graph}
-use Rattle.graph_model.specs.Answer.{IsAnswer}
-use Rattle.graph_model.specs.declared.requests.AskError.TheVariants.{OutOfMemory}
+use Rattle.graph_model.specs.{Graph.Graph, Answer.IsAnswer, declared.requests.AskError.TheVariants.OutOfMemory}
 use Rattle.stream_store.specs.Seats.{held_graph}
 use Rattle.store_drive.proofs.Agreeing.{agree}
 use Rattle.store_drive.proofs.readers.check.Goals as goal

@@ -1,6 +1,4 @@
-use Rattle.store_steps.proofs.CollectedDesk.{collected_is_desk}
-use Rattle.store_steps.proofs.Collecting.{collected_takes}
-use Rattle.store_steps.proofs.StatusCounts.{collected_counts}
+use Rattle.store_steps.proofs.{CollectedDesk.collected_is_desk, Collecting.collected_takes, StatusCounts.collected_counts}
 use Rattle.store_steps.proofs.laws.law_collected.Goals as goal
 
 pub returns-clause-desk : goal.returns-clause-desk

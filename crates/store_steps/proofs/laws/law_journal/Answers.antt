@@ -1,5 +1,4 @@
-use Rattle.store_steps.proofs.Accepting.{replay_more}
-use Rattle.store_steps.proofs.BatchLaws.{taken_is_free, dropped_is_born}
+use Rattle.store_steps.proofs.{Accepting.replay_more, BatchLaws.taken_is_free, BatchLaws.dropped_is_born}
 use Rattle.store_steps.proofs.laws.law_journal.Goals as goal
 
 pub returns-clause-appended : goal.returns-clause-appended

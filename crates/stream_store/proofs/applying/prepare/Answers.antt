@@ -1,7 +1,6 @@
 use Rattle.std.proofs.Common.{◌≡◌, ◌+◌, length, List, sym, subst, rules}
 use Rattle.std.specs.Arc.{arc_value}
-use Rattle.graph_model.specs.declared.batches.Batch.{Batch}
-use Rattle.graph_model.specs.declared.batches.NamedOp.{NamedOp}
+use Rattle.graph_model.specs.declared.batches.{Batch.Batch, NamedOp.NamedOp}
 use Rattle.row_pages.specs.Rows.{row_of}
 use Rattle.graph_version.specs.Versions.{content}
 use Rattle.batch_plan.specs.Planned.{IsPlan}

@@ -1,13 +1,7 @@
 use Rattle.std.proofs.Common.{◌≡◌, ◌∙◌, ℕ, List, ap, inl, inr, get_or, rules, ◌<◌, length, arith, if◌then◌else◌, nat_eq, Some}
-use Rattle.std.proofs.Common.{map, set}
-use Rattle.std.specs.Arc.{arc_value}
-use Rattle.std.specs.Result.{IsOk}
-use Rattle.std.specs.declared.sync.Arc.{Arc}
-use Rattle.std.specs.declared.alloc.Global.{Global}
-use Rattle.std.proofs.Math.Seq.{map-set_same}
-use Rattle.vertex_names.specs.declared.part.Part.{Part}
-use Rattle.vertex_names.specs.Order.{found_in}
-use Rattle.vertex_names.specs.Index.{found_at}
+use Rattle.std.proofs.{Common.map, Common.set, Math.Seq.map-set_same}
+use Rattle.std.specs.{Arc.arc_value, Result.IsOk, declared.sync.Arc.Arc, declared.alloc.Global.Global}
+use Rattle.vertex_names.specs.{declared.part.Part.Part, Order.found_in, Index.found_at}
 use Rattle.std.proofs.lemmas.Result.{IfErr-at_err, on_ok_weaker, on_err_weaker}
 use Rattle.list_pieces.proofs.Shown.{always-OnErr}
 use Rattle.vertex_names.proofs.Parts.{put_part, same_part}

@@ -1,11 +1,6 @@
 use Rattle.std.proofs.Common.{◌≡◌, ◌∙◌, ◌≤◌, ◌<◌, ◌+◌, ◌/◌, ℕ, List, get_or, sym, ap, subst, arith, nat_eq}
-use Rattle.std.specs.List.{insert}
-use Rattle.std.specs.Map.{lookup}
-use Rattle.std.specs.declared.sync.Arc.{Arc}
-use Rattle.std.specs.declared.alloc.Global.{Global}
-use Rattle.vertex_names.specs.declared.piece.Piece.{Piece}
-use Rattle.vertex_names.specs.Order.{firsts, last_place}
-use Rattle.vertex_names.specs.Pieces.{entries_of}
+use Rattle.std.specs.{List.insert, Map.lookup, declared.sync.Arc.Arc, declared.alloc.Global.Global}
+use Rattle.vertex_names.specs.{declared.piece.Piece.Piece, Order.firsts, Order.last_place, Pieces.entries_of}
 use Rattle.vertex_names.proofs.Splits.{two_rising, two_same}
 use Rattle.vertex_names.proofs.part.make_room.Goals as goal
 

@@ -1,12 +1,8 @@
 use Rattle.std.proofs.Common.{◌≡◌, ◌∙◌, ◌∷◌, ◌/◌, ◌%◌, [], ap, inl, inr, length, rules, arith}
-use Rattle.std.specs.Result.{IsOk}
-use Rattle.std.specs.declared.sync.Arc.{Arc}
-use Rattle.std.specs.declared.alloc.Global.{Global}
+use Rattle.std.specs.{Result.IsOk, declared.sync.Arc.Arc, declared.alloc.Global.Global}
 use Rattle.std.proofs.lemmas.Result.{IfErr-at_err}
-use Rattle.vertex_names.specs.Texts.{names_in}
-use Rattle.vertex_names.specs.declared.texts.Chunk.{Chunk}
-use Rattle.list_pieces.proofs.Pieces.{last_place, push_piece, pushed_last, same_last}
-use Rattle.list_pieces.proofs.Shown.{always-OnErr}
+use Rattle.vertex_names.specs.{Texts.names_in, declared.texts.Chunk.Chunk}
+use Rattle.list_pieces.proofs.{Pieces.last_place, Pieces.push_piece, Pieces.pushed_last, Pieces.same_last, Shown.always-OnErr}
 use Rattle.vertex_names.proofs.texts.add_text.Goals as goal
 
 pub returns-then-len-eq0-clause-chunks : goal.returns-then-len-eq0-clause-chunks

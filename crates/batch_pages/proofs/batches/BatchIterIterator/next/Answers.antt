@@ -1,5 +1,4 @@
-use Rattle.std.proofs.Common.{length, sym, ap, arith}
-use Rattle.std.proofs.lemmas.Option.{slice_get_within}
+use Rattle.std.proofs.{Common.length, Common.sym, Common.ap, Common.arith, lemmas.Option.slice_get_within}
 use Rattle.batch_pages.proofs.Places.{drop_past, drop_next}
 use Rattle.batch_pages.proofs.batches.BatchIterIterator.next.Goals as goal
 

@@ -1,10 +1,7 @@
 use Rattle.std.proofs.Common.{◌≡◌, ◌∙◌, ◌≤◌, ◌<◌, ◌/◌, ◌%◌, ap, sym, subst, List, length, get_or, arith}
-use Rattle.std.specs.List.{slice_get}
-use Rattle.std.specs.declared.sync.Arc.{Arc}
-use Rattle.std.specs.declared.alloc.Global.{Global}
+use Rattle.std.specs.{List.slice_get, declared.sync.Arc.Arc, declared.alloc.Global.Global}
 use Rattle.std.proofs.lemmas.Bool.{ltb-false}
-use Rattle.batch_pages.specs.Groups.{in_group}
-use Rattle.batch_pages.specs.declared.groups.BatchGroup.{BatchGroup}
+use Rattle.batch_pages.specs.{Groups.in_group, declared.groups.BatchGroup.BatchGroup}
 use Rattle.graph_model.specs.declared.batches.NamedOp.{NamedOp}
 use Rattle.list_pieces.proofs.Pieces.{at_piece, past_pieces}
 use Rattle.batch_pages.proofs.batches.BatchList.get.Goals as goal

@@ -1,7 +1,6 @@
 use Rattle.std.proofs.Common.{◌∙◌, ap, length}
 use Rattle.batch_pages.specs.Groups.{in_group}
-use Rattle.list_pieces.proofs.Pieces.{zipped_pieces}
-use Rattle.list_pieces.proofs.Shown.{zipped_flat}
+use Rattle.list_pieces.proofs.{Pieces.zipped_pieces, Shown.zipped_flat}
 use Rattle.batch_pages.proofs.batches.BatchList.share.Goals as goal
 
 pub invariant_of-result : goal.invariant_of-result

@@ -1,11 +1,7 @@
 use Rattle.std.proofs.Common.{◌≡◌, ◌∙◌, ◌++◌, List, ap, sym, subst, length, flat_map}
-use Rattle.std.specs.List.{AllZip}
-use Rattle.std.specs.declared.sync.Arc.{Arc}
-use Rattle.std.specs.declared.alloc.Global.{Global}
-use Rattle.batch_pages.specs.Pages.{in_page, ArePages}
-use Rattle.batch_pages.specs.declared.pages.BatchPage.{BatchPage}
-use Rattle.list_pieces.proofs.Pieces.{zipped_pieces}
-use Rattle.list_pieces.proofs.Shown.{zipped_flat}
+use Rattle.std.specs.{List.AllZip, declared.sync.Arc.Arc, declared.alloc.Global.Global}
+use Rattle.batch_pages.specs.{Pages.in_page, Pages.ArePages, declared.pages.BatchPage.BatchPage}
+use Rattle.list_pieces.proofs.{Pieces.zipped_pieces, Shown.zipped_flat}
 use Rattle.batch_pages.proofs.groups.BatchGroupClone.clone.Goals as goal
 
 pub invariant_of-result : goal.invariant_of-result

@@ -1,7 +1,5 @@
 use Rattle.std.proofs.Common.{◌≡◌, ◌∙◌, ◌++◌, List, ap, map, subst}
-use Rattle.std.specs.List.{AllZip}
-use Rattle.std.specs.declared.sync.Arc.{Arc}
-use Rattle.std.specs.declared.alloc.Global.{Global}
+use Rattle.std.specs.{List.AllZip, declared.sync.Arc.Arc, declared.alloc.Global.Global}
 use Rattle.graph_model.specs.declared.batches.Batch.{Batch}
 use Rattle.batch_pages.specs.Batches.{batch_value}
 use Rattle.list_pieces.proofs.Shown.{zipped_map}

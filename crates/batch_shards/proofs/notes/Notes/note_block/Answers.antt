@@ -1,5 +1,4 @@
-use Rattle.std.proofs.Common.{ap, ◌∙◌}
-use Rattle.std.proofs.lemmas.Bool.{or_right}
+use Rattle.std.proofs.{Common.ap, Common.◌∙◌, lemmas.Bool.or_right}
 use Rattle.edge_block.specs.Lending.{edges_left}
 use Rattle.batch_shards.specs.Notes.{may_stand}
 use Rattle.batch_shards.proofs.NotedBlocks.{lends, lent_target}

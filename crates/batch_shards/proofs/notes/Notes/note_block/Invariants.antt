@@ -1,7 +1,6 @@
 use Rattle.std.proofs.Common.{◌≡◌, ℕ, true, ◌||◌}
 use Rattle.std.specs.List.{list_any}
-use Rattle.edge_block.specs.Slots.{holds}
-use Rattle.edge_block.specs.Lending.{edges_left}
+use Rattle.edge_block.specs.{Slots.holds, Lending.edges_left}
 use Rattle.batch_shards.specs.Notes.{may_stand, HasMore}
 use Rattle.batch_shards.proofs.NotedBlocks.{lends}
 use Rattle.batch_shards.proofs.notes.Notes.note_block.Given as goal

@@ -1,6 +1,5 @@
 use Rattle.std.proofs.Common.{◌≡◌, ℕ, ◌<◌, true, get_or}
-use Rattle.batch_shards.specs.Notes.{has_target, may_stand}
-use Rattle.batch_shards.specs.declared.row_blocks.RowBlock.{RowBlock}
+use Rattle.batch_shards.specs.{Notes.has_target, Notes.may_stand, declared.row_blocks.RowBlock.RowBlock}
 use Rattle.batch_shards.proofs.notes.Notes.of_row.Given as goal
 
 abbrev pub invariant-loop-place : goal.invariant-loop-place

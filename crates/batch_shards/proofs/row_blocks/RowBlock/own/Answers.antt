@@ -1,10 +1,6 @@
 use Rattle.std.proofs.Common.{◌≡◌, ◌+◌, ◌++◌, ◌∷◌, ◌||◌, not, [], ℕ, List, Bool, true, false, cond, map, count_by, sym, ap, ◌∙◌}
-use Rattle.std.proofs.Common.{arith, rules}
-use Rattle.std.proofs.lemmas.List.{map-append}
-use Rattle.std.specs.Option.{is_some, option_to_list}
-use Rattle.std.specs.Prelude.{Some}
-use Rattle.std.specs.declared.sync.Arc.{Arc}
-use Rattle.std.specs.declared.alloc.Global.{Global}
+use Rattle.std.proofs.{Common.arith, Common.rules, lemmas.List.map-append}
+use Rattle.std.specs.{Option.is_some, Option.option_to_list, Prelude.Some, declared.sync.Arc.Arc, declared.alloc.Global.Global}
 use Rattle.edge_block.specs.declared.blocks.Block.{Block}
 use Rattle.block_layout.specs.Rows.{shape_of, touch}
 use Rattle.batch_shards.specs.RowBlocks.{block_of, open_of, had_here, numbers_of, own_here}

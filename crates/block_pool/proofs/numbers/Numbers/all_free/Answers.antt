@@ -1,11 +1,9 @@
 use Rattle.std.proofs.Common.{List, Option, None, true, ◌≡◌, ◌∙◌, ℕ, length, map, take, replicate, count_by, sym, ap, subst, arith}
 use Rattle.std.proofs.lemmas.List.{length-replicate, take_all}
 use Rattle.linked_stacks.specs.Stacks.{Stacks}
-use Rattle.block_pool.specs.Pools.{Free, is_free, is_retired}
-use Rattle.block_pool.specs.Kept.{status_from, Lists, IsSorted}
+use Rattle.block_pool.specs.{Pools.Free, Pools.is_free, Pools.is_retired, Kept.status_from, Kept.Lists, Kept.IsSorted}
 use Rattle.block_pool.specs.declared.numbers.Place.TheVariants as places
-use Rattle.block_pool.proofs.Tallies.{none_retired, all_one, tally_true}
-use Rattle.block_pool.proofs.Stacking.{sorted_first}
+use Rattle.block_pool.proofs.{Tallies.none_retired, Tallies.all_one, Tallies.tally_true, Stacking.sorted_first}
 use Rattle.block_pool.proofs.numbers.Numbers.all_free.Goals as goal
 
 pub returns-clause-kept : goal.returns-clause-kept

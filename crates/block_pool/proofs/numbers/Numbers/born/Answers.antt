@@ -1,12 +1,9 @@
 use Rattle.std.proofs.Common.{ap, ◌∙◌, count_by, sym, subst, refl, take, arith}
-use Rattle.std.proofs.Math.ListN.{length-set}
-use Rattle.std.proofs.lemmas.List.{map-set}
+use Rattle.std.proofs.{Math.ListN.length-set, lemmas.List.map-set}
 use Rattle.block_pool.specs.Pools.{Used, is_free, is_retired}
 use Rattle.block_pool.specs.Kept.{statuses, status_from, Lists, IsSorted}
 use Rattle.block_pool.specs.declared.numbers.Place.TheVariants as places
-use Rattle.block_pool.proofs.Tallies.{lists_same, used_at}
-use Rattle.block_pool.proofs.Tallies.{count_kept}
-use Rattle.block_pool.proofs.Stacking.{sorted_set}
+use Rattle.block_pool.proofs.{Tallies.lists_same, Tallies.used_at, Tallies.count_kept, Stacking.sorted_set}
 use Rattle.block_pool.proofs.numbers.Numbers.born.Goals as goal
 
 pub returns-clause-kept : goal.returns-clause-kept

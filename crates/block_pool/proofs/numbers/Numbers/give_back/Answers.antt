@@ -1,12 +1,9 @@
 use Rattle.std.proofs.Common.{◌∙◌, count_by, ◌+◌, ◌<◌, length, set, sym, ap, subst, refl, take, arith, length-take}
-use Rattle.std.proofs.Math.ListN.{length-set}
-use Rattle.std.proofs.lemmas.List.{map-set, take_more_set, length-map}
+use Rattle.std.proofs.{Math.ListN.length-set, lemmas.List.map-set, lemmas.List.take_more_set, lemmas.List.length-map}
 use Rattle.block_pool.specs.Pools.{Free, is_free, is_retired}
 use Rattle.block_pool.specs.Kept.{statuses, status_from, Lists, IsSorted}
 use Rattle.block_pool.specs.declared.numbers.Place.TheVariants as places
-use Rattle.block_pool.proofs.Tallies.{lists_more, lists_room, used_at}
-use Rattle.block_pool.proofs.Tallies.{count_kept}
-use Rattle.block_pool.proofs.Stacking.{sorted_set}
+use Rattle.block_pool.proofs.{Tallies.lists_more, Tallies.lists_room, Tallies.used_at, Tallies.count_kept, Stacking.sorted_set}
 use Rattle.block_pool.proofs.numbers.Numbers.give_back.Goals as goal
 
 pub index_mut-requires-2 : goal.index_mut-requires-2

@@ -1,6 +1,5 @@
 use Rattle.std.proofs.Common.{length, ◌≡◌, ◌∙◌, ℕ, List, sym, ap, ap₂, subst, arith}
-use Rattle.std.proofs.Math.ListN.{length-set}
-use Rattle.std.proofs.lemmas.List.{length-map}
+use Rattle.std.proofs.{Math.ListN.length-set, lemmas.List.length-map}
 use Rattle.linked_stacks.specs.Stacks.{Stacks, stack_of, below_top, AreAbsent}
 use Rattle.block_pool.specs.Kept.{statuses, status_from, IsSorted, top_of, put_on, taken_off, moved}
 use Rattle.block_pool.proofs.Stacking.{top_listed, top_absent, top_room, sorted_moved}

@@ -1,6 +1,5 @@
 use Rattle.std.proofs.Common.{◌∙◌, map, count_by, sym, ap, subst}
-use Rattle.block_pool.specs.Pools.{is_past, recycled}
-use Rattle.block_pool.specs.Kept.{HasPins}
+use Rattle.block_pool.specs.{Pools.is_past, Pools.recycled, Kept.HasPins}
 use Rattle.block_pool.proofs.numbers.Numbers.recycle.Goals as goal
 
 pub sort-requires-clause-pins : goal.sort-requires-clause-pins

@@ -1,16 +1,13 @@
 use Rattle.std.proofs.Common.{◌≡◌, ◌∙◌, ◌+◌, ◌<◌, ℕ, length, get_or, set, count_by, sym, ap, subst, refl, take, arith}
-use Rattle.std.proofs.Common.{length-take, true}
-use Rattle.std.proofs.Math.ListN.{length-set}
+use Rattle.std.proofs.{Common.length-take, Common.true, Math.ListN.length-set}
 use Rattle.std.proofs.lemmas.List.{map-set, length-map, get_or_read}
 use Rattle.linked_stacks.specs.Stacks.{Stacks, stack_of}
-use Rattle.block_pool.specs.declared.numbers.Numbers.{Numbers}
-use Rattle.block_pool.specs.declared.numbers.TheConstants.{LOOSE}
+use Rattle.block_pool.specs.declared.numbers.{Numbers.Numbers, TheConstants.LOOSE}
 use Rattle.block_pool.specs.Pools.{Free, Granted, is_free, is_retired}
 use Rattle.block_pool.specs.Kept.{statuses, status_from, status_of, Lists, IsNumbers, IsSorted, top_of, taken_off}
 use Rattle.block_pool.specs.declared.numbers.Place.TheVariants as places
 use Rattle.block_pool.proofs.Tallies.{lists_more, lists_room, count_at, count_here, retired_not_free}
-use Rattle.block_pool.proofs.Grants.{placed}
-use Rattle.block_pool.proofs.Stacking.{top_listed, sorted_freed}
+use Rattle.block_pool.proofs.{Grants.placed, Stacking.top_listed, Stacking.sorted_freed}
 use Rattle.block_pool.proofs.numbers.Numbers.release_top.Goals as goal
 
 pub top-number-requires : goal.top-number-requires

@@ -1,5 +1,4 @@
-use Rattle.std.proofs.Common.{◌∙◌, set, ap}
-use Rattle.std.proofs.Math.ListN.{length-set}
+use Rattle.std.proofs.{Common.◌∙◌, Common.set, Common.ap, Math.ListN.length-set}
 use Rattle.block_pool.specs.Kept.{statuses}
 use Rattle.block_pool.proofs.Stacking.{sorted_pin}
 use Rattle.block_pool.proofs.numbers.Numbers.repin.Goals as goal

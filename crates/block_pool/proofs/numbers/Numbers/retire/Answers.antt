@@ -1,6 +1,5 @@
 use Rattle.std.proofs.Common.{◌≡◌, ◌∙◌, count_by, ◌<◌, length, set, sym, ap, subst, refl, take, arith, false}
-use Rattle.std.proofs.Math.ListN.{length-set}
-use Rattle.std.proofs.lemmas.List.{map-set, length-map, get_or-map}
+use Rattle.std.proofs.{Math.ListN.length-set, lemmas.List.map-set, lemmas.List.length-map, lemmas.List.get_or-map}
 use Rattle.block_pool.specs.declared.numbers.TheConstants.{LOOSE}
 use Rattle.block_pool.specs.Pools.{Status, Granted, Retired, is_free, is_retired, retired}
 use Rattle.block_pool.specs.Kept.{statuses, status_from, status_of, Lists, IsSorted}

@@ -1,12 +1,8 @@
 use Rattle.std.proofs.Common.{◌∙◌, sym, subst, refl, arith}
-use Rattle.std.proofs.lemmas.List.{length-map}
-use Rattle.std.proofs.lemmas.List.Sums.{count_by-le-length}
+use Rattle.std.proofs.lemmas.List.{length-map, Sums.count_by-le-length}
 use Rattle.linked_stacks.specs.Stacks.{stack_of}
-use Rattle.block_pool.specs.declared.numbers.TheConstants.{LOOSE}
-use Rattle.block_pool.specs.Pools.{is_past}
-use Rattle.block_pool.specs.Kept.{statuses, status_from, HasPins}
-use Rattle.block_pool.proofs.Tallies.{none_past}
-use Rattle.block_pool.proofs.Stacking.{all_sorted, no_number}
+use Rattle.block_pool.specs.{declared.numbers.TheConstants.LOOSE, Pools.is_past, Kept.statuses, Kept.status_from, Kept.HasPins}
+use Rattle.block_pool.proofs.{Tallies.none_past, Stacking.all_sorted, Stacking.no_number}
 use Rattle.block_pool.proofs.numbers.Numbers.sort.Goals as goal
 
 pub sort-init : goal.sort-init

@@ -1,8 +1,7 @@
 use Rattle.std.proofs.Common.{◌≡◌, ◌≤◌, ◌+◌, map, count_by, length}
 use Rattle.linked_stacks.specs.Stacks.{stack_of}
 use Rattle.block_pool.specs.declared.numbers.TheConstants.{LOOSE, LATE}
-use Rattle.block_pool.specs.Pools.{recycled, is_past}
-use Rattle.block_pool.specs.Kept.{statuses, AreNeeded, HasPins, IsNumbers}
+use Rattle.block_pool.specs.{Pools.recycled, Pools.is_past, Kept.statuses, Kept.AreNeeded, Kept.HasPins, Kept.IsNumbers}
 use Rattle.block_pool.proofs.numbers.Numbers.sort.Given as goal
 
 abbrev pub invariant-sort : goal.invariant-sort

@@ -4,8 +4,7 @@ use Rattle.linked_stacks.specs.Stacks.{stack_of}
 use Rattle.block_pool.specs.declared.numbers.TheConstants.{LOOSE, LATE}
 use Rattle.block_pool.specs.Pools.{Retired, is_retired, is_past, recycled}
 use Rattle.block_pool.specs.Kept.{statuses, status_from, status_of, AreNeeded, top_of}
-use Rattle.block_pool.proofs.Tallies.{recycled_set, past_set}
-use Rattle.block_pool.proofs.Needs.{pinned, later, kept_back, due}
+use Rattle.block_pool.proofs.{Tallies.recycled_set, Tallies.past_set, Needs.pinned, Needs.later, Needs.kept_back, Needs.due}
 use Rattle.block_pool.proofs.Stacking.{top_listed, needed_moved}
 use Rattle.block_pool.proofs.numbers.Numbers.sort_top.Goals as goal
 

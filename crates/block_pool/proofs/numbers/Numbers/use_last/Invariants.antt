@@ -1,6 +1,5 @@
 use Rattle.std.proofs.Common.{◌≡◌, ◌≤◌}
-use Rattle.block_pool.specs.Pools.{Granted, marked}
-use Rattle.block_pool.specs.Kept.{statuses, popped, IsNumbers}
+use Rattle.block_pool.specs.{Pools.Granted, Pools.marked, Kept.statuses, Kept.popped, Kept.IsNumbers}
 use Rattle.block_pool.proofs.numbers.Numbers.use_last.Given as goal
 
 abbrev pub invariant-grant : goal.invariant-grant

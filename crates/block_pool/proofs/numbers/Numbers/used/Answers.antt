@@ -1,7 +1,5 @@
-use Rattle.std.proofs.Common.{take, arith, length-take}
-use Rattle.std.proofs.lemmas.List.{length-map}
-use Rattle.block_pool.specs.Pools.{is_free}
-use Rattle.block_pool.specs.Kept.{statuses, status_from}
+use Rattle.std.proofs.{Common.take, Common.arith, Common.length-take, lemmas.List.length-map}
+use Rattle.block_pool.specs.{Pools.is_free, Kept.statuses, Kept.status_from}
 use Rattle.block_pool.proofs.Tallies.{listed_count, all_parts}
 use Rattle.block_pool.proofs.numbers.Numbers.used.Goals as goal
 

@@ -1,10 +1,8 @@
 use Rattle.std.proofs.Common.{◌≡◌, ℕ, ◌∙◌, ◌≤◌, length, sym, ap, subst, take, count_by, length-take, arith}
-use Rattle.block_pool.specs.Pools.{Granted, is_free, AreFree}
-use Rattle.block_pool.specs.Kept.{statuses, status_from, popped}
+use Rattle.block_pool.specs.{Pools.Granted, Pools.is_free, Pools.AreFree, Kept.statuses, Kept.status_from, Kept.popped}
 use Rattle.block_pool.specs.Bodies.{AreBodies}
 use Rattle.std.proofs.lemmas.List.{length-map}
-use Rattle.block_pool.proofs.Tallies.{listed_count}
-use Rattle.block_pool.proofs.Grants.{popped_free, length-popped, length-marked}
+use Rattle.block_pool.proofs.{Tallies.listed_count, Grants.popped_free, Grants.length-popped, Grants.length-marked}
 use Rattle.block_pool.proofs.pool.Pool.grant.Goals as goal
 
 pub gather-requires-clause-enough : goal.gather-requires-clause-enough

@@ -1,6 +1,5 @@
 use Rattle.std.proofs.Common.{arith}
-use Rattle.edge_block.proofs.Selections.{edges_by_ones}
-use Rattle.edge_block.proofs.KeptColumns.{block_of_columns}
+use Rattle.edge_block.proofs.{Selections.edges_by_ones, KeptColumns.block_of_columns}
 use Rattle.edge_block.proofs.blocks.Block.len.Goals as goal
 
 pub returns-clause-count : goal.returns-clause-count

@@ -1,8 +1,6 @@
-use Rattle.std.proofs.Common.{◌∙◌, ap, w64}
-use Rattle.std.proofs.lemmas.Int.{to_z-of_z}
+use Rattle.std.proofs.{Common.◌∙◌, Common.ap, Common.w64, lemmas.Int.to_z-of_z}
 use Rattle.edge_block.specs.Slots.{edge_slot, put_slot}
-use Rattle.edge_block.proofs.KeptColumns.{after_put, columns_put, same_block}
-use Rattle.edge_block.proofs.Times.{times_put}
+use Rattle.edge_block.proofs.{KeptColumns.after_put, KeptColumns.columns_put, KeptColumns.same_block, Times.times_put}
 use Rattle.edge_block.proofs.blocks.Block.put.Goals as goal
 
 pub invariant_of-self : goal.invariant_of-self

@@ -1,5 +1,4 @@
-use Rattle.std.proofs.Common.{arith}
-use Rattle.std.proofs.lemmas.Bool.{eqb-true, eq-eqb}
+use Rattle.std.proofs.{Common.arith, lemmas.Bool.eqb-true, lemmas.Bool.eq-eqb}
 use Rattle.edge_block.proofs.Targets.{targets_in-same, columns_from_targets}
 use Rattle.edge_block.proofs.blocks.Block.same_targets.Goals as goal
 

@@ -1,6 +1,5 @@
 use Rattle.std.proofs.Common.{arith}
-use Rattle.edge_block.proofs.Selections.{selected_recents}
-use Rattle.edge_block.proofs.Times.{bounds_alone}
+use Rattle.edge_block.proofs.{Selections.selected_recents, Times.bounds_alone}
 use Rattle.edge_block.proofs.blocks.Block.time_bounds.Goals as goal
 
 pub returns-then-self-eq0 : goal.returns-then-self-eq0

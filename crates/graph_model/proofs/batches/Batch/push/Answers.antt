@@ -1,8 +1,7 @@
 use Rattle.std.proofs.Common.{◌≡◌, ℕ, ◌<◌, false, Some, inr, refl, sym, ◌∙◌, rules, arith}
 use Rattle.std.proofs.lemmas.Grind.{common_steps}
 use Rattle.graph_model.specs.Valid.{push_refusal, has_names}
-use Rattle.graph_model.specs.declared.batches.NamedOp.{NamedOp}
-use Rattle.graph_model.specs.declared.batches.PushError.TheVariants.{BadName}
+use Rattle.graph_model.specs.declared.batches.{NamedOp.NamedOp, PushError.TheVariants.BadName}
 use Rattle.graph_model.proofs.batches.Batch.push.Goals as goal
 
 -- The searches of these goals are long where they fail.

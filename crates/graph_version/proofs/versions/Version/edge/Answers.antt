@@ -1,16 +1,10 @@
 use Rattle.std.proofs.Common.{◌≡◌, ◌∙◌, List, get_or, ap, sym, arith, Some, None}
 use Rattle.std.proofs.lemmas.List.{take_all}
-use Rattle.std.specs.Option.{option_map}
-use Rattle.std.specs.declared.sync.Arc.{Arc}
-use Rattle.std.specs.declared.alloc.Global.{Global}
-use Rattle.edge_block.specs.Slots.{BlockView, first_some}
-use Rattle.edge_block.specs.Lending.{lent_edge}
-use Rattle.edge_block.specs.declared.blocks.Block.{Block}
+use Rattle.std.specs.{Option.option_map, declared.sync.Arc.Arc, declared.alloc.Global.Global}
+use Rattle.edge_block.specs.{Slots.BlockView, Slots.first_some, Lending.lent_edge, declared.blocks.Block.Block}
 use Rattle.block_layout.specs.Rows.{shape_of, block_at}
-use Rattle.row_pages.specs.Rows.{row_of}
-use Rattle.row_pages.specs.Sharing.{block_value, block_values}
-use Rattle.graph_version.specs.Versions.{VersionView, IsVersion}
-use Rattle.graph_version.specs.Edges.{lent_to}
+use Rattle.row_pages.specs.{Rows.row_of, Sharing.block_value, Sharing.block_values}
+use Rattle.graph_version.specs.{Versions.VersionView, Versions.IsVersion, Edges.lent_to}
 use Rattle.graph_version.proofs.Looks.{place_at, found_edge, no_edge, none_more, none_there}
 use Rattle.graph_version.proofs.versions.Version.edge.Goals as goal
 

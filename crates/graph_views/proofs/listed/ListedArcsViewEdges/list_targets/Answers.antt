@@ -1,6 +1,5 @@
 use Rattle.std.proofs.Common.{◌≡◌, ℕ, List, [], arith, map, drop, subst, sym, ap, ◌∙◌}
-use Rattle.std.specs.Prelude.{◌↔◌, filter}
-use Rattle.std.specs.List.{Contains}
+use Rattle.std.specs.{Prelude.◌↔◌, Prelude.filter, List.Contains}
 use Rattle.std.proofs.lemmas.List.{drop_all}
 use Rattle.graph_model.specs.Analyses.{LeadsTo}
 use Rattle.graph_views.specs.Listed.{along, all_edges, leaves, put_targets}

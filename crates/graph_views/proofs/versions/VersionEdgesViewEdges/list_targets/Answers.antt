@@ -1,16 +1,12 @@
 use Rattle.std.proofs.Common.{◌≡◌, ◌∙◌, ◌++◌, ℕ, List, [], arith, drop, sym, ap, subst, append-nil}
-use Rattle.std.specs.Prelude.{◌↔◌}
-use Rattle.std.specs.List.{Contains}
-use Rattle.std.specs.declared.sync.Arc.{Arc}
-use Rattle.std.specs.declared.alloc.Global.{Global}
+use Rattle.std.specs.{Prelude.◌↔◌, List.Contains, declared.sync.Arc.Arc, declared.alloc.Global.Global}
 use Rattle.std.proofs.lemmas.List.{drop_all}
 use Rattle.graph_model.specs.Analyses.{LeadsTo}
 use Rattle.edge_block.specs.declared.blocks.Block.{Block}
 use Rattle.row_pages.specs.Rows.{row_of}
 use Rattle.graph_version.specs.Versions.{content}
 use Rattle.graph_views.specs.Shown.{shown_in, targets_of}
-use Rattle.graph_views.proofs.Rows.{row_targets}
-use Rattle.graph_views.proofs.Targets.{targets_in}
+use Rattle.graph_views.proofs.{Rows.row_targets, Targets.targets_in}
 use Rattle.graph_views.proofs.versions.VersionEdgesViewEdges.list_targets.Goals as goal
 
 pub returns : goal.returns

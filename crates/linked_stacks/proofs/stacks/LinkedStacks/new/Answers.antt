@@ -1,7 +1,6 @@
 use Rattle.std.proofs.Common.{◌∙◌, ℕ, List, length, map, sym, ap, ap₂, subst, arith}
 use Rattle.std.proofs.lemmas.List.{length-replicate}
-use Rattle.linked_stacks.specs.Stacks.{Stacks}
-use Rattle.linked_stacks.specs.Chains.{chain_of, AreWithin}
+use Rattle.linked_stacks.specs.{Stacks.Stacks, Chains.chain_of, Chains.AreWithin}
 use Rattle.linked_stacks.proofs.Links.{map_empty, empty_within}
 use Rattle.linked_stacks.proofs.stacks.LinkedStacks.new.Goals as goal
 

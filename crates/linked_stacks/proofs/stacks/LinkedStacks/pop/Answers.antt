@@ -1,5 +1,4 @@
-use Rattle.std.proofs.Common.{◌∙◌, ◌<◌, length, sym, ap, arith}
-use Rattle.std.proofs.lemmas.List.{get_or_read}
+use Rattle.std.proofs.{Common.◌∙◌, Common.◌<◌, Common.length, Common.sym, Common.ap, Common.arith, lemmas.List.get_or_read}
 use Rattle.linked_stacks.specs.Chains.{chain_of}
 use Rattle.linked_stacks.proofs.Links.{shown, length-chain, popped, top_within, popped_within}
 use Rattle.linked_stacks.proofs.stacks.LinkedStacks.pop.Goals as goal

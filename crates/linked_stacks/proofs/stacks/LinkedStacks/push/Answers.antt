@@ -1,6 +1,5 @@
 use Rattle.std.proofs.Common.{◌∙◌, length, sym, ap, subst, arith}
-use Rattle.linked_stacks.specs.Stacks.{Stacks, AreAbsent}
-use Rattle.linked_stacks.specs.Chains.{chain_of}
+use Rattle.linked_stacks.specs.{Stacks.Stacks, Stacks.AreAbsent, Chains.chain_of}
 use Rattle.linked_stacks.proofs.Links.{shown, length-chain, pushed, pushed_within}
 use Rattle.linked_stacks.proofs.stacks.LinkedStacks.push.Goals as goal
 

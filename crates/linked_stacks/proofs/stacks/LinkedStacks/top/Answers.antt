@@ -1,6 +1,5 @@
 use Rattle.std.proofs.Common.{◌∙◌, ◌∷◌, length, sym, ap, arith}
-use Rattle.linked_stacks.specs.Stacks.{below_top}
-use Rattle.linked_stacks.specs.Chains.{chain_of}
+use Rattle.linked_stacks.specs.{Stacks.below_top, Chains.chain_of}
 use Rattle.linked_stacks.proofs.Links.{shown, length-chain, chain_top}
 use Rattle.linked_stacks.proofs.stacks.LinkedStacks.top.Goals as goal
 

@@ -1,9 +1,7 @@
 -- The steps of the body are those of a change on plain lists.
 use Rattle.std.proofs.Common.{◌≡◌, ◌∙◌, length, ap, arith}
-use Rattle.std.specs.Option.{option_map}
-use Rattle.std.specs.FinMap.{get}
-use Rattle.graph_model.specs.Graph.{Key, graph_of, map_of}
-use Rattle.graph_model.specs.Step.{number_of, changed_key, stamp_after}
+use Rattle.std.specs.{Option.option_map, FinMap.get}
+use Rattle.graph_model.specs.{Graph.Key, Graph.graph_of, Graph.map_of, Step.number_of, Step.changed_key, Step.stamp_after}
 use Rattle.graph_model.specs.Changes.{option_stamp}
 use Rattle.graph_model.proofs.NameNumbers.{number_at_most}
 use Rattle.reference_graph.specs.Drafts.{shown_by, shown_key, edge_with}

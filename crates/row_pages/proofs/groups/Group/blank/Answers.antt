@@ -1,8 +1,6 @@
 use Rattle.std.proofs.Common.{◌≡◌, ◌∙◌, List, [], ◌∷◌, replicate, refl}
-use Rattle.std.specs.declared.sync.Arc.{Arc}
-use Rattle.std.specs.declared.alloc.Global.{Global}
-use Rattle.row_pages.specs.Pages.{in_page}
-use Rattle.row_pages.specs.declared.pages.Page.{Page}
+use Rattle.std.specs.declared.{sync.Arc.Arc, alloc.Global.Global}
+use Rattle.row_pages.specs.{Pages.in_page, declared.pages.Page.Page}
 use Rattle.list_pieces.proofs.Full.{blank_pieces, blank_flat}
 use Rattle.row_pages.proofs.Eights.{all_eight}
 use Rattle.row_pages.proofs.groups.Group.blank.Goals as goal

@@ -1,10 +1,8 @@
 use Rattle.std.proofs.Common.{◌≡◌, ◌∙◌, ◌≤◌, ◌<◌, ◌/◌, ◌%◌, [], ap, sym, subst, List, length, get_or, arith}
-use Rattle.std.specs.declared.sync.Arc.{Arc}
-use Rattle.std.specs.declared.alloc.Global.{Global}
+use Rattle.std.specs.declared.{sync.Arc.Arc, alloc.Global.Global}
 use Rattle.std.proofs.lemmas.Bool.{ltb-false}
 use Rattle.edge_block.specs.Slots.{BlockView}
-use Rattle.row_pages.specs.declared.groups.Group.{Group}
-use Rattle.row_pages.specs.Groups.{in_group}
+use Rattle.row_pages.specs.{declared.groups.Group.Group, Groups.in_group}
 use Rattle.list_pieces.proofs.Full.{at_piece, past_pieces}
 use Rattle.row_pages.proofs.rows.Rows.row_blocks.Goals as goal
 

@@ -1,8 +1,6 @@
-use Rattle.std.proofs.Common.{◌≡◌, ◌≤◌, ◌^◌, length, arith}
-use Rattle.std.proofs.lemmas.Slice.Zip.{AllZip-long}
+use Rattle.std.proofs.{Common.◌≡◌, Common.◌≤◌, Common.◌^◌, Common.length, Common.arith, lemmas.Slice.Zip.AllZip-long}
 use Rattle.row_pages.specs.Groups.{in_group}
-use Rattle.list_pieces.proofs.Full.{zipped_full}
-use Rattle.list_pieces.proofs.Shown.{zipped_flat}
+use Rattle.list_pieces.proofs.{Full.zipped_full, Shown.zipped_flat}
 use Rattle.row_pages.proofs.rows.Rows.share.Goals as goal
 
 pub invariant_of-result : goal.invariant_of-result

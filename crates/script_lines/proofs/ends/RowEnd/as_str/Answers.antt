@@ -1,5 +1,4 @@
-use Rattle.std.proofs.Common.{◌-◌, drop}
-use Rattle.std.proofs.lemmas.Str.{IsUtf8-from_ascii, IsAscii-take}
+use Rattle.std.proofs.{Common.◌-◌, Common.drop, lemmas.Str.IsUtf8-from_ascii, lemmas.Str.IsAscii-take}
 use Rattle.script_lines.proofs.ends.RowEnd.as_str.Goals as goal
 
 pub from_utf8_unchecked-requires : goal.from_utf8_unchecked-requires

@@ -1,6 +1,5 @@
 use Rattle.std.proofs.Common.{◌≡◌, ◌+◌, ◌-◌, ◌<◌, length, drop, ap, ◌∙◌, arith, length-drop}
-use Rattle.std.proofs.lemmas.List.{drop-set, length-set}
-use Rattle.std.proofs.lemmas.Str.Ascii.{IsAscii-cons}
+use Rattle.std.proofs.lemmas.{List.drop-set, List.length-set, Str.Ascii.IsAscii-cons}
 use Rattle.script_lines.proofs.ends.RowEnd.put_byte.Goals as goal
 
 pub invariant_of-self : goal.invariant_of-self

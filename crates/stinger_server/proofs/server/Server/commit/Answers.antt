@@ -1,17 +1,10 @@
 use Rattle.std.proofs.Common.{rules, ◌≡◌, ◌∙◌, List, [], ap, sym, subst}
-use Rattle.store_steps.specs.Desks.{DeskView}
+use Rattle.store_steps.specs.{Desks.DeskView, Steps.Accepts}
 use Rattle.stream_store.specs.Kept.{DeskState}
-use Rattle.stinger_server.specs.Servers.{ShowsDesk}
-use Rattle.graph_model.specs.Graph.{Graph}
-use Rattle.graph_model.specs.declared.batches.NamedOp.{NamedOp}
-use Rattle.store_steps.specs.Steps.{Accepts}
+use Rattle.stinger_server.specs.{Servers.ShowsDesk, Servers.IsServer, declared.server.Server.Server}
+use Rattle.graph_model.specs.{Graph.Graph, declared.batches.NamedOp.NamedOp}
 use Rattle.stinger_server.proofs.DeskLaws.{batches_after, blocks_after, commit_done, commit_refused, opening_after}
-use Rattle.stinger_server.proofs.DeskLaws.{shows_committed}
-use Rattle.stinger_server.proofs.DeskLaws.{shows_given_up}
-use Rattle.stinger_server.proofs.NamesApart.{AreApart}
-use Rattle.stinger_server.proofs.SlotLaws.{slots_more}
-use Rattle.stinger_server.specs.Servers.{IsServer}
-use Rattle.stinger_server.specs.declared.server.Server.{Server}
+use Rattle.stinger_server.proofs.{DeskLaws.shows_committed, DeskLaws.shows_given_up, NamesApart.AreApart, SlotLaws.slots_more}
 use Rattle.stinger_server.proofs.server.Server.commit.Goals as goal
 
 -- a server whose desk accepted a batch

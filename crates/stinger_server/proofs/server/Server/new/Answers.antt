@@ -1,10 +1,7 @@
-use Rattle.std.proofs.Common.{◌∙◌, ap, length, replicate}
+use Rattle.std.proofs.{Common.◌∙◌, Common.ap, Common.length, Common.replicate, lemmas.List.length-replicate}
 use Rattle.std.specs.Prelude.{None}
-use Rattle.std.proofs.lemmas.List.{length-replicate}
-use Rattle.stinger_server.proofs.DeskLaws.{shows_opened}
-use Rattle.stinger_server.proofs.NamesApart.{none_apart}
-use Rattle.stinger_server.specs.Servers.{ShowsDesk}
-use Rattle.stinger_server.specs.States.{beginning, set_up}
+use Rattle.stinger_server.proofs.{DeskLaws.shows_opened, NamesApart.none_apart}
+use Rattle.stinger_server.specs.{Servers.ShowsDesk, States.beginning, States.set_up}
 use Rattle.stinger_server.proofs.server.Server.new.Goals as goal
 
 pub returns-clause-server : goal.returns-clause-server

@@ -3,11 +3,9 @@ use Rattle.std.specs.Prelude.{None, Ok, slice_get}
 use Rattle.std.proofs.lemmas.List.{length-replicate}
 use Rattle.graph_model.specs.Graph.{Graph}
 use Rattle.stream_store.specs.Seats.{held_graph, held_version}
-use Rattle.stinger_server.proofs.Asking.{asked_there, graph_there, version_there}
-use Rattle.stinger_server.proofs.NamesApart.{AreApart}
+use Rattle.stinger_server.proofs.{Asking.asked_there, Asking.graph_there, Asking.version_there, NamesApart.AreApart}
 use Rattle.stinger_server.proofs.Rebasing.{length_opened, rebase_done, shows_rebased}
-use Rattle.stinger_server.specs.Slots.{held_of}
-use Rattle.stinger_server.specs.States.{version, version_in}
+use Rattle.stinger_server.specs.{Slots.held_of, States.version, States.version_in}
 use Rattle.stinger_server.proofs.server.Server.rebase.Goals as goal
 
 pub returns-clause-kept : goal.returns-clause-kept

@@ -1,6 +1,5 @@
 use Rattle.std.proofs.Common.{arith, ◌≡◌, ◌∙◌, ap, map, length, replicate}
-use Rattle.std.specs.Prelude.{None, Some}
-use Rattle.std.specs.Vec.Iter.{into_iter_len}
+use Rattle.std.specs.{Prelude.None, Prelude.Some, Vec.Iter.into_iter_len}
 use Rattle.stinger_server.proofs.SlotLaws.{all_given, none_held, slots_first}
 use Rattle.stinger_server.proofs.slots.Slots.new.Goals as goal
 

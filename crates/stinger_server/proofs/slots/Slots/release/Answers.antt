@@ -1,6 +1,5 @@
-use Rattle.std.proofs.Common.{rules, ◌≡◌}
+use Rattle.std.proofs.{Common.rules, Common.◌≡◌, lemmas.Option.slice_get_within}
 use Rattle.std.specs.Prelude.{Some, slice_get}
-use Rattle.std.proofs.lemmas.Option.{slice_get_within}
 use Rattle.stinger_server.proofs.SlotLaws.{held_released, read_some, slots_released}
 use Rattle.stinger_server.proofs.slots.Slots.release.Goals as goal
 

@@ -1,21 +1,16 @@
 use Rattle.std.proofs.Common.{◌≡◌, ◌+◌, length, length-append, count_by, refl, sym, ap, ap₂, subst, ◌∙◌, arith, rules}
 use Rattle.std.specs.Arc.{arc_value}
-use Rattle.graph_version.specs.declared.versions.Version.{Version}
+use Rattle.graph_version.specs.{declared.versions.Version.Version, Versions.VersionView, Versions.content}
 use Rattle.logbook.specs.Pages.{Book}
 use Rattle.graph_model.specs.Step.{outcomes}
-use Rattle.graph_version.specs.Versions.{VersionView, content}
 use Rattle.block_pool.specs.Pools.{Used, is_free, marked}
 use Rattle.batch_plan.proofs.Names.{err_then}
 use Rattle.version_shelf.specs.Shelves.{ToldView}
 use Rattle.store_steps.specs.Steps.{Accepts}
-use Rattle.stream_store.specs.Kept.{DeskState, state_of}
-use Rattle.stream_store.specs.Moves.{AreUsedOnce}
-use Rattle.stream_store.specs.Refusals.{Refuses, IsWithin}
-use Rattle.stream_store.proofs.Collections.{kept_same}
+use Rattle.stream_store.specs.{Kept.DeskState, Kept.state_of, Moves.AreUsedOnce, Refusals.Refuses, Refusals.IsWithin}
+use Rattle.stream_store.proofs.{Collections.kept_same, Handing.end_accepts, Handing.end_room, Handing.end_kept}
 use Rattle.stream_store.proofs.Handing.{Handing, handing, desk_of, back_used, back_same, taken_once, dropped_once, unused_once}
-use Rattle.stream_store.proofs.Handing.{born_used, born_same, end_pool, grant_within, desk_refuses, desk_admits}
-use Rattle.stream_store.proofs.Handing.{end_desk}
-use Rattle.stream_store.proofs.Handing.{end_accepts, end_room, end_kept}
+use Rattle.stream_store.proofs.Handing.{born_used, born_same, end_pool, grant_within, desk_refuses, desk_admits, end_desk}
 use Rattle.stream_store.proofs.desk.Desk.apply.Goals as goal
 
 pub returns-in_err-plan-clause-refused : goal.returns-in_err-plan-clause-refused

@@ -2,8 +2,7 @@ use Rattle.std.proofs.Common.{◌≡◌, ℕ, ◌≤◌, ◌++◌, length, sym, 
 use Rattle.std.specs.Arc.{arc_value}
 use Rattle.graph_version.specs.declared.versions.Version.{Version}
 use Rattle.block_pool.specs.Pools.{is_past, is_retired}
-use Rattle.store_steps.specs.Desks.{IsCollected, births_in, collections}
-use Rattle.store_steps.specs.Steps.{TakesAt, recycling}
+use Rattle.store_steps.specs.{Desks.IsCollected, Desks.births_in, Desks.collections, Steps.TakesAt, Steps.recycling}
 use Rattle.store_steps.proofs.Collecting.{collected_takes}
 use Rattle.store_steps.proofs.CollectedDesk.{past_and_left, is_collected, births_collected}
 use Rattle.stream_store.specs.Kept.{DeskState, state_of, entry_of}

@@ -1,7 +1,6 @@
 use Rattle.std.proofs.Common.{◌≡◌, [], map, arith, rules, vec_len}
 use Rattle.std.specs.Arc.{arc_value}
-use Rattle.graph_version.specs.declared.versions.Version.{Version}
-use Rattle.graph_version.specs.Versions.{VersionView}
+use Rattle.graph_version.specs.{declared.versions.Version.Version, Versions.VersionView}
 use Rattle.version_shelf.specs.Shelves.{opened_shelf}
 use Rattle.store_steps.specs.Opening.{opened_desk}
 use Rattle.stream_store.specs.Kept.{entry_of}

@@ -1,5 +1,4 @@
-use Rattle.std.proofs.Common.{◌≡◌, ap, subst, ◌∙◌}
-use Rattle.std.proofs.lemmas.Result.{MatchResult-weaker}
+use Rattle.std.proofs.{Common.◌≡◌, Common.ap, Common.subst, Common.◌∙◌, lemmas.Result.MatchResult-weaker}
 use Rattle.version_shelf.specs.Shelves.{ToldView, Begins}
 use Rattle.stream_store.specs.Seats.{SeatView}
 use Rattle.stream_store.proofs.seats.Seat.learn.Goals as goal

@@ -1,11 +1,8 @@
-use Rattle.std.proofs.Common.{ℕ}
+use Rattle.std.proofs.{Common.ℕ, lemmas.Result.IfErr-weaker}
 use Rattle.std.specs.Prelude.{count_by}
-use Rattle.std.proofs.lemmas.Result.{IfErr-weaker}
 use Rattle.block_pool.specs.Pools.{is_free}
 use Rattle.store_steps.specs.Steps.{Accepts}
-use Rattle.stream_store.specs.Applying.{IsReceipt}
-use Rattle.stream_store.specs.Kept.{DeskState}
-use Rattle.stream_store.specs.Refusals.{Refuses, IsWithin}
+use Rattle.stream_store.specs.{Applying.IsReceipt, Kept.DeskState, Refusals.Refuses, Refusals.IsWithin}
 use Rattle.stream_store.specs.Stores.{IsReceiptOf, IsRefusalOf}
 use Rattle.stream_store.proofs.ReceiptLaws.{by_three, receipt_of}
 use Rattle.stream_store.proofs.store.NamedDesk.apply.Goals as goal

@@ -4,10 +4,8 @@ use Rattle.graph_version.specs.Versions.{VersionView}
 use Rattle.pin_copy.specs.declared.copies.PinCopy.{PinCopy}
 use Rattle.block_pool.specs.Pools.{is_past}
 use Rattle.seat_board.specs.Board.{BoardState, copy_of}
-use Rattle.store_steps.specs.Desks.{IsCollected}
-use Rattle.store_steps.specs.Steps.{TakesAt, recycling}
-use Rattle.stream_store.specs.Kept.{DeskState}
-use Rattle.stream_store.specs.Stores.{copied}
+use Rattle.store_steps.specs.{Desks.IsCollected, Steps.TakesAt, Steps.recycling}
+use Rattle.stream_store.specs.{Kept.DeskState, Stores.copied}
 use Rattle.stream_store.proofs.store.NamedDesk.collect.Goals as goal
 
 -- the copy that the board answers is that of the desk's last number

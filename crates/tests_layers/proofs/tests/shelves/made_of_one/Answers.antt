@@ -1,6 +1,5 @@
 use Rattle.std.proofs.Common.{◌≡◌, ◌∙◌, [], refl, ap, sym, subst, arith}
-use Rattle.graph_version.specs.Versions.{empty_version}
-use Rattle.graph_version.specs.Drafts.{DraftView, IsWhole, drafted_over, with_batch}
+use Rattle.graph_version.specs.{Versions.empty_version, Drafts.DraftView, Drafts.IsWhole, Drafts.drafted_over, Drafts.with_batch}
 use Rattle.graph_version.proofs.Empty.{is_empty_version}
 use Rattle.tests_layers.proofs.tests.shelves.made_of_one.Goals as goal
 

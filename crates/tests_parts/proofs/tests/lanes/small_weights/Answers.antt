@@ -1,7 +1,4 @@
-use Rattle.std.proofs.Common.{arith, ◌∙◌}
-use Rattle.std.proofs.lemmas.Int.{ints}
-use Rattle.std.proofs.lemmas.List.{length-set}
-use Rattle.std.proofs.lemmas.List.Elements.{AllWithin-more_set}
+use Rattle.std.proofs.{Common.arith, Common.◌∙◌, lemmas.Int.ints, lemmas.List.length-set, lemmas.List.Elements.AllWithin-more_set}
 use Rattle.lane_scan.specs.Masks.{IsWeight}
 use Rattle.tests_parts.proofs.tests.lanes.small_weights.Goals as goal
 

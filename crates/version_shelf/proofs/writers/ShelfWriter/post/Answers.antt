@@ -1,7 +1,6 @@
 use Rattle.std.proofs.Common.{◌≡◌, ◌++◌, ◌∷◌, [], inl, inr, sym, ap, ◌∙◌}
 use Rattle.graph_version.specs.Versions.{VersionView}
-use Rattle.version_shelf.specs.Histories.{HistoryView}
-use Rattle.version_shelf.specs.Shelves.{ToldView, ShelfView}
+use Rattle.version_shelf.specs.{Histories.HistoryView, Shelves.ToldView, Shelves.ShelfView}
 use Rattle.version_shelf.proofs.Steps.{still_showing, ends_with_last}
 use Rattle.version_shelf.proofs.writers.ShelfWriter.post.Goals as goal
 

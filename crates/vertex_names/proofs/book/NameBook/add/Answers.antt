@@ -1,7 +1,6 @@
 use Rattle.std.proofs.Common.{◌≡◌, ◌∙◌, ◌++◌, ◌∷◌, ◌<◌, [], ℕ, List, length, false, sym, ap, arith}
 use Rattle.graph_model.specs.Answer.{is_listed}
-use Rattle.vertex_names.specs.Book.{Book}
-use Rattle.vertex_names.specs.Tables.{names_of}
+use Rattle.vertex_names.specs.{Book.Book, Tables.names_of}
 use Rattle.vertex_names.proofs.Names.{number_of-new, not_listed, IsBook-pushed}
 use Rattle.vertex_names.proofs.book.NameBook.add.Goals as goal
 

@@ -1,6 +1,4 @@
-use Rattle.std.specs.Arc.{arc_value}
-use Rattle.std.specs.declared.sync.Arc.{Arc}
-use Rattle.std.specs.declared.alloc.Global.{Global}
+use Rattle.std.specs.{Arc.arc_value, declared.sync.Arc.Arc, declared.alloc.Global.Global}
 use Rattle.vertex_names.specs.declared.part.Part.{Part}
 use Rattle.list_pieces.proofs.Shown.{zipped_map}
 use Rattle.vertex_names.proofs.index.HashIndex.share.Goals as goal

@@ -1,9 +1,6 @@
 use Rattle.std.proofs.Common.{◌≡◌, ◌∙◌, ◌<◌, ℕ, List, length, get_or, sym, ap, subst, nat_eq}
-use Rattle.std.specs.Map.{lookup}
-use Rattle.std.specs.declared.sync.Arc.{Arc}
-use Rattle.std.specs.declared.alloc.Global.{Global}
-use Rattle.vertex_names.specs.declared.piece.Piece.{Piece}
-use Rattle.vertex_names.specs.Order.{firsts, last_place}
+use Rattle.std.specs.{Map.lookup, declared.sync.Arc.Arc, declared.alloc.Global.Global}
+use Rattle.vertex_names.specs.{declared.piece.Piece.Piece, Order.firsts, Order.last_place}
 use Rattle.vertex_names.proofs.Splits.{found_read}
 use Rattle.vertex_names.proofs.part.Part.first.Goals as goal
 

@@ -1,10 +1,7 @@
 use Rattle.std.proofs.Common.{◌≡◌, ◌∙◌, ◌≤◌, ◌<◌, ◌/◌, ◌%◌, ℕ, ap, sym, subst, List, length, get_or, arith}
-use Rattle.std.specs.List.{slice_get}
-use Rattle.std.specs.declared.sync.Arc.{Arc}
-use Rattle.std.specs.declared.alloc.Global.{Global}
+use Rattle.std.specs.{List.slice_get, declared.sync.Arc.Arc, declared.alloc.Global.Global}
 use Rattle.std.proofs.lemmas.Bool.{ltb-false}
-use Rattle.vertex_names.specs.Texts.{names_in}
-use Rattle.vertex_names.specs.declared.texts.Chunk.{Chunk}
+use Rattle.vertex_names.specs.{Texts.names_in, declared.texts.Chunk.Chunk}
 use Rattle.list_pieces.proofs.Pieces.{at_piece, past_pieces}
 use Rattle.vertex_names.proofs.texts.Texts.name.Goals as goal
 

@@ -1,7 +1,6 @@
 use Rattle.std.proofs.Common.{◌∙◌, ap, length}
 use Rattle.vertex_names.specs.Texts.{names_in}
-use Rattle.list_pieces.proofs.Pieces.{zipped_pieces}
-use Rattle.list_pieces.proofs.Shown.{zipped_flat}
+use Rattle.list_pieces.proofs.{Pieces.zipped_pieces, Shown.zipped_flat}
 use Rattle.vertex_names.proofs.texts.Texts.share.Goals as goal
 
 pub invariant_of-result : goal.invariant_of-result
