@@ -3,7 +3,7 @@ use Rattle.std.proofs.Common.{◌≡◌, ℕ, ◌%◌, ◌^◌, List, refl, arit
 use Rattle.graph_model.specs.{Graph.Graph, declared.batches.NamedOp.NamedOp}
 use Rattle.edge_block.specs.Slots.{BlockView}
 use Rattle.vertex_names.specs.Book.{Book}
-use Rattle.graph_version.specs.Kept.{version_of, edge_total, IsKept}
+use Rattle.graph_version.specs.Kept.{version_of, edge_total, IsSummary}
 use Rattle.graph_version.specs.Drafts.{DraftView, drafted_over, IsWhole}
 use Rattle.graph_version.proofs.Few.{few_total}
 
@@ -13,7 +13,7 @@ draft_of names kinds opening batches rows = record { names = names; kinds = kind
 
 pub drafted : (names kinds old_names old_kinds : Book) (opening old_opening : Graph)
     (batches old_batches : List (List NamedOp)) (rows old_rows : List (List BlockView)) (edges : ℕ)
-    → IsKept old_names old_kinds edges (version_of old_opening old_batches old_rows) → names ≡ old_names → kinds ≡ old_kinds
+    → IsSummary old_names old_kinds edges (version_of old_opening old_batches old_rows) → names ≡ old_names → kinds ≡ old_kinds
     → opening ≡ old_opening → batches ≡ old_batches → rows ≡ old_rows
     → draft_of names kinds opening batches rows ≡ drafted_over (version_of old_opening old_batches old_rows)
 drafted names kinds old_names old_kinds opening old_opening batches old_batches rows old_rows edges is n k o b r =
@@ -25,7 +25,7 @@ drafted names kinds old_names old_kinds opening old_opening batches old_batches 
 pub whole_kept : (names kinds : Book) (opening : Graph) (batches : List (List NamedOp)) (rows : List (List BlockView))
     (edges : ℕ)
     → IsWhole (draft_of names kinds opening batches rows) → edges ≡ edge_total (version_of opening batches rows) % 2 ^ 64
-    → IsKept names kinds edges (version_of opening batches rows)
+    → IsSummary names kinds edges (version_of opening batches rows)
 whole_kept names kinds opening batches rows edges is count = record {
   names_are = is.names_are;
   kinds_are = is.kinds_are;

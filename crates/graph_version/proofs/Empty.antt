@@ -4,7 +4,7 @@ use Rattle.std.specs.{Option.is_some, FinMap.get-empty, FinMap.len-empty}
 use Rattle.graph_model.specs.{Graph.Graph, Graph.Stamp, Graph.key_cmp, Step.empty_graph, declared.batches.NamedOp.NamedOp}
 use Rattle.edge_block.specs.Slots.{BlockView}
 use Rattle.vertex_names.specs.Book.{Book, empty_book}
-use Rattle.graph_version.specs.{Versions.IsVersion, Versions.empty_version, Kept.version_of, Kept.IsKept}
+use Rattle.graph_version.specs.{Versions.IsVersion, Versions.empty_version, Kept.version_of, Kept.IsSummary}
 use Rattle.block_layout.specs.Rows.{IsRow}
 
 pub no_row : IsRow []
@@ -24,7 +24,7 @@ is_empty_version = record {
 -- what a version keeps is true of the one without batches
 pub is_kept_empty : (names kinds : Book) (opening : Graph) (batches : List (List NamedOp)) (rows : List (List BlockView))
     (edges : ℕ) → names ≡ empty_book 65536 → kinds ≡ empty_book 64 → opening ≡ empty_graph → batches ≡ [] → rows ≡ []
-    → edges ≡ 0 → IsKept names kinds edges (version_of opening batches rows)
+    → edges ≡ 0 → IsSummary names kinds edges (version_of opening batches rows)
 is_kept_empty names kinds opening batches rows edges n k o b r e =
     rw (n, k, o, b, r, e) (record {
       names_are = refl;

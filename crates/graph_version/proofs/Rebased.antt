@@ -14,7 +14,7 @@ use Rattle.row_pages.specs.Rows.{row_of, blocks_of, numbers_of, Replaces}
 use Rattle.row_pages.specs.Sharing.{block_value, block_values}
 use Rattle.graph_version.specs.Versions.{VersionView, IsBlockOf, AreRowsOf, IsVersion, content, layout_of}
 use Rattle.graph_version.specs.Edges.{edge_from, edges_in_block, edges_in_blocks}
-use Rattle.graph_version.specs.Kept.{vertex_book, kind_book, version_of, IsKept}
+use Rattle.graph_version.specs.Kept.{vertex_book, kind_book, version_of, IsSummary}
 use Rattle.graph_version.specs.Rebased.{AreCopies, IsRebased, rows_like, unnumbered}
 use Rattle.graph_version.proofs.{Shown.rows_each_once, Totals.same_blocks, Totals.at_source, Totals.elsewhere}
 
@@ -235,11 +235,11 @@ is_version_zero v blocks copy g is like same = record {
 
 -- what the other version keeps this one keeps
 pub rebased_kept : (names kinds old_names old_kinds : Book) (v : VersionView) (blocks : List BlockView)
-    (batches : List (List NamedOp)) (copy : List (List BlockView)) (g : Graph) (edges : ℕ) → IsKept old_names old_kinds edges v
+    (batches : List (List NamedOp)) (copy : List (List BlockView)) (g : Graph) (edges : ℕ) → IsSummary old_names old_kinds edges v
     → names ≡ old_names → kinds ≡ old_kinds → batches ≡ [] → LookLike v blocks copy → g ≡ content v
-    → IsKept names kinds edges (version_of g batches copy)
+    → IsSummary names kinds edges (version_of g batches copy)
 rebased_kept names kinds old_names old_kinds v blocks batches copy g edges is n k none like same =
-    subst (λ (bs : List (List NamedOp)). IsKept names kinds edges (version_of g bs copy)) (sym none) (record {
+    subst (λ (bs : List (List NamedOp)). IsSummary names kinds edges (version_of g bs copy)) (sym none) (record {
       names_are = n ∙ is.names_are ∙ ap (λ (h : Graph). vertex_book h.names) (sym same);
       kinds_are = k ∙ is.kinds_are ∙ ap (λ (h : Graph). kind_book h.kinds) (sym same);
       edges_are = is.edges_are ∙ ap (λ (h : Graph). len h.edges) (sym same);
@@ -315,7 +315,7 @@ numbers_long a b same =
     ∙ length-map (block_values b) (λ (x : BlockView). x.number) ∙ length-map b block_value
 
 -- the content's lists
-pub same_content : (names kinds : Book) (edges : ℕ) (v : VersionView) (c : Content) → IsKept names kinds edges v
+pub same_content : (names kinds : Book) (edges : ℕ) (v : VersionView) (c : Content) → IsSummary names kinds edges v
     → c.names ≡ names.names → c.kinds ≡ kinds.names → c.edges ≡ edges_in_blocks (blocks_of v.rows) → graph_of c ≡ content v
 same_content names kinds edges v c is n k e =
     let each = rows_each_once (content v) v.rows is.version.rows in

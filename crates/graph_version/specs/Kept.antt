@@ -36,7 +36,7 @@ abbrev pub edge_total : VersionView → ℕ
 edge_total v = len (content v).edges
 
 -- the books list the content's names, and the count is that of its edges
-pub record IsKept (names kinds : Book) (edges : ℕ) (v : VersionView) : Type 0 where
+pub record IsSummary (names kinds : Book) (edges : ℕ) (v : VersionView) : Type 0 where
   pub names_are : names ≡ vertex_book (content v).names
   pub kinds_are : kinds ≡ kind_book (content v).kinds
   pub edges_are : edges ≡ edge_total v

@@ -58,7 +58,7 @@ impl Drop for Version {
 
 impl Model for Version {
     ghost use Rattle.graph_version.specs.Versions.{VersionView};
-    ghost use Rattle.graph_version.specs.Kept.{version_of, opening_graph, IsKept};
+    ghost use Rattle.graph_version.specs.Kept.{version_of, opening_graph, IsSummary};
     ghost use Rattle.std.specs.Coded.{codes};
     ghost use Rattle.graph_model.specs.Coded.{graph_code};
 
@@ -68,7 +68,7 @@ impl Model for Version {
 
     ghost view = { λ v. version_of (opening_graph v.opening) v.batches v.rows };
 
-    ghost invariant = { λ v. IsKept v.names v.kinds v.edges (version_of (opening_graph v.opening) v.batches v.rows) };
+    ghost invariant = { λ v. IsSummary v.names v.kinds v.edges (version_of (opening_graph v.opening) v.batches v.rows) };
 }
 
 impl Version {

@@ -10,7 +10,7 @@ use Rattle.clap.specs.declared.{builder.value_parser.ValueParser.TheVariants.Uns
 use Rattle.clap.specs.Walk.{Row, Text, one_of, rows_of}
 use Rattle.clap.proofs.WalkLemmas.{first_value-rows, one_text-rows}
 use Rattle.clap.proofs.ValueTestLemmas.{Accepts-accepts, accepts-Accepts}
-use Rattle.stream_store.specs.{Configs.IsWithinLimits, Configs.ConfigView, declared.config.BadConfig.BadConfig}
+use Rattle.stream_store.specs.{Configs.AreSizesWithin, Configs.ConfigView, declared.config.BadConfig.BadConfig}
 use Rattle.stinger_cli.specs.Program.{is_quiet, number_within, readers_of, sizes_given, sizes_of}
 
 -- a number, where it lies within limits
@@ -92,8 +92,8 @@ no_seats (Some w) (Some b) = refl
 -- a configuration is made of just the numbers within their limits
 pub sizes_made : (workers blocks seats : ℕ) (made : Result ConfigView BadConfig)
     → MatchResult made
-    (λ config. (config ≡ record { workers = workers; blocks = blocks; seats = seats }) × IsWithinLimits workers blocks seats)
-    (λ _. IsWithinLimits workers blocks seats → ⊥)
+    (λ config. (config ≡ record { workers = workers; blocks = blocks; seats = seats }) × AreSizesWithin workers blocks seats)
+    (λ _. AreSizesWithin workers blocks seats → ⊥)
     → sizes_given made ≡ sized (within 1 8 workers) (within 16 65536 blocks) (within 1 16 seats)
 sizes_made workers blocks seats (Ok config) valid =
     let limits = valid.1 in
@@ -200,7 +200,7 @@ sized_all (Some w) (Some b) (Some s) sizes e = (
 )
 
 pub sizes_limits : (rows : List Row) (sizes : ConfigView) → sizes_of rows ≡ Some sizes
-    → IsWithinLimits sizes.workers sizes.blocks sizes.seats
+    → AreSizesWithin sizes.workers sizes.blocks sizes.seats
 sizes_limits rows sizes e =
     let all = sized_all (number_within 1 8 (one_of (codes "workers") rows))
     (number_within 16 65536 (one_of (codes "blocks") rows)) (number_within 1 16 (one_of (codes "seats") rows)) sizes e in

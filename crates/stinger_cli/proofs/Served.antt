@@ -10,7 +10,7 @@ use Rattle.stinger_cli.specs.Program.{Asked, Drive, Help, RunView, Serve, Usage,
 use Rattle.stinger_cli.specs.Program.{asked_for, asked_of_command, asked_of_subcommand, is_quiet, is_version}
 use Rattle.stinger_cli.specs.Program.{is_wish_for_help, program, readers_of, sizes_of, without_help}
 use Rattle.stinger_cli.specs.declared.program.Order.{Order}
-use Rattle.stream_store.specs.Configs.{IsWithinLimits, ConfigView}
+use Rattle.stream_store.specs.Configs.{AreSizesWithin, ConfigView}
 use Rattle.store_drive.specs.Reports.{IsReaderCount}
 
 abbrev Met : Type 0
@@ -18,7 +18,7 @@ Met = Option (Text × List Row)
 
 -- what is asked for has its numbers within their limits
 abbrev HasLimits : Asked → Type 0
-HasLimits (Serve run) = IsWithinLimits run.sizes.workers run.sizes.blocks run.sizes.seats
+HasLimits (Serve run) = AreSizesWithin run.sizes.workers run.sizes.blocks run.sizes.seats
 HasLimits (Drive readers) = IsReaderCount readers
 HasLimits Help = Unit {0}
 HasLimits Version = Unit {0}
@@ -64,7 +64,7 @@ asked_limits arguments = go (is_version arguments)
         (found_limits (subcommand_of program (without_help arguments)))
 
 pub serves_within : (arguments : List Text) (run : RunView) → asked arguments ≡ Serve run
-    → IsWithinLimits run.sizes.workers run.sizes.blocks run.sizes.seats
+    → AreSizesWithin run.sizes.workers run.sizes.blocks run.sizes.seats
 serves_within arguments run e = subst HasLimits e (asked_limits arguments)
 
 pub drives_within : (arguments : List Text) (readers : ℕ) → asked arguments ≡ Drive readers → IsReaderCount readers

@@ -16,7 +16,7 @@ use Rattle.clap.specs.declared.builder.action.ArgAction.TheVariants.{SetTrue}
 use Rattle.clap.specs.declared.error.kind.ErrorKind.{ErrorKind}
 use Rattle.clap.specs.declared.error.kind.ErrorKind.TheVariants.{DisplayHelp}
 use Rattle.feed_csv.specs.Records.{records_of}
-use Rattle.stream_store.specs.Configs.{ConfigView, IsWithinLimits}
+use Rattle.stream_store.specs.Configs.{ConfigView, AreSizesWithin}
 use Rattle.stream_store.specs.declared.config.BadConfig.{BadConfig}
 use Rattle.stinger_cli.specs.declared.program.RunOptions.{RunOptions}
 use Rattle.stinger_cli.specs.declared.program.Order.{Order}
@@ -262,7 +262,7 @@ ReadsPlainly = (arguments : List (List ℕ)) → begins_with_option arguments �
 -- a script is served with sizes within their limits alone
 abbrev pub ServesWithinLimits : Type 0
 ServesWithinLimits = (arguments : List (List ℕ)) → (run : RunView) → asked arguments ≡ Serve run
-    → IsWithinLimits run.sizes.workers run.sizes.blocks run.sizes.seats
+    → AreSizesWithin run.sizes.workers run.sizes.blocks run.sizes.seats
 
 -- and a drive has one to four readers
 abbrev pub DrivesWithinLimits : Type 0

@@ -11,12 +11,12 @@ use Rattle.version_shelf.specs.Shelves.{ShelfView, opened_shelf}
 use Rattle.store_steps.specs.Opening.{IsVersionZero, opened_desk}
 use Rattle.store_steps.proofs.CollectedDesk.{desk_collected, is_collected, collected_is_desk}
 use Rattle.store_steps.proofs.OpeningShown.{opened_is_desk}
-use Rattle.stream_store.specs.Kept.{DeskState, IsKept}
+use Rattle.stream_store.specs.Kept.{DeskState, IsDeskState}
 
 -- what is kept holds of equal values too
-pub kept_same : (d e : DeskState) (s t : ShelfView) (entries room others more : ℕ) → IsKept d s entries room
+pub kept_same : (d e : DeskState) (s t : ShelfView) (entries room others more : ℕ) → IsDeskState d s entries room
     → e ≡ d → t ≡ s → others ≡ entries → room ≤ more
-    → IsKept e t others more
+    → IsDeskState e t others more
 kept_same d e s t entries room others more kept same shelf len grows = record {
   desk = rw same kept.desk;
   book_is = rw (same, shelf) kept.book_is;
@@ -48,7 +48,7 @@ marked_unretired (n ∷ ns) xs none = marked_unretired ns (slice_set xs n (Used 
 
 -- an opened desk
 pub opened_kept : (book : Book) (blocks workers : ℕ) (v : VersionView) → IsVersionZero blocks v → 1 ≤ workers → workers ≤ 8
-    → IsKept (record { book = book; workers = workers; desk = opened_desk blocks v }) (opened_shelf book v) 0 0
+    → IsDeskState (record { book = book; workers = workers; desk = opened_desk blocks v }) (opened_shelf book v) 0 0
 opened_kept book blocks workers v zero_is some few = record {
   desk = opened_is_desk blocks v zero_is;
   book_is = refl;
@@ -65,9 +65,9 @@ abbrev pub state_collected : DeskState → PinCopy → DeskState
 state_collected d copy = record { book = d.book; workers = d.workers; desk = desk_collected d.desk copy }
 
 pub collection_kept : (d e : DeskState) (copy : PinCopy) (s : ShelfView) (entries capacity others room : ℕ)
-    → IsKept d s entries capacity
+    → IsDeskState d s entries capacity
     → copy.last ≤ length d.desk.last.batches → e ≡ state_collected d copy → others + count_by is_retired e.desk.pool ≤ room
-    → IsKept e s others room
+    → IsDeskState e s others room
 collection_kept d e copy s entries capacity others room kept low is fits = record {
   desk = collected_is_desk d.desk e.desk copy kept.desk low
       (is_collected d.desk e.desk copy (ap (λ (x : DeskState). x.desk) is));

@@ -22,7 +22,7 @@ use Rattle.stream_store.specs.declared.entries.JournalEntry.{JournalEntry}
 use Rattle.stream_store.specs.declared.entries.JournalEntry.TheVariants as entries
 use Rattle.stream_store.specs.{declared.applying.Prepared.Prepared, declared.receipts.ApplyError.ApplyError, Applying.IsPrepared}
 use Rattle.stream_store.specs.declared.receipts.ApplyError.TheVariants.{BatchLimit, NamesFull, KindsFull, PoolEmpty, OutOfMemory}
-use Rattle.stream_store.specs.{Kept.DeskState, Kept.IsKept, Kept.entry_of, Moves.AreUsedOnce, Moves.AreBornOnce}
+use Rattle.stream_store.specs.{Kept.DeskState, Kept.IsDeskState, Kept.entry_of, Moves.AreUsedOnce, Moves.AreBornOnce}
 use Rattle.stream_store.specs.Refusals.{Refuses, RefusesGrant, IsAdmitted, IsWithin, asked, block_count, workers_for}
 use Rattle.stream_store.proofs.UsedBlocks.{used_blocks}
 
@@ -213,7 +213,7 @@ pub end_kept : (h : Handing) (new : DeskState) (shelf : ShelfView) (entries room
     → new.desk ≡ next_desk (application h)
     → shelf.book ≡ new.book → shelf.opening ≡ h.old.last.opening → shelf.posted ≡ (version_of h).batches → 1 ≤ new.workers
     → new.workers ≤ 8
-    → entries + count_by is_retired new.desk.pool ≤ room → IsKept new shelf entries room
+    → entries + count_by is_retired new.desk.pool ≤ room → IsDeskState new shelf entries room
 end_kept h new shelf entries room is book opening posted some few fits = record {
   desk = subst IsDesk (sym is) (made_desk (application h));
   book_is = book;

@@ -7,7 +7,7 @@ pub record ConfigView : Type 0 where
   pub seats : ℕ
 
 -- 1 to 8 workers, 16 to 65,536 blocks, and 1 to 16 seats
-pub record IsWithinLimits (workers blocks seats : ℕ) : Type 0 where
+pub record AreSizesWithin (workers blocks seats : ℕ) : Type 0 where
   pub workers_some : 1 ≤ workers
   pub workers_few : workers ≤ 8
   pub blocks_some : 16 ≤ blocks

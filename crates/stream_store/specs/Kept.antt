@@ -32,7 +32,7 @@ state_of book workers opened last journal pool = record {
 
 -- it is a desk, the shelf has posted the last version's batches, and the journal's spare room is never below the number
 -- of retired blocks, so that a collection takes no memory
-pub record IsKept (d : DeskState) (shelf : ShelfView) (entries room : ℕ) : Type 0 where
+pub record IsDeskState (d : DeskState) (shelf : ShelfView) (entries room : ℕ) : Type 0 where
   pub desk : IsDesk d.desk
   pub book_is : shelf.book ≡ d.book
   pub opening_is : shelf.opening ≡ d.desk.last.opening

@@ -1,7 +1,7 @@
 //! How large a store is.
 
 ghost use Rattle.std.specs.Prelude.{◌≡◌, MatchResult};
-ghost use Rattle.stream_store.specs.Configs.{IsWithinLimits};
+ghost use Rattle.stream_store.specs.Configs.{AreSizesWithin};
 
 use std::marker::Model;
 use thiserror::Error;
@@ -16,13 +16,13 @@ pub struct Config {
 }
 
 impl Model for Config {
-    ghost use Rattle.stream_store.specs.Configs.{ConfigView, IsWithinLimits};
+    ghost use Rattle.stream_store.specs.Configs.{ConfigView, AreSizesWithin};
 
     ghost Value = { ConfigView };
 
     ghost view = { λ c. record { workers = c.workers; blocks = c.blocks; seats = c.seats } };
 
-    ghost invariant = { λ c. IsWithinLimits c.workers c.blocks c.seats };
+    ghost invariant = { λ c. AreSizesWithin c.workers c.blocks c.seats };
 
     ghost inverse = { λ c. record { workers = c.workers; blocks = c.blocks; seats = c.seats } };
 }
@@ -37,8 +37,8 @@ impl Config {
     pub fn new(workers: usize, blocks: u32, seats: usize) -> Result<Config, BadConfig>
         ensures { MatchResult result
             (λ config. (config ≡ record { workers = workers; blocks = blocks; seats = seats })
-            × IsWithinLimits workers blocks seats)
-            (λ _. IsWithinLimits workers blocks seats → ⊥) }
+            × AreSizesWithin workers blocks seats)
+            (λ _. AreSizesWithin workers blocks seats → ⊥) }
     {
         let is_within = 1 <= workers
             && workers <= 8
@@ -59,7 +59,7 @@ impl Config {
     /// The number of workers.
     pub fn workers(self) -> usize
         ensures number { result ≡ self.workers }
-        ensures limits { IsWithinLimits self.workers self.blocks self.seats }
+        ensures limits { AreSizesWithin self.workers self.blocks self.seats }
     {
         self.workers
     }
@@ -67,7 +67,7 @@ impl Config {
     /// The number of blocks.
     pub fn blocks(self) -> u32
         ensures number { result ≡ self.blocks }
-        ensures limits { IsWithinLimits self.workers self.blocks self.seats }
+        ensures limits { AreSizesWithin self.workers self.blocks self.seats }
     {
         self.blocks
     }
@@ -75,7 +75,7 @@ impl Config {
     /// The number of seats.
     pub fn seats(self) -> usize
         ensures number { result ≡ self.seats }
-        ensures limits { IsWithinLimits self.workers self.blocks self.seats }
+        ensures limits { AreSizesWithin self.workers self.blocks self.seats }
     {
         self.seats
     }

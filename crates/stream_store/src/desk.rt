@@ -74,7 +74,7 @@ impl Model for Desk {
     ghost use Rattle.std.specs.Prelude.{vec_capacity, vec_len};
     ghost use Rattle.std.specs.Arc.{arc_value};
     ghost use Rattle.graph_version.specs.declared.versions.Version.{Version};
-    ghost use Rattle.stream_store.specs.Kept.{DeskState, state_of, IsKept};
+    ghost use Rattle.stream_store.specs.Kept.{DeskState, state_of, IsDeskState};
     ghost use Rattle.std.specs.Coded.{codes};
     ghost use Rattle.graph_model.specs.Coded.{graph_code};
 
@@ -85,7 +85,7 @@ impl Model for Desk {
     ghost view = { λ d. state_of d.shelf.book d.workers d.opened (arc_value {X = Version} d.last) d.journal.items d.pool };
 
     ghost invariant = { λ d.
-        IsKept (state_of d.shelf.book d.workers d.opened (arc_value {X = Version} d.last) d.journal.items d.pool) d.shelf
+        IsDeskState (state_of d.shelf.book d.workers d.opened (arc_value {X = Version} d.last) d.journal.items d.pool) d.shelf
         (vec_len d.journal) (vec_capacity d.journal) };
 }
 

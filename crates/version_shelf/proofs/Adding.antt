@@ -6,7 +6,7 @@ use Rattle.std.proofs.lemmas.{List.append-nil, Bool.eqb-true, Bool.true≢false}
 use mathlib.Core.List.{IsPrefix}
 use prog.Atomic.{either}
 use Rattle.logbook.specs.Pages.{Cell, cell, keeps, gives, adds, nib, no_nib, may_make, step, Moves, Goes}
-use Rattle.version_shelf.specs.Histories.{IsCounted, Makes, Adds, right_at, rights, cells_of}
+use Rattle.version_shelf.specs.Histories.{AreRightsUsed, Makes, Adds, right_at, rights, cells_of}
 use Rattle.version_shelf.proofs.Beginnings.{prefix_whole, prefix_length}
 use Rattle.version_shelf.proofs.Rights.{length_cells, first_left, use_up, one_more}
 
@@ -28,7 +28,7 @@ abbrev as_counted : ℕ → List Cell → List Cell
 as_counted n cs = (n, true) ∷ (0, true) ∷ cs
 
 -- Who has the right behind as many batches as it has seen has seen all.
-module _ (cs : List Cell) (log : List (List NamedOp)) (kept : IsCounted cs log) (place : ℕ) (few : place ≤ length log)
+module _ (cs : List Cell) (log : List (List NamedOp)) (kept : AreRightsUsed cs log) (place : ℕ) (few : place ≤ length log)
     (left_yet : (suc (suc place) < length cs) × ((cell cs (suc (suc place))).1 ≡ false)) where
   pub all_added : (length log ≡ place) × ((rest : ℕ) × (kept.left ≡ suc rest))
   all_added =
@@ -41,7 +41,7 @@ module _ (cs : List Cell) (log : List (List NamedOp)) (kept : IsCounted cs log) 
 -- A right is made.
 
 makes_goes : (log v : List (List NamedOp)) (e : List NamedOp) (old left : ℕ) (b : Bool) → (length log + left == old) ≡ b
-    → Goes IsCounted shown moved 0 (v, (no_nib, None)) (λ n. either (n == old) (old + 1) n)
+    → Goes AreRightsUsed shown moved 0 (v, (no_nib, None)) (λ n. either (n == old) (old + 1) n)
     (Makes (step 0 old (old + 1) e) (v, (no_nib, None))) (cells_of (length log) left) log
 makes_goes log v e old left true is =
     let here : length log + left ≡ old = eqb-true (length log + left) old is in
@@ -73,18 +73,18 @@ makes_goes log v e old left false is =
     )
 
 pub makes_moves : (v : List (List NamedOp)) (e : List NamedOp) (old : ℕ)
-    → Moves IsCounted shown moved 0 (v, (no_nib, None)) (λ n. either (n == old) (old + 1) n)
+    → Moves AreRightsUsed shown moved 0 (v, (no_nib, None)) (λ n. either (n == old) (old + 1) n)
     (Makes (step 0 old (old + 1) e) (v, (no_nib, None)))
 makes_moves v e old cs log kept pre away =
     let P : List Cell → Type 0 = λ c. (0 < length c) × ((cell c 0).1 ≡ true)
-    × Goes IsCounted shown moved 0 (v, (no_nib, None)) (λ n. either (n == old) (old + 1) n)
+    × Goes AreRightsUsed shown moved 0 (v, (no_nib, None)) (λ n. either (n == old) (old + 1) n)
     (Makes (step 0 old (old + 1) e) (v, (no_nib, None))) c log in
     subst P (sym kept.words) (omega arith, refl, makes_goes log v e old kept.left (length log + kept.left == old) refl)
 
 -- A batch is added.
 
 adds_goes : (log v : List (List NamedOp)) (e : List NamedOp) (old left : ℕ) → IsPrefix v log → length log ≡ length v
-    → Goes IsCounted shown moved 0 (v, (right_at (length v), None)) (λ n. either (n == old) old n)
+    → Goes AreRightsUsed shown moved 0 (v, (right_at (length v), None)) (λ n. either (n == old) old n)
     (Adds (step 0 old old e) (v, (right_at (length v), None))) (cells_of (length log) (suc left)) log
 adds_goes log v e old left pre as_long =
     let same : v ≡ log = prefix_whole v log pre (omega arith) in
@@ -105,11 +105,11 @@ adds_goes log v e old left pre as_long =
 
 -- whatever the history is, the batch is added to all that was seen, which is all there is
 pub adds_moves : (v : List (List NamedOp)) (e : List NamedOp) (old : ℕ)
-    → Moves IsCounted shown moved 0 (v, (right_at (length v), None)) (λ n. either (n == old) old n)
+    → Moves AreRightsUsed shown moved 0 (v, (right_at (length v), None)) (λ n. either (n == old) old n)
     (Adds (step 0 old old e) (v, (right_at (length v), None)))
 adds_moves v e old cs log kept pre away =
     let P : List Cell → Type 0 = λ c. (0 < length c) × ((cell c 0).1 ≡ true)
-    × Goes IsCounted shown moved 0 (v, (right_at (length v), None)) (λ n. either (n == old) old n)
+    × Goes AreRightsUsed shown moved 0 (v, (right_at (length v), None)) (λ n. either (n == old) old n)
     (Adds (step 0 old old e) (v, (right_at (length v), None))) c log in
     let all = all_added cs log kept (length v) (prefix_length v log pre) (away refl) in
     let is : cs ≡ cells_of (length log) (suc all.1.0) = kept.words ∙ ap (cells_of (length log)) all.1.1 in

@@ -21,7 +21,7 @@ abbrev pub cells_of : ℕ → ℕ → List Cell
 cells_of used left = (used + left, true) ∷ (0, true) ∷ rights used left
 
 -- as many rights were used up as there are batches
-pub record IsCounted (cells : List Cell) (log : List (List NamedOp)) : Type 0 where
+pub record AreRightsUsed (cells : List Cell) (log : List (List NamedOp)) : Type 0 where
   pub left : ℕ
   pub words : cells ≡ cells_of (length log) left
 

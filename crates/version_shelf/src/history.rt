@@ -14,9 +14,9 @@ pub struct HistoryRule;
 impl Rule<Batch, u64> for HistoryRule {
     ghost use Rattle.std.specs.Prelude.{[]};
     ghost use base.Fml.{ftrue};
-    ghost use Rattle.version_shelf.specs.Histories.{IsCounted};
+    ghost use Rattle.version_shelf.specs.Histories.{AreRightsUsed};
 
-    ghost holds = { λ cells log. IsCounted cells log };
+    ghost holds = { λ cells log. AreRightsUsed cells log };
 
     ghost first = { [] };
 

@@ -4,7 +4,7 @@ use Rattle.std.proofs.Common.{if◌then◌else◌, ◌-◌, Some, None, refl, sy
 use Rattle.std.specs.{List.insert, Map.lookup}
 use Rattle.std.proofs.{lemmas.Bool.cases_lt, lemmas.Bool.Decides.nat_tests, Math.Seq.map-set_same}
 use Rattle.std.proofs.lemmas.List.{length-map, get_or-map, get_or-take, get_or-drop, length-take, length-drop}
-use Rattle.vertex_names.specs.Order.{firsts, IsRising, IsAt, IsGap, last_place}
+use Rattle.vertex_names.specs.Order.{firsts, IsRising, IsFoundAt, IsGap, last_place}
 use Rattle.vertex_names.proofs.Places.{rising-tail, rising_gap, above_place, up_to_place}
 
 abbrev pub Pairs : Type 0
@@ -20,7 +20,7 @@ NoneBefore es q i = (j : ℕ) → j < i → key es j ≢ q
 tail-none : (x : ℕ × ℕ) (es : Pairs) (q i : ℕ) → NoneBefore (x ∷ es) q (suc i) → NoneBefore es q i
 tail-none x es q i none j lt = none (suc j) (omega arith)
 
-tail-at : (x : ℕ × ℕ) (es : Pairs) (q i : ℕ) → IsAt (x ∷ es) q (suc i) → IsAt es q i
+tail-at : (x : ℕ × ℕ) (es : Pairs) (q i : ℕ) → IsFoundAt (x ∷ es) q (suc i) → IsFoundAt es q i
 tail-at x es q i at = record { within = omega (arith, at.within); same = at.same }
 
 pub lookup_absent : (es : Pairs) (q : ℕ) → NoneBefore es q (length es) → lookup (nat_eq q) es ≡ None
@@ -28,14 +28,14 @@ lookup_absent [] q none = refl
 lookup_absent (x ∷ es) q none =
     grind (arith, nat_tests, none 0 (omega arith), lookup_absent es q (tail-none x es q _ none))
 
-pub lookup_present : (es : Pairs) (q i : ℕ) → IsAt es q i → NoneBefore es q i → lookup (nat_eq q) es ≡ Some (get_or es i (0, 0)).1
+pub lookup_present : (es : Pairs) (q i : ℕ) → IsFoundAt es q i → NoneBefore es q i → lookup (nat_eq q) es ≡ Some (get_or es i (0, 0)).1
 lookup_present [] q i at none = absurd (omega (arith, at.within))
 lookup_present (x ∷ es) q zero at none = grind (arith, nat_tests, at.same)
 lookup_present (x ∷ es) q (suc i) at none =
     grind (arith, nat_tests, none 0 (omega arith), lookup_present es q i (tail-at x es q i at) (tail-none x es q i none))
 
 -- a new number at the hash
-pub lookup-set : (es : Pairs) (h v i : ℕ) → IsAt es h i → NoneBefore es h i → (q : ℕ)
+pub lookup-set : (es : Pairs) (h v i : ℕ) → IsFoundAt es h i → NoneBefore es h i → (q : ℕ)
     → lookup (nat_eq q) (set es i (h, v)) ≡ (if nat_eq h q then Some v else lookup (nat_eq q) es)
 lookup-set [] h v i at none q = absurd (omega (arith, at.within))
 lookup-set (x ∷ es) h v zero at none q = grind (arith, nat_tests, at.same)
@@ -134,20 +134,20 @@ first_at {X} xs i x lt = get_or-map (λ (p : ℕ × X). p.0) xs i x 0 lt
 
 -- where the search of a hash ends
 module _ (es : Pairs) (rising : IsRising (firsts es)) (q i : ℕ) where
-  before_at : IsAt es q i → NoneBefore es q i
+  before_at : IsFoundAt es q i → NoneBefore es q i
   before_at at j lt same =
       let long = length-map es (λ (p : ℕ × ℕ). p.0) in
       let r = rising j i lt (omega (arith, long, at.within)) in
       let here = at.same in omega (arith, r, here, same)
 
-  pub found : IsAt es q i → lookup (nat_eq q) es ≡ Some (get_or es i (0, 0)).1
+  pub found : IsFoundAt es q i → lookup (nat_eq q) es ≡ Some (get_or es i (0, 0)).1
   found at = lookup_present es q i at (before_at at)
 
-  pub put-found : IsAt es q i → (v r : ℕ)
+  pub put-found : IsFoundAt es q i → (v r : ℕ)
       → lookup (nat_eq r) (set es i (q, v)) ≡ (if nat_eq q r then Some v else lookup (nat_eq r) es)
   put-found at v r = lookup-set es q v i at (before_at at) r
 
-  pub rising-found : IsAt es q i → (v : ℕ) → IsRising (firsts (set es i (q, v)))
+  pub rising-found : IsFoundAt es q i → (v : ℕ) → IsRising (firsts (set es i (q, v)))
   rising-found at v =
       let read : get_or (firsts es) i 0 ≡ (get_or es i (0, 0)).0 = get_or-map (λ (p : ℕ × ℕ). p.0) es i (0, 0) 0 at.within in
       rw (map-set_same (λ (p : ℕ × ℕ). p.0) es i (q, v) (0, 0) (sym at.same ∙ read)) rising

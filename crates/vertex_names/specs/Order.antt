@@ -23,7 +23,7 @@ pub record Bounds (ns : List ℕ) (n low high : ℕ) : Type 0 where
   pub order : low ≤ high
 
 -- the pairs' firsts: the one at a place is the hash
-pub record IsAt (entries : List (ℕ × ℕ)) (hash place : ℕ) : Type 0 where
+pub record IsFoundAt (entries : List (ℕ × ℕ)) (hash place : ℕ) : Type 0 where
   pub within : place < length entries
   pub same : get_or (firsts entries) place 0 ≡ hash
 

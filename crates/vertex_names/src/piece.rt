@@ -1,7 +1,7 @@
 ghost use Rattle.std.specs.Prelude.{◌≡◌, ◌≤◌, ◌<◌, ℕ, [], length, nat_eq, get_or, take, drop, Some, IfOk, IfErr, OnOk, OnErr};
 ghost use Rattle.std.specs.Prelude.{if◌then◌else◌};
 ghost use Rattle.std.specs.List.{insert};
-ghost use Rattle.vertex_names.specs.Order.{firsts, last_place, IsRising, IsAt, IsGap, Bounds};
+ghost use Rattle.vertex_names.specs.Order.{firsts, last_place, IsRising, IsFoundAt, IsGap, Bounds};
 
 use std::alloc::{AllocError, Global};
 use std::marker::Model;
@@ -203,7 +203,7 @@ impl Piece {
 
     /// Where a hash is, or where it would go.
     fn search(&self, hash: u64) -> Result<usize, usize>
-        ensures found { IfOk result (IsAt self.now hash) }
+        ensures found { IfOk result (IsFoundAt self.now hash) }
         ensures absent { IfErr result (IsGap self.now hash) }
     {
         let place = last_at(&self.entries, hash, self.spread.guess(hash), NEAR);

@@ -2,7 +2,7 @@ use Rattle.std.proofs.Common.{◌≡◌, ◌∙◌, ap, subst}
 use Rattle.std.specs.Arc.{arc_value}
 use Rattle.graph_model.specs.{Graph.graph_of, declared.contents.Content.Content}
 use Rattle.row_pages.specs.{Rows.row_of, Sharing.block_values}
-use Rattle.graph_version.specs.{Versions.content, Kept.IsKept, Rebased.rows_like}
+use Rattle.graph_version.specs.{Versions.content, Kept.IsSummary, Rebased.rows_like}
 use Rattle.graph_version.proofs.Rebased.{LookLike, look_blocks, rebased_kept, rebased_is}
 use Rattle.graph_version.proofs.versions.Version.rebased.Goals as goal
 
@@ -16,7 +16,7 @@ invariant_of-result c =
     let same : graph_of (arc_value {X = Content} c.in_ok-new.field-0) ≡ content c.args.self.now =
     ap graph_of c.in_ok-new.ensures.ok ∙ c.in_ok-contents.ensures in
     rebased_kept _ _ c.self.inside.names c.self.inside.kinds c.args.self.now (block_values c.args.blocks.items) _ _ _ _
-    (subst (IsKept c.self.inside.names c.self.inside.kinds c.self.inside.edges) c.self.view_is c.self.invariant)
+    (subst (IsSummary c.self.inside.names c.self.inside.kinds c.self.inside.edges) c.self.view_is c.self.invariant)
     c.in_ok-share.ensures c.in_ok-share-2.ensures c.new-2.ensures like same
 
 pub returns-clause-rebased : goal.returns-clause-rebased

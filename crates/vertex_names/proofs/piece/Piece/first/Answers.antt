@@ -1,12 +1,12 @@
 use Rattle.std.proofs.Common.{◌≡◌, ◌∙◌, ℕ, sym, ap, Some, get_or}
 use Rattle.std.proofs.lemmas.List.{get_or_default}
-use Rattle.vertex_names.specs.Order.{IsAt, IsGap}
+use Rattle.vertex_names.specs.Order.{IsFoundAt, IsGap}
 use Rattle.vertex_names.proofs.Entries.{found, missing}
 use Rattle.vertex_names.proofs.piece.Piece.first.Goals as goal
 
 pub returns-in-Ok : goal.returns-in-Ok
 returns-in-Ok c =
-    let at : IsAt c.self.inside.entries.items c.args.hash c.in-Ok.place = rw c.self.view_is c.in-Ok.ensures.found in
+    let at : IsFoundAt c.self.inside.entries.items c.args.hash c.in-Ok.place = rw c.self.view_is c.in-Ok.ensures.found in
     let value = found c.self.inside.entries.items c.self.invariant c.args.hash c.in-Ok.place at in
     let read : get_or c.self.inside.entries.items c.in-Ok.place (0, 0) ≡ c.index.result.now =
     get_or_default c.self.inside.entries.items c.in-Ok.place (0, 0) c.index.result.now at.within ∙ sym c.index.ensures in

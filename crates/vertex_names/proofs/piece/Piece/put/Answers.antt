@@ -1,10 +1,10 @@
-use Rattle.vertex_names.specs.Order.{IsAt, IsGap}
+use Rattle.vertex_names.specs.Order.{IsFoundAt, IsGap}
 use Rattle.vertex_names.proofs.Entries.{put-found, rising-found, put-missing, rising-missing}
 use Rattle.vertex_names.proofs.piece.Piece.put.Goals as goal
 
 pub invariant_of-self : goal.invariant_of-self
 invariant_of-self c =
-    let at : IsAt c.self.inside.entries.items c.args.hash c.in-Ok.place = rw c.self.view_is c.in-Ok.ensures.found in
+    let at : IsFoundAt c.self.inside.entries.items c.args.hash c.in-Ok.place = rw c.self.view_is c.in-Ok.ensures.found in
     rising-found c.self.inside.entries.items c.self.invariant c.args.hash c.in-Ok.place at c.args.number
 
 pub invariant_of-self-in-Err : goal.invariant_of-self-in-Err
@@ -15,7 +15,7 @@ invariant_of-self-in-Err c =
 
 pub returns-in-Ok-clause-put : goal.returns-in-Ok-clause-put
 returns-in-Ok-clause-put c =
-    let at : IsAt c.self.inside.entries.items c.args.hash c.in-Ok.place = rw c.self.view_is c.in-Ok.ensures.found in
+    let at : IsFoundAt c.self.inside.entries.items c.args.hash c.in-Ok.place = rw c.self.view_is c.in-Ok.ensures.found in
     rw (← c.self.view_is)
     (put-found c.self.inside.entries.items c.self.invariant c.args.hash c.in-Ok.place at c.args.number)
 
