@@ -1,7 +1,10 @@
 //! A store that threads share, as an example: one thread feeds two batches, and two readers hold a version each meanwhile. What it
-//! prints is the same whatever the schedule.
+//! prints is the same whatever the schedule. `example_readers ROUNDS` measures instead what a feed costs a reader: so many rounds of
+//! requests over a held version, alone and beside another thread that feeds. bench/beside runs that.
 #![tactic(auto)]
 
+mod beside;
+mod edges;
 mod feeder;
 mod readers;
 mod signs;
@@ -14,11 +17,11 @@ use crate::readers::{Sight, read};
 use crate::signs::{BOTH_HELD, FIRST_HELD, Signs};
 use seat_board::Board;
 use std::alloc::Global;
-use std::io;
 use std::marker::Brand;
 use std::process::ExitCode;
 use std::sync::Wait;
 use std::thread::{Threads, join};
+use std::{env, io};
 use stream_store::{Collected, Config, Desk, Naming, Seat, Store, open_parts};
 
 /// What the readers held, and two collections: while they held it, and after.
@@ -131,12 +134,25 @@ fn print_report(rt: &impl Print, report: Report) -> io::Result<()> {
     print_collected(rt, "after they let them go", report.released)
 }
 
-fn main(rt: HostRuntime) -> ExitCode {
-    let printed = match over_a_new_store(&rt, rt.alloc()) {
-        Some(report) => print_report(&rt, report).is_ok(),
+/// Prints the lines of the example; whether they were.
+fn show(rt: &HostRuntime) -> bool {
+    match over_a_new_store(rt, rt.alloc()) {
+        Some(report) => print_report(rt, report).is_ok(),
         None => false,
+    }
+}
+
+/// The rounds to measure, where the first argument is a number.
+fn rounds(rt: &HostRuntime) -> Option<u32> {
+    env::args(rt).ok()?.nth(1)?.parse().ok()
+}
+
+fn main(rt: HostRuntime) -> ExitCode {
+    let is_done = match rounds(&rt) {
+        Some(rounds) => beside::measure(&rt, rounds).is_ok(),
+        None => show(&rt),
     };
-    if printed {
+    if is_done {
         ExitCode::SUCCESS
     } else {
         ExitCode::FAILURE

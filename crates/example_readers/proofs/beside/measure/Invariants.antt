@@ -1,4 +1,4 @@
-use Rattle.bench_store.proofs.beside.measure.Given as goal
+use Rattle.example_readers.proofs.beside.measure.Given as goal
 
 -- the store is of the opening that was just made
 abbrev pub ghosts-measure_over : goal.ghosts-measure_over
