@@ -11,7 +11,7 @@ use Rattle.batch_shards.specs.declared.shard.ShardDone.{ShardDone}
 use Rattle.graph_version.specs.Drafts.{DraftView, ReplacesRow}
 use Rattle.block_layout.specs.Batches.{together}
 use Rattle.batch_apply.specs.{Plans.written, Applied.ReplacesRows, Applied.written_from, Applied.row_among}
-use Rattle.batch_apply.proofs.{Kept.count_append, Placed.among_more}
+use Rattle.batch_apply.proofs.{Halves.cut, Kept.count_append, Placed.among_more}
 
 pub written_more : (ps : List (ℕ × Outcome)) (p : ℕ × Outcome) (xs : List Outcome)
     → written (ps ++ p ∷ []) xs ≡ set (written ps xs) p.0 (told (together (get_or (written ps xs) p.0 Absent) p.1))
@@ -34,11 +34,6 @@ none_after (x ∷ xs) = ap (λ l. x ∷ l) (none_after xs)
 
 pub flat_more : {X A : Type 0} (f : X → List A) (xs : List X) (x : X) → flat_map f (xs ++ x ∷ []) ≡ flat_map f xs ++ f x
 flat_more f xs x = flat_map-append f xs (x ∷ []) ∙ ap (λ l. flat_map f xs ++ l) (none_after (f x))
-
-cut : {A : Type 0} (m : ℕ) (xs : List A) → take m xs ++ drop m xs ≡ xs
-cut zero xs = refl
-cut (suc m) [] = refl
-cut (suc m) (x ∷ xs) = ap (λ ys. x ∷ ys) (cut m xs)
 
 -- the numbers of a list that is cut in two
 pub cut_numbers : (m : ℕ) (all low high : List (Arc Block Global)) → low ≡ take m all → high ≡ drop m all

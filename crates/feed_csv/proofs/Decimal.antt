@@ -23,7 +23,7 @@ digit-le first digit = grind (arith, nat_tests)
 below_place : (d n v : ℕ) → d ≤ 9 → v < n → d * n + v < n * 10
 below_place d n v small below = omega (arith, mul-le-mul_right n small)
 
-both : (a b : Bool) → (a && b) ≡ true → (a ≡ true) × (b ≡ true)
+pub both : (a b : Bool) → (a && b) ≡ true → (a ≡ true) × (b ≡ true)
 both true b h = (refl, h)
 both false b h = cc h
 

@@ -3,10 +3,7 @@ use Rattle.std.proofs.Common.{◌≡◌, ℕ, zero, suc, ◌<◌, List, [], ◌�
 use Rattle.std.specs.{List.list_all, Str.IsAscii, Str.IsUtf8}
 use Rattle.std.proofs.lemmas.{Bool.Decides.nat_tests, Str.IsUtf8-from_ascii}
 use Rattle.graph_model.specs.Valid.{is_kind_name, is_name, is_printable}
-
-both : (a b : Bool) → (a && b) ≡ true → (a ≡ true) × (b ≡ true)
-both true b h = (refl, h)
-both false b h = cc h
+use Rattle.feed_csv.proofs.Decimal.{both}
 
 is_printable-lt : (byte : ℕ) → is_printable byte ≡ true → byte < 128
 is_printable-lt byte printable = grind (arith, nat_tests)

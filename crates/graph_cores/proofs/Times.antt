@@ -8,7 +8,7 @@ use Rattle.graph_model.proofs.Counts.{Contains-cons_cases, Contains-nil, Contain
 use Rattle.graph_model.proofs.Counts.{count_yes, count_no, sub_length}
 use Rattle.graph_cores.specs.Peel.{is_alive}
 
-differ : (y x : ℕ) → (y ≡ x → ⊥) → (y == x) ≡ false
+pub differ : (y x : ℕ) → (y ≡ x → ⊥) → (y == x) ≡ false
 differ y x ne = elim (cases_Bool (y == x)) [ inl t ↦ absurd (ne ((Decides-eqb y x).0 t)) | inr f ↦ f ]
 
 -- how often x is listed

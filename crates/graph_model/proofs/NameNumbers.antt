@@ -51,7 +51,7 @@ place_within names name place is = subst (λ k. k < length names) (sym (place_nu
     (number_of-lt names name (place_some names name place is))
 
 -- the number of a name that is absent is the one after the last
-number_absent : (names : List (List ℕ)) (name : List ℕ) → is_listed names name ≡ false → number_of names name ≡ length names
+pub number_absent : (names : List (List ℕ)) (name : List ℕ) → is_listed names name ≡ false → number_of names name ≡ length names
 number_absent [] name h = refl
 number_absent (x ∷ xs) name h =
     elim (bytes_eq name x) as (λ b. (b || is_listed xs name) ≡ false → cond (not b) (1 + number_of xs name) 0 ≡ suc (length xs)) [

@@ -171,6 +171,17 @@ impl Batch {
         }
     }
 
+    /// An empty batch with room for so many operations, at most 4,096, where there is memory for it, and else without. One that
+    /// grows to that length without room asks for memory once for each doubling, and moves its operations as often.
+    pub fn with_room(alloc: Global, count: usize) -> Batch
+        ensures { result ≡ [] }
+    {
+        match Vec::with_capacity(alloc, count.min(OPERATION_LIMIT)) {
+            Ok(ops) => Batch { ops },
+            Err(_) => Batch::new(alloc),
+        }
+    }
+
     /// How many operations there are: at most 4,096. It takes no memory.
     pub fn len(&self) -> usize
         ensures count { result ≡ length self.now }

@@ -156,7 +156,7 @@ static RUN_HELP: [&str; 2] = ["run", "--help"];
 static DRIVE_HELP: [&str; 2] = ["drive", "--help"];
 
 /// How many workers, blocks and seats a run has, and whether its progress is not to be shown.
-#[derive(Clone, Copy, Debug, PartialEq, Eq)]
+#[derive(Clone, Copy)]
 pub(crate) struct RunOptions {
     workers: usize,
     blocks: u32,
@@ -165,7 +165,7 @@ pub(crate) struct RunOptions {
 }
 
 /// What the arguments ask for, with the text that clap has for it.
-#[derive(Debug, Drop)]
+#[derive(Drop)]
 pub(crate) enum Order {
     Serve(RunOptions),
     Drive(usize),

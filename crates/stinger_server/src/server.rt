@@ -28,14 +28,14 @@ use std::thread::Threads;
 use stream_store::{ApplyError, Config, Desk, OpenError, Seat, Session, open_parts_from};
 
 /// What a record came to: its lines stand in the buffer, or it was refused.
-#[derive(Clone, Copy, Debug, PartialEq, Eq)]
+#[derive(Clone, Copy)]
 pub(crate) enum Response {
     Lines,
     Refused(Word),
 }
 
 /// Why a command was not done, which ends a run.
-#[derive(Clone, Copy, Debug, PartialEq, Eq)]
+#[derive(Clone, Copy)]
 pub(crate) enum Stop {
     Memory,
     /// A store was not opened.
@@ -150,7 +150,9 @@ impl Server {
     {
         // A desk's contract says with its journal that the used blocks are those of its last version.
         let _journal = self.desk.journal();
-        let batch = mem::replace(&mut self.pending, Batch::new(self.alloc));
+        // A feed's batches are mostly of one length, so that the next one need not grow to it.
+        let next = Batch::with_room(self.alloc, self.pending.len());
+        let batch = mem::replace(&mut self.pending, next);
         match self.desk.apply(rt, &PassAll, batch) {
             Ok(receipt) => {
                 commit_line(lines, receipt.number, receipt.outcomes.as_slice())?;

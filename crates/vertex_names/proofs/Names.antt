@@ -9,17 +9,6 @@ use Rattle.std.proofs.lemmas.Option.{slice_get_within, get_or_from_slice_get}
 use Rattle.graph_model.specs.{Step.number_of, Answer.is_listed, Valid.is_name}
 use Rattle.vertex_names.specs.{Index.text_hash, Index.found_at, Index.Stands, Index.IsIndexed, Book.Book, Book.IsBook}
 
-number_of-next : (found rest : Bool) (place count : ℕ) → (found || rest) ≡ false → (rest ≡ false → place ≡ count)
-    → cond (not found) (1 + place) 0 ≡ suc count
-number_of-next true rest place count new last = absurd (true≢false new)
-number_of-next false rest place count new last = let same : place ≡ count = last new in omega arith
-
--- a name that is not listed has the number after the last
-pub number_of-new : (names : List (List ℕ)) (name : List ℕ) → is_listed names name ≡ false → number_of names name ≡ length names
-number_of-new [] name new = refl
-number_of-new (x ∷ names) name new =
-    number_of-next (bytes_eq name x) (is_listed names name) (number_of names name) (length names) new (number_of-new names name)
-
 -- a name that the book as it is shown doesn't list
 pub not_listed : (book shown : Book) (name : List ℕ) → book ≡ shown → ¬ IsTrue (is_listed shown.names name)
     → is_listed book.names name ≡ false

@@ -14,7 +14,7 @@ const NEAR: usize = 4;
 
 /// Where the hashes of a piece would stand if they were evenly spread from the lowest to the highest: the lowest one, and how
 /// many places a hash that is 2^64 above it would be behind it. It is for guesses only, and nothing rests on it.
-#[derive(Clone, Copy, Debug)]
+#[derive(Clone, Copy)]
 struct Spread {
     lowest: u64,
     places: u64,

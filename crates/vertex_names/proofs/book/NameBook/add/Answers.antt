@@ -1,7 +1,8 @@
 use Rattle.std.proofs.Common.{◌≡◌, ◌∙◌, ◌++◌, ◌∷◌, ◌<◌, [], ℕ, List, length, false, sym, ap, arith}
 use Rattle.graph_model.specs.Answer.{is_listed}
 use Rattle.vertex_names.specs.{Book.Book, Tables.names_of}
-use Rattle.vertex_names.proofs.Names.{number_of-new, not_listed, IsBook-pushed}
+use Rattle.graph_model.proofs.NameNumbers.{number_absent}
+use Rattle.vertex_names.proofs.Names.{not_listed, IsBook-pushed}
 use Rattle.vertex_names.proofs.book.NameBook.add.Goals as goal
 
 pub invariant_of-self-2 : goal.invariant_of-self-2
@@ -20,4 +21,4 @@ returns-clause-number c =
     let new : is_listed (names_of c.self.inside.tables) c.args.name.now ≡ false =
     not_listed _ _ c.args.name.now c.self.view_is c.in_default-number_at.ensures in
     rw (← c.self.view_is)
-    (c.len-number.ensures.value ∙ ap (λ (b : Book). length b.names) (sym c.self.view_is) ∙ sym (number_of-new _ _ new))
+    (c.len-number.ensures.value ∙ ap (λ (b : Book). length b.names) (sym c.self.view_is) ∙ sym (number_absent _ _ new))
