@@ -135,20 +135,19 @@ fn print_report(rt: &impl Print, report: Report) -> io::Result<()> {
 }
 
 /// Prints the lines of the example; whether they were.
-fn show(rt: &HostRuntime) -> bool {
+fn show<R: Threads + Wait + Sync + Print + AllocGlobal>(rt: &R) -> bool {
     match over_a_new_store(rt, rt.alloc()) {
         Some(report) => print_report(rt, report).is_ok(),
         None => false,
     }
 }
 
-/// The rounds to measure, where the first argument is a number.
-fn rounds(rt: &HostRuntime) -> Option<u32> {
-    env::args(rt).ok()?.nth(1)?.parse().ok()
-}
-
 fn main(rt: HostRuntime) -> ExitCode {
-    let is_done = match rounds(&rt) {
+    let rounds = match env::args(&rt) {
+        Ok(mut words) => words.nth(1).and_then(|word| word.parse::<u32>().ok()),
+        Err(_) => None,
+    };
+    let is_done = match rounds {
         Some(rounds) => beside::measure(&rt, rounds).is_ok(),
         None => show(&rt),
     };
