@@ -27,6 +27,9 @@ kept_same d e s t entries room others more kept same shelf len grows = record {
   room_is = let count = ap (λ (x : DeskState). count_by is_retired x.desk.pool) same in let room = kept.room_is in omega arith;
 }
 
+pub same_room : (n : ℕ) → n ≤ n
+same_room n = omega arith
+
 -- no block is retired at an opening
 none_retired : (n : ℕ) → count_by is_retired (replicate n Free) ≡ 0
 none_retired zero = refl

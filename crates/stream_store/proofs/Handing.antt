@@ -1,6 +1,6 @@
 -- A batch handed over: what the desk's call does with what was made of it.
 use Rattle.std.proofs.Common.{◌≡◌, ℕ, zero, suc, ◌+◌, ◌<◌, ◌≤◌, ◌==◌, true, false, List, [], ◌∷◌, ◌++◌, length, get_or, map}
-use Rattle.std.proofs.Common.{refl, sym, ap, subst, ◌∙◌, arith, count_by}
+use Rattle.std.proofs.Common.{refl, sym, ap, subst, ◌∙◌, arith, count_by, vec_len}
 use Rattle.std.specs.{Prelude.All, List.sum_by, Arc.arc_value, declared.sync.Arc.Arc, declared.alloc.Global.Global}
 use Rattle.std.proofs.lemmas.{List.map-append, List.length-map, Bool.eq-eqb, Bool.or_right}
 use Rattle.graph_model.specs.{Limits.batch_limit, declared.batches.NamedOp.NamedOp}
@@ -77,6 +77,14 @@ grant_within d v workers ops plan desk last admitted =
     let used : block_count v ≡ count_by is_used d.pool = ap block_count last ∙ sym (used_blocks d desk) in
     subst (λ n. sum_by (λ n. n) plan.needs.items ≤ asked ops n) used
     (needs_within (workers_for workers (length ops + length admitted.old)) ops (content v) v.rows plan admitted.planned)
+
+-- as many blocks were granted as numbers
+pub granted_many : (blocks : List (Arc Block Global)) (numbers : List ℕ) (n : ℕ) → numbers_of blocks ≡ numbers
+    → length numbers ≡ n → n ≤ length blocks
+granted_many blocks numbers n same many =
+    let each : length (numbers_of blocks) ≡ length blocks = length-map blocks (λ b. (block_of b).number) in
+    let all = ap length same in
+    omega arith
 
 -- The grant is given back
 
@@ -208,6 +216,13 @@ end_room h end is =
     length-map h.prepared.dropped.items block_of in
     let room = retired_room (application h) in
     omega arith
+
+-- the journal's room for what is retired then, where as much was made as for what was retired and what was dropped
+pub end_fits : (h : Handing) (end : List Status) (entries capacity before dropped : ℕ) → end ≡ (next_desk (application h)).pool
+    → before ≡ count_by is_retired h.pool → dropped ≡ vec_len h.prepared.dropped → entries + (before + dropped) ≤ capacity
+    → entries + count_by is_retired end ≤ capacity
+end_fits h end entries capacity before dropped is retired many fits =
+    let room = end_room h end is in let ok = h.prepared.dropped.ok in omega (arith, ok.0)
 
 pub end_kept : (h : Handing) (new : DeskState) (shelf : ShelfView) (entries room : ℕ)
     → new.desk ≡ next_desk (application h)

@@ -1,5 +1,5 @@
 -- The last of some blocks is moved, and then the rest.
-use Rattle.std.proofs.Common.{◌≡◌, ℕ, ◌==◌, Bool, true, List, [], ◌∷◌, ◌++◌, get_or, set, refl, sym, ap, subst, ◌∙◌, arith}
+use Rattle.std.proofs.Common.{◌≡◌, ℕ, ◌≤◌, ◌==◌, Bool, true, cond, List, [], ◌∷◌, ◌++◌, get_or, set, sym, ap, subst, ◌∙◌, add_comm}
 use Rattle.std.specs.{Prelude.slice_get, Prelude.if◌then◌else◌, Option.option_map}
 use Rattle.std.proofs.lemmas.List.{map-append}
 use Rattle.std.specs.declared.{sync.Arc.Arc, alloc.Global.Global}
@@ -7,7 +7,7 @@ use Rattle.edge_block.specs.declared.blocks.Block.{Block}
 use Rattle.batch_shards.specs.RowBlocks.{block_of, numbers_of}
 use Rattle.graph_version.specs.Versions.{is_in}
 use Rattle.block_pool.specs.Pools.{Status, Granted, is_used, is_born, is_used_at, is_born_at, marked, changed, passes, retired}
-use Rattle.block_pool.proofs.Tallies.{count_more}
+use Rattle.block_pool.proofs.Tallies.{count_more, count_last}
 use Rattle.epoch_blocks.specs.Blocks.{all_differ}
 use Rattle.epoch_blocks.proofs.Lists.{all_listed}
 use Rattle.store_steps.proofs.{NumberLists.all_by, ChangedLists.marked_at, ChangedLists.changed_at, ChangedLists.same_list}
@@ -17,14 +17,8 @@ use Rattle.stream_store.specs.Moves.{AreOnce, AreUsedOnce, AreBornOnce}
 
 -- a list with its last number first has each number as often
 turned_times : (m n : ℕ) (ns : List ℕ) → times m (ns ++ n ∷ []) ≡ times m (n ∷ ns)
-turned_times m n [] = refl
-turned_times m n (c ∷ ns) =
-    let a = count_more (λ x. x == m) c (ns ++ n ∷ []) in
-    let b = count_more (λ x. x == m) n (c ∷ ns) in
-    let d = count_more (λ x. x == m) c ns in
-    let e = count_more (λ x. x == m) n ns in
-    let rest = turned_times m n ns in
-    omega arith
+turned_times m n ns =
+    count_last (λ x. x == m) ns n ∙ add_comm (times m ns) (cond (n == m) 1 0) ∙ sym (count_more (λ x. x == m) n ns)
 
 turned_in : (m n : ℕ) (ns : List ℕ) → is_in m (ns ++ n ∷ []) ≡ is_in m (n ∷ ns)
 turned_in m n ns = in_times m (ns ++ n ∷ []) ∙ ap is_some_times (turned_times m n ns) ∙ sym (in_times m (n ∷ ns))
@@ -34,8 +28,8 @@ turned : (test : Status → Bool) (n : ℕ) (ns : List ℕ) (pool : List Status)
 turned test n ns pool once = record {
   pass = all_by (λ k. passes test (slice_get pool k)) (n ∷ ns) (λ m is. all_listed (λ k. passes test (slice_get pool k))
       (ns ++ n ∷ []) m once.pass (turned_in m n ns ∙ is));
-  apart = apart_if (n ∷ ns) (λ m. let same = turned_times m n ns in let one = once_at_most m (ns ++ n ∷ []) once.apart in omega
-      arith);
+  apart = apart_if (n ∷ ns)
+      (λ m. subst (λ k. k ≤ 1) (turned_times m n ns) (once_at_most m (ns ++ n ∷ []) once.apart));
 }
 
 turned_marks : (n : ℕ) (ns : List ℕ) (s : Status) (pool : List Status) → marked ns s (set pool n s) ≡ marked (ns ++ n ∷ []) s pool

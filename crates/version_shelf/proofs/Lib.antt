@@ -3,3 +3,4 @@ pub mod Rights
 pub mod Adding
 pub mod Steps
 pub mod Openings
+pub mod Showing

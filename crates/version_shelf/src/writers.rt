@@ -1,6 +1,6 @@
 //! The writer of the shelf, and its opening.
 
-ghost use Rattle.std.specs.Prelude.{◌≡◌, ◌<◌, ◌≤◌, ◌⊎◌, ◌^◌, ◌++◌, ◌∷◌, [], length, IfOk, MatchBool, MatchResult, All, vec_len, Some};
+ghost use Rattle.std.specs.Prelude.{◌≡◌, ◌<◌, ◌≤◌, ◌⊎◌, ◌^◌, ◌++◌, ◌∷◌, [], length, drop, fold, IfOk, MatchBool, MatchResult, All, vec_len, Some};
 ghost use Rattle.std.specs.Arc.{arc_value};
 ghost use Rattle.left_right.specs.Sides.{view};
 ghost use Rattle.graph_version.specs.declared.versions.Version.{Version};
@@ -100,7 +100,6 @@ pub fn shelf<R: Wait>(
 }
 
 /// So many readers, each of which has learnt what was told.
-#[tactic(auto, using(crate::proofs::Openings::all_same_more))]
 fn readers_of(
     writer: &mut ShelfWriter,
     alloc: Global,
@@ -139,14 +138,26 @@ fn opened<R: Wait>(
     let Ok(fresh) = Writer::new(alloc, first, second, readers) else {
         return Err(ShelfError::OutOfMemory);
     };
-    let (writer, shown) = fresh.publish_as::<Look, R>(rt);
-    match shown {
-        Ok(()) => Ok(writer),
-        Err(_) => {
-            writer.take(rt);
-            Err(ShelfError::OutOfMemory)
-        }
+    let (writer, is_shown) = publish(rt, fresh);
+    if is_shown {
+        return Ok(writer);
     }
+    writer.take(rt);
+    Err(ShelfError::OutOfMemory)
+}
+
+/// Publishes what waits, and says whether it did; where it did not, nothing changes.
+fn publish<R: Wait>(rt: &R, place: WriterPlace) -> (WriterPlace, bool)
+    requires { Begins place.desk.shown.value
+        (fold (λ (_ told : ToldView). told) place.desk.shown.value (drop place.behind place.log.items)) }
+    ensures { MatchBool result.1
+        ((result.0.desk.shown.value
+        ≡ fold (λ (_ told : ToldView). told) place.desk.shown.value (drop place.behind place.log.items))
+        × (view result.0.desk.place ≡ Some result.0.desk.shown.value))
+        ((result.0.desk.shown.value ≡ place.desk.shown.value) × (view result.0.desk.place ≡ view place.desk.place)) }
+{
+    let (place, shown) = place.publish_as::<Look, R>(rt);
+    (place, shown.is_ok())
 }
 
 /// Shows readers what was told, where there is memory for it.
@@ -160,7 +171,7 @@ fn show<R: Wait>(rt: &R, mut place: WriterPlace, told: Told) -> WriterPlace
         Ok(()) => {}
         Err(_) => return place,
     }
-    let (place, _) = place.publish_as::<Look, R>(rt);
+    let (place, _) = publish(rt, place);
     place
 }
 

@@ -1,4 +1,4 @@
-use Rattle.std.proofs.Common.{◌≡◌, ◌+◌, length, length-append, count_by, refl, sym, ap, ap₂, subst, ◌∙◌, arith, rules}
+use Rattle.std.proofs.Common.{◌≡◌, ◌≢◌, ◌+◌, AllPairs, length, length-append, count_by, refl, sym, ap, ap₂, subst, ◌∙◌}
 use Rattle.std.specs.Arc.{arc_value}
 use Rattle.graph_version.specs.{declared.versions.Version.Version, Versions.VersionView, Versions.content}
 use Rattle.logbook.specs.Pages.{Book}
@@ -7,15 +7,16 @@ use Rattle.block_pool.specs.Pools.{Used, is_free, marked}
 use Rattle.batch_plan.proofs.Names.{err_then}
 use Rattle.version_shelf.specs.Shelves.{ToldView}
 use Rattle.store_steps.specs.Steps.{Accepts}
-use Rattle.stream_store.specs.{Kept.DeskState, Kept.state_of, Moves.AreUsedOnce, Refusals.Refuses, Refusals.IsWithin}
-use Rattle.stream_store.proofs.{Collections.kept_same, Handing.end_accepts, Handing.end_room, Handing.end_kept}
+use Rattle.stream_store.specs.{Kept.DeskState, Kept.state_of, Moves.AreUsedOnce, Refusals.Refuses, Refusals.IsWithin, Refusals.IsAdmitted}
+use Rattle.stream_store.proofs.{Collections.kept_same, Collections.same_room, Handing.end_accepts, Handing.end_fits}
 use Rattle.stream_store.proofs.Handing.{Handing, handing, desk_of, back_used, back_same, taken_once, dropped_once, unused_once}
-use Rattle.stream_store.proofs.Handing.{born_used, born_same, end_pool, grant_within, desk_refuses, desk_admits, end_desk}
+use Rattle.stream_store.proofs.Handing.{born_used, born_same, end_pool, grant_within, desk_refuses, desk_admits, end_desk, end_kept}
+use Rattle.stream_store.proofs.Handing.{granted_many, unlisted}
 use Rattle.stream_store.proofs.desk.Desk.apply.Goals as goal
 
 pub returns-in_err-plan-clause-refused : goal.returns-in_err-plan-clause-refused
 returns-in_err-plan-clause-refused g c =
-    let last : c.deref.result.now ≡ arc_value {X = Version} c.self.inside.last = search rules in
+    let last : c.deref.result.now ≡ arc_value {X = Version} c.self.inside.last = c.deref.ensures in
     let free = count_by is_free c.args.self.now.desk.pool in
     err_then c.from_residual.result (Refuses c.args.self.now.desk.last free c.args.batch) c.in_err-plan.field-0.0
     c.from_residual.ensures.1
@@ -24,14 +25,14 @@ returns-in_err-plan-clause-refused g c =
 
 pub grant_blocks-requires : goal.grant_blocks-requires
 grant_blocks-requires g c =
-    let last : c.deref.result.now ≡ arc_value {X = Version} c.self.inside.last = search rules in
+    let last : c.deref.result.now ≡ arc_value {X = Version} c.self.inside.last = c.deref.ensures in
     grant_within (desk_of c.self.inside.opened (arc_value {X = Version} c.self.inside.last) c.self.inside.journal.items c.self.inside.pool)
     c.deref.result.now c.self.inside.workers c.args.batch c.in_ok-plan.plan c.self.invariant.desk last
     c.in_ok-plan.ensures.admitted
 
 pub returns-in_err-numbers-clause-refused : goal.returns-in_err-numbers-clause-refused
 returns-in_err-numbers-clause-refused g c =
-    let last : c.deref.result.now ≡ arc_value {X = Version} c.self.inside.last = search rules in
+    let last : c.deref.result.now ≡ arc_value {X = Version} c.self.inside.last = c.deref.ensures in
     let free = count_by is_free c.args.self.now.desk.pool in
     err_then c.from_residual-in_err-numbers.result (Refuses c.args.self.now.desk.last free c.args.batch) c.in_err-numbers.field-0.0
     c.from_residual-in_err-numbers.ensures.1
@@ -41,6 +42,27 @@ returns-in_err-numbers-clause-refused g c =
     c.deref.result.now c.self.inside.workers c.args.batch c.in_ok-plan.plan c.self.invariant.desk last
     c.in_ok-plan.ensures.admitted c.in_err-numbers.field-0.0 c.in_err-numbers.ensures.refused))
 
+pub prepare-requires-clause-admitted : goal.prepare-requires-clause-admitted
+prepare-requires-clause-admitted g c κs within = (
+  c.self.inside.workers,
+  subst (λ (v : VersionView). IsAdmitted v c.self.inside.workers c.args.batch c.in_ok-plan.plan) (c.deref.ensures
+      ∙ sym c.deref-3.ensures) c.in_ok-plan.ensures.admitted,
+)
+
+pub prepare-requires-clause-blocks : goal.prepare-requires-clause-blocks
+prepare-requires-clause-blocks g c κs within =
+    granted_many c.in_ok-numbers.field-0.blocks.items _ _ c.in_ok-numbers.ensures.blocks c.in_ok-numbers.ensures.numbers.1
+
+pub prepare-requires-clause-distinct : goal.prepare-requires-clause-distinct
+prepare-requires-clause-distinct g c κs within =
+    subst (λ ns. AllPairs ◌≢◌ ns) (sym c.in_ok-numbers.ensures.blocks) c.in_ok-numbers.ensures.numbers.0.distinct
+
+pub prepare-requires-clause-unlisted : goal.prepare-requires-clause-unlisted
+prepare-requires-clause-unlisted g c κs within =
+    unlisted (desk_of c.self.inside.opened (arc_value {X = Version} c.self.inside.last) c.self.inside.journal.items c.self.inside.pool)
+    c.in_ok-numbers.field-0.numbers.items _ c.deref-3.result.now c.self.invariant.desk c.in_ok-numbers.ensures.numbers.0
+    c.in_ok-numbers.ensures.blocks c.deref-3.ensures
+
 pub give_back_numbers-requires : goal.give_back_numbers-requires
 give_back_numbers-requires g c =
     back_used c.self.inside.pool c.grant_blocks.new.pool c.in_ok-numbers.field-0.numbers.items c.in_ok-numbers.ensures.numbers.0
@@ -48,7 +70,7 @@ give_back_numbers-requires g c =
 
 pub give_back_numbers-requires-in_default-publish : goal.give_back_numbers-requires-in_default-publish
 give_back_numbers-requires-in_default-publish g c =
-    let last : c.deref-3.result.now ≡ arc_value {X = Version} c.self.inside.last = search rules in
+    let last : c.deref-3.result.now ≡ arc_value {X = Version} c.self.inside.last = c.deref-3.ensures in
     let h : Handing =
     handing (desk_of c.self.inside.opened (arc_value {X = Version} c.self.inside.last) c.self.inside.journal.items c.self.inside.pool) c.args.batch
     c.in_ok-numbers.field-0.numbers.items _ c.in-Ok.prepared c.grant_blocks.new.pool c.deref-3.result.now c.self.invariant.desk
@@ -66,7 +88,7 @@ invariant_of-self-in_default g c =
     kept_same (state_of c.self.inside.shelf.book c.self.inside.workers c.self.inside.opened (arc_value {X = Version} c.self.inside.last) c.self.inside.journal.items
     c.self.inside.pool) _ c.self.inside.shelf _ _ _ _ _ c.self.invariant
     (ap (state_of c.self.inside.shelf.book c.self.inside.workers c.self.inside.opened (arc_value {X = Version} c.self.inside.last) c.self.inside.journal.items) same) refl
-    refl (omega arith)
+    refl (same_room _)
 
 pub returns-in_default-clause-unchanged : goal.returns-in_default-clause-unchanged
 returns-in_default-clause-unchanged g c =
@@ -78,7 +100,7 @@ returns-in_default-clause-unchanged g c =
 
 pub invariant_of-self-in_default-publish : goal.invariant_of-self-in_default-publish
 invariant_of-self-in_default-publish g c =
-    let last : c.deref-3.result.now ≡ arc_value {X = Version} c.self.inside.last = search rules in
+    let last : c.deref-3.result.now ≡ arc_value {X = Version} c.self.inside.last = c.deref-3.ensures in
     let h : Handing =
     handing (desk_of c.self.inside.opened (arc_value {X = Version} c.self.inside.last) c.self.inside.journal.items c.self.inside.pool) c.args.batch
     c.in_ok-numbers.field-0.numbers.items _ c.in-Ok.prepared c.grant_blocks.new.pool c.deref-3.result.now c.self.invariant.desk
@@ -95,7 +117,7 @@ invariant_of-self-in_default-publish g c =
 
 pub returns-in_default-publish-clause-unchanged : goal.returns-in_default-publish-clause-unchanged
 returns-in_default-publish-clause-unchanged g c =
-    let last : c.deref-3.result.now ≡ arc_value {X = Version} c.self.inside.last = search rules in
+    let last : c.deref-3.result.now ≡ arc_value {X = Version} c.self.inside.last = c.deref-3.ensures in
     let h : Handing =
     handing (desk_of c.self.inside.opened (arc_value {X = Version} c.self.inside.last) c.self.inside.journal.items c.self.inside.pool) c.args.batch
     c.in_ok-numbers.field-0.numbers.items _ c.in-Ok.prepared c.grant_blocks.new.pool c.deref-3.result.now c.self.invariant.desk
@@ -110,7 +132,7 @@ returns-in_default-publish-clause-unchanged g c =
 
 pub born_blocks-requires : goal.born_blocks-requires
 born_blocks-requires g c =
-    let last : c.deref-3.result.now ≡ arc_value {X = Version} c.self.inside.last = search rules in
+    let last : c.deref-3.result.now ≡ arc_value {X = Version} c.self.inside.last = c.deref-3.ensures in
     let h : Handing =
     handing (desk_of c.self.inside.opened (arc_value {X = Version} c.self.inside.last) c.self.inside.journal.items c.self.inside.pool) c.args.batch
     c.in_ok-numbers.field-0.numbers.items _ c.in-Ok.prepared c.grant_blocks.new.pool c.deref-3.result.now c.self.invariant.desk
@@ -119,12 +141,12 @@ born_blocks-requires g c =
 
 pub move_blocks-requires-clause-dropped : goal.move_blocks-requires-clause-dropped
 move_blocks-requires-clause-dropped g c =
-    let last : c.deref-3.result.now ≡ arc_value {X = Version} c.self.inside.last = search rules in
+    let last : c.deref-3.result.now ≡ arc_value {X = Version} c.self.inside.last = c.deref-3.ensures in
     let h : Handing =
     handing (desk_of c.self.inside.opened (arc_value {X = Version} c.self.inside.last) c.self.inside.journal.items c.self.inside.pool) c.args.batch
     c.in_ok-numbers.field-0.numbers.items _ c.in-Ok.prepared c.grant_blocks.new.pool c.deref-3.result.now c.self.invariant.desk
     c.in_ok-numbers.ensures.numbers.0 c.in_ok-numbers.ensures.blocks last c.in-Ok.ensures c.in_ok-numbers.ensures.used in
-    let lent : c.deref-2.result.now ≡ arc_value {X = Version} c.self.inside.last = search rules in
+    let lent : c.deref-2.result.now ≡ arc_value {X = Version} c.self.inside.last = c.deref-2.ensures in
     let number : c.next_number-number.result ≡ length (arc_value {X = Version} c.self.inside.last).batches + 1 =
     c.next_number-number.ensures ∙ ap (λ (v : VersionView). length v.batches + 1) lent in
     let born : c.born_blocks.new.pool ≡ marked c.in-Ok.prepared.taken (Used c.next_number-number.result) c.grant_blocks.new.pool =
@@ -134,12 +156,12 @@ move_blocks-requires-clause-dropped g c =
 
 pub move_blocks-requires-clause-unused : goal.move_blocks-requires-clause-unused
 move_blocks-requires-clause-unused g c =
-    let last : c.deref-3.result.now ≡ arc_value {X = Version} c.self.inside.last = search rules in
+    let last : c.deref-3.result.now ≡ arc_value {X = Version} c.self.inside.last = c.deref-3.ensures in
     let h : Handing =
     handing (desk_of c.self.inside.opened (arc_value {X = Version} c.self.inside.last) c.self.inside.journal.items c.self.inside.pool) c.args.batch
     c.in_ok-numbers.field-0.numbers.items _ c.in-Ok.prepared c.grant_blocks.new.pool c.deref-3.result.now c.self.invariant.desk
     c.in_ok-numbers.ensures.numbers.0 c.in_ok-numbers.ensures.blocks last c.in-Ok.ensures c.in_ok-numbers.ensures.used in
-    let lent : c.deref-2.result.now ≡ arc_value {X = Version} c.self.inside.last = search rules in
+    let lent : c.deref-2.result.now ≡ arc_value {X = Version} c.self.inside.last = c.deref-2.ensures in
     let number : c.next_number-number.result ≡ length (arc_value {X = Version} c.self.inside.last).batches + 1 =
     c.next_number-number.ensures ∙ ap (λ (v : VersionView). length v.batches + 1) lent in
     let born : c.born_blocks.new.pool ≡ marked c.in-Ok.prepared.taken (Used c.next_number-number.result) c.grant_blocks.new.pool =
@@ -149,12 +171,12 @@ move_blocks-requires-clause-unused g c =
 
 pub invariant_of-self-2 : goal.invariant_of-self-2
 invariant_of-self-2 g c =
-    let last : c.deref-3.result.now ≡ arc_value {X = Version} c.self.inside.last = search rules in
+    let last : c.deref-3.result.now ≡ arc_value {X = Version} c.self.inside.last = c.deref-3.ensures in
     let h : Handing =
     handing (desk_of c.self.inside.opened (arc_value {X = Version} c.self.inside.last) c.self.inside.journal.items c.self.inside.pool) c.args.batch
     c.in_ok-numbers.field-0.numbers.items _ c.in-Ok.prepared c.grant_blocks.new.pool c.deref-3.result.now c.self.invariant.desk
     c.in_ok-numbers.ensures.numbers.0 c.in_ok-numbers.ensures.blocks last c.in-Ok.ensures c.in_ok-numbers.ensures.used in
-    let lent : c.deref-2.result.now ≡ arc_value {X = Version} c.self.inside.last = search rules in
+    let lent : c.deref-2.result.now ≡ arc_value {X = Version} c.self.inside.last = c.deref-2.ensures in
     let number : c.next_number-number.result ≡ length (arc_value {X = Version} c.self.inside.last).batches + 1 =
     c.next_number-number.ensures ∙ ap (λ (v : VersionView). length v.batches + 1) lent in
     let p = c.in-Ok-publish.ensures in
@@ -165,15 +187,13 @@ invariant_of-self-2 g c =
     c.move_blocks.ensures in
     let end = end_desk h c.self.inside.opened (arc_value {X = Version} c.publish.new.last) c.publish.new.journal.items c.self.inside.journal.items
     c.move_blocks.new.pool refl refl p.last p.entered pool in
-    let room = end_room h c.move_blocks.new.pool pool in
-    let ok = c.in-Ok.prepared.dropped.ok in
     end_kept h _ c.publish.new.shelf _ _ end refl (p.same.1 ∙ c.self.invariant.opening_is) p.posted
     c.self.invariant.workers_some c.self.invariant.workers_few
-    (omega (arith, room, p.room, c.retired.ensures.count, c.len.ensures, ok.0))
+    (end_fits h c.move_blocks.new.pool _ _ c.retired.result c.len.result pool c.retired.ensures.count c.len.ensures p.room)
 
 pub returns-clause-within : goal.returns-clause-within
 returns-clause-within g c =
-    let last : c.deref.result.now ≡ arc_value {X = Version} c.self.inside.last = search rules in
+    let last : c.deref.result.now ≡ arc_value {X = Version} c.self.inside.last = c.deref.ensures in
     subst (λ (s : DeskState). IsWithin s.desk.last (count_by is_free s.desk.pool) c.args.batch) c.self.view_is
     (desk_admits (desk_of c.self.inside.opened (arc_value {X = Version} c.self.inside.last) c.self.inside.journal.items c.self.inside.pool)
     c.deref.result.now c.self.inside.workers c.args.batch c.in_ok-plan.plan c.self.invariant.desk last
@@ -181,12 +201,12 @@ returns-clause-within g c =
 
 pub returns-clause-accepted : goal.returns-clause-accepted
 returns-clause-accepted g c =
-    let last : c.deref-3.result.now ≡ arc_value {X = Version} c.self.inside.last = search rules in
+    let last : c.deref-3.result.now ≡ arc_value {X = Version} c.self.inside.last = c.deref-3.ensures in
     let h : Handing =
     handing (desk_of c.self.inside.opened (arc_value {X = Version} c.self.inside.last) c.self.inside.journal.items c.self.inside.pool) c.args.batch
     c.in_ok-numbers.field-0.numbers.items _ c.in-Ok.prepared c.grant_blocks.new.pool c.deref-3.result.now c.self.invariant.desk
     c.in_ok-numbers.ensures.numbers.0 c.in_ok-numbers.ensures.blocks last c.in-Ok.ensures c.in_ok-numbers.ensures.used in
-    let lent : c.deref-2.result.now ≡ arc_value {X = Version} c.self.inside.last = search rules in
+    let lent : c.deref-2.result.now ≡ arc_value {X = Version} c.self.inside.last = c.deref-2.ensures in
     let number : c.next_number-number.result ≡ length (arc_value {X = Version} c.self.inside.last).batches + 1 =
     c.next_number-number.ensures ∙ ap (λ (v : VersionView). length v.batches + 1) lent in
     let p = c.in-Ok-publish.ensures in
@@ -206,8 +226,8 @@ told_of book version = record { book = book; version = version }
 
 pub returns-clause-receipt : goal.returns-clause-receipt
 returns-clause-receipt g c =
-    let last : c.deref-3.result.now ≡ arc_value {X = Version} c.self.inside.last = search rules in
-    let lent : c.deref-2.result.now ≡ arc_value {X = Version} c.self.inside.last = search rules in
+    let last : c.deref-3.result.now ≡ arc_value {X = Version} c.self.inside.last = c.deref-3.ensures in
+    let lent : c.deref-2.result.now ≡ arc_value {X = Version} c.self.inside.last = c.deref-2.ensures in
     let number : c.next_number-number.result ≡ length (arc_value {X = Version} c.self.inside.last).batches + 1 =
     c.next_number-number.ensures ∙ ap (λ (v : VersionView). length v.batches + 1) lent in
     let p = c.in-Ok-publish.ensures in

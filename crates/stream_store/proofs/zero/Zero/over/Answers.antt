@@ -10,7 +10,7 @@ use Rattle.stream_store.proofs.zero.Zero.over.Goals as goal
 pub born_blocks-requires : goal.born_blocks-requires
 born_blocks-requires c =
     let numbers : List ℕ = c.in-Ok.field-0.numbers.items in
-    let same : c.as_slice.result.now ≡ numbers = search rules in
+    let same : c.as_slice.result.now ≡ numbers = c.as_slice.ensures.value in
     subst (λ ns. AreUsedOnce ns c.grant.new.self) (sym same)
     (back_used c.in_ok-pool.pool c.grant.new.self numbers c.in-Ok.ensures.numbers.0 c.in-Ok.ensures.used)
 
@@ -18,9 +18,9 @@ pub returns-clause-opens : goal.returns-clause-opens
 returns-clause-opens c =
     let z : VersionView = c.in_ok-zero.zero in
     let numbers : List ℕ = c.in-Ok.field-0.numbers.items in
-    let lent : c.as_slice.result.now ≡ numbers = search rules in
-    let listed : c.of.result ≡ numbers = search rules in
-    let shown : arc_value {X = Version} c.in_ok-new.field-0 ≡ z = search rules in
+    let lent : c.as_slice.result.now ≡ numbers = c.as_slice.ensures.value in
+    let listed : c.of.result ≡ numbers = c.of.ensures in
+    let shown : arc_value {X = Version} c.in_ok-new.field-0 ≡ z = c.in_ok-new.ensures.ok in
     let free : AreFree (replicate c.args.blocks Free) numbers =
     subst (λ p. AreFree p numbers) c.in_ok-pool.ensures c.in-Ok.ensures.numbers.0 in
     let over : blocks_of z.rows ≡ block_values c.in_ok-copied_into.field-0.items = search rules in
