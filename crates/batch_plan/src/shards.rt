@@ -189,8 +189,7 @@ fn list_old(
     let mut blocks = 0_usize;
     for row in old {
         if row.source.0 as usize % workers == worker {
-            let (_, _) = places.insert_full(row.source.0)?;
-            sources.push(row.source)?;
+            place_in_table(&mut sources, &mut places, row.source.0)?;
             blocks = blocks.saturating_add(row.blocks);
         }
     }
