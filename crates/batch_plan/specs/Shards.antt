@@ -5,6 +5,7 @@ use Rattle.std.specs.List.{enumerate_from, list_any}
 use Rattle.std.specs.declared.option.Option.{Option}
 use Rattle.std.specs.declared.option.Option.TheVariants.{None, Some}
 use Rattle.graph_model.specs.Graph.{Key}
+use Rattle.graph_model.specs.declared.ids.VertexId.{VertexId}
 use Rattle.edge_block.specs.Slots.{has_before}
 use Rattle.block_layout.specs.Rows.{Shape}
 use Rattle.block_layout.specs.Batches.{Resolved, AtKey, InAll, is_in_shard, shard_ops}
@@ -26,6 +27,10 @@ acts rs = map unsourced rs
 abbrev pub IsSourceBelow : ℕ → Resolved → Type 0
 IsSourceBelow n (AtKey source key change) = (k : Key) → key ≡ Some k → k.source < n
 IsSourceBelow n (InAll time) = Unit {0}
+
+-- the numbers of sources
+abbrev pub source_numbers : List VertexId → List ℕ
+source_numbers sources = map (λ s. s.0) sources
 
 -- the sources in order of first appearance, with one that may be among them
 abbrev pub with_number : ℕ → List ℕ → List ℕ

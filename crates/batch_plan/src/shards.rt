@@ -12,7 +12,7 @@ ghost use Rattle.batch_shards.specs.Done.{layout_by, sources_in};
 ghost use Rattle.batch_shards.specs.Spending.{needed};
 ghost use Rattle.batch_plan.specs.Plan.{key_of, shown, IsInRange};
 ghost use Rattle.batch_plan.specs.OldRows.{AreOldRows, old_sources, own_rows, blocks_in};
-ghost use Rattle.batch_plan.specs.Shards.{IsShardOf, latest, unsourced, with_number, with_source, with_op};
+ghost use Rattle.batch_plan.specs.Shards.{IsShardOf, latest, source_numbers, unsourced, with_number, with_source, with_op};
 
 use crate::old::OldRow;
 use crate::resolve::{EdgeKey, ResolvedOp};
@@ -67,8 +67,8 @@ fn find_source(sources: &[VertexId], source: u32) -> Option<usize>
 
 /// The place of a source among few sources, to which a new one is added.
 fn place_among_few(sources: &mut Vec<VertexId>, source: u32) -> Result<usize, AllocError>
-    ensures sources { OnOk result (map (λ s. s.0) sources.new.items ≡ with_number source (map (λ s. s.0) sources.old.items)) }
-    ensures place { IfOk result (λ p. slice_get (map (λ s. s.0) sources.new.items) p ≡ Some source) }
+    ensures sources { OnOk result (source_numbers sources.new.items ≡ with_number source (source_numbers sources.old.items)) }
+    ensures place { IfOk result (λ p. slice_get (source_numbers sources.new.items) p ≡ Some source) }
 {
     if let Some(place) = find_source(sources.as_slice(), source) {
         return Ok(place);
@@ -84,10 +84,10 @@ fn place_in_table(
     places: &mut IndexSet<u32>,
     source: u32,
 ) -> Result<usize, AllocError>
-    requires same { map (λ s. s.0) sources.old.items ≡ places.old.keys }
-    ensures same { OnOk result (map (λ s. s.0) sources.new.items ≡ places.new.keys) }
-    ensures sources { OnOk result (map (λ s. s.0) sources.new.items ≡ with_number source (map (λ s. s.0) sources.old.items)) }
-    ensures place { IfOk result (λ p. slice_get (map (λ s. s.0) sources.new.items) p ≡ Some source) }
+    requires same { source_numbers sources.old.items ≡ places.old.keys }
+    ensures same { OnOk result (source_numbers sources.new.items ≡ places.new.keys) }
+    ensures sources { OnOk result (source_numbers sources.new.items ≡ with_number source (source_numbers sources.old.items)) }
+    ensures place { IfOk result (λ p. slice_get (source_numbers sources.new.items) p ≡ Some source) }
 {
     let (place, is_new) = places.insert_full(source)?;
     if is_new {
@@ -102,10 +102,10 @@ fn place_of(
     places: &mut Option<IndexSet<u32>>,
     source: u32,
 ) -> Result<usize, AllocError>
-    requires same { IfSome places.old (λ p. map (λ s. s.0) sources.old.items ≡ p.keys) }
-    ensures same { OnOk result (IfSome places.new (λ p. map (λ s. s.0) sources.new.items ≡ p.keys)) }
-    ensures sources { OnOk result (map (λ s. s.0) sources.new.items ≡ with_number source (map (λ s. s.0) sources.old.items)) }
-    ensures place { IfOk result (λ p. slice_get (map (λ s. s.0) sources.new.items) p ≡ Some source) }
+    requires same { IfSome places.old (λ p. source_numbers sources.old.items ≡ p.keys) }
+    ensures same { OnOk result (IfSome places.new (λ p. source_numbers sources.new.items ≡ p.keys)) }
+    ensures sources { OnOk result (source_numbers sources.new.items ≡ with_number source (source_numbers sources.old.items)) }
+    ensures place { IfOk result (λ p. slice_get (source_numbers sources.new.items) p ≡ Some source) }
 {
     match places {
         None => place_among_few(sources, source),
@@ -120,12 +120,12 @@ fn place_in(
     key: Option<EdgeKey>,
 ) -> Result<Option<Place>, AllocError>
     requires few { length sources.old.items < 2 ^ 32 }
-    requires same { IfSome places.old (λ p. map (λ s. s.0) sources.old.items ≡ p.keys) }
-    ensures same { OnOk result (IfSome places.new (λ p. map (λ s. s.0) sources.new.items ≡ p.keys)) }
-    ensures sources { OnOk result (map (λ s. s.0) sources.new.items
-        ≡ with_source (option_map key_of key) (map (λ s. s.0) sources.old.items)) }
-    ensures key { IfOk result (λ p. key_at (map (λ s. s.0) sources.new.items) p ≡ option_map key_of key) }
-    ensures place { IfOk result (λ p. IsPlace (length (map (λ s. s.0) sources.new.items)) p) }
+    requires same { IfSome places.old (λ p. source_numbers sources.old.items ≡ p.keys) }
+    ensures same { OnOk result (IfSome places.new (λ p. source_numbers sources.new.items ≡ p.keys)) }
+    ensures sources { OnOk result (source_numbers sources.new.items ≡ with_source (option_map key_of key)
+        (source_numbers sources.old.items)) }
+    ensures key { IfOk result (λ p. key_at (source_numbers sources.new.items) p ≡ option_map key_of key) }
+    ensures place { IfOk result (λ p. IsPlace (length (source_numbers sources.new.items)) p) }
     ensures few { OnOk result (length sources.new.items ≤ length sources.old.items + 1) }
 {
     let Some(key) = key else {
@@ -146,12 +146,12 @@ fn act_in(
     op: ResolvedOp,
 ) -> Result<Act, AllocError>
     requires few { length sources.old.items < 2 ^ 32 }
-    requires same { IfSome places.old (λ p. map (λ s. s.0) sources.old.items ≡ p.keys) }
+    requires same { IfSome places.old (λ p. source_numbers sources.old.items ≡ p.keys) }
     requires valid { IsInRange op }
-    ensures same { OnOk result (IfSome places.new (λ p. map (λ s. s.0) sources.new.items ≡ p.keys)) }
-    ensures sources { OnOk result (map (λ s. s.0) sources.new.items ≡ with_op (shown op) (map (λ s. s.0) sources.old.items)) }
-    ensures act { IfOk result (λ act. unsourced (resolved_at (map (λ s. s.0) sources.new.items) act) ≡ unsourced (shown op)) }
-    ensures in_rows { IfOk result (IsAct (length (map (λ s. s.0) sources.new.items))) }
+    ensures same { OnOk result (IfSome places.new (λ p. source_numbers sources.new.items ≡ p.keys)) }
+    ensures sources { OnOk result (source_numbers sources.new.items ≡ with_op (shown op) (source_numbers sources.old.items)) }
+    ensures act { IfOk result (λ act. unsourced (resolved_at (source_numbers sources.new.items) act) ≡ unsourced (shown op)) }
+    ensures in_rows { IfOk result (IsAct (length (source_numbers sources.new.items))) }
     ensures few { OnOk result (length sources.new.items ≤ length sources.old.items + 1) }
 {
     match op {
@@ -180,7 +180,7 @@ fn list_old(
 ) -> Result<Listed, AllocError>
     requires workers { 0 < workers }
     requires distinct { AllPairs (λ a b. a ≢ b) (old_sources old.now) }
-    ensures same { IfOk result (λ l. map (λ s. s.0) l.sources.items ≡ l.places.keys) }
+    ensures same { IfOk result (λ l. source_numbers l.sources.items ≡ l.places.keys) }
     ensures own { IfOk result (λ l. l.places.keys ≡ old_sources (own_rows workers worker old.now)) }
     ensures blocks { IfOk result (λ l. l.blocks ≡ min (blocks_in (own_rows workers worker old.now)) (2 ^ 64 - 1)) }
 {
@@ -189,8 +189,7 @@ fn list_old(
     let mut blocks = 0_usize;
     for row in old {
         if row.source.0 as usize % workers == worker {
-            let (_, _) = places.insert_full(row.source.0)?;
-            sources.push(row.source)?;
+            place_in_table(&mut sources, &mut places, row.source.0)?;
             blocks = blocks.saturating_add(row.blocks);
         }
     }

@@ -10,6 +10,7 @@ pub mod Epochs
 pub mod Answering
 pub mod Account
 pub mod OneElement
+pub mod Stepping
 pub mod Read
 pub mod Cores
 pub mod Examples

@@ -35,6 +35,17 @@ opened_state sessions blocks content lists = record {
   replies = replicate sessions [];
 }
 
+-- the same from a state without versions
+abbrev pub opened_over : State → Content → Lists → State
+opened_over state content lists = record {
+  world = record state.world {
+    opening = record { content = content; blocks = numbers_in lists };
+    heap = heap_with lists state.world.heap;
+    status = status_with lists state.world.status;
+  };
+  replies = state.replies;
+}
+
 -- a content, and different blocks whose edges taken together are each once the content's
 pub record IsOpening (blocks : ℕ) (content : Content) (lists : Lists) : Type 0 where
   pub content_is : IsContent content

@@ -8,7 +8,7 @@ ghost use Rattle.epoch_core.specs.Machine.{takes_memory};
 ghost use Rattle.epoch_core.specs.Runs.{Steps, Runs, done_in, count_of};
 ghost use Rattle.epoch_core.specs.Sound.{IsCore};
 ghost use Rattle.epoch_core.specs.Cores.{state_of};
-ghost use Rattle.epoch_core.specs.Opened.{IsOpening, opened_state, heap_with, status_with};
+ghost use Rattle.epoch_core.specs.Opened.{IsOpening, opened_over, opened_state, numbers_in, heap_with, status_with};
 ghost use Rattle.epoch_blocks.specs.declared.states.Status.TheVariants.{Free};
 ghost use Rattle.epoch_core.specs.declared.states.SessionState.TheVariants.{Idle};
 
@@ -201,14 +201,39 @@ fn opened_parts(
     ensures { IfOk result (λ parts. state_of parts ≡ opened_state sessions blocks content.now lists.now) }
 {
     let mut parts = parts_at_start(alloc, sessions, blocks)?;
-    fill_lists(alloc, &mut parts.heap, lists)?;
+    open_over(&mut parts, content, lists)?;
+    Ok(parts)
+}
+
+/// Makes the machine at its start one over a content.
+fn open_over(
+    parts: &mut Parts,
+    content: &Content,
+    lists: &[(u32, List<Edge>)],
+) -> Result<(), AllocError>
+    requires heap { All (λ l. l.0 < length parts.old.heap.items) lists.now }
+    requires status { All (λ l. l.0 < length parts.old.status.items) lists.now }
+    ensures { OnOk result (state_of parts.new ≡ opened_over (state_of parts.old) content.now lists.now) }
+{
+    fill_lists(parts.alloc, &mut parts.heap, lists)?;
     mark_lists(&mut parts.status, lists);
+    parts.opening = opening_of(parts.alloc, content, lists)?;
+    Ok(())
+}
+
+/// A content, and the numbers of the blocks that have its edges.
+fn opening_of(
+    alloc: Global,
+    content: &Content,
+    lists: &[(u32, List<Edge>)],
+) -> Result<Opening, AllocError>
+    ensures { IfOk result (λ opening. opening ≡ record { content = content.now; blocks = numbers_in lists.now }) }
+{
     let numbers = listed_numbers(alloc, lists)?;
-    parts.opening = Opening {
+    Ok(Opening {
         content: content.clone()?,
         blocks: List::of(numbers),
-    };
-    Ok(parts)
+    })
 }
 
 /// The number of each listed block.

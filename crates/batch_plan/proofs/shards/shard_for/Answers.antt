@@ -8,7 +8,7 @@ use Rattle.graph_model.specs.declared.{changes.EdgeChange.TheVariants.Insert, id
 use Rattle.block_layout.specs.Batches.{Resolved, IsPlaced, is_in_shard}
 use Rattle.batch_shards.specs.{Done.layout_by, Groups.is_expiry, Spending.old_blocks, Spending.latest as latest_step}
 use Rattle.batch_shards.specs.declared.shard.{Act.Act, Step.Step}
-use Rattle.batch_plan.specs.{Plan.shown, Shards.AreShardSteps, Shards.is_old_row, Shards.latest}
+use Rattle.batch_plan.specs.{Plan.shown, Shards.AreShardSteps, Shards.is_old_row, Shards.latest, Shards.source_numbers}
 use Rattle.batch_plan.specs.OldRows.{own_rows, blocks_in, old_sources}
 use Rattle.batch_plan.specs.declared.{old.OldRow.OldRow, resolve.ResolvedOp.ResolvedOp, resolve.ResolvedOp.TheVariants.Edge}
 use Rattle.batch_plan.proofs.{Growth.passed, Growth.added, Growth.same_sum, Listing.sum_agrees}
@@ -31,7 +31,7 @@ loop-k-init c =
     let (rows, are) = c.requires.old in
     let first : ℕ = blocks_in (own_rows c.args.workers c.args.worker old) in
     let none : first ≡ first + 0 = omega arith in
-    let listed : map (λ (s : VertexId). s.0) c.in_ok-sources.field-0.sources.items ≡ old_sources (own_rows c.args.workers c.args.worker old) =
+    let listed : source_numbers c.in_ok-sources.field-0.sources.items ≡ old_sources (own_rows c.args.workers c.args.worker old) =
     c.in_ok-sources.ensures.same ∙ c.in_ok-sources.ensures.own in
     record {
       steps = rw (listed, c.new-steps.ensures.items) (start c.args.workers c.args.worker old are.distinct);
@@ -62,7 +62,7 @@ loop-k-preserved c =
     let within : i < length rs = omega arith in
     let at : get_or rs i (shown d) ≡ r = get_or-map shown ops i d (shown d) lt in
     let step : take (i + 1) rs ≡ take i rs ++ r ∷ [] = take_more rs i (shown d) within ∙ ap (λ x. take i rs ++ x ∷ []) at in
-    let keys : List ℕ = map (λ (s : VertexId). s.0) c.loop-k.sources.items in
+    let keys : List ℕ = source_numbers c.loop-k.sources.items in
     let steps : List Step = c.loop-k.steps.items in
     elim c.if-is_in_shard.branch [
       | then-is_in_shard+in_ok-act+in_ok-push w ↦
@@ -70,7 +70,7 @@ loop-k-preserved c =
           let placed : IsPlaced r = subst IsPlaced at (c.requires.placed i (shown d) within) in
           let act : Act = w.in_ok-act.act in
           let s : Step = record { op = i; act = act } in
-          let next : List ℕ = map (λ (s : VertexId). s.0) w.act_in.new.sources.items in
+          let next : List ℕ = source_numbers w.act_in.new.sources.items in
           let done : AreShardSteps workers (take i rs ++ r ∷ []) worker (is_listed old) next (steps ++ s ∷ []) =
           added workers worker (take i rs) r (is_listed old) keys steps c.loop-k.invariant.steps mine placed next i act
           w.in_ok-act.ensures.sources (sym (length-take-le i rs (omega arith))) w.in_ok-act.ensures.act
@@ -108,7 +108,7 @@ loop-k-preserved c =
 pub returns-clause-shard : goal.returns-clause-shard
 returns-clause-shard c rows are =
     let rs : List Resolved = map shown c.args.ops.now in
-    let sources : List ℕ = map (λ (s : VertexId). s.0) c.loop-k.sources.items in
+    let sources : List ℕ = source_numbers c.loop-k.sources.items in
     let long : length rs ≡ length c.args.ops.now = length-map c.args.ops.now shown in
     let whole : take c.loop-k.k rs ≡ rs = take_all c.loop-k.k rs (omega (arith, long, c.loop-k-test.false)) in
     let done : AreShardSteps c.args.workers rs c.args.worker (is_listed c.args.old.now) sources c.loop-k.steps.items =
@@ -119,7 +119,7 @@ returns-clause-shard c rows are =
 pub returns-clause-blocks : goal.returns-clause-blocks
 returns-clause-blocks c rows are =
     let rs : List Resolved = map shown c.args.ops.now in
-    let sources : List ℕ = map (λ (s : VertexId). s.0) c.loop-k.sources.items in
+    let sources : List ℕ = source_numbers c.loop-k.sources.items in
     let steps : List Step = c.loop-k.steps.items in
     let long : length rs ≡ length c.args.ops.now = length-map c.args.ops.now shown in
     let whole : take c.loop-k.k rs ≡ rs = take_all c.loop-k.k rs (omega (arith, long, c.loop-k-test.false)) in

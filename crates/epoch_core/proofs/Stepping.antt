@@ -1,0 +1,60 @@
+-- An event that changes one part of the world is a step of the whole state.
+use Rattle.std.proofs.Common.{◌≡◌, ℕ, List, refl, sym, ap, subst}
+use Rattle.std.specs.{Prelude.IfOk, Prelude.OnErr, Option.option_map}
+use Rattle.std.specs.declared.option.Option.{Option, TheVariants.None, TheVariants.Some}
+use Rattle.std.specs.declared.result.Result.{Result, TheVariants.Ok, TheVariants.Err}
+use Rattle.epoch_blocks.specs.{Blocks.Stepped, Blocks.changed_at, declared.states.Status.Status, declared.steps.Step.Step}
+use Rattle.epoch_core.specs.declared.{events.Event.Event, states.SessionState.SessionState}
+use Rattle.epoch_core.specs.{Worlds.State, Worlds.World, Runs.Steps}
+use Rattle.epoch_core.specs.Machine.{Replies, move, step, with_sessions, with_status}
+
+pub stepped_in : {A W : Type 0} (put_in : A → W) (o : Option A) (outcome : Step) (old new : A) → Stepped o outcome old new
+    → Stepped (option_map put_in o) outcome (put_in old) (put_in new)
+stepped_in put_in None outcome old new is = (is.0, ap put_in is.1)
+stepped_in put_in (Some after) outcome old new is = (is.0, ap put_in is.1)
+
+pub steps_by : {A : Type 0} (old : State) (e event : Event) (put_in : A → World) (o : Option A) (outcome : Step)
+    (before after : A) → event ≡ e → step old.world e ≡ option_map put_in o → put_in before ≡ old.world
+    → Replies old.world e old.replies old.replies → Stepped o outcome before after
+    → Steps old event outcome (record { world = put_in after; replies = old.replies })
+steps_by old e event put_in o outcome before after same does whole replies is =
+    subst (λ x. Steps old x outcome (record { world = put_in after; replies = old.replies })) (sym same) (record {
+      world = subst (λ q. Stepped q outcome old.world (put_in after)) (sym does)
+          (subst (λ w. Stepped (option_map put_in o) outcome w (put_in after)) whole
+          (stepped_in put_in o outcome before after is));
+      replies = replies;
+    })
+
+-- a change of one block's status
+pub changed_by : (old : State) (e event : Event) (b : ℕ) (change : Status → Option Status) (outcome : Step)
+    (status : List Status) → event ≡ e
+    → step old.world e ≡ option_map (with_status old.world) (changed_at change old.world.status b)
+    → Replies old.world e old.replies old.replies
+    → Stepped (changed_at change old.world.status b) outcome old.world.status status
+    → Steps old event outcome (record { world = with_status old.world status; replies = old.replies })
+changed_by old e event b change outcome status same does replies is =
+    steps_by old e event (with_status old.world) (changed_at change old.world.status b) outcome old.world.status status same does
+    refl replies is
+
+-- a move of one session
+pub moved_by : (old : State) (e event : Event) (s : ℕ) (change : SessionState → Option SessionState) (outcome : Step)
+    (sessions : List SessionState) → event ≡ e → step old.world e ≡ move old.world s change
+    → Replies old.world e old.replies old.replies
+    → Stepped (changed_at change old.world.sessions s) outcome old.world.sessions sessions
+    → Steps old event outcome (record { world = with_sessions old.world sessions; replies = old.replies })
+moved_by old e event s change outcome sessions same does replies is =
+    steps_by old e event (with_sessions old.world) (changed_at change old.world.sessions s) outcome old.world.sessions sessions same
+    does refl replies is
+
+-- what a call leaves
+pub ok_also : {A E : Type 0} (r : Result A E) (P Q : A → Type 0) → ((x : A) → P x → Q x) → IfOk r P → IfOk r Q
+ok_also (Ok x) P Q also is = also x is
+ok_also (Err e) P Q also is = tt
+
+pub err_also : {A E : Type 0} (r : Result A E) (P Q : Type 0) → (P → Q) → OnErr r P → OnErr r Q
+err_also (Ok x) P Q also is = tt
+err_also (Err e) P Q also is = also is
+
+pub err_always : {A E : Type 0} (r : Result A E) (P : Type 0) → P → OnErr r P
+err_always (Ok x) P is = tt
+err_always (Err e) P is = is

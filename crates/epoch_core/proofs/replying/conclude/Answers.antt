@@ -1,0 +1,26 @@
+use Rattle.std.proofs.Common.{◌≡◌, ◌<◌, ◌≤◌, List, length, refl, arith}
+use Rattle.std.specs.declared.option.Option.TheVariants.{None}
+use Rattle.epoch_blocks.specs.declared.states.{Opening.Opening, Version.Version}
+use Rattle.epoch_core.specs.declared.states.{Hold.Hold, Inquiry.Inquiry, SessionState.SessionState}
+use Rattle.epoch_core.specs.declared.states.SessionState.TheVariants.{Idle, Pinned, Holding, Asking}
+use Rattle.epoch_core.specs.Machine.{to_reply}
+use Rattle.epoch_core.proofs.OneElement.{stepped_past, stays_at}
+use Rattle.epoch_core.proofs.replying.conclude.Goals as goal
+
+reply_stays : (o : Opening) (versions : List Version) (p : SessionState)
+    → ((hold : Hold) (inquiry : Inquiry) → p ≡ Asking hold inquiry → ⊥) → to_reply o versions p ≡ None
+reply_stays o versions Idle not_asking = refl
+reply_stays o versions (Pinned pin) not_asking = refl
+reply_stays o versions (Holding hold) not_asking = refl
+reply_stays o versions (Asking hold inquiry) not_asking = absurd (not_asking hold inquiry refl)
+
+pub returns-then-session-len : goal.returns-then-session-len
+returns-then-session-len c =
+    let past : length c.args.sessions.now.items ≤ c.args.session = omega arith in
+    stepped_past (to_reply c.args.opening.now c.args.versions.now) c.args.sessions.now.items c.args.session past
+
+pub returns-in_default : goal.returns-in_default
+returns-in_default c =
+    let lt : c.args.session < length c.args.sessions.now.items = omega arith in
+    stays_at (to_reply c.args.opening.now c.args.versions.now) c.args.sessions.now.items c.args.session c.index.result.now lt c.index.ensures
+    (reply_stays c.args.opening.now c.args.versions.now c.index.result.now c.in_default.not-Asking)

@@ -1,0 +1,25 @@
+use Rattle.std.proofs.Common.{◌≡◌, ◌<◌, ◌≤◌, length, refl, arith}
+use Rattle.std.specs.declared.option.Option.TheVariants.{None}
+use Rattle.graph_model.specs.declared.requests.Request.{Request}
+use Rattle.epoch_core.specs.declared.states.{Hold.Hold, SessionState.SessionState}
+use Rattle.epoch_core.specs.declared.states.SessionState.TheVariants.{Idle, Pinned, Holding, Asking}
+use Rattle.epoch_core.specs.Machine.{to_ask}
+use Rattle.epoch_core.proofs.OneElement.{stepped_past, stays_at}
+use Rattle.epoch_core.proofs.sessions.ask.Goals as goal
+
+ask_stays : (request : Request) (p : SessionState) → ((hold : Hold) → p ≡ Holding hold → ⊥) → to_ask request p ≡ None
+ask_stays request Idle not_holding = refl
+ask_stays request (Pinned pin) not_holding = refl
+ask_stays request (Holding hold) not_holding = absurd (not_holding hold refl)
+ask_stays request (Asking hold inquiry) not_holding = refl
+
+pub returns-then-session-len-clause-asked : goal.returns-then-session-len-clause-asked
+returns-then-session-len-clause-asked c =
+    let past : length c.args.sessions.now.items ≤ c.args.session = omega arith in
+    stepped_past (to_ask c.args.request.now) c.args.sessions.now.items c.args.session past
+
+pub returns-in_default-clause-asked : goal.returns-in_default-clause-asked
+returns-in_default-clause-asked c =
+    let lt : c.args.session < length c.args.sessions.now.items = omega arith in
+    stays_at (to_ask c.args.request.now) c.args.sessions.now.items c.args.session c.index.result.now lt c.index.ensures
+    (ask_stays c.args.request.now c.index.result.now c.in_default.not-Holding)

@@ -1,0 +1,25 @@
+use Rattle.std.proofs.Common.{◌≡◌, ◌<◌, ◌≤◌, ℕ, length, refl, arith}
+use Rattle.std.specs.declared.option.Option.TheVariants.{None}
+use Rattle.epoch_core.specs.declared.states.{Hold.Hold, SessionState.SessionState}
+use Rattle.epoch_core.specs.declared.states.SessionState.TheVariants.{Idle, Pinned, Holding, Asking}
+use Rattle.epoch_core.specs.Machine.{to_release}
+use Rattle.epoch_core.proofs.OneElement.{stepped_past, stays_at}
+use Rattle.epoch_core.proofs.sessions.release.Goals as goal
+
+release_stays : (p : SessionState) → ((pin : ℕ) → p ≡ Pinned pin → ⊥) → ((hold : Hold) → p ≡ Holding hold → ⊥)
+    → to_release p ≡ None
+release_stays Idle not_pinned not_holding = refl
+release_stays (Pinned pin) not_pinned not_holding = absurd (not_pinned pin refl)
+release_stays (Holding hold) not_pinned not_holding = absurd (not_holding hold refl)
+release_stays (Asking hold inquiry) not_pinned not_holding = refl
+
+pub returns-then-session-len : goal.returns-then-session-len
+returns-then-session-len c =
+    let past : length c.args.sessions.now.items ≤ c.args.session = omega arith in
+    stepped_past to_release c.args.sessions.now.items c.args.session past
+
+pub returns-in_default : goal.returns-in_default
+returns-in_default c =
+    let lt : c.args.session < length c.args.sessions.now.items = omega arith in
+    stays_at to_release c.args.sessions.now.items c.args.session c.index.result.now lt c.index.ensures
+    (release_stays c.index.result.now c.in_default.not-Pinned c.in_default.not-Holding)
