@@ -1,18 +1,17 @@
-// Each test is a text: lines of batches, each with its outcomes and what it leaves.
+// Most tests are texts: lines of batches, each with its outcomes and what it leaves, and of requests with their answers.
 
-mod analyses;
 mod answers;
-mod expiries;
+mod batches;
 mod gates;
 mod limits;
-mod long_rows;
+mod lines;
 mod ops;
 mod rebased;
 mod refusals;
-mod refused;
+mod replies;
 mod requests;
 mod sames;
-mod sizes;
 mod steps;
 mod tables;
 mod texts;
+mod turns;

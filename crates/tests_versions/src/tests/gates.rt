@@ -2,7 +2,7 @@
 
 ghost use Rattle.std.specs.Prelude.{◌<◌};
 
-use super::steps::first_past;
+use super::steps::first;
 use batch_apply::{Applied, Gate};
 use std::alloc::Global;
 use std::process::Abort;
@@ -19,7 +19,7 @@ fn passed<R: Threads + Sync + Abort, G: Gate + Sync>(
 ) -> Applied
     requires workers { 0 < workers }
 {
-    first_past(rt, alloc, gate, workers, line).expect(rt, "the next version")
+    first(rt, alloc, gate, workers, line).expect(rt, "the next version")
 }
 
 // How often a worker looks whether the others have come.
@@ -62,77 +62,54 @@ fn workers_work_at_once(rt: HostRuntime) {
     assert_eq!(rt; next.version.edge_count(), 2);
 }
 
-// Counts the arrivals of each of at most four workers, and those that tell another number of workers.
+// Counts the arrivals of each of at most four workers in a byte of its own, and in a fifth one those of any other, or that
+// tell another number of workers.
 #[derive(Drop)]
 struct Arrivals {
     workers: usize,
-    counts: [AtomicUsize; 4],
-    others: AtomicUsize,
-}
-
-impl Arrivals {
-    fn of(workers: usize) -> Arrivals {
-        Arrivals {
-            workers,
-            counts: [
-                AtomicUsize::new(0),
-                AtomicUsize::new(0),
-                AtomicUsize::new(0),
-                AtomicUsize::new(0),
-            ],
-            others: AtomicUsize::new(0),
-        }
-    }
-
-    fn counted(&self, worker: usize) -> usize {
-        match self.counts.get(worker) {
-            Some(count) => count.load(Ordering::SeqCst),
-            None => 0,
-        }
-    }
+    bytes: AtomicUsize,
 }
 
 impl Gate for Arrivals {
     fn arrive(&self, worker: usize, of: usize) {
-        let count = match self.counts.get(worker) {
-            Some(count) if of == self.workers => count,
-            _ => &self.others,
+        let unit = match worker {
+            _ if of != self.workers => 0x1_0000_0000,
+            0 => 0x1,
+            1 => 0x100,
+            2 => 0x1_0000,
+            3 => 0x100_0000,
+            _ => 0x1_0000_0000,
         };
-        count.fetch_add(1, Ordering::SeqCst);
+        self.bytes.fetch_add(unit, Ordering::SeqCst);
     }
-}
-
-fn check_counts(rt: &impl Abort, arrivals: &Arrivals, workers: usize, line: &str) {
-    for worker in 0..4 {
-        let wanted = if worker < workers { 1 } else { 0 };
-        assert_eq!(rt;
-            arrivals.counted(worker),
-            wanted,
-            "{workers} workers: {line}"
-        );
-    }
-    assert_eq!(rt; arrivals.others.load(Ordering::SeqCst), 0);
 }
 
 // So many workers arrive once each, and no other, for these operations.
-fn check_arrivals<R: Threads + Sync + Abort>(rt: &R, alloc: Global, workers: usize, line: &str)
+fn check_arrivals<R: Threads + Sync + Abort>(
+    rt: &R,
+    alloc: Global,
+    workers: usize,
+    line: &str,
+    wanted: usize,
+)
     requires workers { 0 < workers }
 {
-    let arrivals = Arrivals::of(workers);
+    let arrivals = Arrivals {
+        workers,
+        bytes: AtomicUsize::new(0),
+    };
     let _next = passed(rt, alloc, &arrivals, workers, line);
-    check_counts(rt, &arrivals, workers, line);
+    let counted = arrivals.bytes.load(Ordering::SeqCst);
+    assert_eq!(rt; counted, wanted, "{workers} workers: {line}");
 }
 
 // Also those without operations.
 #[test]
 fn each_worker_arrives_once(rt: HostRuntime) {
-    check_arrivals(&rt, rt.alloc(), 4, "i,k,a,b,1,1 i,k,a,c,1,1");
-    check_arrivals(
-        &rt,
-        rt.alloc(),
-        4,
-        "i,k,a,b,1,1 i,k,b,c,1,1 i,k,c,d,1,1 i,k,d,a,1,1",
-    );
-    check_arrivals(&rt, rt.alloc(), 4, "");
-    check_arrivals(&rt, rt.alloc(), 1, "i,k,a,b,1,1 i,k,b,c,1,1");
+    let two = "i,k,a,b,1,1 i,k,a,c,1,1";
+    let four = "i,k,a,b,1,1 i,k,b,c,1,1 i,k,c,d,1,1 i,k,d,a,1,1";
+    check_arrivals(&rt, rt.alloc(), 4, two, 0x101_0101);
+    check_arrivals(&rt, rt.alloc(), 4, four, 0x101_0101);
+    check_arrivals(&rt, rt.alloc(), 4, "", 0x101_0101);
+    check_arrivals(&rt, rt.alloc(), 1, "i,k,a,b,1,1 i,k,b,c,1,1", 1);
 }

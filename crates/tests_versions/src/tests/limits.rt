@@ -1,22 +1,43 @@
-// Batches that meet a limit, in the middle or at the end.
+// Batches of more kinds than a graph may have.
 
 ghost use Rattle.graph_model.specs.Graph.{IsContent};
 
 use super::ops::batch_of;
 use super::sames::check_same;
-use super::sizes::{Made, ops_of};
-use super::steps::{empty, first, plan_of};
+use super::steps::{empty, next, plan_of};
 use batch_plan::PlanError;
-use graph_model::{Batch, Content};
+use graph_model::Content;
 use graph_version::Version;
 use reference_graph::{PlainError, plain_apply};
 use std::alloc::Global;
 use std::process::Abort;
-use std::thread::Threads;
 
 // A removal of a kind that is unknown, and an edge of each of so many kinds.
-fn kinds(rt: &impl Abort, alloc: Global, count: u32) -> String {
-    ops_of(rt, alloc, "r,none,a,b ", Made::Kinds, count)
+const FULL: &str = "r,none,a,b 64*i,k#,a,b,1,1";
+
+const TOO_MANY: &str = "r,none,a,b 66*i,k#,a,b,1,1";
+
+fn is_refused(alloc: Global, version: &Version) -> bool {
+    match batch_of(alloc, TOO_MANY) {
+        Some(batch) => matches!(
+            plan_of(alloc, version, &batch, 2),
+            Err(PlanError::KindsFull)
+        ),
+        None => false,
+    }
+}
+
+fn is_plainly_refused(alloc: Global, content: &mut Content) -> bool
+    requires { IsContent content.old }
+    ensures { IsContent content.new }
+{
+    match batch_of(alloc, TOO_MANY) {
+        Some(batch) => matches!(
+            plain_apply(alloc, content, &batch),
+            Err(PlainError::KindsFull)
+        ),
+        None => false,
+    }
 }
 
 // The batch is refused for its kinds, by the plan as by the plain application, and nothing has changed.
@@ -25,69 +46,23 @@ fn check_refused(
     alloc: Global,
     version: &Version,
     content: &mut Content,
-    batch: &Batch,
+    kinds: usize,
 )
     requires { IsContent content.old }
     ensures { IsContent content.new }
 {
-    assert_eq!(rt;
-        plan_of(alloc, version, batch, 2).err(),
-        Some(PlanError::KindsFull)
-    );
-    assert_eq!(rt;
-        plain_apply(alloc, content, batch).err(),
-        Some(PlainError::KindsFull)
-    );
+    assert_eq!(rt; version.kinds().len(), kinds);
+    assert!(rt; is_refused(alloc, version));
+    assert!(rt; is_plainly_refused(alloc, content));
     check_same(rt, version, content);
 }
 
-// Before any batch.
-fn check_refused_first(rt: &impl Abort, alloc: Global, content: &mut Content, many: &Batch)
-    requires { IsContent content.old }
-    ensures { IsContent content.new }
-{
-    check_refused(rt, alloc, &Version::empty(alloc), content, many);
-}
-
-// In a version of 64 kinds.
-fn check_full(
-    rt: &impl Abort,
-    alloc: Global,
-    version: &Version,
-    content: &mut Content,
-    many: &Batch,
-)
-    requires { IsContent content.old }
-    ensures { IsContent content.new }
-{
-    assert_eq!(rt; version.kinds().len(), 64);
-    check_refused(rt, alloc, version, content, many);
-}
-
-// After a batch of 64 kinds.
-fn check_refused_next<R: Threads + Sync + Abort>(
-    rt: &R,
-    alloc: Global,
-    content: &mut Content,
-    many: &Batch,
-)
-    requires { IsContent content.old }
-    ensures { IsContent content.new }
-{
-    let ops = kinds(rt, alloc, 64);
-    let first = first(rt, alloc, 2, content, ops.as_str());
-    check_full(rt, alloc, &first.version, content, many);
-}
-
-fn many(rt: &impl Abort, alloc: Global) -> Batch {
-    let ops = kinds(rt, alloc, 66);
-    batch_of(alloc, ops.as_str()).expect(rt, "a batch")
-}
-
+// Before any batch, and after one of 64 kinds.
 #[test]
 fn refuses_a_kind_too_many(rt: HostRuntime) {
-    let many = many(&rt, rt.alloc());
     let mut content = empty(rt.alloc());
-    check_refused_first(&rt, rt.alloc(), &mut content, &many);
-    check_refused_next(&rt, rt.alloc(), &mut content, &many);
+    let version = Version::empty(rt.alloc());
+    check_refused(&rt, rt.alloc(), &version, &mut content, 0);
+    let next = next(&rt, rt.alloc(), 2, &version, &mut content, FULL);
+    check_refused(&rt, rt.alloc(), &next.version, &mut content, 64);
 }

@@ -1,49 +1,66 @@
-// Batches from text.
+// Batches and requests from text.
 
-use feed_csv::{Command, Feed, FeedWord};
-use graph_model::{Batch, NamedOp, PushError};
-use std::alloc::Global;
+use super::texts::push_item;
+use feed_csv::{Command, Feed};
+use graph_model::{Batch, Request};
+use std::alloc::{AllocError, Global};
 
-/// The command of a record of a script.
-pub(super) fn command_of(alloc: Global, record: &str) -> Result<Command, FeedWord> {
-    let mut feed = Feed::over(alloc, record.as_bytes());
-    match feed.next() {
-        Ok(Some(command)) => Ok(command),
-        Ok(None) => Err(FeedWord::BadFields),
-        Err(fault) => Err(fault.word),
-    }
+// The command of a record of a script; nothing where memory is refused.
+fn command_of(alloc: Global, record: &str) -> Option<Command> {
+    Feed::over(alloc, record.as_bytes()).next().ok()?
 }
 
-fn push(batch: &mut Batch, op: NamedOp) -> Result<(), FeedWord> {
-    match batch.push(op) {
-        Ok(()) => Ok(()),
-        Err(PushError::OutOfMemory) => Err(FeedWord::Memory),
-        Err(_) => Err(FeedWord::BadCommand),
-    }
-}
-
-fn expire(batch: &mut Batch, time: &str) -> Result<(), FeedWord> {
-    match time.parse::<u64>() {
-        Ok(time) => push(batch, NamedOp::Expire { time }),
-        Err(_) => Err(FeedWord::BadTime),
-    }
-}
-
-fn add(alloc: Global, batch: &mut Batch, record: &str) -> Result<(), FeedWord> {
-    if let Some(time) = record.strip_prefix("x,") {
-        return expire(batch, time);
-    }
+/// The request of a record of a script, to any slot.
+pub(super) fn request_of(alloc: Global, record: &str) -> Option<Request> {
     match command_of(alloc, record)? {
-        Command::Op(op) => push(batch, op),
-        _ => Err(FeedWord::BadCommand),
+        Command::Query(_, request) => Some(request),
+        _ => None,
     }
 }
 
-/// The batch of operations as a script has them, with a blank between them.
-pub(super) fn batch_of(alloc: Global, text: &str) -> Result<Batch, FeedWord> {
-    let mut batch = Batch::new(alloc);
-    for record in text.split_whitespace() {
-        add(alloc, &mut batch, record)?;
+fn add(alloc: Global, batch: &mut Batch, record: &str) -> Option<()> {
+    match command_of(alloc, record)? {
+        Command::Op(op) => batch.push(op).ok(),
+        _ => None,
     }
-    Ok(batch)
+}
+
+/// A text in which `#` stands for a number, and `^` for the next one.
+pub(super) fn write_filled(text: &mut String, form: &str, number: u64) -> Result<(), AllocError> {
+    for sign in form.chars() {
+        match sign {
+            '#' => push_item(text, number, "")?,
+            '^' => push_item(text, number.saturating_add(1), "")?,
+            _ => text.push(sign)?,
+        }
+    }
+    Ok(())
+}
+
+fn add_filled(alloc: Global, batch: &mut Batch, form: &str, number: u64) -> Option<()> {
+    let mut record = String::new(alloc);
+    write_filled(&mut record, form, number).ok()?;
+    add(alloc, batch, record.as_str())
+}
+
+// A record, or `COUNT*FORM;FORM;..`: the records of these forms for each number below the count.
+fn add_word(alloc: Global, batch: &mut Batch, word: &str) -> Option<()> {
+    let Some((count, forms)) = word.split_once('*') else {
+        return add(alloc, batch, word);
+    };
+    for number in 0..count.parse::<u64>().ok()? {
+        for form in forms.split(';') {
+            add_filled(alloc, batch, form, number)?;
+        }
+    }
+    Some(())
+}
+
+/// The batch of operations as a script has them, with a blank between them; nothing where memory is refused.
+pub(super) fn batch_of(alloc: Global, text: &str) -> Option<Batch> {
+    let mut batch = Batch::new(alloc);
+    for word in text.split_whitespace() {
+        add_word(alloc, &mut batch, word)?;
+    }
+    Some(batch)
 }

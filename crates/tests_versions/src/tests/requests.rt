@@ -1,123 +1,71 @@
-// Requests from text, and replies as text.
+// Requests of versions, with answers worked by hand from the definitions.
 
-use super::ops::command_of;
-use super::texts::push_item;
-use feed_csv::{Command, FeedWord};
-use graph_model::{Degree, Name, Reply, Request, VertexId};
-use std::alloc::{AllocError, Global};
-use version_answers::NumberedReply;
+use super::lines::check;
 
-/// The request of a record of a script, to any slot.
-pub(super) fn request_of(alloc: Global, record: &str) -> Result<Request, FeedWord> {
-    match command_of(alloc, record)? {
-        Command::Query(_, request) => Ok(request),
-        _ => Err(FeedWord::BadCommand),
-    }
-}
+// Loops and edges of two kinds; windows, of which both ends are in them; a path of which the second edge goes. The window is
+// refused before the kind, and the kind before the vertices. Last, batches with edges put, touched again and taken away, a
+// loop, a vertex without edges and three kinds, whose versions answer as the plain application does.
+const REQUESTS: &str = "\
+i,k,a,b,1,1 i,k,b,c,1,1 i,k,c,a,1,1 i,k,c,d,1,1 => iiii 4 3 0 1 0:1,
+? core,0,*,0,9 => a 2,b 2,c 2,d 1,
+? comp,0,*,0,9 => a a,b a,c a,d a,
+? comp,0,k,2,9 => a a,b b,c c,d d,
+? bfs,0,a,k,0,9 => a 0,b 1,c 2,d 3,
+? bfs,0,c,*,1,1 => a 1,b 2,c 0,d 1,
+? bfs,0,d,*,0,9 => d 0,
+? deg,0,k,0,9 => a 1 1 1,b 1 1 1,c 2 1 2,d 0 1 0,
+? deg,0,*,0,9 => a 1 1 1,b 1 1 1,c 2 1 2,d 0 1 0,
+? edge,0,k,c,d => 1 1 1
+? edge,0,k,d,c => none
+? bfs,0,z,x,9,8 => BadWindow
+? bfs,0,z,x,8,9 => NoKind
+? bfs,0,z,m,0,9 => NoKind
+? bfs,0,z,k,8,8 => NoVertex
+? bfs,0,a,x,8,7 => BadWindow
+? comp,0,x,9,8 => BadWindow
+? comp,0,x,8,8 => NoKind
+? core,0,x,9,8 => BadWindow
+? core,0,x,8,8 => NoKind
+? deg,0,*,9,8 => BadWindow
+? deg,0,x,8,8 => NoKind
+? edge,0,x,y,z => NoKind
+? edge,0,k,y,z => NoVertex
+? edge,0,k,a,z => NoVertex
+? edge,0,k,z,a => NoVertex
 
-fn write_named_numbers(text: &mut String, rows: &[(Name, u32)]) -> Result<(), AllocError> {
-    for row in rows {
-        push_item(text, row.0.as_str(), " ")?;
-        push_item(text, row.1, ",")?;
-    }
-    Ok(())
-}
+i,k,a,a,1,1 i,k,a,b,1,1 i,m,a,b,1,1 => iii 2 2 0 1 0:0,1, 1:1,
+? bfs,0,a,*,0,9 => a 0,b 1,
+? comp,0,*,0,9 => a a,b a,
+? core,0,*,0,9 => a 1,b 1,
+? deg,0,*,0,9 => a 3 1 3,b 0 2 0,
+? deg,0,k,0,9 => a 2 1 2,b 0 1 0,
+? bfs,0,a,m,1,1 => a 0,b 1,
+? comp,0,m,1,1 => a a,b a,
+? core,0,m,1,1 => a 1,b 1,
+? deg,0,m,1,1 => a 1 0 1,b 0 1 0,
 
-fn write_named_names(text: &mut String, rows: &[(Name, Name)]) -> Result<(), AllocError> {
-    for row in rows {
-        push_item(text, row.0.as_str(), " ")?;
-        push_item(text, row.1.as_str(), ",")?;
-    }
-    Ok(())
-}
+i,k,a,b,1,9 i,k,a,c,2,10 i,k,a,d,3,20 i,k,a,e,4,21 => iiii 5 1 0 3 0:1,2,3,4,
+? bfs,0,a,*,10,20 => a 0,c 1,d 1,
+? comp,0,*,10,20 => a a,b b,c a,d a,e e,
+? core,0,*,10,20 => a 1,b 0,c 1,d 1,e 0,
+? deg,0,*,10,20 => a 2 0 5,b 0 0 0,c 0 1 0,d 0 1 0,e 0 0 0,
 
-fn write_degree(text: &mut String, degree: &Degree) -> Result<(), AllocError> {
-    push_item(text, degree.outgoing, " ")?;
-    push_item(text, degree.incoming, " ")?;
-    push_item(text, degree.out_weight, ",")
-}
+i,k,a,b,5,10 i,k,b,c,2,11 => ii 3 2 0 0 0:1,
+? bfs,0,a,*,0,99 => a 0,b 1,c 2,
+? comp,0,*,0,99 => a a,b a,c a,
+? core,0,*,0,99 => a 1,b 1,c 1,
+? deg,0,*,0,99 => a 1 0 5,b 1 1 2,c 0 1 0,
+r,k,b,c => r 3 0 1 1 0:1,
+? bfs,0,a,*,0,99 => a 0,b 1,
+? comp,0,*,0,99 => a a,b a,c c,
+? core,0,*,0,99 => a 1,b 1,c 0,
+? deg,0,*,0,99 => a 1 0 5,b 0 1 0,c 0 0 0,
 
-fn write_named_degrees(text: &mut String, rows: &[(Name, Degree)]) -> Result<(), AllocError> {
-    for row in rows {
-        push_item(text, row.0.as_str(), " ")?;
-        write_degree(text, &row.1)?;
-    }
-    Ok(())
-}
+i,k,a,b,5,10 i,k,b,c,2,11 i,m,c,a,1,12 => iii 3 3 0 0 0:1,
+r,k,b,c i,k,d,a,4,13 a,m,c,a,7,14 i,m,d,c,2,10 => riui 4 3 2 1 0:1,
+i,k,a,a,1,20 i,n,d,e,2,3 r,m,c,a i,k,b,a,3,9 => iiri 5 3 2 1 0:1,0,";
 
-fn write_edge(text: &mut String, edge: &Option<(i64, u64, u64)>) -> Result<(), AllocError> {
-    match edge {
-        Some((weight, first, recent)) => {
-            push_item(text, *weight, " ")?;
-            push_item(text, *first, " ")?;
-            push_item(text, *recent, "")
-        }
-        None => text.push_str("none"),
-    }
-}
-
-fn write_reply(text: &mut String, reply: &Reply) -> Result<(), AllocError> {
-    match reply {
-        Reply::Levels(rows) => write_named_numbers(text, rows.as_slice()),
-        Reply::Labels(rows) => write_named_names(text, rows.as_slice()),
-        Reply::Cores(rows) => write_named_numbers(text, rows.as_slice()),
-        Reply::Degrees(rows) => write_named_degrees(text, rows.as_slice()),
-        Reply::OneEdge(edge) => write_edge(text, edge),
-    }
-}
-
-/// A reply's rows.
-pub(super) fn reply_text(alloc: Global, reply: &Reply) -> Result<String, AllocError> {
-    let mut text = String::new(alloc);
-    write_reply(&mut text, reply)?;
-    Ok(text)
-}
-
-/// Levels; a vertex without one is `-`.
-pub(super) fn write_levels(text: &mut String, levels: &[Option<u32>]) -> Result<(), AllocError> {
-    for level in levels {
-        match level {
-            Some(level) => push_item(text, *level, ",")?,
-            None => text.push_str("-,")?,
-        }
-    }
-    Ok(())
-}
-
-pub(super) fn write_labels(text: &mut String, labels: &[VertexId]) -> Result<(), AllocError> {
-    for label in labels {
-        push_item(text, label.0, ",")?;
-    }
-    Ok(())
-}
-
-pub(super) fn write_numbers(text: &mut String, numbers: &[u32]) -> Result<(), AllocError> {
-    for number in numbers {
-        push_item(text, *number, ",")?;
-    }
-    Ok(())
-}
-
-pub(super) fn write_degrees(text: &mut String, degrees: &[Degree]) -> Result<(), AllocError> {
-    for degree in degrees {
-        write_degree(text, degree)?;
-    }
-    Ok(())
-}
-
-fn write_numbered(text: &mut String, reply: &NumberedReply) -> Result<(), AllocError> {
-    match reply {
-        NumberedReply::Levels(levels) => write_levels(text, levels.as_slice()),
-        NumberedReply::Labels(labels) => write_labels(text, labels.as_slice()),
-        NumberedReply::Cores(numbers) => write_numbers(text, numbers.as_slice()),
-        NumberedReply::Degrees(degrees) => write_degrees(text, degrees.as_slice()),
-        NumberedReply::OneEdge(edge) => write_edge(text, edge),
-    }
-}
-
-/// The items of a reply in numbers; a vertex without a level is `-`.
-pub(super) fn numbered_text(alloc: Global, reply: &NumberedReply) -> Result<String, AllocError> {
-    let mut text = String::new(alloc);
-    write_numbered(&mut text, reply)?;
-    Ok(text)
+#[test]
+fn answers_each_request(rt: HostRuntime) {
+    check(&rt, rt.alloc(), REQUESTS);
 }

@@ -8,12 +8,19 @@ use std::alloc::{AllocError, Global};
 use std::process::Abort;
 use vertex_names::NameBook;
 
+// Whether a book has a name with this number.
+fn has_name(book: &NameBook, name: &str, number: u32) -> bool {
+    match book.name(number) {
+        Some(told) => told == name && book.number(name) == Some(number),
+        None => false,
+    }
+}
+
 // The book has these names, in order, and no others.
 fn check_names(rt: &impl Abort, book: &NameBook, names: &[Name]) {
     assert_eq!(rt; book.len(), names.len());
     for (number, name) in names.iter().enumerate() {
-        assert_eq!(rt; book.name(number as u32), Some(name.as_str()));
-        assert_eq!(rt; book.number(name.as_str()), Some(number as u32));
+        assert!(rt; has_name(book, name.as_str(), number as u32));
     }
 }
 
@@ -28,8 +35,8 @@ fn times_listed(version: &Version, edge: &Edge) -> usize {
     times
 }
 
-// Whether a version has an edge, by its key and in its source's row, where it stands once.
-fn has_edge(version: &Version, edge: &Edge) -> bool {
+/// Whether a version has an edge, by its key and in its source's row, where it stands once.
+pub(super) fn has_edge(version: &Version, edge: &Edge) -> bool {
     let Some(found) = version.edge(edge.kind, edge.source, edge.target) else {
         return false;
     };
@@ -138,15 +145,4 @@ pub(super) fn write_row(
         write_block(text, block)?;
     }
     Ok(())
-}
-
-/// The blocks of a row as a text of their own.
-pub(super) fn row_text(
-    alloc: Global,
-    version: &Version,
-    source: VertexId,
-) -> Result<String, AllocError> {
-    let mut text = String::new(alloc);
-    write_row(&mut text, version, source)?;
-    Ok(text)
 }

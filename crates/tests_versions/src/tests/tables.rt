@@ -1,30 +1,77 @@
-// Small batches, with what each must do.
+// Tables of a version's vertices that no request asks for: from a number that is no vertex, and of a window that ends before it
+// begins.
 
-use super::steps::check_lines;
+use super::steps::first;
+use batch_apply::PassAll;
+use graph_cores::cores;
+use graph_degrees::degrees;
+use graph_levels::{LevelError, labels, levels};
+use graph_model::{Degree, Filter, VertexId};
+use graph_version::Version;
 use std::alloc::Global;
 use std::process::Abort;
-use std::thread::Threads;
 
-// All three operations; names that are unknown, in any place; a loop; an edge removed and put anew in one batch; a block
-// that is emptied, and one that is emptied and filled again; a weight that would be past 2^40.
-const OPERATIONS: &str = "i,k,a,b,1,1 i,k,b,c,2,2 r,k,z,a i,k,a,b,3,3 => iiau 2 0 2 0:1,
-a,k,a,b,4,5 r,k,b,c r,k,b,c a,k,a,a,7,6 r,x,a,b r,k,a,z => uraiaa 1 2 5 0:1,0,
-r,k,a,b i,k,a,b,9,9 => ri 1 1 1 0:1,0,
-r,k,a,a r,k,a,b => rr 0 1 2
-i,m,a,b,1,1 i,k,a,c,1,2 => ii 2 0 0 1:1, 0:2,
-r,m,a,b i,m,a,c,5,5 => ri 1 1 1 1:2, 0:2,
-i,k,a,b,1099511627776,1 a,k,a,b,1,2 a,k,a,b,-1,3 => iou 1 1 2 1:2, 0:2,1,
-r,k,q,q => a 0 0 1 1:2, 0:2,1,
-i,k,c,a,1,1 i,k,d,a,1,1 r,k,c,a => iir 1 0 2 1:2, 0:2,1,";
+// A triangle with a tail.
+const TRIANGLE: &str = "i,k,a,b,1,1 i,k,b,c,1,1 i,k,c,a,1,1 i,k,c,d,1,1";
 
-fn check_workers<R: Threads + Sync + Abort>(rt: &R, alloc: Global, lines: &str) {
-    check_lines(rt, alloc, 1, lines);
-    check_lines(rt, alloc, 2, lines);
-    check_lines(rt, alloc, 4, lines);
-    check_lines(rt, alloc, 8, lines);
+const NO_TIME: Filter = Filter {
+    kind: None,
+    lo: 1,
+    hi: 0,
+};
+
+fn are_levels(alloc: Global, version: &Version) -> bool {
+    match levels(alloc, version, VertexId(2), &NO_TIME) {
+        Ok(table) => table.as_slice() == [None, None, Some(0), None].as_slice(),
+        Err(_) => false,
+    }
+}
+
+fn are_labels(alloc: Global, version: &Version) -> bool {
+    match labels(alloc, version, &NO_TIME) {
+        Ok(table) => {
+            table.as_slice() == [VertexId(0), VertexId(1), VertexId(2), VertexId(3)].as_slice()
+        }
+        Err(_) => false,
+    }
+}
+
+fn are_cores(alloc: Global, version: &Version) -> bool {
+    match cores(alloc, version, &NO_TIME) {
+        Ok(table) => table.as_slice() == [0, 0, 0, 0].as_slice(),
+        Err(_) => false,
+    }
+}
+
+fn are_degrees(alloc: Global, version: &Version) -> bool {
+    let none = Degree {
+        outgoing: 0,
+        incoming: 0,
+        out_weight: 0,
+    };
+    match degrees(alloc, version, &NO_TIME) {
+        Ok(table) => table.as_slice() == [none, none, none, none].as_slice(),
+        Err(_) => false,
+    }
+}
+
+fn is_no_vertex(alloc: Global, version: &Version, number: u32) -> bool {
+    matches!(
+        levels(alloc, version, VertexId(number), &NO_TIME),
+        Err(LevelError::NoVertex)
+    )
+}
+
+fn check_tables(rt: &impl Abort, alloc: Global, version: &Version) {
+    assert!(rt; are_levels(alloc, version));
+    assert!(rt; are_labels(alloc, version));
+    assert!(rt; are_cores(alloc, version));
+    assert!(rt; are_degrees(alloc, version));
+    assert!(rt; is_no_vertex(alloc, version, 4));
 }
 
 #[test]
-fn applies_each_operation(rt: HostRuntime) {
-    check_workers(&rt, rt.alloc(), OPERATIONS);
+fn tables_of_no_vertex_and_of_an_empty_window(rt: HostRuntime) {
+    let first = first(&rt, rt.alloc(), &PassAll, 2, TRIANGLE).expect(&rt, "a version");
+    check_tables(&rt, rt.alloc(), &first.version);
 }
