@@ -1,7 +1,9 @@
-// Operations, batches and requests from text.
+// Values from text: names, numbers, edges, operations, batches and requests.
 
-use graph_model::{Batch, List, Name, NamedFilter, NamedOp, PushError, Request};
-use reference_graph::PlainError;
+ghost use Rattle.std.specs.Prelude.{◌≡◌, ◌++◌, ◌∷◌, [], OnOk};
+
+use feed_csv::{Command, Feed, FeedFault, FeedWord};
+use graph_model::{Batch, Edge, KindId, List, Name, NamedOp, PushError, Request, VertexId};
 use std::alloc::{AllocError, Global};
 use std::num::ParseIntError;
 use std::process::Abort;
@@ -38,10 +40,10 @@ impl From<PushError> for LineError {
     }
 }
 
-impl From<PlainError> for LineError {
-    fn from(error: PlainError) -> LineError {
-        match error {
-            PlainError::OutOfMemory => LineError::OutOfMemory,
+impl From<FeedFault> for LineError {
+    fn from(fault: FeedFault) -> LineError {
+        match fault.word {
+            FeedWord::Memory => LineError::OutOfMemory,
             _ => LineError::Wrong,
         }
     }
@@ -61,17 +63,22 @@ pub(super) fn only_refused(rt: &impl Print, error: LineError) -> Result<(), Fail
     }
 }
 
-/// Compares two texts.
-pub(super) fn check_text(rt: &impl Abort, text: &str, wanted: &str) {
-    assert_eq!(rt; text, wanted);
+/// What a line comes to is what is wanted of it, all of it or what stands before a colon and a blank.
+pub(super) fn check_told(rt: &impl Abort, line: &str, told: &str, wanted: &str) {
+    let (outcome, _) = told.split_once(": ").unwrap_or((told, ""));
+    assert!(rt; told == wanted || outcome == wanted, "{line}: {told}");
 }
 
+/// The name of this text, whether it is one by the rules or not.
 pub(super) fn name(alloc: Global, text: &str) -> Result<Name, AllocError> {
     Ok(Name::of(String::from_str(alloc, text)?))
 }
 
-fn push_name(alloc: Global, names: &mut Vec<Name>, text: &str) -> Result<(), AllocError> {
-    names.push(name(alloc, text)?)?;
+/// The item at the end of the list.
+pub(super) fn push<T: Drop>(list: &mut Vec<T>, item: T) -> Result<(), AllocError>
+    ensures { OnOk result (list.new.items ≡ list.old.items ++ item ∷ []) }
+{
+    list.push(item)?;
     Ok(())
 }
 
@@ -79,9 +86,47 @@ fn push_name(alloc: Global, names: &mut Vec<Name>, text: &str) -> Result<(), All
 pub(super) fn names(alloc: Global, text: &str) -> Result<List<Name>, AllocError> {
     let mut names = Vec::new(alloc);
     for word in text.split_whitespace() {
-        push_name(alloc, &mut names, word)?;
+        push(&mut names, name(alloc, word)?)?;
     }
     Ok(List::of(names))
+}
+
+/// Numbers with a blank between them.
+pub(super) fn numbers(alloc: Global, text: &str) -> Result<List<usize>, LineError> {
+    let mut numbers = Vec::new(alloc);
+    for word in text.split_whitespace() {
+        push(&mut numbers, word.parse()?)?;
+    }
+    Ok(List::of(numbers))
+}
+
+// `kind,source,target,weight,first,recent`, by numbers.
+fn edge_of(fields: &[&str]) -> Result<Edge, LineError> {
+    match *fields {
+        [kind, source, target, weight, first, recent] => Ok(Edge {
+            kind: KindId(kind.parse()?),
+            source: VertexId(source.parse()?),
+            target: VertexId(target.parse()?),
+            weight: weight.parse()?,
+            first: first.parse()?,
+            recent: recent.parse()?,
+        }),
+        _ => Err(LineError::Wrong),
+    }
+}
+
+fn edge(alloc: Global, text: &str) -> Result<Edge, LineError> {
+    let fields: Vec<&str> = text.split(',').collect(alloc)?;
+    edge_of(fields.as_slice())
+}
+
+/// Edges with a blank between them.
+pub(super) fn edges(alloc: Global, text: &str) -> Result<List<Edge>, LineError> {
+    let mut edges = Vec::new(alloc);
+    for word in text.split_whitespace() {
+        push(&mut edges, edge(alloc, word)?)?;
+    }
+    Ok(List::of(edges))
 }
 
 // `kind,source,target`
@@ -95,51 +140,59 @@ fn three_names(alloc: Global, text: &str) -> Result<(Name, Name, Name), LineErro
     ))
 }
 
-// `kind,source,target,weight,time`: the names, the weight or amount, and the time.
-fn change(alloc: Global, text: &str) -> Result<((Name, Name, Name), i64, u64), LineError> {
+// What stands before the last two commas, the number between them, and the one behind.
+fn with_numbers(text: &str) -> Result<(&str, i64, u64), LineError> {
     let (text, time) = text.rsplit_once(',').ok_or(LineError::Wrong)?;
     let (text, weight) = text.rsplit_once(',').ok_or(LineError::Wrong)?;
-    let (weight, time) = (weight.parse()?, time.parse()?);
-    Ok((three_names(alloc, text)?, weight, time))
+    Ok((text, weight.parse()?, time.parse()?))
 }
 
-// `i,kind,source,target,weight,time`, `a,kind,source,target,amount,time`, `r,kind,source,target` or `x,time`.
-fn op(alloc: Global, text: &str) -> Result<NamedOp, LineError> {
-    let (letter, rest) = text.split_once(',').ok_or(LineError::Wrong)?;
+// The operation of a letter on an edge.
+fn op_on(
+    letter: &str,
+    ends: (Name, Name, Name),
+    number: i64,
+    time: u64,
+) -> Result<NamedOp, LineError> {
+    let (kind, source, target) = ends;
     match letter {
-        "i" => {
-            let ((kind, source, target), weight, time) = change(alloc, rest)?;
-            Ok(NamedOp::Insert {
-                kind,
-                source,
-                target,
-                weight,
-                time,
-            })
-        }
-        "a" => {
-            let ((kind, source, target), amount, time) = change(alloc, rest)?;
-            Ok(NamedOp::Incr {
-                kind,
-                source,
-                target,
-                amount,
-                time,
-            })
-        }
-        "r" => {
-            let (kind, source, target) = three_names(alloc, rest)?;
-            Ok(NamedOp::Remove {
-                kind,
-                source,
-                target,
-            })
-        }
-        "x" => Ok(NamedOp::Expire {
-            time: rest.parse()?,
+        "i" => Ok(NamedOp::Insert {
+            kind,
+            source,
+            target,
+            weight: number,
+            time,
+        }),
+        "a" => Ok(NamedOp::Incr {
+            kind,
+            source,
+            target,
+            amount: number,
+            time,
+        }),
+        "r" => Ok(NamedOp::Remove {
+            kind,
+            source,
+            target,
         }),
         _ => Err(LineError::Wrong),
     }
+}
+
+// `i,kind,source,target,weight,time`, `a,kind,source,target,amount,time`, `r,kind,source,target` or `x,time`, whether a batch
+// takes it or not.
+fn op(alloc: Global, text: &str) -> Result<NamedOp, LineError> {
+    let (letter, rest) = text.split_once(',').ok_or(LineError::Wrong)?;
+    if letter == "x" {
+        let time = rest.parse()?;
+        return Ok(NamedOp::Expire { time });
+    }
+    let (ends, number, time) = if letter == "r" {
+        (rest, 0, 0)
+    } else {
+        with_numbers(rest)?
+    };
+    op_on(letter, three_names(alloc, ends)?, number, time)
 }
 
 /// The operation of a text at the end of the batch.
@@ -157,55 +210,10 @@ pub(super) fn batch(alloc: Global, text: &str) -> Result<Batch, LineError> {
     Ok(batch)
 }
 
-// The name of a kind, and none for `*`.
-fn kind_name(alloc: Global, text: &str) -> Result<Option<Name>, AllocError> {
-    if text == "*" {
-        return Ok(None);
-    }
-    Ok(Some(name(alloc, text)?))
-}
-
-// `KIND LO HI`: the view of a kind, `*` for any, and a window.
-fn view(alloc: Global, text: &str) -> Result<NamedFilter, LineError> {
-    let (kind, window) = text.split_once(' ').ok_or(LineError::Wrong)?;
-    let (lo, hi) = window.split_once(' ').ok_or(LineError::Wrong)?;
-    let (lo, hi) = (lo.parse()?, hi.parse()?);
-    let kind = kind_name(alloc, kind)?;
-    Ok(NamedFilter { kind, lo, hi })
-}
-
-fn one_edge(alloc: Global, text: &str) -> Result<Request, LineError> {
-    let (kind, source, target) = three_names(alloc, text)?;
-    Ok(Request::OneEdge {
-        kind,
-        source,
-        target,
-    })
-}
-
-fn levels(alloc: Global, text: &str) -> Result<Request, LineError> {
-    let (source, view_text) = text.split_once(' ').ok_or(LineError::Wrong)?;
-    let filter = view(alloc, view_text)?;
-    let source = name(alloc, source)?;
-    Ok(Request::Levels { source, filter })
-}
-
-// The request of a verb for all of a view.
-fn of_view(verb: &str, filter: NamedFilter) -> Result<Request, LineError> {
-    match verb {
-        "comp" => Ok(Request::Labels { filter }),
-        "core" => Ok(Request::Cores { filter }),
-        "deg" => Ok(Request::Degrees { filter }),
+/// A request as a script has it; the slot is for nothing.
+pub(super) fn request(alloc: Global, record: &str) -> Result<Request, LineError> {
+    match Feed::over(alloc, record.as_bytes()).next()? {
+        Some(Command::Query(_, request)) => Ok(request),
         _ => Err(LineError::Wrong),
-    }
-}
-
-/// `edge KIND,SOURCE,TARGET`; `bfs SOURCE KIND LO HI`; `comp`, `core` or `deg`, and KIND LO HI.
-pub(super) fn request(alloc: Global, text: &str) -> Result<Request, LineError> {
-    let (verb, rest) = text.split_once(' ').ok_or(LineError::Wrong)?;
-    match verb {
-        "edge" => one_edge(alloc, rest),
-        "bfs" => levels(alloc, rest),
-        _ => of_view(verb, view(alloc, rest)?),
     }
 }

@@ -1,9 +1,9 @@
-// Replies as text.
+// Values as text.
 
 use super::parts::LineError;
 use graph_model::{AskError, Degree, Name, Reply};
-use std::alloc::{AllocError, Global};
-use std::fmt::Display;
+use std::alloc::AllocError;
+use std::fmt::{Debug, Display};
 
 /// An item behind a text.
 pub(super) fn push_item<D: Display + Drop>(
@@ -12,6 +12,23 @@ pub(super) fn push_item<D: Display + Drop>(
     item: D,
 ) -> Result<(), AllocError> {
     write!(text, "{before}{item}")
+}
+
+/// An item as it is derived to be shown, behind a text.
+pub(super) fn push_shown<D: Debug + Drop>(
+    text: &mut String,
+    before: &str,
+    item: D,
+) -> Result<(), AllocError> {
+    write!(text, "{before}{item:?}")
+}
+
+/// Each name behind a blank, and then a text.
+pub(super) fn push_names(text: &mut String, names: &[Name], after: &str) -> Result<(), AllocError> {
+    for name in names {
+        push_item(text, " ", name.as_str())?;
+    }
+    text.push_str(after)
 }
 
 // Weight and times of an edge.
@@ -58,7 +75,7 @@ fn push_degrees(text: &mut String, rows: &[(Name, Degree)]) -> Result<(), AllocE
     Ok(())
 }
 
-fn push_reply(text: &mut String, reply: &Reply) -> Result<(), AllocError> {
+fn push_granted(text: &mut String, reply: &Reply) -> Result<(), AllocError> {
     match reply {
         Reply::OneEdge(edge) => push_edge(text, *edge),
         Reply::Levels(rows) => push_numbers(text, "bfs", rows.as_slice()),
@@ -68,25 +85,14 @@ fn push_reply(text: &mut String, reply: &Reply) -> Result<(), AllocError> {
     }
 }
 
-fn refusal_text(refusal: AskError) -> &'static str {
-    match refusal {
-        AskError::BadWindow => "BadWindow",
-        AskError::NoKind => "NoKind",
-        AskError::NoVertex => "NoVertex",
-        AskError::OutOfMemory => "OutOfMemory",
-    }
-}
-
 /// A reply, or the refusal that stands in its place, unless that is want of memory.
-pub(super) fn reply_text(
-    alloc: Global,
+pub(super) fn push_reply(
+    text: &mut String,
     reply: &Result<Reply, AskError>,
-) -> Result<String, LineError> {
-    let mut text = String::new(alloc);
+) -> Result<(), LineError> {
     match reply {
-        Ok(reply) => push_reply(&mut text, reply)?,
-        Err(AskError::OutOfMemory) => return Err(LineError::OutOfMemory),
-        Err(refusal) => text.push_str(refusal_text(*refusal))?,
+        Ok(reply) => Ok(push_granted(text, reply)?),
+        Err(AskError::OutOfMemory) => Err(LineError::OutOfMemory),
+        Err(refusal) => Ok(push_shown(text, "", *refusal)?),
     }
-    Ok(text)
 }

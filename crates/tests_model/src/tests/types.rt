@@ -3,16 +3,14 @@
 ghost use Rattle.std.specs.Prelude.{◌≡◌, IfSome};
 ghost use Rattle.graph_model.specs.Changes.{AreMarks, IsChange};
 
-use super::parts::{
-    LineError, batch, check_text, name, names, only_refused, push_op, refused, request,
-};
-use super::texts::push_item;
+use super::parts::{LineError, batch, name, names, only_refused, push_op, refused, request};
 use graph_model::{
     Batch, Content, Edge, EdgeChange, EdgeMarks, KindId, List, Name, Outcome, PushError, VertexId,
     change_edge, is_kind_name, is_name, law_edge_order, law_expiry, law_first_time_stays,
     law_names_stay_names, law_one_answer, law_one_table, law_some_answer, law_some_table,
     law_within_limits,
 };
+use reference_graph::law_names_before_kinds;
 use std::alloc::{AllocError, Global};
 use std::fmt::Debug;
 use std::process::Abort;
@@ -50,31 +48,14 @@ fn names_are_short_printable_texts(rt: HostRuntime) {
     check_texts(&rt, NO_NAMES, false, false);
 }
 
-fn check_name(rt: &impl Abort, name: &Name, wanted: &str) {
-    check_text(rt, name.as_str(), wanted);
-}
-
-#[test]
-fn a_name_shows_its_text(rt: HostRuntime) -> Result<(), Fail> {
-    let alloc = rt.alloc();
-    check_name(&rt, &name(alloc, "ann")?, "ann");
-    check_text(&rt, name(alloc, "ann")?.into_string().as_str(), "ann");
-    check_name(&rt, &name(alloc, "bob")?.clone()?, "bob");
-    Ok(())
-}
-
 fn list(alloc: Global) -> Result<List<i32>, AllocError> {
     Ok(List::of(Vec::from_slice(alloc, &[4, 9])?))
 }
 
-fn check_items(rt: &impl Abort, items: &[i32]) {
-    assert_eq!(rt; items, [4, 9].as_slice());
-}
-
 #[test]
-fn a_list_shows_its_items(rt: HostRuntime) -> Result<(), Fail> {
-    check_items(&rt, list(rt.alloc())?.as_slice());
-    check_items(&rt, list(rt.alloc())?.into_vec().as_slice());
+fn a_name_and_a_list_give_back_what_they_are_of(rt: HostRuntime) -> Result<(), Fail> {
+    assert_eq!(rt; name(rt.alloc(), "ann")?.into_string().as_str(), "ann");
+    assert_eq!(rt; list(rt.alloc())?.into_vec().as_slice(), [4, 9].as_slice());
     Ok(())
 }
 
@@ -89,6 +70,7 @@ fn laws_can_be_called() {
     law_expiry();
     law_one_table();
     law_some_table();
+    law_names_before_kinds();
 }
 
 /// Marks of this weight, first seen at 10 and last touched at this time.
@@ -220,105 +202,78 @@ fn is_shown_twice<T: Clone + Debug + Drop>(
     Ok(text.as_str().strip_prefix(shown) == Some(shown))
 }
 
-fn check_kept(rt: &impl Abort, alloc: Global, batch: &Batch) -> Result<(), Fail> {
-    assert_eq!(rt;
-        (batch.is_empty(), batch.len(), batch.ops().len()),
-        (false, 3, 3)
-    );
-    assert!(rt; is_shown_twice(alloc, batch, SHOWN)?);
-    Ok(())
-}
-
-#[test]
-fn a_batch_keeps_its_operations_in_order(rt: HostRuntime) -> Result<(), Fail> {
-    assert!(rt; Batch::new(rt.alloc()).is_empty());
-    check_kept(&rt, rt.alloc(), &batch(rt.alloc(), ONE_OF_EACH)?)
-}
-
 fn has_expire(alloc: Global, ops: &str) -> Result<bool, LineError> {
     Ok(batch(alloc, ops)?.has_expire())
 }
 
-/// The batch of these operations expires edges, or doesn't.
-fn check_expires(rt: &impl Abort, alloc: Global, ops: &str, wanted: bool) -> Result<(), Fail> {
-    assert_eq!(rt; has_expire(alloc, ops)?, wanted, "{ops}");
-    Ok(())
-}
+const EXPIRIES: [(&str, bool); 3] = [
+    ("", false),
+    (ONE_OF_EACH, false),
+    ("r,knows,ann,bob x,9223372036854775807", true),
+];
 
 #[test]
 fn a_batch_tells_whether_it_expires_edges(rt: HostRuntime) -> Result<(), Fail> {
-    check_expires(&rt, rt.alloc(), "", false)?;
-    check_expires(&rt, rt.alloc(), ONE_OF_EACH, false)?;
-    check_expires(
-        &rt,
-        rt.alloc(),
-        "r,knows,ann,bob x,9223372036854775807",
-        true,
-    )
-}
-
-/// The batch refuses the operation.
-fn check_refused(rt: &impl Abort, alloc: Global, batch: &mut Batch, op: &str, refusal: PushError) {
-    assert_eq!(rt;
-        push_op(alloc, batch, op),
-        Err(LineError::Refused(refusal)),
-        "{op}"
-    );
-}
-
-fn check_bad_operations(rt: &impl Abort, alloc: Global, batch: &mut Batch) {
-    let bad = "i,*,ann,bob,1099511627777,9223372036854775808";
-    check_refused(rt, alloc, batch, bad, PushError::BadName);
-    check_refused(rt, alloc, batch, "r,knows,,bob", PushError::BadName);
-    let bad = "i,knows,ann,bob,1099511627777,9223372036854775808";
-    check_refused(rt, alloc, batch, bad, PushError::BadWeight);
-    let bad = "a,knows,ann,bob,-1099511627777,0";
-    check_refused(rt, alloc, batch, bad, PushError::BadWeight);
-    let bad = "i,knows,ann,bob,0,9223372036854775808";
-    check_refused(rt, alloc, batch, bad, PushError::BadTime);
-    let bad = "a,knows,ann,bob,0,9223372036854775808";
-    check_refused(rt, alloc, batch, bad, PushError::BadTime);
-    check_refused(
-        rt,
-        alloc,
-        batch,
-        "x,9223372036854775808",
-        PushError::BadTime,
-    );
-    assert_eq!(rt; batch.len(), 0);
-}
-
-// Weights and times past their limits, of which the first refusal is told.
-#[test]
-fn a_batch_refuses_bad_operations_in_order(rt: HostRuntime) {
-    check_bad_operations(&rt, rt.alloc(), &mut Batch::new(rt.alloc()));
-}
-
-fn push_at(alloc: Global, batch: &mut Batch, time: u64) -> Result<(), LineError> {
-    let mut text = String::new(alloc);
-    push_item(&mut text, "i,knows,ann,bob,1,", time)?;
-    push_op(alloc, batch, text.as_str())
-}
-
-fn fill(alloc: Global, batch: &mut Batch) -> Result<(), LineError> {
-    for time in 0..4096u64 {
-        push_at(alloc, batch, time)?;
+    for (ops, wanted) in EXPIRIES {
+        assert_eq!(rt; has_expire(rt.alloc(), ops)?, wanted, "{ops}");
     }
     Ok(())
 }
 
-fn check_full(rt: &impl Abort, alloc: Global, batch: &mut Batch) -> Result<(), Fail> {
-    fill(alloc, batch)?;
-    check_refused(rt, alloc, batch, "r,knows,ann,bob", PushError::BatchFull);
-    check_refused(rt, alloc, batch, "r,knows,,bob", PushError::BadName);
-    assert_eq!(rt; batch.len(), 4096);
-    Ok(())
+// Weights and times past their limits, of which the first refusal is told.
+const BAD_OPERATIONS: [(&str, PushError); 7] = [
+    (
+        "i,*,ann,bob,1099511627777,9223372036854775808",
+        PushError::BadName,
+    ),
+    ("r,knows,,bob", PushError::BadName),
+    (
+        "i,knows,ann,bob,1099511627777,9223372036854775808",
+        PushError::BadWeight,
+    ),
+    ("a,knows,ann,bob,-1099511627777,0", PushError::BadWeight),
+    ("i,knows,ann,bob,0,9223372036854775808", PushError::BadTime),
+    ("a,knows,ann,bob,0,9223372036854775808", PushError::BadTime),
+    ("x,9223372036854775808", PushError::BadTime),
+];
+
+// Of a batch that is full.
+const TOO_MANY: [(&str, PushError); 2] = [
+    ("r,knows,ann,bob", PushError::BatchFull),
+    ("r,knows,,bob", PushError::BadName),
+];
+
+/// The batch refuses each of these operations, and keeps as many as before.
+fn check_refusals(
+    rt: &impl Abort,
+    alloc: Global,
+    batch: &mut Batch,
+    rows: &[(&str, PushError)],
+    len: usize,
+) {
+    for (op, refusal) in rows {
+        let told = push_op(alloc, batch, op);
+        assert_eq!(rt; told, Err(LineError::Refused(*refusal)), "{op}");
+    }
+    assert_eq!(rt; (batch.is_empty(), batch.len()), (len == 0, len));
+}
+
+#[test]
+fn a_batch_refuses_bad_operations_in_order(rt: HostRuntime) {
+    let mut batch = Batch::new(rt.alloc());
+    check_refusals(&rt, rt.alloc(), &mut batch, &BAD_OPERATIONS, 0);
+}
+
+fn full(alloc: Global) -> Result<Batch, LineError> {
+    let ops = "i,knows,ann,bob,1,1 ".repeat(alloc, 4096)?;
+    batch(alloc, ops.as_str())
 }
 
 #[test]
 fn a_batch_has_at_most_4096_operations(rt: HostRuntime) -> Result<(), Fail> {
-    let mut batch = Batch::new(rt.alloc());
-    check_full(&rt, rt.alloc(), &mut batch)
+    let mut batch = full(rt.alloc())?;
+    check_refusals(&rt, rt.alloc(), &mut batch, &TOO_MANY, 4096);
+    Ok(())
 }
 
 fn check_push(rt: &(impl Abort + Print), alloc: Global, batch: &mut Batch) -> Result<(), Fail> {
@@ -363,10 +318,19 @@ fn check_copies<T: Clone + Debug + Drop>(
     }
 }
 
+fn check_kept(rt: &(impl Abort + Print), alloc: Global, batch: &Batch) -> Result<(), Fail> {
+    assert_eq!(rt;
+        (batch.is_empty(), batch.len(), batch.ops().len()),
+        (false, 3, 3)
+    );
+    check_copies(rt, alloc, batch, SHOWN)
+}
+
+// It keeps its operations in order.
 #[test]
 fn refused_copies_leave_the_batch(rt: HostRuntime) -> Result<(), Fail> {
     match batch(rt.alloc(), ONE_OF_EACH) {
-        Ok(batch) => check_copies(&rt, rt.alloc(), &batch, SHOWN),
+        Ok(batch) => check_kept(&rt, rt.alloc(), &batch),
         Err(error) => only_refused(&rt, error),
     }
 }
@@ -376,7 +340,7 @@ const REQUEST: &str =
 
 #[test]
 fn refused_copies_leave_the_request(rt: HostRuntime) -> Result<(), Fail> {
-    match request(rt.alloc(), "deg knows 3 7") {
+    match request(rt.alloc(), "deg,0,knows,3,7") {
         Ok(request) => check_copies(&rt, rt.alloc(), &request, REQUEST),
         Err(error) => only_refused(&rt, error),
     }

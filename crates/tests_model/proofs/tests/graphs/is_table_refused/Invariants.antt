@@ -1,9 +1,9 @@
-use Rattle.std.proofs.Common.{◌≡◌, length}
-use Rattle.tests_epochs.proofs.tests.rows.check_after.Given as goal
+use Rattle.graph_model.specs.Graph.{IsContent}
+use Rattle.tests_model.proofs.tests.graphs.is_table_refused.Given as goal
 
--- the machine has one session
+-- the content stays one
 abbrev pub invariant-loop-line : goal.invariant-loop-line
 invariant-loop-line g l =
-    (length l.core.world.sessions ≡ 1) ×
+    IsContent l.content ×
     (goal.iterator-loop-line g).can_next l.line-iterator ×
     (goal.iterator-loop-line g).is_finite l.line-iterator

@@ -1,5 +1,5 @@
 use Rattle.std.proofs.Common.{◌≡◌, length}
-use Rattle.tests_epochs.proofs.tests.lines.check.Given as goal
+use Rattle.tests_model.proofs.tests.machines.check.Given as goal
 
 -- the number of sessions stays
 abbrev pub invariant-loop-table : goal.invariant-loop-table

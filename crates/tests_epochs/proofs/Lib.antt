@@ -1,2 +1,0 @@
-mod Empty
-mod Openings

@@ -1,0 +1,157 @@
+// The calls on blocks by themselves: what becomes of a block.
+
+ghost use Rattle.std.specs.Prelude.{◌≡◌, IfOk, length};
+
+use super::parts::{LineError, check_told, edges, only_refused, push, refused};
+use super::texts::push_shown;
+use epoch_blocks::{Status, Step, edges_at, fill_block, recycle_block, take_block};
+use graph_model::{Edge, KindId, List, VertexId};
+use pin_copy::PinCopy;
+use std::alloc::Global;
+use std::process::Abort;
+use std::test::Fail;
+
+const STATUSES: [Status; 5] = [
+    Status::Free,
+    Status::Fresh,
+    Status::Used { birth: 1 },
+    Status::Retired { birth: 1, since: 3 },
+    Status::Retired { birth: 2, since: 4 },
+];
+
+// A pin is settled at 3. It needs the block that was born with version 2 and retired by version 4, and not the one that version
+// 3 retired. There is no block 5. Behind the colon stand all blocks.
+const STEPS: &str = "recycle 0 => Skipped
+recycle 1 => Skipped
+recycle 2 => Skipped
+recycle 3 => Done: [Free, Fresh, Used { birth: 1 }, Free, Retired { birth: 2, since: 4 }]
+recycle 3 => Skipped
+recycle 4 => Skipped
+recycle 5 => Skipped: [Free, Fresh, Used { birth: 1 }, Free, Retired { birth: 2, since: 4 }]
+take 0 => Done: [Fresh, Fresh, Used { birth: 1 }, Free, Retired { birth: 2, since: 4 }]
+take 0 => Skipped
+take 1 => Skipped
+take 2 => Skipped
+take 4 => Skipped
+take 5 => Skipped: [Fresh, Fresh, Used { birth: 1 }, Free, Retired { birth: 2, since: 4 }]";
+
+fn step(status: &mut Vec<Status>, line: &str) -> Result<Step, LineError> {
+    let (verb, block) = line.split_once(' ').ok_or(LineError::Wrong)?;
+    let block = block.parse()?;
+    if verb == "take" {
+        return Ok(take_block(status, block));
+    }
+    let mut copy = PinCopy {
+        last: 4,
+        ..PinCopy::none()
+    };
+    copy.settled[5] = Some(3);
+    Ok(recycle_block(status, &copy, block))
+}
+
+fn push_step(text: &mut String, status: &mut Vec<Status>, line: &str) -> Result<(), LineError> {
+    push_shown(text, "", step(status, line)?)?;
+    Ok(push_shown(text, ": ", status.as_slice())?)
+}
+
+fn stepped(alloc: Global, status: &mut Vec<Status>, line: &str) -> Result<String, LineError> {
+    let mut text = String::new(alloc);
+    push_step(&mut text, status, line)?;
+    Ok(text)
+}
+
+fn check_steps(rt: &impl Abort, alloc: Global, status: &mut Vec<Status>) -> Result<(), Fail> {
+    for line in STEPS.lines() {
+        let (text, wanted) = line.split_once(" => ").ok_or("no arrow")?;
+        check_told(rt, line, stepped(alloc, status, text)?.as_str(), wanted);
+    }
+    Ok(())
+}
+
+#[test]
+fn takes_a_free_block_and_recycles_what_no_pin_needs(rt: HostRuntime) -> Result<(), Fail> {
+    let mut status = Vec::from_slice(rt.alloc(), &STATUSES)?;
+    check_steps(&rt, rt.alloc(), &mut status)
+}
+
+/// A fresh block and a free one.
+pub(super) const FRESH_AND_FREE: [Status; 2] = [Status::Fresh, Status::Free];
+
+/// The edges in the first of two blocks, and none in the second.
+pub(super) fn two_blocks(alloc: Global, listed: &str) -> Result<Vec<List<Edge>>, LineError>
+    ensures { IfOk result (λ heap. length heap.items ≡ 2) }
+{
+    let mut heap = Vec::new(alloc);
+    push(&mut heap, edges(alloc, listed)?)?;
+    push(&mut heap, List::of(Vec::new(alloc)))?;
+    Ok(heap)
+}
+
+// An edge, and the way back.
+const EDGE: Edge = Edge {
+    kind: KindId(0),
+    source: VertexId(0),
+    target: VertexId(1),
+    weight: 5,
+    first: 10,
+    recent: 11,
+};
+
+const BACK: Edge = Edge {
+    kind: KindId(0),
+    source: VertexId(1),
+    target: VertexId(0),
+    weight: -7,
+    first: 12,
+    recent: 12,
+};
+
+// What is in the two blocks, and in a third one that there isn't.
+fn check_edges(rt: &impl Abort, heap: &[List<Edge>], first: Edge) {
+    assert_eq!(rt; edges_at(heap, 0), [first].as_slice());
+    assert!(rt; edges_at(heap, 1).is_empty());
+    assert!(rt; edges_at(heap, 2).is_empty());
+}
+
+// A Fill of a block with the way back: what it comes to, and what is then in the first block. A refused one leaves the edge.
+fn check_fill(
+    rt: &(impl Abort + Print),
+    alloc: Global,
+    heap: &mut Vec<List<Edge>>,
+    block: usize,
+    wanted: (Step, Edge),
+) -> Result<(), Fail>
+    requires { length heap.old.items ≡ 2 }
+{
+    match fill_block(alloc, &FRESH_AND_FREE, heap, block, &[BACK]) {
+        Ok(step) => {
+            assert_eq!(rt; step, wanted.0);
+            check_edges(rt, heap.as_slice(), wanted.1);
+            Ok(())
+        }
+        Err(_) => {
+            check_edges(rt, heap.as_slice(), EDGE);
+            refused(rt)
+        }
+    }
+}
+
+fn check_new_fill(
+    rt: &(impl Abort + Print),
+    alloc: Global,
+    block: usize,
+    wanted: (Step, Edge),
+) -> Result<(), Fail> {
+    match two_blocks(alloc, "0,0,1,5,10,11") {
+        Ok(mut heap) => check_fill(rt, alloc, &mut heap, block, wanted),
+        Err(error) => only_refused(rt, error),
+    }
+}
+
+// A fresh block alone is filled.
+#[test]
+fn refused_fill_leaves_the_blocks(rt: HostRuntime) -> Result<(), Fail> {
+    check_new_fill(&rt, rt.alloc(), 0, (Step::Done, BACK))?;
+    check_new_fill(&rt, rt.alloc(), 1, (Step::Skipped, EDGE))?;
+    check_new_fill(&rt, rt.alloc(), 2, (Step::Skipped, EDGE))
+}

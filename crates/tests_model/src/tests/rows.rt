@@ -1,0 +1,242 @@
+// Every event in every state of a session and of a block, by the rules of the events.
+
+use super::machines::check_new;
+use super::runs::TWO_VERSIONS;
+use std::alloc::Global;
+use std::process::Abort;
+use std::test::Fail;
+
+// Version 1 has one edge, from a to b of kind k, in block 0.
+const VERSION: &str = "take 0 => Done
+fill 0 0,0,1,5,10,10 => Done
+post i,k,a,b,5,10 | 0 => Done";
+
+// Events before, each of those that may come next on a machine of its own, and events that tell what it led to.
+type Row = (&'static str, &'static str, &'static str);
+
+// The events of session 0 in each of its states. Behind the colon stand the floor, its pin, the version that it holds
+// and how many replies it has.
+const SESSION_ROWS: [Row; 6] = [
+    // It has no pin.
+    (
+        "",
+        "pin 0 => Done: 0 0 - 0
+enter 0 => Skipped: 0 - - 0
+settle 0 => Skipped: 0 - - 0
+ask 0 edge,0,k,a,b => Skipped: 0 - - 0
+read 0 => Skipped: 0 - - 0
+reply 0 => Skipped: 0 - - 0
+release 0 => Skipped: 0 - - 0
+floor => Done: 1 - - 0",
+        OUT_OF_RANGE,
+    ),
+    // It pinned.
+    (
+        "pin 0 => Done",
+        "pin 0 => Skipped: 0 0 - 0
+enter 0 => Done: 0 0 1 0
+settle 0 => Skipped: 0 0 - 0
+ask 0 edge,0,k,a,b => Skipped: 0 0 - 0
+read 0 => Skipped: 0 0 - 0
+reply 0 => Skipped: 0 0 - 0
+release 0 => Done: 0 - - 0
+floor => Done: 0 0 - 0",
+        OUT_OF_RANGE,
+    ),
+    // It holds version 1 by a pin at 0.
+    (
+        "pin 0 => Done
+enter 0 => Done",
+        "pin 0 => Skipped: 0 0 1 0
+enter 0 => Skipped: 0 0 1 0
+settle 0 => Done: 0 1 1 0
+ask 0 edge,0,k,a,b => Done: 0 0 1 0
+read 0 => Skipped: 0 0 1 0
+reply 0 => Skipped: 0 0 1 0
+release 0 => Done: 0 - - 0
+floor => Done: 0 0 1 0",
+        OUT_OF_RANGE,
+    ),
+    // It has asked.
+    (
+        "pin 0 => Done
+enter 0 => Done
+ask 0 edge,0,k,a,b => Done",
+        "pin 0 => Skipped: 0 0 1 0
+enter 0 => Skipped: 0 0 1 0
+settle 0 => Done: 0 1 1 0
+ask 0 edge,0,k,a,b => Skipped: 0 0 1 0
+read 0 => Done: 0 0 1 0
+reply 0 => Skipped: 0 0 1 0
+release 0 => Skipped: 0 0 1 0
+floor => Done: 0 0 1 0",
+        OUT_OF_RANGE,
+    ),
+    // It has asked and read the one block.
+    (
+        "pin 0 => Done
+enter 0 => Done
+ask 0 edge,0,k,a,b => Done
+read 0 => Done",
+        "pin 0 => Skipped: 0 0 1 0
+enter 0 => Skipped: 0 0 1 0
+settle 0 => Done: 0 1 1 0
+ask 0 edge,0,k,a,b => Skipped: 0 0 1 0
+read 0 => Skipped: 0 0 1 0
+reply 0 => Done: 0 0 1 1
+release 0 => Skipped: 0 0 1 0",
+        OUT_OF_RANGE,
+    ),
+    // It holds version 1 by a pin that it settled.
+    (
+        "pin 0 => Done
+enter 0 => Done
+settle 0 => Done",
+        "settle 0 => Done: 0 1 1 0
+release 0 => Done: 0 - - 0
+floor => Done: 1 1 1 0",
+        OUT_OF_RANGE,
+    ),
+];
+
+// Events that name a session or a block out of range are skipped in each state.
+const OUT_OF_RANGE: &str = "
+take 65536 => Skipped
+fill 65536 => Skipped
+post | 65536 => Skipped
+recycle 65536 => Skipped
+pin 16 => Skipped
+enter 16 => Skipped
+settle 16 => Skipped
+ask 16 deg,0,*,0,9 => Skipped
+read 16 => Skipped
+reply 16 => Skipped
+release 16 => Skipped
+";
+
+// What a block is, by the events that it lets be done.
+const FREE: &str = "take 0 => Done";
+
+const FRESH: &str = "take 0 => Skipped
+fill 0 => Done";
+
+const USED: &str = "take 0 => Skipped
+fill 0 => Skipped
+floor => Done
+recycle 0 => Skipped";
+
+const RETIRED: &str = "take 0 => Skipped
+fill 0 => Skipped
+floor => Done
+recycle 0 => Done";
+
+// Once session 0 lets its pin go, it is as one that no pin needs.
+const NEEDED: &str = "take 0 => Skipped
+fill 0 => Skipped
+release 0 => Done
+floor => Done
+recycle 0 => Done";
+
+const USING: &str = "take 0 => Done
+post | 0 => Done";
+
+const RETIRING: &str = "take 0 => Done
+post | 0 => Done
+post | => Done
+floor => Done";
+
+// The events on block 0 in each of its states.
+const BLOCK_ROWS: [Row; 9] = [
+    // It is free.
+    ("", "take 0 => Done", FRESH),
+    (
+        "",
+        "fill 0 => Skipped
+post | 0 => Skipped
+recycle 0 => Skipped",
+        FREE,
+    ),
+    // It is fresh.
+    (
+        "take 0 => Done",
+        "take 0 => Skipped
+fill 0 => Done
+post | => Done
+recycle 0 => Skipped",
+        FRESH,
+    ),
+    ("take 0 => Done", "post | 0 => Done", USED),
+    // Version 1 uses it.
+    (
+        USING,
+        "take 0 => Skipped
+fill 0 => Skipped
+post | 0 => Done
+post | 0 0 => Skipped
+recycle 0 => Skipped",
+        USED,
+    ),
+    (USING, "post | => Done", RETIRED),
+    // Version 2 retired it, and no pin needs it.
+    (
+        RETIRING,
+        "take 0 => Skipped
+fill 0 => Skipped
+post | 0 => Skipped
+post | => Done",
+        RETIRED,
+    ),
+    (RETIRING, "recycle 0 => Done", FREE),
+    // Version 2 retired it, and the floor is at 0.
+    (
+        "take 0 => Done
+post | 0 => Done
+pin 0 => Done
+post | => Done
+floor => Done",
+        "take 0 => Skipped
+fill 0 => Skipped
+post | 0 => Skipped
+recycle 0 => Skipped",
+        NEEDED,
+    ),
+];
+
+fn check_row(rt: &impl Abort, alloc: Global, first: &'static str, row: Row) -> Result<(), Fail> {
+    let (before, lines, after) = row;
+    let after = after.trim();
+    for line in lines.lines() {
+        check_new(rt, alloc, 1, 1, &[first, before, line, after])?;
+    }
+    Ok(())
+}
+
+fn check_rows(
+    rt: &impl Abort,
+    alloc: Global,
+    first: &'static str,
+    rows: &[Row],
+) -> Result<(), Fail> {
+    for row in rows {
+        check_row(rt, alloc, first, *row)?;
+    }
+    Ok(())
+}
+
+#[test]
+fn each_event_in_each_state_of_a_session(rt: HostRuntime) -> Result<(), Fail> {
+    check_rows(&rt, rt.alloc(), VERSION, &SESSION_ROWS)
+}
+
+#[test]
+fn each_event_in_each_state_of_a_block(rt: HostRuntime) -> Result<(), Fail> {
+    check_rows(&rt, rt.alloc(), "", &BLOCK_ROWS)
+}
+
+// In its 18 events a block is retired, kept for a pin and recycled, and a session goes through all its states.
+#[test]
+fn skips_what_is_out_of_range_in_a_story(rt: HostRuntime) -> Result<(), Fail> {
+    let alloc = rt.alloc();
+    let story = TWO_VERSIONS.replace(alloc, "\n", OUT_OF_RANGE)?;
+    check_new(&rt, alloc, 1, 2, &[story.as_str()])
+}
