@@ -299,6 +299,14 @@ fn refused_push_leaves_the_batch(rt: HostRuntime) -> Result<(), Fail> {
     check_push(&rt, rt.alloc(), &mut batch)
 }
 
+// Where there is no memory for its room, it is an empty batch without, which may still take an operation.
+#[test]
+fn refused_room_leaves_an_empty_batch(rt: HostRuntime) -> Result<(), Fail> {
+    let mut batch = Batch::with_room(rt.alloc(), 5_000);
+    assert!(rt; batch.is_empty());
+    check_push(&rt, rt.alloc(), &mut batch)
+}
+
 // Where the copy's growth was refused, the item stands, and a copy that is made then is whole.
 fn check_copies<T: Clone + Debug + Drop>(
     rt: &(impl Abort + Print),
