@@ -13,7 +13,7 @@ use Rattle.block_layout.specs.Rows.{OpenBlock, has_old, touch, expire_block, put
 use Rattle.block_layout.specs.Rows.{edge_at, untouched, shape_of, has_edge, has_room, new_block, touches}
 use Rattle.block_layout.specs.Batches.{key_step, key_outcome, together}
 use Rattle.batch_shards.specs.Groups.{told}
-use Rattle.batch_shards.specs.Spending.{is_unspent, unspent, old_blocks, needed, time_of, latest, spends, takes}
+use Rattle.batch_shards.specs.Spending.{is_unspent, unspent, old_blocks, time_of, latest, spends, takes}
 use Rattle.batch_shards.specs.declared.shard.{Act.Act, Act.TheVariants.Edge, Act.TheVariants.Expire, Step.Step}
 
 -- f of so many first elements
