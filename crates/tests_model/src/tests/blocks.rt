@@ -24,6 +24,7 @@ const STATUSES: [Status; 5] = [
 const STEPS: &str = "recycle 0 => Skipped
 recycle 1 => Skipped
 recycle 2 => Skipped
+take 3 => Skipped
 recycle 3 => Done: [Free, Fresh, Used { birth: 1 }, Free, Retired { birth: 2, since: 4 }]
 recycle 3 => Skipped
 recycle 4 => Skipped

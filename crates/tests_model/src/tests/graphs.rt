@@ -1,5 +1,5 @@
-// Batches and requests over a content, by the slow functions. A line `BATCH` applies its operations, `apply BATCH => OUTCOMES; NAMES;
-// KINDS; EDGES` also compares what they come to and leave, and `REQUEST => REPLY` asks.
+// Batches and requests over a content, by the slow functions. A line `BATCH` applies operations. `apply BATCH => TOLD` also
+// compares what they come to, the names, the kinds and how many edges they leave, and `REQUEST => REPLY` asks.
 
 ghost use Rattle.std.specs.Prelude.{◌≡◌, IfOk};
 ghost use Rattle.graph_model.specs.Graph.{IsContent};
@@ -124,15 +124,6 @@ fn push_told(
     }
 }
 
-fn told(alloc: Global, content: &mut Content, line: &str) -> Result<String, LineError>
-    requires { IsContent content.old }
-    ensures { IsContent content.new }
-{
-    let mut text = String::new(alloc);
-    push_told(alloc, &mut text, content, line)?;
-    Ok(text)
-}
-
 fn check_line(
     rt: &impl Abort,
     alloc: Global,
@@ -144,7 +135,9 @@ fn check_line(
 {
     match line.split_once(" => ") {
         Some((text, wanted)) => {
-            check_told(rt, line, told(alloc, content, text)?.as_str(), wanted);
+            let mut told = String::new(alloc);
+            push_told(alloc, &mut told, content, text)?;
+            check_told(rt, line, told.as_str(), wanted);
             Ok(())
         }
         None => apply(alloc, content, line),

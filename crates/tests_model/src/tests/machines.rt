@@ -1,5 +1,6 @@
-// The machine of interleavings by lines of text. `EVENT => STEP` or `EVENT => STEP: SEEN` does an event and compares what it comes
-// to, and what is then seen of session 0; `seen SESSION => SEEN`, `said SESSION EARLIER => REPLY` and `copied => PINS` look.
+// The machine of interleavings by lines of text. `EVENT => STEP` or `EVENT => STEP: SEEN` does an event and compares what
+// it comes to, and what is then seen of session 0. `seen SESSION => SEEN`, `said SESSION EARLIER => REPLY` and
+// `copied => PINS` look.
 
 ghost use Rattle.std.specs.Prelude.{◌≡◌, ◌≤◌, ◌<◌, length};
 
@@ -107,16 +108,6 @@ fn push_told(
     push_step(alloc, text, core, line)
 }
 
-fn told(alloc: Global, core: &mut Core, sessions: usize, line: &str) -> Result<String, LineError>
-    requires some { 0 < sessions }
-    requires all { length core.old.world.sessions ≡ sessions }
-    ensures { length core.new.world.sessions ≡ sessions }
-{
-    let mut text = String::new(alloc);
-    push_told(alloc, &mut text, core, sessions, line)?;
-    Ok(text)
-}
-
 fn check_line(
     rt: &impl Abort,
     alloc: Global,
@@ -129,12 +120,9 @@ fn check_line(
     ensures { length core.new.world.sessions ≡ sessions }
 {
     let (text, wanted) = line.split_once(" => ").ok_or("no arrow")?;
-    check_told(
-        rt,
-        line,
-        told(alloc, core, sessions, text)?.as_str(),
-        wanted,
-    );
+    let mut told = String::new(alloc);
+    push_told(alloc, &mut told, core, sessions, text)?;
+    check_told(rt, line, told.as_str(), wanted);
     Ok(())
 }
 

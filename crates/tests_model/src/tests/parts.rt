@@ -82,15 +82,6 @@ pub(super) fn push<T: Drop>(list: &mut Vec<T>, item: T) -> Result<(), AllocError
     Ok(())
 }
 
-/// Names with a blank between them.
-pub(super) fn names(alloc: Global, text: &str) -> Result<List<Name>, AllocError> {
-    let mut names = Vec::new(alloc);
-    for word in text.split_whitespace() {
-        push(&mut names, name(alloc, word)?)?;
-    }
-    Ok(List::of(names))
-}
-
 /// Numbers with a blank between them.
 pub(super) fn numbers(alloc: Global, text: &str) -> Result<List<usize>, LineError> {
     let mut numbers = Vec::new(alloc);

@@ -4,18 +4,19 @@ ghost use Rattle.std.specs.Prelude.{◌≡◌};
 ghost use Rattle.epoch_core.specs.Worlds.{empty_opening};
 
 use super::blocks::{FRESH_AND_FREE, two_blocks};
-use super::graphs::empty;
-use super::parts::{LineError, batch, check_told, edges, names, numbers, only_refused};
+use super::graphs::{content_of, empty};
+use super::parts::{LineError, batch, check_told, edges, numbers, only_refused};
 use super::texts::{push_item, push_names, push_shown};
 use epoch_blocks::{Opening, Status, Version, blocks_at, content_with, plan_post};
 use graph_model::{Batch, Content, Edge, List};
 use std::alloc::{AllocError, Global};
 use std::process::Abort;
+use std::slice::from_ref;
 use std::test::Fail;
 
-// The edges in the first block, and a Post. Behind the arrow stand what each block would be, how many operations the new version
-// has, and then of versions 0 to 2 the blocks, the names, the kinds and the weights of two edges, over another opening. There is
-// no version 2, and the opening stands in its place.
+// The edges in the first block, and a Post. Behind the arrow stand what each block would be and how many operations the new
+// version has. Then of versions 0 to 2 over another opening the blocks, the names, the kinds and the weights of two edges: there
+// is no version 2, and the opening stands in its place.
 const PLANS: &str =
     "0,0,1,5,10,10; i,k,a,b,5,10 | 0 => [Used { birth: 1 }, Free] 1; [7] x y, m, 5 -7; [0] a b, k, 5 -7; \
     [7] x y, m, 5 -7
@@ -27,14 +28,10 @@ const PLANS: &str =
 0,0,1,5,10,10; i,k,a,b,5,10 | 1 => none
 0,0,1,5,10,10; i,k,a,b,5,10 | => none";
 
+// The other opening.
 fn opening(alloc: Global) -> Result<Opening, LineError> {
-    let content = Content {
-        names: names(alloc, "x y")?,
-        kinds: names(alloc, "m")?,
-        edges: List::of(Vec::new(alloc)),
-    };
     Ok(Opening {
-        content,
+        content: content_of(alloc, "i,m,x,y,1,1")?,
         blocks: numbers(alloc, "7")?,
     })
 }
@@ -94,7 +91,7 @@ fn push_plan(
     plan: Option<(Vec<Status>, Version)>,
 ) -> Result<(), LineError> {
     match plan {
-        Some((status, version)) => push_planned(alloc, text, status.as_slice(), &[version]),
+        Some((status, version)) => push_planned(alloc, text, status.as_slice(), from_ref(&version)),
         None => Ok(text.push_str("none")?),
     }
 }

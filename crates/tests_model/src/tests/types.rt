@@ -3,12 +3,12 @@
 ghost use Rattle.std.specs.Prelude.{◌≡◌, IfSome};
 ghost use Rattle.graph_model.specs.Changes.{AreMarks, IsChange};
 
-use super::parts::{LineError, batch, name, names, only_refused, push_op, refused, request};
+use super::graphs::content_of;
+use super::parts::{LineError, batch, name, only_refused, push_op, refused, request};
 use graph_model::{
-    Batch, Content, Edge, EdgeChange, EdgeMarks, KindId, List, Name, Outcome, PushError, VertexId,
-    change_edge, is_kind_name, is_name, law_edge_order, law_expiry, law_first_time_stays,
-    law_names_stay_names, law_one_answer, law_one_table, law_some_answer, law_some_table,
-    law_within_limits,
+    Batch, EdgeChange, EdgeMarks, List, Outcome, PushError, change_edge, is_kind_name, is_name,
+    law_edge_order, law_expiry, law_first_time_stays, law_names_stay_names, law_one_answer,
+    law_one_table, law_some_answer, law_some_table, law_within_limits,
 };
 use reference_graph::law_names_before_kinds;
 use std::alloc::{AllocError, Global};
@@ -354,26 +354,9 @@ fn refused_copies_leave_the_request(rt: HostRuntime) -> Result<(), Fail> {
     }
 }
 
-const LOOSE_EDGE: Edge = Edge {
-    kind: KindId(0),
-    source: VertexId(1),
-    target: VertexId(0),
-    weight: -2,
-    first: 4,
-    recent: 3,
-};
-
-/// Vertices ann and bob, the kind knows, and one edge.
-fn small_content(alloc: Global) -> Result<Content, AllocError> {
-    let edges = List::of(Vec::from_slice(alloc, &[LOOSE_EDGE])?);
-    let kinds = names(alloc, "knows")?;
-    let names = names(alloc, "ann bob")?;
-    Ok(Content {
-        names,
-        kinds,
-        edges,
-    })
-}
+// They leave vertices ann and bob, the kind knows, and one edge, which was touched before it was first seen.
+const BACK_IN_TIME: &str =
+    "i,knows,ann,bob,1,1 r,knows,ann,bob i,knows,bob,ann,-2,4 a,knows,bob,ann,0,3";
 
 const CONTENT: &str =
     "Content { names: List { items: [Name { text: \"ann\" }, Name { text: \"bob\" }] }, \
@@ -383,9 +366,9 @@ const CONTENT: &str =
 
 #[test]
 fn refused_copies_leave_the_content(rt: HostRuntime) -> Result<(), Fail> {
-    match small_content(rt.alloc()) {
+    match content_of(rt.alloc(), BACK_IN_TIME) {
         Ok(content) => check_copies(&rt, rt.alloc(), &content, CONTENT),
-        Err(_) => refused(&rt),
+        Err(error) => only_refused(&rt, error),
     }
 }
 
