@@ -1,19 +1,21 @@
-// A module for each part of the store whose calls are tested. `batches` and `opened` make what all of them begin with.
+// Most tests are plays: stories of one thread in lines, which `players` takes. What takes several threads, or what a seat learns,
+// stands in a file of its own.
 
 mod answers;
 mod batches;
 mod desks;
 mod drives;
 mod gates;
-mod held_batches;
+mod handed;
+mod learnt;
 mod limits;
 mod opened;
+mod places;
+mod players;
 mod plays;
-mod rebased;
 mod refused;
-mod seats;
-mod shared_answers;
-mod stores;
+mod stages;
 mod texts;
 mod threads;
+mod told;
 mod told_readers;

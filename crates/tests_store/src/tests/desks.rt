@@ -1,262 +1,191 @@
-// The desk: batches and collections by one thread that owns it.
+// Plays at a desk, which one thread owns: batches, collections, and sessions on the versions that it lends.
 
-use super::batches::{Op, all_pairs, batch_of};
-use super::opened::new_store;
-use batch_apply::PassAll;
-use graph_model::{Batch, Outcome};
-use pin_copy::PinCopy;
-use std::alloc::{AllocError, Global};
-use std::sync::Wait;
-use std::test::Fail;
-use std::thread::Threads;
-use stream_store::{ApplyError, Collected, Desk, Receipt, Stat};
+use super::players::{PLAY, Play, check_play};
 
-/// A new desk of so many workers and blocks.
-fn new_desk<R: Wait>(
-    rt: &R,
-    alloc: Global,
-    workers: usize,
-    blocks: u32,
-) -> Result<Desk, AllocError> {
-    match new_store(rt, alloc, workers, blocks) {
-        Some(opened) => Ok(opened.desk),
-        None => Err(AllocError),
-    }
-}
-
-/// Applies a batch, where there was memory for it.
-pub(super) fn apply_to<R: Threads + Wait + Sync>(
-    rt: &R,
-    desk: &mut Desk,
-    batch: Result<Batch, AllocError>,
-) -> Result<Receipt, ApplyError> {
-    match batch {
-        Ok(batch) => desk.apply(rt, &PassAll, batch),
-        Err(AllocError) => Err(ApplyError::OutOfMemory),
-    }
-}
-
-/// Applies a batch; whether it was accepted.
-pub(super) fn is_applied<R: Threads + Wait + Sync>(
-    rt: &R,
-    desk: &mut Desk,
-    batch: Result<Batch, AllocError>,
-) -> bool {
-    apply_to(rt, desk, batch).is_ok()
-}
-
-/// Two insertions from different sources, a removal whose source is unknown, and the first insertion again.
-pub(super) const FOUR: [Op; 4] = [
-    ("i", "a", "b", 1, 1),
-    ("i", "b", "c", 1, 1),
-    ("r", "z", "a", 0, 0),
-    ("i", "a", "b", 1, 1),
-];
-
-const LETTERS: [&str; 32] = [
-    "a", "b", "c", "d", "e", "f", "g", "h", "i", "j", "k", "l", "m", "n", "o", "p", "q", "r", "s",
-    "t", "u", "v", "w", "x", "y", "z", "A", "B", "C", "D", "E", "F",
-];
-
-/// The counts of a new store of 16 blocks.
-const BEFORE: Stat = Stat {
-    number: 0,
-    names: 0,
-    edges: 0,
-    free: 16,
-    retired: 0,
-    used: 0,
+/// Four operations by one worker.
+const AT_DESK: Play = Play {
+    name: "applies a batch",
+    workers: 1,
+    at_desk: "apply mixed => 1 iiau
+stat => 1 3 2 14 0 2
+journal => 1, 4 2 0",
+    last: 1,
+    ..PLAY
 };
 
-/// The counts after the four operations.
-const AFTER: Stat = Stat {
-    number: 1,
-    names: 3,
-    edges: 2,
-    free: 14,
-    retired: 0,
-    used: 2,
+/// A batch that is larger than the pool leaves all as it was.
+const BY_FOUR: Play = Play {
+    name: "applies a batch by four workers",
+    workers: 4,
+    at_desk: "apply 17 targets => 17 blocks are needed and 16 are free
+stat => 0 0 0 16 0 0
+journal => 0
+apply mixed => 1 iiau
+stat => 1 3 2 14 0 2
+journal => 1, 4 2 0",
+    last: 1,
+    ..PLAY
 };
 
-fn are_of_four(outcomes: &[Outcome]) -> bool {
-    outcomes
-        == [
-            Outcome::Inserted,
-            Outcome::Inserted,
-            Outcome::Absent,
-            Outcome::Updated,
-        ]
-        .as_slice()
-}
+const ZERO: Play = Play {
+    name: "opens with version zero",
+    workers: 4,
+    at_desk: "stat => 0 0 0 16 0 0
+collect => 0 0 0
+journal => 0
+seat 3 => holds 0
+seat 4 => no such seat",
+    ..PLAY
+};
 
-/// The number of the receipt of the four operations, and whether its outcomes are theirs.
-fn applies_four<R: Threads + Wait + Sync>(
-    rt: &R,
-    alloc: Global,
-    desk: &mut Desk,
-) -> Option<(u64, bool)> {
-    match apply_to(rt, desk, batch_of(alloc, FOUR.as_slice())) {
-        Ok(receipt) => Some((receipt.number, are_of_four(receipt.outcomes.as_slice()))),
-        Err(_) => None,
-    }
-}
+/// The block that the second batch replaced is retired with number 2, and stays while version 1 is lent.
+const DROPPED: Play = Play {
+    name: "collects what a batch dropped",
+    workers: 1,
+    at_desk: "apply to b => 1 i
+seat 0 => holds 1
+collect => 1 0 0
+apply to c => 2 i
+stat => 2 3 2 14 1 1
+collect => 1 0 1
+journal => 2, 1 1 0, 1 1 1
+seat 0 => free
+collect => 2 1 0
+stat => 2 3 2 15 0 1
+journal => 3, 1 1 0, 1 1 1, 1",
+    last: 2,
+    ..PLAY
+};
 
-/// What the receipt of the four operations tells, the counts, and the number of entries.
-fn four_applied<R: Threads + Wait + Sync>(
-    rt: &R,
-    alloc: Global,
-    workers: usize,
-) -> Result<(Option<(u64, bool)>, Stat, usize), AllocError> {
-    let mut desk = new_desk(rt, alloc, workers, 16)?;
-    let told = applies_four(rt, alloc, &mut desk);
-    Ok((told, desk.stat(), desk.journal().len()))
-}
+pub(super) const LENDING: Play = Play {
+    name: "lends the last version",
+    workers: 1,
+    at_desk: "apply to b => 1 i
+pinned 1 => none
+seat 1 => holds 1
+pinned 1 => 1 settled
+seat 1 => free
+pinned 1 => none",
+    last: 1,
+    ..PLAY
+};
+
+const CLOSED: Play = Play {
+    name: "a closed store leaves a session its version",
+    workers: 1,
+    at_desk: "apply to b => 1 i
+seat 0 => holds 1
+apply to c => 2 i",
+    last: 2,
+    ended: "version 0 => 1 2 1 1
+ask 0 edge => 1 1 1",
+    ..PLAY
+};
+
+/// The edge goes while the session holds version 1. In numbers it answers with core numbers.
+pub(super) const SESSIONS: Play = Play {
+    name: "a session answers of its version",
+    workers: 1,
+    at_desk: "apply to b => 1 i
+seat 0 => holds 1
+apply on => 2 ri
+ask 0 edge => 1 1 1
+numbered 0 => 1,1,
+seat 0 => free
+seat 0 => holds 2
+ask 0 edge => none
+numbered 0 => 0,1,1,",
+    last: 2,
+    ..PLAY
+};
+
+/// Each of 17 sources has a block of its own.
+const ENOUGH: Play = Play {
+    name: "opens where the blocks are enough",
+    workers: 1,
+    blocks: 32,
+    at_desk: "apply 17 sources => 1 iiiiiiiiiiiiiiiii
+seat 0 => holds 1
+open 0 16 => the version has 17 blocks and 16 are free
+open 0 17 => 0 17 17 0 0 17",
+    last: 1,
+    ..PLAY
+};
+
+/// 2,560 operations of 32 sources to 20 targets leave 640 edges in 32 blocks, whatever the number of workers.
+const ONE: Play = Play {
+    name: "one worker applies a large batch",
+    workers: 1,
+    blocks: 4096,
+    at_desk: "meet 2560 => 1 1
+stat => 1 32 640 4064 0 32",
+    last: 1,
+    ..PLAY
+};
+
+const THREE: Play = Play {
+    name: "three workers meet over a large batch",
+    workers: 3,
+    blocks: 4096,
+    at_desk: "meet 2560 => 1 3
+stat => 1 32 640 4064 0 32",
+    last: 1,
+    ..PLAY
+};
+
+const ALL: Play = Play {
+    name: "four workers meet over a large batch",
+    workers: 4,
+    blocks: 4096,
+    at_desk: "meet 2560 => 1 4
+stat => 1 32 640 4064 0 32",
+    last: 1,
+    ..PLAY
+};
+
+/// A batch of 2,048 operations is shared by the workers; a smaller one is one worker's.
+const MEETING: Play = Play {
+    name: "workers meet behind a desk",
+    blocks: 8192,
+    at_desk: "meet 2048 => 1 2
+meet 2047 => 2 1",
+    last: 2,
+    ..PLAY
+};
+
+/// A row that an expiry opens counts as an operation.
+const OPENED_ROWS: Play = Play {
+    name: "workers meet behind an expiry",
+    blocks: 8192,
+    at_desk: "meet 2047 sources => 1 1
+meet all old => 2 2",
+    last: 2,
+    ..PLAY
+};
+
+const FEWER_ROWS: Play = Play {
+    name: "one worker expires fewer rows",
+    blocks: 8192,
+    at_desk: "meet 2046 sources => 1 1
+meet all old => 2 1",
+    last: 2,
+    ..PLAY
+};
 
 #[test]
-fn applies_a_batch(rt: HostRuntime) -> Result<(), Fail> {
-    for workers in [1, 4] {
-        assert_eq!(rt;
-            four_applied(&rt, rt.alloc(), workers)?,
-            (Some((1, true)), AFTER, 1)
-        );
-    }
-    Ok(())
-}
-
-/// The error of a batch of 17 insertions of one source, the counts after it, and those after four operations that follow it.
-fn too_many_on<R: Threads + Wait + Sync>(
-    rt: &R,
-    alloc: Global,
-    desk: &mut Desk,
-) -> (Option<ApplyError>, Stat, Stat) {
-    let batch = all_pairs(alloc, 1, &LETTERS[..1], &LETTERS[..17]);
-    let refused = apply_to(rt, desk, batch).err();
-    let stat = desk.stat();
-    let _told = applies_four(rt, alloc, desk);
-    (refused, stat, desk.stat())
-}
-
-/// The same over a new desk of 16 blocks.
-fn too_many<R: Threads + Wait + Sync>(
-    rt: &R,
-    alloc: Global,
-) -> Result<(Option<ApplyError>, Stat, Stat), AllocError> {
-    let mut desk = new_desk(rt, alloc, 4, 16)?;
-    Ok(too_many_on(rt, alloc, &mut desk))
-}
-
-#[test]
-fn refuses_more_operations_than_free_blocks(rt: HostRuntime) -> Result<(), Fail> {
-    let needed = ApplyError::PoolEmpty {
-        needed: 17,
-        free: 16,
-    };
-    assert_eq!(rt; too_many(&rt, rt.alloc())?, (Some(needed), BEFORE, AFTER));
-    Ok(())
-}
-
-/// The counts after four insertions from each of 32 sources to each of 20 targets, over 4,096 blocks.
-fn pairs_applied<R: Threads + Wait + Sync>(
-    rt: &R,
-    alloc: Global,
-    workers: usize,
-) -> Result<Stat, AllocError> {
-    let mut desk = new_desk(rt, alloc, workers, 4096)?;
-    let _applied = is_applied(
-        rt,
-        &mut desk,
-        all_pairs(alloc, 4, LETTERS.as_slice(), &LETTERS[..20]),
-    );
-    Ok(desk.stat())
-}
-
-/// The 2,560 operations are shared by the workers, and leave 640 edges in 32 blocks for each number of them.
-#[test]
-fn applies_a_batch_by_several_workers(rt: HostRuntime) -> Result<(), Fail> {
-    for workers in [1, 3, 4] {
-        let stat = Stat {
-            number: 1,
-            names: 32,
-            edges: 640,
-            free: 4064,
-            retired: 0,
-            used: 32,
-        };
-        assert_eq!(rt; pairs_applied(&rt, rt.alloc(), workers)?, stat);
-    }
-    Ok(())
-}
-
-/// Applies a batch that inserts an edge from a.
-pub(super) fn applies_an_edge<R: Threads + Wait + Sync>(
-    rt: &R,
-    alloc: Global,
-    desk: &mut Desk,
-    target: &'static str,
-) -> bool {
-    is_applied(rt, desk, batch_of(alloc, &[("i", "a", target, 1, 1)]))
-}
-
-/// What two collections answer, under a pin settled at 1 and without a pin, the counts before and after them, and the number of
-/// entries; nothing where there weren't two batches.
-fn collected_after_two(desk: &mut Desk) -> Option<(Stat, Collected, Collected, Stat, usize)> {
-    let before = desk.stat();
-    if before.number != 2 {
-        return None;
-    }
-    let mut copy = PinCopy {
-        last: 2,
-        ..PinCopy::none()
-    };
-    copy.settled[0] = Some(1);
-    let low = desk.collect(&copy);
-    copy.settled[0] = None;
-    let high = desk.collect(&copy);
-    Some((before, low, high, desk.stat(), desk.journal().len()))
-}
-
-/// The same over a desk of 16 blocks, after the edges a to b and a to c were inserted by two batches.
-fn collected<R: Threads + Wait + Sync>(
-    rt: &R,
-    alloc: Global,
-) -> Result<(Stat, Collected, Collected, Stat, usize), AllocError> {
-    let mut desk = new_desk(rt, alloc, 1, 16)?;
-    let first = applies_an_edge(rt, alloc, &mut desk, "b");
-    let second = applies_an_edge(rt, alloc, &mut desk, "c");
-    let told = collected_after_two(&mut desk);
-    if first && second {
-        told.ok_or(AllocError)
-    } else {
-        Err(AllocError)
-    }
-}
-
-/// The block that the second batch replaced is retired with number 2.
-#[test]
-fn collects_what_a_batch_dropped(rt: HostRuntime) -> Result<(), Fail> {
-    let before = Stat {
-        number: 2,
-        names: 3,
-        edges: 2,
-        free: 14,
-        retired: 1,
-        used: 1,
-    };
-    let low = Collected {
-        floor: 1,
-        recycled: 0,
-        retired: 1,
-    };
-    let high = Collected {
-        floor: 2,
-        recycled: 1,
-        retired: 0,
-    };
-    let after = Stat {
-        free: 15,
-        retired: 0,
-        ..before
-    };
-    assert_eq!(rt; collected(&rt, rt.alloc())?, (before, low, high, after, 3));
-    Ok(())
+fn plays_at_a_desk(rt: HostRuntime) {
+    check_play(&rt, rt.alloc(), &AT_DESK);
+    check_play(&rt, rt.alloc(), &BY_FOUR);
+    check_play(&rt, rt.alloc(), &ZERO);
+    check_play(&rt, rt.alloc(), &DROPPED);
+    check_play(&rt, rt.alloc(), &LENDING);
+    check_play(&rt, rt.alloc(), &CLOSED);
+    check_play(&rt, rt.alloc(), &SESSIONS);
+    check_play(&rt, rt.alloc(), &ENOUGH);
+    check_play(&rt, rt.alloc(), &ONE);
+    check_play(&rt, rt.alloc(), &THREE);
+    check_play(&rt, rt.alloc(), &ALL);
+    check_play(&rt, rt.alloc(), &MEETING);
+    check_play(&rt, rt.alloc(), &OPENED_ROWS);
+    check_play(&rt, rt.alloc(), &FEWER_ROWS);
 }

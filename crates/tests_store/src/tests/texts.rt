@@ -11,3 +11,14 @@ pub(super) fn push_item<D: Display + Drop>(
 ) -> Result<(), AllocError> {
     write!(text, "{item}{after}")
 }
+
+/// Numbers, with a space between them.
+pub(super) fn push_numbers(text: &mut String, numbers: &[u64]) -> Result<(), AllocError> {
+    let mut gap = "";
+    for number in numbers {
+        text.push_str(gap)?;
+        push_item(text, *number, "")?;
+        gap = " ";
+    }
+    Ok(())
+}

@@ -4,9 +4,10 @@
 ghost use Rattle.std.specs.Prelude.{◌≡◌, ◌<◌, All};
 ghost use Rattle.stream_store.specs.Stores.{IsOfOpening, IsSeatOf};
 
-use super::answers::{AB, edge_told};
+use super::answers::edge_told;
 use super::batches::{Op, batch_of};
-use super::threads::{Handed, feed, is_set};
+use super::handed::{Handed, feed, learns_of};
+use super::threads::is_set;
 use graph_model::{Batch, Name, NamedOp};
 use graph_version::Version;
 use seat_board::Board;
@@ -34,7 +35,7 @@ const HELD_AFTER: u32 = 32;
 const SOURCES: [&str; 4] = ["c", "d", "e", "f"];
 
 /// The batch of this number: it adds one to the weight of a to b, and sets the edge to b of one of four sources.
-fn ops_at(number: u32) -> [Op; 2] {
+fn ops_at(number: u32) -> [Op<'static>; 2] {
     let source = SOURCES[number as usize % 4];
     let time = u64::from(number);
     [
@@ -136,28 +137,25 @@ fn feed_all<J: Naming, R: Threads + Wait + Sync>(
     beside
 }
 
-fn are_names(kind: &Name, source: &Name, target: &Name, op: Op) -> bool {
-    kind.as_str() == "k" && source.as_str() == op.1 && target.as_str() == op.2
-}
-
 fn is_op(found: &NamedOp, op: Op) -> bool {
-    match found {
+    let (word, kind, source, target, weight, time) = match found {
         NamedOp::Insert {
             kind,
             source,
             target,
             weight,
             time,
-        } => op.0 == "i" && are_names(kind, source, target, op) && (*weight, *time) == (op.3, op.4),
+        } => ("i", kind, source, target, *weight, *time),
         NamedOp::Incr {
             kind,
             source,
             target,
             amount,
             time,
-        } => op.0 == "a" && are_names(kind, source, target, op) && (*amount, *time) == (op.3, op.4),
-        _ => false,
-    }
+        } => ("a", kind, source, target, *amount, *time),
+        _ => return false,
+    };
+    kind.as_str() == "k" && (word, source.as_str(), target.as_str(), weight, time) == op
 }
 
 /// Whether the batch is the one of this number.
@@ -182,68 +180,31 @@ fn are_first(version: &Version) -> bool {
 /// Whether the session's version has the first batches, and what they leave: each of them added one to the weight.
 fn is_as_fed(alloc: Global, session: &Session) -> bool {
     let number = session.version().number();
-    match edge_told(alloc, session, AB) {
-        Ok(Some((weight, 1, recent))) => {
+    match edge_told(alloc, session) {
+        Some(Some((weight, 1, recent))) => {
             weight.unsigned_abs() == number && recent == number && are_first(session.version())
         }
         _ => false,
     }
 }
 
-/// What a reader found: how many versions were as they are to be, and how many were not; whether it learnt of each receipt;
-/// and the number of the last version.
+/// What a reader found: how often it looked at a version, and whether it was as it is to be each time; whether the reader learnt of
+/// each receipt; and the number of the last version.
 #[derive(Clone, Copy)]
 struct Reading {
-    right: u32,
-    wrong: u32,
+    looked: u32,
+    is_right: bool,
     is_told: bool,
     last: u64,
 }
 
 impl Reading {
-    fn none() -> Reading {
-        Reading {
-            right: 0,
-            wrong: 0,
-            is_told: true,
-            last: 0,
-        }
-    }
-
-    fn count(&mut self, is_right: bool) {
-        if is_right {
-            self.right = self.right.saturating_add(1);
-        } else {
-            self.wrong = self.wrong.saturating_add(1);
-        }
-    }
-
     /// Looks at a version that a seat acquired which was told of this number.
-    fn look(&mut self, alloc: Global, session: &Session, told: u32) {
+    fn look(&mut self, alloc: Global, session: &Session, told: u64) {
         let number = session.version().number();
-        let begins = self.last <= number && u64::from(told) <= number;
-        self.count(begins && is_as_fed(alloc, session));
+        self.looked = self.looked.saturating_add(1);
+        self.is_right &= self.last <= number && told <= number && is_as_fed(alloc, session);
         self.last = number;
-    }
-
-    /// Looks once more at the version that is held.
-    fn look_again(&mut self, alloc: Global, session: &Session) {
-        let is_held = self.last == session.version().number();
-        self.count(is_held && is_as_fed(alloc, session));
-    }
-}
-
-/// The seat learns of what it was handed; whether that is the receipt of this number.
-fn learns_of<J: Naming>(seat: &mut Seat, handed: &Option<Handed<J>>, number: u32) -> bool
-    requires { IsOfOpening J.book J.opening seat.old.seen }
-    ensures { IsOfOpening J.book J.opening seat.new.seen }
-{
-    match handed {
-        Some(handed) => {
-            let is_learnt = seat.learn(&handed.receipt).is_ok();
-            is_learnt && handed.receipt.number == u64::from(number)
-        }
-        None => false,
     }
 }
 
@@ -253,7 +214,7 @@ fn is_told<J: Naming, R: Wait>(rt: &R, shared: &Shared<J>, seat: &mut Seat, numb
     ensures { IsOfOpening J.book J.opening seat.new.seen }
 {
     match shared.place(number) {
-        Some(place) => learns_of(seat, place.wait(rt), number),
+        Some(place) => learns_of(seat, place.wait(rt), u64::from(number)),
         None => false,
     }
 }
@@ -274,10 +235,12 @@ fn round<J: Naming, R: Wait>(
 {
     reading.is_told &= is_told(rt, shared, &mut seat, number);
     let session = seat.pin(rt, store).enter(rt, store);
-    reading.look(alloc, &session, number);
+    reading.look(alloc, &session, u64::from(number));
     if HELD_AFTER - READERS < number && number <= HELD_AFTER {
         shared.meet_feeder();
-        reading.look_again(alloc, &session);
+        // The version that is held is the same still.
+        reading.is_right &= session.version().number() == reading.last;
+        reading.look(alloc, &session, u64::from(number));
     }
     session.release(rt, store)
 }
@@ -292,7 +255,12 @@ fn read<J: Naming, R: Wait>(
 ) -> Reading
     requires { IsOfOpening J.book J.opening seat.seen }
 {
-    let mut reading = Reading::none();
+    let mut reading = Reading {
+        looked: 0,
+        is_right: true,
+        is_told: true,
+        last: 0,
+    };
     let first = shared.readers.fetch_add(1, SeqCst) % READERS + 1;
     for step in 0..BATCHES / READERS {
         let number = READERS * step + first;
@@ -382,8 +350,8 @@ fn over_a_new_store<R: Threads + Wait + Sync>(rt: &R, alloc: Global) -> Option<F
 
 /// In each of 16 rounds two versions were acquired, and one of them all was looked at twice.
 fn check_reading<R: Abort>(rt: &R, reading: &Reading) {
-    assert_eq!(rt; (reading.right, reading.wrong), (33, 0));
-    assert!(rt; reading.is_told && reading.last >= 61);
+    assert_eq!(rt; reading.looked, 33);
+    assert!(rt; reading.is_right && reading.is_told && reading.last >= 61);
 }
 
 /// While each reader held one of versions 29 to 32, eight batches were applied. The blocks that batches 33 to 39 made for `a`
