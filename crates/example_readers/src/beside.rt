@@ -4,7 +4,7 @@ ghost use Rattle.std.specs.Prelude.{◌≡◌};
 
 use crate::edges::{Edges, insertions, refused, vertex_name};
 use batch_apply::PassAll;
-use graph_model::{NamedFilter, Request};
+use graph_model::{Batch, NamedFilter, Request};
 use seat_board::Board;
 use std::alloc::{AllocError, Global};
 use std::io;
@@ -62,13 +62,23 @@ fn measure_over<J: Naming + Send + Sync, R: Threads + Wait + Sync + CpuClock + P
     requires opening { desk.desk.last.opening ≡ J.opening }
 {
     let store = Store::<J>::over(desk, board);
-    load(rt, &store)?;
-    let Some(seat) = seats.pop() else {
-        return Err(refused());
-    };
-    let session = seat.pin(rt, &store).enter(rt, &store);
-    let measured = measure_held(rt, &store, &session, rounds);
-    let _seat = session.release(rt, &store);
+    match (load(rt, &store), seats.pop()) {
+        (Ok(()), Some(seat)) => measure_by(rt, &store, seat, rounds),
+        (Err(error), _) => Err(error),
+        (Ok(()), None) => Err(refused()),
+    }
+}
+
+/// Holds the last version by a seat meanwhile.
+fn measure_by<J: Naming + Send + Sync, R: Threads + Wait + Sync + CpuClock + Print + AllocGlobal>(
+    rt: &R,
+    store: &Store<J>,
+    seat: Seat,
+    rounds: u32,
+) -> io::Result<()> {
+    let session = seat.pin(rt, store).enter(rt, store);
+    let measured = measure_held(rt, store, &session, rounds);
+    let _seat = session.release(rt, store);
     measured
 }
 
@@ -90,12 +100,18 @@ fn feed_one<J: Naming, R: Threads + Wait + Sync + AllocGlobal>(
     store: &Store<J>,
     edges: &mut Edges,
 ) -> io::Result<()> {
-    let batch = insertions(rt.alloc(), edges, OPERATIONS)?;
+    apply(rt, store, insertions(rt.alloc(), edges, OPERATIONS)?)?;
+    let _collected = store.collect(rt);
+    Ok(())
+}
+
+fn apply<J: Naming, R: Threads + Wait + Sync>(
+    rt: &R,
+    store: &Store<J>,
+    batch: Batch,
+) -> io::Result<()> {
     match store.apply(rt, &PassAll, batch) {
-        Ok(_receipt) => {
-            let _collected = store.collect(rt);
-            Ok(())
-        }
+        Ok(_) => Ok(()),
         Err(_) => Err(refused()),
     }
 }
@@ -187,10 +203,21 @@ fn ask_each<R: CpuClock + Print + AllocGlobal>(
         Analysis::Cores,
         Analysis::Degrees,
     ] {
-        let spent = ask(rt, session, &request_of(rt.alloc(), analysis)?)?;
+        let spent = ask_analysis(rt, session, analysis)?;
         println!(rt; "{when} {} {spent}", analysis.name())?;
     }
     Ok(())
+}
+
+fn ask_analysis<R: CpuClock + AllocGlobal>(
+    rt: &R,
+    session: &Session,
+    analysis: Analysis,
+) -> io::Result<u128> {
+    match request_of(rt.alloc(), analysis) {
+        Ok(request) => ask(rt, session, &request),
+        Err(error) => Err(io::Error::from(error)),
+    }
 }
 
 /// Asks a request, and answers nanoseconds of processor time of this thread.
@@ -223,18 +250,27 @@ impl Analysis {
 }
 
 fn request_of(alloc: Global, analysis: Analysis) -> Result<Request, AllocError> {
-    let filter = NamedFilter {
+    match analysis {
+        Analysis::Levels => Ok(Request::Levels {
+            source: vertex_name(alloc, 0)?,
+            filter: all_edges(),
+        }),
+        Analysis::Labels => Ok(Request::Labels {
+            filter: all_edges(),
+        }),
+        Analysis::Cores => Ok(Request::Cores {
+            filter: all_edges(),
+        }),
+        Analysis::Degrees => Ok(Request::Degrees {
+            filter: all_edges(),
+        }),
+    }
+}
+
+fn all_edges() -> NamedFilter {
+    NamedFilter {
         kind: None,
         lo: 0,
         hi: u64::MAX,
-    };
-    Ok(match analysis {
-        Analysis::Levels => Request::Levels {
-            source: vertex_name(alloc, 0)?,
-            filter,
-        },
-        Analysis::Labels => Request::Labels { filter },
-        Analysis::Cores => Request::Cores { filter },
-        Analysis::Degrees => Request::Degrees { filter },
-    })
+    }
 }

@@ -52,30 +52,53 @@ pub(crate) fn vertex_name(alloc: Global, vertex: u32) -> Result<Name, AllocError
     Ok(Name::of(format!(in alloc; "v{vertex}")?))
 }
 
-/// Inserts the next edge behind a batch's operations.
-fn push_insertion(alloc: Global, batch: &mut Batch, edges: &mut Edges) -> io::Result<()> {
-    let (source, target) = edges.next_edge();
-    let kind = Name::of(String::from_str(alloc, "k")?);
+/// The names of a source and a target.
+fn ends_of(alloc: Global, (source, target): (u32, u32)) -> Result<(Name, Name), AllocError> {
     let source = vertex_name(alloc, source)?;
-    let target = vertex_name(alloc, target)?;
-    let op = NamedOp::Insert {
-        kind,
-        source,
-        target,
-        weight: 1,
-        time: 1,
-    };
+    match vertex_name(alloc, target) {
+        Ok(target) => Ok((source, target)),
+        Err(error) => Err(error),
+    }
+}
+
+fn insertion(alloc: Global, edge: (u32, u32)) -> Result<NamedOp, AllocError> {
+    let kind = Name::of(String::from_str(alloc, "k")?);
+    match ends_of(alloc, edge) {
+        Ok((source, target)) => Ok(NamedOp::Insert {
+            kind,
+            source,
+            target,
+            weight: 1,
+            time: 1,
+        }),
+        Err(error) => Err(error),
+    }
+}
+
+fn push(batch: &mut Batch, op: NamedOp) -> io::Result<()> {
     match batch.push(op) {
         Ok(()) => Ok(()),
         Err(_) => Err(refused()),
     }
 }
 
+fn push_insertions(
+    alloc: Global,
+    batch: &mut Batch,
+    edges: &mut Edges,
+    count: u32,
+) -> io::Result<()> {
+    for _ in 0..count {
+        push(batch, insertion(alloc, edges.next_edge())?)?;
+    }
+    Ok(())
+}
+
 /// The insertions of the next edges, at most 4,096.
 pub(crate) fn insertions(alloc: Global, edges: &mut Edges, count: u32) -> io::Result<Batch> {
     let mut batch = Batch::new(alloc);
-    for _ in 0..count {
-        push_insertion(alloc, &mut batch, edges)?;
+    match push_insertions(alloc, &mut batch, edges, count) {
+        Ok(()) => Ok(batch),
+        Err(error) => Err(error),
     }
-    Ok(batch)
 }

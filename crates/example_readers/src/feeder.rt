@@ -4,7 +4,6 @@ use crate::signs::{BOTH_HELD, COLLECTED, FIRST_HELD, Handed, Signs, Slot};
 use batch_apply::PassAll;
 use graph_model::{Batch, Name, NamedOp};
 use std::alloc::{AllocError, Global};
-use std::marker::PhantomData;
 use std::sync::Wait;
 use std::sync::atomic::Ordering::SeqCst;
 use std::thread::Threads;
@@ -26,31 +25,28 @@ pub fn feed<J: Naming, R: Threads + Wait + Sync>(
     collected
 }
 
-/// Applies a batch, and hands over its receipt.
+/// Applies a batch, and hands over its receipt, where it was made and accepted.
 fn feed_one<J: Naming, R: Threads + Wait + Sync>(
     rt: &R,
     store: &Store<J>,
     slot: &Slot<J>,
     batch: Result<Batch, AllocError>,
 ) {
-    let handed = handed_of(rt, store, batch);
+    let handed = match batch {
+        Ok(batch) => handed_of(rt, store, batch),
+        Err(AllocError) => None,
+    };
     let _token = slot.set(rt, handed);
 }
 
-/// The receipt of a batch, where it was made and accepted.
+/// The receipt of a batch, where it was accepted.
 fn handed_of<J: Naming, R: Threads + Wait + Sync>(
     rt: &R,
     store: &Store<J>,
-    batch: Result<Batch, AllocError>,
+    batch: Batch,
 ) -> Option<Handed<J>> {
-    let Ok(batch) = batch else {
-        return None;
-    };
     match store.apply(rt, &PassAll, batch) {
-        Ok(receipt) => Some(Handed {
-            receipt,
-            of: PhantomData,
-        }),
+        Ok(receipt) => Some(Handed::over(receipt)),
         Err(_) => None,
     }
 }

@@ -77,22 +77,48 @@ fn read_both<J: Naming + Send + Sync, R: Threads + Wait + Sync>(
     )
 }
 
-/// The whole over a new store; nothing where a growth was refused.
+/// The whole over a new store, which is let go at the end; nothing where a growth was refused.
 fn report_over<J: Naming + Send + Sync, R: Threads + Wait + Sync>(
     rt: &R,
     alloc: Global,
     desk: Desk,
     board: Board,
-    mut seats: Vec<Seat>,
+    seats: Vec<Seat>,
 ) -> Option<Report>
     requires book { desk.book ≡ J.book }
     requires opening { desk.desk.last.opening ≡ J.opening }
     requires seats { All (IsSeatOf J.book J.opening) seats.items }
 {
+    let store = Store::<J>::over(desk, board);
+    report_by_seats(rt, alloc, &store, seats)
+}
+
+/// What two of the seats saw and what was collected, where there are two.
+fn report_by_seats<J: Naming + Send + Sync, R: Threads + Wait + Sync>(
+    rt: &R,
+    alloc: Global,
+    store: &Store<J>,
+    mut seats: Vec<Seat>,
+) -> Option<Report>
+    requires { All (IsSeatOf J.book J.opening) seats.items }
+{
     let second = seats.pop()?;
     let first = seats.pop()?;
-    let store = Store::<J>::over(desk, board);
-    let (held, sights) = told_by_all(rt, alloc, &store, first, second);
+    report_of(rt, alloc, store, first, second)
+}
+
+/// What the readers with these seats saw, and what was collected.
+fn report_of<J: Naming + Send + Sync, R: Threads + Wait + Sync>(
+    rt: &R,
+    alloc: Global,
+    store: &Store<J>,
+    first: Seat,
+    second: Seat,
+) -> Option<Report>
+    requires first { IsOfOpening J.book J.opening first.seen }
+    requires second { IsOfOpening J.book J.opening second.seen }
+{
+    let (held, sights) = told_by_all(rt, alloc, store, first, second);
     let released = store.collect(rt);
     match sights {
         (Some(first), Some(second)) => Some(Report {

@@ -3,6 +3,7 @@
 ghost use Rattle.std.specs.Prelude.{◌≡◌};
 ghost use Rattle.std.specs.Coded.{codes};
 ghost use Rattle.graph_model.specs.Coded.{graph_code};
+ghost use Rattle.stream_store.specs.Stores.{IsOfOpening};
 
 use std::marker::PhantomData;
 use std::sync::OnceLock;
@@ -21,6 +22,18 @@ pub struct Handed<J: Naming> {
     pub of: PhantomData<J>,
     ghost book_is: { receipt.told.book ≡ J.book },
     ghost opening_is: { receipt.told.version.opening ≡ J.opening } by { Prim.hlevel (codes, graph_code) },
+}
+
+impl<J: Naming> Handed<J> {
+    /// A receipt of a store that has this name.
+    pub fn over(receipt: Receipt) -> Handed<J>
+        requires { IsOfOpening J.book J.opening receipt.told }
+    {
+        Handed {
+            receipt,
+            of: PhantomData,
+        }
+    }
 }
 
 /// Where a receipt is handed over; nothing, where the batch was refused.

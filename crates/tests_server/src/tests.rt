@@ -2,7 +2,6 @@
 //! `examples/`.
 
 mod arguments;
-mod drives;
 mod faults;
 mod feeds;
 mod growths;
@@ -114,95 +113,116 @@ b 1
 // How many bytes of `TABLES_TEXT` stand before each record of `TABLES`, and at its end.
 const TABLES_ENDS: [usize; 7] = [0, 0, 41, 52, 76, 99, 120];
 
-fn two_seats(rt: &impl Abort) -> Config {
-    Config::new(4, 16, 2).expect(rt, "within the limits")
-}
-
 // A run of the script over a store of two seats.
 fn served(
     rt: &(impl Abort + AllocGlobal + Threads + Wait + Sync),
-    script: &str,
-    writer: &mut impl Write,
+    script: FakeReader<'_>,
+    writer: &mut FakeWriter,
 ) -> Result<Summary, ServeFault> {
-    serve(rt, two_seats(rt), script.as_bytes(), writer)
+    let two_seats = Config::new(4, 16, 2).expect(rt, "within the limits");
+    serve(rt, two_seats, script, writer)
 }
 
-// A run of the script over such a store, from a reader that gives a byte a read and fails after so many reads.
-fn served_torn(
-    rt: &(impl Abort + AllocGlobal + Threads + Wait + Sync),
-    script: &[u8],
-    reads: usize,
-    writer: &mut impl Write,
-) -> Result<Summary, ServeFault> {
-    serve(
-        rt,
-        two_seats(rt),
-        torn(script, reads, Some(ErrorKind::Other)),
-        writer,
-    )
+// What the program left at arguments: its exit status, its output and its standard error.
+#[derive(Clone, Copy)]
+struct Ran {
+    status: u8,
+    output: FakeWriter,
+    faults: FakeWriter,
 }
 
-// The status of the program at the arguments, over the script.
-fn status_of(
-    rt: &(impl Abort + AllocGlobal + Threads + Wait + Sync),
+// Room for all that the program writes, on its output and on standard error.
+const ROOMY: (usize, usize) = (MOST_HELD, MOST_HELD);
+
+// The program at the arguments, on writers with so much room.
+fn ran_at(
+    rt: &(impl AllocGlobal + Threads + Wait + Sync),
     arguments: &[&str],
-    script: &str,
-    output: &mut impl Write,
-    faults: &mut impl Write,
-) -> u8 {
-    stinger(rt, arguments, script.as_bytes(), output, faults)
+    script: impl Read + Drop,
+    (room, fault_room): (usize, usize),
+) -> Ran {
+    let (output, faults) = (FakeWriter::new(room), FakeWriter::new(fault_room));
+    ran_on(rt, arguments, script, output, faults)
 }
 
-// The bytes begin with the text, and are none where it is empty.
-fn begins(bytes: &[u8], text: &str) -> bool {
-    let n = text.len();
-    if n == 0 {
-        bytes.is_empty()
-    } else {
-        bytes.len() >= n && &bytes[..n] == text.as_bytes()
+// The same on these writers.
+fn ran_on(
+    rt: &(impl AllocGlobal + Threads + Wait + Sync),
+    arguments: &[&str],
+    script: impl Read + Drop,
+    mut output: FakeWriter,
+    mut faults: FakeWriter,
+) -> Ran {
+    let status = stinger(rt, arguments, script, &mut output, &mut faults);
+    Ran {
+        status,
+        output,
+        faults,
     }
 }
 
-// Takes at most so many bytes a call and so many in all; then it fails, or takes nothing.
-#[derive(Drop)]
+// It ended with this status and left these texts.
+fn check_ran(rt: &impl Abort, ran: &Ran, (status, text, complaint): (u8, &str, &str)) {
+    check_text(rt, ran.output.text(), text);
+    check_text(rt, ran.faults.text(), complaint);
+    assert!(rt; ran.status == status, "{text}{complaint}");
+}
+
+fn check_text(rt: &impl Abort, text: &str, wanted: &str) {
+    assert_eq!(rt; text, wanted);
+}
+
+// A writer holds no more bytes than these.
+const MOST_HELD: usize = 8_192;
+
+// Takes at most so many bytes a call and so many in all; then it fails, or takes nothing. It takes no memory.
+#[derive(Clone, Copy)]
 struct FakeWriter {
-    held: Vec<u8>,
+    held: [u8; MOST_HELD],
+    length: usize,
     piece: usize,
     room: usize,
     // A write past the room fails, and else takes nothing.
     fails: bool,
     flush_fails: bool,
     // The calls of `write`; the first call that was refused, and each call after that.
-    writes: u64,
-    refusals: u64,
+    writes: usize,
+    refusals: usize,
     // The last call was a flush.
     flushed: bool,
 }
 
 impl FakeWriter {
-    fn new(rt: &impl AllocGlobal, room: usize, fails: bool) -> FakeWriter {
+    // A writer that takes so much, and then fails.
+    fn new(room: usize) -> FakeWriter {
         FakeWriter {
-            held: Vec::new(rt.alloc()),
+            held: [0; MOST_HELD],
+            length: 0,
             piece: usize::MAX,
             room,
-            fails,
+            fails: true,
             flush_fails: false,
             writes: 0,
             refusals: 0,
             flushed: false,
         }
     }
+
+    fn text(&self) -> &str {
+        str::from_utf8(&self.held[..self.length.min(MOST_HELD)]).unwrap_or("no text")
+    }
 }
 
 impl Write for FakeWriter {
-    ghost use Rattle.std.specs.Prelude.{Some};
-
-    ghost contents = { λ w. Some w.held.items };
-
     fn write(&mut self, buf: &[u8]) -> io::Result<usize> {
         self.flushed = false;
         self.writes = self.writes.saturating_add(1);
-        let n = buf.len().min(self.room).min(self.piece);
+        let begin = self.length.min(MOST_HELD);
+        let n = buf
+            .len()
+            .min(self.room)
+            .min(self.piece)
+            .min(MOST_HELD - begin);
         if n == 0 {
             self.refusals = self.refusals.saturating_add(1);
             return if self.fails {
@@ -211,7 +231,8 @@ impl Write for FakeWriter {
                 Ok(0)
             };
         }
-        self.held.extend_from_slice(&buf[..n])?;
+        self.held[begin..begin + n].copy_from_slice(&buf[..n]);
+        self.length = begin + n;
         self.room -= n;
         Ok(n)
     }
@@ -228,19 +249,38 @@ impl Write for FakeWriter {
     }
 }
 
-// Gives one byte a read; once, after so many reads, it fails with the kind, or gives nothing where there is none.
+// Gives at most so many bytes a read; once, after so many reads, it fails with the kind, or gives nothing where there is none.
 #[derive(Drop)]
-struct TornReader<'a> {
+struct FakeReader<'a> {
     bytes: &'a [u8],
+    piece: usize,
     reads: usize,
     kind: Option<ErrorKind>,
 }
 
-fn torn(bytes: &[u8], reads: usize, kind: Option<ErrorKind>) -> TornReader<'_> {
-    TornReader { bytes, reads, kind }
+impl FakeReader<'_> {
+    // Gives the text at once.
+    fn whole(text: &str) -> FakeReader<'_> {
+        FakeReader {
+            bytes: text.as_bytes(),
+            piece: usize::MAX,
+            reads: usize::MAX,
+            kind: None,
+        }
+    }
+
+    // Gives a byte a read.
+    fn torn(bytes: &[u8], reads: usize, kind: Option<ErrorKind>) -> FakeReader<'_> {
+        FakeReader {
+            bytes,
+            piece: 1,
+            reads,
+            kind,
+        }
+    }
 }
 
-impl Read for TornReader<'_> {
+impl Read for FakeReader<'_> {
     fn read(&mut self, buf: &mut [u8]) -> io::Result<usize> {
         if self.reads == 0 {
             self.reads = usize::MAX;
@@ -250,7 +290,7 @@ impl Read for TornReader<'_> {
             };
         }
         self.reads -= 1;
-        let n = buf.len().min(self.bytes.len()).min(1);
+        let n = buf.len().min(self.bytes.len()).min(self.piece);
         let (given, rest) = self.bytes.split_at(n);
         buf[..n].copy_from_slice(given);
         self.bytes = rest;
@@ -258,13 +298,13 @@ impl Read for TornReader<'_> {
     }
 }
 
-// How many lines end in the bytes.
-fn lines_in(bytes: &[u8]) -> usize {
-    let mut lines: usize = 0;
+// How often the byte is among these.
+fn count_of(bytes: &[u8], wanted: u8) -> usize {
+    let mut count: usize = 0;
     for byte in bytes {
-        lines = lines.saturating_add(usize::from(*byte == b'\n'));
+        count = count.saturating_add(usize::from(*byte == wanted));
     }
-    lines
+    count
 }
 
 // Tells `tools/refuse-each-growth` that a growth was refused, which the test accepted.
@@ -274,12 +314,12 @@ fn tell_refused(rt: &impl Print) {
 
 // The lines of a text before so many records are done, of which so many bytes stand before each record and at the end, and then
 // the error line with the word.
-fn is_cut_of(text: &str, ends: &[usize], output: &[u8], given: usize, word: &str) -> bool {
+fn is_cut_of(text: &str, ends: &[usize], output: &str, given: usize, word: &str) -> bool {
     let Some(end) = ends.get(given) else {
         return false;
     };
     let lines = &text.as_bytes()[..(*end).min(text.len())];
-    match output.strip_prefix(lines) {
+    match output.as_bytes().strip_prefix(lines) {
         Some(line) => is_error(line, given, word),
         None => false,
     }

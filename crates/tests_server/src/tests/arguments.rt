@@ -1,11 +1,13 @@
 // Which arguments have a script served, and what the program does at its arguments where a writer fails. `examples/check` shows
 // what it says of them.
 
-use super::{FakeWriter, status_of};
+use super::{
+    FIRST, FIRST_TEXT, FakeReader, FakeWriter, ROOMY, check_ran, check_text, ran_at, ran_on,
+};
 use std::process::Abort;
 use std::sync::Wait;
 use std::thread::Threads;
-use stinger_cli::{law_arguments, law_options, refuse_arguments, serves};
+use stinger_cli::{law_arguments, law_options, refuse_arguments, serves, shows_progress};
 
 pub(super) const HELP: &str = "\
 A store of a directed graph that changes by batches, with held snapshots (STINGER, HPEC 2012).
@@ -35,67 +37,68 @@ error: an argument is not UTF-8
 `stinger run` reads a script on standard input. `stinger --help` says what a script is.
 ";
 
+const UNWRITTEN: &str = "error: the output can't be written\n";
+
 #[test]
 fn refuses_an_argument_that_is_no_text(rt: HostRuntime) {
+    let mut faults = FakeWriter::new(1_000);
+    assert!(rt; refuse_arguments(&mut faults) == 2);
+    check_text(&rt, faults.text(), NOT_TEXT);
     law_arguments();
     law_options();
-    let mut faults = Vec::new(rt.alloc());
-    assert_eq!(rt; refuse_arguments(&mut faults), 2);
-    assert_eq!(rt; faults.as_slice(), NOT_TEXT.as_bytes());
+}
+
+// Whether the arguments have a script served, and whether its progress is shown then.
+fn asks(rt: &(impl Abort + AllocGlobal), arguments: &[&str], for_script: bool, progress: bool) {
+    assert!(rt; serves(rt, arguments) == Ok(for_script));
+    assert!(rt; shows_progress(rt, arguments) == Ok(progress));
 }
 
 #[test]
-fn serves_a_script_at_run_alone(rt: HostRuntime) {
-    assert_eq!(rt; serves(&rt, &["run", "--seats", "3"]), Ok(true));
-    assert_eq!(rt; serves(&rt, &["run", "--seats", "17"]), Ok(false));
-    assert_eq!(rt; serves(&rt, &["help", "run"]), Ok(false));
-    assert_eq!(rt; serves(&rt, &["-V"]), Ok(false));
-    assert_eq!(rt; serves(&rt, &["drive", "--readers", "1"]), Ok(false));
+fn serves_a_script_at_run_alone_and_shows_progress_without_quiet(rt: HostRuntime) {
+    asks(&rt, &["run", "--seats", "3"], true, true);
+    asks(&rt, &["run", "--seats", "17"], false, false);
+    asks(&rt, &["run", "--quiet"], true, false);
+    asks(&rt, &["run", "--quiet", "--quiet"], false, false);
+    asks(&rt, &["help", "run"], false, false);
+    asks(&rt, &["-V"], false, false);
+    asks(&rt, &["drive", "--readers", "1"], false, false);
 }
 
-// Into writers with so much room, the program at the argument ends with status 1, and this much was written.
+#[test]
+fn takes_a_script_to_its_lines(rt: HostRuntime) {
+    let ran = ran_at(&rt, &["run"], FakeReader::whole(FIRST), ROOMY);
+    check_ran(&rt, &ran, (0, FIRST_TEXT, ""));
+}
+
+// On writers with so much room, the program at the arguments ends with status 1 and leaves these texts.
 fn breaks_off(
     rt: &(impl Abort + AllocGlobal + Threads + Wait + Sync),
-    argument: &str,
-    room: usize,
-    fault_room: usize,
-    text: &[u8],
-    complaint: &[u8],
+    arguments: &[&str],
+    room: (usize, usize),
+    text: &str,
+    complaint: &str,
 ) {
-    let mut writer = FakeWriter::new(rt, room, true);
-    let mut faults = FakeWriter::new(rt, fault_room, true);
-    let status = status_of(rt, &[argument], "hello\n", &mut writer, &mut faults);
-    assert_eq!(rt; status, 1, "{argument} {room} {fault_room}");
-    assert_eq!(rt;
-        writer.held.as_slice(),
-        text,
-        "{argument} {room} {fault_room}"
-    );
-    assert_eq!(rt;
-        faults.held.as_slice(),
-        complaint,
-        "{argument} {room} {fault_room}"
-    );
+    let ran = ran_at(rt, arguments, FakeReader::whole("hello\n"), room);
+    check_ran(rt, &ran, (1, text, complaint));
 }
-
-pub(super) const UNWRITTEN: &[u8] = b"error: the output can't be written\n";
 
 #[test]
 fn says_that_the_output_was_not_written(rt: HostRuntime) {
-    breaks_off(&rt, "run", 5, 1_000, b"error", UNWRITTEN);
-    breaks_off(&rt, "run", 5, 0, b"error", b"");
-    breaks_off(&rt, "help", 7, 1_000, &HELP.as_bytes()[..7], UNWRITTEN);
-    breaks_off(&rt, "--version", 0, 6, b"", b"error:");
-    breaks_off(&rt, "fly", 0, 9, b"", &UNKNOWN.as_bytes()[..9]);
+    breaks_off(&rt, &["run"], (5, 1_000), "error", UNWRITTEN);
+    breaks_off(&rt, &["run"], (5, 0), "error", "");
+    breaks_off(&rt, &["help"], (7, 1_000), "A store", UNWRITTEN);
+    breaks_off(&rt, &["--version"], (0, 6), "", "error:");
+    breaks_off(&rt, &["fly"], (0, 9), "", "error: un");
+    let drive = ["drive", "--readers", "1"];
+    breaks_off(&rt, drive.as_slice(), (5, 1_000), "drive", UNWRITTEN);
 }
 
 #[test]
 fn says_that_the_output_was_not_flushed(rt: HostRuntime) {
-    let mut writer = FakeWriter::new(&rt, 1_000, true);
-    writer.flush_fails = true;
-    let mut faults = Vec::new(rt.alloc());
-    let status = status_of(&rt, &["run"], "hello\n", &mut writer, &mut faults);
-    assert_eq!(rt; status, 1);
-    assert_eq!(rt; writer.held.as_slice(), b"error 1 BadCommand\n".as_slice());
-    assert_eq!(rt; faults.as_slice(), UNWRITTEN);
+    let script = FakeReader::whole("hello\n");
+    let mut output = FakeWriter::new(1_000);
+    output.flush_fails = true;
+    let ran = ran_on(&rt, &["run"], script, output, FakeWriter::new(1_000));
+    check_ran(&rt, &ran, (1, "error 1 BadCommand\n", UNWRITTEN));
 }

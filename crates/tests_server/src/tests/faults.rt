@@ -1,16 +1,29 @@
-// Readers and writers that fail.
+// Readers and writers that fail, and what a run counts.
 
 use super::{
-    FIRST, FIRST_ENDS, FIRST_TEXT, FakeWriter, HELD, HELD_ENDS, HELD_TEXT, REFUSED, REFUSED_TEXT,
-    is_cut_of, lines_in, served, served_torn,
+    FIRST, FIRST_ENDS, FIRST_TEXT, FakeReader, FakeWriter, HELD, HELD_ENDS, HELD_TEXT, REFUSED,
+    REFUSED_TEXT, check_text, count_of, is_cut_of, served,
 };
+use std::io::ErrorKind;
 use std::process::Abort;
 use std::sync::Wait;
 use std::thread::Threads;
-use stinger_server::{ServeFault, Unwritten, write_text};
+use stinger_server::{ServeFault, Summary, Unwritten, law_examples, law_one_text, write_text};
 
-// A run of the script into a writer of each smaller size writes that many bytes of the text and tells `Write`, and
-// calls the writer no more.
+// A run of the script into the writer comes to this, and leaves the writer holding the text.
+fn runs_so(
+    rt: &(impl Abort + AllocGlobal + Threads + Wait + Sync),
+    script: FakeReader<'_>,
+    writer: &mut FakeWriter,
+    answer: Result<Summary, ServeFault>,
+    text: &str,
+) {
+    assert_eq!(rt; served(rt, script, writer), answer);
+    check_text(rt, writer.text(), text);
+}
+
+// A run of the script into a writer of each smaller size writes that many bytes of the text and tells `Write`, and calls the
+// writer no more.
 fn fills_each_writer(
     rt: &(impl Abort + AllocGlobal + Threads + Wait + Sync),
     script: &str,
@@ -18,15 +31,15 @@ fn fills_each_writer(
     fails: bool,
 ) {
     for room in 0..text.len() {
-        let mut writer = FakeWriter::new(rt, room, fails);
-        let answer = served(rt, script, &mut writer);
-        assert_eq!(rt; answer, Err(ServeFault::Write), "{room} {fails}");
-        assert_eq!(rt;
-            writer.held.as_slice(),
-            &text.as_bytes()[..room],
+        let mut writer = FakeWriter::new(room);
+        writer.fails = fails;
+        let answer = served(rt, FakeReader::whole(script), &mut writer);
+        let is_so = answer == Err(ServeFault::Write) && writer.refusals == 1;
+        let held = writer.text();
+        assert!(rt;
+            is_so && held.len() == room && text.starts_with(held),
             "{room} {fails}"
         );
-        assert_eq!(rt; writer.refusals, 1, "{room} {fails}");
     }
 }
 
@@ -39,34 +52,60 @@ fn writes_the_bytes_that_a_writer_takes(rt: HostRuntime) {
     }
 }
 
+const FIRST_COUNTED: Summary = Summary {
+    records: 6,
+    errors: 0,
+    pending: 0,
+};
+
+const REFUSED_COUNTED: Summary = Summary {
+    records: 3,
+    errors: 2,
+    pending: 1,
+};
+
 #[test]
 fn writes_to_a_writer_that_takes_a_byte_a_call(rt: HostRuntime) {
-    for (script, text) in [(FIRST, FIRST_TEXT), (REFUSED, REFUSED_TEXT)] {
-        let mut writer = FakeWriter::new(&rt, text.len(), true);
+    for (script, text, counted) in [
+        (FIRST, FIRST_TEXT, FIRST_COUNTED),
+        (REFUSED, REFUSED_TEXT, REFUSED_COUNTED),
+    ] {
+        let mut writer = FakeWriter::new(text.len());
         writer.piece = 1;
-        let answer = served(&rt, script, &mut writer);
-        assert!(rt; answer.is_ok(), "{script}");
-        assert_eq!(rt; writer.held.as_slice(), text.as_bytes(), "{script}");
+        runs_so(
+            &rt,
+            FakeReader::whole(script),
+            &mut writer,
+            Ok(counted),
+            text,
+        );
     }
 }
 
-// The run over a reader that fails after so many reads, and a writer whose flush fails, ends with this.
-fn tells_a_failed_flush(
-    rt: &(impl Abort + AllocGlobal + Threads + Wait + Sync),
-    reads: usize,
-    text: &str,
-) {
-    let mut writer = FakeWriter::new(rt, usize::MAX, true);
-    writer.flush_fails = true;
-    let answer = served_torn(rt, FIRST.as_bytes(), reads, &mut writer);
-    assert_eq!(rt; answer, Err(ServeFault::Write), "{reads}");
-    assert_eq!(rt; writer.held.as_slice(), text.as_bytes(), "{reads}");
+#[test]
+fn counts_records_errors_and_pending_operations(rt: HostRuntime) {
+    let mut writer = FakeWriter::new(usize::MAX);
+    let script = FakeReader::whole(REFUSED);
+    runs_so(&rt, script, &mut writer, Ok(REFUSED_COUNTED), REFUSED_TEXT);
+    assert!(rt; writer.writes == 3 && writer.flushed, "one write a line");
+    law_one_text();
+    law_examples();
 }
 
+// A reader that gives a byte a read and fails after so many reads.
+fn failing(script: &str, reads: usize) -> FakeReader<'_> {
+    FakeReader::torn(script.as_bytes(), reads, Some(ErrorKind::Other))
+}
+
+// Over such a reader, and a writer whose flush fails.
 #[test]
 fn tells_failed_flushes(rt: HostRuntime) {
-    tells_a_failed_flush(&rt, usize::MAX, FIRST_TEXT);
-    tells_a_failed_flush(&rt, 0, "error 1 Read\n");
+    for (reads, text) in [(usize::MAX, FIRST_TEXT), (0, "error 1 Read\n")] {
+        let mut writer = FakeWriter::new(usize::MAX);
+        writer.flush_fails = true;
+        let answer = Err(ServeFault::Write);
+        runs_so(&rt, failing(FIRST, reads), &mut writer, answer, text);
+    }
 }
 
 // Where the reader fails after so many reads, a byte each, the lines of the records whose end was read are written, and the word
@@ -78,15 +117,15 @@ fn tells_the_record(
     ends: &[usize],
     reads: usize,
 ) {
-    let mut writer = FakeWriter::new(rt, usize::MAX, true);
-    let answer = served_torn(rt, script.as_bytes(), reads, &mut writer);
+    let mut writer = FakeWriter::new(usize::MAX);
+    let answer = served(rt, failing(script, reads), &mut writer);
     let (read, _) = script.as_bytes().split_at(reads.min(script.len()));
-    assert_eq!(rt; answer, Err(ServeFault::Read), "{reads}");
+    let given = count_of(read, b'\n');
+    let is_so = answer == Err(ServeFault::Read) && writer.flushed;
     assert!(rt;
-        is_cut_of(text, ends, writer.held.as_slice(), lines_in(read), "Read"),
+        is_so && is_cut_of(text, ends, writer.text(), given, "Read"),
         "{reads}"
     );
-    assert!(rt; writer.flushed, "{reads}");
 }
 
 #[test]
@@ -100,17 +139,14 @@ fn tells_the_record_that_a_reader_failed_at(rt: HostRuntime) {
 }
 
 // A text and its end into a writer with so much room come to this, and leave it holding that.
-fn writes_both(
-    rt: &(impl Abort + AllocGlobal),
-    room: usize,
-    written: Result<(), Unwritten>,
-    held: &str,
-) {
-    let mut writer = FakeWriter::new(rt, room, true);
+fn writes_both(rt: &impl Abort, room: usize, written: Result<(), Unwritten>, held: &str) {
+    let mut writer = FakeWriter::new(room);
     let answer = write_text(&mut writer, "ann ", "bob\n");
-    assert_eq!(rt; answer, written, "{room}");
-    assert_eq!(rt; writer.held.as_slice(), held.as_bytes(), "{room}");
-    assert_eq!(rt; writer.flushed, written.is_ok(), "{room}");
+    assert!(rt;
+        answer == written && writer.flushed == written.is_ok(),
+        "{room}"
+    );
+    check_text(rt, writer.text(), held);
 }
 
 #[test]

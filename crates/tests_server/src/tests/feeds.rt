@@ -1,20 +1,12 @@
 // What a feed's calls give that no script of the program shows: readers that fail or pause, refused growths, a fault's text.
 
-use super::{lines_in, tell_refused, torn};
+use super::{FakeReader, check_text, count_of, tell_refused};
 use feed_csv::{Command, Feed, FeedFault, FeedWord};
 use graph_model::{Name, NamedFilter, NamedOp, Request};
-use std::alloc::AllocError;
 use std::io;
 use std::io::{ErrorKind, Read};
 use std::process::Abort;
 use std::test::Fail;
-
-fn is_fault(outcome: &Result<Option<Command>, FeedFault>, at: u64, word: FeedWord) -> bool {
-    match outcome {
-        Err(fault) => *fault == FeedFault { at, word },
-        Ok(_) => false,
-    }
-}
 
 // A script of which each call's outcome is known by its number; its last record has many fields.
 const SCRIPT: &str = "i,k,a,b,1,2
@@ -85,7 +77,7 @@ fn is_request(call: u64, request: &Request) -> bool {
     }
 }
 
-// Whether the call of this number gave what `SCRIPT` says.
+// Whether the call of this number gave what `SCRIPT` says, and `stat` or the end behind it.
 fn is_given(call: u64, outcome: &Result<Option<Command>, FeedFault>) -> bool {
     match outcome {
         Ok(Some(Command::Op(op))) => is_op(call, op),
@@ -93,46 +85,96 @@ fn is_given(call: u64, outcome: &Result<Option<Command>, FeedFault>) -> bool {
         Ok(Some(Command::Query(slot, request))) => *slot == 3 && is_request(call, request),
         Ok(Some(Command::CloseSlot(slot))) => call == 8 && *slot == 3,
         Ok(Some(Command::Rebase(slot))) => call == 13 && *slot == 3,
-        Ok(Some(Command::Commit | Command::Stat | Command::Collect)) => false,
-        Err(_) => (call == 3 || call == 14) && is_fault(outcome, call, FeedWord::BadCommand),
-        Ok(None) => call >= 15,
+        Ok(Some(Command::Commit | Command::Collect)) => false,
+        Ok(Some(Command::Stat) | None) => call >= 15,
+        Err(fault) => (call == 3 || call == 14) && is(fault, call, FeedWord::BadCommand),
     }
+}
+
+fn is(fault: &FeedFault, at: u64, word: FeedWord) -> bool {
+    fault.at == at && fault.word == word
+}
+
+// Whether a call told this fault, or the end where there is none.
+fn is_end(outcome: &Result<Option<Command>, FeedFault>, at: u64, word: Option<FeedWord>) -> bool {
+    match (outcome, word) {
+        (Err(fault), Some(word)) => is(fault, at, word),
+        (Ok(None), None) => true,
+        _ => false,
+    }
+}
+
+fn tells_end(feed: &mut Feed<impl Read>, at: u64, word: Option<FeedWord>) -> bool {
+    is_end(&feed.next(), at, word)
+}
+
+// Now and later a call tells this.
+fn check_end(rt: &impl Abort, feed: &mut Feed<impl Read>, at: u64, word: Option<FeedWord>) {
+    for _ in 0..3 {
+        assert!(rt; tells_end(feed, at, word), "record {at}");
+    }
+}
+
+// Whether the call of this number was refused a growth; if not, it gave what `SCRIPT` says.
+fn is_refused_at(rt: &impl Abort, feed: &mut Feed<impl Read>, call: u64) -> bool {
+    let outcome = feed.next();
+    let is_refused = is_end(&outcome, call, Some(FeedWord::Memory));
+    assert!(rt; is_refused || is_given(call, &outcome), "call {call}");
+    is_refused
+}
+
+// Whether a growth was refused to one of so many calls; then later ones tell that reading ended there. If not, those behind them
+// tell the word at the next record, or the end.
+fn meets_refusal(
+    rt: &impl Abort,
+    feed: &mut Feed<impl Read>,
+    calls: u64,
+    word: Option<FeedWord>,
+) -> bool {
+    for call in 1..=calls {
+        if is_refused_at(rt, feed, call) {
+            check_end(rt, feed, call, Some(FeedWord::Read));
+            return true;
+        }
+    }
+    check_end(rt, feed, calls.saturating_add(1), word);
+    false
+}
+
+// The same over this reader.
+fn is_refused(
+    rt: &(impl Abort + AllocGlobal),
+    reader: impl Read + Drop,
+    calls: u64,
+    word: Option<FeedWord>,
+) -> bool {
+    let mut feed = Feed::over(rt.alloc(), reader);
+    meets_refusal(rt, &mut feed, calls, word)
 }
 
 #[test]
 fn gives_each_command(rt: HostRuntime) {
-    let mut feed = Feed::over(rt.alloc(), SCRIPT.as_bytes());
-    for call in 1..16 {
-        assert!(rt; is_given(call, &feed.next()), "call {call}");
-    }
+    assert!(rt; !is_refused(&rt, SCRIPT.as_bytes(), 14, None));
 }
 
-// Now and later a call tells that reading ended before the record of this number.
-fn check_ended(rt: &impl Abort, feed: &mut Feed<impl Read>, record: u64) {
-    for _ in 0..3 {
-        assert!(rt;
-            is_fault(&feed.next(), record, FeedWord::Read),
-            "record {record}"
-        );
+#[test]
+fn refused_next(rt: HostRuntime) {
+    if is_refused(&rt, SCRIPT.as_bytes(), 15, None) {
+        tell_refused(&rt);
     }
 }
 
 // Where the reader fails after so many reads, the records whose end was read are given, and then each call tells a failed read.
-fn check_failure(rt: &(impl Abort + AllocGlobal), script: &[u8], reads: usize, kind: ErrorKind) {
-    let (read, _) = script.split_at(reads.min(script.len()));
-    let mut feed = Feed::over(rt.alloc(), torn(script, reads, Some(kind)));
-    let mut record: u64 = 1;
-    for _ in 0..lines_in(read) {
-        assert!(rt; is_given(record, &feed.next()), "read {reads}");
-        record = record.saturating_add(1);
-    }
-    check_ended(rt, &mut feed, record);
-}
-
-// Fails each of the script's reads in turn.
+// So at each of the script's reads.
 fn check_failures(rt: &(impl Abort + AllocGlobal), script: &[u8], kind: ErrorKind) {
     for reads in 0..=script.len() {
-        check_failure(rt, script, reads, kind);
+        let (read, _) = script.split_at(reads);
+        let records = count_of(read, b'\n') as u64;
+        let reader = FakeReader::torn(script, reads, Some(kind));
+        assert!(rt;
+            !is_refused(rt, reader, records, Some(FeedWord::Read)),
+            "read {reads}"
+        );
     }
 }
 
@@ -149,20 +191,17 @@ fn stops_where_a_read_fails(rt: HostRuntime) {
     }
 }
 
-// A reader that gave nothing isn't read again.
+// A reader that gave nothing, here behind the first record, isn't read again.
 #[test]
 fn ends_for_good(rt: HostRuntime) {
-    let script = b"commit\ncommit\n".as_slice();
-    let mut feed = Feed::over(rt.alloc(), torn(script, 7, None));
-    assert!(rt; matches!(feed.next(), Ok(Some(Command::Commit))));
-    for _ in 0..3 {
-        assert!(rt; matches!(feed.next(), Ok(None)));
-    }
+    let reader = FakeReader::torn(SCRIPT.as_bytes(), 12, None);
+    assert!(rt; !is_refused(&rt, reader, 1, None));
 }
 
-// Records `stat`, of which a reader gives so many bytes.
+// `SCRIPT`, and behind it records `stat`, of which a reader gives so many bytes.
 #[derive(Drop)]
 struct Stats {
+    script: &'static [u8],
     left: usize,
 }
 
@@ -170,6 +209,9 @@ const STATS: &[u8] = b"stat\nstat\nstat\nstat\nstat\nstat\nstat\nstat\nstat\nsta
 
 impl Read for Stats {
     fn read(&mut self, buf: &mut [u8]) -> io::Result<usize> {
+        if !self.script.is_empty() {
+            return self.script.read(buf);
+        }
         let begun = (5 - self.left % 5) % 5;
         let rest = &STATS[begun..];
         let n = buf.len().min(rest.len()).min(self.left);
@@ -179,75 +221,27 @@ impl Read for Stats {
     }
 }
 
-// A million records are given, and the reader's next one isn't.
+// A million records are given, of which 14 are `SCRIPT`, and the reader's next one isn't.
 #[test]
 fn gives_a_million_records(rt: HostRuntime) {
-    let mut feed = Feed::over(
-        rt.alloc(),
-        Stats {
-            left: 5 * 1_000_001,
-        },
-    );
-    for record in 1..=1_000_000 {
-        assert!(rt;
-            matches!(feed.next(), Ok(Some(Command::Stat))),
-            "record {record}"
-        );
-    }
-    check_ended(&rt, &mut feed, 1_000_001);
-}
-
-// Whether the call of this number was refused a growth; if not, it gave what `SCRIPT` says.
-fn is_refused(rt: &impl Abort, feed: &mut Feed<&[u8]>, call: u64) -> bool {
-    let outcome = feed.next();
-    let is_refused = is_fault(&outcome, call, FeedWord::Memory);
-    assert!(rt; is_refused || is_given(call, &outcome), "call {call}");
-    is_refused
+    let reader = Stats {
+        script: SCRIPT.as_bytes(),
+        left: 5 * (1_000_001 - 14),
+    };
+    assert!(rt; !is_refused(&rt, reader, 1_000_000, Some(FeedWord::Read)));
 }
 
 #[test]
-fn refused_next(rt: HostRuntime) {
-    let mut feed = Feed::over(rt.alloc(), SCRIPT.as_bytes());
-    for call in 1..16 {
-        if is_refused(&rt, &mut feed, call) {
-            check_ended(&rt, &mut feed, call);
-            tell_refused(&rt);
-            return;
-        }
-    }
-}
-
-const WORDS: [FeedWord; 8] = [
-    FeedWord::Read,
-    FeedWord::BadCommand,
-    FeedWord::BadFields,
-    FeedWord::BadName,
-    FeedWord::BadWeight,
-    FeedWord::BadTime,
-    FeedWord::BadSlot,
-    FeedWord::Memory,
-];
-
-fn write_words(text: &mut String) -> Result<(), AllocError> {
-    for word in &WORDS {
-        write!(text, "{} ", word.word())?;
-    }
-    Ok(())
-}
-
-#[test]
-fn tells_its_words(rt: HostRuntime) -> Result<(), Fail> {
+fn tells_its_faults(rt: HostRuntime) -> Result<(), Fail> {
     let fault = FeedFault {
         at: 7,
         word: FeedWord::BadCommand,
     };
-    let mut text = String::new(rt.alloc());
-    write_words(&mut text)?;
-    write!(text, "{fault}")?;
-    assert_eq!(rt;
+    let text = fault.to_string(rt.alloc())?;
+    check_text(
+        &rt,
         text.as_str(),
-        "Read BadCommand BadFields BadName BadWeight BadTime BadSlot Memory \
-        record 7: the first field is no command"
+        "record 7: the first field is no command",
     );
     Ok(())
 }

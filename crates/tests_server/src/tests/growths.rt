@@ -1,14 +1,18 @@
-// Growths that are refused: `tools/refuse-each-growth` refuses each in turn.
+// Growths that are refused: `tools/refuse-each-growth` refuses each in turn. The writers take no memory.
 
 use super::arguments::{HELP, UNKNOWN};
 use super::{
-    FIRST, FIRST_ENDS, FIRST_TEXT, FakeWriter, TABLES, TABLES_ENDS, TABLES_TEXT, begins, is_cut_of,
-    served, status_of, tell_refused,
+    FIRST, FIRST_ENDS, FIRST_TEXT, FakeReader, FakeWriter, ROOMY, TABLES, TABLES_ENDS, TABLES_TEXT,
+    check_ran, check_text, is_cut_of, ran_at, served, tell_refused,
 };
+use std::io::Print;
+use std::process::Abort;
+use std::sync::Wait;
+use std::thread::Threads;
 use stinger_server::ServeFault;
 
 // Whether a run with this text, of which so many bytes stand before each record, was ended by a refused growth.
-fn is_cut_by_memory(text: &str, ends: &[usize], output: &[u8]) -> bool {
+fn is_cut_by_memory(text: &str, ends: &[usize], output: &str) -> bool {
     for given in 0..ends.len() {
         if is_cut_of(text, ends, output, given, "Memory") {
             return true;
@@ -17,42 +21,45 @@ fn is_cut_by_memory(text: &str, ends: &[usize], output: &[u8]) -> bool {
     false
 }
 
-#[test]
-fn refused_growth_ends_a_run_at_its_record(rt: HostRuntime) {
-    let Ok(mut output) = Vec::with_capacity(rt.alloc(), 1_024) else {
-        return tell_refused(&rt);
-    };
-    match served(&rt, FIRST, &mut output) {
-        Ok(_) => assert_eq!(rt; output.as_slice(), FIRST_TEXT.as_bytes()),
-        Err(ServeFault::Start) => {
-            assert!(rt; output.is_empty());
-            tell_refused(&rt);
-        }
+// Whether such a run was ended so: at a record, where there was no memory; or before the first one, or at a rebase behind so many
+// records, where no store was opened.
+fn is_cut(text: &str, ends: &[usize], rebase: usize, output: &str, fault: ServeFault) -> bool {
+    match fault {
+        ServeFault::Start => output.is_empty() || is_cut_of(text, ends, output, rebase, "Start"),
+        ServeFault::Memory => is_cut_by_memory(text, ends, output),
+        ServeFault::Read | ServeFault::Write => false,
+    }
+}
+
+// A run of the script prints its text, or is ended so.
+fn runs_or_is_cut(
+    rt: &(impl Abort + AllocGlobal + Print + Threads + Wait + Sync),
+    script: &str,
+    text: &str,
+    ends: &[usize],
+    rebase: usize,
+) {
+    let mut writer = FakeWriter::new(1_024);
+    match served(rt, FakeReader::whole(script), &mut writer) {
+        Ok(_) => check_text(rt, writer.text(), text),
         Err(fault) => {
-            assert_eq!(rt; fault, ServeFault::Memory);
-            assert!(rt; is_cut_by_memory(FIRST_TEXT, FIRST_ENDS.as_slice(), output.as_slice()));
-            tell_refused(&rt);
+            assert!(rt; is_cut(text, ends, rebase, writer.text(), fault), "{fault}");
+            tell_refused(rt);
         }
     }
 }
 
+// The place of a rebase in a script that has none.
+const NOWHERE: usize = usize::MAX;
+
+#[test]
+fn refused_growth_ends_a_run_at_its_record(rt: HostRuntime) {
+    runs_or_is_cut(&rt, FIRST, FIRST_TEXT, FIRST_ENDS.as_slice(), NOWHERE);
+}
+
 #[test]
 fn refused_growth_leaves_no_line_of_an_analysis(rt: HostRuntime) {
-    let Ok(mut output) = Vec::with_capacity(rt.alloc(), 1_024) else {
-        return tell_refused(&rt);
-    };
-    match served(&rt, TABLES, &mut output) {
-        Ok(_) => assert_eq!(rt; output.as_slice(), TABLES_TEXT.as_bytes()),
-        Err(ServeFault::Start) => {
-            assert!(rt; output.is_empty());
-            tell_refused(&rt);
-        }
-        Err(fault) => {
-            assert_eq!(rt; fault, ServeFault::Memory);
-            assert!(rt; is_cut_by_memory(TABLES_TEXT, TABLES_ENDS.as_slice(), output.as_slice()));
-            tell_refused(&rt);
-        }
-    }
+    runs_or_is_cut(&rt, TABLES, TABLES_TEXT, TABLES_ENDS.as_slice(), NOWHERE);
 }
 
 // A store that begins anew, and what is printed.
@@ -76,61 +83,34 @@ edge 0 5 10 10
 // How many bytes of `REBASED_TEXT` stand before each record of `REBASED`, and at its end.
 const REBASED_ENDS: [usize; 7] = [0, 0, 41, 52, 86, 97, 112];
 
-// Whether a run of `REBASED` was ended so: at a record, where there was no memory; or before the first one or at the rebase, the
-// fourth, where no store was opened.
-fn is_rebase_cut(output: &[u8], fault: ServeFault) -> bool {
-    let ends = REBASED_ENDS.as_slice();
-    match fault {
-        ServeFault::Start => {
-            output.is_empty() || is_cut_of(REBASED_TEXT, ends, output, 3, "Start")
-        }
-        ServeFault::Memory => is_cut_by_memory(REBASED_TEXT, ends, output),
-        ServeFault::Read | ServeFault::Write => false,
-    }
-}
-
 #[test]
 fn refused_growth_of_a_rebase_leaves_the_lines_before(rt: HostRuntime) {
-    let Ok(mut output) = Vec::with_capacity(rt.alloc(), 1_024) else {
-        return tell_refused(&rt);
-    };
-    match served(&rt, REBASED, &mut output) {
-        Ok(_) => assert_eq!(rt; output.as_slice(), REBASED_TEXT.as_bytes()),
-        Err(fault) => {
-            assert!(rt; is_rebase_cut(output.as_slice(), fault));
-            tell_refused(&rt);
-        }
-    }
+    runs_or_is_cut(&rt, REBASED, REBASED_TEXT, REBASED_ENDS.as_slice(), 3);
 }
 
 // Both end the run: the writer is told, which was full at the first line or at the error line for want of memory.
 #[test]
 fn refused_growth_into_a_full_writer_tells_the_writer(rt: HostRuntime) {
-    let Ok(held) = Vec::with_capacity(rt.alloc(), 16) else {
-        return tell_refused(&rt);
-    };
-    let mut writer = FakeWriter::new(&rt, 5, true);
-    writer.held = held;
-    let answer = served(&rt, FIRST, &mut writer);
+    let mut writer = FakeWriter::new(5);
+    let answer = served(&rt, FakeReader::whole(FIRST), &mut writer);
     if answer == Err(ServeFault::Start) {
-        assert!(rt; writer.held.is_empty());
+        check_text(&rt, writer.text(), "");
         return tell_refused(&rt);
     }
-    assert_eq!(rt; answer, Err(ServeFault::Write));
-    assert_eq!(rt; writer.refusals, 1);
-    if writer.held.as_slice() == b"error".as_slice() {
+    assert!(rt; answer == Err(ServeFault::Write) && writer.refusals == 1);
+    if writer.text() == "error" {
         tell_refused(&rt);
     } else {
-        assert_eq!(rt; writer.held.as_slice(), b"commi".as_slice());
+        check_text(&rt, writer.text(), "commi");
     }
 }
 
-const UNOPENED: &[u8] =
-    b"error: out of memory: the store can't be opened, and fewer blocks or seats take less\n";
+const UNOPENED: &str =
+    "error: out of memory: the store can't be opened, and fewer blocks or seats take less\n";
 
-// What the program wrote where a growth was refused: nothing, but that the store wasn't opened; or some of the script's lines, and
-// then the word for it.
-fn is_told(output: &[u8], faults: &[u8]) -> bool {
+// What the program wrote where a growth was refused: nothing, but that the store wasn't opened; or some of the script's lines,
+// and then the word for it.
+fn is_told(output: &str, faults: &str) -> bool {
     if output.is_empty() {
         faults.is_empty() || faults == UNOPENED
     } else {
@@ -140,40 +120,58 @@ fn is_told(output: &[u8], faults: &[u8]) -> bool {
 
 #[test]
 fn refused_growth_gives_the_program_status_1(rt: HostRuntime) {
-    let Ok(mut output) = Vec::with_capacity(rt.alloc(), 1_024) else {
-        return tell_refused(&rt);
-    };
-    let Ok(mut faults) = Vec::with_capacity(rt.alloc(), 1_024) else {
-        return tell_refused(&rt);
-    };
-    let status = status_of(&rt, &["run"], FIRST, &mut output, &mut faults);
-    if status == 0 {
-        assert_eq!(rt; output.as_slice(), FIRST_TEXT.as_bytes());
-        assert!(rt; faults.is_empty());
+    let ran = ran_at(&rt, &["run"], FakeReader::whole(FIRST), ROOMY);
+    if ran.status == 0 {
+        check_ran(&rt, &ran, (0, FIRST_TEXT, ""));
     } else {
-        assert_eq!(rt; status, 1);
-        assert!(rt; is_told(output.as_slice(), faults.as_slice()));
+        assert!(rt; ran.status == 1 && is_told(ran.output.text(), ran.faults.text()));
         tell_refused(&rt);
     }
 }
 
+// The program at the argument writes texts that begin so, or nothing at all where a growth was refused.
+fn tells_or_is_refused(
+    rt: &(impl Abort + AllocGlobal + Print + Threads + Wait + Sync),
+    argument: &str,
+    (status, text, complaint): (u8, &str, &str),
+) {
+    let ran = ran_at(rt, &[argument], FakeReader::whole(""), ROOMY);
+    if ran.status == 1 {
+        check_ran(rt, &ran, (1, "", ""));
+        tell_refused(rt);
+    } else {
+        let is_so = begins(ran.output.text(), text) && begins(ran.faults.text(), complaint);
+        assert!(rt; ran.status == status && is_so, "{argument}");
+    }
+}
+
+// Begins with the text, and is empty where that is.
+fn begins(whole: &str, text: &str) -> bool {
+    whole.starts_with(text) && whole.is_empty() == text.is_empty()
+}
+
 #[test]
 fn refused_growth_leaves_the_arguments_untold(rt: HostRuntime) {
-    for (argument, told, text, complaint) in [("--help", 0, HELP, ""), ("fly", 2, "", UNKNOWN)] {
-        let Ok(mut output) = Vec::with_capacity(rt.alloc(), 8_192) else {
-            return tell_refused(&rt);
-        };
-        let Ok(mut faults) = Vec::with_capacity(rt.alloc(), 1_024) else {
-            return tell_refused(&rt);
-        };
-        let status = status_of(&rt, &[argument], "", &mut output, &mut faults);
-        if status == 1 {
-            assert!(rt; output.is_empty() && faults.is_empty(), "{argument}");
-            tell_refused(&rt);
-        } else {
-            assert_eq!(rt; status, told, "{argument}");
-            assert!(rt; begins(output.as_slice(), text), "{argument}");
-            assert!(rt; begins(faults.as_slice(), complaint), "{argument}");
-        }
+    tells_or_is_refused(&rt, "--help", (0, HELP, ""));
+    tells_or_is_refused(&rt, "fly", (2, "", UNKNOWN));
+}
+
+// What a drive prints where a growth was refused: nothing before the arguments were read, and then the word for it.
+fn is_drive_told(output: &str) -> bool {
+    output.is_empty() || output == "drive fault Start\n" || output == "drive fault Memory\n"
+}
+
+// A reader compares five answers in each of its 16 rounds, so 80.
+#[test]
+fn refused_growth_gives_a_drive_its_word(rt: HostRuntime) {
+    let arguments = ["drive", "--readers", "1"];
+    let ran = ran_at(&rt, &arguments, FakeReader::whole(""), ROOMY);
+    if ran.status == 0 {
+        let line = "drive readers=1 batches=64 checked=80 wrong=0 last=64\n";
+        check_ran(&rt, &ran, (0, line, ""));
+    } else {
+        assert!(rt; ran.status == 1 && is_drive_told(ran.output.text()));
+        check_text(&rt, ran.faults.text(), "");
+        tell_refused(&rt);
     }
 }

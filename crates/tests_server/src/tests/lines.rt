@@ -1,6 +1,6 @@
 // The lines of records by themselves: a call of each kind, and growths that are refused.
 
-use super::tell_refused;
+use super::{check_text, tell_refused};
 use feed_csv::FeedWord;
 use graph_model::{List, Outcome, VertexId, is_name};
 use script_lines::{
@@ -8,27 +8,29 @@ use script_lines::{
 };
 use std::alloc::{AllocError, Global};
 use std::process::Abort;
-use std::test::Fail;
 use stream_store::{Collected, Stat};
 use version_answers::NumberedReply;
 use vertex_names::NameBook;
 
-// A word has this text.
-fn has_text(rt: &impl Abort, word: Word, text: &str) {
-    assert_eq!(rt; word.text(), text);
-}
+const WORDS: [(FeedWord, &str); 8] = [
+    (FeedWord::Read, "Read"),
+    (FeedWord::BadCommand, "BadCommand"),
+    (FeedWord::BadFields, "BadFields"),
+    (FeedWord::BadName, "BadName"),
+    (FeedWord::BadWeight, "BadWeight"),
+    (FeedWord::BadTime, "BadTime"),
+    (FeedWord::BadSlot, "BadSlot"),
+    (FeedWord::Memory, "Memory"),
+];
 
 #[test]
 fn words_have_their_texts(rt: HostRuntime) {
-    has_text(&rt, Word::Feed(FeedWord::BadName), "BadName");
-    has_text(&rt, Word::NotOpen, "NotOpen");
-    has_text(&rt, Word::Start, "Start");
-}
-
-// A buffer that lines were appended to holds this text.
-fn holds(rt: &impl Abort, appended: Result<(), AllocError>, lines: &str, text: &str) {
-    assert_eq!(rt; appended, Ok(()), "{text}");
-    assert_eq!(rt; lines, text);
+    for (word, text) in WORDS {
+        check_text(&rt, word.word(), text);
+        check_text(&rt, Word::Feed(word).text(), text);
+    }
+    check_text(&rt, Word::NotOpen.text(), "NotOpen");
+    check_text(&rt, Word::Start.text(), "Start");
 }
 
 // A line of each kind that is no answer, one behind another.
@@ -89,63 +91,44 @@ fn append_each(lines: &mut String) -> Result<(), AllocError> {
     rebase_line(lines, stat)
 }
 
-#[test]
-fn appends_a_line_for_each_record(rt: HostRuntime) {
-    let mut lines = String::new(rt.alloc());
-    let appended = append_each(&mut lines);
-    holds(&rt, appended, lines.as_str(), EACH_LINE);
-}
-
-// Adds a text that is a name to a book.
-fn add(rt: &impl Abort, book: &mut NameBook, name: &str) {
-    assert!(rt; is_name(name));
-    assert!(rt; book.add(name).is_ok());
-}
-
-// The lines of a reply about three vertices, in slot 1.
-fn replies(rt: &(impl Abort + AllocGlobal), reply: &NumberedReply, text: &str) {
-    let mut book = NameBook::new(rt.alloc(), 3);
-    add(rt, &mut book, "ann");
-    add(rt, &mut book, "bob");
-    add(rt, &mut book, "cat");
-    let mut lines = String::new(rt.alloc());
-    let appended = reply_lines(&mut lines, 1, &book, reply);
-    holds(rt, appended, lines.as_str(), text);
-}
-
-#[test]
-fn tells_levels(rt: HostRuntime) -> Result<(), Fail> {
-    let levels = List::of(vec![in rt.alloc(); Some(1), None, Some(0)]?);
-    replies(&rt, &NumberedReply::Levels(levels), LEVEL_LINES);
-    Ok(())
-}
-
-// A text was appended whole to lines that stood, or a growth was refused; either way those that stood are still the first.
-fn appended_or_refused(
-    rt: &(impl Abort + Print),
+// Whether lines were appended whole to one that stood; where a growth was refused, that one is still the first.
+fn is_whole(
+    rt: &impl Abort,
     appended: Result<(), AllocError>,
     lines: &str,
     before: &str,
     text: &str,
-) {
+) -> bool {
     match appended {
-        Ok(()) => assert_eq!(rt; lines.strip_prefix(before), Some(text)),
-        Err(_) => {
-            assert!(rt; lines.starts_with(before));
-            tell_refused(rt);
-        }
+        Ok(()) => check_text(
+            rt,
+            lines.strip_prefix(before).unwrap_or("other lines"),
+            text,
+        ),
+        Err(_) => assert!(rt; lines.starts_with(before)),
     }
+    appended.is_ok()
+}
+
+// Whether a line for each record was appended behind one that stood; else a growth was refused.
+fn appends_each(rt: &(impl Abort + AllocGlobal)) -> bool {
+    let mut lines = String::new(rt.alloc());
+    if lines.push_str("close 3\n").is_err() {
+        return false;
+    }
+    let appended = append_each(&mut lines);
+    is_whole(rt, appended, lines.as_str(), "close 3\n", EACH_LINE)
+}
+
+#[test]
+fn appends_a_line_for_each_record(rt: HostRuntime) {
+    assert!(rt; appends_each(&rt));
 }
 
 #[test]
 fn refused_lines_leave_those_before(rt: HostRuntime) {
-    let mut lines = String::new(rt.alloc());
-    match lines.push_str("close 3\n") {
-        Err(_) => tell_refused(&rt),
-        Ok(()) => {
-            let appended = append_each(&mut lines);
-            appended_or_refused(&rt, appended, lines.as_str(), "close 3\n", EACH_LINE);
-        }
+    if !appends_each(&rt) {
+        tell_refused(&rt);
     }
 }
 
@@ -160,7 +143,7 @@ fn three_names(alloc: Global) -> Option<NameBook> {
     Some(book)
 }
 
-// The lines of levels behind a line that stood, where there is memory for what comes before.
+// The lines of levels in slot 1, where there is memory for the levels.
 fn append_levels(alloc: Global, book: &NameBook, lines: &mut String) -> Result<(), AllocError> {
     let levels = List::of(vec![in alloc; Some(1), None, Some(0)]?);
     reply_lines(lines, 1, book, &NumberedReply::Levels(levels))
@@ -172,28 +155,42 @@ fn append_labels(alloc: Global, book: &NameBook, lines: &mut String) -> Result<(
     reply_lines(lines, 1, book, &NumberedReply::Labels(labels))
 }
 
+// Whether the lines of levels, else those of labels, were appended; else a growth was refused, and the names are left.
+fn appends_table(rt: &(impl Abort + AllocGlobal), book: &NameBook, of_levels: bool) -> bool {
+    let mut lines = String::new(rt.alloc());
+    let (appended, text) = if of_levels {
+        (append_levels(rt.alloc(), book, &mut lines), LEVEL_LINES)
+    } else {
+        (append_labels(rt.alloc(), book, &mut lines), LABEL_LINES)
+    };
+    check_text(rt, book.name(2).unwrap_or("no name"), "cat");
+    is_whole(rt, appended, lines.as_str(), "", text)
+}
+
+// The same with a book of names, where there is memory for it.
+fn tells_table(rt: &(impl Abort + AllocGlobal), of_levels: bool) -> bool {
+    match three_names(rt.alloc()) {
+        Some(book) => appends_table(rt, &book, of_levels),
+        None => false,
+    }
+}
+
+#[test]
+fn tells_levels_and_labels(rt: HostRuntime) {
+    assert!(rt; tells_table(&rt, true));
+    assert!(rt; tells_table(&rt, false));
+}
+
 #[test]
 fn refused_levels_leave_the_lines_and_the_names(rt: HostRuntime) {
-    let mut lines = String::new(rt.alloc());
-    match three_names(rt.alloc()) {
-        None => tell_refused(&rt),
-        Some(book) => {
-            let appended = append_levels(rt.alloc(), &book, &mut lines);
-            appended_or_refused(&rt, appended, lines.as_str(), "", LEVEL_LINES);
-            assert_eq!(rt; book.name(2), Some("cat"));
-        }
+    if !tells_table(&rt, true) {
+        tell_refused(&rt);
     }
 }
 
 #[test]
 fn refused_labels_leave_the_lines_and_the_names(rt: HostRuntime) {
-    let mut lines = String::new(rt.alloc());
-    match three_names(rt.alloc()) {
-        None => tell_refused(&rt),
-        Some(book) => {
-            let appended = append_labels(rt.alloc(), &book, &mut lines);
-            appended_or_refused(&rt, appended, lines.as_str(), "", LABEL_LINES);
-            assert_eq!(rt; book.name(2), Some("cat"));
-        }
+    if !tells_table(&rt, false) {
+        tell_refused(&rt);
     }
 }
