@@ -1,14 +1,11 @@
-// A module for each crate whose calls are tested.
+// A module for each crate whose calls are tested, and one for all tables of vertices.
 
-mod arcs;
-mod cores;
-mod degrees;
 mod drafts;
 mod journals;
-mod levels;
+mod openings;
 mod plans;
 mod shards;
 mod shelves;
+mod tables;
 mod texts;
-mod views;
 mod workers;

@@ -4,22 +4,17 @@ ghost use Rattle.graph_version.specs.Drafts.{ReplacesRow, IsWhole, drafted_over,
 ghost use Rattle.graph_version.specs.Versions.{empty_version};
 ghost use Rattle.tests_layers.specs.OneEdge as edge;
 
+use super::texts::tell_refused;
 use batch_plan::{old_rows, plan};
 use block_pool::Pool;
 use edge_block::Block;
 use graph_model::{Batch, KindId, Name, NamedOp, VertexId};
 use graph_version::{Version, VersionDraft};
 use std::alloc::{AllocError, Global};
-use std::io::Print;
 use std::process::Abort;
 use std::sync::Arc;
 use std::test::Fail;
 use vertex_names::NameBook;
-
-// Tells `tools/refuse-each-growth` that a growth was refused.
-fn tell_refused(rt: &impl Print) {
-    let _ = println!(rt; "refused");
-}
 
 // The version has so many batches, and no name, edge or block.
 fn assert_bare(rt: &impl Abort, version: &Version, number: u64) {
@@ -31,23 +26,25 @@ fn assert_bare(rt: &impl Abort, version: &Version, number: u64) {
     assert_edgeless(rt, version);
 }
 
-// Whether no edge leads out of the vertex.
-fn has_no_edge_out(version: &Version, source: u32) -> bool {
-    version.row(VertexId(source)).next().is_none()
+// The numbers of the first block and of the second.
+fn first_blocks(version: &Version) -> (Option<u32>, Option<u32>) {
+    let mut blocks = version.blocks();
+    (blocks.next(), blocks.next())
 }
 
-// Whether the version has no block.
-fn has_no_block(version: &Version) -> bool {
-    version.blocks().next().is_none()
+// Whether a first edge leads out of the vertex, and whether a second does.
+fn first_edges(version: &Version, source: u32) -> (bool, bool) {
+    let mut row = version.row(VertexId(source));
+    (row.next().is_some(), row.next().is_some())
 }
 
 // The version has no edge or block.
 fn assert_edgeless(rt: &impl Abort, version: &Version) {
     assert_eq!(rt; version.edge_count(), 0);
     assert!(rt; version.edge(KindId(0), VertexId(0), VertexId(1)).is_none());
-    assert!(rt; has_no_edge_out(version, 0));
+    assert_eq!(rt; first_edges(version, 0), (false, false));
     assert!(rt; version.row_blocks(VertexId(0)).is_empty());
-    assert!(rt; has_no_block(version));
+    assert_eq!(rt; first_blocks(version), (None, None));
 }
 
 // A granted block for source 0 and kind 0 with an edge of weight 5 to target 1.
@@ -104,16 +101,6 @@ fn put_and_taken_back(alloc: Global, before: &Version) -> Result<Version, AllocE
     finished(alloc, taken)
 }
 
-#[test]
-fn leaves_the_version_before(rt: HostRuntime) -> Result<(), Fail> {
-    let before = Version::empty(rt.alloc());
-    assert_bare(&rt, &before, 0);
-    let after = put_and_taken_back(rt.alloc(), &before)?;
-    assert_bare(&rt, &after, 1);
-    assert_bare(&rt, &before, 0);
-    Ok(())
-}
-
 // The version was made, and the one before it is as it was.
 fn assert_made(rt: &impl Abort, before: &Version, after: &Version) {
     assert_bare(rt, before, 0);
@@ -131,6 +118,7 @@ fn assert_made_again(rt: &impl Abort, alloc: Global, before: &Version)
 #[test]
 fn refused_drafts_leave_the_version(rt: HostRuntime) {
     let before = Version::empty(rt.alloc());
+    assert_bare(&rt, &before, 0);
     match put_and_taken_back(rt.alloc(), &before) {
         Ok(after) => assert_made(&rt, &before, &after),
         Err(_) => {
@@ -227,18 +215,6 @@ fn of_one_edge(alloc: Global, before: &Version, number: u32) -> Result<Version, 
     Ok(entered(alloc, put, batch)?.finish())
 }
 
-// The numbers of the first block and of the second.
-fn first_blocks(version: &Version) -> (Option<u32>, Option<u32>) {
-    let mut blocks = version.blocks();
-    (blocks.next(), blocks.next())
-}
-
-// Whether a first edge leads out of the vertex, and whether a second does.
-fn first_edges(version: &Version, source: u32) -> (bool, bool) {
-    let mut row = version.row(VertexId(source));
-    (row.next().is_some(), row.next().is_some())
-}
-
 // The version has the edge from a to b, in the block with this number.
 fn assert_one_edge(rt: &impl Abort, version: &Version, number: u32) {
     assert_eq!(rt; version.number(), 1);
@@ -247,7 +223,7 @@ fn assert_one_edge(rt: &impl Abort, version: &Version, number: u32) {
     assert_eq!(rt; version.kinds().number("k"), Some(0));
     assert_eq!(rt; first_blocks(version), (Some(number), None));
     assert_eq!(rt; first_edges(version, 0), (true, false));
-    assert!(rt; has_no_edge_out(version, 1));
+    assert_eq!(rt; first_edges(version, 1), (false, false));
 }
 
 // The number of a block that a new pool of 16 grants.

@@ -1,29 +1,26 @@
+//! Plans of batches over the version without batches, as text.
+
 ghost use Rattle.std.specs.Prelude.{◌<◌, ◌≤◌};
 
-use super::texts::push_item;
+use super::texts::{push_item, tell_refused};
 use batch_plan::{Plan, PlanError, law_sources_within, old_rows, plan, resolve_batch};
 use batch_shards::{Act, Shard, Step};
-use graph_model::{Batch, Name, NamedOp, PushError, VertexId};
+use graph_model::{Batch, Name, NamedOp, PushError};
 use graph_version::Version;
 use std::alloc::{AllocError, Global};
-use std::io::Print;
 use std::process::Abort;
-use std::test::Fail;
 use vertex_names::NameBook;
 
 fn name(alloc: Global, text: &str) -> Result<Name, AllocError> {
     Ok(Name::of(String::from_str(alloc, text)?))
 }
 
-/// An operation: a removal, or an insertion of weight 1 at time 1.
-fn operation(
-    alloc: Global,
-    removes: bool,
-    kind: &str,
-    source: &str,
-    target: &str,
-) -> Result<NamedOp, AllocError> {
-    if removes {
+/// The insertion of weight 1 at time 1 that `KIND,SOURCE,TARGET` stands for, or with a `-` before it the removal.
+fn operation(alloc: Global, word: &str) -> Result<NamedOp, AllocError> {
+    let edge = word.strip_prefix('-').unwrap_or(word);
+    let (kind, rest) = edge.split_once(',').unwrap_or((edge, ""));
+    let (source, target) = rest.split_once(',').unwrap_or((rest, ""));
+    if word.starts_with('-') {
         return Ok(NamedOp::Remove {
             kind: name(alloc, kind)?,
             source: name(alloc, source)?,
@@ -39,41 +36,21 @@ fn operation(
     })
 }
 
-fn push(batch: &mut Batch, op: Result<NamedOp, AllocError>) -> Result<(), PushError> {
-    match op {
+// An `x` is an expiry.
+fn add(alloc: Global, batch: &mut Batch, word: &str) -> Result<(), PushError> {
+    if word == "x" {
+        return batch.push(NamedOp::Expire { time: 5 });
+    }
+    match operation(alloc, word) {
         Ok(op) => batch.push(op),
         Err(AllocError) => Err(PushError::OutOfMemory),
     }
 }
 
-/// Two insertions from different sources, a removal whose source is unknown, the first insertion again, and a removal
-/// whose target is unknown.
-fn batch(alloc: Global) -> Result<Batch, PushError> {
+fn batch_of(alloc: Global, text: &str) -> Result<Batch, PushError> {
     let mut batch = Batch::new(alloc);
-    for (removes, source, target) in [
-        (false, "a", "b"),
-        (false, "b", "c"),
-        (true, "z", "a"),
-        (false, "a", "b"),
-        (true, "b", "z"),
-    ] {
-        push(&mut batch, operation(alloc, removes, "k", source, target))?;
-    }
-    Ok(batch)
-}
-
-/// An insertion of a kind of its own.
-fn insertion_of_kind(alloc: Global, number: u32) -> Result<NamedOp, AllocError> {
-    let mut kind = String::from_str(alloc, "k")?;
-    push_item(&mut kind, number, "")?;
-    operation(alloc, false, kind.as_str(), "a", "b")
-}
-
-/// Insertions of so many kinds.
-fn batch_of_kinds(alloc: Global, kinds: u32) -> Result<Batch, PushError> {
-    let mut batch = Batch::new(alloc);
-    for number in 0..kinds {
-        push(&mut batch, insertion_of_kind(alloc, number))?;
+    for word in text.split_whitespace() {
+        add(alloc, &mut batch, word)?;
     }
     Ok(batch)
 }
@@ -93,21 +70,16 @@ fn plan_for(
     }
 }
 
-/// The same of a batch if it was built.
-fn planned(
-    alloc: Global,
-    version: &Version,
-    batch: Result<Batch, PushError>,
-    workers: usize,
-) -> Result<Plan, PlanError> {
-    match batch {
+/// The same of a batch from text.
+fn planned(alloc: Global, version: &Version, ops: &str, workers: usize) -> Result<Plan, PlanError> {
+    match batch_of(alloc, ops) {
         Ok(batch) => plan_for(alloc, version, &batch, workers),
         Err(_) => Err(PlanError::OutOfMemory),
     }
 }
 
-/// Adds an operation's place in the batch and its source's place in the shard, `-` where a name is unknown, `*` for all.
-fn push_step(text: &mut String, step: &Step) -> Result<(), AllocError> {
+/// An operation's place in the batch and its source's place in the shard, `-` where a name is unknown, `*` for all.
+fn write_step(text: &mut String, step: &Step) -> Result<(), AllocError> {
     push_item(text, step.op, "@")?;
     match step.act {
         Act::Edge(Some(place), _) => push_item(text, place.row, " "),
@@ -116,144 +88,110 @@ fn push_step(text: &mut String, step: &Step) -> Result<(), AllocError> {
     }
 }
 
-fn push_steps(text: &mut String, steps: &[Step]) -> Result<(), AllocError> {
-    for step in steps {
-        push_step(text, step)?;
+/// How many fresh blocks the shard has, its operations, and its sources.
+fn write_shard(text: &mut String, shard: &Shard) -> Result<(), AllocError> {
+    push_item(text, shard.fresh.len(), ": ")?;
+    for step in &shard.steps {
+        write_step(text, step)?;
     }
-    Ok(())
-}
-
-fn push_sources(text: &mut String, sources: &[VertexId]) -> Result<(), AllocError> {
     text.push_str("of")?;
-    for source in sources {
+    for source in &shard.sources {
         text.push_str(" ")?;
         push_item(text, source.0, "")?;
     }
     Ok(())
 }
 
-/// The shard's operations, and then its sources.
-fn push_shard(text: &mut String, shard: &Shard) -> Result<(), AllocError> {
-    push_steps(text, shard.steps.as_slice())?;
-    push_sources(text, shard.sources.as_slice())
-}
-
-fn check_text(rt: &impl Abort, text: &str, line: Option<&str>) {
-    assert_eq!(rt; Some(text), line);
-}
-
-/// The shard has this line, and no fresh block.
-fn check_shard(
-    rt: &impl Abort,
-    alloc: Global,
-    shard: &Shard,
-    line: Option<&str>,
-) -> Result<(), AllocError> {
-    assert!(rt; shard.fresh.is_empty());
-    let mut text = String::new(alloc);
-    push_shard(&mut text, shard)?;
-    check_text(rt, text.as_str(), line);
-    Ok(())
-}
-
-/// These are the plan's shards, a line each; each has no fresh block.
-fn check_shards(rt: &impl Abort, alloc: Global, plan: &Plan, table: &str) -> Result<(), Fail> {
-    let mut lines = table.lines();
+/// How many vertex names and kinds a plan has, how many blocks its shards may take, and its shards.
+fn write_plan(text: &mut String, plan: &Plan) -> Result<(), AllocError> {
+    push_item(text, plan.names.len(), " ")?;
+    push_item(text, plan.kinds.len(), " ")?;
+    push_item(text, plan.blocks_needed(), "")?;
     for shard in &plan.shards {
-        check_shard(rt, alloc, shard, lines.next())?;
+        text.push_str("; ")?;
+        write_shard(text, shard)?;
     }
-    assert_eq!(rt; lines.next(), None);
     Ok(())
 }
 
-// The batch's shards for so many workers are these.
-fn check_plan(rt: &impl Abort, alloc: Global, workers: usize, table: &str) -> Result<(), Fail> {
-    match planned(alloc, &Version::empty(alloc), batch(alloc), workers) {
-        Ok(plan) => check_shards(rt, alloc, &plan, table),
-        Err(error) => Err(Fail::from(error)),
+fn write_planned(text: &mut String, plan: Result<Plan, PlanError>) -> Result<(), PlanError> {
+    match write_plan(text, &plan?) {
+        Ok(()) => Ok(()),
+        Err(AllocError) => Err(PlanError::OutOfMemory),
     }
 }
+
+/// The plan of a batch over a version for so many workers.
+fn told(alloc: Global, version: &Version, ops: &str, workers: usize) -> Result<String, PlanError> {
+    let mut text = String::new(alloc);
+    write_planned(&mut text, planned(alloc, version, ops, workers))?;
+    Ok(text)
+}
+
+/// The plan has this text, in which `..` at the end stands for any other.
+fn check_text(rt: &impl Abort, told: &str, wanted: &str) {
+    match wanted.strip_suffix("..") {
+        Some(begin) => assert!(rt; told.starts_with(begin), "{told} for {wanted}"),
+        None => assert_eq!(rt; told, wanted),
+    }
+}
+
+fn check_plan(rt: &impl Abort, alloc: Global, ops: &str, workers: usize, wanted: &str) {
+    let text = told(alloc, &Version::empty(alloc), ops, workers).expect(rt, "a plan");
+    check_text(rt, text.as_str(), wanted);
+}
+
+/// Two insertions from different sources, a removal whose source is unknown, the first insertion again, and a removal
+/// whose target is unknown.
+const BATCH: &str = "k,a,b k,b,c -k,z,a k,a,b -k,b,z";
+
+/// Its plan for two workers.
+const OF_TWO: &str = "3 1 5; 0: 0@0 2@- 3@0 of 0; 0: 1@0 4@- of 1";
 
 /// A vertex's operations are those of the worker of its number modulo the workers; the one with the unknown source is
-/// worker 0's, and the one with the unknown target its source's worker's.
+/// worker 0's, and the one with the unknown target its source's worker's. A plan has the names that the insertions make, and no
+/// others. An expiry is every worker's, and asks for no block where no edge is from before its time.
 #[test]
-fn plans_by_source(rt: HostRuntime) -> Result<(), Fail> {
-    for (workers, table) in [
-        (1, "0@0 1@1 2@- 3@0 4@- of 0 1"),
-        (2, "0@0 2@- 3@0 of 0\n1@0 4@- of 1"),
-        (4, "0@0 2@- 3@0 of 0\n1@0 4@- of 1\nof\nof"),
-        (8, "0@0 2@- 3@0 of 0\n1@0 4@- of 1\nof\nof\nof\nof\nof\nof"),
+fn plans_by_source(rt: HostRuntime) {
+    for (ops, workers, wanted) in [
+        (BATCH, 1, "3 1 5; 0: 0@0 1@1 2@- 3@0 4@- of 0 1"),
+        (BATCH, 2, OF_TWO),
+        (
+            BATCH,
+            4,
+            "3 1 5; 0: 0@0 2@- 3@0 of 0; 0: 1@0 4@- of 1; 0: of; 0: of",
+        ),
+        (
+            BATCH,
+            8,
+            "3 1 5; 0: 0@0 2@- 3@0 of 0; 0: 1@0 4@- of 1; 0: of; 0: of; 0: of; 0: of; 0: of; 0: of",
+        ),
+        ("k,a,b x -k,z,a", 2, "2 1 2; 0: 0@0 1@* 2@- of 0; 0: 1@* of"),
     ] {
-        check_plan(&rt, rt.alloc(), workers, table)?;
+        check_plan(&rt, rt.alloc(), ops, workers, wanted);
+    }
+    law_sources_within();
+}
+
+/// Insertions of so many kinds.
+fn write_kinds(text: &mut String, count: u32) -> Result<(), AllocError> {
+    for number in 0..count {
+        text.push_str("k")?;
+        push_item(text, number, ",a,b ")?;
     }
     Ok(())
 }
 
-/// An insertion, an expiry, and a removal whose source is unknown.
-fn expiring_batch(alloc: Global) -> Result<Batch, PushError> {
-    let mut batch = Batch::new(alloc);
-    push(&mut batch, operation(alloc, false, "k", "a", "b"))?;
-    push(&mut batch, Ok(NamedOp::Expire { time: 5 }))?;
-    push(&mut batch, operation(alloc, true, "k", "z", "a"))?;
-    Ok(batch)
-}
-
-// The batch's shards for two workers are these, and may take so many blocks together.
-fn check_expiring(rt: &impl Abort, alloc: Global, blocks: usize, table: &str) -> Result<(), Fail> {
-    match planned(alloc, &Version::empty(alloc), expiring_batch(alloc), 2) {
-        Ok(plan) => {
-            assert_eq!(rt; plan.blocks_needed(), blocks);
-            check_shards(rt, alloc, &plan, table)
-        }
-        Err(error) => Err(Fail::from(error)),
-    }
-}
-
-/// An expiry is every worker's, and asks for no block where no edge is from before its time.
+/// One kind too many is refused.
 #[test]
-fn plans_an_expiry_for_each_worker(rt: HostRuntime) -> Result<(), Fail> {
-    check_expiring(&rt, rt.alloc(), 2, "0@0 1@* 2@- of 0\n1@* of")
-}
-
-/// How many vertex names, kinds and shards a plan has.
-fn sizes_of(plan: &Plan) -> (usize, usize, usize) {
-    (plan.names.len(), plan.kinds.len(), plan.shards.len())
-}
-
-/// The sizes of the plan of a batch for two workers.
-fn sizes(
-    alloc: Global,
-    version: &Version,
-    batch: Result<Batch, PushError>,
-) -> Result<(usize, usize, usize), PlanError> {
-    match planned(alloc, version, batch, 2) {
-        Ok(plan) => Ok(sizes_of(&plan)),
-        Err(error) => Err(error),
-    }
-}
-
-/// The same over the version without batches.
-fn sizes_at_the_opening(
-    alloc: Global,
-    batch: Result<Batch, PushError>,
-) -> Result<(usize, usize, usize), PlanError> {
-    sizes(alloc, &Version::empty(alloc), batch)
-}
-
-/// A plan has the names that the insertions make, and no others; one kind too many is refused.
-#[test]
-fn plans_the_names(rt: HostRuntime) {
-    let alloc = rt.alloc();
-    assert_eq!(rt; sizes_at_the_opening(alloc, batch(alloc)), Ok((3, 1, 2)));
-    assert_eq!(rt;
-        sizes_at_the_opening(alloc, batch_of_kinds(alloc, 64)),
-        Ok((2, 64, 2))
-    );
-    assert_eq!(rt;
-        sizes_at_the_opening(alloc, batch_of_kinds(alloc, 65)),
-        Err(PlanError::KindsFull)
-    );
-    law_sources_within();
+fn plans_as_many_kinds_as_a_graph_may_have(rt: HostRuntime) {
+    let mut ops = String::new(rt.alloc());
+    write_kinds(&mut ops, 64).expect(&rt, "operations");
+    check_plan(&rt, rt.alloc(), ops.as_str(), 2, "2 64 64; 0: 0@0 1@0 ..");
+    ops.push_str("one,a,b").expect(&rt, "operations");
+    let version = Version::empty(rt.alloc());
+    let full = told(rt.alloc(), &version, ops.as_str(), 2).err();
+    assert_eq!(rt; full, Some(PlanError::KindsFull));
 }
 
 /// How many operations of the batch are resolved, on empty books of these limits.
@@ -272,7 +210,7 @@ fn resolved_of(alloc: Global, batch: &Batch, names: u32, kinds: u32) -> Result<u
 fn resolved(alloc: Global, names: u32, kinds: u32) -> Result<usize, PlanError>
     requires { kinds ≤ 64 }
 {
-    match batch(alloc) {
+    match batch_of(alloc, BATCH) {
         Ok(batch) => resolved_of(alloc, &batch, names, kinds),
         Err(_) => Err(PlanError::OutOfMemory),
     }
@@ -287,21 +225,16 @@ fn meets_the_limit_of_names_before_that_of_kinds(rt: HostRuntime) {
     assert_eq!(rt; resolved(alloc, 3, 1), Ok(5));
 }
 
-// The sizes are those of the batch's plan, or memory was refused.
-fn check_told(rt: &(impl Abort + Print), told: Result<(usize, usize, usize), PlanError>) {
-    match told {
-        Ok(sizes) => assert_eq!(rt; sizes, (3, 1, 2)),
-        Err(error) => {
-            assert_eq!(rt; error, PlanError::OutOfMemory);
-            let _ = println!(rt; "refused");
-        }
-    }
-}
-
 /// Where memory is refused there is no plan, and the version has no more names than before.
 #[test]
 fn refused_plan_leaves_the_version(rt: HostRuntime) {
     let version = Version::empty(rt.alloc());
-    check_told(&rt, sizes(rt.alloc(), &version, batch(rt.alloc())));
+    match told(rt.alloc(), &version, BATCH, 2) {
+        Ok(text) => check_text(&rt, text.as_str(), OF_TWO),
+        Err(error) => {
+            assert_eq!(rt; error, PlanError::OutOfMemory);
+            tell_refused(&rt);
+        }
+    }
     assert_eq!(rt; (version.names().len(), version.kinds().len()), (0, 0));
 }

@@ -37,13 +37,14 @@ fn change_by(letter: u8, number: i8) -> EdgeChange
     }
 }
 
-/// What a letter says of one source's edge to a target, with a number, or with `x` that the edges go which were last touched
-/// before a time, which then stands in the target's place.
+/// What a letter says of one source's edge to a target, with a number; with `x` that the edges go which were last touched before a
+/// time, which then stands in the target's place; and with `?` that an edge goes whose names are unknown.
 fn act_by(letter: u8, target: u32, number: i8) -> Act
     ensures { IsAct 1 result }
 {
     match letter {
         b'x' => Act::Expire(u64::from(target)),
+        b'?' => Act::Edge(None, EdgeChange::Remove),
         _ => Act::Edge(
             Some(Place {
                 row: 0,
@@ -68,7 +69,7 @@ fn fresh_for(alloc: Global, steps: &[Step]) -> Result<Vec<Arc<Block>>, AllocErro
 
 /// The shard of one source, with these operations, over the version without batches.
 #[tactic(auto, using(crate::proofs::NoRows::few_needed))]
-pub(super) fn shard_with(alloc: Global, source: u32, steps: Vec<Step>) -> Result<Shard, AllocError>
+fn shard_with(alloc: Global, source: u32, steps: Vec<Step>) -> Result<Shard, AllocError>
     requires { AreSteps 1 steps.items }
     ensures { IfOk result (IsShard (row_of [])) }
 {
@@ -99,15 +100,19 @@ fn steps_of(alloc: Global, table: &[(u8, u32, i8)]) -> Result<Vec<Step>, AllocEr
 }
 
 /// The shard of one source, of such a table.
-fn shard_of(alloc: Global, table: &[(u8, u32, i8)]) -> Result<Shard, AllocError>
+pub(super) fn shard_of(
+    alloc: Global,
+    source: u32,
+    table: &[(u8, u32, i8)],
+) -> Result<Shard, AllocError>
     ensures { IfOk result (IsShard (row_of [])) }
 {
-    shard_with(alloc, 7, steps_of(alloc, table)?)
+    shard_with(alloc, source, steps_of(alloc, table)?)
 }
 
 /// What the work on a table leaves of an empty graph.
 fn work(alloc: Global, table: &[(u8, u32, i8)]) -> Result<ShardDone, AllocError> {
-    let shard = shard_of(alloc, table)?;
+    let shard = shard_of(alloc, 7, table)?;
     work_on(alloc, &Version::empty(alloc), shard)
 }
 
@@ -182,13 +187,6 @@ fn check_outcomes(rt: &impl Abort, done: &ShardDone, outcomes: &[(u32, Outcome)]
     assert_eq!(rt; blocks_left(done), (1, unused, 0));
 }
 
-#[test]
-fn works_by_the_operation_rule(rt: HostRuntime) -> Result<(), Fail> {
-    let done = work(rt.alloc(), OPERATIONS.as_slice())?;
-    check_outcomes(&rt, &done, OUTCOMES.as_slice(), 5);
-    Ok(())
-}
-
 /// Expiries between other operations: the first takes the edge to 5, and the second those to 6 and 7.
 const EXPIRING: [(u8, u32, i8); 7] = [
     (b'i', 5, 1),
@@ -212,9 +210,9 @@ const EXPIRED: [(u32, Outcome); 7] = [
 ];
 
 #[test]
-fn expires_edges_that_the_batch_has_put(rt: HostRuntime) -> Result<(), Fail> {
-    let done = work(rt.alloc(), EXPIRING.as_slice())?;
-    check_outcomes(&rt, &done, EXPIRED.as_slice(), 6);
+fn works_by_the_operation_rule(rt: HostRuntime) -> Result<(), Fail> {
+    check_outcomes(&rt, &work(rt.alloc(), &OPERATIONS)?, &OUTCOMES, 5);
+    check_outcomes(&rt, &work(rt.alloc(), &EXPIRING)?, &EXPIRED, 6);
     Ok(())
 }
 

@@ -5,19 +5,14 @@ ghost use Rattle.graph_version.specs.Drafts.{drafted_over, with_batch};
 ghost use Rattle.graph_version.specs.Versions.{empty_version};
 ghost use Rattle.version_shelf.specs.Shelves.{opened_shelf, IsNext, IsOfOneShelf};
 
+use super::texts::tell_refused;
 use graph_model::Batch;
 use graph_version::{Version, VersionDraft};
 use std::alloc::{AllocError, Global};
-use std::io::Print;
 use std::process::Abort;
 use std::sync::{Arc, Wait};
 use std::test::Fail;
 use version_shelf::{ShelfReader, ShelfWriter, shelf};
-
-// Tells `tools/refuse-each-growth` that a growth was refused.
-fn tell_refused(rt: &impl Print) {
-    let _ = println!(rt; "refused");
-}
 
 // The version without batches, to be shared.
 fn blank(alloc: Global) -> Option<Arc<Version>>

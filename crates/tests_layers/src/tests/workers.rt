@@ -1,12 +1,11 @@
 ghost use Rattle.std.specs.Prelude.{[], IfOk, All};
 ghost use Rattle.row_pages.specs.Rows.{row_of};
 ghost use Rattle.batch_apply.specs.Jobs.{IsShard};
-ghost use Rattle.batch_shards.specs.Shards.{IsAct, AreSteps};
 
-use super::shards::{blocks_left, shard_with};
+use super::shards::{blocks_left, shard_of};
 use batch_apply::{Job, PassAll, do_all};
-use batch_shards::{Act, Place, Shard, ShardDone, Step};
-use graph_model::{EdgeChange, KindId, Outcome, VertexId};
+use batch_shards::ShardDone;
+use graph_model::{Outcome, VertexId};
 use graph_version::Version;
 use std::alloc::{AllocError, Global};
 use std::io::Print;
@@ -14,45 +13,15 @@ use std::process::Abort;
 use std::test::Fail;
 use std::thread::Threads;
 
-/// An insertion at time 1 of the edge from the shard's source to a target.
-fn insertion(target: u32) -> Act
-    ensures { IsAct 1 result }
-{
-    Act::Edge(
-        Some(Place {
-            row: 0,
-            kind: KindId(0),
-            target,
-        }),
-        EdgeChange::Insert { weight: 1, time: 1 },
-    )
-}
-
-/// Operations with their places, in order, and after them a removal whose source is unknown.
-fn steps_to(alloc: Global, acts: &[Act]) -> Result<Vec<Step>, AllocError>
-    requires { All (IsAct 1) acts.now }
-    ensures { IfOk result (λ steps. AreSteps 1 steps.items) }
-{
-    let mut steps = Vec::new(alloc);
-    let mut op = 0;
-    for act in acts {
-        steps.push(Step { op, act: *act })?;
-        op = op.wrapping_add(1);
-    }
-    steps.push(Step {
-        op,
-        act: Act::Edge(None, EdgeChange::Remove),
-    })?;
-    Ok(steps)
-}
-
-/// A shard of one source: an insertion, the same again, an expiry of that edge, another insertion, and a removal.
-fn shard_of(alloc: Global, source: u32) -> Result<Shard, AllocError>
-    ensures { IfOk result (IsShard (row_of [])) }
-{
-    let acts = [insertion(5), insertion(5), Act::Expire(2), insertion(6)];
-    shard_with(alloc, source, steps_to(alloc, &acts)?)
-}
+/// One source's operations: an insertion, the same again, an expiry of that edge, another insertion, and a removal whose source is
+/// unknown.
+const OPERATIONS: [(u8, u32, i8); 5] = [
+    (b'i', 5, 1),
+    (b'i', 5, 1),
+    (b'x', 2, 0),
+    (b'i', 6, 1),
+    (b'?', 0, 0),
+];
 
 /// A job for each worker, on the source of its number.
 fn jobs(alloc: Global, workers: u32) -> Result<Vec<Job>, AllocError>
@@ -62,7 +31,7 @@ fn jobs(alloc: Global, workers: u32) -> Result<Vec<Job>, AllocError>
     for worker in 0..workers {
         jobs.push(Job {
             worker: worker as usize,
-            shard: shard_of(alloc, worker)?,
+            shard: shard_of(alloc, worker, &OPERATIONS)?,
         })?;
     }
     Ok(jobs)
