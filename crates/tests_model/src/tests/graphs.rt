@@ -60,6 +60,7 @@ fn sizes(content: &Content) -> (usize, usize, usize) {
 
 // The names and the kinds, and how many edges there are.
 fn push_content(text: &mut String, content: &Content) -> Result<(), AllocError> {
+    text.push_str(";")?;
     push_names(text, content.names.as_slice(), ";")?;
     push_names(text, content.kinds.as_slice(), ";")?;
     push_item(text, " ", content.edges.as_slice().len())
@@ -93,7 +94,6 @@ fn push_applied(
     ensures { IsContent content.new }
 {
     push_outcomes(alloc, text, content, &batch(alloc, ops)?)?;
-    text.push_str(";")?;
     Ok(push_content(text, content)?)
 }
 

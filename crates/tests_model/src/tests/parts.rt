@@ -131,8 +131,11 @@ fn three_names(alloc: Global, text: &str) -> Result<(Name, Name, Name), LineErro
     ))
 }
 
-// What stands before the last two commas, the number between them, and the one behind.
-fn with_numbers(text: &str) -> Result<(&str, i64, u64), LineError> {
+// Of an operation on an edge the names, the weight or amount, and the time; a removal has none of these two.
+fn with_numbers<'a>(letter: &str, text: &'a str) -> Result<(&'a str, i64, u64), LineError> {
+    if letter == "r" {
+        return Ok((text, 0, 0));
+    }
     let (text, time) = text.rsplit_once(',').ok_or(LineError::Wrong)?;
     let (text, weight) = text.rsplit_once(',').ok_or(LineError::Wrong)?;
     Ok((text, weight.parse()?, time.parse()?))
@@ -178,11 +181,7 @@ fn op(alloc: Global, text: &str) -> Result<NamedOp, LineError> {
         let time = rest.parse()?;
         return Ok(NamedOp::Expire { time });
     }
-    let (ends, number, time) = if letter == "r" {
-        (rest, 0, 0)
-    } else {
-        with_numbers(rest)?
-    };
+    let (ends, number, time) = with_numbers(letter, rest)?;
     op_on(letter, three_names(alloc, ends)?, number, time)
 }
 

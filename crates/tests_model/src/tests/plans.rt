@@ -76,13 +76,11 @@ fn push_planned(
     alloc: Global,
     text: &mut String,
     status: &[Status],
-    versions: &[Version],
+    version: &Version,
 ) -> Result<(), LineError> {
     push_shown(text, "", status)?;
-    for version in versions {
-        push_item(text, " ", version.batch.len())?;
-    }
-    push_versions(alloc, text, &opening(alloc)?, versions)
+    push_item(text, " ", version.batch.len())?;
+    push_versions(alloc, text, &opening(alloc)?, from_ref(version))
 }
 
 fn push_plan(
@@ -91,7 +89,7 @@ fn push_plan(
     plan: Option<(Vec<Status>, Version)>,
 ) -> Result<(), LineError> {
     match plan {
-        Some((status, version)) => push_planned(alloc, text, status.as_slice(), from_ref(&version)),
+        Some((status, version)) => push_planned(alloc, text, status.as_slice(), &version),
         None => Ok(text.push_str("none")?),
     }
 }
