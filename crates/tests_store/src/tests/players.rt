@@ -17,29 +17,38 @@ use stream_store::{Config, Desk, Naming, OpenError, Seat, Store, open_parts};
 /// A store of so many workers and blocks and four seats; the lines that are played at its desk, then over the store that threads
 /// share, and then behind its end, at which it has that number.
 #[derive(Clone, Copy)]
-pub(super) struct Play {
-    pub(super) name: &'static str,
-    pub(super) workers: usize,
-    pub(super) blocks: u32,
-    pub(super) at_desk: &'static str,
-    pub(super) shared: &'static str,
-    pub(super) last: u64,
-    pub(super) ended: &'static str,
+pub(super) struct Play<'a> {
+    name: &'a str,
+    workers: usize,
+    blocks: u32,
+    at_desk: &'a str,
+    shared: &'a str,
+    last: u64,
+    ended: &'a str,
     /// Whether it accepts want of memory.
-    pub(super) may_refuse: bool,
+    may_refuse: bool,
 }
 
-/// Two workers and 16 blocks.
-pub(super) const PLAY: Play = Play {
-    name: "",
-    workers: 2,
-    blocks: 16,
-    at_desk: "",
-    shared: "",
-    last: 0,
-    ended: "",
-    may_refuse: false,
-};
+/// A play's text is a line of its workers, blocks and name; lines at the desk; where it is shared, `share` and the lines then; and
+/// `close => NUMBER` with the lines behind the end.
+pub(super) fn play_of(text: &str, may_refuse: bool) -> Option<Play<'_>> {
+    let (head, lines) = text.split_once('\n')?;
+    let (workers, head) = head.split_once(' ')?;
+    let (blocks, name) = head.split_once(' ')?;
+    let (before, last) = lines.split_once("close => ")?;
+    let (last, ended) = last.split_once('\n').unwrap_or((last, ""));
+    let (at_desk, shared) = before.split_once("share\n").unwrap_or((before, ""));
+    Some(Play {
+        name,
+        workers: workers.parse().ok()?,
+        blocks: blocks.parse().ok()?,
+        at_desk,
+        shared,
+        last: last.parse().ok()?,
+        ended,
+        may_refuse,
+    })
+}
 
 /// A text has room for what a line tells, so that no line is done whose telling is refused.
 const ROOM: usize = 1024;
@@ -116,6 +125,7 @@ fn check_kept<S: Stage, R: Threads + Wait + Sync + Abort + Print>(
     assert!(rt; is_played(rt, alloc, stage, places, line, line));
 }
 
+/// Plays lines; one that begins with `#` says why.
 fn check_lines<S: Stage, R: Threads + Wait + Sync + Abort + Print>(
     rt: &R,
     alloc: Global,
@@ -125,6 +135,9 @@ fn check_lines<S: Stage, R: Threads + Wait + Sync + Abort + Print>(
     play: &Play,
 ) {
     for line in lines.lines() {
+        if line.starts_with('#') {
+            continue;
+        }
         if play.may_refuse {
             let before = kept(rt, alloc, stage, places);
             check_kept(rt, alloc, stage, places, line, before.as_str());
@@ -207,10 +220,19 @@ fn opened<R: Wait + Abort + Print>(rt: &R, alloc: Global, play: &Play) -> (Desk,
 }
 
 /// Plays over a new store.
-pub(super) fn check_play<R: Threads + Wait + Sync + Abort + Print>(
+fn check_play<R: Threads + Wait + Sync + Abort + Print>(rt: &R, alloc: Global, play: &Play) {
+    check_parts(rt, alloc, opened(rt, alloc, play), play);
+}
+
+/// Plays one play after another, which stand between empty lines.
+pub(super) fn check_plays<R: Threads + Wait + Sync + Abort + Print>(
     rt: &R,
     alloc: Global,
-    play: &Play,
+    plays: &str,
+    may_refuse: bool,
 ) {
-    check_parts(rt, alloc, opened(rt, alloc, play), play);
+    for text in plays.split("\n\n") {
+        let play = play_of(text, may_refuse).expect(rt, text);
+        check_play(rt, alloc, &play);
+    }
 }
