@@ -63,7 +63,7 @@ fn run_arguments<R: AllocGlobal + Clock + Threads + Wait + Sync>(
     rt: &R,
     arguments: &[&str],
     reader: Stdin,
-    mut writer: Stdout,
+    writer: Stdout,
     mut faults: Stderr,
 ) -> Result<u8, AllocError> {
     let is_typed = reader.is_terminal();
@@ -71,11 +71,20 @@ fn run_arguments<R: AllocGlobal + Clock + Threads + Wait + Sync>(
         let _ = faults.write_all(AWAITED.as_bytes());
     }
     let is_seen = faults.is_terminal() && !writer.is_terminal() && !is_typed;
-    let progress = if is_seen && shows_progress(rt, arguments)? {
-        Some(faults)
-    } else {
-        None
-    };
+    let is_shown = is_seen && shows_progress(rt, arguments)?;
+    Ok(run_shown(rt, arguments, reader, writer, faults, is_shown))
+}
+
+/// The program, with its progress on standard error where that is to be shown.
+fn run_shown<R: AllocGlobal + Clock + Threads + Wait + Sync>(
+    rt: &R,
+    arguments: &[&str],
+    reader: Stdin,
+    mut writer: Stdout,
+    mut faults: Stderr,
+    is_shown: bool,
+) -> u8 {
+    let progress = if is_shown { Some(faults) } else { None };
     let reader = ProgressReader::over(rt, reader, progress);
-    Ok(stinger(rt, arguments, reader, &mut writer, &mut faults))
+    stinger(rt, arguments, reader, &mut writer, &mut faults)
 }
