@@ -1,7 +1,7 @@
-// Collections of a pool, told in text: `block BIRTH RETIREMENT` is a block that these versions list first and leave out, and
-// `collect COPY => FREED` a collection by a copy, its last number and then its pins, `SEAT:NUMBER` for a settled one and
-// `SEAT?NUMBER` for one that isn't. What is freed was worked out by hand, and is also what a plain look at each retired
-// block says.
+// The lives of a pool's blocks, told in text: `grant COUNT`; `retire BIRTH RETIREMENT`, of the first granted block, which these
+// versions list first and leave out; `back`, of the first granted block; `collect COPY => FREED`, by a copy, its last number and
+// then its pins, `SEAT:NUMBER` for a settled one and `SEAT?NUMBER` for one that isn't. What is freed was worked out by hand, and
+// is also what a plain look at each retired block says. Three numbers count the free, used and retired blocks.
 
 ghost use Rattle.std.specs.Prelude.{◌<◌};
 ghost use Rattle.pin_copy.specs.declared.copies.TheConstants.{SEATS};
@@ -62,6 +62,10 @@ fn number(rt: &impl Abort, word: &str) -> u64 {
     word.parse().expect(rt, "a number")
 }
 
+fn count(rt: &impl Abort, word: &str) -> u32 {
+    word.parse().expect(rt, "a count")
+}
+
 /// A seat's place among the pins.
 fn seat(rt: &impl Abort, word: &str) -> usize
     ensures { result < SEATS }
@@ -98,7 +102,6 @@ fn retires(rt: &impl Abort, hand: &mut Hand, retired: &mut Retired, text: &str) 
         birth: number(rt, birth),
         retirement: number(rt, retirement),
     };
-    granted(rt, hand, 1);
     hand.retire(dates.birth, dates.retirement);
     retired.add(dates);
 }
@@ -107,106 +110,140 @@ fn collects(rt: &impl Abort, hand: &mut Hand, retired: &mut Retired, text: &str)
     let (copy, wanted) = text.split_once(" => ").expect(rt, "a copy");
     let copy = copy_of(rt, copy);
     assert_eq!(rt; retired.collect(&copy), count(rt, wanted), "{text}");
-    freed(rt, hand, copy, count(rt, wanted));
+    freed(rt, hand, &copy, count(rt, wanted));
 }
 
-fn count(rt: &impl Abort, word: &str) -> u32 {
-    word.parse().expect(rt, "a count")
+fn has_counts(rt: &impl Abort, hand: &Hand, free: &str, rest: &str) {
+    let (used, retired) = rest.split_once(' ').expect(rt, "three counts");
+    counts(
+        rt,
+        hand,
+        count(rt, free),
+        count(rt, used),
+        count(rt, retired),
+    );
 }
 
 fn plays(rt: &impl Abort, hand: &mut Hand, retired: &mut Retired, line: &str) {
-    let (event, rest) = line.split_once(' ').expect(rt, "an event");
-    if event == "block" {
-        retires(rt, hand, retired, rest);
-    } else {
-        collects(rt, hand, retired, rest);
+    let (event, rest) = line.split_once(' ').unwrap_or((line, ""));
+    match event {
+        "grant" => granted(rt, hand, count(rt, rest)),
+        "retire" => retires(rt, hand, retired, rest),
+        "back" => hand.give_back(),
+        "collect" => collects(rt, hand, retired, rest),
+        _ => has_counts(rt, hand, event, rest),
     }
 }
 
 /// Plays each line, in order; no block is retired in the end.
-fn all(rt: &impl Abort, hand: &mut Hand, lines: &[&str]) {
+fn all(rt: &impl Abort, hand: &mut Hand, lines: &str) {
     let mut retired = Retired::none();
-    for line in lines {
+    for line in lines.lines() {
         plays(rt, hand, &mut retired, line);
     }
     counts(rt, hand, 16, 0, 0);
 }
 
+/// The life of two blocks.
+const TWO: &str = "grant 2
+14 2 0
+retire 1 3
+14 1 1
+collect 2 => 0
+collect 3 => 1
+15 1 0
+back";
+
+/// Without pins what was retired up to the last number is free.
+const NO_PIN: &str = "grant 4
+retire 1 3
+retire 2 9
+retire 2 3
+retire 4 5
+collect 2 => 0
+collect 3 => 2
+collect 4 => 0
+collect 8 => 1
+collect 8 => 0
+collect 18446744073709551615 => 1";
+
+/// A settled pin keeps what was born at most with it and retired after it, and an unsettled one all that was retired after it.
+const PINS: &str = "grant 4
+retire 1 3
+retire 2 5
+retire 4 6
+retire 8 9
+collect 8 0:3 => 2
+collect 8 0:4 => 0
+collect 9 15?4 => 0
+collect 9 15?5 => 1
+collect 9 0:8 => 0
+collect 9 0:9 => 1";
+
 /// Blocks that one seat's pin kept go to another seat's, or are freed.
-const SEVERAL_SEATS: [&str; 12] = [
-    "block 1 3",
-    "block 2 5",
-    "block 4 6",
-    "block 1 6",
-    "collect 6 0:2 7:4 => 0",
-    "collect 6 7:4 => 1",
-    "collect 6 0:5 7:4 => 0",
-    "collect 6 0:5 => 1",
-    "collect 6 3:5 => 0",
-    "block 6 7",
-    "collect 7 3:5 => 1",
-    "collect 7 => 2",
-];
+const SEVERAL_SEATS: &str = "grant 1
+retire 1 3
+grant 1
+retire 2 5
+grant 1
+retire 4 6
+grant 1
+retire 1 6
+collect 6 0:2 7:4 => 0
+collect 6 7:4 => 1
+collect 6 0:5 7:4 => 0
+collect 6 0:5 => 1
+collect 6 3:5 => 0
+grant 1
+retire 6 7
+collect 7 3:5 => 1
+collect 7 => 2";
 
-#[test]
-fn keeps_what_some_seat_needs(rt: HostRuntime) -> Result<(), Fail> {
-    all(&rt, &mut Hand::new(rt.alloc())?, &SEVERAL_SEATS);
-    Ok(())
-}
+/// What one seat's pin leaves behind is freed.
+const ONE_SEAT: &str = "grant 3
+retire 1 2
+retire 2 3
+retire 3 4
+collect 4 15:1 => 2
+grant 2
+retire 4 5
+retire 1 6
+collect 6 15:2 => 2
+collect 6 15:5 => 0
+collect 6 15:6 => 1";
 
-const ONE_SEAT: [&str; 9] = [
-    "block 1 2",
-    "block 2 3",
-    "block 3 4",
-    "collect 4 15:1 => 2",
-    "block 4 5",
-    "block 1 6",
-    "collect 6 15:2 => 2",
-    "collect 6 15:5 => 0",
-    "collect 6 15:6 => 1",
-];
-
-#[test]
-fn frees_what_a_pin_leaves_behind(rt: HostRuntime) -> Result<(), Fail> {
-    all(&rt, &mut Hand::new(rt.alloc())?, &ONE_SEAT);
-    Ok(())
-}
-
-const UNSETTLED: [&str; 10] = [
-    "block 1 3",
-    "block 3 5",
-    "block 5 6",
-    "collect 6 15?4 => 1",
-    "collect 6 15?4 => 0",
-    "block 2 4",
-    "collect 6 15?4 => 1",
-    "collect 6 15?5 => 1",
-    "collect 6 15:5 => 0",
-    "collect 6 15:6 => 1",
-];
-
-#[test]
-fn keeps_all_that_an_unsettled_pin_may_need(rt: HostRuntime) -> Result<(), Fail> {
-    all(&rt, &mut Hand::new(rt.alloc())?, &UNSETTLED);
-    Ok(())
-}
+/// An unsettled pin keeps all that it may need.
+const UNSETTLED: &str = "grant 3
+retire 1 3
+retire 3 5
+retire 5 6
+collect 6 15?4 => 1
+collect 6 15?4 => 0
+grant 1
+retire 2 4
+collect 6 15?4 => 1
+collect 6 15?5 => 1
+collect 6 15:5 => 0
+collect 6 15:6 => 1";
 
 /// The copy's last number is older than what was retired.
-const LATE: [&str; 10] = [
-    "block 1 9",
-    "block 2 4",
-    "collect 3 2:2 => 0",
-    "collect 3 => 0",
-    "collect 4 => 1",
-    "collect 8 1:8 => 0",
-    "collect 9 => 1",
-    "block 0 18446744073709551615",
-    "collect 18446744073709551614 => 0",
-    "collect 18446744073709551615 => 1",
-];
+const LATE: &str = "grant 2
+retire 1 9
+retire 2 4
+collect 3 2:2 => 0
+collect 3 => 0
+collect 4 => 1
+collect 8 1:8 => 0
+collect 9 => 1
+grant 1
+retire 0 18446744073709551615
+collect 18446744073709551614 => 0
+collect 18446744073709551615 => 1";
 
 #[test]
-fn keeps_what_was_retired_after_the_copy(rt: HostRuntime) -> Result<(), Fail> {
-    all(&rt, &mut Hand::new(rt.alloc())?, &LATE);
+fn frees_what_no_pin_needs(rt: HostRuntime) -> Result<(), Fail> {
+    for lines in [TWO, NO_PIN, PINS, SEVERAL_SEATS, ONE_SEAT, UNSETTLED, LATE] {
+        all(&rt, &mut Hand::new(rt.alloc())?, lines);
+    }
     Ok(())
 }

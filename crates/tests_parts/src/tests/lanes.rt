@@ -199,14 +199,6 @@ fn check_find(rt: &impl Abort, state: &mut u64, len: usize)
     finds(rt, targets, live, target, walked(targets, live, target));
 }
 
-#[test]
-fn finds_as_a_walk_from_the_end(rt: HostRuntime) {
-    let mut state = 1;
-    for input in 0..INPUTS {
-        check_find(&rt, &mut state, input % 33);
-    }
-}
-
 /// The mask of a window, built from the highest place.
 fn built(times: &[u64], live: u32, lo: u64, hi: u64) -> u32 {
     let mut mask = 0_u32;
@@ -229,14 +221,6 @@ fn check_window(rt: &impl Abort, state: &mut u64, len: usize)
     is_within(rt, times, live, lo, hi, built(times, live, lo, hi));
 }
 
-#[test]
-fn window_is_as_built_from_the_highest_place(rt: HostRuntime) {
-    let mut state = 2;
-    for input in 0..INPUTS {
-        check_window(&rt, &mut state, input % 33);
-    }
-}
-
 /// The sum of the weights at the places in a mask that is halved.
 fn halved(weights: &[i64], mask: u32) -> i64 {
     let mut rest = mask;
@@ -256,14 +240,6 @@ fn check_sum(rt: &impl Abort, state: &mut u64, len: usize)
     let weights = first_weights(&column, len);
     let mask = next(state);
     sums(rt, weights, mask, halved(weights, mask));
-}
-
-#[test]
-fn sums_as_a_mask_that_is_halved(rt: HostRuntime) {
-    let mut state = 3;
-    for input in 0..INPUTS {
-        check_sum(&rt, &mut state, input % 33);
-    }
 }
 
 /// Whether a value stands at a place whose bit is set.
@@ -298,14 +274,6 @@ fn check_bounds(rt: &impl Abort, state: &mut u64, len: usize)
     is_bounded(rt, times, mask, looked_for(times, mask));
 }
 
-#[test]
-fn bounds_as_a_look_for_each_value(rt: HostRuntime) {
-    let mut state = 4;
-    for input in 0..INPUTS {
-        check_bounds(&rt, &mut state, input % 33);
-    }
-}
-
 /// What two columns differ in, summed up.
 fn differences(left: &[u32], right: &[u32]) -> u32 {
     let mut sum = 0_u32;
@@ -334,10 +302,16 @@ fn check_compare(rt: &impl Abort, state: &mut u64, len: usize)
     compares(rt, left, right, differences(left, right) == 0);
 }
 
+/// A search is as a walk from the end, a window's mask as built from the highest place, a sum as of a mask that is halved, bounds
+/// as by a look for each value, and columns are equal that differ in nothing.
 #[test]
-fn compares_as_a_count_of_differences(rt: HostRuntime) {
-    let mut state = 5;
+fn scans_as_slow_ones_do(rt: HostRuntime) {
+    let mut state = 1;
     for input in 0..INPUTS {
+        check_find(&rt, &mut state, input % 33);
+        check_window(&rt, &mut state, input % 33);
+        check_sum(&rt, &mut state, input % 33);
+        check_bounds(&rt, &mut state, input % 33);
         check_compare(&rt, &mut state, input % 33);
     }
 }

@@ -70,17 +70,6 @@ fn numbers_names_by_first_appearance(rt: HostRuntime) -> Result<(), Fail> {
     Ok(())
 }
 
-#[test]
-fn keeps_a_shared_book_as_it_was(rt: HostRuntime) -> Result<(), Fail> {
-    let mut book = NameBook::new(rt.alloc(), 3);
-    add(&rt, &mut book, "a")?;
-    let shared = book.share()?;
-    add(&rt, &mut book, "b")?;
-    assert_absent(&rt, &shared, "b", 1);
-    assert_numbered(&rt, &book, "b", 1);
-    Ok(())
-}
-
 // Adds the name of that number in the book of v0, v1 ..
 fn add_plain(
     rt: &impl Abort,
@@ -116,27 +105,21 @@ fn takes_as_many_names_as_a_graph_may_have(rt: HostRuntime) -> Result<(), Fail> 
     check_many(&rt, rt.alloc(), &mut NameBook::new(rt.alloc(), 65_536))
 }
 
+// Of the names v0, v1 .. the book has this one, or it is the first that it doesn't have.
 fn check_plain(
     rt: &impl Abort,
     alloc: Global,
     book: &NameBook,
     number: u32,
+    len: u32,
 ) -> Result<(), AllocError> {
     let mut name = String::new(alloc);
     push_plain(&mut name, number)?;
-    assert_numbered(rt, book, name.as_str(), number);
-    Ok(())
-}
-
-fn check_no_plain(
-    rt: &impl Abort,
-    alloc: Global,
-    book: &NameBook,
-    number: u32,
-) -> Result<(), AllocError> {
-    let mut name = String::new(alloc);
-    push_plain(&mut name, number)?;
-    assert_absent(rt, book, name.as_str(), number);
+    if number < len {
+        assert_numbered(rt, book, name.as_str(), number);
+    } else {
+        assert_absent(rt, book, name.as_str(), len);
+    }
     Ok(())
 }
 
@@ -147,10 +130,10 @@ fn check_names(
     book: &NameBook,
     len: u32,
 ) -> Result<(), AllocError> {
-    for number in 0..len {
-        check_plain(rt, alloc, book, number)?;
+    for number in 0..len.saturating_add(1) {
+        check_plain(rt, alloc, book, number, len)?;
     }
-    check_no_plain(rt, alloc, book, len)
+    Ok(())
 }
 
 // Adds the name of that number. The book that shares the names before is as it was.

@@ -74,7 +74,7 @@ impl Hand {
     }
 
     /// Gives the first block back.
-    fn give_back(&mut self) {
+    pub(super) fn give_back(&mut self) {
         if !self.blocks.is_empty() {
             let block = self.blocks.remove(0);
             self.pool.give_back(block.number(), Some(block));
@@ -126,35 +126,8 @@ pub(super) fn granted(rt: &impl Abort, hand: &mut Hand, count: u32) {
 }
 
 /// So many blocks are freed by a copy.
-pub(super) fn freed(rt: &impl Abort, hand: &mut Hand, copy: PinCopy, count: u32) {
-    assert_eq!(rt; hand.recycle(&copy), count, "by {copy:?}");
-}
-
-/// So many blocks are freed by a copy without pins.
-fn recycled(rt: &impl Abort, hand: &mut Hand, last: u64, count: u32) {
-    freed(rt, hand, unpinned(last), count);
-}
-
-/// A copy without pins.
-fn unpinned(last: u64) -> PinCopy {
-    PinCopy {
-        last,
-        ..PinCopy::none()
-    }
-}
-
-/// A copy with a settled pin.
-fn settled(last: u64, pin: u64) -> PinCopy {
-    let mut copy = unpinned(last);
-    copy.settled[0] = Some(pin);
-    copy
-}
-
-/// A copy with an unsettled pin.
-fn unsettled(last: u64, pin: u64) -> PinCopy {
-    let mut copy = unpinned(last);
-    copy.unsettled[15] = Some(pin);
-    copy
+pub(super) fn freed(rt: &impl Abort, hand: &mut Hand, copy: &PinCopy, count: u32) {
+    assert_eq!(rt; hand.recycle(copy), count, "by {copy:?}");
 }
 
 /// Tells `tools/refuse-each-growth` that a growth was refused.
@@ -162,69 +135,18 @@ fn tell_refused(rt: &impl Print) {
     let _ = println!(rt; "refused");
 }
 
-fn check_lives(rt: &impl Abort, hand: &mut Hand) {
+fn check_full(rt: &impl Abort, hand: &mut Hand) {
     let refused = GrantError::PoolEmpty {
         needed: 17,
         free: 16,
     };
     assert_eq!(rt; hand.grant(17), Some(refused));
-    granted(rt, hand, 2);
-    counts(rt, hand, 14, 2, 0);
-    hand.retire(1, 3);
-    counts(rt, hand, 14, 1, 1);
-    recycled(rt, hand, 2, 0);
-    recycled(rt, hand, 3, 1);
-    counts(rt, hand, 15, 1, 0);
-    hand.give_back();
     counts(rt, hand, 16, 0, 0);
 }
 
 #[test]
-fn counts_through_the_life_of_two_blocks(rt: HostRuntime) -> Result<(), Fail> {
-    check_lives(&rt, &mut Hand::new(rt.alloc())?);
-    Ok(())
-}
-
-fn check_last_numbers(rt: &impl Abort, hand: &mut Hand) {
-    granted(rt, hand, 4);
-    hand.retire(1, 3);
-    hand.retire(2, 9);
-    hand.retire(2, 3);
-    hand.retire(4, 5);
-    recycled(rt, hand, 2, 0);
-    recycled(rt, hand, 3, 2);
-    recycled(rt, hand, 4, 0);
-    recycled(rt, hand, 8, 1);
-    recycled(rt, hand, 8, 0);
-    recycled(rt, hand, u64::MAX, 1);
-    counts(rt, hand, 16, 0, 0);
-}
-
-#[test]
-fn recycles_up_to_the_last_number_without_pins(rt: HostRuntime) -> Result<(), Fail> {
-    check_last_numbers(&rt, &mut Hand::new(rt.alloc())?);
-    Ok(())
-}
-
-fn check_pins(rt: &impl Abort, hand: &mut Hand) {
-    granted(rt, hand, 4);
-    hand.retire(1, 3);
-    hand.retire(2, 5);
-    hand.retire(4, 6);
-    hand.retire(8, 9);
-    freed(rt, hand, settled(8, 3), 2);
-    freed(rt, hand, settled(8, 4), 0);
-    freed(rt, hand, unsettled(9, 4), 0);
-    freed(rt, hand, unsettled(9, 5), 1);
-    freed(rt, hand, settled(9, 8), 0);
-    freed(rt, hand, settled(9, 9), 1);
-    counts(rt, hand, 16, 0, 0);
-}
-
-/// A settled pin keeps what was born at most with it and retired after it, and an unsettled one all that was retired after it.
-#[test]
-fn recycles_what_no_pin_needs(rt: HostRuntime) -> Result<(), Fail> {
-    check_pins(&rt, &mut Hand::new(rt.alloc())?);
+fn grants_no_more_blocks_than_there_are(rt: HostRuntime) -> Result<(), Fail> {
+    check_full(&rt, &mut Hand::new(rt.alloc())?);
     Ok(())
 }
 
@@ -270,15 +192,9 @@ fn check_exchange(rt: &impl Abort, alloc: Global, hand: &mut Hand) {
     assert_eq!(rt; hand.first().map(|block| block.len()), Some(1));
 }
 
+/// A block that was then retired and recycled is granted as it was, too, after those that were free before.
 #[test]
 fn grants_the_very_block_that_was_given_back(rt: HostRuntime) -> Result<(), Fail> {
-    check_exchange(&rt, rt.alloc(), &mut Hand::new(rt.alloc())?);
-    Ok(())
-}
-
-/// A block that was retired and recycled is granted as it was, after those that were free before.
-#[test]
-fn grants_the_very_block_that_was_retired(rt: HostRuntime) -> Result<(), Fail> {
     check_retired(&rt, rt.alloc(), &mut Hand::new(rt.alloc())?);
     Ok(())
 }
@@ -286,7 +202,11 @@ fn grants_the_very_block_that_was_retired(rt: HostRuntime) -> Result<(), Fail> {
 fn check_retired(rt: &impl Abort, alloc: Global, hand: &mut Hand) {
     check_exchange(rt, alloc, hand);
     hand.retire(1, 2);
-    recycled(rt, hand, 2, 1);
+    let copy = PinCopy {
+        last: 2,
+        ..PinCopy::none()
+    };
+    freed(rt, hand, &copy, 1);
     granted(rt, hand, 16);
     assert_eq!(rt; hand.first().map(|block| block.len()), Some(0));
     assert_eq!(rt; hand.last().map(|block| block.len()), Some(1));
@@ -307,17 +227,13 @@ fn pool_counts(rt: &impl Abort, pool: &Pool, free: u32, used: u32) {
     assert_eq!(rt; (pool.free(), pool.used(), pool.retired()), (free, used, 0));
 }
 
-#[test]
-fn refused_new(rt: HostRuntime) {
-    pool_counts(&rt, &new_pool(&rt, rt.alloc()), 16, 0);
-}
-
 fn lengths(grant: Result<Grant, GrantError>) -> Result<(usize, usize), GrantError> {
     let Grant { numbers, blocks } = grant?;
     Ok((numbers.len(), blocks.len()))
 }
 
 fn check_grant(rt: &(impl Abort + Print), pool: &mut Pool) {
+    pool_counts(rt, pool, 16, 0);
     let mut granted = lengths(pool.grant(4));
     if granted.is_err() {
         tell_refused(rt);
@@ -329,6 +245,6 @@ fn check_grant(rt: &(impl Abort + Print), pool: &mut Pool) {
 }
 
 #[test]
-fn refused_grant(rt: HostRuntime) {
+fn refused_new_and_grant(rt: HostRuntime) {
     check_grant(&rt, &mut new_pool(&rt, rt.alloc()));
 }
