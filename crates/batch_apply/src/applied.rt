@@ -65,8 +65,7 @@ pub fn apply<R: Threads + Sync, G: Gate + Sync>(
     requires unlisted { All (λ n. is_in n (rows.numbers_of (rows.blocks_of version.now.rows)) ≡ false) (numbers_of blocks.items) }
     ensures { IfOk result (IsApplied version.now (batch_value batch) (numbers_of blocks.items)) }
 {
-    // A version's contract says with its number that its rows show its content.
-    let _number = version.number();
+    version.facts();
     let Plan {
         names,
         kinds,

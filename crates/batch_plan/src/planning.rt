@@ -44,8 +44,7 @@ pub fn plan(
     ensures limits { OnOk result (MeetsNeitherLimit batch.now (content version.now)) }
     ensures refused { IfErr result (λ error. IsPlanRefusal error batch.now (content version.now)) }
 {
-    // (what is true of every version)
-    let _number = version.number();
+    version.facts();
     let mut names = version.names().share()?;
     let mut kinds = version.kinds().share()?;
     let ops = resolve_batch(alloc, &mut names, &mut kinds, batch.ops())?;

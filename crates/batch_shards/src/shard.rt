@@ -490,8 +490,7 @@ pub fn work_on(alloc: Global, version: &Version, shard: Shard) -> Result<ShardDo
         steps,
         mut fresh,
     } = shard;
-    // A version's contract says with its number that its rows are rows of blocks.
-    let _number = version.number();
+    version.facts();
     let groups = group_steps(alloc, sources.len(), steps.as_slice())?;
     let mut done = none_done(alloc, sources.len(), steps.as_slice())?;
     for row in 0..sources.len() {

@@ -104,6 +104,13 @@ impl Version {
         self.batches.len() as u64
     }
 
+    /// What is true of every version, for a proof that cites it. It does nothing.
+    pub fn facts(&self)
+        ensures { IsVersion self.now }
+    {
+        let _ = &self.rows;
+    }
+
     /// Lends the batches, the first one first.
     pub fn batches(&self) -> BatchIter<'_>
         ensures { batches_left result ≡ self.now.batches }

@@ -200,8 +200,7 @@ impl ShelfWriter {
         ensures shown { (self.new.shown ≡ self.old.shown) ⊎ (self.new.shown ≡ self.new.posted) }
         ensures same { (self.new.book ≡ self.old.book) × (self.new.opening ≡ self.old.opening) }
     {
-        // A version's contract says with its number that it has at most 65,536 batches.
-        let _number = version.number();
+        version.facts();
         let copy = Arc::try_clone(&version)?;
         let Some(batch) = version.last_batch() else {
             unreachable!()

@@ -44,7 +44,7 @@ finish_counted-requires-clause-whole g c =
     (version_made v ops c.requires.plan.0 c.args.plan.shards.items c.args.plan.needs.items c.in_ok-jobs.jobs.items
     c.in_ok-dones.dones.items
     (numbers_of c.args.blocks.items) (numbers_of c.deal.new.blocks.items)
-    c.requires.plan.1 c.number-number.ensures.version c.requires.plan.2.shards c.requires.plan.2.needs
+    c.requires.plan.1 c.facts.ensures c.requires.plan.2.shards c.requires.plan.2.needs
     (subst (λ ns. AllZip IsDealt (zip c.args.plan.shards.items ns) c.in_ok-jobs.jobs.items) c.as_slice.ensures.value
     c.in_ok-jobs.ensures.jobs) c.in_ok-dones.ensures
     c.in_ok-jobs.ensures.numbers
@@ -71,7 +71,7 @@ finish_counted-requires-clause-edges g c =
     ∙ outcomes_made v ops c.requires.plan.0 c.args.plan.shards.items c.args.plan.needs.items c.in_ok-jobs.jobs.items
     c.in_ok-dones.dones.items
     (numbers_of c.args.blocks.items) (numbers_of c.deal.new.blocks.items)
-    c.requires.plan.1 c.number-number.ensures.version c.requires.plan.2.shards c.requires.plan.2.needs
+    c.requires.plan.1 c.facts.ensures c.requires.plan.2.shards c.requires.plan.2.needs
     (subst (λ ns. AllZip IsDealt (zip c.args.plan.shards.items ns) c.in_ok-jobs.jobs.items) c.as_slice.ensures.value
     c.in_ok-jobs.ensures.jobs) c.in_ok-dones.ensures
     c.in_ok-jobs.ensures.numbers
@@ -99,7 +99,7 @@ returns g c =
     applied_made v ops c.requires.plan.0 c.args.plan.shards.items c.args.plan.needs.items c.in_ok-jobs.jobs.items
     c.in_ok-dones.dones.items
     (numbers_of c.args.blocks.items) (numbers_of c.deal.new.blocks.items)
-    c.requires.plan.1 c.number-number.ensures.version c.requires.plan.2.shards c.requires.plan.2.needs
+    c.requires.plan.1 c.facts.ensures c.requires.plan.2.shards c.requires.plan.2.needs
     (subst (λ ns. AllZip IsDealt (zip c.args.plan.shards.items ns) c.in_ok-jobs.jobs.items) c.as_slice.ensures.value
     c.in_ok-jobs.ensures.jobs) c.in_ok-dones.ensures
     c.in_ok-jobs.ensures.numbers

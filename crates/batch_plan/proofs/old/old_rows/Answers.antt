@@ -42,5 +42,5 @@ returns c =
     c.len-number-end.ensures.value ∙ ap (λ (b : Book). length b.names) c.names.ensures in
     subst (λ (t : ℕ). AreOldRows t rows c.loop-number.found.items) same
     (found_all time rows c.loop-number.number c.loop-number.found.items c.loop-number.invariant (λ s old.
-    let within = old_is_within c.args.version.now c.number-number.ensures.version time s old in
+    let within = old_is_within c.args.version.now c.facts.ensures time s old in
     omega (arith, within, names, c.loop-number-test.false)))

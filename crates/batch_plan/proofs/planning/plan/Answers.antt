@@ -21,7 +21,7 @@ shards_for-requires-clause-few c =
     subst (λ (found : List ResolvedOp). length found ≤ 4096) (sym c.as_slice.ensures.value) few
 
 pub shards_for-requires-clause-few_old : goal.shards_for-requires-clause-few_old
-shards_for-requires-clause-few_old c = few_old_rows c.args.version.now c.number-number.ensures.version
+shards_for-requires-clause-few_old c = few_old_rows c.args.version.now c.facts.ensures
     (expiry_time c.args.batch.now) c.args.old.now c.requires.old
 
 pub shards_for-requires-clause-old : goal.shards_for-requires-clause-old
@@ -62,5 +62,5 @@ returns-clause-plan c =
           ∙ ap (λ (os : List NamedOp). with_names c.in_ok-kinds.kinds (kinds_all os c.in_ok-kinds.kinds.names)) same);
       shards = subst (λ (os : List Resolved). AllZip (IsShardOf c.args.workers os (layout_by rows))
           (range_with_len 0 c.args.workers) shards) resolved_are zip;
-      needs = c.in_ok-shards.ensures.needs rows are ∙ exact_needs v c.number-number.ensures.version c.args.workers rs shards few zip;
+      needs = c.in_ok-shards.ensures.needs rows are ∙ exact_needs v c.facts.ensures c.args.workers rs shards few zip;
     }

@@ -59,7 +59,7 @@ returns c =
     length-map c.args.shard.sources.items (λ (s : VertexId). s.0) in
     let last : c.loop-row.row ≡ length (sources_in c.args.shard) =
     omega (arith, c.loop-row.auto.row-end, c.loop-row-test.false, c.len-row-end.ensures, c.args.shard.sources.ok.0, long) in
-    finish v c.args.shard c.loop-row.done _ c.loop-row.fresh.items c.number-number.ensures.version.rows.blocks
+    finish v c.args.shard c.loop-row.done _ c.loop-row.fresh.items c.facts.ensures.rows.blocks
     (subst (λ n. AreSteps n c.args.shard.steps.items) (sym long) c.requires.steps)
     (subst (λ n. AreRowsDone v (sources_in c.args.shard) c.args.shard.steps.items (numbers_of c.args.shard.fresh.items) n
     c.loop-row.fresh.items c.loop-row.done) last c.loop-row.invariant.done)
