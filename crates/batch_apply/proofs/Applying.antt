@@ -25,12 +25,14 @@ use Rattle.graph_version.proofs.Few.{few_total}
 use Rattle.batch_plan.specs.{Shards.IsShardOf, Planned.MeetsNeitherLimit}
 use Rattle.batch_apply.specs.{Plans.written_all, Sums.ArePlanned, declared.applied.Applied.Applied, declared.workers.Job.Job}
 use Rattle.batch_apply.specs.Applied.{IsApplied, ReplacesRows, row_among, written_from}
+use Rattle.batch_plan.proofs.Resolving.{as_many_resolved}
+use Rattle.batch_shards.proofs.Places.{count_by-append}
 use Rattle.batch_apply.proofs.{Told.told_exact, Written.all_written, Written.all_sources, Placed.times, Placed.among_is}
 use Rattle.batch_apply.proofs.Together.{all_once, all_within, once, quiet_layout, batch_totals, outcomes_over}
 use Rattle.batch_apply.proofs.{Together.quiet_row, Together.births_sum, Together.together_at, Numbers.numbers_once}
-use Rattle.batch_apply.proofs.{Kept.count_append, Kept.pairs, Kept.exchanged_all, Left.outcomes_left}
+use Rattle.batch_apply.proofs.{Kept.pairs, Kept.exchanged_all, Left.outcomes_left}
 use Rattle.batch_apply.specs.Jobs.{IsDealt, AreDone}
-use Rattle.batch_apply.proofs.Dealt.{length-resolved, shards_in, needs_of, dealt_planned, done_in, fresh_in}
+use Rattle.batch_apply.proofs.Dealt.{shards_in, needs_of, dealt_planned, done_in, fresh_in}
 use Rattle.batch_apply.proofs.BirthCounts.{map_same, untouched_births, untouched_dropped, count_births, count_pieces, count_lists}
 use Rattle.batch_apply.proofs.Left.{length_flat, sum_each, rows_left, taken_left, dropped_left, unused_left, fresh_all}
 use Rattle.batch_apply.proofs.Left.{sources_left, blocks_left, exchanged_left, handed_left, layouts_left, births_left}
@@ -179,7 +181,7 @@ module _ (v : VersionView) (ops : List NamedOp) (workers : ℕ) (positive : 0 < 
           (range_with_len 0 workers) shards planned ∙ length-range_with_len 0 workers in
           outcomes_left (row_of v.rows) workers ops g (layout_of v.rows) 0 workers shards dones planned done
           (replicate (length ops) Absent)
-          ∙ ap (λ (n : ℕ). written_all workers 0 lists rs rows (replicate n Absent)) (sym (length-resolved ops g.names g.kinds))
+          ∙ ap (λ (n : ℕ). written_all workers 0 lists rs rows (replicate n Absent)) (sym (as_many_resolved ops g.names g.kinds))
           ∙ all_written workers positive lists many rs rows
           ∙ ap (λ (xs : List ℕ). map told (outcomes_all xs rs rows)) (all_shards shards)
           ∙ ap (map told) (outcomes_over workers ops g (layout_of v.rows) positive shards planned is.within is.rows.layout
@@ -209,7 +211,7 @@ module _ (v : VersionView) (ops : List NamedOp) (workers : ℕ) (positive : 0 < 
                 (let one = handed q in
                 let two = handed_left (row_of v.rows) shards dones done q in
                 let t = ap (count_by q) taken in
-                let u = ap (count_by q) unused ∙ count_append q rest (unused_left dones) in
+                let u = ap (count_by q) unused ∙ count_by-append q rest (unused_left dones) in
                 omega (arith, one, two, t, u));
             layout = λ s. ap (λ (w : VersionView). layout_of w.rows s) ver ∙ layout_next s;
             births = record {

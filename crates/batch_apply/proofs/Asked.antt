@@ -3,7 +3,8 @@
 use Rattle.std.proofs.Common.{◌≡◌, ℕ, zero, suc, ◌+◌, ◌<◌, ◌≤◌, ◌==◌, ◌||◌, Bool, true, false, cond, not, List, [], ◌∷◌}
 use Rattle.std.proofs.Common.{length, map, flat_map, count_by, max, refl, sym, ap, ap₂, ◌∙◌, arith, Option, All}
 use Rattle.std.specs.List.{sum_by, range_with_len, AllZip, list_any}
-use Rattle.std.proofs.lemmas.{Bool.eqb-true, Bool.true≢false, Bool.le-ltb, List.Elements.All-nil, List.Elements.All-cons}
+use Rattle.std.proofs.lemmas.Bool.{eqb-true, ne_eqb, true≢false, le-ltb}
+use Rattle.std.proofs.lemmas.List.Elements.{All-nil, All-cons}
 use Rattle.std.proofs.lemmas.List.Sums.{sum_by-cons, sum_by-append, count_by-le-length}
 use Rattle.graph_model.specs.{Graph.Graph, Graph.Key, Step.is_before, Step.is_expire}
 use Rattle.graph_model.specs.declared.{batches.NamedOp.NamedOp, changes.EdgeChange.EdgeChange}
@@ -18,9 +19,10 @@ use Rattle.batch_shards.specs.declared.shard.Act.TheVariants as act
 use Rattle.batch_shards.specs.declared.shard.{Shard.Shard, Step.Step}
 use Rattle.batch_plan.specs.{Planned.IsPlan, Shards.acts, Shards.unsourced, Shards.latest, Shards.IsShardOf}
 use Rattle.batch_plan.specs.declared.plans.Plan.{Plan}
-use Rattle.batch_plan.proofs.{Growth.other_number, Listing.same_latest}
-use Rattle.batch_apply.proofs.{Totals.count_more, Together.all_once, Placed.times, Kept.sum_lists, Kept.split_rows}
-use Rattle.batch_apply.proofs.Dealt.{length-resolved, needs_of}
+use Rattle.batch_plan.proofs.{Listing.same_latest, Resolving.as_many_resolved}
+use Rattle.batch_shards.proofs.Closed.{count_more}
+use Rattle.batch_apply.proofs.{Together.all_once, Placed.times, Kept.sum_lists, Kept.split_rows}
+use Rattle.batch_apply.proofs.Dealt.{needs_of}
 
 -- Operations on edges, each of which is in one shard
 
@@ -60,7 +62,7 @@ hits_past : (m a k : ℕ) → m < a → hits m a k ≡ 0
 hits_past m a zero lt = refl
 hits_past m a (suc k) lt =
     let c = sum_by-cons (λ w. cond {A = ℕ} (m == w) 1 0) a (range_with_len (a + 1) k) in
-    let no : (let n : ℕ = cond (m == a) 1 0 in n) ≡ 0 = ap (λ b. cond b 1 0) (other_number m a (λ e. omega (arith, e, lt))) in
+    let no : (let n : ℕ = cond (m == a) 1 0 in n) ≡ 0 = ap (λ b. cond b 1 0) (ne_eqb m a (λ e. omega (arith, e, lt))) in
     omega (arith, c, no, hits_past m (a + 1) k (omega (arith, lt)))
 
 hits_few : (m a k : ℕ) → hits m a k ≤ 1
@@ -216,7 +218,7 @@ module _ (workers : ℕ) (ops : List NamedOp) (g : Graph) (rows : List (List Blo
       let all : sum_by (λ n. n) plan.needs.items ≡ in_shards workers rs 0 workers + sum_by old (flat_map sources_in shards) =
       ap (sum_by (λ n. n)) is.needs ∙ sum_map (needs_of (row_of rows)) shards ∙ sum_needs 0 workers shards is.shards in
       let edges : in_shards workers rs 0 workers ≤ length ops =
-      omega (arith, few_edges workers rs 0 workers, length-resolved ops g.names g.kinds) in
+      omega (arith, few_edges workers rs 0 workers, as_many_resolved ops g.names g.kinds) in
       elim (list_any is_expire ops) as (λ b. list_any is_expire ops ≡ b
       → sum_by (λ n. n) plan.needs.items ≤ length ops + cond b (length (blocks_of rows)) 0) [
         | true ↦ λ t. omega (

@@ -8,7 +8,7 @@ use Rattle.edge_block.specs.Slots.{BlockView}
 use Rattle.block_layout.specs.{Rows.Shape, Rows.shape_of, Rows.untouched, Batches.sum_below}
 use Rattle.batch_shards.specs.Births.{births_end, births_dropped, later_births, open_row, dropped_births}
 use Rattle.graph_version.specs.Versions.{is_in}
-use Rattle.batch_apply.proofs.Kept.{count_append}
+use Rattle.batch_shards.proofs.Places.{count_by-append}
 
 -- Births
 
@@ -45,19 +45,19 @@ pub count_births : (q : ℕ → Bool) (ops : List NamedOp) (g : Graph) (layout :
     ≡ sum_below n (λ source. count_by q (births_dropped (open_row ops g layout source) (births source)))
 count_births q ops g layout births zero = refl
 count_births q ops g layout births (suc n) =
-    count_append q (births_dropped (open_row ops g layout n) (births n)) (dropped_births ops g layout births n)
+    count_by-append q (births_dropped (open_row ops g layout n) (births n)) (dropped_births ops g layout births n)
     ∙ ap (λ k. count_by q (births_dropped (open_row ops g layout n) (births n)) + k) (count_births q ops g layout births n)
 
 pub count_pieces : {A : Type 0} (q : ℕ → Bool) (f : BlockView → ℕ) (pieces : A → List BlockView) (xs : List A)
     → count_by q (map f (flat_map pieces xs)) ≡ sum_by (λ x. count_by q (map f (pieces x))) xs
 count_pieces q f pieces [] = refl
 count_pieces q f pieces (x ∷ xs) =
-    ap (count_by q) (map-append f (pieces x) (flat_map pieces xs)) ∙ count_append q (map f (pieces x)) (map f (flat_map pieces xs))
+    ap (count_by q) (map-append f (pieces x) (flat_map pieces xs)) ∙ count_by-append q (map f (pieces x)) (map f (flat_map pieces xs))
     ∙ ap (λ k. count_by q (map f (pieces x)) + k) (count_pieces q f pieces xs)
     ∙ sym (sum_by-cons (λ x. count_by q (map f (pieces x))) x xs)
 
 pub count_lists : (q : ℕ → Bool) (h : ℕ → List ℕ) (xs : List ℕ) → count_by q (flat_map h xs) ≡ sum_by (λ s. count_by q (h s)) xs
 count_lists q h [] = refl
 count_lists q h (x ∷ xs) =
-    count_append q (h x) (flat_map h xs) ∙ ap (λ k. count_by q (h x) + k) (count_lists q h xs)
+    count_by-append q (h x) (flat_map h xs) ∙ ap (λ k. count_by q (h x) + k) (count_lists q h xs)
     ∙ sym (sum_by-cons (λ s. count_by q (h s)) x xs)

@@ -2,19 +2,17 @@
 use Rattle.std.proofs.Common.{◌≡◌, ◌≢◌, ℕ, zero, suc, ◌+◌, ◌<◌, ◌≤◌, ◌==◌, Bool, true, false, cond, List, [], ◌∷◌, ◌++◌, length}
 use Rattle.std.proofs.Common.{get_or, map, flat_map, count_by, refl, sym, ap, ap₂, ◌∙◌, arith, subst, All, AllPairs}
 use Rattle.std.specs.List.{sum_by}
-use Rattle.std.proofs.lemmas.Bool.{eqb-true}
-use Rattle.std.proofs.lemmas.List.{Sums.sum_by-cons, Sums.sum_by-append, Elements.All-head, Elements.All-tail}
+use Rattle.std.proofs.lemmas.Bool.{eq-eqb, eqb-true, ne_eqb}
+use Rattle.std.proofs.lemmas.List.{Sums.sum_by-cons, Elements.All-head, Elements.All-tail}
 use Rattle.edge_block.specs.Slots.{BlockView}
 use Rattle.block_layout.specs.Batches.{sum_below}
 use Rattle.row_pages.specs.Rows.{row_of, blocks_of}
 use Rattle.batch_shards.specs.Done.{Exchanges}
-use Rattle.batch_plan.proofs.Growth.{same_number, other_number}
+use Rattle.batch_shards.proofs.Places.{count_by-append}
+use Rattle.batch_shards.proofs.Closed.{count_more}
 use Rattle.batch_apply.specs.Applied.{row_among}
-use Rattle.batch_apply.proofs.Totals.{count_more, sum_all}
+use Rattle.batch_apply.proofs.Totals.{sum_all}
 use Rattle.batch_apply.proofs.Placed.{times, sources_of, among_none, among_all}
-
-pub count_append : {A : Type 0} (p : A → Bool) (xs ys : List A) → count_by p (xs ++ ys) ≡ count_by p xs + count_by p ys
-count_append p xs ys = sum_by-append (λ x. cond (p x) 1 0) xs ys
 
 -- Sums below a number
 
@@ -38,7 +36,7 @@ lists_below (suc n) h = h n ++ lists_below n h
 count_below : {A : Type 0} (p : A → Bool) (n : ℕ) (h : ℕ → List A)
     → count_by p (lists_below n h) ≡ sum_below n (λ s. count_by p (h s))
 count_below p zero h = refl
-count_below p (suc n) h = count_append p (h n) (lists_below n h) ∙ ap (λ k. count_by p (h n) + k) (count_below p n h)
+count_below p (suc n) h = count_by-append p (h n) (lists_below n h) ∙ ap (λ k. count_by p (h n) + k) (count_below p n h)
 
 same_below : {A : Type 0} (n : ℕ) (h g : ℕ → List A) → ((s : ℕ) → h s ≡ g s) → lists_below n h ≡ lists_below n g
 same_below zero h g each = refl
@@ -49,7 +47,7 @@ rows_below : (p : BlockView → Bool) (rows : List (List BlockView)) (n : ℕ) �
 rows_below p [] n le = sym (below_zero n)
 rows_below p (row ∷ rows) zero le = absurd (omega arith)
 rows_below p (row ∷ rows) (suc n) le =
-    count_append p row (blocks_of rows) ∙ ap (λ k. count_by p row + k) (rows_below p rows n (omega arith))
+    count_by-append p row (blocks_of rows) ∙ ap (λ k. count_by p row + k) (rows_below p rows n (omega arith))
     ∙ sym (shift n (λ s. count_by p (row_of (row ∷ rows) s)))
 
 -- Listed sources
@@ -58,7 +56,7 @@ pub some_times : (xs : List ℕ) (i d : ℕ) → i < length xs → 1 ≤ times (
 some_times [] i d lt = absurd (omega arith)
 some_times (x ∷ xs) zero d lt =
     let c = count_more (λ y. y == x) x xs in
-    let yes : (let k : ℕ = cond (x == x) 1 0 in k) ≡ 1 = ap (λ b. cond b 1 0) (same_number x) in
+    let yes : (let k : ℕ = cond (x == x) 1 0 in k) ≡ 1 = ap (λ b. cond b 1 0) (eq-eqb x x refl) in
     omega arith
 some_times (x ∷ xs) (suc i) d lt =
     let c = count_more (λ y. y == get_or xs i d) x xs in
@@ -76,7 +74,7 @@ pub sum_lists : {A : Type 0} (p : A → Bool) (h : ℕ → List A) (xs : List �
 sum_lists p h [] = refl
 sum_lists p h (x ∷ xs) =
     sum_by-cons (λ s. count_by p (h s)) x xs ∙ ap (λ k. count_by p (h x) + k) (sum_lists p h xs)
-    ∙ sym (count_append p (h x) (flat_map h xs))
+    ∙ sym (count_by-append p (h x) (flat_map h xs))
 
 -- the rows of the sources that aren't listed
 abbrev others : List ℕ → (ℕ → List BlockView) → ℕ → List BlockView
@@ -103,7 +101,7 @@ module _ (xs : List ℕ) (once : (m : ℕ) → times m xs ≤ 1) where
       sum_all w n xs once within (λ m lt none. ap (λ k. let r : ℕ = cond (k == 0) 0 (f m) in r) none) in
       let own : sum_by w xs ≡ sum_by f xs = sum_same w f xs
       (λ i d lt. ap (λ b. let r : ℕ = cond b 0 (f (get_or xs i d)) in r)
-      (other_number (times (get_or xs i d) xs) 0 (λ e. let some = some_times xs i d lt in omega (arith, some, e)))) in
+      (ne_eqb (times (get_or xs i d) xs) 0 (λ e. let some = some_times xs i d lt in omega (arith, some, e)))) in
       let pieces = sum_lists p (row_of rows) xs in
       omega (arith, all, parts, rest, listed, own, pieces)
 
@@ -147,12 +145,12 @@ module _ (xs : List ℕ) (rows : List (ℕ × List BlockView)) (before after : L
     before_are = λ p.
         let a = split_rows xs once p before bound (omega arith) (bounded k bound xs (omega arith) within) in
         let b = e.before_are p in
-        let c = count_append p rest e.kept in
+        let c = count_by-append p rest e.kept in
         omega (arith, a, b, c);
     after_are = λ p.
         let a = split_rows xs once p after bound (omega arith) (bounded k bound xs (omega arith) within) in
         let b = e.after_are p in
-        let c = count_append p rest e.kept in
+        let c = count_by-append p rest e.kept in
         let d = ap (count_by p) same_rest in
         let f = ap (count_by p) new_rows in
         omega (arith, a, b, c, d, f);
@@ -166,7 +164,7 @@ pairs (x ∷ xs) once zero zero d lt within e = absurd (omega arith)
 pairs (x ∷ xs) once zero (suc j) d lt within e =
     let some = some_times xs j d (omega arith) in
     let c = count_more (λ y. y == x) x xs in
-    let yes : (let k : ℕ = cond (x == x) 1 0 in k) ≡ 1 = ap (λ b. cond b 1 0) (same_number x) in
+    let yes : (let k : ℕ = cond (x == x) 1 0 in k) ≡ 1 = ap (λ b. cond b 1 0) (eq-eqb x x refl) in
     let one = once x in
     let same : times x xs ≡ times (get_or xs j d) xs = ap (λ m. times m xs) e in
     absurd (omega (arith, some, c, yes, one, same))

@@ -14,8 +14,9 @@ use Rattle.batch_shards.specs.declared.shard.{Shard.Shard, ShardDone.ShardDone}
 use Rattle.graph_version.specs.Versions.{IsBlockOf, is_in}
 use Rattle.batch_plan.specs.Shards.{IsShardOf}
 use Rattle.batch_apply.specs.{Plans.written, Plans.written_all, Applied.written_from}
+use Rattle.batch_shards.proofs.Places.{count_by-append}
 use Rattle.batch_apply.proofs.{Together.shard_outcomes_at, Together.shard_layout_at, Together.shard_births_at, Placed.sources_of}
-use Rattle.batch_apply.proofs.{Kept.count_append, BirthCounts.in_left, BirthCounts.in_right}
+use Rattle.batch_apply.proofs.{BirthCounts.in_left, BirthCounts.in_right}
 
 -- What shards leave, one after another
 
@@ -53,15 +54,15 @@ both_exchanged b c b' c' t t' d d' e e' = record {
   fresh = e.fresh ++ e'.fresh;
   taken_are = map-append (λ (b : BlockView). b.number) e.fresh e'.fresh ∙ ap₂ (λ x y. x ++ y) e.taken_are e'.taken_are;
   before_are = λ p.
-      omega (arith, e.before_are p, e'.before_are p, count_append p e.kept e'.kept, count_append p d d', count_append p b b');
+      omega (arith, e.before_are p, e'.before_are p, count_by-append p e.kept e'.kept, count_by-append p d d', count_by-append p b b');
   after_are = λ p.
       omega (
         arith,
         e.after_are p,
         e'.after_are p,
-        count_append p e.kept e'.kept,
-        count_append p e.fresh e'.fresh,
-        count_append p c c',
+        count_by-append p e.kept e'.kept,
+        count_by-append p e.fresh e'.fresh,
+        count_by-append p c c',
       );
 }
 
@@ -111,9 +112,9 @@ module _ (before : ℕ → List BlockView) where
         arith,
         z.0.handed q,
         handed_left shards dones z.1 q,
-        count_append q d.left.taken.items (taken_left dones),
-        count_append q (numbers_of d.left.unused.items) (unused_left dones),
-        count_append q (numbers_of s.fresh.items) (fresh_all shards),
+        count_by-append q d.left.taken.items (taken_left dones),
+        count_by-append q (numbers_of d.left.unused.items) (unused_left dones),
+        count_by-append q (numbers_of s.fresh.items) (fresh_all shards),
       )
 
   module _ (workers : ℕ) (ops : List NamedOp) (g : Graph) (layout : ℕ → List Shape) where

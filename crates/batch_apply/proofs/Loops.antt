@@ -1,8 +1,8 @@
 -- What loops have done, with one more.
-use Rattle.std.proofs.Common.{◌≡◌, ℕ, zero, suc, ◌+◌, ◌≤◌, ◌==◌, Bool, cond, List, [], ◌∷◌, ◌++◌, length, flat_map, get_or}
+use Rattle.std.proofs.Common.{◌≡◌, ℕ, ◌+◌, ◌≤◌, ◌==◌, Bool, cond, List, [], ◌∷◌, ◌++◌, length, get_or}
 use Rattle.std.proofs.Common.{count_by, set, take, drop, refl, sym, ap, ◌∙◌}
 use Rattle.std.specs.declared.{sync.Arc.Arc, alloc.Global.Global, vec.Vec.Vec}
-use Rattle.std.proofs.lemmas.{List.map-append, List.set_past, Grind.flat_map-append}
+use Rattle.std.proofs.lemmas.List.{map-append, set_past, take-append-drop}
 use Rattle.graph_model.specs.declared.{ids.VertexId.VertexId, batches.Outcome.Outcome, batches.Outcome.TheVariants.Absent}
 use Rattle.edge_block.specs.declared.blocks.Block.{Block}
 use Rattle.row_pages.specs.Rows.{row_of}
@@ -11,7 +11,8 @@ use Rattle.batch_shards.specs.declared.shard.ShardDone.{ShardDone}
 use Rattle.graph_version.specs.Drafts.{DraftView, ReplacesRow}
 use Rattle.block_layout.specs.Batches.{together}
 use Rattle.batch_apply.specs.{Plans.written, Applied.ReplacesRows, Applied.written_from, Applied.row_among}
-use Rattle.batch_apply.proofs.{Halves.cut, Kept.count_append, Placed.among_more}
+use Rattle.batch_shards.proofs.Places.{count_by-append}
+use Rattle.batch_apply.proofs.{Placed.among_more}
 
 pub written_more : (ps : List (ℕ × Outcome)) (p : ℕ × Outcome) (xs : List Outcome)
     → written (ps ++ p ∷ []) xs ≡ set (written ps xs) p.0 (told (together (get_or (written ps xs) p.0 Absent) p.1))
@@ -28,21 +29,14 @@ pub from_more : (ds : List ShardDone) (d : ShardDone) (xs : List Outcome)
 from_more [] d xs = refl
 from_more (x ∷ ds) d xs = from_more ds d (written x.outcomes.items xs)
 
-none_after : {A : Type 0} (xs : List A) → xs ++ [] ≡ xs
-none_after [] = refl
-none_after (x ∷ xs) = ap (λ l. x ∷ l) (none_after xs)
-
-pub flat_more : {X A : Type 0} (f : X → List A) (xs : List X) (x : X) → flat_map f (xs ++ x ∷ []) ≡ flat_map f xs ++ f x
-flat_more f xs x = flat_map-append f xs (x ∷ []) ∙ ap (λ l. flat_map f xs ++ l) (none_after (f x))
-
 -- the numbers of a list that is cut in two
 pub cut_numbers : (m : ℕ) (all low high : List (Arc Block Global)) → low ≡ take m all → high ≡ drop m all
     → (q : ℕ → Bool) → count_by q (numbers_of low) + count_by q (numbers_of high) ≡ count_by q (numbers_of all)
 cut_numbers m all low high a b q =
     (λ i. count_by q (numbers_of (a i)) + count_by q (numbers_of (b i)))
-    ∙ sym (count_append q (numbers_of (take m all)) (numbers_of (drop m all)))
+    ∙ sym (count_by-append q (numbers_of (take m all)) (numbers_of (drop m all)))
     ∙ sym (ap (count_by q) (map-append (λ (b : Arc Block Global). (block_of b).number) (take m all) (drop m all)))
-    ∙ ap (λ bs. count_by q (numbers_of bs)) (cut m all)
+    ∙ ap (λ bs. count_by q (numbers_of bs)) (take-append-drop m all)
 
 pub replaced_none : (draft : DraftView) → ReplacesRows [] draft draft
 replaced_none draft = record { rows_are = λ s. refl; rest = refl }

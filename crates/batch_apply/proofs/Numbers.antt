@@ -7,7 +7,8 @@ use Rattle.edge_block.specs.Slots.{BlockView}
 use Rattle.row_pages.specs.Rows as rows
 use Rattle.batch_shards.specs.Done.{Exchanges}
 use Rattle.graph_version.specs.Versions.{is_in}
-use Rattle.batch_apply.proofs.{Totals.count_more, Placed.times, Kept.count_map}
+use Rattle.batch_shards.proofs.Closed.{count_more}
+use Rattle.batch_apply.proofs.{Placed.times, Kept.count_map}
 
 -- Numbers
 

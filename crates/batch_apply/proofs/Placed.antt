@@ -1,11 +1,11 @@
 -- Rows that took the places of others.
 use Rattle.std.proofs.Common.{◌≡◌, ℕ, ◌≤◌, ◌==◌, true, false, cond, List, [], ◌∷◌, ◌++◌, map, flat_map, count_by}
 use Rattle.std.proofs.Common.{refl, sym, ap, ap₂, ◌∙◌, arith, subst, All}
-use Rattle.std.proofs.lemmas.{Bool.eqb-true, Bool.eqb-false, List.Elements.All-head, List.Elements.All-tail}
+use Rattle.std.proofs.lemmas.Bool.{eq-eqb, eqb-true, eqb-false, ne_eqb}
+use Rattle.std.proofs.lemmas.List.Elements.{All-head, All-tail}
 use Rattle.edge_block.specs.Slots.{BlockView}
-use Rattle.batch_plan.proofs.Growth.{same_number, other_number}
+use Rattle.batch_shards.proofs.Closed.{count_more}
 use Rattle.batch_apply.specs.Applied.{row_among}
-use Rattle.batch_apply.proofs.Totals.{count_more}
 
 abbrev pub times : ℕ → List ℕ → ℕ
 times m xs = count_by (λ x. x == m) xs
@@ -25,7 +25,7 @@ no_times : (source : ℕ) (r : ℕ × List BlockView) (rows : List (ℕ × List 
 no_times source r rows other none =
     let c = count_more (λ x. x == source) r.0 (sources_of rows) in
     let no : (let k : ℕ = cond (r.0 == source) 1 0 in k) ≡ 0 =
-    ap (λ b. cond b 1 0) (other_number r.0 source (λ e. eqb-false source r.0 other (sym e))) in
+    ap (λ b. cond b 1 0) (ne_eqb r.0 source (λ e. eqb-false source r.0 other (sym e))) in
     omega arith
 
 -- what is true of each row in the list, and of the source's row before where the list has none, is true of the source's row
@@ -48,7 +48,7 @@ among_none (r ∷ rows) source row none =
     elim (source == r.0) as (λ b. source == r.0 ≡ b → row_among rows source (cond b r.1 row) ≡ row) [
       | true ↦ λ t.
           let same : (let k : ℕ = cond (r.0 == source) 1 0 in k) ≡ 1 = ap (λ n. cond (r.0 == n) 1 0) (eqb-true source r.0 t)
-          ∙ ap (λ b. cond b 1 0) (same_number r.0) in
+          ∙ ap (λ b. cond b 1 0) (eq-eqb r.0 r.0 refl) in
           absurd (omega (arith, c, none, same))
       | false ↦ λ t. among_none rows source row (omega (arith, c, none))
     ] refl
@@ -59,9 +59,9 @@ pub among_all : (rows : List (ℕ × List BlockView)) (before : ℕ → List Blo
 among_all [] before once = refl
 among_all (r ∷ rows) before once =
     let c = count_more (λ x. x == r.0) r.0 (sources_of rows) in
-    let here : (let k : ℕ = cond (r.0 == r.0) 1 0 in k) ≡ 1 = ap (λ b. cond b 1 0) (same_number r.0) in
+    let here : (let k : ℕ = cond (r.0 == r.0) 1 0 in k) ≡ 1 = ap (λ b. cond b 1 0) (eq-eqb r.0 r.0 refl) in
     let none : times r.0 (sources_of rows) ≡ 0 = omega (arith, c, here, once r.0) in
     ap₂ (λ a b. a ++ b)
-    (ap (λ b. row_among rows r.0 (cond b r.1 (before r.0))) (same_number r.0) ∙ among_none rows r.0 r.1 none)
+    (ap (λ b. row_among rows r.0 (cond b r.1 (before r.0))) (eq-eqb r.0 r.0 refl) ∙ among_none rows r.0 r.1 none)
     (among_all rows (λ s. cond (s == r.0) r.1 (before s))
     (λ m. let more = count_more (λ x. x == m) r.0 (sources_of rows) in omega (arith, more, once m)))

@@ -3,8 +3,8 @@ use Rattle.std.proofs.Common.{◌≡◌, ℕ, zero, suc, ◌+◌, ◌%◌, ◌<�
 use Rattle.std.proofs.Common.{count_by, Bool, true, false, cond, refl, sym, ap, ap₂, ◌∙◌, arith, subst, Option, Some, None, All, max}
 use Rattle.std.specs.List.{sum_by, range_with_len, list_any}
 use Rattle.std.proofs.Math.Nat.{le-max_left, le-max_right}
-use Rattle.std.proofs.lemmas.Bool.{eqb-true, eqb-false, false_from_ne_true, true≢false, le-ltb, ltb-false}
-use Rattle.std.proofs.lemmas.List.{Sums.sum_by-cons, FromFn.sum_by-map-range_with_len_more}
+use Rattle.std.proofs.lemmas.Bool.{eq-eqb, eqb-true, false_from_ne_true, true≢false, le-ltb, ltb-false, or_parts}
+use Rattle.std.proofs.lemmas.List.{map-id, Sums.sum_by-cons, FromFn.sum_by-map-range_with_len_more}
 use Rattle.std.proofs.lemmas.List.Elements.{All-head, All-tail, All-cons, All-nil}
 use Rattle.graph_model.specs.{Step.is_before, declared.batches.Outcome.Outcome, declared.batches.Outcome.TheVariants.Expired}
 use Rattle.edge_block.specs.Slots.{Slot, edges_in, has_before, old_in, slots_since}
@@ -12,10 +12,8 @@ use Rattle.block_layout.specs.Rows.{Shape, OpenBlock, untouched, touch, expire_r
 use Rattle.block_layout.specs.Batches.{Resolved, AtKey, InAll, IsPlaced, key_is_of, shard_of, is_in_shard, shard_ops, sum_below}
 use Rattle.block_layout.specs.Batches.{rows_step, rows_all, row_step, key_outcome, outcomes_all}
 use Rattle.batch_plan.specs.Shards.{latest, is_old_row}
-use Rattle.batch_apply.proofs.Totals.{count_more, sum_all}
-
-abbrev times : ℕ → List ℕ → ℕ
-times m xs = count_by (λ x. x == m) xs
+use Rattle.batch_shards.proofs.Closed.{count_more}
+use Rattle.batch_apply.proofs.{Placed.times, Totals.sum_all}
 
 -- the operation leaves a source's row as it is, and takes no edge of it
 abbrev pub Spares : ℕ → List OpenBlock → Resolved → Type 0
@@ -40,10 +38,6 @@ rows_spared m (r ∷ rs) rows all = rows_spared m rs (rows_step r rows) (later_s
 
 -- Sums over all sources below a number
 
-same_numbers : (xs : List ℕ) → map (λ x. x) xs ≡ xs
-same_numbers [] = refl
-same_numbers (x ∷ xs) = ap (λ l. x ∷ l) (same_numbers xs)
-
 sum_range : (f : ℕ → ℕ) (n : ℕ) → sum_by f (range_with_len 0 n) ≡ sum_below n f
 sum_range f zero = refl
 sum_range f (suc n) =
@@ -51,9 +45,9 @@ sum_range f (suc n) =
     let more = sum_by-map-range_with_len_more f (λ (x : ℕ). x) 0 n n (omega arith) in
     let rest = sum_range f n in
     let a : sum_by f (range_with_len 0 (n + 1)) ≡ sum_by f (map (λ (x : ℕ). x) (range_with_len 0 (n + 1))) =
-    ap (sum_by f) (sym (same_numbers (range_with_len 0 (n + 1)))) in
+    ap (sum_by f) (sym (map-id (range_with_len 0 (n + 1)))) in
     let b : sum_by f (map (λ (x : ℕ). x) (range_with_len 0 n)) ≡ sum_by f (range_with_len 0 n) =
-    ap (sum_by f) (same_numbers (range_with_len 0 n)) in
+    ap (sum_by f) (map-id (range_with_len 0 n)) in
     ap (λ (k : ℕ). sum_by f (range_with_len 0 k)) next ∙ omega (arith, more, rest, a, b)
 
 -- outcomes over different sources below n are those over all sources below n, where the others are spared
@@ -93,15 +87,11 @@ up_to (AtKey of key change ∷ rs) = All-cons (IsUpTo (max 0 (latest rs))) (AtKe
 up_to (InAll time ∷ rs) = All-cons (IsUpTo (max time (latest rs))) (InAll time) rs (le-max_left time (latest rs))
     (all_higher (latest rs) (max time (latest rs)) (le-max_right time (latest rs)) rs (up_to rs))
 
-or_false : (a b : Bool) → (a || b) ≡ false → (a ≡ false) × (b ≡ false)
-or_false true b e = absurd (true≢false e)
-or_false false b e = (refl, e)
-
 none_since : (most time : ℕ) → time ≤ most → (es : List Slot) → list_any (λ e. is_before most e.stamp) es ≡ false
     → (list_any (λ e. is_before time e.stamp) es ≡ false) × (count_by (λ e. is_before time e.stamp) es ≡ 0)
 none_since most time le [] none = (refl, refl)
 none_since most time le (e ∷ es) none =
-    let parts = or_false (is_before most e.stamp) (list_any (λ e. is_before most e.stamp) es) none in
+    let parts = or_parts (is_before most e.stamp) (list_any (λ e. is_before most e.stamp) es) none in
     let far = ltb-false e.stamp.recent most parts.0 in
     let here : is_before time e.stamp ≡ false = le-ltb e.stamp.recent time (omega (arith, far, le)) in
     let rest = none_since most time le es parts.1 in (
@@ -113,7 +103,7 @@ row_since : (most time : ℕ) → time ≤ most → (row : List Shape) → is_ol
     → (expire_row time (map untouched row) ≡ map untouched row) × (old_in_row time (map untouched row) ≡ 0)
 row_since most time le [] none = (refl, refl)
 row_since most time le (b ∷ row) none =
-    let parts = or_false (has_before most b.slots) (is_old_row most row) none in
+    let parts = or_parts (has_before most b.slots) (is_old_row most row) none in
     let here = none_since most time le (edges_in b.slots) parts.0 in
     let rest = row_since most time le row parts.1 in (
       ap₂ (λ (h : OpenBlock) hs. h ∷ hs)
@@ -141,18 +131,12 @@ module _ (workers m : ℕ) where
   abbrev own : ℕ
   own = m % workers
 
-  same_number : (a : ℕ) → (a == a) ≡ true
-  same_number a = elim (a == a) as (λ b. a == a ≡ b → b ≡ true) [
-    | true ↦ λ t. refl
-    | false ↦ λ t. absurd (eqb-false a a t refl)
-  ] refl
-
   elsewhere : (r : Resolved) → IsPlaced r → is_in_shard workers own r ≡ false → KeepsOff m r
   elsewhere (AtKey of None change) placed out = refl
   elsewhere (AtKey of (Some k) change) placed out = false_from_ne_true (m == k.source) (λ e.
       let same : m ≡ k.source = eqb-true m k.source e in
       let at : of ≡ Some m = placed k refl ∙ ap Some (sym same) in
-      true≢false (sym (same_number own) ∙ ap (λ (o : Option ℕ). shard_of workers o == own) (sym at) ∙ out))
+      true≢false (sym (eq-eqb own own refl) ∙ ap (λ (o : Option ℕ). shard_of workers o == own) (sym at) ∙ out))
   elsewhere (InAll time) placed out = tt
 
   pub off_all : (rs : List Resolved) → All IsPlaced rs → All (KeepsOff m) (shard_ops workers own rs) → All (KeepsOff m) rs

@@ -1,9 +1,9 @@
 -- The blocks that all workers take and drop are those of the batch.
 use Rattle.std.proofs.Common.{◌≡◌, ◌≢◌, ℕ, zero, suc, ◌+◌, ◌%◌, ◌<◌, ◌≤◌, ◌==◌, List, [], ◌∷◌, ◌++◌, length, map, flat_map}
-use Rattle.std.proofs.Common.{get_or, count_by, true, false, cond, refl, sym, ap, ap₂, ◌∙◌, arith, subst, Option, Some}
+use Rattle.std.proofs.Common.{get_or, true, false, cond, refl, sym, ap, ap₂, ◌∙◌, arith, subst, Option, Some}
 use Rattle.std.proofs.Common.{None, All, AllPairs, mod-lt, zip, ◌||◌}
 use Rattle.std.specs.{List.sum_by, List.range_with_len, List.AllZip, List.list_any, Prelude.nat_eq}
-use Rattle.std.proofs.lemmas.Bool.{eqb-true, eqb-false, false_from_ne_true, true_from_ne_false, true≢false}
+use Rattle.std.proofs.lemmas.Bool.{eq-eqb, eqb-true, eqb-false, false_from_ne_true, true≢false}
 use Rattle.std.proofs.lemmas.List.{length-map, get_or-map, Sums.sum_by-cons, Sums.sum_by-append}
 use Rattle.std.proofs.lemmas.List.Elements.{All-head, All-tail, All-cons, All-nil, All-append, All-map}
 use Rattle.graph_model.specs.{Graph.Graph, Step.after_all, declared.batches.NamedOp.NamedOp, declared.batches.Outcome.Outcome}
@@ -16,21 +16,15 @@ use Rattle.batch_shards.specs.declared.shard.{Act.Act, Act.TheVariants.Edge, Act
 use Rattle.batch_shards.specs.Done.{IsShardDone, sources_in, steps_in, rows_by, layout_by, sum_of}
 use Rattle.batch_shards.specs.{declared.shard.ShardDone.ShardDone, declared.shard.Place.Place, Closing.row_values}
 use Rattle.batch_plan.specs.{Shards.acts, Shards.unsourced, Shards.latest, Shards.is_old_row, Shards.IsShardOf, Plan.ends_all}
+use Rattle.batch_shards.proofs.Closed.{count_more}
+use Rattle.batch_shards.proofs.Places.{count_by-append}
 use Rattle.batch_apply.specs.{Plans.results, Plans.told, Sums.ArePlanned}
 use Rattle.batch_apply.proofs.Spared.{Spares, KeepsOff, rows_spared, over_all, all_spare, off_all}
 use Rattle.batch_plan.proofs.{Resolving.placed_in, Resolving.resolved_is, Sources.sources_within}
-use Rattle.batch_apply.proofs.Totals.{sum_all, worker_rows, none_taken, none_dropped, count_more, same_outcomes}
+use Rattle.batch_apply.proofs.Totals.{sum_all, worker_rows, none_taken, none_dropped, same_outcomes}
+use Rattle.batch_apply.proofs.{Kept.some_times, Placed.times}
 use Rattle.batch_apply.proofs.Merge.{same_ops, shard_places, kept_all}
 use Rattle.edge_block.specs.Slots.{BlockView}
-
-abbrev times : ℕ → List ℕ → ℕ
-times m xs = count_by (λ x. x == m) xs
-
-times_append : (m : ℕ) (xs ys : List ℕ) → times m (xs ++ ys) ≡ times m xs + times m ys
-times_append m xs ys = sum_by-append (λ x. cond (x == m) 1 0) xs ys
-
-same_number : (a : ℕ) → (a == a) ≡ true
-same_number a = true_from_ne_false (a == a) (λ e. eqb-false a a e refl)
 
 no_times : (m : ℕ) (xs : List ℕ) → All (λ x. x ≡ m → ⊥) xs → times m xs ≡ 0
 no_times m [] none = refl
@@ -39,17 +33,6 @@ no_times m (x ∷ xs) none =
     let c = count_more (λ x. x == m) x xs in
     let no : (let k : ℕ = cond (x == m) 1 0 in k) ≡ 0 =
     ap (λ b. cond b 1 0) (false_from_ne_true (x == m) (λ e. All-head (λ x. x ≡ m → ⊥) x xs none (eqb-true x m e))) in
-    omega arith
-
-some_times : (xs : List ℕ) (i d : ℕ) → i < length xs → 1 ≤ times (get_or xs i d) xs
-some_times [] i d lt = absurd (omega arith)
-some_times (x ∷ xs) zero d lt =
-    let c = count_more (λ y. y == x) x xs in
-    let yes : (let k : ℕ = cond (x == x) 1 0 in k) ≡ 1 = ap (λ b. cond b 1 0) (same_number x) in
-    omega arith
-some_times (x ∷ xs) (suc i) d lt =
-    let c = count_more (λ y. y == get_or xs i d) x xs in
-    let rest = some_times xs i d (omega arith) in
     omega arith
 
 pub once : (m : ℕ) (xs : List ℕ) → AllPairs (λ a b. a ≢ b) xs → times m xs ≤ 1
@@ -86,7 +69,7 @@ module _ (workers : ℕ) (ops : List NamedOp) (g : Graph) (layout : ℕ → List
   none_before a (suc k) m (s ∷ shards) z lt =
       let here = other_worker a m s z.0 (λ e. omega arith) in
       let rest = none_before (a + 1) k m shards z.1 (omega arith) in
-      let both = times_append m (sources_in s) (sources_all shards) in
+      let both = count_by-append (λ x. x == m) (sources_in s) (sources_all shards) in
       omega arith
 
   pub all_once : (a k m : ℕ) (shards : List Shard) → Zipped a k shards → times m (sources_all shards) ≤ 1
@@ -94,7 +77,7 @@ module _ (workers : ℕ) (ops : List NamedOp) (g : Graph) (layout : ℕ → List
   all_once a zero m (s ∷ shards) z = absurd z
   all_once a (suc k) m [] z = absurd z
   all_once a (suc k) m (s ∷ shards) z =
-      let both = times_append m (sources_in s) (sources_all shards) in
+      let both = count_by-append (λ x. x == m) (sources_in s) (sources_all shards) in
       elim (m % workers == a) as (λ b. m % workers == a ≡ b → times m (sources_in s ++ sources_all shards) ≤ 1) [
         | true ↦ λ t.
             let same : m % workers ≡ a = eqb-true (m % workers) a t in
@@ -130,7 +113,7 @@ module _ (workers : ℕ) (ops : List NamedOp) (g : Graph) (layout : ℕ → List
           s,
           (
             subst (λ v. IsShardOf workers (resolved ops g.names g.kinds) layout v s) (eqb-true a w t) z.0,
-            λ m. let both = times_append m (sources_in s) (sources_all shards) in omega arith,
+            λ m. let both = count_by-append (λ x. x == m) (sources_in s) (sources_all shards) in omega arith,
           ),
         )
         | false ↦ λ t.
@@ -139,7 +122,7 @@ module _ (workers : ℕ) (ops : List NamedOp) (g : Graph) (layout : ℕ → List
               rest.0,
               (
                 rest.1.0,
-                λ m. let r = rest.1.1 m in let both = times_append m (sources_in s) (sources_all shards) in
+                λ m. let r = rest.1.1 m in let both = count_by-append (λ x. x == m) (sources_in s) (sources_all shards) in
                     omega arith,
               ),
             )
@@ -185,7 +168,7 @@ module _ (workers : ℕ) (ops : List NamedOp) (g : Graph) (layout : ℕ → List
       elim (m == x) as (λ b. m == x ≡ b → (b || list_any (nat_eq m) xs) ≡ true → 1 ≤ times m (x ∷ xs)) [
         | true ↦ λ t f.
             let yes : (let k : ℕ = cond (x == m) 1 0 in k) ≡ 1 = ap (λ y. cond (y == m) 1 0) (sym (eqb-true m x t))
-            ∙ ap (λ b. cond b 1 0) (same_number m) in omega (arith, c, yes)
+            ∙ ap (λ b. cond b 1 0) (eq-eqb m m refl) in omega (arith, c, yes)
         | false ↦ λ t f. let rest = listed_times m xs f in omega (arith, c, rest)
       ] refl e
 
@@ -258,7 +241,7 @@ module _ (workers : ℕ) (ops : List NamedOp) (g : Graph) (layout : ℕ → List
       ∙ ap₂ (λ a b. a + b)
       (each s x d.0 ∙ sum_same (λ m. f (rows_by before s m)) all (sources_in s)
       (λ i e lt. ap f (worker_rows workers a ops g layout s z.0 (opened (layout_by before)) (get_or (sources_in s) i e)
-      (ap (λ b. b == a) (z.0.own i e lt) ∙ same_number a))))
+      (ap (λ b. b == a) (z.0.own i e lt) ∙ eq-eqb a a refl))))
       (together before f count each (a + 1) k shards dones z.1 d.1)
       ∙ sym (sum_by-append all (sources_in s) (sources_all shards))
 
@@ -280,7 +263,7 @@ module _ (workers : ℕ) (ops : List NamedOp) (g : Graph) (layout : ℕ → List
       ∙ ap₂ (λ a b. a + b)
       (each s x d.0 ∙ sum_same (λ m. f m (rows_by before s m)) all (sources_in s)
       (λ i e lt. ap (f (get_or (sources_in s) i e)) (worker_rows workers a ops g layout s z.0 (opened (layout_by before))
-      (get_or (sources_in s) i e) (ap (λ b. b == a) (z.0.own i e lt) ∙ same_number a))))
+      (get_or (sources_in s) i e) (ap (λ b. b == a) (z.0.own i e lt) ∙ eq-eqb a a refl))))
       (together_at before f count each (a + 1) k shards dones z.1 d.1)
       ∙ sym (sum_by-append all (sources_in s) (sources_all shards))
 
@@ -316,7 +299,7 @@ module _ (workers w : ℕ) (ops : List NamedOp) (g : Graph) (layout : ℕ → Li
       ∙ ap (λ rs. outcomes_all (sources_in shard) rs (opened (layout_by before)))
       (sym (same_ops workers w ops g (layout_by before))))
       ∙ shard_places workers w ops g (layout_by before) (sources_in shard)
-      (λ k d lt. ap (λ n. n == w) (planned.own k d lt) ∙ same_number w)
+      (λ k d lt. ap (λ n. n == w) (planned.own k d lt) ∙ eq-eqb w w refl)
 
   -- a shard's rows have the layout that the batch leaves
   pub shard_layout_at : All (λ r. map shape_of r.1 ≡ layout_after ops g (layout_by before) r.0) (row_values done.rows.items)
@@ -329,7 +312,7 @@ module _ (workers w : ℕ) (ops : List NamedOp) (g : Graph) (layout : ℕ → Li
       let within : k < length (sources_in shard) = omega (arith, ap length is.sources_are) in
       let own : r.0 % workers ≡ w = ap (λ s. s % workers) (sym source) ∙ planned.own k 0 within in
       is.layout k d lt ∙ ap row_end (worker_rows workers w ops g layout shard planned (opened (layout_by before)) r.0
-      (ap (λ b. b == w) own ∙ same_number w))
+      (ap (λ b. b == w) own ∙ eq-eqb w w refl))
 
   -- a shard's rows have the births that the batch leaves
   pub shard_births_at : (f h : BlockView → ℕ) (n : ℕ) → ((b : BlockView) → is_in b.number done.left.taken.items ≡ true → h b ≡ n)
@@ -345,4 +328,4 @@ module _ (workers w : ℕ) (ops : List NamedOp) (g : Graph) (layout : ℕ → Li
       let within : k < length (sources_in shard) = omega (arith, ap length is.sources_are) in
       let own : r.0 % workers ≡ w = ap (λ s. s % workers) (sym source) ∙ planned.own k 0 within in
       is.births f h n each k d lt old ∙ ap (λ row. births_end n row (map f (before r.0)))
-      (worker_rows workers w ops g layout shard planned (opened (layout_by before)) r.0 (ap (λ b. b == w) own ∙ same_number w))
+      (worker_rows workers w ops g layout shard planned (opened (layout_by before)) r.0 (ap (λ b. b == w) own ∙ eq-eqb w w refl))

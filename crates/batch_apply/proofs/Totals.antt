@@ -11,6 +11,7 @@ use Rattle.block_layout.specs.Batches.{outcomes_all}
 use Rattle.block_layout.proofs.ShardLaws.{shard_rows}
 use Rattle.batch_plan.specs.Shards.{acts, unsourced, IsShardOf}
 use Rattle.batch_shards.specs.{Done.steps_in, declared.shard.Shard.Shard}
+use Rattle.batch_shards.proofs.Closed.{count_more}
 
 -- rows and outcomes don't depend on the sources' numbers beside the keys
 unsourced_rows : (r : Resolved) (rows : ℕ → List OpenBlock) → rows_step (unsourced r) rows ≡ rows_step r rows
@@ -41,9 +42,6 @@ same_outcomes over rs ss e rows =
     sym (acts_outcomes over rs rows) ∙ ap (λ xs. outcomes_all over xs rows) e ∙ acts_outcomes over ss rows
 
 -- a row that is not touched takes and drops nothing
-pub count_more : {A : Type 0} (p : A → Bool) (x : A) (xs : List A) → count_by p (x ∷ xs) ≡ cond (p x) 1 0 + count_by p xs
-count_more p x xs = sum_by-cons (λ x. cond (p x) 1 0) x xs
-
 pub none_taken : (row : List Shape) → taken_in (map untouched row) ≡ 0
 none_taken [] = refl
 none_taken (b ∷ row) =

@@ -2,41 +2,26 @@
 use Rattle.std.proofs.Common.{◌≡◌, ◌≢◌, ℕ, zero, suc, ◌+◌, ◌<◌, ◌≤◌, ◌%◌, ◌==◌, ◌||◌, true, false, cond, List, [], ◌∷◌, ◌++◌}
 use Rattle.std.proofs.Common.{length, length-append, get_or, map, filter, refl, sym, ap, ap₂, ◌∙◌, arith, subst, All, AllPairs}
 use Rattle.std.proofs.Common.{nat_eq, Bool}
-use Rattle.std.proofs.lemmas.List.{Folds.list_any-append, map-append, get_or_append_left, Sums.sum_by_push}
+use Rattle.std.proofs.lemmas.List.{Folds.list_any-append, append-nil, map-append, get_or_append_left, Sums.sum_by_push}
 use Rattle.std.specs.{Prelude.slice_index, List.enumerate_from, List.list_any, List.sum_by}
 use Rattle.std.specs.declared.option.Option.{Option, TheVariants.None, TheVariants.Some}
 use Rattle.std.proofs.lemmas.{Bool.true≢false, Bool.eqb-true, Bool.eqb-false, List.Quantifiers.all_pairs_push}
-use Rattle.std.proofs.lemmas.List.Elements.{All-head, All-tail, All-nil, All-cons, All-push, filter-append}
+use Rattle.std.proofs.lemmas.List.Elements.{All-head, All-tail, All-push, filter-append}
 use Rattle.graph_model.specs.Graph.{Key}
 use Rattle.block_layout.specs.Batches.{Resolved, AtKey, InAll, IsPlaced, shard_of, is_in_shard, shard_ops}
 use Rattle.batch_shards.specs.Shards.{AreSteps, IsAct, IsPlace, key_at, resolved_at, resolved_in}
 use Rattle.batch_shards.specs.declared.shard.{Act.Act, Act.TheVariants.Edge, Act.TheVariants.Expire, Place.Place, Step.Step}
+use Rattle.batch_shards.proofs.Closed.{all_left}
 use Rattle.batch_plan.specs.Shards.{acts, unsourced, IsSourceBelow, AreShardSteps, with_source, with_op}
-
-no_more : {A : Type 0} (xs : List A) → xs ++ [] ≡ xs
-no_more [] = refl
-no_more (x ∷ xs) = ap (λ l. x ∷ l) (no_more xs)
 
 enumerated_last : {A : Type 0} (k : ℕ) (xs : List A) (x : A) (m : ℕ) → m ≡ length xs + k
     → enumerate_from k (xs ++ x ∷ []) ≡ enumerate_from k xs ++ (m, x) ∷ []
 enumerated_last k [] x m e = let same : k ≡ m = omega arith in ap (λ n. (n, x) ∷ []) same
 enumerated_last k (y ∷ xs) x m e = ap (λ l. (k, y) ∷ l) (enumerated_last (k + 1) xs x m (omega arith))
 
-all_left : {A : Type 0} (P : A → Type 0) (xs ys : List A) → All P (xs ++ ys) → All P xs
-all_left P [] ys all = All-nil P
-all_left P (x ∷ xs) ys all = All-cons P x xs (All-head P x (xs ++ ys) all) (all_left P xs ys (All-tail P x (xs ++ ys) all))
-
 last_of : {A : Type 0} (P : A → Type 0) (xs : List A) (x : A) → All P (xs ++ x ∷ []) → P x
 last_of P [] x all = All-head P x [] all
 last_of P (y ∷ xs) x all = last_of P xs x (All-tail P y (xs ++ x ∷ []) all)
-
-pub same_number : (n : ℕ) → n == n ≡ true
-same_number n = elim (n == n) as (λ b. n == n ≡ b → b ≡ true) [ true ↦ λ t. refl | false ↦ λ t. absurd (eqb-false n n t refl) ]
-    refl
-
-pub other_number : (a b : ℕ) → (a ≡ b → ⊥) → a == b ≡ false
-other_number a b ne = elim (a == b) as (λ t. a == b ≡ t → t ≡ false)
-    [ true ↦ λ t. absurd (ne (eqb-true a b t)) | false ↦ λ t. refl ] refl
 
 absent : (xs : List ℕ) (s : ℕ) → list_any (nat_eq s) xs ≡ false → (i d : ℕ) → i < length xs → get_or xs i d ≡ s → ⊥
 absent [] s none i d lt e = absurd (omega arith)
@@ -152,9 +137,9 @@ pub passed : (workers w : ℕ) (rs : List Resolved) (r : Resolved) (is_old : ℕ
 passed workers w rs r is_old sources steps is out = record {
   places = is.places ∙ sym (next_places workers w rs r ∙ ap (λ b. numbers workers w (enumerate_from 0 rs)
       ++ map (λ (p : ℕ × Resolved). p.0) (cond b ((length rs, r) ∷ []) [])) out
-      ∙ no_more (numbers workers w (enumerate_from 0 rs)));
+      ∙ append-nil (numbers workers w (enumerate_from 0 rs)));
   acts_are = is.acts_are ∙ sym (next_acts workers w rs r
-      ∙ ap (λ b. acts (shard_ops workers w rs) ++ acts (cond b (r ∷ []) [])) out ∙ no_more (acts (shard_ops workers w rs)));
+      ∙ ap (λ b. acts (shard_ops workers w rs) ++ acts (cond b (r ∷ []) [])) out ∙ append-nil (acts (shard_ops workers w rs)));
   in_range = is.in_range;
   distinct = is.distinct;
   own = is.own;

@@ -2,7 +2,8 @@
 use Rattle.std.proofs.Common.{◌≡◌, ◌≢◌, ℕ, zero, suc, ◌+◌, ◌<◌, ◌≤◌, ◌%◌, ◌==◌, ◌||◌, Bool, true, false, cond, List, [], ◌∷◌, ◌++◌}
 use Rattle.std.proofs.Common.{length, map, take, get_or, refl, sym, ap, ◌∙◌, arith, subst, All, AllPairs, nat_eq, max}
 use Rattle.std.specs.List.{list_any, sum_by}
-use Rattle.std.proofs.lemmas.{Bool.true≢false, Bool.eqb-true, List.Folds.list_any_none, List.Folds.list_any_at}
+use Rattle.std.proofs.lemmas.Bool.{true≢false, eq-eqb, eqb-true, ne_eqb}
+use Rattle.std.proofs.lemmas.List.Folds.{list_any_none, list_any_at}
 use Rattle.std.proofs.lemmas.List.{append-nil, map-append, length-map, length-take-le, get_or-take, get_or-map}
 use Rattle.std.proofs.lemmas.List.Sums.{sum_by-cons, sum_by_push, length-filter, count_by-le-length}
 use Rattle.std.proofs.lemmas.List.Elements.{All-nil, All-head, All-tail, All-map, All-filter, All-weaker, filter_more, filter_passes}
@@ -14,7 +15,6 @@ use Rattle.batch_shards.specs.Spending.{time_of, old_blocks, latest as latest_st
 use Rattle.batch_shards.specs.declared.shard.{Act.Act, Act.TheVariants.Edge, Act.TheVariants.Expire, Step.Step}
 use Rattle.batch_plan.specs.{Shards.acts, Shards.is_old_row, Shards.latest, Shards.AreShardSteps, declared.old.OldRow.OldRow}
 use Rattle.batch_plan.specs.OldRows.{AreOldRows, old_sources, own_rows, blocks_in}
-use Rattle.batch_plan.proofs.Growth.{same_number, other_number}
 
 -- whether a source's row is one of these, and its old blocks, none where it isn't
 abbrev pub is_listed : List OldRow → ℕ → Bool
@@ -63,7 +63,7 @@ own_listed workers w (r ∷ old) s mine listed =
     → list_any (nat_eq s) (old_sources (cond (r.source.0 % workers == w) (r ∷ own) own)) ≡ true) [
       | true ↦ λ same _.
           let here : r.source.0 % workers ≡ w = ap (λ q. q % workers) (sym (eqb-true s r.source.0 same)) ∙ mine in
-          let passes : (r.source.0 % workers == w) ≡ true = ap (λ q. q == w) here ∙ same_number w in
+          let passes : (r.source.0 % workers == w) ≡ true = ap (λ q. q == w) here ∙ eq-eqb w w refl in
           ap (λ b. list_any (nat_eq s) (old_sources (cond b (r ∷ own) own))) passes
           ∙ ap (λ b. b || list_any (nat_eq s) (old_sources own)) same
       | false ↦ λ other rest.
@@ -83,7 +83,7 @@ start workers w old pairs =
     let source : OldRow → ℕ = λ (r : OldRow). r.source.0 in
     let listed : (k : ℕ) (d : OldRow) → k < length old → is_listed old (source (get_or old k d)) ≡ true = λ k d lt.
     list_any_at (nat_eq (source (get_or old k d))) (old_sources old) k 0 (omega (arith, length-map old source))
-    (ap (nat_eq (source (get_or old k d))) (get_or-map source old k d 0 lt) ∙ same_number (source (get_or old k d))) in
+    (ap (nat_eq (source (get_or old k d))) (get_or-map source old k d 0 lt) ∙ eq-eqb (source (get_or old k d)) (source (get_or old k d)) refl) in
     record {
       places = refl;
       acts_are = refl;
@@ -121,7 +121,7 @@ not_before workers w old i d pairs lt =
     let there : source (get_or (take i old) k e) ≡ get_or (old_sources old) k 0 =
     ap source (get_or-take i old k e before) ∙ sym (get_or-map source old k e 0 (omega arith)) in
     let here : get_or (old_sources old) i 0 ≡ s = get_or-map source old i d 0 lt in
-    other_number s (source (get_or (take i old) k e))
+    ne_eqb s (source (get_or (take i old) k e))
     (λ same. pairs k i 0 before (omega arith) (sym there ∙ sym same ∙ sym here)) in
     list_any_none (nat_eq s) (old_sources (own_rows workers w (take i old)))
     (All-map (λ x. nat_eq s x ≡ false) source (own_rows workers w (take i old))

@@ -1,9 +1,10 @@
 -- What names keep as more appear.
-use Rattle.std.proofs.Common.{drop, ◌≡◌, ℕ, ◌+◌, ◌≤◌, Bool, true, false, cond, not, ◌||◌, length-append, List, [], ◌∷◌, ◌++◌}
+use Rattle.std.proofs.Common.{drop, ◌≡◌, ℕ, ◌+◌, ◌≤◌, Bool, true, false, cond, not, ◌||◌, List, [], ◌∷◌, ◌++◌}
 use Rattle.std.proofs.Common.{length, IsTrue, Option, Some, None, Result, Ok, Err, subst, refl, sym, ap, ◌∙◌, arith, true≢false}
 use Rattle.std.proofs.{Common.if◌then◌else◌, lemmas.Slice.Eq.bytes_eq-Decides}
 use Rattle.std.specs.{Result.IsErrAnd, Result.IfErr, Str.bytes_eq}
 use Rattle.graph_model.specs.{Step.with_name, Step.number_of, Answer.is_listed, declared.batches.NamedOp.NamedOp}
+use Rattle.graph_model.proofs.NameLists.{length-with_name}
 use Rattle.block_layout.specs.Operations.{names_after, kinds_after}
 use Rattle.graph_model.specs.declared.batches.NamedOp.TheVariants.{Insert, Incr, Remove, Expire}
 use Rattle.vertex_names.specs.Book.{Book}
@@ -68,18 +69,11 @@ pub target_known : (names : List (List ℕ)) (target : List ℕ)
     → Some (number_of (with_name names target) target) ≡ known (with_name names target) target
 target_known names target = known_listed (with_name names target) target (entered names target)
 
-more_if : (names : List (List ℕ)) (name : List ℕ) (b : Bool) → length names ≤ length (if b then names else names ++ name ∷ [])
-more_if names name true = omega arith
-more_if names name false = let l = length-append names (name ∷ []) in omega arith
-
-pub no_fewer : (names : List (List ℕ)) (name : List ℕ) → length names ≤ length (with_name names name)
-no_fewer names name = more_if names name (is_listed names name)
-
 no_fewer_after : (op : NamedOp) (names : List (List ℕ)) → length names ≤ length (names_after op names)
 no_fewer_after (Insert kind source target weight time) names =
-    let a = no_fewer names source in let b = no_fewer (with_name names source) target in omega arith
+    let a = length-with_name names source in let b = length-with_name (with_name names source) target in omega arith
 no_fewer_after (Incr kind source target amount time) names =
-    let a = no_fewer names source in let b = no_fewer (with_name names source) target in omega arith
+    let a = length-with_name names source in let b = length-with_name (with_name names source) target in omega arith
 no_fewer_after (Remove kind source target) names = omega arith
 no_fewer_after (Expire time) names = omega arith
 
@@ -99,8 +93,8 @@ refused_all NamesFull old book ops k op step same limit refused =
 refused_all OutOfMemory old book ops k op step same limit refused = tt
 
 no_fewer_kinds : (op : NamedOp) (kinds : List (List ℕ)) → length kinds ≤ length (kinds_after op kinds)
-no_fewer_kinds (Insert kind source target weight time) kinds = no_fewer kinds kind
-no_fewer_kinds (Incr kind source target amount time) kinds = no_fewer kinds kind
+no_fewer_kinds (Insert kind source target weight time) kinds = length-with_name kinds kind
+no_fewer_kinds (Incr kind source target amount time) kinds = length-with_name kinds kind
 no_fewer_kinds (Remove kind source target) kinds = omega arith
 no_fewer_kinds (Expire time) kinds = omega arith
 

@@ -1,26 +1,25 @@
 -- The fresh blocks that a plan's shards may take are no more than a number of 64 bits tells.
 use Rattle.std.proofs.Common.{◌≡◌, ◌≢◌, ℕ, zero, suc, ◌+◌, ◌-◌, ◌^◌, ◌<◌, ◌≤◌, ◌==◌, Bool, true, false, cond, List, [], ◌∷◌, map}
-use Rattle.std.proofs.Common.{◌||◌, eqb, get_or, length, length-append, min, max, refl, sym, ap, ap₂, ◌∙◌, arith, subst, All, AllPairs, Option, Some, None}
+use Rattle.std.proofs.Common.{◌||◌, eqb, get_or, length, length-append, min, max, refl, sym, ap, ap₂, ◌∙◌, arith, subst, All, AllPairs}
 use Rattle.std.specs.Prelude.{filter, not}
-use Rattle.std.specs.List.{IsDistinct, sum_by, list_all, list_any, enumerate_from, range_with_len, AllZip}
-use Rattle.std.proofs.lemmas.{Bool.true≢false, Bool.eqb-true, Bool.eqb-false, List.length-map}
+use Rattle.std.specs.List.{IsDistinct, sum_by, list_any, enumerate_from, range_with_len, AllZip}
+use Rattle.std.proofs.lemmas.{Bool.true≢false, Bool.eqb-true, Bool.eqb-false, Bool.ne_eqb, List.length-map}
 use Rattle.std.proofs.lemmas.List.Sums.{sum_by-cons, sum_by-le, sum_by-le-sum_by, count_by-le-length, length-filter}
-use Rattle.std.proofs.lemmas.List.Elements.{All-nil, All-head, All-tail, All-append, All-map, All-weaker}
+use Rattle.std.proofs.lemmas.List.Elements.{All-head, All-tail, All-map, All-weaker}
 use Rattle.std.proofs.lemmas.Map.{Keys.IsDistinct-from_apart, Steps.length-le_from_distinct_below}
 use Rattle.graph_model.specs.declared.batches.NamedOp.{NamedOp}
-use Rattle.edge_block.specs.Slots.{BlockView, Slot, has_before, is_free, edges_in, entry_in, entries_of}
+use Rattle.edge_block.specs.Slots.{BlockView, has_before}
 use Rattle.block_layout.specs.Operations.{Parts, OfEdge, OfAll, parts_of, names_after, kinds_after}
 use Rattle.block_layout.specs.Batches.{Resolved, is_in_shard, resolve_parts, resolved}
 use Rattle.row_pages.specs.Rows.{row_of, blocks_of}
-use Rattle.graph_version.specs.Versions.{VersionView, IsBlockOf, IsVersion}
-use Rattle.graph_version.specs.Edges.{edge_from, edges_in_block, edges_in_blocks}
-use Rattle.graph_version.proofs.Few.{count_is_total, few_total}
+use Rattle.graph_version.specs.Versions.{VersionView, IsVersion}
+use Rattle.graph_version.proofs.BlockCounts.{few_blocks}
 use Rattle.batch_shards.specs.{Done.layout_by, Done.sources_in, Groups.is_expiry}
 use Rattle.batch_shards.specs.Spending.{old_blocks, needed, latest as latest_step}
 use Rattle.batch_shards.specs.declared.shard.{Shard.Shard, Step.Step}
 use Rattle.batch_plan.specs.{Shards.AreShardSteps, Shards.IsShardOf, Shards.latest, declared.old.OldRow.OldRow}
 use Rattle.batch_plan.specs.OldRows.{AreOldRows, old_sources, time_in, expiry_time}
-use Rattle.batch_plan.proofs.{Growth.other_number, OldRows.old_is_within, Listing.pairs_head, Listing.pairs_tail}
+use Rattle.batch_plan.proofs.{OldRows.old_is_within, Listing.pairs_head, Listing.pairs_tail}
 
 sum_add : (f g : ℕ → ℕ) (xs : List ℕ) → sum_by (λ x. f x + g x) xs ≡ sum_by f xs + sum_by g xs
 sum_add f g [] = refl
@@ -82,32 +81,6 @@ old_sum time rows xs pairs =
     let b = row_within 0 rows s s (omega arith) in omega arith) in
     let all = row_sum rows 0 xs pairs in
     omega arith
-
-some_edge : (slots : List (Option Slot)) → list_all is_free slots ≡ false → 1 ≤ length (edges_in slots)
-some_edge [] full = absurd (true≢false full)
-some_edge (None ∷ slots) full = some_edge slots full
-some_edge (Some e ∷ slots) full = omega arith
-
-abbrev HasEdges : BlockView → Type 0
-HasEdges b = list_all is_free b.slots ≡ false
-
-blocks_few : (blocks : List BlockView) → All HasEdges blocks → length blocks ≤ length (edges_in_blocks blocks)
-blocks_few [] all = omega arith
-blocks_few (b ∷ blocks) all =
-    let some = some_edge b.slots (All-head HasEdges b blocks all) in
-    let rest = blocks_few blocks (All-tail HasEdges b blocks all) in
-    let both = length-append (edges_in_block b) (edges_in_blocks blocks) in
-    omega (arith, length-map (entries_of b) edge_from, length-map (edges_in b.slots) (entry_in b))
-
-all_blocks : (P : BlockView → Type 0) (rows : List (List BlockView)) → ((s : ℕ) → All P (row_of rows s)) → All P (blocks_of rows)
-all_blocks P [] each = All-nil P
-all_blocks P (row ∷ rows) each = All-append P row (blocks_of rows) (each 0) (all_blocks P rows (λ s. each (suc s)))
-
-pub few_blocks : (v : VersionView) → IsVersion v → length (blocks_of v.rows) ≤ 2 ^ 38
-few_blocks v is =
-    let have : All HasEdges (blocks_of v.rows) = all_blocks HasEdges v.rows (λ s.
-    All-weaker (IsBlockOf s) HasEdges (λ b of. of.has_edges) (row_of v.rows s) (is.rows.blocks s)) in
-    omega (arith, blocks_few (blocks_of v.rows) have, count_is_total v is, few_total v is)
 
 numbered : (k : ℕ) (rs : List Resolved) → length (enumerate_from k rs) ≡ length rs
 numbered k [] = refl
@@ -190,7 +163,7 @@ few_old_rows v is time old are =
     let lt = old_is_within v is time (source (get_or old k d)) (omega (arith, here.0, here.1)) in
     omega (arith, lt, is.small.names)) in
     let apart : IsDistinct eqb (old_sources old) = IsDistinct-from_apart eqb (old_sources old) (λ i j d lt within.
-    other_number (get_or (old_sources old) i d) (get_or (old_sources old) j d) (are.distinct i j d lt within)) in
+    ne_eqb (get_or (old_sources old) i d) (get_or (old_sources old) j d) (are.distinct i j d lt within)) in
     let few = length-le_from_distinct_below (old_sources old) 65536 apart (λ q listed.
     listed_all (λ s. s < 65536) (old_sources old) q below listed) in
     omega (arith, few, length-map old source)

@@ -34,7 +34,7 @@ pub as_many_ends : (ops : List NamedOp) (names : List (List ℕ)) → length (en
 as_many_ends [] names = refl
 as_many_ends (op ∷ ops) names = let rest = as_many_ends ops (names_after op names) in omega arith
 
-as_many_resolved : (ops : List NamedOp) (names kinds : List (List ℕ)) → length (resolved ops names kinds) ≡ length ops
+pub as_many_resolved : (ops : List NamedOp) (names kinds : List (List ℕ)) → length (resolved ops names kinds) ≡ length ops
 as_many_resolved [] names kinds = refl
 as_many_resolved (op ∷ ops) names kinds = let rest = as_many_resolved ops (names_after op names) (kinds_after op kinds) in omega
     arith

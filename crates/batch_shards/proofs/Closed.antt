@@ -2,6 +2,7 @@
 use Rattle.std.proofs.Common.{◌≡◌, ℕ, ◌+◌, Bool, true, false, cond, not, ◌&&◌, ◌||◌, List, [], ◌∷◌, ◌++◌, length}
 use Rattle.std.proofs.Common.{map, filter, flat_map, count_by, refl, sym, ap, ap₂, ◌∙◌, All, length-append}
 use Rattle.std.proofs.lemmas.List.{Sums.sum_by-cons, Elements.All-head, Elements.All-tail, Elements.All-cons, Elements.All-nil}
+use Rattle.std.proofs.lemmas.List.Elements.{All-append}
 use Rattle.std.specs.{Option.is_some, Option.option_to_list, declared.alloc.Global.Global}
 use Rattle.std.specs.declared.{option.Option.Option, option.Option.TheVariants.None, option.Option.TheVariants.Some, sync.Arc.Arc}
 use Rattle.edge_block.specs.{declared.blocks.Block.Block, Slots.BlockView}
@@ -24,7 +25,7 @@ after_end (h ∷ row) =
     ]
 
 -- a count and a sum, with one more in front
-count_more : {A : Type 0} (p : A → Bool) (x : A) (xs : List A) → count_by p (x ∷ xs) ≡ cond (p x) 1 0 + count_by p xs
+pub count_more : {A : Type 0} (p : A → Bool) (x : A) (xs : List A) → count_by p (x ∷ xs) ≡ cond (p x) 1 0 + count_by p xs
 count_more p x xs = sum_by-cons (λ x. cond (p x) 1 0) x xs
 
 pub length-written : (row : List RowBlock) → length (written_of row) ≡ taken_in (opens row)
@@ -83,17 +84,14 @@ all_layout rows (r ∷ work) all =
 abbrev pub HasEdges : BlockView → Type 0
 HasEdges b = has_none (shape_of b) ≡ false
 
-all_left : {A : Type 0} (P : A → Type 0) (xs ys : List A) → All P (xs ++ ys) → All P xs
+-- the parts of a list whose elements all have something
+pub all_left : {A : Type 0} (P : A → Type 0) (xs ys : List A) → All P (xs ++ ys) → All P xs
 all_left P [] ys all = All-nil P
 all_left P (x ∷ xs) ys all = All-cons P x xs (All-head P x (xs ++ ys) all) (all_left P xs ys (All-tail P x (xs ++ ys) all))
 
-all_right : {A : Type 0} (P : A → Type 0) (xs ys : List A) → All P (xs ++ ys) → All P ys
+pub all_right : {A : Type 0} (P : A → Type 0) (xs ys : List A) → All P (xs ++ ys) → All P ys
 all_right P [] ys all = all
 all_right P (x ∷ xs) ys all = all_right P xs ys (All-tail P x (xs ++ ys) all)
-
-pub all_both : {A : Type 0} (P : A → Type 0) (xs ys : List A) → All P xs → All P ys → All P (xs ++ ys)
-all_both P [] ys a b = b
-all_both P (x ∷ xs) ys a b = All-cons P x (xs ++ ys) (All-head P x xs a) (all_both P xs ys (All-tail P x xs a) b)
 
 row_blocks : (source : ℕ) (row : List RowBlock) → All (IsOf source) row → All HasEdges (had_in row)
     → All (IsBlockOf source) (after_of row)
@@ -128,5 +126,5 @@ all_blocks (r ∷ work) own had =
 pub rows_edges : (row : ℕ → List BlockView) → ((source : ℕ) → All (IsBlockOf source) (row source)) → (sources : List ℕ)
     → All HasEdges (flat_map row sources)
 rows_edges row each [] = All-nil HasEdges
-rows_edges row each (s ∷ sources) = all_both HasEdges (row s) (flat_map row sources) (λ k d lt. (each s k d lt).has_edges)
+rows_edges row each (s ∷ sources) = All-append HasEdges (row s) (flat_map row sources) (λ k d lt. (each s k d lt).has_edges)
     (rows_edges row each sources)

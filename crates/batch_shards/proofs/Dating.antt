@@ -13,14 +13,7 @@ use Rattle.batch_shards.specs.Closing.{written_here, after_of, written_of, dropp
 use Rattle.batch_shards.specs.Shards.{AreOpen, sources_of}
 use Rattle.batch_shards.specs.Births.{first_birth, left_over, births_end, births_dropped}
 use Rattle.batch_shards.specs.declared.{row_blocks.RowBlock.RowBlock, shard.OpenRow.OpenRow}
-
-left_all : {A : Type 0} (P : A → Type 0) (xs ys : List A) → All P (xs ++ ys) → All P xs
-left_all P [] ys all = All-nil P
-left_all P (x ∷ xs) ys all = All-cons P x xs (All-head P x (xs ++ ys) all) (left_all P xs ys (All-tail P x (xs ++ ys) all))
-
-right_all : {A : Type 0} (P : A → Type 0) (xs ys : List A) → All P (xs ++ ys) → All P ys
-right_all P [] ys all = all
-right_all P (x ∷ xs) ys all = right_all P xs ys (All-tail P x (xs ++ ys) all)
+use Rattle.batch_shards.proofs.Closed.{all_left, all_right}
 
 -- a block of the row, by whether it is kept, touched, and was had
 abbrev births_step : Bool → Bool → Bool → ℕ → List OpenBlock → List ℕ → List ℕ
@@ -52,10 +45,10 @@ module _ (f g : BlockView → ℕ) (n : ℕ) where
   row_births (h ∷ row) new old =
       one_birth h.touched (has_none (shape_of (block_of h.block))) h.before (block_of h.block) (after_of row) (had_in row)
       (opens row)
-      (left_all (λ b. g b ≡ n) (written_here h) (written_of row) new)
-      (left_all (λ b. g b ≡ f b) (had_here h) (had_in row) old)
-      (row_births row (right_all (λ b. g b ≡ n) (written_here h) (written_of row) new)
-      (right_all (λ b. g b ≡ f b) (had_here h) (had_in row) old))
+      (all_left (λ b. g b ≡ n) (written_here h) (written_of row) new)
+      (all_left (λ b. g b ≡ f b) (had_here h) (had_in row) old)
+      (row_births row (all_right (λ b. g b ≡ n) (written_here h) (written_of row) new)
+      (all_right (λ b. g b ≡ f b) (had_here h) (had_in row) old))
 
   pub all_births : (now : ℕ → List OpenBlock) (rows : ℕ → List BlockView) (work : List OpenRow) → AreOpen now work
       → All (λ r. had_in r.blocks.items ≡ rows r.source.0) work → All (λ b. g b ≡ n) (written_all work)
@@ -68,12 +61,12 @@ module _ (f g : BlockView → ℕ) (n : ℕ) where
       let shown = All-head (λ (r : OpenRow). opens r.blocks.items ≡ now r.source.0) r work opened in
       All-cons (λ (r : ℕ × List BlockView). All (λ b. g b ≡ f b) (rows r.0) → map g r.1 ≡ births_end n (now r.0) (map f (rows r.0)))
       (r.source.0, after_of r.blocks.items) (closed_rows work)
-      (λ old. row_births r.blocks.items (left_all (λ b. g b ≡ n) (written_of r.blocks.items) (written_all work) new)
+      (λ old. row_births r.blocks.items (all_left (λ b. g b ≡ n) (written_of r.blocks.items) (written_all work) new)
       (subst (λ bs. All (λ b. g b ≡ f b) bs) (sym here) old)
       ∙ ap₂ (λ os bs. births_end n os (map f bs)) shown here)
       (all_births now rows work (All-tail (λ (r : OpenRow). opens r.blocks.items ≡ now r.source.0) r work opened)
       (All-tail (λ (r : OpenRow). had_in r.blocks.items ≡ rows r.source.0) r work had)
-      (right_all (λ b. g b ≡ n) (written_of r.blocks.items) (written_all work) new))
+      (all_right (λ b. g b ≡ n) (written_of r.blocks.items) (written_all work) new))
 
   -- those with taken numbers
   pub written_births : (bs : List BlockView) → ((b : BlockView) → is_in b.number (map (λ b. b.number) bs) ≡ true → g b ≡ n)

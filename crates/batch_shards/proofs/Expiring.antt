@@ -1,7 +1,8 @@
 -- An expiry, block by block, and how many fresh blocks operations need.
 use Rattle.std.proofs.Common.{◌≡◌, ℕ, zero, suc, ◌+◌, ◌%◌, ◌^◌, ◌<◌, ◌≤◌, Bool, true, false, cond, not, ◌&&◌, ◌||◌, List, [], ◌∷◌, ◌++◌}
 use Rattle.std.proofs.Common.{map, length, get_or, set, take, drop, count_by, refl, sym, ap, ◌∙◌, arith, subst}
-use Rattle.std.proofs.lemmas.{Bool.false≢true, Bool.lt-ltb, Bool.ltb-true, List.Sums.sum_by-cons, List.Sums.sum_by-append}
+use Rattle.std.proofs.lemmas.{Bool.false≢true, Bool.lt-ltb, Bool.ltb-true}
+use Rattle.std.proofs.lemmas.List.Sums.{sum_by-cons, sum_by-append, sum_by-set}
 use Rattle.std.specs.{List.list_any, List.sum_by, Prelude.◌+ℤ◌}
 use Rattle.std.specs.declared.option.Option.{Option, TheVariants.None, TheVariants.Some}
 use Rattle.graph_model.specs.{Graph.Stamp, Graph.Key, Limits.is_weight, Step.is_before, Step.outcome_at, Step.stamp_after}
@@ -78,16 +79,7 @@ mod_more a b m =
 -- a count with one element changed
 pub count_set : {A : Type 0} (p : A → Bool) (xs : List A) (k : ℕ) (y d : A) → k < length xs
     → count_by p (set xs k y) + cond (p (get_or xs k d)) 1 0 ≡ count_by p xs + cond (p y) 1 0
-count_set p [] k y d lt = absurd (omega arith)
-count_set p (x ∷ xs) zero y d lt =
-    let a = sum_by-cons (λ x. cond (p x) 1 0) y xs in
-    let b = sum_by-cons (λ x. cond (p x) 1 0) x xs in
-    omega arith
-count_set p (x ∷ xs) (suc k) y d lt =
-    let a = sum_by-cons (λ x. cond (p x) 1 0) x (set xs k y) in
-    let b = sum_by-cons (λ x. cond (p x) 1 0) x xs in
-    let c = count_set p xs k y d (omega arith) in
-    omega arith
+count_set p xs k y d lt = sum_by-set (λ x. cond (p x) 1 0) xs k y d lt
 
 pub count_there : {A : Type 0} (p : A → Bool) (xs : List A) (k : ℕ) (d : A) → k < length xs → p (get_or xs k d) ≡ true
     → 0 < count_by p xs

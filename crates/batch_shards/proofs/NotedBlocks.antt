@@ -11,7 +11,6 @@ use Rattle.edge_block.specs.Slots.{Slot, BlockView, holds, edges_in, entry_in, I
 use Rattle.edge_block.specs.Lending.{LentEdge, lent_of}
 use Rattle.edge_block.proofs.SlotLaws.{target_of_edge}
 use Rattle.std.proofs.{lemmas.List.Folds.list_any-append, Math.ListN.length-set}
-use Rattle.batch_shards.proofs.ShardSteps.{same_number}
 use Rattle.batch_shards.specs.Notes.{may_stand, list_of, places_in, stands, HasMore}
 use Rattle.batch_shards.specs.declared.notes.Notes.{Notes}
 
@@ -73,7 +72,7 @@ module _ (n : Notes) (list place : ℕ) (v w : Vec ℕ Global) (places : Vec (Ve
       (ap (λ k. stands (get_or (places_in noted) k []) place) (sym is)
       ∙ ap (λ ps. stands ps place) new_list
       ∙ longer_list place
-      ∙ or_right (stands v.items place) (stands (place ∷ []) place) (or_left (place == place) false (same_number place)))
+      ∙ or_right (stands v.items place) (stands (place ∷ []) place) (or_left (place == place) false (eq-eqb place place refl)))
 
   pub more_stand : HasMore n noted
   more_stand = record {

@@ -13,7 +13,8 @@ use Rattle.block_layout.specs.Rows.{OpenBlock, has_edge, has_room, open_at, edge
 use Rattle.block_layout.specs.Rows.{new_block, change_row}
 use Rattle.batch_shards.specs.RowBlocks.{block_of, open_of, opens, set_slot, IsChanged, HaveSame}
 use Rattle.batch_shards.specs.declared.row_blocks.RowBlock.{RowBlock}
-use Rattle.batch_shards.proofs.Places.{list_any-map, none_passes, one_passes, first_changed, first_has, none_has, count_by-set}
+use Rattle.batch_shards.proofs.Places.{list_any-map, none_passes, one_passes, first_changed, first_has, count_by-set}
+use Rattle.edge_block.proofs.Firsts.{first_some-by_any}
 
 -- an edge in a slot has a weight and times in range
 pub stamped_at : (slots : List (Option Slot)) (target : ℕ) (s : Stamp) → All IsSlot slots → stamp_at slots target ≡ Some s
@@ -112,7 +113,7 @@ module _ (kind target : ℕ) (row : List RowBlock) where
     absent_any = list_any-map open_of (has_edge (kind, target)) row ∙ none_passes (at_edge kind target) row none
 
     pub absent_edge : edge_at (opens row) (kind, target) ≡ None
-    absent_edge = none_has (λ h. open_at h (kind, target)) (opens row) absent_any
+    absent_edge = first_some-by_any (λ h. open_at h (kind, target)) (opens row) absent_any
 
 -- an edge goes into the first block with room
 pub put_into : (kind : ℕ) (e : Slot) (row : List RowBlock) (i : ℕ) (y d : RowBlock)

@@ -1,20 +1,13 @@
 -- The operations of a shard, one after another.
-use Rattle.std.proofs.Common.{◌≡◌, ◌≢◌, ℕ, suc, ◌+◌, ◌<◌, ◌≤◌, ◌==◌, Bool, true, false, List, [], ◌∷◌, ◌++◌, length}
-use Rattle.std.proofs.Common.{get_or, refl, sym, ap, ◌∙◌, arith, AllPairs, take, ap₂, ltb}
-use Rattle.std.proofs.lemmas.Bool.{true≢false, false≢true, eqb-true, false_from_ne_true, ltb-true, ltb-false}
+use Rattle.std.proofs.Common.{◌≡◌, ◌≢◌, ℕ, suc, ◌+◌, ◌<◌, ◌≤◌, Bool, true, false, List, [], ◌∷◌, ◌++◌, length}
+use Rattle.std.proofs.Common.{get_or, refl, sym, ap, ◌∙◌, arith, AllPairs, take, ltb}
+use Rattle.std.proofs.lemmas.Bool.{ltb-true, ltb-false}
 use Rattle.std.proofs.lemmas.List.{map-append, take_more}
 use Rattle.block_layout.specs.{Rows.OpenBlock, Batches.Resolved, Batches.rows_step, Batches.rows_all, Batches.outcomes_all}
 use Rattle.batch_shards.specs.Shards.{resolved_at, resolved_in}
 use Rattle.batch_shards.specs.declared.shard.{Step.Step, Act.TheVariants.Edge}
 use Rattle.std.specs.{Prelude.pos, declared.option.Option.TheVariants.None}
 use Rattle.graph_model.specs.declared.changes.EdgeChange.TheVariants.{Insert}
-
-pub same_number : (a : ℕ) → (a == a) ≡ true
-same_number a = Rattle.std.proofs.lemmas.Bool.true_from_ne_false (a == a)
-    (λ e. Rattle.std.proofs.lemmas.Bool.eqb-false a a e refl)
-
-pub other_number : (a b : ℕ) → (a ≡ b → ⊥) → (a == b) ≡ false
-other_number a b n = false_from_ne_true (a == b) (λ e. n (eqb-true a b e))
 
 -- what is not before a place, and not there, is behind it
 pub further : (k i : ℕ) → i ≤ k → (k ≡ i → ⊥) → i + 1 ≤ k

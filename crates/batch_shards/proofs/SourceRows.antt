@@ -2,8 +2,8 @@
 use Rattle.std.proofs.Common.{◌≡◌, ℕ, ◌+◌, ◌<◌, true, false, List, [], ◌∷◌, ◌++◌, length, get_or, map, flat_map, count_by, take}
 use Rattle.std.proofs.Common.{refl, sym, ap, ap₂, ◌∙◌, arith, All}
 use Rattle.std.specs.{declared.sync.Arc.Arc, declared.alloc.Global.Global, List.sum_by}
-use Rattle.std.proofs.lemmas.{Bool.false≢true, Grind.flat_map-append}
-use Rattle.std.proofs.lemmas.List.{map-append, take_more, append-nil, get_or_default, Sums.sum_by-append, Elements.All-push}
+use Rattle.std.proofs.lemmas.{Bool.false≢true}
+use Rattle.std.proofs.lemmas.List.{map-append, take_more, get_or_default, Sums.sum_by-append, Elements.All-push}
 use Rattle.graph_model.specs.declared.batches.Outcome.{Outcome, TheVariants.Expired}
 use Rattle.edge_block.specs.{declared.blocks.Block.Block, Slots.BlockView}
 use Rattle.block_layout.specs.Batches.{outcome_in, together, rows_all, opened}
@@ -14,13 +14,9 @@ use Rattle.batch_shards.specs.{Shards.key_at, Shards.resolved_at, Shards.resolve
 use Rattle.batch_shards.specs.Groups.{is_past, does_act, told, outcome_over, IsTold, IsSourceRow, IsOneMore}
 use Rattle.batch_shards.specs.Progress.{AreOutcomes, AreRowsDone}
 use Rattle.batch_shards.specs.declared.shard.{OpenRow.OpenRow, ShardDone.ShardDone, Step.Step}
-use Rattle.batch_shards.proofs.{Places.count_by-append, ShardSteps.first_step, SourceSteps.outcome_of, SourceSteps.past_here}
+use Rattle.batch_shards.proofs.{Places.count_by-append, Places.one_piece, ShardSteps.first_step, SourceSteps.outcome_of, SourceSteps.past_here}
 use Rattle.batch_shards.proofs.Expiring.{edge_stands, told_more}
 use Rattle.batch_shards.specs.declared.shard.Act.{Act, TheVariants.Edge, TheVariants.Expire}
-
--- a list of pieces, with one more
-pub one_piece : {A B : Type 0} (f : A → List B) (xs : List A) (x : A) → flat_map f (xs ++ x ∷ []) ≡ flat_map f xs ++ f x
-one_piece f xs x = flat_map-append f xs (x ∷ []) ∙ ap (λ ys. flat_map f xs ++ ys) (append-nil (f x))
 
 module _ (rows : ℕ → List BlockView) (sources : List ℕ) (steps : List Step) where
   -- the outcome of an operation with one more row

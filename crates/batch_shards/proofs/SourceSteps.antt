@@ -3,7 +3,7 @@ use Rattle.std.proofs.Common.{◌≡◌, ℕ, zero, suc, ◌+◌, ◌-◌, ◌<�
 use Rattle.std.proofs.Common.{get_or, set, ◌||◌, min, take, count_by, refl, sym, ap, ◌∙◌, arith, subst}
 use Rattle.std.specs.{Prelude.slice_index, Prelude.nat_lt, List.sum_by}
 use Rattle.std.specs.declared.option.Option.TheVariants.{None, Some}
-use Rattle.std.proofs.lemmas.Bool.{false≢true, or_right, eqb-true, eqb-false, ltb-true, ltb-false, lt-ltb, le-ltb}
+use Rattle.std.proofs.lemmas.Bool.{false≢true, or_right, eq-eqb, eqb-true, eqb-false, ne_eqb, ltb-true, ltb-false, lt-ltb, le-ltb}
 use Rattle.std.proofs.lemmas.List.{get_or-set_same, get_or-set_other}
 use Rattle.std.proofs.lemmas.List.Sums.{count_by_more_yes, count_by_more_no, sum_by-cons}
 use Rattle.graph_model.specs.{Step.outcome_at, declared.batches.Outcome.Outcome, declared.batches.Outcome.TheVariants.Expired}
@@ -14,7 +14,7 @@ use Rattle.batch_shards.specs.{Shards.IsAct, Shards.resolved_at, Shards.resolved
 use Rattle.batch_shards.specs.Groups.{is_at, is_past, does_act, may_change, key_of, IsNext, LeadsTo, IsSourceRow, IsOneMore}
 use Rattle.batch_shards.specs.Groups.{IsTold, told, outcome_over, act_step, act_outcome}
 use Rattle.batch_shards.specs.declared.shard.{Act.Act, Act.TheVariants.Edge, Act.TheVariants.Expire, Place.Place, Step.Step}
-use Rattle.batch_shards.proofs.ShardSteps.{same_number, other_number, further, apart, first_step, all_rows_more}
+use Rattle.batch_shards.proofs.ShardSteps.{further, apart, first_step, all_rows_more}
 use Rattle.batch_shards.proofs.{Expiring.told_none, Young.young_before, Young.young_stays}
 
 -- the outcome of an operation is that of the rows which those before it leave
@@ -59,7 +59,7 @@ past_more row (s ∷ steps) =
             | true ↦ λ t.
                 let lt : a < row = ltb-true a row t in
                 let next : nat_lt a (row + 1) ≡ true = lt-ltb a (row + 1) (omega arith) in
-                let other : (a == row) ≡ false = other_number a row (λ e. absurd (omega arith)) in
+                let other : (a == row) ≡ false = ne_eqb a row (λ e. absurd (omega arith)) in
                 rw (next, other) refl
             | false ↦ λ t.
                 let ge : row ≤ a = ltb-false a row t in
@@ -85,7 +85,7 @@ module _ (sources : List ℕ) (steps : List Step) (row source : ℕ) (is : IsSou
       → rows_step (resolved_at sources (Edge (Some p) change)) rows source ≡ key_step change (key_of source (Some p)) (rows source)
   stepped_edge change p rows e =
       let mine : slice_index sources p.row ≡ source = ap (slice_index sources) (eqb-true p.row row e) ∙ is.source_is in
-      let same : (source == slice_index sources p.row) ≡ true = ap (λ s. source == s) mine ∙ same_number source in
+      let same : (source == slice_index sources p.row) ≡ true = ap (λ s. source == s) mine ∙ eq-eqb source source refl in
       ap (λ b. cond b (change_row change (p.kind.0, p.target) (rows source)) (rows source)) same
 
   row_stepped : (act : Act) (rows : ℕ → List OpenBlock) → does_act row act ≡ true
@@ -99,7 +99,7 @@ module _ (sources : List ℕ) (steps : List Step) (row source : ℕ) (is : IsSou
       → rows_step (resolved_at sources act) rows source ≡ rows source
   row_passed since (Edge None change) rows w young e = refl
   row_passed since (Edge (Some p) change) rows w young e =
-      let other : (source == slice_index sources p.row) ≡ false = other_number source (slice_index sources p.row)
+      let other : (source == slice_index sources p.row) ≡ false = ne_eqb source (slice_index sources p.row)
       (λ s. apart sources row p.row 0 is.distinct is.within w.0
       (λ r. eqb-false p.row row (or_none (p.row == row) e) (sym r)) (is.source_is ∙ s)) in
       ap (λ b. cond b (change_row change (p.kind.0, p.target) (rows source)) (rows source)) other

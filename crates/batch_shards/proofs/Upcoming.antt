@@ -2,10 +2,11 @@
 use Rattle.std.proofs.Common.{◌≡◌, ℕ, ◌+◌, ◌<◌, ◌==◌, Bool, true, false, cond, List, length, get_or, set, refl, sym, ap, ◌∙◌, arith}
 use Rattle.std.proofs.{Common.subst, lemmas.Bool.eqb-true, lemmas.Bool.eqb-false, lemmas.Bool.false≢true, Math.ListN.length-set}
 use Rattle.std.specs.declared.option.Option.TheVariants.{Some}
+use Rattle.std.proofs.lemmas.Bool.{eq-eqb, ne_eqb}
 use Rattle.std.proofs.lemmas.List.{get_or-set_same, get_or-set_other, get_or_default}
 use Rattle.batch_shards.specs.Groups.{is_at, is_expiry, IsNext, AreGroups, AreExpiries}
 use Rattle.batch_shards.specs.declared.shard.{Step.Step, Place.Place, Act.Act, Act.TheVariants.Edge}
-use Rattle.batch_shards.proofs.ShardSteps.{first_step, same_number, other_number, further}
+use Rattle.batch_shards.proofs.ShardSteps.{first_step, further}
 use Rattle.graph_model.specs.declared.changes.EdgeChange.{EdgeChange}
 
 -- the next operation of a kind is here, or it is the next behind
@@ -68,13 +69,13 @@ groups_more steps i first next p change lt is row_in next_in x = record {
             let same : row ≡ p.row = eqb-true row p.row t in
             subst (λ n. IsNext (is_at row) steps i n)
             (sym (ap (λ r. get_or (set first p.row i) r 0) same ∙ get_or-set_same first p.row i 0 row_in))
-            (next_here (is_at row) steps i lt (ap (is_at row) is ∙ ap (λ r. p.row == r) same ∙ same_number p.row))
+            (next_here (is_at row) steps i lt (ap (is_at row) is ∙ ap (λ r. p.row == r) same ∙ eq-eqb p.row p.row refl))
         | false ↦ λ t.
             let ne = eqb-false row p.row t in
             let long = length-set first p.row i in
             subst (λ n. IsNext (is_at row) steps i n) (sym (get_or-set_other first p.row row i 0 ne))
             (next_past (is_at row) steps i lt (get_or first row 0)
-            (ap (is_at row) is ∙ other_number p.row row (λ e. ne (sym e))) (x.firsts row (omega arith)))
+            (ap (is_at row) is ∙ ne_eqb p.row row (λ e. ne (sym e))) (x.firsts row (omega arith)))
       ] refl;
   nexts = λ row k s ge inside at.
       elim (k == i) as (λ b. (k == i) ≡ b

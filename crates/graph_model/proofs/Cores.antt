@@ -4,7 +4,8 @@ use Rattle.std.proofs.Common.{◌≡◌, ◌≢◌, ℕ, zero, suc, ◌<◌, ◌
 use Rattle.std.proofs.Common.{length, get_or, set, map, true, false, Bool, ◌&&◌, ◌||◌, not}
 use Rattle.std.specs.Prelude.{sum, nat_le, count_by, filter, IsTrue, ◌==◌}
 use Rattle.std.specs.List.{Contains, range_with_len, list_any}
-use Rattle.std.proofs.lemmas.Bool.{cases_eq, cases_lt, cases_Bool, and_parts, eqb-true, Decides.nat_tests, Decides.Decides-eqb}
+use Rattle.std.proofs.lemmas.Bool.{cases_eq, cases_lt, cases_Bool, and_parts, or_right, eqb-true}
+use Rattle.std.proofs.lemmas.Bool.Decides.{nat_tests, Decides-eqb}
 use Rattle.std.proofs.lemmas.{Option.get_or_from_slice_get, Option.slice_get_within, List.FromFn.get_or-map-range_with_len}
 use Rattle.std.proofs.lemmas.List.{get_or-set_same, get_or-set_other, length-set, get_or_past, get_or_default}
 use Rattle.std.proofs.lemmas.List.{Sums.length-filter, Sums.count_by-le-length, Elements.All-contains, Kept.AllPairs-filter}
@@ -159,10 +160,6 @@ module _ (f : Filter) (g : Graph) (n : ℕ) (neighbors : ℕ → List ℕ) (are 
       let first = map (λ v. length (neighbors v)) (range_with_len 0 n) in
       settle_from (sum first) first (omega arith) (length-map-range_with_len (λ v. length (neighbors v)) 0 n)
       (upper_first first (λ v h. get_or-map-range_with_len (λ v. length (neighbors v)) 0 n v v 0 h (omega arith)))
-
-or_right : (a b : Bool) → b ≡ true → (a || b) ≡ true
-or_right true b e = refl
-or_right false b e = e
 
 both_same : (v w : ℕ) → ((v == v) && (w == w)) ≡ true
 both_same v w = grind (arith, nat_tests)

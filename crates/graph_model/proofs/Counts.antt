@@ -2,7 +2,7 @@
 use Rattle.std.proofs.Common.{◌≡◌, ◌≢◌, ℕ, zero, suc, ◌+◌, ◌<◌, ◌≤◌, arith, refl, sym, ap, ◌∙◌, ◌⊎◌, inl, inr, List, [], ◌∷◌}
 use Rattle.std.proofs.Common.{length, cond, true, false, Bool, not}
 use Rattle.std.specs.{Prelude.◌==◌, Prelude.AllPairs, Prelude.count_by, Prelude.filter, List.Contains}
-use Rattle.std.proofs.lemmas.{Bool.cases_Bool, Bool.Decides.Decides-eqb, List.Sums.sum_by-cons, List.Sums.length-filter}
+use Rattle.std.proofs.lemmas.{Bool.ne_eqb, Bool.Decides.Decides-eqb, List.Sums.sum_by-cons, List.Sums.length-filter}
 
 module _ {X : Type 0} where
   pub Contains-cons_cases : (x : X) (xs : List X) (y : X) → Contains (x ∷ xs) y → (x ≡ y) ⊎ Contains xs y
@@ -56,9 +56,6 @@ module _ {X : Type 0} where
         | false ↦ λ e c. let r = filter_contains p ys x c in (Contains-cons y ys x r.0, r.1)
       ] refl c
 
-differ : (y x : ℕ) → (y ≡ x → ⊥) → (y == x) ≡ false
-differ y x ne = elim (cases_Bool (y == x)) [ inl t ↦ absurd (ne ((Decides-eqb y x).0 t)) | inr f ↦ f ]
-
 abbrev others : ℕ → List ℕ → List ℕ
 others x ys = filter (λ y. not (y == x)) ys
 
@@ -86,7 +83,7 @@ pub sub_length : (xs ys : List ℕ) → AllPairs (λ a b. a ≢ b) xs → ((x : 
 sub_length [] ys h sub = omega arith
 sub_length (x ∷ xs) ys h sub =
     let one = sub_length xs (others x ys) (apart_tail x xs h)
-    (λ z c. contains_filter (λ y. not (y == x)) ys z (ap not (differ z x (λ e. apart_head x xs z h c (sym e))))
+    (λ z c. contains_filter (λ y. not (y == x)) ys z (ap not (ne_eqb z x (λ e. apart_head x xs z h c (sym e))))
     (sub z (Contains-cons x xs z c))) in
     let some = fewer_others x ys (sub x (Contains-first x xs x refl)) in
     omega arith

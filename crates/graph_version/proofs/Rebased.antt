@@ -1,9 +1,10 @@
 -- A version 0 over copies of another version's blocks.
 use Rattle.std.proofs.Common.{◌≡◌, ◌≢◌, ℕ, zero, suc, ◌+◌, ◌-◌, ◌<◌, ◌≤◌, List, [], ◌∷◌, ◌++◌, map, length, take}
-use Rattle.std.proofs.Common.{drop, get_or, refl, sym, ap, ap₂, subst, ◌∙◌, arith, ◌⊎◌, inl, inr, All, AllPairs, length-append}
-use Rattle.std.proofs.lemmas.List.{append-nil, take_all, drop_all, length-map, map-append}
+use Rattle.std.proofs.Common.{drop, get_or, refl, sym, ap, ap₂, subst, ◌∙◌, arith, inl, inr, All, AllPairs, length-append}
+use Rattle.std.proofs.lemmas.List.{append-nil, take-append-drop, take_all, drop_all, length-map, map-append}
 use Rattle.std.specs.{List.list_all, declared.sync.Arc.Arc, declared.alloc.Global.Global, FinMap.len}
-use Rattle.std.proofs.lemmas.{Bool.Decides.eqb_tells, List.Elements.All-head, List.Elements.All-tail, List.Elements.All-cons}
+use Rattle.std.proofs.lemmas.Bool.{cases_lt, Decides.eqb_tells}
+use Rattle.std.proofs.lemmas.List.Elements.{All-head, All-tail, All-cons}
 use Rattle.graph_model.specs.{Graph.Graph, Graph.graph_of, Graph.map_of, Limits.name_limit, Limits.kind_limit}
 use Rattle.graph_model.specs.declared.{batches.NamedOp.NamedOp, contents.Content.Content, ids.Edge.Edge}
 use Rattle.edge_block.specs.Slots.{Slot, BlockView, is_free, entry_in, entries_of, edges_in}
@@ -19,11 +20,6 @@ use Rattle.graph_version.specs.Rebased.{AreCopies, IsRebased, rows_like, unnumbe
 use Rattle.graph_version.proofs.{Shown.rows_each_once, Totals.same_blocks, Totals.at_source, Totals.elsewhere}
 
 -- Lists cut in two
-
-take_drop : {A : Type 0} (n : ℕ) (xs : List A) → take n xs ++ drop n xs ≡ xs
-take_drop zero xs = refl
-take_drop (suc n) [] = refl
-take_drop (suc n) (x ∷ xs) = ap (λ ys. x ∷ ys) (take_drop n xs)
 
 pub map_take : {A B : Type 0} (f : A → B) (n : ℕ) (xs : List A) → map f (take n xs) ≡ take n (map f xs)
 map_take f zero xs = refl
@@ -82,7 +78,7 @@ blocks_like (row ∷ rows) bs long =
     let both = length-append row (blocks_of rows) in
     let rest = length-drop (length row) bs in
     ap (λ xs. take (length row) bs ++ xs) (blocks_like rows (drop (length row) bs) (omega arith))
-    ∙ take_drop (length row) bs
+    ∙ take-append-drop (length row) bs
 
 -- rows of blocks that are the same but for their numbers
 pub unnumbered_like : (rows : List (List BlockView)) (bs : List BlockView)
@@ -150,17 +146,12 @@ row_more rows blocks k copy next left row rest so_far lt row_is rest_is replaced
       below_or : (s m : ℕ) → s < m + 1 → s ≢ m → s < m
       below_or s m lt apart = omega arith
 
-below_or_past : (n m : ℕ) → (n < m) ⊎ (m ≤ n)
-below_or_past n zero = inr (omega arith)
-below_or_past zero (suc m) = inl (omega arith)
-below_or_past (suc n) (suc m) = elim (below_or_past n m) [ inl lt ↦ inl (omega arith) | inr le ↦ inr (omega arith) ]
-
 pub all_made : (rows : List (List BlockView)) (blocks : List BlockView) (k : ℕ) (copy : List (List BlockView))
     (left : List BlockView) → AreSoFar rows blocks k copy left → length rows ≤ k → (s : ℕ)
     → row_of copy s ≡ row_of (rows_like rows blocks) s
 all_made rows blocks k copy left so_far le s =
     let long = length-rows_like rows blocks in
-    elim (below_or_past s k) [
+    elim (cases_lt s k) [
       | inl lt ↦ so_far.made s lt
       | inr from ↦ so_far.none s from ∙ sym (past (rows_like rows blocks) s [] (omega arith))
     ]

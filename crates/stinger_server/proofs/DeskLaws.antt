@@ -3,7 +3,7 @@ use Rattle.std.proofs.Common.{◌≡◌, ◌≢◌, ℕ, zero, suc, ◌+◌, Boo
 use Rattle.std.proofs.Common.{length, map, not, count_by, filter, replicate, refl, sym, ap, ◌∙◌, arith}
 use Rattle.std.specs.{Prelude.Ok, Prelude.Err, Prelude.if◌then◌else◌, FinMap.len}
 use Rattle.std.proofs.lemmas.List.{length-append}
-use Rattle.batch_apply.proofs.Kept.{count_append}
+use Rattle.batch_shards.proofs.Places.{count_by-append}
 use Rattle.block_layout.specs.Batches.{layout_after, taken_by}
 use Rattle.block_pool.specs.Pools.{Status, Free, Granted, Used, Retired, is_free, is_past, is_retired, is_used}
 use Rattle.block_pool.proofs.Tallies.{count_more}
@@ -162,7 +162,7 @@ dated_counts : (q : ℕ → ℕ → Bool) (retired : List Dates) (births : List 
     → count_by (λ (x : Dates). q x.birth x.since) (retired ++ map (λ birth. dates birth n) births)
     ≡ count_by (λ (x : Dates). q x.birth x.since) retired + count_by (λ birth. q birth n) births
 dated_counts q retired births n =
-    count_append (λ (x : Dates). q x.birth x.since) retired (map (λ birth. dates birth n) births)
+    count_by-append (λ (x : Dates). q x.birth x.since) retired (map (λ birth. dates birth n) births)
     ∙ ap (λ k. count_by (λ (x : Dates). q x.birth x.since) retired + k) (dated q births n)
 
 pub batches_after : (d e : DeskView) (ops : List NamedOp) → Accepts d ops e → e.last.batches ≡ d.last.batches ++ ops ∷ []

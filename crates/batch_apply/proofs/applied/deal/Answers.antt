@@ -4,7 +4,8 @@ use Rattle.std.specs.List.{sum_by, AllZip}
 use Rattle.std.proofs.lemmas.{Iterator.Adapters.YieldsList-from_vec, Iterator.Consumers.YieldsList-turn, List.Sums.sum_by-take-le}
 use Rattle.batch_shards.specs.{RowBlocks.numbers_of, declared.shard.Shard.Shard}
 use Rattle.batch_apply.specs.{Jobs.IsDealt, declared.workers.Job.Job}
-use Rattle.batch_apply.proofs.{Dealt.sum_taken, Dealt.zip_push, Halves.zip_more, Kept.count_append, Loops.flat_more}
+use Rattle.batch_apply.proofs.{Dealt.sum_taken, Dealt.zip_push, Halves.zip_more}
+use Rattle.batch_shards.proofs.Places.{count_by-append, one_piece}
 use Rattle.batch_apply.proofs.applied.deal.Goals as goal
 
 -- what the plan's next shard needs is left
@@ -79,7 +80,7 @@ loop-shard-preserved c =
           (let jobs : count_by q (flat_map fresh_of c.push.new.self.items)
           ≡ count_by q (flat_map fresh_of c.loop-shard.jobs.items) + count_by q (numbers_of c.in_ok-fresh.fresh.items) =
           ap (λ js. count_by q (flat_map fresh_of js)) c.in_ok-push.ensures.items
-          ∙ ap (count_by q) (flat_more fresh_of c.loop-shard.jobs.items job)
-          ∙ count_append q (flat_map fresh_of c.loop-shard.jobs.items) (fresh_of job) in
+          ∙ ap (count_by q) (one_piece fresh_of c.loop-shard.jobs.items job)
+          ∙ count_by-append q (flat_map fresh_of c.loop-shard.jobs.items) (fresh_of job) in
           omega (arith, jobs, c.in_ok-fresh.ensures.numbers q, c.loop-shard.invariant.numbers q));
     }

@@ -2,7 +2,8 @@ use Rattle.std.proofs.{Common.◌++◌, Common.List, Common.replicate, Common.sy
 use Rattle.graph_model.specs.declared.batches.Outcome.TheVariants.{Absent}
 use Rattle.batch_shards.specs.{RowBlocks.blocks_of, RowBlocks.numbers_of, Closing.row_values, declared.shard.ShardDone.ShardDone}
 use Rattle.batch_apply.specs.Plans.{written}
-use Rattle.batch_apply.proofs.Loops.{flat_more, from_more}
+use Rattle.batch_shards.proofs.Places.{one_piece}
+use Rattle.batch_apply.proofs.Loops.{from_more}
 use Rattle.batch_apply.proofs.applied.gather.Goals as goal
 
 pub loop-done-preserved : goal.loop-done-preserved
@@ -15,14 +16,14 @@ loop-done-preserved c =
       outcomes = now.outcomes ∙ ap (written d.outcomes.items) was.outcomes
           ∙ sym (from_more before d (replicate c.args.operations Absent));
       rows = now.rows ∙ ap (λ l. l ++ row_values d.rows.items) was.rows
-          ∙ sym (flat_more (λ (d : ShardDone). row_values d.rows.items) before d);
+          ∙ sym (one_piece (λ (d : ShardDone). row_values d.rows.items) before d);
       taken = now.taken ∙ ap (λ l. l ++ d.left.taken.items) was.taken
-          ∙ sym (flat_more (λ (d : ShardDone). d.left.taken.items) before d);
+          ∙ sym (one_piece (λ (d : ShardDone). d.left.taken.items) before d);
       dropped = now.dropped ∙ ap (λ l. l ++ blocks_of d.left.dropped.items) was.dropped
-          ∙ sym (flat_more (λ (d : ShardDone). blocks_of d.left.dropped.items) before d);
+          ∙ sym (one_piece (λ (d : ShardDone). blocks_of d.left.dropped.items) before d);
       unused =
           now.unused ∙ ap (λ l. l ++ numbers_of d.left.unused.items) was.unused
           ∙ append_assoc (numbers_of c.args.unused.items) _ (numbers_of d.left.unused.items)
           ∙ ap (λ l. numbers_of c.args.unused.items ++ l)
-          (sym (flat_more (λ (d : ShardDone). numbers_of d.left.unused.items) before d));
+          (sym (one_piece (λ (d : ShardDone). numbers_of d.left.unused.items) before d));
     }

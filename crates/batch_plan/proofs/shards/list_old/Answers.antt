@@ -1,9 +1,9 @@
 use Rattle.std.proofs.Common.{◌≡◌, ◌+◌, ◌-◌, ◌^◌, ◌<◌, ◌%◌, ◌==◌, ◌++◌, true, false, cond, ℕ, List, [], ◌∷◌, length, get_or, min}
-use Rattle.std.proofs.Common.{ap, sym, ◌∙◌, arith, nat_eq}
+use Rattle.std.proofs.Common.{ap, refl, sym, ◌∙◌, arith, nat_eq}
 use Rattle.std.specs.List.{list_any}
+use Rattle.std.proofs.lemmas.Bool.{eq-eqb, ne_eqb}
 use Rattle.batch_plan.specs.{OldRows.old_sources, OldRows.blocks_in, declared.old.OldRow.OldRow}
 use Rattle.batch_plan.specs.Shards.{source_numbers, with_number}
-use Rattle.batch_plan.proofs.Growth.{same_number, other_number}
 use Rattle.batch_plan.proofs.Listing.{not_before, one_other, one_source, one_row}
 use Rattle.batch_plan.proofs.shards.list_old.Goals.{then-row-workers+in_ok-place_in_table, else-row-workers}
 use Rattle.batch_plan.proofs.shards.list_old.Goals as goal
@@ -26,7 +26,7 @@ loop-row-preserved c =
     let keys : List ℕ = c.loop-row.places.keys in
     elim c.if-row-workers.branch [
       | then-row-workers+in_ok-place_in_table w ↦
-          let mine : s % workers == worker ≡ true = ap (λ q. q == worker) w.if-row-workers.true ∙ same_number worker in
+          let mine : s % workers == worker ≡ true = ap (λ q. q == worker) w.if-row-workers.true ∙ eq-eqb worker worker refl in
           let new : list_any (nat_eq s) keys ≡ false = ap (list_any (nat_eq s)) c.loop-row.invariant.own
           ∙ not_before workers worker old i d c.requires.distinct lt in
           let added : source_numbers w.place_in_table.new.sources.items ≡ keys ++ s ∷ [] = w.in_ok-place_in_table.ensures.sources
@@ -39,7 +39,7 @@ loop-row-preserved c =
                 (one_row workers worker old i d lt mine));
           }
       | else-row-workers w ↦
-          let same_own = one_other workers worker old i d lt (other_number (s % workers) worker w.if-row-workers.false) in
+          let same_own = one_other workers worker old i d lt (ne_eqb (s % workers) worker w.if-row-workers.false) in
           record {
             same = rw (w.sources-is, w.places-is) c.loop-row.invariant.same;
             own = rw w.places-is (c.loop-row.invariant.own ∙ ap old_sources (sym same_own));

@@ -1,13 +1,10 @@
-use Rattle.std.proofs.Common.{◌≡◌, ℕ, ◌++◌, List, [], ◌∷◌, ap, sym, ◌∙◌, append_assoc, map}
-use Rattle.std.specs.Prelude.{flat_map}
-use Rattle.std.proofs.lemmas.{List.append-nil, List.map-append, Grind.flat_map-append}
+use Rattle.std.proofs.Common.{◌≡◌, ℕ, ◌++◌, List, ap, sym, ◌∙◌, append_assoc, map}
+use Rattle.std.proofs.lemmas.List.{map-append}
 use Rattle.edge_block.specs.Slots.{BlockView}
 use Rattle.batch_shards.specs.Closing.{after_here, written_here, dropped_here, unused_here, written_of}
 use Rattle.batch_shards.specs.declared.row_blocks.RowBlock.{RowBlock}
+use Rattle.batch_shards.proofs.Places.{one_piece}
 use Rattle.batch_shards.proofs.shard.close_row.Goals as goal
-
-flat_map-push : {A B : Type 0} (f : A → List B) (xs : List A) (x : A) → flat_map f (xs ++ x ∷ []) ≡ flat_map f xs ++ f x
-flat_map-push f xs x = flat_map-append f xs (x ∷ []) ∙ ap (λ l. flat_map f xs ++ l) (append-nil (f x))
 
 -- what one more block adds behind a base
 behind : {A : Type 0} (base so_far here old new all : List A) → new ≡ old ++ here → old ≡ base ++ so_far → all ≡ so_far ++ here
@@ -22,12 +19,12 @@ loop-block-preserved c =
     let number : BlockView → ℕ = λ b. b.number in
     record {
       row = c.in_ok-close_block.ensures.row ∙ ap (λ l. l ++ after_here block) c.loop-block.invariant.row
-          ∙ sym (flat_map-push after_here done block);
+          ∙ sym (one_piece after_here done block);
       taken = behind _ (map number (written_of done)) (map number (written_here block)) _ _ _ c.in_ok-close_block.ensures.taken
-          c.loop-block.invariant.taken (ap (map number) (flat_map-push written_here done block)
+          c.loop-block.invariant.taken (ap (map number) (one_piece written_here done block)
           ∙ map-append number (written_of done) (written_here block));
       dropped = behind _ _ _ _ _ _ c.in_ok-close_block.ensures.dropped c.loop-block.invariant.dropped
-          (flat_map-push dropped_here done block);
+          (one_piece dropped_here done block);
       unused = behind _ _ _ _ _ _ c.in_ok-close_block.ensures.unused c.loop-block.invariant.unused
-          (flat_map-push unused_here done block);
+          (one_piece unused_here done block);
     }
