@@ -1,190 +1,241 @@
--- A record is refused for what it says, and never for a failed read or want of memory.
-use Rattle.std.proofs.Common.{◌≡◌, ◌≢◌, ℕ, Bool, true, false, cond, codes, List, Option, Some, None, Result, Ok, Err, refl, rules}
-use Rattle.feed_csv.specs.Commands.{Refuses, close_of, commit_of, cores_of, degrees_of, edge_of, expire_of, incr_of, insert_of, item_of}
-use Rattle.feed_csv.specs.Commands.{collect_of, rebase_of, stat_of, labels_of, levels_of, open_of, remove_of}
-use Rattle.feed_csv.specs.Fields.{◌>>=◌, any_kind_at, field, kind_at, name_at, of_length, required, slot_at, time_at, weight_at}
-use Rattle.feed_csv.specs.{Records.Row, Script.FaultStep, Script.Script, Script.TakesRow}
+-- A record is refused for what it says, and never for a failed read or want of memory; and an operation that it gives is valid.
+use Rattle.std.proofs.Common.{◌≡◌, ◌≢◌, ℕ, ◌≤◌, ℤ, pos, neg_ℤ, Bool, true, false, cond, codes, List, Option, Some, None, Result}
+use Rattle.std.proofs.Common.{Ok, Err, IsTrue, length, nat_eq, IfOk, IfSome, option_map, drop, refl, subst, arith, rules}
+use Rattle.std.proofs.lemmas.Grind.{common_steps}
 use Rattle.std.specs.Str.{bytes_eq}
-use Rattle.feed_csv.specs.declared.command.FeedWord.{FeedWord, TheVariants.Read, TheVariants.BadCommand, TheVariants.Memory}
+use Rattle.graph_model.specs.{Limits.is_time, Limits.is_weight, Valid.are_names, Valid.is_kind_name, Valid.is_name}
+use Rattle.feed_csv.specs.Commands.{HasValidOp, Refuses, close_of, commit_of, cores_of, degrees_of, edge_of, expire_of, incr_of}
+use Rattle.feed_csv.specs.Commands.{collect_of, insert_of, item_of, labels_of, levels_of, open_of, rebase_of, remove_of, stat_of}
+use Rattle.feed_csv.specs.Fields.{◌>>=◌, any_kind_at, field, kind_at, name_at, of_length, required, slot_at, time_at, weight_at}
+use Rattle.feed_csv.specs.Number.{at_most, has_minus, number_of, slot_of, time_of, weight_of}
+use Rattle.feed_csv.specs.{Records.Row, Script.FaultStep, Script.NextStep, Script.Script, Script.TakesRow}
+use Rattle.feed_csv.specs.declared.command.{Command.Command, FeedFault.FeedFault}
+use Rattle.feed_csv.specs.declared.command.FeedWord.{FeedWord, TheVariants.Read, TheVariants.BadCommand, TheVariants.BadFields}
+use Rattle.feed_csv.specs.declared.command.FeedWord.TheVariants.{BadName, BadWeight, BadTime, BadSlot, Memory}
 
 abbrev pub IsOfRecord : FeedWord → Type 0
 IsOfRecord Read = ⊥
 IsOfRecord Memory = ⊥
 IsOfRecord _ = Unit {0}
 
--- a result whose word, where it has one, is of the record
-pub record FailsByRecord {A : Type 0} (result : Result A FeedWord) : Type 0 where
+-- a result whose word, where it has one, is of the record, and whose value is good
+pub record Judges {A : Type 0} (Good : A → Type 0) (result : Result A FeedWord) : Type 0 where
   pub fails : (word : FeedWord) → result ≡ Err word → IsOfRecord word
+  pub gives : (value : A) → result ≡ Ok value → Good value
 
-given : {A : Type 0} (value : A) → FailsByRecord (Ok value)
-given value = record { fails = λ word same. cc same }
+abbrev Any : {A : Type 0} → A → Type 0
+Any value = Unit {0}
 
-refused : {A : Type 0} (word : FeedWord) → IsOfRecord word → FailsByRecord {A = A} (Err word)
-refused word of = record { fails = λ other same. let e : word ≡ other = cc same in rw (← e) of }
+given : {A : Type 0} {Good : A → Type 0} (value : A) → Good value → Judges Good (Ok value)
+given {Good = Good} value good = record {
+  fails = λ word same. cc same;
+  gives = λ other same. let e : value ≡ other = cc same in subst Good e good;
+}
 
-then : {A B : Type 0} (first : Result A FeedWord) (next : A → Result B FeedWord) → FailsByRecord first
-    → ((value : A) → FailsByRecord (next value))
-    → FailsByRecord (first >>= next)
-then (Ok value) next here there = there value
+refused : {A : Type 0} {Good : A → Type 0} (word : FeedWord) → IsOfRecord word → Judges Good (Err word)
+refused word of = record {
+  fails = λ other same. let e : word ≡ other = cc same in rw (← e) of;
+  gives = λ value same. cc same;
+}
+
+then : {A B : Type 0} {Here : A → Type 0} {Good : B → Type 0} (first : Result A FeedWord) (next : A → Result B FeedWord)
+    → Judges Here first → ((value : A) → Here value → Judges Good (next value)) → Judges Good (first >>= next)
+then (Ok value) next here there = there value (here.gives value refl)
 then (Err word) next here there = refused word (here.fails word refl)
 
-tested : {A : Type 0} (test : Bool) (one other : Result A FeedWord) → FailsByRecord one → FailsByRecord other
-    → FailsByRecord (cond test one other)
-tested true one other a b = a
+tested : {A : Type 0} {Good : A → Type 0} (test : Bool) (one other : Result A FeedWord) → (IsTrue test → Judges Good one)
+    → Judges Good other → Judges Good (cond test one other)
+tested true one other a b = a refl
 tested false one other a b = b
 
-needed : {A : Type 0} (word : FeedWord) (value : Option A) → IsOfRecord word → FailsByRecord (required word value)
-needed word None of = refused word of
-needed word (Some value) of = given value
+needed : {A : Type 0} {Good : A → Type 0} (word : FeedWord) (value : Option A) → IsOfRecord word
+    → ((some : A) → value ≡ Some some → Good some) → Judges Good (required word value)
+needed word None of good = refused word of
+needed word (Some value) of good = given value (good value refl)
 
-of_length-fails : (count : ℕ) (row : Row) → FailsByRecord (of_length count row)
+-- a number that is at most another is at most it
+within : (most : ℕ) (value : Option ℕ) (n : ℕ) → at_most most value ≡ Some n → n ≤ most
+within most None n same = cc same
+within most (Some value) n same = grind (arith, common_steps, same)
+
+signed : (minus : Bool) (one other : Option ℕ) (weight : ℤ)
+    → cond minus (option_map (λ size. neg_ℤ (pos size)) (at_most 1099511627776 one))
+    (option_map pos (at_most 1099511627776 other))
+    ≡ Some weight → IsTrue (is_weight weight)
+signed true None other weight same = cc same
+signed true (Some size) other weight same = grind (arith, common_steps, same)
+signed false one None weight same = cc same
+signed false one (Some size) weight same = grind (arith, common_steps, same)
+
+weight_in_range : (text : List ℕ) (weight : ℤ) → weight_of text ≡ Some weight → IsTrue (is_weight weight)
+weight_in_range text weight same = signed (has_minus text) (number_of (drop 1 text)) (number_of text) weight same
+
+time_in_range : (text : List ℕ) (time : ℕ) → time_of text ≡ Some time → IsTrue (is_time time)
+time_in_range text time same =
+    let most : time ≤ 9223372036854775807 = within 9223372036854775807 (number_of text) time same in
+    grind (arith, common_steps, most)
+
+names_are : (kind source target : List ℕ) → IsTrue (is_kind_name kind) → IsTrue (is_name source) → IsTrue (is_name target)
+    → IsTrue (are_names kind source target)
+names_are kind source target one two three = search (rules, one, two, three)
+
+of_length-judges : (count : ℕ) (row : Row) → Judges Any (of_length count row)
 unfolding of_length
-of_length-fails count row = search (tested, given, refused, rules)
+of_length-judges count row =
+    tested (nat_eq (length row) count) (Ok row) (Err BadFields) (λ _. given row tt) (refused BadFields tt)
 
-name_at-fails : (row : Row) (place : ℕ) → FailsByRecord (name_at row place)
+name_at-judges : (row : Row) (place : ℕ) → Judges (λ name. IsTrue (is_name name)) (name_at row place)
 unfolding name_at
-name_at-fails row place = search (tested, given, refused, rules)
+name_at-judges row place =
+    let text = field row place in tested (is_name text) (Ok text) (Err BadName) (λ is. given text is) (refused BadName tt)
 
-kind_at-fails : (row : Row) (place : ℕ) → FailsByRecord (kind_at row place)
+kind_at-judges : (row : Row) (place : ℕ) → Judges (λ kind. IsTrue (is_kind_name kind)) (kind_at row place)
 unfolding kind_at
-kind_at-fails row place = search (tested, given, refused, rules)
+kind_at-judges row place =
+    let text = field row place in tested (is_kind_name text) (Ok text) (Err BadName) (λ is. given text is) (refused BadName tt)
 
-any_kind_at-fails : (row : Row) (place : ℕ) → FailsByRecord (any_kind_at row place)
+any_kind_at-judges : (row : Row) (place : ℕ) → Judges Any (any_kind_at row place)
 unfolding any_kind_at
-any_kind_at-fails row place = search (tested, given, refused, rules)
+any_kind_at-judges row place =
+    let text = field row place in
+    let kind = cond (is_kind_name text) (Ok (Some text)) (Err BadName) in
+    tested (bytes_eq text (codes "*")) (Ok None) kind (λ _. given None tt)
+    (tested (is_kind_name text) (Ok (Some text)) (Err BadName) (λ _. given (Some text) tt) (refused BadName tt))
 
-weight_at-fails : (row : Row) (place : ℕ) → FailsByRecord (weight_at row place)
+weight_at-judges : (row : Row) (place : ℕ) → Judges (λ weight. IsTrue (is_weight weight)) (weight_at row place)
 unfolding weight_at
-weight_at-fails row place = needed _ _ tt
+weight_at-judges row place = let text = field row place in needed BadWeight (weight_of text) tt (weight_in_range text)
 
-time_at-fails : (row : Row) (place : ℕ) → FailsByRecord (time_at row place)
+time_at-judges : (row : Row) (place : ℕ) → Judges (λ time. IsTrue (is_time time)) (time_at row place)
 unfolding time_at
-time_at-fails row place = needed _ _ tt
+time_at-judges row place = let text = field row place in needed BadTime (time_of text) tt (time_in_range text)
 
-slot_at-fails : (row : Row) (place : ℕ) → FailsByRecord (slot_at row place)
+slot_at-judges : (row : Row) (place : ℕ) → Judges Any (slot_at row place)
 unfolding slot_at
-slot_at-fails row place = needed _ _ tt
+slot_at-judges row place = needed BadSlot (slot_of (field row place)) tt (λ _ _. tt)
 
-insert_of-fails : (row : Row) → FailsByRecord (insert_of row)
+insert_of-judges : (row : Row) → Judges HasValidOp (insert_of row)
 unfolding insert_of
-insert_of-fails row =
-    then (of_length 6 row) _ (of_length-fails 6 row) (λ r.
-    then (kind_at r 1) _ (kind_at-fails r 1)
-    (λ v0. then (name_at r 2) _ (name_at-fails r 2) (λ v1. then (name_at r 3) _ (name_at-fails r 3) (λ v2.
-    then (weight_at r 4) _ (weight_at-fails r 4) (λ v3. then (time_at r 5) _ (time_at-fails r 5) (λ v4. given _))))))
+insert_of-judges row =
+    then (of_length 6 row) _ (of_length-judges 6 row) (λ r _. then (kind_at r 1) _ (kind_at-judges r 1) (λ v0 kind.
+    then (name_at r 2) _ (name_at-judges r 2) (λ v1 source. then (name_at r 3) _ (name_at-judges r 3) (λ v2 target.
+    then (weight_at r 4) _ (weight_at-judges r 4) (λ v3 weight. then (time_at r 5) _ (time_at-judges r 5) (λ v4 time.
+    given _ (record { names = names_are v0 v1 v2 kind source target; weight = weight; time = time })))))))
 
-incr_of-fails : (row : Row) → FailsByRecord (incr_of row)
+incr_of-judges : (row : Row) → Judges HasValidOp (incr_of row)
 unfolding incr_of
-incr_of-fails row =
-    then (of_length 6 row) _ (of_length-fails 6 row) (λ r.
-    then (kind_at r 1) _ (kind_at-fails r 1)
-    (λ v0. then (name_at r 2) _ (name_at-fails r 2) (λ v1. then (name_at r 3) _ (name_at-fails r 3) (λ v2.
-    then (weight_at r 4) _ (weight_at-fails r 4) (λ v3. then (time_at r 5) _ (time_at-fails r 5) (λ v4. given _))))))
+incr_of-judges row =
+    then (of_length 6 row) _ (of_length-judges 6 row) (λ r _. then (kind_at r 1) _ (kind_at-judges r 1) (λ v0 kind.
+    then (name_at r 2) _ (name_at-judges r 2) (λ v1 source. then (name_at r 3) _ (name_at-judges r 3) (λ v2 target.
+    then (weight_at r 4) _ (weight_at-judges r 4) (λ v3 weight. then (time_at r 5) _ (time_at-judges r 5) (λ v4 time.
+    given _ (record { names = names_are v0 v1 v2 kind source target; weight = weight; time = time })))))))
 
-remove_of-fails : (row : Row) → FailsByRecord (remove_of row)
+remove_of-judges : (row : Row) → Judges HasValidOp (remove_of row)
 unfolding remove_of
-remove_of-fails row =
-    then (of_length 4 row) _ (of_length-fails 4 row) (λ r.
-    then (kind_at r 1) _ (kind_at-fails r 1)
-    (λ v0. then (name_at r 2) _ (name_at-fails r 2) (λ v1. then (name_at r 3) _ (name_at-fails r 3) (λ v2. given _))))
+remove_of-judges row =
+    then (of_length 4 row) _ (of_length-judges 4 row) (λ r _. then (kind_at r 1) _ (kind_at-judges r 1) (λ v0 kind.
+    then (name_at r 2) _ (name_at-judges r 2) (λ v1 source. then (name_at r 3) _ (name_at-judges r 3) (λ v2 target.
+    given _ (record { names = names_are v0 v1 v2 kind source target; weight = refl; time = refl })))))
 
-expire_of-fails : (row : Row) → FailsByRecord (expire_of row)
+expire_of-judges : (row : Row) → Judges HasValidOp (expire_of row)
 unfolding expire_of
-expire_of-fails row =
-    then (of_length 2 row) _ (of_length-fails 2 row) (λ r.
-    then (time_at r 1) _ (time_at-fails r 1) (λ v0. given _))
+expire_of-judges row =
+    then (of_length 2 row) _ (of_length-judges 2 row) (λ r _. then (time_at r 1) _ (time_at-judges r 1) (λ v0 time.
+    given _ (record { names = refl; weight = refl; time = time })))
 
-commit_of-fails : (row : Row) → FailsByRecord (commit_of row)
+commit_of-judges : (row : Row) → Judges HasValidOp (commit_of row)
 unfolding commit_of
-commit_of-fails row =
-    then (of_length 1 row) _ (of_length-fails 1 row) (λ r. given _)
+commit_of-judges row =
+    then (of_length 1 row) _ (of_length-judges 1 row) (λ r _. given _ tt)
 
-open_of-fails : (row : Row) → FailsByRecord (open_of row)
+open_of-judges : (row : Row) → Judges HasValidOp (open_of row)
 unfolding open_of
-open_of-fails row =
-    then (of_length 2 row) _ (of_length-fails 2 row) (λ r.
-    then (slot_at r 1) _ (slot_at-fails r 1) (λ v0. given _))
+open_of-judges row =
+    then (of_length 2 row) _ (of_length-judges 2 row) (λ r _. then (slot_at r 1) _ (slot_at-judges r 1) (λ v0 _.
+    given _ tt))
 
-close_of-fails : (row : Row) → FailsByRecord (close_of row)
+close_of-judges : (row : Row) → Judges HasValidOp (close_of row)
 unfolding close_of
-close_of-fails row =
-    then (of_length 2 row) _ (of_length-fails 2 row) (λ r.
-    then (slot_at r 1) _ (slot_at-fails r 1) (λ v0. given _))
+close_of-judges row =
+    then (of_length 2 row) _ (of_length-judges 2 row) (λ r _. then (slot_at r 1) _ (slot_at-judges r 1) (λ v0 _.
+    given _ tt))
 
-levels_of-fails : (row : Row) → FailsByRecord (levels_of row)
+levels_of-judges : (row : Row) → Judges HasValidOp (levels_of row)
 unfolding levels_of
-levels_of-fails row =
-    then (of_length 6 row) _ (of_length-fails 6 row) (λ r. then (name_at r 2) _ (name_at-fails r 2) (λ v0.
-    then (any_kind_at r 3) _ (any_kind_at-fails r 3)
-    (λ v1. then (time_at r 4) _ (time_at-fails r 4) (λ v2. then (time_at r 5) _ (time_at-fails r 5) (λ v3.
-    then (slot_at r 1) _ (slot_at-fails r 1) (λ v4. given _))))))
+levels_of-judges row =
+    then (of_length 6 row) _ (of_length-judges 6 row) (λ r _. then (name_at r 2) _ (name_at-judges r 2) (λ v0 _.
+    then (any_kind_at r 3) _ (any_kind_at-judges r 3) (λ v1 _. then (time_at r 4) _ (time_at-judges r 4) (λ v2 _.
+    then (time_at r 5) _ (time_at-judges r 5) (λ v3 _. then (slot_at r 1) _ (slot_at-judges r 1) (λ v4 _. given _ tt))))))
 
-labels_of-fails : (row : Row) → FailsByRecord (labels_of row)
+labels_of-judges : (row : Row) → Judges HasValidOp (labels_of row)
 unfolding labels_of
-labels_of-fails row =
-    then (of_length 5 row) _ (of_length-fails 5 row) (λ r.
-    then (any_kind_at r 2) _ (any_kind_at-fails r 2)
-    (λ v0. then (time_at r 3) _ (time_at-fails r 3) (λ v1. then (time_at r 4) _ (time_at-fails r 4) (λ v2.
-    then (slot_at r 1) _ (slot_at-fails r 1) (λ v3. given _)))))
+labels_of-judges row =
+    then (of_length 5 row) _ (of_length-judges 5 row) (λ r _. then (any_kind_at r 2) _ (any_kind_at-judges r 2) (λ v0 _.
+    then (time_at r 3) _ (time_at-judges r 3) (λ v1 _. then (time_at r 4) _ (time_at-judges r 4) (λ v2 _.
+    then (slot_at r 1) _ (slot_at-judges r 1) (λ v3 _. given _ tt)))))
 
-cores_of-fails : (row : Row) → FailsByRecord (cores_of row)
+cores_of-judges : (row : Row) → Judges HasValidOp (cores_of row)
 unfolding cores_of
-cores_of-fails row =
-    then (of_length 5 row) _ (of_length-fails 5 row) (λ r.
-    then (any_kind_at r 2) _ (any_kind_at-fails r 2)
-    (λ v0. then (time_at r 3) _ (time_at-fails r 3) (λ v1. then (time_at r 4) _ (time_at-fails r 4) (λ v2.
-    then (slot_at r 1) _ (slot_at-fails r 1) (λ v3. given _)))))
+cores_of-judges row =
+    then (of_length 5 row) _ (of_length-judges 5 row) (λ r _. then (any_kind_at r 2) _ (any_kind_at-judges r 2) (λ v0 _.
+    then (time_at r 3) _ (time_at-judges r 3) (λ v1 _. then (time_at r 4) _ (time_at-judges r 4) (λ v2 _.
+    then (slot_at r 1) _ (slot_at-judges r 1) (λ v3 _. given _ tt)))))
 
-degrees_of-fails : (row : Row) → FailsByRecord (degrees_of row)
+degrees_of-judges : (row : Row) → Judges HasValidOp (degrees_of row)
 unfolding degrees_of
-degrees_of-fails row =
-    then (of_length 5 row) _ (of_length-fails 5 row) (λ r.
-    then (any_kind_at r 2) _ (any_kind_at-fails r 2)
-    (λ v0. then (time_at r 3) _ (time_at-fails r 3) (λ v1. then (time_at r 4) _ (time_at-fails r 4) (λ v2.
-    then (slot_at r 1) _ (slot_at-fails r 1) (λ v3. given _)))))
+degrees_of-judges row =
+    then (of_length 5 row) _ (of_length-judges 5 row) (λ r _. then (any_kind_at r 2) _ (any_kind_at-judges r 2) (λ v0 _.
+    then (time_at r 3) _ (time_at-judges r 3) (λ v1 _. then (time_at r 4) _ (time_at-judges r 4) (λ v2 _.
+    then (slot_at r 1) _ (slot_at-judges r 1) (λ v3 _. given _ tt)))))
 
-edge_of-fails : (row : Row) → FailsByRecord (edge_of row)
+edge_of-judges : (row : Row) → Judges HasValidOp (edge_of row)
 unfolding edge_of
-edge_of-fails row =
-    then (of_length 5 row) _ (of_length-fails 5 row) (λ r.
-    then (kind_at r 2) _ (kind_at-fails r 2)
-    (λ v0. then (name_at r 3) _ (name_at-fails r 3) (λ v1. then (name_at r 4) _ (name_at-fails r 4) (λ v2.
-    then (slot_at r 1) _ (slot_at-fails r 1) (λ v3. given _)))))
+edge_of-judges row =
+    then (of_length 5 row) _ (of_length-judges 5 row) (λ r _. then (kind_at r 2) _ (kind_at-judges r 2) (λ v0 _.
+    then (name_at r 3) _ (name_at-judges r 3) (λ v1 _. then (name_at r 4) _ (name_at-judges r 4) (λ v2 _.
+    then (slot_at r 1) _ (slot_at-judges r 1) (λ v3 _. given _ tt)))))
 
-stat_of-fails : (row : Row) → FailsByRecord (stat_of row)
+stat_of-judges : (row : Row) → Judges HasValidOp (stat_of row)
 unfolding stat_of
-stat_of-fails row =
-    then (of_length 1 row) _ (of_length-fails 1 row) (λ r. given _)
+stat_of-judges row =
+    then (of_length 1 row) _ (of_length-judges 1 row) (λ r _. given _ tt)
 
-collect_of-fails : (row : Row) → FailsByRecord (collect_of row)
+collect_of-judges : (row : Row) → Judges HasValidOp (collect_of row)
 unfolding collect_of
-collect_of-fails row =
-    then (of_length 1 row) _ (of_length-fails 1 row) (λ r. given _)
+collect_of-judges row =
+    then (of_length 1 row) _ (of_length-judges 1 row) (λ r _. given _ tt)
 
-rebase_of-fails : (row : Row) → FailsByRecord (rebase_of row)
+rebase_of-judges : (row : Row) → Judges HasValidOp (rebase_of row)
 unfolding rebase_of
-rebase_of-fails row =
-    then (of_length 2 row) _ (of_length-fails 2 row) (λ r.
-    then (slot_at r 1) _ (slot_at-fails r 1) (λ v0. given _))
+rebase_of-judges row =
+    then (of_length 2 row) _ (of_length-judges 2 row) (λ r _. then (slot_at r 1) _ (slot_at-judges r 1) (λ v0 _.
+    given _ tt))
 
--- no record is refused for Read or Memory
-pub item_of-fails : (row : Row) → FailsByRecord (item_of row)
+-- no record is refused for Read or Memory, and each operation is valid
+pub item_of-judges : (row : Row) → Judges HasValidOp (item_of row)
 unfolding item_of
-item_of-fails row =
+item_of-judges row =
     let is = λ (text : List ℕ). bytes_eq (field row 0) text in
-    tested (is (codes "i")) _ _ (insert_of-fails row) (tested (is (codes "a")) _ _ (incr_of-fails row)
-    (tested (is (codes "r")) _ _ (remove_of-fails row) (tested (is (codes "x")) _ _ (expire_of-fails row)
-    (tested (is (codes "commit")) _ _ (commit_of-fails row)
-    (tested (is (codes "open")) _ _ (open_of-fails row) (tested (is (codes "close")) _ _ (close_of-fails row)
-    (tested (is (codes "bfs")) _ _ (levels_of-fails row) (tested (is (codes "comp")) _ _ (labels_of-fails row)
-    (tested (is (codes "core")) _ _ (cores_of-fails row) (tested (is (codes "deg")) _ _ (degrees_of-fails row)
-    (tested (is (codes "edge")) _ _ (edge_of-fails row)
-    (tested (is (codes "stat")) _ _ (stat_of-fails row) (tested (is (codes "collect")) _ _ (collect_of-fails row)
-    (tested (is (codes "rebase")) _ _ (rebase_of-fails row) (refused BadCommand tt)))))))))))))))
+    tested (is (codes "i")) _ _ (λ _. insert_of-judges row) (tested (is (codes "a")) _ _ (λ _. incr_of-judges row)
+    (tested (is (codes "r")) _ _ (λ _. remove_of-judges row) (tested (is (codes "x")) _ _ (λ _. expire_of-judges row)
+    (tested (is (codes "commit")) _ _ (λ _. commit_of-judges row)
+    (tested (is (codes "open")) _ _ (λ _. open_of-judges row) (tested (is (codes "close")) _ _ (λ _. close_of-judges row)
+    (tested (is (codes "bfs")) _ _ (λ _. levels_of-judges row) (tested (is (codes "comp")) _ _ (λ _. labels_of-judges row)
+    (tested (is (codes "core")) _ _ (λ _. cores_of-judges row) (tested (is (codes "deg")) _ _ (λ _. degrees_of-judges row)
+    (tested (is (codes "edge")) _ _ (λ _. edge_of-judges row)
+    (tested (is (codes "stat")) _ _ (λ _. stat_of-judges row) (tested (is (codes "collect")) _ _ (λ _. collect_of-judges row)
+    (tested (is (codes "rebase")) _ _ (λ _. rebase_of-judges row) (refused BadCommand tt)))))))))))))))
 
 -- a record that was taken and refused is a step of the feed
 pub refused_step : (word : FeedWord) (row : Row) (old new : Script) → word ≢ Memory → Refuses word (item_of row)
     → TakesRow old row new → FaultStep word old new
-refused_step Read row old new other same takes = absurd ((item_of-fails row).fails Read same)
+refused_step Read row old new other same takes = absurd ((item_of-judges row).fails Read same)
 refused_step Memory row old new other same takes = absurd (other refl)
 refused_step _ row old new other same takes = (row, same, takes)
+
+-- an operation that a step gives is valid
+pub step_valid : (result : Result (Option Command) FeedFault) (old new : Script) → NextStep old result new
+    → IfOk result (λ found. IfSome found HasValidOp)
+step_valid (Ok (Some command)) old new step = (item_of-judges step.0).gives command step.1
+step_valid (Ok None) old new step = tt
+step_valid (Err fault) old new step = tt

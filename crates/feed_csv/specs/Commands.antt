@@ -1,6 +1,7 @@
 -- The command of a record, or the word of its refusal: one rule for each command. A rule takes the fields in the
 -- order of refusals: how many there are, names and kinds, the weight, times, the slot.
 use Rattle.std.specs.Prelude.{◌≡◌, ℕ, bytes_eq, codes, List, if◌then◌else◌, Result, Ok, Err}
+use Rattle.graph_model.specs.Valid.{IsValid}
 use Rattle.graph_model.specs.declared.batches.NamedOp.TheVariants.{Insert, Incr, Remove, Expire}
 use Rattle.graph_model.specs.declared.requests.Request.TheVariants.{Levels, Labels, Cores, Degrees, OneEdge}
 use Rattle.feed_csv.specs.Fields.{◌>>=◌, any_kind_at, field, kind_at, name_at, of_length, slot_at, time_at, weight_at}
@@ -159,6 +160,11 @@ item_of row =
     else (if bytes_eq word (codes "collect") then collect_of row
     else (if bytes_eq word (codes "rebase") then rebase_of row
     else Err BadCommand))))))))))))))
+
+-- an operation that a command adds is valid
+abbrev pub HasValidOp : Command → Type 0
+HasValidOp (Op op) = IsValid op
+HasValidOp _ = Unit {0}
 
 -- how a word of refusal is written
 abbrev pub word_text : FeedWord → List ℕ

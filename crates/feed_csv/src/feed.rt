@@ -1,7 +1,8 @@
 // A feed of commands from a reader.
 
-ghost use Rattle.std.specs.Prelude.{◌≡◌, ◌+◌, ◌<◌, option_map, true, false};
+ghost use Rattle.std.specs.Prelude.{◌≡◌, ◌+◌, ◌<◌, option_map, true, false, IfOk, IfSome};
 ghost use Rattle.csv.specs.Reading.{error_kind};
+ghost use Rattle.feed_csv.specs.Commands.{HasValidOp};
 ghost use Rattle.feed_csv.specs.Faults.{fault_word};
 
 use crate::phase::Phase;
@@ -74,7 +75,7 @@ impl<R: Read> Feed<R> {
         }
     }
 
-    /// The next record's command, or `None` at the end of the input, then and later.
+    /// The next record's command, whose operation is valid where it has one; or `None` at the end of the input, then and later.
     ///
     /// A record that is no command is a fault with its number and the first word that holds of it, and the next
     /// call goes on behind it. Where the reader fails, the fault is `Read`, and where a growth is refused
@@ -82,6 +83,7 @@ impl<R: Read> Feed<R> {
     /// that number. After 1,000,000 records a call reads nothing and answers `Read` with the number 1,000,001.
     pub fn next(&mut self) -> Result<Option<Command>, FeedFault>
         ensures step { NextStep self.old result self.new }
+        ensures valid { IfOk result (λ found. IfSome found HasValidOp) }
         ensures full { self.old.phase ≡ Phase.Reading → self.old.given ≡ record_limit
             → result ≡ Err (record { at = record_limit + 1; word = FeedWord.Read }) }
         ensures ended { self.old.phase ≡ Phase.Ended → result ≡ Ok None }

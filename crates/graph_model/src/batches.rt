@@ -1,7 +1,8 @@
 //! Operations on edges, and batches of them.
 
-ghost use Rattle.std.specs.Prelude.{◌≡◌, [], ◌∷◌, ◌++◌, length, OnOk, OnErr, IfErr, ◌⊎◌, ◌↔◌, ◌&&◌, IsTrue};
-ghost use Rattle.graph_model.specs.Valid.{push_refusal, IsBatch};
+ghost use Rattle.std.specs.Prelude.{◌≡◌, ◌<◌, ◌≤◌, [], ◌∷◌, ◌++◌, length, OnOk, OnErr, IfErr, ◌⊎◌, ◌↔◌, ◌&&◌, IsTrue};
+ghost use Rattle.graph_model.specs.Limits.{operation_limit};
+ghost use Rattle.graph_model.specs.Valid.{push_refusal, IsBatch, IsValid};
 ghost use Rattle.graph_model.specs.Valid as valid;
 ghost use Rattle.graph_model.specs.Limits as limits;
 ghost use Rattle.graph_model.specs.Step as step;
@@ -230,6 +231,19 @@ impl Batch {
         if !has_time(&op) {
             return Err(PushError::BadTime);
         }
+        self.push_valid(op)
+    }
+
+    /// Appends an operation that is known to be valid, and isn't judged again; or changes nothing and tells that the batch has
+    /// 4,096 operations. Want of memory may be told in place of that.
+    pub fn push_valid(&mut self, op: NamedOp) -> Result<(), PushError>
+        requires { IsValid op }
+        ensures room { OnOk result (length self.old < operation_limit) }
+        ensures added { OnOk result (self.new ≡ self.old ++ op ∷ []) }
+        ensures refused { IfErr result (λ e. (e ≡ PushError.OutOfMemory)
+            ⊎ ((e ≡ PushError.BatchFull) × (operation_limit ≤ length self.old))) }
+        ensures unchanged { OnErr result (self.new ≡ self.old) }
+    {
         if self.ops.len() >= OPERATION_LIMIT {
             return Err(PushError::BatchFull);
         }

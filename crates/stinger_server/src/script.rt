@@ -3,6 +3,7 @@
 ghost use Rattle.std.specs.Prelude.{◌≡◌, ℕ, ◌+◌, ◌<◌, ◌≤◌, false, true, is_err, length, string_bytes, Ok, IfOk, IfErr, IfSome};
 ghost use Rattle.std.specs.Prelude.{OnOk, OnErr};
 ghost use Rattle.std.specs.Io.KnownBytes.{Appends};
+ghost use Rattle.feed_csv.specs.Commands.{HasValidOp};
 ghost use Rattle.feed_csv.specs.Records.{record_limit, records_of};
 ghost use Rattle.script_lines.specs.Lines.{end_line, error_line};
 ghost use Rattle.std.specs.Prelude.{map};
@@ -172,6 +173,7 @@ impl Run {
         sink: &mut Sink<'_, W>,
     ) -> Result<(), ServeFault>
         requires server { IsServer self.old.server }
+        requires valid { HasValidOp command }
         requires room { self.old.records < record_limit }
         requires errors { self.old.errors ≤ self.old.records }
         requires working { sink.old.failed ≡ false }

@@ -7,6 +7,8 @@ ghost use Rattle.seat_board.specs.Board.{no_pins};
 ghost use Rattle.graph_version.specs.Versions.{empty_version};
 ghost use Rattle.graph_version.specs.Rebased.{IsRebased};
 ghost use Rattle.store_steps.specs.Opening.{opened_desk};
+ghost use Rattle.graph_model.specs.Valid.{IsValid};
+ghost use Rattle.feed_csv.specs.Commands.{HasValidOp};
 ghost use Rattle.stream_store.specs.Refusals.{block_count};
 ghost use Rattle.stream_store.specs.Seats.{SeatView, held_version};
 ghost use Rattle.stinger_server.specs.Servers.{IsServer, Obeys, Shows};
@@ -15,7 +17,7 @@ ghost use Rattle.stinger_server.specs.States as states;
 
 use crate::slots::Slots;
 use batch_apply::PassAll;
-use feed_csv::{Command, FeedWord};
+use feed_csv::Command;
 use graph_model::{AskError, Batch, NamedOp, PushError, Request};
 use script_lines::{
     Word, close_line, collect_line, commit_line, open_line, rebase_line, reply_lines, stat_line,
@@ -106,7 +108,8 @@ impl Server {
         command: Command,
         lines: &mut String,
     ) -> Result<Response, Stop>
-        requires { IsServer self.old }
+        requires server { IsServer self.old }
+        requires valid { HasValidOp command }
         ensures kept { IsServer self.new }
         ensures obeys { IfOk result (λ response. Obeys command self.old response (string_bytes lines.new) self.new) }
         ensures stops { IfErr result (λ stop. stop ≡ Stop.Start → IsRebase (Ok command)) }
@@ -126,14 +129,15 @@ impl Server {
 
     /// Appends an operation to the pending batch.
     fn push(&mut self, op: NamedOp) -> Result<Response, AllocError>
-        requires { IsServer self.old }
+        requires server { IsServer self.old }
+        requires valid { IsValid op }
         ensures kept { IsServer self.new }
         ensures obeys { IfOk result (λ response. Obeys (Command.Op op) self.old response [] self.new) }
     {
-        match self.pending.push(op) {
+        match self.pending.push_valid(op) {
             Ok(()) => Ok(Response::Lines),
-            Err(PushError::OutOfMemory) => Err(AllocError),
-            Err(error) => Ok(Response::Refused(push_word(error))),
+            Err(PushError::BatchFull) => Ok(Response::Refused(Word::BatchFull)),
+            Err(_) => Err(AllocError),
         }
     }
 
@@ -295,19 +299,6 @@ fn parts_from<R: Wait>(
         Err(OpenError::PoolEmpty { .. }) => unreachable!(),
         Err(OpenError::NoReader) => Err(Stop::Start),
         Err(OpenError::OutOfMemory) => Err(Stop::Memory),
-    }
-}
-
-/// The word for an operation's refusal.
-fn push_word(error: PushError) -> Word
-    ensures { result ≡ states.push_word error }
-{
-    match error {
-        PushError::BadName => Word::Feed(FeedWord::BadName),
-        PushError::BadWeight => Word::Feed(FeedWord::BadWeight),
-        PushError::BadTime => Word::Feed(FeedWord::BadTime),
-        PushError::BatchFull => Word::BatchFull,
-        PushError::OutOfMemory => Word::Feed(FeedWord::Memory),
     }
 }
 

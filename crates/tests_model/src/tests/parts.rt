@@ -191,6 +191,17 @@ pub(super) fn push_op(alloc: Global, batch: &mut Batch, text: &str) -> Result<()
     Ok(())
 }
 
+/// The operation of a record as a script has it, at the end of the batch: it was judged when it was read.
+pub(super) fn push_record(alloc: Global, batch: &mut Batch, record: &str) -> Result<(), LineError> {
+    match Feed::over(alloc, record.as_bytes()).next()? {
+        Some(Command::Op(op)) => {
+            batch.push_valid(op)?;
+            Ok(())
+        }
+        _ => Err(LineError::Wrong),
+    }
+}
+
 /// Operations with blanks between them.
 pub(super) fn batch(alloc: Global, text: &str) -> Result<Batch, LineError> {
     let mut batch = Batch::new(alloc);

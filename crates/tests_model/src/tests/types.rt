@@ -4,7 +4,7 @@ ghost use Rattle.std.specs.Prelude.{◌≡◌, IfSome};
 ghost use Rattle.graph_model.specs.Changes.{AreMarks, IsChange};
 
 use super::graphs::content_of;
-use super::parts::{LineError, batch, name, only_refused, push_op, refused, request};
+use super::parts::{LineError, batch, name, only_refused, push_op, push_record, refused, request};
 use graph_model::{
     Batch, EdgeChange, EdgeMarks, List, Outcome, PushError, change_edge, is_kind_name, is_name,
     law_edge_order, law_expiry, law_first_time_stays, law_names_stay_names, law_one_answer,
@@ -268,6 +268,37 @@ fn full(alloc: Global) -> Result<Batch, LineError> {
 fn a_batch_has_at_most_4096_operations(rt: HostRuntime) -> Result<(), Fail> {
     let mut batch = full(rt.alloc())?;
     check_refusals(&rt, rt.alloc(), &mut batch, &TOO_MANY, 4096);
+    Ok(())
+}
+
+// The batch is asked to take what this record gives, and then has so many operations.
+fn check_record(
+    rt: &impl Abort,
+    alloc: Global,
+    batch: &mut Batch,
+    wanted: Result<(), LineError>,
+    len: usize,
+) {
+    let told = push_record(
+        alloc,
+        batch,
+        "a,knows,ann,bob,-1099511627776,9223372036854775807",
+    );
+    assert_eq!(rt; told, wanted);
+    assert_eq!(rt; batch.len(), len);
+}
+
+#[test]
+fn a_batch_takes_the_operation_of_a_record(rt: HostRuntime) {
+    let mut batch = Batch::new(rt.alloc());
+    check_record(&rt, rt.alloc(), &mut batch, Ok(()), 1);
+}
+
+#[test]
+fn a_full_batch_takes_no_operation_of_a_record(rt: HostRuntime) -> Result<(), Fail> {
+    let mut batch = full(rt.alloc())?;
+    let full = Err(LineError::Refused(PushError::BatchFull));
+    check_record(&rt, rt.alloc(), &mut batch, full, 4096);
     Ok(())
 }
 

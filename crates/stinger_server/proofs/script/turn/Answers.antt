@@ -29,3 +29,6 @@ returns-in_err-obey-in-Ok-Some-clause-turns g c =
 
 pub returns-in_ok-last_line-in-Read-clause-turns : goal.returns-in_ok-last_line-in-Read-clause-turns
 returns-in_ok-last_line-in-Read-clause-turns g c = search rules
+
+pub obey-requires-clause-valid : goal.obey-requires-clause-valid
+obey-requires-clause-valid g c κs within = rw c.in-Ok-Some.field-0-is at c.in-Ok-Some.ensures.valid
