@@ -1,6 +1,6 @@
 //! A batch applied to a version.
 
-ghost use Rattle.std.specs.Prelude.{◌≡◌, ◌≢◌, ◌+◌, ◌++◌, ◌%◌, ◌^◌, ◌<◌, ◌≤◌, ℕ, false, Bool, List, length, map, flat_map};
+ghost use Rattle.std.specs.Prelude.{◌≡◌, ◌≢◌, ◌+◌, ◌++◌, ◌%◌, ◌^◌, ◌<◌, ◌≤◌, ℕ, [], false, Bool, List, length, map, flat_map};
 ghost use Rattle.std.specs.Prelude.{replicate, count_by, zip, IfOk, OnOk, All, AllPairs};
 ghost use Rattle.std.specs.List.{sum_by, AllZip};
 ghost use Rattle.graph_model.specs.declared.batches.Outcome.TheVariants.{Absent};
@@ -14,11 +14,12 @@ ghost use Rattle.graph_version.specs.Versions.{content, is_in};
 ghost use Rattle.batch_plan.specs.Planned.{IsPlan, MeetsNeitherLimit};
 ghost use Rattle.batch_apply.specs.Plans.{written};
 ghost use Rattle.batch_shards.specs.Groups.{told};
-ghost use Rattle.batch_apply.specs.Jobs.{IsDealt};
+ghost use Rattle.batch_apply.specs.Jobs.{IsDealt, IsShard};
 ghost use Rattle.batch_apply.specs.Counts.{is_inserted, taken_away};
 ghost use Rattle.batch_apply.specs.Applied.{IsApplied, ReplacesRows, written_from};
+ghost use Rattle.batch_apply.specs.Gathered.{IsGathered};
 
-use crate::workers::{Gate, Job, do_all};
+use crate::workers::{Gate, Job, do_all, do_alone};
 use batch_plan::Plan;
 use batch_shards::{Leavings, Shard, ShardDone};
 use edge_block::Block;
@@ -72,12 +73,17 @@ pub fn apply<R: Threads + Sync, G: Gate + Sync>(
         shards,
         needs,
     } = plan;
-    let workers = shards.len();
     let operations = batch.len();
-    let mut unused = blocks;
-    let jobs = deal(alloc, shards, needs.as_slice(), &mut unused)?;
-    let dones = do_all(rt, alloc, gate, version, workers, jobs)?;
-    let all = gather(alloc, operations, dones, unused)?;
+    let all = work(
+        rt,
+        alloc,
+        gate,
+        version,
+        shards,
+        needs.as_slice(),
+        blocks,
+        operations,
+    )?;
     let edges = edges_after(version.edge_count(), &all.outcomes);
     let draft = VersionDraft::over(version)?.set_names(names, kinds);
     let draft = replace_rows(draft, all.rows)?.push_batch(batch)?;
@@ -88,6 +94,66 @@ pub fn apply<R: Threads + Sync, G: Gate + Sync>(
         dropped: all.left.dropped,
         unused: all.left.unused,
     })
+}
+
+/// What all shards leave together, of a batch of so many operations, with as many of the blocks as each shard may take.
+fn work<R: Threads + Sync, G: Gate + Sync>(
+    rt: &R,
+    alloc: Global,
+    gate: &G,
+    version: &Version,
+    shards: Vec<Shard>,
+    needs: &[usize],
+    blocks: Vec<Arc<Block>>,
+    operations: usize,
+) -> Result<Gathered, AllocError>
+    requires long { length needs.now ≡ length shards.items }
+    requires blocks { sum_by (λ n. n) needs.now ≤ length blocks.items }
+    requires ready { (jobs : List Job) → AllZip IsDealt (zip shards.items needs.now) jobs
+        → All (λ j. IsShard (row_of version.now.rows) j.shard) jobs }
+    ensures { IfOk result (IsGathered (row_of version.now.rows) (zip shards.items needs.now) (numbers_of blocks.items) operations) }
+{
+    if shards.len() == 1 {
+        return work_alone(alloc, gate, version, shards, needs, blocks, operations);
+    }
+    let workers = shards.len();
+    let mut unused = blocks;
+    let jobs = deal(alloc, shards, needs, &mut unused)?;
+    let dones = do_all(rt, alloc, gate, version, workers, jobs)?;
+    let all = gather(alloc, operations, dones, unused)?;
+    Ok(all)
+}
+
+/// As `work`, of the only shard: most batches have no other, and then need no list of jobs.
+fn work_alone<G: Gate>(
+    alloc: Global,
+    gate: &G,
+    version: &Version,
+    mut shards: Vec<Shard>,
+    needs: &[usize],
+    blocks: Vec<Arc<Block>>,
+    operations: usize,
+) -> Result<Gathered, AllocError>
+    requires alone { length shards.items ≡ 1 }
+    requires long { length needs.now ≡ length shards.items }
+    requires blocks { sum_by (λ n. n) needs.now ≤ length blocks.items }
+    requires ready { (jobs : List Job) → AllZip IsDealt (zip shards.items needs.now) jobs
+        → All (λ j. IsShard (row_of version.now.rows) j.shard) jobs }
+    ensures { IfOk result (IsGathered (row_of version.now.rows) (zip shards.items needs.now) (numbers_of blocks.items) operations) }
+{
+    let Some(shard) = shards.pop() else {
+        unreachable!()
+    };
+    let mut unused = blocks;
+    let fresh = take_last(&mut unused, needs[0])?;
+    let job = Job {
+        worker: 0,
+        shard: Shard { fresh, ..shard },
+    };
+    let done = do_alone(alloc, gate, version, job)?;
+    let mut all = none_gathered(alloc, operations, unused)?;
+    add(&mut all, done)?;
+    Ok(all)
 }
 
 /// A job for each shard, in order, with as many of the blocks as the shard may take.
@@ -157,7 +223,26 @@ fn gather(
     ensures unused { IfOk result (λ a. numbers_of a.left.unused.items ≡ numbers_of unused.items
         ++ flat_map (λ d. numbers_of d.left.unused.items) dones.items) }
 {
-    let mut all = Gathered {
+    let mut all = none_gathered(alloc, operations, unused)?;
+    for done in dones {
+        add(&mut all, done)?;
+    }
+    Ok(all)
+}
+
+/// What no shard has left yet.
+fn none_gathered(
+    alloc: Global,
+    operations: usize,
+    unused: Vec<Arc<Block>>,
+) -> Result<Gathered, AllocError>
+    ensures outcomes { IfOk result (λ a. a.outcomes.items ≡ replicate operations Absent) }
+    ensures rows { IfOk result (λ a. a.rows.items ≡ []) }
+    ensures taken { IfOk result (λ a. a.left.taken.items ≡ []) }
+    ensures dropped { IfOk result (λ a. a.left.dropped.items ≡ []) }
+    ensures unused { IfOk result (λ a. a.left.unused ≡ unused) }
+{
+    Ok(Gathered {
         outcomes: vec![in alloc; Outcome::Absent; operations]?,
         rows: Vec::new(alloc),
         left: Leavings {
@@ -165,11 +250,7 @@ fn gather(
             dropped: Vec::new(alloc),
             unused,
         },
-    };
-    for done in dones {
-        add(&mut all, done)?;
-    }
-    Ok(all)
+    })
 }
 
 /// Adds what a shard leaves.

@@ -153,3 +153,17 @@ fn do_one<G: Gate>(
     }
     work_on(alloc, version, job.shard)
 }
+
+/// What the work on the only job's shard leaves. The gate is told of its worker.
+pub(crate) fn do_alone<G: Gate>(
+    alloc: Global,
+    gate: &G,
+    version: &Version,
+    job: Job,
+) -> Result<ShardDone, AllocError>
+    requires { IsShard (row_of version.now.rows) job.shard }
+    ensures { IfOk result (λ d. IsShardDone (row_of version.now.rows) job.shard d) }
+{
+    gate.arrive(job.worker, 1);
+    work_on(alloc, version, job.shard)
+}

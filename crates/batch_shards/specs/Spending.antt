@@ -1,9 +1,11 @@
 -- How many fresh blocks operations may need.
 use Rattle.std.specs.Prelude.{◌≡◌, ℕ, ◌+◌, ◌<◌, max, List, [], ◌∷◌, count_by, length, get_or, take, drop, Bool, not, ◌&&◌}
+use Rattle.std.specs.declared.option.{Option.Option, Option.TheVariants.None, Option.TheVariants.Some}
 use Rattle.std.specs.List.{sum_by}
 use Rattle.edge_block.specs.Slots.{BlockView, has_before}
 use Rattle.block_layout.specs.Rows.{OpenBlock, has_old}
-use Rattle.batch_shards.specs.Groups.{is_past, is_expiry}
+use Rattle.batch_shards.specs.Groups.{is_past, is_expiry, AreExpiries, AreGroups}
+use Rattle.batch_shards.specs.declared.groups.Groups.{Groups}
 use Rattle.batch_shards.specs.declared.shard.Act.{Act}
 use Rattle.batch_shards.specs.declared.shard.Act.TheVariants.{Edge, Expire}
 use Rattle.batch_shards.specs.declared.shard.Step.{Step}
@@ -25,6 +27,19 @@ latest steps = latest_by (λ s. time_of s.act) steps
 pub record AreReached (steps : List Step) (reached : List ℕ) : Type 0 where
   pub long : length reached ≡ length steps
   pub are : (k : ℕ) → k < length steps → get_or reached k 0 ≡ latest (take (k + 1) steps)
+
+-- the lists of the operations on so many rows
+pub record AreListed (rows : ℕ) (steps : List Step) (groups : Groups) : Type 0 where
+  pub firsts : length groups.first.items ≡ rows
+  pub nexts : length groups.next.items ≡ length steps
+  pub are : AreGroups 0 steps groups.first.items groups.next.items
+  pub expiries : AreExpiries 0 steps groups.expiries.items
+  pub reached : AreReached steps groups.reached.items
+
+-- where lists tell of the operations on so many rows, they are right
+abbrev pub IsGrouped : ℕ → List Step → Option Groups → Type 0
+IsGrouped rows steps None = Unit {0}
+IsGrouped rows steps (Some groups) = AreListed rows steps groups
 
 -- the blocks with an edge that was last touched before a time
 abbrev pub old_blocks : ℕ → List BlockView → ℕ

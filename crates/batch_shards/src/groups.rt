@@ -1,12 +1,15 @@
 //! The operations of a shard by the row of their source.
 
-ghost use Rattle.std.specs.Prelude.{◌≡◌, ◌<◌, ◌^◌, ◌==◌, IfOk, List, length, get_or, cond};
+ghost use Rattle.std.specs.Prelude.{◌≡◌, ◌+◌, ◌≤◌, ◌<◌, ◌^◌, ◌==◌, ℕ, IfOk, IsTrue, List, length, get_or, cond, not};
 ghost use Rattle.batch_shards.specs.Shards.{AreSteps};
-ghost use Rattle.batch_shards.specs.Groups.{AreGroups, AreExpiries, LeadsTo, is_expiry, is_later};
-ghost use Rattle.batch_shards.specs.Spending.{AreReached};
+ghost use Rattle.batch_shards.specs.Groups.{AreGroups, AreExpiries, IsNext, LeadsTo, is_at, is_expiry, is_later};
+ghost use Rattle.batch_shards.specs.Spending.{AreReached, IsGrouped};
 
 use crate::shard::{Act, Step};
 use std::alloc::{AllocError, Global};
+
+/// So few operations are looked through, and need no lists.
+const FEW: usize = 4;
 
 /// The places of the operations on each row, in the batch's order.
 ///
@@ -58,8 +61,101 @@ impl Groups {
     }
 }
 
+/// The operations on so many rows, but none where they are few.
+pub fn group_steps(alloc: Global, rows: usize, steps: &[Step]) -> Result<Option<Groups>, AllocError>
+    requires { AreSteps rows steps.now }
+    ensures { IfOk result (IsGrouped rows steps.now) }
+{
+    if steps.len() <= FEW {
+        return Ok(None);
+    }
+    Ok(Some(groups_of(alloc, rows, steps)?))
+}
+
+/// The first operation on a row's edges, or else the number of all operations.
+pub fn first_edge(groups: &Option<Groups>, steps: &[Step], row: usize) -> usize
+    requires { (rows : ℕ) × (row < rows) × IsGrouped rows steps.now groups.now }
+    ensures { IsNext (is_at row) steps.now 0 result }
+{
+    match groups {
+        None => edge_from(steps, row, 0),
+        Some(groups) => groups.first[row],
+    }
+}
+
+/// The next operation on a row's edges behind a place, where this was the next one at the place.
+pub fn edge_behind(
+    groups: &Option<Groups>,
+    steps: &[Step],
+    row: usize,
+    place: usize,
+    edge: usize,
+) -> usize
+    requires groups { (rows : ℕ) × (row < rows) × IsGrouped rows steps.now groups.now }
+    requires place { place < length steps.now }
+    requires edge { IsNext (is_at row) steps.now place edge }
+    ensures { IsNext (is_at row) steps.now (place + 1) result }
+{
+    match groups {
+        None => edge_from(steps, row, place + 1),
+        Some(groups) => groups.edge_after(place, edge),
+    }
+}
+
+/// From a place on an expiry, or else the number of all operations, as `Groups::later_expiry`.
+pub fn later_expiry(groups: &Option<Groups>, steps: &[Step], place: usize, since: u64) -> usize
+    requires groups { (rows : ℕ) × IsGrouped rows steps.now groups.now }
+    requires place { place ≤ length steps.now }
+    ensures { LeadsTo (is_later since) is_expiry steps.now place result }
+{
+    match groups {
+        None => expiry_from(steps, place),
+        Some(groups) => groups.later_expiry(place, since),
+    }
+}
+
+/// The first operation on a row's edges that is not before a place, or else the number of all operations.
+fn edge_from(steps: &[Step], row: usize, place: usize) -> usize
+    requires { place ≤ length steps.now }
+    ensures { IsNext (is_at row) steps.now place result }
+{
+    let mut next = place;
+    while is_off(steps, row, next) {
+        next += 1;
+    }
+    next
+}
+
+/// Whether there is an operation at a place that is on no edge of the row.
+fn is_off(steps: &[Step], row: usize, place: usize) -> bool
+    ensures within { IsTrue result → place < length steps.now }
+    ensures off { (s : Step) → place < length steps.now → result ≡ not (is_at row (get_or steps.now place s).act) }
+{
+    place < steps.len() && !steps[place].is_on(row)
+}
+
+/// The first expiry that is not before a place, or else the number of all operations.
+fn expiry_from(steps: &[Step], place: usize) -> usize
+    requires { place ≤ length steps.now }
+    ensures { IsNext is_expiry steps.now place result }
+{
+    let mut next = place;
+    while is_edge(steps, next) {
+        next += 1;
+    }
+    next
+}
+
+/// Whether there is an operation at a place that is no expiry.
+fn is_edge(steps: &[Step], place: usize) -> bool
+    ensures within { IsTrue result → place < length steps.now }
+    ensures edge { (s : Step) → place < length steps.now → result ≡ not (is_expiry (get_or steps.now place s).act) }
+{
+    place < steps.len() && !steps[place].is_expiry()
+}
+
 /// The operations on so many rows.
-pub fn group_steps(alloc: Global, rows: usize, steps: &[Step]) -> Result<Groups, AllocError>
+fn groups_of(alloc: Global, rows: usize, steps: &[Step]) -> Result<Groups, AllocError>
     requires { AreSteps rows steps.now }
     ensures rows { IfOk result (λ g. length g.first.items ≡ rows) }
     ensures steps { IfOk result (λ g. length g.next.items ≡ length steps.now) }
@@ -124,8 +220,23 @@ fn reached_by(alloc: Global, steps: &[Step]) -> Result<Vec<u64>, AllocError>
     Ok(reached)
 }
 
-/// The targets of the operations on a row, in order.
+/// The targets of the operations on a row, in order, but none where they are few.
 pub fn targets_of(
+    alloc: Global,
+    groups: &Option<Groups>,
+    steps: &[Step],
+    row: usize,
+) -> Result<Vec<u32>, AllocError>
+    requires { (rows : ℕ) × (row < rows) × IsGrouped rows steps.now groups.now }
+{
+    match groups {
+        None => Ok(Vec::new(alloc)),
+        Some(groups) => targets_in(alloc, groups, steps, row),
+    }
+}
+
+/// The targets of the operations on a row, in order.
+fn targets_in(
     alloc: Global,
     groups: &Groups,
     steps: &[Step],

@@ -12,15 +12,15 @@ ghost use Rattle.batch_shards.specs.RowBlocks.{block_of, blocks_of, kept_of, ope
 ghost use Rattle.batch_shards.specs.Closing.{after_here, written_here, dropped_here, unused_here, after_of, written_of};
 ghost use Rattle.batch_shards.specs.Closing.{dropped_of, unused_of};
 ghost use Rattle.batch_shards.specs.Done.{AreBlockRows, IsShardDone};
-ghost use Rattle.batch_shards.specs.Groups.{is_at, is_expiry, does_act, key_of, AreGroups, AreExpiries, IsSourceRow};
+ghost use Rattle.batch_shards.specs.Groups.{is_at, is_expiry, does_act, key_of, IsSourceRow};
 ghost use Rattle.batch_shards.specs.Groups.{IsOneMore, IsTold, told, none_told, act_step, act_outcome};
-ghost use Rattle.batch_shards.specs.Spending.{spends, takes, time_of, latest, unspent, needed, needed_past, AreReached};
+ghost use Rattle.batch_shards.specs.Spending.{spends, takes, time_of, latest, unspent, needed, needed_past, IsGrouped};
 ghost use Rattle.batch_shards.specs.Progress.{AreRowsDone};
 ghost use Rattle.batch_shards.specs.Shards.{AreSteps, IsActChange, resolved_in};
 ghost use Rattle.batch_shards.specs.Notes.{IsNoted};
 ghost use Rattle.batch_shards.specs.Room.{AreHints};
 
-use crate::groups::{Groups, group_steps, targets_of};
+use crate::groups::{Groups, edge_behind, first_edge, group_steps, later_expiry, targets_of};
 use crate::notes::Notes;
 use crate::room::Room;
 use crate::row_blocks::RowBlock;
@@ -64,6 +64,17 @@ pub struct Step {
 }
 
 impl Step {
+    /// Whether it is on an edge of a row.
+    pub fn is_on(&self, row: usize) -> bool
+        ensures { result ≡ is_at row self.now.act }
+    {
+        match self.act {
+            Act::Edge(Some(place), _) => place.row as usize == row,
+            Act::Edge(None, _) => false,
+            Act::Expire(_) => false,
+        }
+    }
+
     /// Whether it takes out old edges.
     pub fn is_expiry(&self) -> bool
         ensures { result ≡ is_expiry self.now.act }
@@ -202,14 +213,10 @@ fn do_steps(
     fresh: &mut Vec<Arc<Block>>,
     outcomes: &mut Vec<(u32, Outcome)>,
     steps: &[Step],
-    groups: &Groups,
+    groups: &Option<Groups>,
     row: usize,
 ) -> Result<(), AllocError>
-    requires groups { AreGroups 0 steps.now groups.now.first.items groups.now.next.items }
-    requires row { row < length groups.now.first.items }
-    requires steps { length groups.now.next.items ≡ length steps.now }
-    requires expiries { AreExpiries 0 steps.now groups.now.expiries.items }
-    requires reached { AreReached steps.now groups.now.reached.items }
+    requires groups { (rows : ℕ) × (row < rows) × IsGrouped rows steps.now groups.now }
     requires changes { All (λ s. IsActChange s.act) steps.now }
     requires outcomes { length outcomes.old.items ≡ length steps.now }
     requires fresh { count_by (λ s. is_at row s.act) steps.now + unspent (latest steps.now) (opens opened.old.blocks.items)
@@ -236,13 +243,13 @@ fn do_steps(
     ensures few { OnOk result (vec_len fresh.old ≤ vec_len fresh.new + (count_by (λ s. is_at row s.act) steps.now
         + unspent (latest steps.now) (opens opened.old.blocks.items))) }
 {
-    let mut edge = groups.first[row];
-    let mut index = edge.min(groups.later_expiry(0, opened.hints.since));
+    let mut edge = first_edge(groups, steps, row);
+    let mut index = edge.min(later_expiry(groups, steps, 0, opened.hints.since));
     while index < steps.len() {
         let outcome = do_act(opened, fresh, steps[index].act, outcomes[index].1)?;
         outcomes[index].1 = outcome;
-        edge = groups.edge_after(index, edge);
-        index = edge.min(groups.later_expiry(index + 1, opened.hints.since));
+        edge = edge_behind(groups, steps, row, index, edge);
+        index = edge.min(later_expiry(groups, steps, index + 1, opened.hints.since));
     }
     Ok(())
 }
@@ -407,7 +414,7 @@ fn do_row(
     version: &Version,
     sources: &[VertexId],
     steps: &[Step],
-    groups: &Groups,
+    groups: &Option<Groups>,
     row: usize,
     fresh: &mut Vec<Arc<Block>>,
     done: &mut ShardDone,
@@ -416,11 +423,7 @@ fn do_row(
     requires row { row < length sources.now }
     requires steps { AreSteps (length sources.now) steps.now }
     requires distinct { AllPairs (λ a b. a ≢ b) (map (λ s. s.0) sources.now) }
-    requires groups { AreGroups 0 steps.now groups.now.first.items groups.now.next.items }
-    requires expiries { AreExpiries 0 steps.now groups.now.expiries.items }
-    requires reached { AreReached steps.now groups.now.reached.items }
-    requires firsts { length groups.now.first.items ≡ length sources.now }
-    requires nexts { length groups.now.next.items ≡ length steps.now }
+    requires groups { IsGrouped (length sources.now) steps.now groups.now }
     requires outcomes { length done.old.outcomes.items ≡ length steps.now }
     requires fresh { needed_past row (row_of version.now.rows) (map (λ s. s.0) sources.now) steps.now ≤ vec_len fresh.old }
     ensures fresh { OnOk result (needed_past (row + 1) (row_of version.now.rows) (map (λ s. s.0) sources.now) steps.now
@@ -491,7 +494,8 @@ pub fn work_on(alloc: Global, version: &Version, shard: Shard) -> Result<ShardDo
         mut fresh,
     } = shard;
     version.facts();
-    let groups = group_steps(alloc, sources.len(), steps.as_slice())?;
+    let lists = group_steps(alloc, sources.len(), steps.as_slice())?;
+    let groups = &lists;
     let mut done = none_done(alloc, sources.len(), steps.as_slice())?;
     for row in 0..sources.len() {
         do_row(
@@ -499,7 +503,7 @@ pub fn work_on(alloc: Global, version: &Version, shard: Shard) -> Result<ShardDo
             version,
             sources.as_slice(),
             steps.as_slice(),
-            &groups,
+            groups,
             row,
             &mut fresh,
             &mut done,

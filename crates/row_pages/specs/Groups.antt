@@ -14,4 +14,4 @@ abbrev pub in_groups : List (Arc Group Global) → List (List BlockView)
 in_groups groups = flat_map in_group groups
 
 abbrev pub AreGroups : List (Arc Group Global) → Type 0
-AreGroups groups = AreFull 512 in_group groups
+AreGroups groups = AreFull 1024 in_group groups

@@ -14,10 +14,10 @@ use std::sync::Arc;
 /// How many rows stand in one page.
 const PAGE: usize = 64;
 
-/// The rows of 512 sources that follow one another, in pages that versions share.
+/// The rows of 1,024 sources that follow one another, in pages that versions share.
 #[derive(Drop)]
 pub(crate) struct Group {
-    pages: [Arc<Page>; 8],
+    pages: [Arc<Page>; 16],
 }
 
 impl Model for Group {
@@ -29,37 +29,35 @@ impl Model for Group {
 
     ghost view = { λ group. in_pages group.pages };
 
-    ghost invariant = { λ group. ArePages group.pages × (length group.pages ≡ 8) };
+    ghost invariant = { λ group. ArePages group.pages × (length group.pages ≡ 16) };
 }
 
 impl Clone for Group {
     ghost is_clone = { λ group copy. copy ≡ group };
 
     fn clone(&self) -> Result<Group, AllocError> {
-        let [a, b, c, d, e, f, g, h] = &self.pages;
         Ok(Group {
-            pages: [
-                Arc::try_clone(a)?,
-                Arc::try_clone(b)?,
-                Arc::try_clone(c)?,
-                Arc::try_clone(d)?,
-                Arc::try_clone(e)?,
-                Arc::try_clone(f)?,
-                Arc::try_clone(g)?,
-                Arc::try_clone(h)?,
-            ],
+            pages: self.pages.clone()?,
         })
     }
 }
 
 impl Group {
-    /// Five hundred and twelve empty rows, in one page that stands eight times.
+    /// So many empty rows, in one page that stands sixteen times.
     pub(crate) fn blank(alloc: Global) -> Result<Group, AllocError>
-        ensures { IfOk result (λ group. group ≡ replicate 512 []) }
+        ensures { IfOk result (λ group. group ≡ replicate 1024 []) }
     {
         let page = Arc::new(alloc, Page::blank(alloc)?)?;
         Ok(Group {
             pages: [
+                Arc::try_clone(&page)?,
+                Arc::try_clone(&page)?,
+                Arc::try_clone(&page)?,
+                Arc::try_clone(&page)?,
+                Arc::try_clone(&page)?,
+                Arc::try_clone(&page)?,
+                Arc::try_clone(&page)?,
+                Arc::try_clone(&page)?,
                 Arc::try_clone(&page)?,
                 Arc::try_clone(&page)?,
                 Arc::try_clone(&page)?,
@@ -74,7 +72,7 @@ impl Group {
 
     /// The blocks of the row at a place.
     pub(crate) fn row(&self, place: usize) -> &[Arc<Block>]
-        requires { place < 512 }
+        requires { place < 1024 }
         ensures { block_values result.now ≡ slice_index_or self.now place [] }
     {
         self.pages[place / PAGE].row(place % PAGE)
@@ -82,9 +80,9 @@ impl Group {
 
     /// Writes a row at a place, into copies of its page and part where other versions have them.
     pub(crate) fn put(&mut self, place: usize, row: Row) -> Result<(), AllocError>
-        requires { place < 512 }
+        requires { place < 1024 }
         ensures rows { OnOk result (self.new ≡ slice_set self.old place (row_values row)) }
-        ensures length { length self.new ≡ 512 }
+        ensures length { length self.new ≡ 1024 }
     {
         put_in_page(&mut self.pages, place, row)
     }

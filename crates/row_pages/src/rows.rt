@@ -14,7 +14,7 @@ use std::marker::Model;
 use std::sync::Arc;
 
 /// How many rows stand in one group.
-const GROUP: usize = 512;
+const GROUP: usize = 1_024;
 
 /// The rows of all sources, in groups that versions share. They never change; a change makes new ones.
 pub struct Rows {
@@ -37,7 +37,7 @@ impl Model for Rows {
 
     ghost view = { λ rows. in_groups rows.groups.items };
 
-    ghost invariant = { λ rows. AreGroups rows.groups.items × (length rows.groups.items ≤ 2 ^ 23) };
+    ghost invariant = { λ rows. AreGroups rows.groups.items × (length rows.groups.items ≤ 2 ^ 22) };
 }
 
 impl Rows {
@@ -69,7 +69,7 @@ impl Rows {
         }
     }
 
-    /// Equal rows, all of whose groups are shared: one reference for each 512 rows.
+    /// Equal rows, all of whose groups are shared: one reference for each 1,024 rows.
     pub fn share(&self) -> Result<Rows, AllocError>
         ensures { IfOk result (λ rows. rows ≡ self.now) }
     {
@@ -98,12 +98,12 @@ impl Rows {
 /// Adds groups of empty rows up to a count.
 fn add_groups(alloc: Global, groups: &mut Vec<Arc<Group>>, count: usize) -> Result<(), AllocError>
     requires groups { AreGroups groups.old.items }
-    requires few { length groups.old.items ≤ 2 ^ 23 }
-    requires count { count ≤ 2 ^ 23 }
+    requires few { length groups.old.items ≤ 2 ^ 22 }
+    requires count { count ≤ 2 ^ 22 }
     ensures enough { OnOk result (count ≤ length groups.new.items) }
     ensures same { (s : ℕ) → row_of (in_groups groups.new.items) s ≡ row_of (in_groups groups.old.items) s }
     ensures groups { AreGroups groups.new.items }
-    ensures few { length groups.new.items ≤ 2 ^ 23 }
+    ensures few { length groups.new.items ≤ 2 ^ 22 }
 {
     while groups.len() < count {
         let group = Arc::new(alloc, Group::blank(alloc)?)?;
@@ -120,11 +120,11 @@ fn put_row(
     row: Row,
 ) -> Result<(), AllocError>
     requires groups { AreGroups groups.old.items }
-    requires few { length groups.old.items ≤ 2 ^ 23 }
+    requires few { length groups.old.items ≤ 2 ^ 22 }
     requires source { source < 2 ^ 32 }
     ensures rows { OnOk result (Replaces source (row_values row) (in_groups groups.old.items) (in_groups groups.new.items)) }
     ensures groups { AreGroups groups.new.items }
-    ensures few { length groups.new.items ≤ 2 ^ 23 }
+    ensures few { length groups.new.items ≤ 2 ^ 22 }
 {
     add_groups(alloc, groups, source / GROUP + 1)?;
     Arc::make_mut(&mut groups[source / GROUP])?.put(source % GROUP, row)

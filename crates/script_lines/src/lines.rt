@@ -1,11 +1,12 @@
 //! A record's line, appended to a buffer. `AllocError` where the buffer could not grow: what it held before stands, and behind it
 //! there may be a part of the line.
 
-ghost use Rattle.std.specs.Prelude.{◌≡◌, ◌++◌, OnOk, count_by, string_bytes, sum_by};
+ghost use Rattle.std.specs.Prelude.{◌≡◌, ◌++◌, OnOk, codes, count_by, decimal, string_bytes, sum_by};
 ghost use Rattle.std.specs.List.{list_any};
 ghost use Rattle.script_lines.specs.Lines as lines_of;
 
 use graph_model::Outcome;
+use itoa::Buffer;
 use std::alloc::AllocError;
 use stream_store::{Collected, Stat};
 
@@ -19,12 +20,29 @@ pub fn commit_line(lines: &mut String, version: u64, outcomes: &[Outcome]) -> Re
     let removed = count_of(outcomes, Outcome::Removed);
     let absent = count_of(outcomes, Outcome::Absent);
     let overflow = count_of(outcomes, Outcome::Overflow);
-    write!(
-        lines,
-        "commit v={version} ins={inserted} upd={updated} rem={removed} abs={absent} ovf={overflow}"
-    )?;
+    number_part(lines, "commit v=", version)?;
+    number_part(lines, " ins=", inserted as u64)?;
+    number_part(lines, " upd=", updated as u64)?;
+    number_part(lines, " rem=", removed as u64)?;
+    number_part(lines, " abs=", absent as u64)?;
+    number_part(lines, " ovf=", overflow as u64)?;
     expired_part(lines, outcomes)?;
-    write!(lines, "\n")
+    line_feed(lines)
+}
+
+fn line_feed(lines: &mut String) -> Result<(), AllocError>
+    ensures { OnOk result (string_bytes lines.new ≡ string_bytes lines.old ++ codes "\n") }
+{
+    lines.push('\n')
+}
+
+/// Appends a label and a number. Most batches are small, and a line by `write!` would take longer than their work.
+fn number_part(lines: &mut String, label: &str, number: u64) -> Result<(), AllocError>
+    ensures { OnOk result (string_bytes lines.new ≡ string_bytes lines.old ++ (label.now ++ decimal number)) }
+{
+    let mut digits = Buffer::new();
+    lines.push_str(label)?;
+    lines.push_str(digits.format(number))
 }
 
 /// Appends how many edges expiries removed, where an operation was one.

@@ -13,41 +13,40 @@ use Rattle.batch_apply.proofs.{EdgeCounts.len_after_all, Dealt.needs_of, Dealt.d
 use Rattle.batch_apply.proofs.Applying.{version_made, outcomes_made, applied_made, draft_is, draft_among, draft_whole, edges_left}
 use Rattle.batch_apply.proofs.applied.apply.Goals as goal
 
-pub deal-requires-clause-long : goal.deal-requires-clause-long
-deal-requires-clause-long g c = ap length (c.as_slice.ensures.value ∙ c.requires.plan.2.needs)
+pub work-requires-clause-long : goal.work-requires-clause-long
+work-requires-clause-long g c κs within = ap length (c.as_slice.ensures.value ∙ c.requires.plan.2.needs)
     ∙ length-map c.args.plan.shards.items (needs_of (row_of c.args.version.now.rows))
 
-pub do_all-requires-after_bounds : goal.do_all-requires-after_bounds
-do_all-requires-after_bounds g c κs within =
+pub work-requires-clause-ready : goal.work-requires-clause-ready
+work-requires-clause-ready g c κs within = λ jobs dealt.
     let v : VersionView = c.args.version.now in
     let n : ℕ = c.requires.plan.0 in
     dealt_ready n (resolved (batch_value c.args.batch) (content v).names (content v).kinds) (layout_of v.rows) (row_of v.rows) 0 n
-    c.args.plan.shards.items c.args.plan.needs.items c.in_ok-jobs.jobs.items c.requires.plan.2.needs c.requires.plan.2.shards
-    (subst (λ ns. AllZip IsDealt (zip c.args.plan.shards.items ns) c.in_ok-jobs.jobs.items) c.as_slice.ensures.value
-    c.in_ok-jobs.ensures.jobs)
+    c.args.plan.shards.items c.args.plan.needs.items jobs c.requires.plan.2.needs c.requires.plan.2.shards
+    (subst (λ ns. AllZip IsDealt (zip c.args.plan.shards.items ns) jobs) c.as_slice.ensures.value dealt)
 
 pub finish_counted-requires-clause-whole : goal.finish_counted-requires-clause-whole
 finish_counted-requires-clause-whole g c =
     let v : VersionView = c.args.version.now in
     let ops : List NamedOp = batch_value c.args.batch in
-    let values = rows_left c.in_ok-dones.dones.items in
+    let a = c.in_ok-all.ensures in
+    let values = rows_left a.dones in
     let d0 : DraftView = c.in_ok-over.field-0 in
     let d1 : DraftView = c.set_names-draft.result in
     let d2 : DraftView = c.in_ok-replace_rows.field-0 in
-    let e2 : ReplacesRows values d1 d2 = subst (λ rs. ReplacesRows rs d1 d2) c.in_ok-all.ensures.rows
+    let e2 : ReplacesRows values d1 d2 = subst (λ rs. ReplacesRows rs d1 d2) a.rows_are
     c.in_ok-replace_rows.ensures in
     let among = draft_among v ops c.args.plan.names c.args.plan.kinds values d0 d1 d2 c.in_ok-draft.draft c.in_ok-over.ensures
     c.set_names-draft.ensures e2 c.in_ok-draft.ensures in
     draft_whole v ops c.args.plan.names c.args.plan.kinds values d0 d1 d2 c.in_ok-draft.draft c.in_ok-over.ensures
     c.set_names-draft.ensures e2 c.in_ok-draft.ensures
     c.requires.plan.2.names c.requires.plan.2.kinds
-    (version_made v ops c.requires.plan.0 c.args.plan.shards.items c.args.plan.needs.items c.in_ok-jobs.jobs.items
-    c.in_ok-dones.dones.items
-    (numbers_of c.args.blocks.items) (numbers_of c.deal.new.blocks.items)
+    (version_made v ops c.requires.plan.0 c.args.plan.shards.items c.args.plan.needs.items a.jobs
+    a.dones
+    (numbers_of c.args.blocks.items) a.rest
     c.requires.plan.1 c.facts.ensures c.requires.plan.2.shards c.requires.plan.2.needs
-    (subst (λ ns. AllZip IsDealt (zip c.args.plan.shards.items ns) c.in_ok-jobs.jobs.items) c.as_slice.ensures.value
-    c.in_ok-jobs.ensures.jobs) c.in_ok-dones.ensures
-    c.in_ok-jobs.ensures.numbers
+    (subst (λ ns. AllZip IsDealt (zip c.args.plan.shards.items ns) a.jobs) c.as_slice.ensures.value
+    a.dealt) a.done a.shared_out
     c.requires.distinct c.requires.unlisted c.requires.limits c.requires.few (subst (λ ops. length ops ≤ operation_limit) c.deref.ensures
     c.len-operations.ensures.batch.few) d2.version.rows among)
 
@@ -55,26 +54,26 @@ pub finish_counted-requires-clause-edges : goal.finish_counted-requires-clause-e
 finish_counted-requires-clause-edges g c =
     let v : VersionView = c.args.version.now in
     let ops : List NamedOp = batch_value c.args.batch in
-    let values = rows_left c.in_ok-dones.dones.items in
+    let a = c.in_ok-all.ensures in
+    let values = rows_left a.dones in
     let d0 : DraftView = c.in_ok-over.field-0 in
     let d1 : DraftView = c.set_names-draft.result in
     let d2 : DraftView = c.in_ok-replace_rows.field-0 in
-    let e2 : ReplacesRows values d1 d2 = subst (λ rs. ReplacesRows rs d1 d2) c.in_ok-all.ensures.rows
+    let e2 : ReplacesRows values d1 d2 = subst (λ rs. ReplacesRows rs d1 d2) a.rows_are
     c.in_ok-replace_rows.ensures in
     let among = draft_among v ops c.args.plan.names c.args.plan.kinds values d0 d1 d2 c.in_ok-draft.draft c.in_ok-over.ensures
     c.set_names-draft.ensures e2 c.in_ok-draft.ensures in
     let left = edges_left v ops c.args.plan.names c.args.plan.kinds values d0 d1 d2 c.in_ok-draft.draft c.in_ok-over.ensures
     c.set_names-draft.ensures e2 c.in_ok-draft.ensures in
-    let told : c.in_ok-all.all.outcomes.items ≡ outcomes ops (content v) = c.in_ok-all.ensures.outcomes
-    ∙ ap (λ n. written_from c.in_ok-dones.dones.items (replicate n Absent))
+    let told : c.in_ok-all.all.outcomes.items ≡ outcomes ops (content v) = a.outcomes_are
+    ∙ ap (λ n. written_from a.dones (replicate n Absent))
     (c.len-operations.ensures.count ∙ ap length c.deref.ensures)
-    ∙ outcomes_made v ops c.requires.plan.0 c.args.plan.shards.items c.args.plan.needs.items c.in_ok-jobs.jobs.items
-    c.in_ok-dones.dones.items
-    (numbers_of c.args.blocks.items) (numbers_of c.deal.new.blocks.items)
+    ∙ outcomes_made v ops c.requires.plan.0 c.args.plan.shards.items c.args.plan.needs.items a.jobs
+    a.dones
+    (numbers_of c.args.blocks.items) a.rest
     c.requires.plan.1 c.facts.ensures c.requires.plan.2.shards c.requires.plan.2.needs
-    (subst (λ ns. AllZip IsDealt (zip c.args.plan.shards.items ns) c.in_ok-jobs.jobs.items) c.as_slice.ensures.value
-    c.in_ok-jobs.ensures.jobs) c.in_ok-dones.ensures
-    c.in_ok-jobs.ensures.numbers
+    (subst (λ ns. AllZip IsDealt (zip c.args.plan.shards.items ns) a.jobs) c.as_slice.ensures.value
+    a.dealt) a.done a.shared_out
     c.requires.distinct c.requires.unlisted c.requires.limits c.requires.few (subst (λ ops. length ops ≤ operation_limit) c.deref.ensures
     c.len-operations.ensures.batch.few) d2.version.rows among in
     let as_many : len (after_all ops (content v)).edges + sum_by taken_away c.deref-2.result.now
@@ -86,29 +85,29 @@ pub returns : goal.returns
 returns g c =
     let v : VersionView = c.args.version.now in
     let ops : List NamedOp = batch_value c.args.batch in
-    let values = rows_left c.in_ok-dones.dones.items in
+    let a = c.in_ok-all.ensures in
+    let values = rows_left a.dones in
     let d0 : DraftView = c.in_ok-over.field-0 in
     let d1 : DraftView = c.set_names-draft.result in
     let d2 : DraftView = c.in_ok-replace_rows.field-0 in
-    let e2 : ReplacesRows values d1 d2 = subst (λ rs. ReplacesRows rs d1 d2) c.in_ok-all.ensures.rows
+    let e2 : ReplacesRows values d1 d2 = subst (λ rs. ReplacesRows rs d1 d2) a.rows_are
     c.in_ok-replace_rows.ensures in
     let among = draft_among v ops c.args.plan.names c.args.plan.kinds values d0 d1 d2 c.in_ok-draft.draft c.in_ok-over.ensures
     c.set_names-draft.ensures e2 c.in_ok-draft.ensures in
     let made = draft_is v ops c.args.plan.names c.args.plan.kinds values d0 d1 d2 c.in_ok-draft.draft c.in_ok-over.ensures
     c.set_names-draft.ensures e2 c.in_ok-draft.ensures in
-    applied_made v ops c.requires.plan.0 c.args.plan.shards.items c.args.plan.needs.items c.in_ok-jobs.jobs.items
-    c.in_ok-dones.dones.items
-    (numbers_of c.args.blocks.items) (numbers_of c.deal.new.blocks.items)
+    applied_made v ops c.requires.plan.0 c.args.plan.shards.items c.args.plan.needs.items a.jobs
+    a.dones
+    (numbers_of c.args.blocks.items) a.rest
     c.requires.plan.1 c.facts.ensures c.requires.plan.2.shards c.requires.plan.2.needs
-    (subst (λ ns. AllZip IsDealt (zip c.args.plan.shards.items ns) c.in_ok-jobs.jobs.items) c.as_slice.ensures.value
-    c.in_ok-jobs.ensures.jobs) c.in_ok-dones.ensures
-    c.in_ok-jobs.ensures.numbers
+    (subst (λ ns. AllZip IsDealt (zip c.args.plan.shards.items ns) a.jobs) c.as_slice.ensures.value
+    a.dealt) a.done a.shared_out
     c.requires.distinct c.requires.unlisted c.requires.limits c.requires.few (subst (λ ops. length ops ≤ operation_limit) c.deref.ensures
     c.len-operations.ensures.batch.few) d2.version.rows among
     _
     (c.finish_counted.ensures ∙ ap (λ (d : DraftView). d.version) made)
-    (c.in_ok-all.ensures.outcomes ∙ ap (λ n. written_from c.in_ok-dones.dones.items (replicate n Absent))
+    (a.outcomes_are ∙ ap (λ n. written_from a.dones (replicate n Absent))
     (c.len-operations.ensures.count ∙ ap length c.deref.ensures))
-    c.in_ok-all.ensures.taken
-    c.in_ok-all.ensures.dropped
-    c.in_ok-all.ensures.unused
+    a.taken_are
+    a.dropped_are
+    a.unused_are

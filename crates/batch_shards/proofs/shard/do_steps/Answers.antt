@@ -1,26 +1,24 @@
 use Rattle.std.proofs.Common.{◌≡◌, ℕ, ◌+◌, ◌-◌, ◌<◌, true, rules, arith, ap, sym, refl, subst, ◌∙◌, get_or, length, List, take}
-use Rattle.std.proofs.lemmas.{Bool.false≢true, List.get_or-set_other, List.get_or_default, Grind.get_or_default_zero}
+use Rattle.std.proofs.lemmas.{Bool.false≢true, List.get_or-set_other, List.get_or_default}
 use Rattle.std.proofs.Math.Seq.{map-set_same}
 use Rattle.graph_model.specs.declared.{ids.VertexId.VertexId, batches.Outcome.Outcome}
 use Rattle.batch_shards.specs.{RowBlocks.opens, Groups.told, Groups.act_step, Groups.act_outcome, Shards.resolved_in}
 use Rattle.block_layout.specs.{Batches.rows_all, Batches.together, Rows.OpenBlock, Rows.old_in_row}
 use Rattle.batch_shards.specs.Groups.{is_at, is_expiry, is_later, does_act, may_change, IsNext, LeadsTo, IsSourceRow, IsOneMore}
 use Rattle.batch_shards.specs.{Spending.latest, declared.shard.Act.Act}
-use Rattle.batch_shards.proofs.{ShardSteps.first_step, SourceSteps.earlier_next, SourceSteps.next_from, SourceSteps.edge_behind}
+use Rattle.batch_shards.proofs.{ShardSteps.first_step, SourceSteps.earlier_next, SourceSteps.next_from}
 use Rattle.batch_shards.proofs.SourceSteps.{stepped, outcome_here, left_alone, left_told, skipped_count, at_row, wrote, beside}
 use Rattle.batch_shards.proofs.Expiring.{not_later, spends_least}
 use Rattle.batch_shards.proofs.shard.do_steps.Goals as goal
 
 pub loop-index-init : goal.loop-index-init
 loop-index-init c =
-    let e : ℕ = c.index-edge.result.now in
+    let e : ℕ = c.first_edge-edge.result in
     let n : ℕ = c.min-index.result in
     let since : ℕ = c.args.opened.now.hints.since in
-    let edge : IsNext (is_at c.args.row) c.args.steps.now 0 e = subst (IsNext (is_at c.args.row) c.args.steps.now 0)
-    (sym (c.index-edge.ensures ∙ get_or_default_zero c.args.groups.now.first.items c.args.row e c.requires.row))
-    (c.requires.groups.firsts c.args.row c.requires.row) in
+    let edge : IsNext (is_at c.args.row) c.args.steps.now 0 e = c.first_edge-edge.ensures in
     let expiry : LeadsTo (is_later since) is_expiry c.args.steps.now 0 c.later_expiry.result =
-    c.later_expiry.ensures c.args.steps.now c.requires.expiries c.requires.reached in
+    c.later_expiry.ensures in
     let next : LeadsTo (may_change c.args.row since) (does_act c.args.row) c.args.steps.now 0 n =
     subst (LeadsTo (may_change c.args.row since) (does_act c.args.row) c.args.steps.now 0) (sym c.min-index.ensures)
     (earlier_next edge expiry) in
@@ -58,18 +56,15 @@ do_act-requires-clause-fresh c =
 pub loop-index-preserved : goal.loop-index-preserved
 loop-index-preserved c =
     let i : ℕ = c.loop-index.index in
-    let e : ℕ = c.edge_after-edge.result in
+    let e : ℕ = c.edge_behind-edge.result in
     let n : ℕ = c.min-index-in-loop-index.result in
     let since : ℕ = c.do_act.new.row.hints.since in
     let lt : i < length c.args.steps.now = c.loop-index-test.true in
     let act : Act = (get_or c.args.steps.now i first_step).act in
     let at : does_act c.args.row act ≡ true = c.loop-index.invariant.there first_step lt in
-    let edge : IsNext (is_at c.args.row) c.args.steps.now (i + 1) e =
-    edge_behind c.args.steps.now c.args.row i c.loop-index.edge (get_or c.args.groups.now.next.items i 0) e lt
-    c.loop-index.invariant.edge (λ s here. c.requires.groups.nexts c.args.row i s (omega arith) lt here)
-    c.edge_after-edge.ensures in
+    let edge : IsNext (is_at c.args.row) c.args.steps.now (i + 1) e = c.edge_behind-edge.ensures in
     let expiry : LeadsTo (is_later since) is_expiry c.args.steps.now (i + 1) c.later_expiry-in-loop-index.result =
-    c.later_expiry-in-loop-index.ensures c.args.steps.now c.requires.expiries c.requires.reached in
+    c.later_expiry-in-loop-index.ensures in
     let next : LeadsTo (may_change c.args.row since) (does_act c.args.row) c.args.steps.now (i + 1) n =
     subst (LeadsTo (may_change c.args.row since) (does_act c.args.row) c.args.steps.now (i + 1))
     (sym c.min-index-in-loop-index.ensures) (earlier_next edge expiry) in
@@ -136,14 +131,8 @@ loop-index-preserved c =
           omega (arith, more.0, same, took, c.loop-index.invariant.few);
     }
 
-pub later_expiry-requires-clause-place : goal.later_expiry-requires-clause-place
-later_expiry-requires-clause-place c = omega (arith, c.requires.expiries.long)
+pub later_expiry-requires-clause-groups : goal.later_expiry-requires-clause-groups
+later_expiry-requires-clause-groups c = (c.requires.groups.0, c.requires.groups.2)
 
-pub later_expiry-requires-clause-reached : goal.later_expiry-requires-clause-reached
-later_expiry-requires-clause-reached c = omega (arith, c.requires.expiries.long, c.requires.reached.long)
-
-pub later_expiry-requires-in-loop-index-clause-place : goal.later_expiry-requires-in-loop-index-clause-place
-later_expiry-requires-in-loop-index-clause-place c = omega (arith, c.requires.expiries.long, c.loop-index-test.true)
-
-pub later_expiry-requires-in-loop-index-clause-reached : goal.later_expiry-requires-in-loop-index-clause-reached
-later_expiry-requires-in-loop-index-clause-reached c = omega (arith, c.requires.expiries.long, c.requires.reached.long)
+pub later_expiry-requires-in-loop-index-clause-groups : goal.later_expiry-requires-in-loop-index-clause-groups
+later_expiry-requires-in-loop-index-clause-groups c = (c.requires.groups.0, c.requires.groups.2)

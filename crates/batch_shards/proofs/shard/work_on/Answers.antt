@@ -3,7 +3,7 @@ use Rattle.std.proofs.lemmas.List.{length-map, map-append}
 use Rattle.edge_block.specs.{Slots.BlockView, declared.blocks.Block.Block}
 use Rattle.row_pages.specs.Rows.{row_of}
 use Rattle.batch_shards.specs.{RowBlocks.block_of, RowBlocks.numbers_of, Shards.AreSteps, Done.sources_in, Progress.AreRowsDone}
-use Rattle.batch_shards.specs.{Spending.needed_past, declared.shard.Step.Step, Groups.none_told}
+use Rattle.batch_shards.specs.{Spending.needed_past, Spending.IsGrouped, declared.shard.Step.Step, Groups.none_told}
 use Rattle.graph_model.specs.declared.{ids.VertexId.VertexId, batches.Outcome.Outcome}
 use Rattle.std.specs.declared.{sync.Arc.Arc, alloc.Global.Global}
 use Rattle.batch_shards.proofs.{Beginnings.few_past, Beginnings.none_yet, Finish.finish}
@@ -66,3 +66,12 @@ returns c =
     refl refl refl refl
     (ap numbers_of c.in_ok-append.ensures.items ∙ map-append (λ (b : Arc Block Global). (block_of b).number)
     c.loop-row.done.left.unused.items c.loop-row.fresh.items)
+
+pub do_row-requires-clause-groups : goal.do_row-requires-clause-groups
+do_row-requires-clause-groups c =
+    let many : c.len.result ≡ length c.args.shard.sources.items = omega (arith, c.len.ensures, c.args.shard.sources.ok.0) in
+    let found : IsGrouped (length c.args.shard.sources.items) c.args.shard.steps.items c.in_ok-lists.lists =
+    both (λ (n : ℕ) (st : List Step). IsGrouped n st c.in_ok-lists.lists) _ _ _ _ many c.as_slice.ensures.value
+    c.in_ok-lists.ensures in
+    both (λ (ss : List VertexId) (st : List Step). IsGrouped (length ss) st c.in_ok-lists.lists) _ _ _ _
+    (sym c.as_slice-in-loop-row.ensures.value) (sym c.as_slice-in-loop-row-2.ensures.value) found

@@ -6,7 +6,7 @@ abbrev pub invariant-loop-alloc : goal.invariant-loop-alloc
 invariant-loop-alloc l = record {
   same : (s : ℕ) → row_of (in_groups l.groups.items) s ≡ row_of (in_groups l.initial.groups.items) s;
   groups : AreGroups l.groups.items;
-  few : length l.groups.items ≤ 2 ^ 23;
+  few : length l.groups.items ≤ 2 ^ 22;
 }
 
 abbrev pub decreases-loop-alloc : goal.decreases-loop-alloc

@@ -7,5 +7,5 @@ pub returns-clause-length : goal.returns-clause-length
 returns-clause-length c =
     let whole = long 64 in_page c.put_in_page.new.pages c.put_in_page.ensures.pages in
     let same = c.put_in_page.auto.pages in
-    let before : length c.self.inside.pages ≡ 8 = c.self.invariant.1 in
+    let before : length c.self.inside.pages ≡ 16 = c.self.invariant.1 in
     omega (arith, whole, same, before)

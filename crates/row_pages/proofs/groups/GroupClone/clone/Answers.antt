@@ -1,19 +1,11 @@
-use Rattle.std.proofs.Common.{◌∙◌, ◌∷◌, []}
+use Rattle.std.proofs.Common.{◌∙◌}
 use Rattle.row_pages.specs.Pages.{in_page}
-use Rattle.list_pieces.proofs.Shown.{flat_from_map}
-use Rattle.row_pages.proofs.Eights.{eight}
+use Rattle.list_pieces.proofs.{Full.zipped_full, Shown.zipped_flat}
 use Rattle.row_pages.proofs.groups.GroupClone.clone.Goals as goal
 
+pub invariant_of-result : goal.invariant_of-result
+invariant_of-result c =
+    (zipped_full 64 in_page _ _ c.in_ok-clone.ensures.cases.whole c.self.invariant.0, c.in_ok-clone.ensures.cases.long)
+
 pub returns : goal.returns
-returns c = record {
-  cases =
-      flat_from_map in_page
-      (c.in_ok-try_clone.field-0 ∷ c.in_ok-try_clone-2.field-0 ∷ c.in_ok-try_clone-3.field-0 ∷ c.in_ok-try_clone-4.field-0
-      ∷ c.in_ok-try_clone-5.field-0 ∷ c.in_ok-try_clone-6.field-0 ∷ c.in_ok-try_clone-7.field-0 ∷ c.in_ok-try_clone-8.field-0
-      ∷ [])
-      c.self.inside.pages
-      (eight in_page c.self.inside.pages _ _ _ _ _ _ _ _ _ _ _ _ _ _ _ _ c.self.told
-      c.in_ok-try_clone.ensures c.in_ok-try_clone-2.ensures c.in_ok-try_clone-3.ensures c.in_ok-try_clone-4.ensures
-      c.in_ok-try_clone-5.ensures c.in_ok-try_clone-6.ensures c.in_ok-try_clone-7.ensures c.in_ok-try_clone-8.ensures)
-      ∙ c.self.view_is;
-}
+returns c = record { cases = zipped_flat in_page _ _ c.in_ok-clone.ensures.cases.whole ∙ c.self.view_is }

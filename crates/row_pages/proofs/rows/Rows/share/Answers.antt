@@ -7,8 +7,8 @@ pub invariant_of-result : goal.invariant_of-result
 invariant_of-result c =
     let same = c.in_ok-clone.ensures.cases.0 in
     let long = AllZip-long (λ x y. in_group y ≡ in_group x) _ _ same in
-    let few : length c.self.inside.groups.items ≤ 2 ^ 23 = c.self.invariant.1 in
-    (zipped_full 512 in_group _ _ same c.self.invariant.0, omega (arith, long, few))
+    let few : length c.self.inside.groups.items ≤ 2 ^ 22 = c.self.invariant.1 in
+    (zipped_full 1024 in_group _ _ same c.self.invariant.0, omega (arith, long, few))
 
 pub returns : goal.returns
 returns c = rw (← c.self.view_is) (zipped_flat in_group _ _ c.in_ok-clone.ensures.cases.0)

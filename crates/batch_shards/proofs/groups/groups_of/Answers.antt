@@ -3,7 +3,7 @@ use Rattle.std.proofs.{Math.ListN.length-set, lemmas.Grind.get_or_default_zero}
 use Rattle.batch_shards.specs.Groups.{is_at, AreGroups}
 use Rattle.batch_shards.specs.declared.shard.{Act.TheVariants.Edge, Act.TheVariants.Expire, Place.Place, Step.Step}
 use Rattle.batch_shards.proofs.{ShardSteps.first_step, Upcoming.groups_more, Upcoming.groups_pass}
-use Rattle.batch_shards.proofs.groups.group_steps.Goals as goal
+use Rattle.batch_shards.proofs.groups.groups_of.Goals as goal
 
 -- the groups are those behind the place that the loop comes to
 behind : (steps : List Step) (index : ℕ) (first next : List ℕ) → 0 < index → AreGroups index steps first next

@@ -1,6 +1,6 @@
 use Rattle.std.proofs.Common.{◌≡◌, ◌-◌, ◌≤◌, ◌<◌, length, get_or, true}
 use Rattle.batch_shards.specs.{Groups.is_at, declared.shard.Step.Step}
-use Rattle.batch_shards.proofs.groups.targets_of.Given as goal
+use Rattle.batch_shards.proofs.groups.targets_in.Given as goal
 
 abbrev pub invariant-loop-index : goal.invariant-loop-index
 invariant-loop-index l = record {

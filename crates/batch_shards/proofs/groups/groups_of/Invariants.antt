@@ -1,6 +1,6 @@
 use Rattle.std.proofs.Common.{◌≡◌, ◌≤◌, length}
 use Rattle.batch_shards.specs.Groups.{AreGroups}
-use Rattle.batch_shards.proofs.groups.group_steps.Given as goal
+use Rattle.batch_shards.proofs.groups.groups_of.Given as goal
 
 abbrev pub invariant-loop-index : goal.invariant-loop-index
 invariant-loop-index l = record {

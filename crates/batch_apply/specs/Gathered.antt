@@ -1,0 +1,27 @@
+-- What shards leave together.
+use Rattle.std.specs.Prelude.{◌≡◌, ℕ, ◌+◌, List, ◌++◌, flat_map, replicate, count_by, Bool}
+use Rattle.std.specs.List.{AllZip}
+use Rattle.graph_model.specs.declared.batches.Outcome.TheVariants.{Absent}
+use Rattle.edge_block.specs.Slots.{BlockView}
+use Rattle.batch_shards.specs.RowBlocks as shared
+use Rattle.batch_shards.specs.Closing.{row_values}
+use Rattle.batch_shards.specs.declared.shard.{Shard.Shard, ShardDone.ShardDone}
+use Rattle.batch_apply.specs.{Applied.written_from, Jobs.AreDone, Jobs.IsDealt}
+use Rattle.batch_apply.specs.declared.{applied.Gathered.Gathered, workers.Job.Job}
+
+-- what jobs of these shards, each with how many blocks it may take, leave of these rows: they were dealt blocks of these numbers,
+-- each was worked on, and what each left was put together
+pub record IsGathered (rows : ℕ → List BlockView) (planned : List (Shard × ℕ)) (numbers : List ℕ) (operations : ℕ)
+    (all : Gathered) : Type 0 where
+  pub jobs : List Job
+  pub dones : List ShardDone
+  pub rest : List ℕ
+  pub dealt : AllZip IsDealt planned jobs
+  pub shared_out : (q : ℕ → Bool) → count_by q (flat_map (λ j. shared.numbers_of j.shard.fresh.items) jobs) + count_by q rest
+      ≡ count_by q numbers
+  pub done : AreDone rows jobs dones
+  pub outcomes_are : all.outcomes.items ≡ written_from dones (replicate operations Absent)
+  pub rows_are : row_values all.rows.items ≡ flat_map (λ d. row_values d.rows.items) dones
+  pub taken_are : all.left.taken.items ≡ flat_map (λ d. d.left.taken.items) dones
+  pub dropped_are : shared.blocks_of all.left.dropped.items ≡ flat_map (λ d. shared.blocks_of d.left.dropped.items) dones
+  pub unused_are : shared.numbers_of all.left.unused.items ≡ rest ++ flat_map (λ d. shared.numbers_of d.left.unused.items) dones
