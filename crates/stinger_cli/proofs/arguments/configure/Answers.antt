@@ -4,7 +4,7 @@ use Rattle.clap.specs.Words.{found_of, rows_of, subcommand_rows_of}
 use Rattle.stinger_cli.specs.Program.{sizes_given}
 use Rattle.stinger_cli.proofs.Options.{option_read, options_met, sizes_made, with_all, within, without_blocks, without_seats}
 use Rattle.stinger_cli.proofs.Options.{without_workers}
-use Rattle.stinger_cli.proofs.program.configure.Goals as goal
+use Rattle.stinger_cli.proofs.arguments.configure.Goals as goal
 
 pub returns-in_err-workers : goal.returns-in_err-workers
 returns-in_err-workers c =

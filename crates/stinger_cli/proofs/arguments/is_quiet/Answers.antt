@@ -2,7 +2,7 @@ use Rattle.std.proofs.Common.{◌≡◌, ◌∙◌, ap, codes, false, rules, sym
 use Rattle.std.specs.{Prelude.None, Prelude.Some, Prelude.option_map, Option.option_map_or, Str.bytes_eq}
 use Rattle.clap.specs.{Matches.first_value, Words.found_of, Words.rows_of, Words.subcommand_rows_of}
 use Rattle.stinger_cli.proofs.Options.{quiet_met}
-use Rattle.stinger_cli.proofs.program.is_quiet.Goals as goal
+use Rattle.stinger_cli.proofs.arguments.is_quiet.Goals as goal
 
 pub returns-in-Some-get_str : goal.returns-in-Some-get_str
 returns-in-Some-get_str c =

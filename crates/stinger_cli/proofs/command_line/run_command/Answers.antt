@@ -1,6 +1,6 @@
 use Rattle.std.proofs.{Common.◌≡◌, Common.◌∙◌, Common.ap₂, Common.codes, Common.rules, lemmas.Result.IfOk-weaker}
 use Rattle.clap.specs.Simple.{app_of, new_app, with_rule}
-use Rattle.stinger_cli.proofs.program.run_command.Goals as goal
+use Rattle.stinger_cli.proofs.command_line.run_command.Goals as goal
 
 pub returns : goal.returns
 returns g c =

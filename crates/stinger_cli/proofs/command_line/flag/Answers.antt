@@ -1,5 +1,5 @@
 use Rattle.std.proofs.Common.{rules}
-use Rattle.stinger_cli.proofs.program.flag.Goals as goal
+use Rattle.stinger_cli.proofs.command_line.flag.Goals as goal
 
 pub returns-clause-rule : goal.returns-clause-rule
 returns-clause-rule g c = search rules

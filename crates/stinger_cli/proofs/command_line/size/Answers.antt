@@ -1,6 +1,6 @@
 use Rattle.std.proofs.Common.{◌∙◌, [], ◌∷◌, ap}
 use Rattle.clap.specs.Walk.{Rule, rule_of}
-use Rattle.stinger_cli.proofs.program.size.Goals as goal
+use Rattle.stinger_cli.proofs.command_line.size.Goals as goal
 
 pub returns-clause-rule : goal.returns-clause-rule
 returns-clause-rule g c =

@@ -1,5 +1,5 @@
 use Rattle.std.proofs.Common.{rules}
-use Rattle.stinger_cli.proofs.program.number.Goals as goal
+use Rattle.stinger_cli.proofs.command_line.number.Goals as goal
 
 pub returns-clause-rule : goal.returns-clause-rule
 returns-clause-rule g c = search rules

@@ -1,6 +1,6 @@
 use Rattle.std.proofs.Common.{refl}
 use Rattle.clap.proofs.OnLiterals.{clap_on_literals}
-use Rattle.stinger_cli.proofs.program.law_options.Goals as goal
+use Rattle.stinger_cli.proofs.laws.law_options.Goals as goal
 
 pub returns : goal.returns
 unfolding clap_on_literals

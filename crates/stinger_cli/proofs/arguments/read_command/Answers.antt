@@ -2,7 +2,7 @@ use Rattle.std.proofs.Common.{◌∙◌, ap, ap₂, map}
 use Rattle.clap.specs.{Faults.fault_of, Faults.is_simple_and_free, Simple.is_simple, Simple.subcommand_of}
 use Rattle.clap.specs.Words.{subcommand_rows_of}
 use Rattle.stinger_cli.proofs.Served.{asked_well, explained}
-use Rattle.stinger_cli.proofs.program.read_command.Goals as goal
+use Rattle.stinger_cli.proofs.arguments.read_command.Goals as goal
 
 pub returns-in-Ok-order_of : goal.returns-in-Ok-order_of
 returns-in-Ok-order_of g c =

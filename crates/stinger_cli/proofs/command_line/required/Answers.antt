@@ -1,6 +1,6 @@
 use Rattle.std.proofs.Common.{◌∙◌, ap, true}
 use Rattle.clap.specs.Walk.{Rule, rule_of}
-use Rattle.stinger_cli.proofs.program.required.Goals as goal
+use Rattle.stinger_cli.proofs.command_line.required.Goals as goal
 
 pub returns-clause-rule : goal.returns-clause-rule
 returns-clause-rule g c =

@@ -3,7 +3,7 @@ use Rattle.std.specs.Prelude.{is_some, not}
 use Rattle.std.proofs.lemmas.Result.{IfOk-weaker}
 use Rattle.clap.specs.{Simple.App, Simple.app_of, Simple.new_shape, Simple.with_subcommand, Walk.is_empty}
 use Rattle.clap.specs.declared.builder.command.Command.{Command, TheViews.out-Command}
-use Rattle.stinger_cli.proofs.program.command.Goals as goal
+use Rattle.stinger_cli.proofs.command_line.command.Goals as goal
 
 abbrev top_app : App
 top_app = record {

@@ -1,7 +1,7 @@
 use Rattle.std.proofs.Common.{refl}
 use Rattle.clap.proofs.OnLiterals.{clap_on_literals}
 use Rattle.stinger_cli.proofs.{Asked.reads_plainly, Served.drives_within, Served.serves_within}
-use Rattle.stinger_cli.proofs.program.law_arguments.Goals as goal
+use Rattle.stinger_cli.proofs.laws.law_arguments.Goals as goal
 
 pub returns : goal.returns
 unfolding clap_on_literals
