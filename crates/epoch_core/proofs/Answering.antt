@@ -5,12 +5,13 @@ use Rattle.std.specs.{Prelude.slice_get, Prelude.if◌then◌else◌, Prelude.Ma
 use Rattle.std.specs.{Option.option_to_list, declared.option.Option.TheVariants.None, declared.option.Option.TheVariants.Some}
 use Rattle.std.proofs.lemmas.Bool.{eq-eqb, cases_eq, Decides.Decides-eqb}
 use Rattle.std.proofs.lemmas.List.{append-nil, append_assoc, get_or-set_same, get_or-set_other, length-set}
+use Rattle.std.proofs.lemmas.Option.{slice_get_within}
 use Rattle.graph_model.proofs.OneAnswer.{one_answer}
 use Rattle.epoch_core.specs.declared.events.Event.{Event, TheVariants.Reply, TheVariants.Release}
 use Rattle.epoch_core.specs.declared.events.Event.TheVariants.{Take, Fill, Post, Floor, Recycle, Pin, Enter, Settle, Ask, Read}
 use Rattle.epoch_core.specs.{Worlds.Answer, Worlds.World, Runs.AllReplies, Runs.next_world}
 use Rattle.epoch_core.specs.Machine.{Answers, IsAnswered, Question, Replies, question_in, question_of}
-use Rattle.epoch_blocks.proofs.Lists.{and_then_some, within}
+use Rattle.epoch_blocks.proofs.Lists.{and_then_some}
 use Rattle.epoch_core.proofs.Sizes.{size_next}
 
 pub same_answers : (qs : List Question) (xs ys : List Answer) → AllZip Answers qs xs → AllZip Answers qs ys → xs ≡ ys
@@ -75,7 +76,7 @@ other t s ne = elim (eqb t s) as (λ b. eqb t s ≡ b → b ≡ false) [
 -- the session of a question is there
 asks_within : (w : World) (s : ℕ) (q : Question) → question_of w s ≡ Some q → s < length w.sessions
 asks_within w s q is = let found = and_then_some (question_in w.opening w.versions) (slice_get w.sessions s) q is in
-    within w.sessions s found.0 found.1
+    slice_get_within w.sessions s found.0 found.1
 
 adds_reply : (s t : ℕ) (w : World) (old new : List (List Answer)) → length old ≡ length w.sessions
     → Replies w (Reply t) old new → Adds s (asked s w (Reply t)) old new

@@ -4,6 +4,7 @@ use Rattle.std.proofs.Common.{length, map, get_or, set, take, refl, sym, ap, sub
 use Rattle.std.specs.Prelude.{slice_get, if◌then◌else◌}
 use Rattle.std.specs.declared.option.Option.{Option, TheVariants.None, TheVariants.Some}
 use Rattle.std.proofs.lemmas.{Bool.cases_eq, Grind.flat_map-append, List.get_or-set_same, List.get_or-set_other, List.append-nil}
+use Rattle.std.proofs.lemmas.Option.{slice_get_within, get_or_from_slice_get}
 use Rattle.graph_model.specs.declared.{ids.Edge.Edge, requests.Request.Request}
 use Rattle.epoch_blocks.specs.{declared.states.Status.Status, Blocks.is_at, Blocks.is_listed, Blocks.is_used}
 use Rattle.epoch_blocks.specs.declared.states.Status.TheVariants.{Free, Fresh, Used, Retired}
@@ -16,7 +17,7 @@ use Rattle.epoch_core.specs.{Worlds.unsettled_in, Machine.to_release, Machine.to
 use Rattle.epoch_blocks.specs.Versions.{blocks_at, edges_at, edges_of}
 use Rattle.epoch_core.specs.Machine.{is_all_read, least_pin, lesser, move, read_on, settled_at, to_ask, to_enter, to_pin, to_read}
 use Rattle.epoch_core.specs.Sound.{IsCovered, IsDatedAt, IsHeld, IsKeptAt, IsNamed, IsSessionSound, IsSound}
-use Rattle.epoch_blocks.proofs.Lists.{option_map_some, ChangedAt, changed_at-some, within, get_at, take_one_more}
+use Rattle.epoch_blocks.proofs.Lists.{option_map_some, ChangedAt, changed_at-some, take_one_more}
 use Rattle.epoch_core.proofs.Keeping.{Carries, carry}
 
 -- the floor
@@ -144,7 +145,7 @@ moved w s change after is =
     record {
       session = c.before;
       next = c.after;
-      at = get_at w.sessions s c.before Idle c.found;
+      at = get_or_from_slice_get w.sessions s c.before Idle c.found;
       found = c.found;
       changed = c.changed;
       result = whole.2 ∙ ap (with_sessions w) c.result;
@@ -153,7 +154,7 @@ moved w s change after is =
 pub session_after : (w : World) (s : ℕ) (session next : SessionState) → slice_get w.sessions s ≡ Some session
     → session_of (with_sessions w (set w.sessions s next)) s ≡ next
 session_after w s session next found = let lt : s < length w.sessions =
-    within w.sessions s session found in get_or-set_same w.sessions s next Idle lt
+    slice_get_within w.sessions s session found in get_or-set_same w.sessions s next Idle lt
 
 pub session_else : (w : World) (s t : ℕ) (next : SessionState) → t ≢ s
     → session_of (with_sessions w (set w.sessions s next)) t ≡ session_of w t

@@ -2,10 +2,9 @@
 use Rattle.std.proofs.Common.{◌≡◌, ℕ, ◌<◌, ◌≤◌, List, length, get_or, set, refl, sym, ap, subst, ◌∙◌}
 use Rattle.std.specs.{Prelude.slice_get, Option.option_and_then}
 use Rattle.std.specs.declared.option.Option.{Option, TheVariants.None, TheVariants.Some}
-use Rattle.std.proofs.lemmas.{List.set-get_or, Option.slice_get_past}
+use Rattle.std.proofs.lemmas.{List.set-get_or, Option.slice_get_past, Option.slice_get-get_or}
 use Rattle.epoch_blocks.specs.{Blocks.changed_at, Blocks.put, Blocks.Stepped, declared.steps.Step.Step}
 use Rattle.epoch_blocks.specs.declared.steps.Step.TheVariants.{Done, Skipped}
-use Rattle.epoch_blocks.proofs.Lists.{at_from_within}
 
 put_at : {A : Type 0} (o : Option A) (xs : List A) (i : ℕ) (d : A) (outcome : Step) (new : A)
     → Stepped o outcome (get_or xs i d) new → Stepped (put xs i o) outcome xs (set xs i new)
@@ -17,7 +16,7 @@ pub stepped_at : {A : Type 0} (change : A → Option A) (xs : List A) (i : ℕ) 
     → i < length xs → x ≡ get_or xs i x → Stepped (change x) outcome x new
     → Stepped (changed_at change xs i) outcome xs (set xs i new)
 stepped_at change xs i x outcome new lt at is =
-    let found : slice_get xs i ≡ Some (get_or xs i x) = at_from_within xs i x lt in
+    let found : slice_get xs i ≡ Some (get_or xs i x) = slice_get-get_or xs i x lt in
     subst (λ o. Stepped (put xs i (option_and_then change o)) outcome xs (set xs i new)) (sym found)
     (put_at (change (get_or xs i x)) xs i x outcome new (subst (λ y. Stepped (change y) outcome y new) at is))
 
@@ -30,12 +29,12 @@ stepped_past change xs i past =
 pub stays_at : {A : Type 0} (change : A → Option A) (xs : List A) (i : ℕ) (x : A) → i < length xs → x ≡ get_or xs i x
     → change x ≡ None → Stepped (changed_at change xs i) Skipped xs xs
 stays_at change xs i x lt at none =
-    let found : slice_get xs i ≡ Some x = at_from_within xs i x lt ∙ ap (λ y. Some y) (sym at) in
+    let found : slice_get xs i ≡ Some x = slice_get-get_or xs i x lt ∙ ap (λ y. Some y) (sym at) in
     subst (λ o. Stepped (put xs i o) Skipped xs xs) (sym (ap (option_and_then change) found ∙ none)) (refl, refl)
 
 -- a step that gives an element a new value
 pub goes_to : {A : Type 0} (change : A → Option A) (xs : List A) (i : ℕ) (x new : A) → i < length xs → x ≡ get_or xs i x
     → change x ≡ Some new → Stepped (changed_at change xs i) Done xs (set xs i new)
 goes_to change xs i x new lt at some =
-    let found : slice_get xs i ≡ Some x = at_from_within xs i x lt ∙ ap (λ y. Some y) (sym at) in
+    let found : slice_get xs i ≡ Some x = slice_get-get_or xs i x lt ∙ ap (λ y. Some y) (sym at) in
     subst (λ o. Stepped (put xs i o) Done xs (set xs i new)) (sym (ap (option_and_then change) found ∙ some)) (refl, refl)

@@ -5,6 +5,8 @@ use Rattle.std.specs.{Prelude.slice_get, List.flat_map, declared.option.Option.T
 use Rattle.std.proofs.lemmas.Bool.{eqb-true, eqb-false}
 use Rattle.std.proofs.lemmas.List.{length-replicate, length-set, get_or-set_same, get_or-set_other}
 use Rattle.std.proofs.lemmas.List.Elements.{All-head, All-tail, All-nil, All-cons}
+use Rattle.epoch_core.proofs.PostRule.{differ_head}
+use Rattle.graph_model.proofs.Counts.{apart_tail}
 use Rattle.graph_model.specs.{Graph.graph_of, declared.ids.Edge.Edge, declared.contents.Content.Content}
 use Rattle.epoch_blocks.specs.declared.states.Status.{Status, TheVariants.Free, TheVariants.Used}
 use Rattle.epoch_blocks.specs.{Blocks.is_listed, Versions.Shows, Versions.edges_at}
@@ -50,12 +52,6 @@ heap_else (l ∷ lists) heap b apart =
     heap_else lists (set heap l.0 l.1) b (All-tail (λ c. b ≢ c) l.0 (numbers_in lists) apart)
     ∙ get_or-set_other heap l.0 b l.1 [] (All-head (λ c. b ≢ c) l.0 (numbers_in lists) apart)
 
-apart_head : (b : ℕ) (bs : List ℕ) → AllPairs ◌≢◌ (b ∷ bs) → All (λ c. b ≢ c) bs
-apart_head b bs different k d h = different 0 (suc k) d (omega arith) (omega arith)
-
-apart_tail : (b : ℕ) (bs : List ℕ) → AllPairs ◌≢◌ (b ∷ bs) → AllPairs ◌≢◌ bs
-apart_tail b bs different i j d h g = different (suc i) (suc j) d (omega arith) (omega arith)
-
 heap_all : (lists : Lists) (heap : List (List Edge)) → All (λ l. l.0 < length heap) lists → AllPairs ◌≢◌ (numbers_in lists)
     → flat_map (edges_at (heap_with lists heap)) (numbers_in lists) ≡ flat_map (λ l. l.1) lists
 heap_all [] heap within different = refl
@@ -63,7 +59,7 @@ heap_all (l ∷ lists) heap within different =
     let In : ℕ → ℕ × List Edge → Type 0 = λ n x. x.0 < n in
     let here : l.0 < length heap = All-head (In (length heap)) l lists within in
     let next = set heap l.0 l.1 in
-    (λ i. (heap_else lists next l.0 (apart_head l.0 (numbers_in lists) different) ∙ get_or-set_same heap l.0 l.1 [] here) i
+    (λ i. (heap_else lists next l.0 (differ_head l.0 (numbers_in lists) different) ∙ get_or-set_same heap l.0 l.1 [] here) i
     ++ heap_all lists next
     (subst (λ n. All (In n) lists) (sym (length-set heap l.0 l.1)) (All-tail (In (length heap)) l lists within))
     (apart_tail l.0 (numbers_in lists) different) i)

@@ -5,6 +5,7 @@ use Rattle.std.specs.Prelude.{slice_get, if◌then◌else◌, is_some, All, AllP
 use Rattle.std.specs.declared.option.Option.{Option, TheVariants.None, TheVariants.Some}
 use Rattle.std.proofs.lemmas.Bool.Decides.{Decides-and, Decides-or, Decides-not, Decides-like, Decides-by_and, Decides-eqb}
 use Rattle.std.proofs.lemmas.{Bool.Decides.Decides-ltb, Bool.Decides.leb_tells, List.Kept.AllPairs-cons}
+use Rattle.graph_model.proofs.Counts.{apart_tail}
 use Rattle.graph_model.specs.{Limits.batch_limit, Limits.name_limit, Limits.kind_limit, declared.batches.NamedOp.NamedOp}
 use Rattle.epoch_blocks.specs.{declared.states.Status.Status, Blocks.all_differ, Blocks.is_at, Blocks.is_fresh, Blocks.is_listed}
 use Rattle.epoch_blocks.specs.declared.states.Status.TheVariants.{Free, Fresh, Used, Retired}
@@ -35,16 +36,13 @@ Decides-unlisted b bs =
     (λ c. Decides-like _ (λ apart same. apart (sym same)) (λ apart same. apart (sym same)) (Decides-not _ (Decides-eqb c b)))
     refl (λ c cs. neither (eqb c b) (is_listed b cs)) bs
 
-differ_head : (b : ℕ) (bs : List ℕ) → AllPairs ◌≢◌ (b ∷ bs) → All (λ c. b ≢ c) bs
+pub differ_head : (b : ℕ) (bs : List ℕ) → AllPairs ◌≢◌ (b ∷ bs) → All (λ c. b ≢ c) bs
 differ_head b bs all = λ k d h. all 0 (suc k) d (omega arith) (omega arith)
-
-differ_tail : (b : ℕ) (bs : List ℕ) → AllPairs ◌≢◌ (b ∷ bs) → AllPairs ◌≢◌ bs
-differ_tail b bs all = λ i j d h g. all (suc i) (suc j) d (omega arith) (omega arith)
 
 Decides-differ : (bs : List ℕ) → Decides (all_differ bs) (AllPairs ◌≢◌ bs)
 Decides-differ [] = (λ _. λ i j d h g. absurd (omega arith), λ _. refl)
 Decides-differ (b ∷ bs) =
-    Decides-like _ (λ p. AllPairs-cons ◌≢◌ b bs p.0 p.1) (λ all. (differ_head b bs all, differ_tail b bs all))
+    Decides-like _ (λ p. AllPairs-cons ◌≢◌ b bs p.0 p.1) (λ all. (differ_head b bs all, apart_tail b bs all))
     (Decides-and _ _ (Decides-unlisted b bs) (Decides-differ bs))
 
 -- a limit that isn't passed

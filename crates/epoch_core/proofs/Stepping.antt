@@ -51,10 +51,6 @@ pub ok_also : {A E : Type 0} (r : Result A E) (P Q : A → Type 0) → ((x : A) 
 ok_also (Ok x) P Q also is = also x is
 ok_also (Err e) P Q also is = tt
 
-pub err_also : {A E : Type 0} (r : Result A E) (P Q : Type 0) → (P → Q) → OnErr r P → OnErr r Q
-err_also (Ok x) P Q also is = tt
-err_also (Err e) P Q also is = also is
-
 pub err_always : {A E : Type 0} (r : Result A E) (P : Type 0) → P → OnErr r P
 err_always (Ok x) P is = tt
 err_always (Err e) P is = is

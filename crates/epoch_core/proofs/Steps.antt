@@ -5,6 +5,7 @@ use Rattle.std.specs.Prelude.{slice_get, if◌then◌else◌, All, AllPairs}
 use Rattle.std.specs.Option.{option_map, unwrap_or}
 use Rattle.std.specs.declared.option.Option.{Option, TheVariants.None, TheVariants.Some}
 use Rattle.std.proofs.lemmas.{List.length-replicate, Option.slice_get_past}
+use Rattle.std.proofs.lemmas.Bool.{cases_lt}
 use Rattle.graph_model.specs.declared.ids.Edge.{Edge}
 use Rattle.epoch_blocks.specs.declared.states.Status.{Status, TheVariants.Free, TheVariants.Used}
 use Rattle.epoch_core.specs.{declared.states.SessionState.TheVariants.Idle, Posts.posted, Runs.next_world, Runs.run}
@@ -16,7 +17,7 @@ use Rattle.epoch_core.specs.Worlds.{IsStart, World, last_blocks, last_graph, las
 use Rattle.epoch_blocks.specs.Posting.{can_post}
 use Rattle.epoch_core.specs.Machine.{step, with_heap, with_status}
 use Rattle.epoch_core.specs.Sound.{IsDated, IsDatedAt, IsNamed, IsSessionSound, IsSound}
-use Rattle.epoch_blocks.proofs.Lists.{true_or_false, below_or_past, option_map_some, ChangedAt, changed_at-some}
+use Rattle.epoch_blocks.proofs.Lists.{true_or_false, option_map_some, ChangedAt, changed_at-some}
 use Rattle.graph_model.proofs.Keys.{once_none}
 use Rattle.epoch_core.proofs.Keeping.{FreesNone, frees_taken, frees_recycled, sound_status, Fills, fills, sound_fill}
 use Rattle.epoch_core.proofs.{Posted.sound_posted, Moves.keeps_read, Moves.keeps_reply, Moves.keeps_release}
@@ -97,7 +98,7 @@ listed_within n b (c ∷ cs) all is =
 used_start : (start : State) (b : ℕ) → IsStart start → is_at is_used (slice_get start.world.status b)
     ≡ is_listed b start.world.opening.blocks
 used_start start b is =
-    elim (below_or_past b (length start.world.status)) [
+    elim (cases_lt b (length start.world.status)) [
       | inl low ↦ ap (is_at is_used) (is.status b low) ∙ used_first (is_listed b start.world.opening.blocks)
       | inr past ↦
           ap (is_at is_used) (slice_get_past start.world.status b past)
@@ -110,7 +111,7 @@ used_start start b is =
 
 dated_start : (start : State) (b : ℕ) → IsStart start → IsDatedAt 0 (slice_get start.world.status b)
 dated_start start b is =
-    elim (below_or_past b (length start.world.status)) [
+    elim (cases_lt b (length start.world.status)) [
       | inl low ↦ subst (IsDatedAt 0) (sym (is.status b low)) (dated_first (is_listed b start.world.opening.blocks))
       | inr past ↦ subst (IsDatedAt 0) (sym (slice_get_past start.world.status b past)) tt
     ]

@@ -3,7 +3,7 @@
 use graph_model::{Batch, Edge, List, Request};
 
 /// An event of the machine: one atomic step of the writer, the collector or a session.
-#[derive(Debug, Drop)]
+#[derive(Drop)]
 pub enum Event {
     /// The writer takes a free block.
     Take(usize),

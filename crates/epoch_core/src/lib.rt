@@ -10,11 +10,13 @@
 //! Aspen has them (Dhulipala, Blelloch, Shun; PLDI 2019).
 #![tactic(auto)]
 
+mod advancing;
 mod events;
 mod laws;
 mod machine;
 mod replying;
 mod sessions;
+mod start;
 mod states;
 
 pub use epoch_blocks::Step;

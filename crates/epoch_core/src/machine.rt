@@ -1,27 +1,22 @@
 //! The machine itself.
 
-ghost use Rattle.std.specs.Prelude.{◌≡◌, ℕ, ◌<◌, ◌≤◌, ◌+◌, ◌-◌, ◌^◌, [], IfOk, OnOk, OnErr, IsTrue, length, min, replicate, take};
-ghost use Rattle.std.specs.Prelude.{All, map, slice_index_or};
+ghost use Rattle.std.specs.Prelude.{◌≡◌, ℕ, ◌<◌, ◌≤◌, ◌+◌, ◌-◌, ◌^◌, IfOk, OnOk, OnErr, IsTrue, length, min, take};
 ghost use Rattle.epoch_core.specs.Worlds as worlds;
-ghost use Rattle.epoch_core.specs.Worlds.{HasContents, IsStart};
+ghost use Rattle.epoch_core.specs.Worlds.{IsStart};
 ghost use Rattle.epoch_core.specs.Machine.{takes_memory};
 ghost use Rattle.epoch_core.specs.Runs.{Steps, Runs, done_in, count_of};
-ghost use Rattle.epoch_core.specs.Sound.{IsCore};
-ghost use Rattle.epoch_core.specs.Cores.{state_of};
-ghost use Rattle.epoch_core.specs.Opened.{IsOpening, opened_over, opened_state, numbers_in, heap_with, status_with};
-ghost use Rattle.epoch_blocks.specs.declared.states.Status.TheVariants.{Free};
-ghost use Rattle.epoch_core.specs.declared.states.SessionState.TheVariants.{Idle};
+ghost use Rattle.epoch_core.specs.Opened.{IsOpening, opened_state};
 
-use crate::replying::{replies_at, reply};
-use crate::sessions::{
-    ask, copy_pins, enter, held_in, least_pin, pin, pin_in, read, release, settle, state_at,
-};
-use crate::states::{Parts, SessionState, no_items};
+use crate::advancing::keep;
+use crate::replying::replies_at;
+use crate::sessions::{held_in, pin_in, state_at};
+use crate::start::{opened_parts, parts_at_start};
+use crate::states::Parts;
 use crate::{Event, OutOfMemory};
-use epoch_blocks::{Opening, Status, Step, fill_block, plan_post, recycle_block, take_block};
-use graph_model::{AskError, Batch, Content, Edge, List, Reply};
+use epoch_blocks::Step;
+use graph_model::{AskError, Content, Edge, List, Reply};
 use pin_copy::PinCopy;
-use std::alloc::{AllocError, Global};
+use std::alloc::Global;
 use std::marker::Model;
 
 /// The machine of interleavings, as `specs/Machine.antt` defines it: blocks, versions, the floor, a copy
@@ -157,299 +152,17 @@ pub fn run(core: &mut Core, events: &[Event]) -> Result<u32, OutOfMemory>
     let mut done = 0u32;
     for event in events {
         let step = core.advance(event)?;
-        done = counted(done, step);
+        done = add_done(done, step);
     }
     Ok(done)
 }
 
 /// One more, where the step is done; `u32::MAX` stays.
-fn counted(done: u32, step: Step) -> u32
+fn add_done(done: u32, step: Step) -> u32
     ensures { result ≡ min (done + count_of step) (2 ^ 32 - 1) }
 {
     match step {
         Step::Done => done.saturating_add(1),
         Step::Skipped => done,
     }
-}
-
-/// The fields of the machine at its start.
-fn parts_at_start(alloc: Global, sessions: usize, blocks: usize) -> Result<Parts, AllocError>
-    ensures { IfOk result (λ parts. state_of parts ≡ worlds.start sessions blocks) }
-{
-    Ok(Parts {
-        alloc,
-        opening: empty_opening(alloc),
-        heap: empty_lists(alloc, blocks)?,
-        status: free_blocks(alloc, blocks)?,
-        versions: Vec::new(alloc),
-        floor: 0,
-        copy: PinCopy::none(),
-        sessions: idle_sessions(alloc, sessions)?,
-        replies: empty_lists(alloc, sessions)?,
-    })
-}
-
-/// The fields of the machine at its start over a content.
-fn opened_parts(
-    alloc: Global,
-    sessions: usize,
-    blocks: usize,
-    content: &Content,
-    lists: &[(u32, List<Edge>)],
-) -> Result<Parts, AllocError>
-    requires { All (λ l. l.0 < blocks) lists.now }
-    ensures { IfOk result (λ parts. state_of parts ≡ opened_state sessions blocks content.now lists.now) }
-{
-    let mut parts = parts_at_start(alloc, sessions, blocks)?;
-    open_over(&mut parts, content, lists)?;
-    Ok(parts)
-}
-
-/// Makes the machine at its start one over a content.
-fn open_over(
-    parts: &mut Parts,
-    content: &Content,
-    lists: &[(u32, List<Edge>)],
-) -> Result<(), AllocError>
-    requires heap { All (λ l. l.0 < length parts.old.heap.items) lists.now }
-    requires status { All (λ l. l.0 < length parts.old.status.items) lists.now }
-    ensures { OnOk result (state_of parts.new ≡ opened_over (state_of parts.old) content.now lists.now) }
-{
-    fill_lists(parts.alloc, &mut parts.heap, lists)?;
-    mark_lists(&mut parts.status, lists);
-    parts.opening = opening_of(parts.alloc, content, lists)?;
-    Ok(())
-}
-
-/// A content, and the numbers of the blocks that have its edges.
-fn opening_of(
-    alloc: Global,
-    content: &Content,
-    lists: &[(u32, List<Edge>)],
-) -> Result<Opening, AllocError>
-    ensures { IfOk result (λ opening. opening ≡ record { content = content.now; blocks = numbers_in lists.now }) }
-{
-    let numbers = listed_numbers(alloc, lists)?;
-    Ok(Opening {
-        content: content.clone()?,
-        blocks: List::of(numbers),
-    })
-}
-
-/// The number of each listed block.
-fn listed_numbers(alloc: Global, lists: &[(u32, List<Edge>)]) -> Result<Vec<usize>, AllocError>
-    ensures { IfOk result (λ v. v.items ≡ map (λ l. l.0) lists.now) }
-{
-    let mut numbers = Vec::with_capacity(alloc, lists.len())?;
-    for list in lists {
-        numbers.push(list.0 as usize)?;
-    }
-    Ok(numbers)
-}
-
-/// The edges of a list, copied.
-fn copied(alloc: Global, edges: &List<Edge>) -> Result<List<Edge>, AllocError>
-    ensures { IfOk result (λ copy. copy ≡ edges.now) }
-{
-    let items = Vec::from_slice(alloc, edges.as_slice())?;
-    Ok(List::of(items))
-}
-
-/// Puts each list of edges at its block's number.
-fn fill_lists(
-    alloc: Global,
-    heap: &mut Vec<List<Edge>>,
-    lists: &[(u32, List<Edge>)],
-) -> Result<(), AllocError>
-    requires { All (λ l. l.0 < length heap.old.items) lists.now }
-    ensures { OnOk result (heap.new.items ≡ heap_with lists.now heap.old.items) }
-{
-    for list in lists {
-        let edges = copied(alloc, &list.1)?;
-        heap[list.0 as usize] = edges;
-    }
-    Ok(())
-}
-
-/// Marks each listed block as used from version 0 on.
-fn mark_lists(status: &mut Vec<Status>, lists: &[(u32, List<Edge>)])
-    requires { All (λ l. l.0 < length status.old.items) lists.now }
-    ensures { status.new.items ≡ status_with lists.now status.old.items }
-{
-    for list in lists {
-        status[list.0 as usize] = Status::Used { birth: 0 };
-    }
-}
-
-/// The opening without names, kinds, edges and blocks. It takes no memory.
-fn empty_opening(alloc: Global) -> Opening
-    ensures { result ≡ worlds.empty_opening }
-{
-    let content = Content {
-        names: no_items(alloc),
-        kinds: no_items(alloc),
-        edges: no_items(alloc),
-    };
-    Opening {
-        content,
-        blocks: no_items(alloc),
-    }
-}
-
-fn empty_lists<T: Drop>(alloc: Global, count: usize) -> Result<Vec<List<T>>, AllocError>
-    ensures { IfOk result (λ v. v.items ≡ replicate count []) }
-{
-    let mut lists = Vec::new(alloc);
-    while lists.len() < count {
-        lists.push(no_items(alloc))?;
-    }
-    Ok(lists)
-}
-
-fn free_blocks(alloc: Global, count: usize) -> Result<Vec<Status>, AllocError>
-    ensures { IfOk result (λ v. v.items ≡ replicate count Free) }
-{
-    vec![in alloc; Status::Free; count]
-}
-
-fn idle_sessions(alloc: Global, count: usize) -> Result<Vec<SessionState>, AllocError>
-    ensures { IfOk result (λ v. v.items ≡ replicate count Idle) }
-{
-    let mut sessions = Vec::new(alloc);
-    while sessions.len() < count {
-        sessions.push(SessionState::Idle)?;
-    }
-    Ok(sessions)
-}
-
-/// An event, and what stays true at every moment.
-fn keep(parts: &mut Parts, event: &Event) -> Result<Step, AllocError>
-    requires { IsCore (state_of parts.old) }
-    ensures steps { IfOk result (λ outcome. Steps (state_of parts.old) event.now outcome (state_of parts.new)) }
-    ensures unchanged { OnErr result (state_of parts.new ≡ state_of parts.old) }
-    ensures memory { OnErr result (IsTrue (takes_memory event.now)) }
-    ensures kept { IsCore (state_of parts.new) }
-    ensures sessions { length parts.new.sessions.items ≡ length parts.old.sessions.items }
-{
-    let outcome = advance(parts, event)?;
-    Ok(outcome)
-}
-
-/// An event.
-fn advance(parts: &mut Parts, event: &Event) -> Result<Step, AllocError>
-    requires { IsCore (state_of parts.old) }
-    ensures steps { IfOk result (λ outcome. Steps (state_of parts.old) event.now outcome (state_of parts.new)) }
-    ensures unchanged { OnErr result (state_of parts.new ≡ state_of parts.old) }
-    ensures memory { OnErr result (IsTrue (takes_memory event.now)) }
-    ensures contents { HasContents parts.new.opening parts.new.versions.items }
-{
-    match event {
-        Event::Take(block) => Ok(take_block(&mut parts.status, *block)),
-        Event::Fill(block, edges) => fill(parts, *block, edges.as_slice()),
-        Event::Post(batch, blocks) => post(parts, batch, blocks.as_slice()),
-        Event::Floor => Ok(raise_floor(parts)),
-        Event::Recycle(block) => Ok(recycle_block(&mut parts.status, &parts.copy, *block)),
-        Event::Pin(session) => Ok(pin(&mut parts.sessions, *session, parts.floor)),
-        Event::Enter(session) => Ok(enter_last(parts, *session)),
-        Event::Settle(session) => Ok(settle(&mut parts.sessions, *session)),
-        Event::Ask(session, request) => ask(parts.alloc, &mut parts.sessions, *session, request),
-        Event::Read(session) => read_next(parts, *session),
-        Event::Reply(session) => reply_to(parts, *session),
-        Event::Release(session) => Ok(release(&mut parts.sessions, *session)),
-    }
-}
-
-fn fill(parts: &mut Parts, block: usize, edges: &[Edge]) -> Result<Step, AllocError>
-    requires { IsCore (state_of parts.old) }
-    ensures steps { IfOk result (λ outcome. Steps (state_of parts.old) (Event.Fill block edges.now) outcome
-        (state_of parts.new)) }
-    ensures unchanged { OnErr result (state_of parts.new ≡ state_of parts.old) }
-    ensures contents { HasContents parts.new.opening parts.new.versions.items }
-{
-    let step = fill_block(
-        parts.alloc,
-        parts.status.as_slice(),
-        &mut parts.heap,
-        block,
-        edges,
-    )?;
-    Ok(step)
-}
-
-fn post(parts: &mut Parts, batch: &Batch, blocks: &[usize]) -> Result<Step, AllocError>
-    requires { IsCore (state_of parts.old) }
-    ensures steps { IfOk result (λ outcome. Steps (state_of parts.old) (Event.Post batch.now blocks.now) outcome
-        (state_of parts.new)) }
-    ensures unchanged { OnErr result (state_of parts.new ≡ state_of parts.old) }
-    ensures contents { HasContents parts.new.opening parts.new.versions.items }
-{
-    let plan = plan_post(
-        parts.alloc,
-        &parts.opening,
-        parts.heap.as_slice(),
-        parts.status.as_slice(),
-        parts.versions.as_slice(),
-        batch,
-        blocks,
-    )?;
-    let Some((status, version)) = plan else {
-        return Ok(Step::Skipped);
-    };
-    parts.versions.push(version)?;
-    parts.status = status;
-    Ok(Step::Done)
-}
-
-fn raise_floor(parts: &mut Parts) -> Step
-    requires { IsCore (state_of parts.old) }
-    ensures steps { Steps (state_of parts.old) Event.Floor result (state_of parts.new) }
-    ensures contents { HasContents parts.new.opening parts.new.versions.items }
-{
-    let last = parts.versions.len() as u64;
-    parts.floor = least_pin(last, parts.sessions.as_slice());
-    parts.copy = copy_pins(last, parts.sessions.as_slice());
-    Step::Done
-}
-
-fn enter_last(parts: &mut Parts, session: usize) -> Step
-    requires { IsCore (state_of parts.old) }
-    ensures steps { Steps (state_of parts.old) (Event.Enter session) result (state_of parts.new) }
-    ensures contents { HasContents parts.new.opening parts.new.versions.items }
-{
-    let last = parts.versions.len() as u64;
-    enter(&mut parts.sessions, session, last)
-}
-
-fn read_next(parts: &mut Parts, session: usize) -> Result<Step, AllocError>
-    requires { IsCore (state_of parts.old) }
-    ensures steps { IfOk result (λ outcome. Steps (state_of parts.old) (Event.Read session) outcome (state_of parts.new)) }
-    ensures unchanged { OnErr result (state_of parts.new ≡ state_of parts.old) }
-    ensures contents { HasContents parts.new.opening parts.new.versions.items }
-{
-    let step = read(
-        parts.alloc,
-        &parts.opening,
-        parts.heap.as_slice(),
-        parts.versions.as_slice(),
-        &mut parts.sessions,
-        session,
-    )?;
-    Ok(step)
-}
-
-fn reply_to(parts: &mut Parts, session: usize) -> Result<Step, AllocError>
-    requires { IsCore (state_of parts.old) }
-    ensures steps { IfOk result (λ outcome. Steps (state_of parts.old) (Event.Reply session) outcome (state_of parts.new)) }
-    ensures unchanged { OnErr result (state_of parts.new ≡ state_of parts.old) }
-    ensures contents { HasContents parts.new.opening parts.new.versions.items }
-{
-    let step = reply(
-        parts.alloc,
-        &parts.opening,
-        parts.versions.as_slice(),
-        &mut parts.sessions,
-        &mut parts.replies,
-        session,
-    )?;
-    Ok(step)
 }

@@ -230,7 +230,7 @@ pub(crate) fn ask(
 }
 
 /// Both lists of edges, one after the other.
-fn joined(alloc: Global, first: &[Edge], second: &[Edge]) -> Result<Vec<Edge>, AllocError>
+fn concatenation(alloc: Global, first: &[Edge], second: &[Edge]) -> Result<Vec<Edge>, AllocError>
     ensures { IfOk result (λ v. v.items ≡ first.now ++ second.now) }
 {
     let mut edges = Vec::from_slice(alloc, first)?;
@@ -259,7 +259,7 @@ fn read_state(
     else {
         return Ok(Step::Skipped);
     };
-    let read = joined(alloc, inquiry.read.as_slice(), edges_at(heap, block))?;
+    let read = concatenation(alloc, inquiry.read.as_slice(), edges_at(heap, block))?;
     inquiry.next += 1;
     inquiry.read = List::of(read);
     Ok(Step::Done)

@@ -2,12 +2,11 @@
 
 ghost use Rattle.std.specs.Prelude.{◌≡◌};
 
-use crate::edges::{Edges, insertions, refused, vertex_name};
+use crate::edges::{Edges, insertions, vertex_name};
 use batch_apply::PassAll;
-use graph_model::{Batch, NamedFilter, Request};
+use graph_model::{NamedFilter, Request};
 use seat_board::Board;
-use std::alloc::{AllocError, Global};
-use std::io;
+use std::alloc::Global;
 use std::marker::Brand;
 use std::sync::Wait;
 use std::sync::atomic::AtomicBool;
@@ -36,17 +35,17 @@ struct Signs {
 }
 
 /// Prints lines for each round: when it was, `alone` or `beside` the feed, the request, and nanoseconds of processor time
-/// of the thread that asks; and behind those `fed` and how many batches the other thread fed meanwhile.
+/// of the thread that asks; and behind those `fed` and how many batches the other thread fed meanwhile. Answers whether it could.
 pub(crate) fn measure<R: Threads + Wait + Sync + CpuClock + Print + AllocGlobal>(
     rt: &R,
     rounds: u32,
-) -> io::Result<()> {
+) -> bool {
     let Ok(config) = Config::new(1, 65_536, 1) else {
-        return Err(refused());
+        return false;
     };
     match open_parts(rt, rt.alloc(), config) {
         Ok((desk, board, seats)) => measure_over::<Brand, R>(rt, desk, board, seats, rounds),
-        Err(_) => Err(refused()),
+        Err(_) => false,
     }
 }
 
@@ -57,41 +56,40 @@ fn measure_over<J: Naming + Send + Sync, R: Threads + Wait + Sync + CpuClock + P
     board: Board,
     mut seats: Vec<Seat>,
     rounds: u32,
-) -> io::Result<()>
+) -> bool
     requires book { desk.book ≡ J.book }
     requires opening { desk.desk.last.opening ≡ J.opening }
 {
     let store = Store::<J>::over(desk, board);
-    match (load(rt, &store), seats.pop()) {
-        (Ok(()), Some(seat)) => measure_by(rt, &store, seat, rounds),
-        (Err(error), _) => Err(error),
-        (Ok(()), None) => Err(refused()),
+    match seats.pop() {
+        Some(seat) => measure_by(rt, &store, seat, rounds),
+        None => false,
     }
 }
 
-/// Holds the last version by a seat meanwhile.
+/// Makes the graph, and holds the last version by a seat meanwhile.
 fn measure_by<J: Naming + Send + Sync, R: Threads + Wait + Sync + CpuClock + Print + AllocGlobal>(
     rt: &R,
     store: &Store<J>,
     seat: Seat,
     rounds: u32,
-) -> io::Result<()> {
+) -> bool {
+    let is_loaded = load(rt, store);
     let session = seat.pin(rt, store).enter(rt, store);
-    let measured = measure_held(rt, store, &session, rounds);
+    let is_measured = is_loaded && measure_held(rt, store, &session, rounds);
     let _seat = session.release(rt, store);
-    measured
+    is_measured
 }
 
 /// Applies the batches that make the graph.
-fn load<J: Naming, R: Threads + Wait + Sync + AllocGlobal>(
-    rt: &R,
-    store: &Store<J>,
-) -> io::Result<()> {
+fn load<J: Naming, R: Threads + Wait + Sync + AllocGlobal>(rt: &R, store: &Store<J>) -> bool {
     let mut edges = Edges::new();
     for _ in 0..BATCHES {
-        feed_one(rt, store, &mut edges)?;
+        if !feed_one(rt, store, &mut edges) {
+            return false;
+        }
     }
-    Ok(())
+    true
 }
 
 /// Applies a batch of the next edges, and collects.
@@ -99,20 +97,20 @@ fn feed_one<J: Naming, R: Threads + Wait + Sync + AllocGlobal>(
     rt: &R,
     store: &Store<J>,
     edges: &mut Edges,
-) -> io::Result<()> {
-    apply(rt, store, insertions(rt.alloc(), edges, OPERATIONS)?)?;
+) -> bool {
+    let is_applied = apply_next(rt, store, edges);
     let _collected = store.collect(rt);
-    Ok(())
+    is_applied
 }
 
-fn apply<J: Naming, R: Threads + Wait + Sync>(
+fn apply_next<J: Naming, R: Threads + Wait + Sync + AllocGlobal>(
     rt: &R,
     store: &Store<J>,
-    batch: Batch,
-) -> io::Result<()> {
-    match store.apply(rt, &PassAll, batch) {
-        Ok(_) => Ok(()),
-        Err(_) => Err(refused()),
+    edges: &mut Edges,
+) -> bool {
+    match insertions(rt.alloc(), edges, OPERATIONS) {
+        Some(batch) => store.apply(rt, &PassAll, batch).is_ok(),
+        None => false,
     }
 }
 
@@ -121,12 +119,13 @@ fn measure_held<J: Naming + Send + Sync, R: Threads + Wait + Sync + CpuClock + P
     store: &Store<J>,
     session: &Session,
     rounds: u32,
-) -> io::Result<()> {
+) -> bool {
     for _ in 0..rounds {
-        ask_each(rt, "alone", session)?;
-        ask_beside(rt, store, session)?;
+        if !ask_each(rt, "alone", session) || !ask_beside(rt, store, session) {
+            return false;
+        }
     }
-    Ok(())
+    true
 }
 
 /// Asks while another thread feeds.
@@ -134,19 +133,24 @@ fn ask_beside<J: Naming + Send + Sync, R: Threads + Wait + Sync + CpuClock + Pri
     rt: &R,
     store: &Store<J>,
     session: &Session,
-) -> io::Result<()> {
+) -> bool {
     let signs = Signs {
         is_fed: AtomicBool::new(false),
         is_done: AtomicBool::new(false),
     };
-    let (fed, asked) = join(
+    let (fed, is_asked) = join(
         rt,
         || feed(rt, store, &signs),
         || ask_fed(rt, session, &signs),
     );
-    asked?;
-    let fed = fed?;
-    println!(rt; "fed {fed}")
+    is_asked && print_fed(rt, fed)
+}
+
+fn print_fed(rt: &impl Print, fed: Option<u32>) -> bool {
+    match fed {
+        Some(fed) => println!(rt; "fed {fed}").is_ok(),
+        None => false,
+    }
 }
 
 /// Feeds the batches of the graph until all was asked, and tells how many these were.
@@ -154,31 +158,29 @@ fn feed<J: Naming, R: Threads + Wait + Sync + AllocGlobal>(
     rt: &R,
     store: &Store<J>,
     signs: &Signs,
-) -> io::Result<u32> {
+) -> Option<u32> {
     let mut edges = Edges::new();
     for fed in 0..MOST_FED {
         if signs.is_done.load(SeqCst) {
-            return Ok(fed);
+            return Some(fed);
         }
         if fed % BATCHES == 0 {
             edges = Edges::new();
         }
-        feed_one(rt, store, &mut edges)?;
+        if !feed_one(rt, store, &mut edges) {
+            return None;
+        }
         signs.is_fed.store(true, SeqCst);
     }
-    Err(refused())
+    None
 }
 
 /// Asks once the feed has begun, and tells the feeder when all was asked.
-fn ask_fed<R: CpuClock + Print + AllocGlobal>(
-    rt: &R,
-    session: &Session,
-    signs: &Signs,
-) -> io::Result<()> {
+fn ask_fed<R: CpuClock + Print + AllocGlobal>(rt: &R, session: &Session, signs: &Signs) -> bool {
     await_first(&signs.is_fed);
-    let asked = ask_each(rt, "beside", session);
+    let is_asked = ask_each(rt, "beside", session);
     signs.is_done.store(true, SeqCst);
-    asked
+    is_asked
 }
 
 /// Waits for the first batch.
@@ -191,79 +193,76 @@ fn await_first(is_fed: &AtomicBool) {
     }
 }
 
-/// Asks each request, and prints what it took.
-fn ask_each<R: CpuClock + Print + AllocGlobal>(
+/// Asks each request of all edges, and prints what it took.
+fn ask_each<R: CpuClock + Print + AllocGlobal>(rt: &R, when: &str, session: &Session) -> bool {
+    ask(rt, when, "levels", session, levels(rt.alloc()))
+        && ask(rt, when, "labels", session, Some(labels()))
+        && ask(rt, when, "cores", session, Some(cores()))
+        && ask(rt, when, "degrees", session, Some(degrees()))
+}
+
+/// Asks a request, where memory for it was had, and prints what it took.
+fn ask<R: CpuClock + Print>(
     rt: &R,
     when: &str,
+    name: &str,
     session: &Session,
-) -> io::Result<()> {
-    for analysis in [
-        Analysis::Levels,
-        Analysis::Labels,
-        Analysis::Cores,
-        Analysis::Degrees,
-    ] {
-        let spent = ask_analysis(rt, session, analysis)?;
-        println!(rt; "{when} {} {spent}", analysis.name())?;
-    }
-    Ok(())
-}
-
-fn ask_analysis<R: CpuClock + AllocGlobal>(
-    rt: &R,
-    session: &Session,
-    analysis: Analysis,
-) -> io::Result<u128> {
-    match request_of(rt.alloc(), analysis) {
-        Ok(request) => ask(rt, session, &request),
-        Err(error) => Err(io::Error::from(error)),
+    request: Option<Request>,
+) -> bool {
+    match request {
+        Some(request) => print_spent(rt, when, name, time_of(rt, session, &request)),
+        None => false,
     }
 }
 
-/// Asks a request, and answers nanoseconds of processor time of this thread.
-fn ask<R: CpuClock>(rt: &R, session: &Session, request: &Request) -> io::Result<u128> {
-    let before = rt.thread_cpu_time()?.as_nanos();
+fn print_spent(rt: &impl Print, when: &str, name: &str, spent: Option<u128>) -> bool {
+    match spent {
+        Some(spent) => println!(rt; "{when} {name} {spent}").is_ok(),
+        None => false,
+    }
+}
+
+/// Nanoseconds of processor time that this thread takes for a request.
+fn time_of<R: CpuClock>(rt: &R, session: &Session, request: &Request) -> Option<u128> {
+    let before = clock(rt)?;
     if session.ask_in_numbers(request).is_err() {
-        return Err(refused());
+        return None;
     }
-    Ok(rt.thread_cpu_time()?.as_nanos().saturating_sub(before))
+    Some(clock(rt)?.saturating_sub(before))
 }
 
-/// What is asked of all edges.
-#[derive(Clone, Copy)]
-enum Analysis {
-    Levels,
-    Labels,
-    Cores,
-    Degrees,
-}
-
-impl Analysis {
-    fn name(self) -> &'static str {
-        match self {
-            Analysis::Levels => "levels",
-            Analysis::Labels => "labels",
-            Analysis::Cores => "cores",
-            Analysis::Degrees => "degrees",
-        }
+fn clock<R: CpuClock>(rt: &R) -> Option<u128> {
+    match rt.thread_cpu_time() {
+        Ok(time) => Some(time.as_nanos()),
+        Err(_) => None,
     }
 }
 
-fn request_of(alloc: Global, analysis: Analysis) -> Result<Request, AllocError> {
-    match analysis {
-        Analysis::Levels => Ok(Request::Levels {
-            source: vertex_name(alloc, 0)?,
+fn levels(alloc: Global) -> Option<Request> {
+    match vertex_name(alloc, 0) {
+        Ok(source) => Some(Request::Levels {
+            source,
             filter: all_edges(),
         }),
-        Analysis::Labels => Ok(Request::Labels {
-            filter: all_edges(),
-        }),
-        Analysis::Cores => Ok(Request::Cores {
-            filter: all_edges(),
-        }),
-        Analysis::Degrees => Ok(Request::Degrees {
-            filter: all_edges(),
-        }),
+        Err(_) => None,
+    }
+}
+
+fn labels() -> Request {
+    Request::Labels {
+        filter: all_edges(),
+    }
+}
+
+fn cores() -> Request {
+    Request::Cores {
+        filter: all_edges(),
+    }
+}
+
+fn degrees() -> Request {
+    Request::Degrees {
+        filter: all_edges(),
     }
 }
 

@@ -2,15 +2,9 @@
 
 use graph_model::{Batch, Name, NamedOp};
 use std::alloc::{AllocError, Global};
-use std::io;
 
 /// The number of vertices is 2 to this power.
 const SCALE: u32 = 14;
-
-/// The error of a call of the store that was refused.
-pub(crate) fn refused() -> io::Error {
-    io::Error::other("the store refused a call")
-}
 
 /// The edges of the graph, without end, as a linear congruential generator draws them. An edge may come again.
 #[derive(Clone, Copy)]
@@ -75,30 +69,29 @@ fn insertion(alloc: Global, edge: (u32, u32)) -> Result<NamedOp, AllocError> {
     }
 }
 
-fn push(batch: &mut Batch, op: NamedOp) -> io::Result<()> {
-    match batch.push(op) {
-        Ok(()) => Ok(()),
-        Err(_) => Err(refused()),
+/// Appends an operation to the batch, where memory for it was had; whether it could.
+fn push(batch: &mut Batch, op: Result<NamedOp, AllocError>) -> bool {
+    match op {
+        Ok(op) => batch.push(op).is_ok(),
+        Err(AllocError) => false,
     }
 }
 
-fn push_insertions(
-    alloc: Global,
-    batch: &mut Batch,
-    edges: &mut Edges,
-    count: u32,
-) -> io::Result<()> {
+fn push_insertions(alloc: Global, batch: &mut Batch, edges: &mut Edges, count: u32) -> bool {
     for _ in 0..count {
-        push(batch, insertion(alloc, edges.next_edge())?)?;
+        if !push(batch, insertion(alloc, edges.next_edge())) {
+            return false;
+        }
     }
-    Ok(())
+    true
 }
 
-/// The insertions of the next edges, at most 4,096.
-pub(crate) fn insertions(alloc: Global, edges: &mut Edges, count: u32) -> io::Result<Batch> {
+/// The insertions of the next edges, at most 4,096; nothing where memory was refused.
+pub(crate) fn insertions(alloc: Global, edges: &mut Edges, count: u32) -> Option<Batch> {
     let mut batch = Batch::new(alloc);
-    match push_insertions(alloc, &mut batch, edges, count) {
-        Ok(()) => Ok(batch),
-        Err(error) => Err(error),
+    if push_insertions(alloc, &mut batch, edges, count) {
+        Some(batch)
+    } else {
+        None
     }
 }

@@ -174,7 +174,7 @@ fn main(rt: HostRuntime) -> ExitCode {
         Err(_) => None,
     };
     let is_done = match rounds {
-        Some(rounds) => beside::measure(&rt, rounds).is_ok(),
+        Some(rounds) => beside::measure(&rt, rounds),
         None => show(&rt),
     };
     if is_done {

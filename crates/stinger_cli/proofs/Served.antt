@@ -9,7 +9,7 @@ use Rattle.stinger_cli.proofs.{OneFault.fault_meaning, Options.number_limits, Op
 use Rattle.stinger_cli.specs.Program.{Asked, Drive, Help, RunView, Serve, Usage, Version, asked, asked_by, asked_by_kind}
 use Rattle.stinger_cli.specs.Program.{asked_for, asked_of_command, asked_of_subcommand, is_quiet, is_version}
 use Rattle.stinger_cli.specs.Program.{is_wish_for_help, program, readers_of, sizes_of, without_help}
-use Rattle.stinger_cli.specs.declared.program.Order.{Order}
+use Rattle.stinger_cli.specs.declared.arguments.Order.{Order}
 use Rattle.stream_store.specs.Configs.{AreSizesWithin, ConfigView}
 use Rattle.store_drive.specs.Reports.{IsReaderCount}
 

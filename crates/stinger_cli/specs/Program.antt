@@ -18,9 +18,9 @@ use Rattle.clap.specs.declared.error.kind.ErrorKind.TheVariants.{DisplayHelp}
 use Rattle.feed_csv.specs.Records.{records_of}
 use Rattle.stream_store.specs.Configs.{ConfigView, AreSizesWithin}
 use Rattle.stream_store.specs.declared.config.BadConfig.{BadConfig}
-use Rattle.stinger_cli.specs.declared.program.RunOptions.{RunOptions}
-use Rattle.stinger_cli.specs.declared.program.Order.{Order}
-use Rattle.stinger_cli.specs.declared.program.Order.TheVariants as order
+use Rattle.stinger_cli.specs.declared.arguments.RunOptions.{RunOptions}
+use Rattle.stinger_cli.specs.declared.arguments.Order.{Order}
+use Rattle.stinger_cli.specs.declared.arguments.Order.TheVariants as order
 use Rattle.stinger_server.specs.declared.script.ServeFault.{ServeFault}
 use Rattle.stinger_server.specs.declared.script.ServeFault.TheVariants.{Read, Start, Write}
 use Rattle.stinger_server.specs.declared.script.Summary.{Summary}

@@ -2,6 +2,11 @@
 //! status, as `specs/Program.antt` says.
 #![tactic(auto)]
 
+mod arguments;
+mod command_line;
+mod laws;
 mod program;
+mod texts;
 
-pub use program::{law_arguments, law_options, refuse_arguments, serves, shows_progress, stinger};
+pub use laws::{law_arguments, law_options};
+pub use program::{refuse_arguments, serves, shows_progress, stinger};

@@ -20,6 +20,6 @@ loop-event-preserved c =
           (ap (λ es. done_in es c.args.core.now.world) takes
           ∙ count_more c.args.core.now c.loop-event.core c.advance.new.self before c.event-item.result c.in_ok-step.step
           c.loop-event.invariant.ran c.in_ok-step.ensures.steps)
-          c.counted-done.ensures;
+          c.add_done-done.ensures;
       sessions = c.advance.ensures.sessions ∙ c.loop-event.invariant.sessions;
     }

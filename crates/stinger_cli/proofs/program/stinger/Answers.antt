@@ -1,5 +1,5 @@
 use Rattle.std.proofs.Common.{[], refl}
-use Rattle.stinger_cli.specs.{Program.EndsWith, declared.program.TheConstants.FORMATS, declared.program.TheConstants.HINT}
+use Rattle.stinger_cli.specs.{Program.EndsWith, declared.texts.TheConstants.FORMATS, declared.texts.TheConstants.HINT}
 use Rattle.stinger_cli.proofs.HelpText.{told_ending, told_nothing}
 use Rattle.stinger_cli.proofs.program.stinger.Goals as goal
 

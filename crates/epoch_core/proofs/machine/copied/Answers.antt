@@ -1,5 +1,0 @@
-use Rattle.std.proofs.Common.{◌∙◌}
-use Rattle.epoch_core.proofs.machine.copied.Goals as goal
-
-pub returns : goal.returns
-returns c = c.of.ensures ∙ c.in_ok-items.ensures.items ∙ c.as_slice.ensures

@@ -1,5 +1,0 @@
-use Rattle.std.proofs.Common.{rules}
-use Rattle.epoch_core.proofs.machine.counted.Goals as goal
-
-pub returns-in-Skipped : goal.returns-in-Skipped
-returns-in-Skipped c = search rules
