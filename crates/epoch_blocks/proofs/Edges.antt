@@ -11,10 +11,10 @@ use Rattle.graph_model.proofs.Keys.{keys_total, exact_keys, is_key_of, is_key_of
 use Rattle.graph_model.proofs.Keys.{once_head, once_tail, once_cons, get_listed, len_once}
 use Rattle.graph_model.proofs.EdgeLookup.{Decides-has_key}
 use Rattle.epoch_blocks.proofs.Lists.{neither}
-use Rattle.epoch_blocks.specs.Versions.{Shows}
+use Rattle.epoch_blocks.specs.Versions.{AreEdgesOf}
 use Rattle.epoch_blocks.specs.Posting.{are_edges_of, bears, keys_differ, same_key, same_stamp}
 
-Decides-same_stamp : (a b : Stamp) → Decides (same_stamp a b) (a ≡ b)
+pub Decides-same_stamp : (a b : Stamp) → Decides (same_stamp a b) (a ≡ b)
 Decides-same_stamp a b =
     Decides-like _ (λ p i. record { weight = p.0.0 i; first = p.0.1 i; recent = p.1 i })
     (λ q. ((ap (λ s. s.weight) q, ap (λ s. s.first) q), ap (λ s. s.recent) q))
@@ -82,7 +82,7 @@ map_from_all m (e ∷ es) once all few =
     ap (λ n. insert n (key_of e) (stamp_of e)) made ∙ same_map keys_total exact_keys _ m (λ q. put_back m e q stands)
 
 -- the test of a Post's edges
-pub Decides-edges : (g : Graph) (es : List Edge) → Decides (are_edges_of g es) (Shows es g)
+pub Decides-edges : (g : Graph) (es : List Edge) → Decides (are_edges_of g es) (AreEdgesOf es g)
 Decides-edges g es =
     Decides-like _ (λ p. record { once = p.0.0; same = map_from_all g.edges es p.0.0 p.0.1 p.1 })
     (λ shows. (

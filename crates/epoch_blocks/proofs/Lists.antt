@@ -37,21 +37,6 @@ changed_at-some change xs i ys is =
     let found = and_then_some change (slice_get xs i) whole.0 whole.1 in
     record { before = found.0; after = whole.0; found = found.1; changed = found.2; result = whole.2 }
 
-pub within : {A : Type 0} (xs : List A) (i : ℕ) (x : A) → slice_get xs i ≡ Some x → i < length xs
-within [] i x is = cc
-within (y ∷ ys) zero x is = omega arith
-within (y ∷ ys) (suc i) x is = let rest = within ys i x is in omega arith
-
-pub get_at : {A : Type 0} (xs : List A) (i : ℕ) (x d : A) → slice_get xs i ≡ Some x → get_or xs i d ≡ x
-get_at [] i x d is = cc
-get_at (y ∷ ys) zero x d is = cc
-get_at (y ∷ ys) (suc i) x d is = get_at ys i x d is
-
-pub at_from_within : {A : Type 0} (xs : List A) (i : ℕ) (d : A) → i < length xs → slice_get xs i ≡ Some (get_or xs i d)
-at_from_within [] i d h = absurd (omega arith)
-at_from_within (y ∷ ys) zero d h = refl
-at_from_within (y ∷ ys) (suc i) d h = at_from_within ys i d (omega arith)
-
 pub set_same : {A : Type 0} (xs : List A) (i : ℕ) (x y : A) → slice_get xs i ≡ Some x → slice_get (set xs i y) i ≡ Some y
 set_same [] i x y is = cc
 set_same (z ∷ zs) zero x y is = refl
@@ -68,11 +53,6 @@ pub take_one_more : {A : Type 0} (xs : List A) (i : ℕ) (x : A) → slice_get x
 take_one_more [] i x is = cc
 take_one_more (y ∷ ys) zero x is = cc
 take_one_more (y ∷ ys) (suc i) x is = ap (λ zs. y ∷ zs) (take_one_more ys i x is)
-
-pub get_map : {A B : Type 0} (f : A → B) (xs : List A) (k : ℕ) → slice_get (map f xs) k ≡ option_map f (slice_get xs k)
-get_map f [] k = refl
-get_map f (x ∷ xs) zero = refl
-get_map f (x ∷ xs) (suc k) = get_map f xs k
 
 -- each element with its session
 pub get_enumerated : {A B : Type 0} (f : ℕ → A → B) (n : ℕ) (xs : List A) (k : ℕ)
@@ -106,16 +86,6 @@ or_false false b is = (refl, is)
 pub true_or_false : (b : Bool) → (b ≡ true) ⊎ (b ≡ false)
 true_or_false true = inl refl
 true_or_false false = inr refl
-
-pub below_or_past : (n m : ℕ) → (n < m) ⊎ (m ≤ n)
-below_or_past zero zero = inr (omega arith)
-below_or_past zero (suc m) = inl (omega arith)
-below_or_past (suc n) zero = inr (omega arith)
-below_or_past (suc n) (suc m) = elim (below_or_past n m) [
-  | inl low ↦ inl (omega (arith, low))
-  | inr past ↦ inr
-      (omega (arith, past))
-]
 
 pub all_listed : (p : ℕ → Bool) (bs : List ℕ) (b : ℕ) → list_all p bs ≡ true → is_listed b bs ≡ true → p b ≡ true
 all_listed p [] b all is = cc

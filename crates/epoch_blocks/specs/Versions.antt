@@ -58,7 +58,7 @@ abbrev pub edges_of : List (List Edge) → List ℕ → List Edge
 edges_of heap blocks = flat_map (edges_at heap) blocks
 
 -- the edges are each once the edges of the graph
-pub record Shows (edges : List Edge) (g : Graph) : Type 0 where
+pub record AreEdgesOf (edges : List Edge) (g : Graph) : Type 0 where
   pub once : AllPairs (λ a b. key_of a ≢ key_of b) edges
   pub same : map_of edges ≡ g.edges
 

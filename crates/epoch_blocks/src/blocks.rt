@@ -28,7 +28,7 @@ pub fn take_block(status: &mut Vec<Status>, block: usize) -> Step
 }
 
 /// What a retired block that the copy of the pins doesn't need becomes, and none for any other.
-fn recycled(copy: &PinCopy, status: Status) -> Option<Status>
+fn after_recycle(copy: &PinCopy, status: Status) -> Option<Status>
     ensures { result ≡ specs.recycled copy.now status }
 {
     match status {
@@ -52,7 +52,7 @@ pub fn recycle_block(status: &mut Vec<Status>, copy: &PinCopy, block: usize) -> 
     let Some(before) = status.get(block).copied() else {
         return Step::Skipped;
     };
-    match recycled(copy, before) {
+    match after_recycle(copy, before) {
         Some(after) => {
             status[block] = after;
             Step::Done

@@ -7,7 +7,7 @@ ghost use Rattle.std.specs.FinMap.{get};
 ghost use Rattle.graph_model.specs.Graph.{graph_of, key_of, stamp_of, map_of};
 ghost use Rattle.epoch_blocks.specs.Versions as specs;
 ghost use Rattle.epoch_blocks.specs.Posting as posting;
-ghost use Rattle.epoch_blocks.specs.Versions.{Shows};
+ghost use Rattle.epoch_blocks.specs.Versions.{AreEdgesOf};
 
 use graph_model::{Content, Edge, List};
 use std::alloc::{AllocError, Global};
@@ -107,7 +107,7 @@ fn are_counted(listed: &[Edge], edges: &[Edge]) -> bool
 pub(crate) fn are_edges_of(content: &Content, edges: &[Edge]) -> bool
     requires { AllPairs (λ a b. key_of a ≢ key_of b) content.now.edges }
     ensures counted { result ≡ posting.are_edges_of (graph_of content.now) edges.now }
-    ensures shown { IsTrue result ↔ Shows edges.now (graph_of content.now) }
+    ensures shown { IsTrue result ↔ AreEdgesOf edges.now (graph_of content.now) }
 {
     are_counted(content.edges.as_slice(), edges)
 }

@@ -45,7 +45,7 @@ fn left_of(refusal: PlainError) -> Result<Option<Content>, AllocError>
 }
 
 /// What the batch leaves of the content, or `None` where it would meet the limit on names or on kinds.
-fn applied(
+fn after_batch(
     alloc: Global,
     mut content: Content,
     batch: &Batch,
@@ -86,7 +86,7 @@ pub fn plan_post(
         return Ok(None);
     }
     let last = last_content(alloc, opening, heap, versions)?;
-    let Some(content) = applied(alloc, last, batch)? else {
+    let Some(content) = after_batch(alloc, last, batch)? else {
         return Ok(None);
     };
     let edges = edges_of(alloc, heap, blocks)?;

@@ -31,7 +31,7 @@ pub fn blocks_at<'a>(opening: &'a Opening, versions: &'a [Version], number: u64)
 }
 
 /// A copy of a list of names.
-fn copied(alloc: Global, names: &[Name]) -> Result<List<Name>, AllocError>
+fn copy_names(alloc: Global, names: &[Name]) -> Result<List<Name>, AllocError>
     ensures { IfOk result (λ copy. copy ≡ names.now) }
 {
     let mut copy = Vec::new(alloc);
@@ -51,8 +51,8 @@ fn content_of(
     ensures { IfOk result (λ content. content ≡ graph.content_of names.now kinds.now edges.items) }
 {
     Ok(Content {
-        names: copied(alloc, names)?,
-        kinds: copied(alloc, kinds)?,
+        names: copy_names(alloc, names)?,
+        kinds: copy_names(alloc, kinds)?,
         edges: List::of(edges),
     })
 }

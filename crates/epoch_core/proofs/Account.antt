@@ -12,7 +12,7 @@ use Rattle.epoch_core.specs.declared.states.SessionState.TheVariants.{Idle, Pinn
 use Rattle.epoch_core.specs.declared.events.Event.{Event, TheVariants.Reply, TheVariants.Release}
 use Rattle.epoch_core.specs.declared.events.Event.TheVariants.{Take, Fill, Post, Floor, Recycle, Pin, Enter, Settle, Ask, Read}
 use Rattle.epoch_blocks.specs.Blocks.{changed_at, filled, put, recycled, taken}
-use Rattle.epoch_core.specs.Worlds.{Answer, IsStart, State, World, graph_with, held_in, last_graph, last_number, replies_of}
+use Rattle.epoch_core.specs.Worlds.{Answer, IsStart, MachineState, World, graph_with, held_in, last_graph, last_number, replies_of}
 use Rattle.epoch_core.specs.{Worlds.session_of, Worlds.start, Posts.posted, Machine.with_status}
 use Rattle.epoch_blocks.specs.Versions.{blocks_at, edges_of, graph_at, version_at}
 use Rattle.epoch_blocks.specs.Posting.{can_post, version_by}
@@ -327,7 +327,7 @@ account s w (e ∷ es) sound =
     ∙ accounts s w e (observations s (next_world w e) es) sound
 
 -- from a start: all that is asked are the questions of the holdings
-asked_in_holdings : (start : State) (s : ℕ) (events : List Event) → IsStart start → all_asked s start.world events
+asked_in_holdings : (start : MachineState) (s : ℕ) (events : List Event) → IsStart start → all_asked s start.world events
     ≡ questions (holdings s start.world events)
 asked_in_holdings start s events is =
     account s start.world events (sound_start start is)
@@ -338,7 +338,7 @@ no_replies zero s = refl
 no_replies (suc n) zero = refl
 no_replies (suc n) (suc s) = no_replies n s
 
-pub replies_are_answers : (start end : State) (events : List Event) (s : ℕ) → IsStart start → Runs start events end
+pub replies_are_answers : (start end : MachineState) (events : List Event) (s : ℕ) → IsStart start → Runs start events end
     → AllZip Answers (questions (holdings s start.world events)) (replies_of end s)
 replies_are_answers start end events s is runs =
     let many : length start.replies ≡ length start.world.sessions =
@@ -351,7 +351,7 @@ replies_are_answers start end events s is runs =
     subst (λ qs. AllZip Answers qs (replies_of end s)) (asked_in_holdings start s events is)
     (subst (λ rs. AllZip Answers (all_asked s start.world events) rs) (sym all) a.answers)
 
-pub replies_alike : (s : ℕ) (start end : State) (events : List Event) (other_start other_end : State) (other_events : List Event)
+pub replies_alike : (s : ℕ) (start end : MachineState) (events : List Event) (other_start other_end : MachineState) (other_events : List Event)
     → IsStart start → Runs start events end → IsStart other_start → Runs other_start other_events other_end
     → holdings s start.world events ≡ holdings s other_start.world other_events
     → replies_of end s ≡ replies_of other_end s

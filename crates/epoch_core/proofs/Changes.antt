@@ -31,7 +31,7 @@ pub version_next : (o : Opening) (vs : List Version) (v : Version) → version_a
 version_next o vs v = ap (version_at o (vs ++ v ∷ [])) (length_next vs v)
     ∙ ap (λ found. unwrap_or found (version_zero o)) (get_last vs v)
 
-left_more : (bs : List (List NamedOp)) (b : List NamedOp) (g : Graph) → left_by (bs ++ b ∷ []) g ≡ after_all b (left_by bs g)
+pub left_more : (bs : List (List NamedOp)) (b : List NamedOp) (g : Graph) → left_by (bs ++ b ∷ []) g ≡ after_all b (left_by bs g)
 left_more [] b g = refl
 left_more (c ∷ cs) b g = left_more cs b (after_all c g)
 

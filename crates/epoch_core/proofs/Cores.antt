@@ -6,7 +6,7 @@ use Rattle.std.specs.declared.option.Option.{Option, TheVariants.None, TheVarian
 use Rattle.graph_model.specs.{Graph.IsContent, declared.batches.NamedOp.NamedOp, declared.contents.Content.Content}
 use Rattle.epoch_blocks.specs.declared.{states.Version.Version, states.Opening.Opening, steps.Step.Step}
 use Rattle.epoch_core.specs.declared.{states.SessionState.TheVariants.Idle, events.Event.Event}
-use Rattle.epoch_core.specs.Worlds.{Answer, HasContents, State, World, empty_opening, start}
+use Rattle.epoch_core.specs.Worlds.{Answer, HasContents, MachineState, World, empty_opening, start}
 use Rattle.epoch_blocks.specs.{Versions.IsContentGraph, Versions.graph_at, Posting.graph_after, Posting.version_by}
 use Rattle.epoch_core.specs.{Machine.Replies, Machine.step, Sound.IsCore, Sound.IsSound}
 use Rattle.epoch_core.specs.Runs.{AllReplies, Runs, Steps, count_of, done_in, is_done, next_world, run}
@@ -20,16 +20,16 @@ stepped_to : (o : Option World) (outcome : Step) (old new : World) → Stepped o
 stepped_to None outcome old new is = is.1
 stepped_to (Some after) outcome old new is = is.1
 
-pub steps_to : (old new : State) (e : Event) (outcome : Step) → Steps old e outcome new → new.world ≡ next_world old.world e
+pub steps_to : (old new : MachineState) (e : Event) (outcome : Step) → Steps old e outcome new → new.world ≡ next_world old.world e
 steps_to old new e outcome steps = stepped_to (step old.world e) outcome old.world new.world steps.world
 
 -- no step changes how many sessions there are
-pub steps_size : (old new : State) (e : Event) (outcome : Step) → Steps old e outcome new → length new.world.sessions
+pub steps_size : (old new : MachineState) (e : Event) (outcome : Step) → Steps old e outcome new → length new.world.sessions
     ≡ length old.world.sessions
 steps_size old new e outcome steps = ap (λ w. length w.sessions) (steps_to old new e outcome steps)
     ∙ (size_next old.world e).sessions
 
-pub core_kept : (old new : State) (e : Event) (outcome : Step) → IsCore old → Steps old e outcome new
+pub core_kept : (old new : MachineState) (e : Event) (outcome : Step) → IsCore old → Steps old e outcome new
     → HasContents new.world.opening new.world.versions → IsCore new
 core_kept old new e outcome core steps contents =
     let to : new.world ≡ next_world old.world e = steps_to old new e outcome steps in
@@ -65,7 +65,7 @@ run_more : (es : List Event) (e : Event) (w : World) → run (es ++ e ∷ []) w 
 run_more [] e w = refl
 run_more (x ∷ xs) e w = run_more xs e (next_world w x)
 
-pub runs_more : (old mid new : State) (es : List Event) (e : Event) (outcome : Step) → Runs old es mid
+pub runs_more : (old mid new : MachineState) (es : List Event) (e : Event) (outcome : Step) → Runs old es mid
     → Steps mid e outcome new → Runs old (es ++ e ∷ []) new
 runs_more old mid new es e outcome runs steps = record {
   world = steps_to mid new e outcome steps ∙ ap (λ w. next_world w e) runs.world ∙ sym (run_more es e old.world);
@@ -84,7 +84,7 @@ stepped_count None outcome old new is = ap count_of (sym is.0)
 stepped_count (Some after) outcome old new is = ap count_of (sym is.0)
 
 -- how many are done after one more step
-pub count_more : (old mid new : State) (es : List Event) (e : Event) (outcome : Step) → Runs old es mid
+pub count_more : (old mid new : MachineState) (es : List Event) (e : Event) (outcome : Step) → Runs old es mid
     → Steps mid e outcome new → done_in (es ++ e ∷ []) old.world ≡ done_in es old.world + count_of outcome
 count_more old mid new es e outcome runs steps =
     done_more es e old.world ∙ ap (λ w. done_in es old.world + (if is_done w e then 1 else 0)) (sym runs.world)

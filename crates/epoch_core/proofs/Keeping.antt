@@ -10,7 +10,7 @@ use Rattle.epoch_core.specs.declared.states.{Hold.Hold, SessionState.SessionStat
 use Rattle.epoch_core.specs.declared.states.SessionState.TheVariants.{Idle, Pinned, Holding, Asking}
 use Rattle.pin_copy.specs.{declared.copies.PinCopy.PinCopy, Copies.needs}
 use Rattle.epoch_blocks.specs.Blocks.{filled, is_at, is_fresh, is_listed, is_used, recycled, taken}
-use Rattle.epoch_blocks.specs.Versions.{Shows, blocks_at, edges_at, edges_of, graph_at, version_at}
+use Rattle.epoch_blocks.specs.Versions.{AreEdgesOf, blocks_at, edges_at, edges_of, graph_at, version_at}
 use Rattle.epoch_core.specs.Worlds.{World, last_blocks, last_graph, last_number, session_of}
 use Rattle.epoch_core.specs.Machine.{with_heap, with_status}
 use Rattle.epoch_core.specs.Sound.{IsCovered, IsDated, IsDatedAt, IsHeld, IsKept, IsKeptAt, IsNamed, IsSessionSound, IsSound}
@@ -46,9 +46,9 @@ carry_held old new hold c h =
       shown =
           let same : edges_of new.heap (blocks_at new.opening new.versions hold.version)
           ≡ edges_of old.heap (blocks_at old.opening old.versions hold.version) = ap (edges_of new.heap) blocks ∙ pieces in
-          subst (λ g. Shows (edges_of new.heap (blocks_at new.opening new.versions hold.version)) g)
+          subst (λ g. AreEdgesOf (edges_of new.heap (blocks_at new.opening new.versions hold.version)) g)
           (sym (c.graphs hold.version h.held_last))
-          (subst (λ es. Shows es (graph_at old.opening old.versions hold.version)) (sym same) h.shown);
+          (subst (λ es. AreEdgesOf es (graph_at old.opening old.versions hold.version)) (sym same) h.shown);
     }
 
 pub carry : (old new : World) (session : SessionState) → Carries old new → IsSessionSound old session → IsSessionSound new session
@@ -191,7 +191,7 @@ sound_fill w b edges sound fresh =
       used = sound.used;
       dated = sound.dated;
       listed_once = sound.listed_once;
-      shown = subst (λ es. Shows es (last_graph w))
+      shown = subst (λ es. AreEdgesOf es (last_graph w))
           (sym (same_pieces (edges_at (set w.heap b edges)) (edges_at w.heap) (last_blocks w)
           (λ c is. let apart : c ≢ b = λ e. let unused : is_at is_used (slice_get w.status c)
           ≡ false = ap (λ k. is_at is_used (slice_get w.status k)) e ∙ ap (is_at is_used) fresh in let used =

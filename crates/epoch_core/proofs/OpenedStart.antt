@@ -9,7 +9,7 @@ use Rattle.epoch_core.proofs.PostRule.{differ_head}
 use Rattle.graph_model.proofs.Counts.{apart_tail}
 use Rattle.graph_model.specs.{Graph.graph_of, declared.ids.Edge.Edge, declared.contents.Content.Content}
 use Rattle.epoch_blocks.specs.declared.states.Status.{Status, TheVariants.Free, TheVariants.Used}
-use Rattle.epoch_blocks.specs.{Blocks.is_listed, Versions.Shows, Versions.edges_at}
+use Rattle.epoch_blocks.specs.{Blocks.is_listed, Versions.AreEdgesOf, Versions.edges_at}
 use Rattle.epoch_blocks.proofs.Lists.{set_same, set_else}
 use Rattle.epoch_core.specs.{declared.states.SessionState.TheVariants.Idle, Worlds.IsStart, Worlds.HasContents, Sound.IsCore}
 use Rattle.epoch_core.specs.Opened.{Lists, numbers_in, heap_with, status_with, opened_state, IsOpening}
@@ -83,7 +83,7 @@ module _ (sessions blocks : ℕ) (content : Content) (lists : Lists) (is : IsOpe
     alone = refl;
     within = subst (λ n. All (λ b. b < n) (numbers_in lists)) (sym long_status) (numbers_within blocks lists is.within);
     different = is.different;
-    shown = subst (λ edges. Shows edges (graph_of content))
+    shown = subst (λ edges. AreEdgesOf edges (graph_of content))
         (sym (heap_all lists (replicate blocks [])
         (subst (λ n. All (λ l. l.0 < n) lists) (sym (length-replicate blocks [])) is.within) is.different)) is.shown;
     status = λ b low. let h : b < blocks = omega (arith, low, long_status) in

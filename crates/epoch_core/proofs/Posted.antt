@@ -8,7 +8,7 @@ use Rattle.graph_model.specs.declared.batches.NamedOp.{NamedOp}
 use Rattle.epoch_blocks.specs.declared.states.{Status.Status, Version.Version}
 use Rattle.epoch_blocks.specs.declared.states.Status.TheVariants.{Free, Fresh, Used, Retired}
 use Rattle.epoch_blocks.specs.Blocks.{after_post, is_at, is_fresh, is_listed, is_used, status_after}
-use Rattle.epoch_blocks.specs.Versions.{Shows, edges_of, graph_at, version_at}
+use Rattle.epoch_blocks.specs.Versions.{AreEdgesOf, edges_of, graph_at, version_at}
 use Rattle.epoch_core.specs.Worlds.{World, last_blocks, last_graph, last_number, session_of}
 use Rattle.epoch_core.specs.{Posts.MayPost, Posts.posted, Sound.IsDatedAt, Sound.IsKeptAt, Sound.IsNamed, Sound.IsSound}
 use Rattle.epoch_blocks.specs.Posting.{all_listable, can_post, graph_after, is_listable, version_by}
@@ -121,8 +121,8 @@ sound_posted w batch blocks sound can =
           (subst (IsDatedAt (last_number w + 1)) (sym (status_at (last_number w + 1) blocks w.status b))
           (dated_after (last_number w) (is_listed b blocks) (slice_get w.status b) (sound.dated b)));
       listed_once = subst (AllPairs ◌≢◌) (sym at) asked.different;
-      shown = subst (λ g. Shows (edges_of w.heap (last_blocks (posted w batch blocks))) g) (sym made)
-          (subst (λ bs. Shows (edges_of w.heap bs) (graph_after w.opening w.versions batch)) (sym at) asked.shown);
+      shown = subst (λ g. AreEdgesOf (edges_of w.heap (last_blocks (posted w batch blocks))) g) (sym made)
+          (subst (λ bs. AreEdgesOf (edges_of w.heap bs) (graph_after w.opening w.versions batch)) (sym at) asked.shown);
       named = named_posted w batch blocks sound;
       sessions = λ s. carry w (posted w batch blocks) (session_of w s) (carries_posted w batch blocks) (sound.sessions s);
       sizes = sound.sizes ∙ sym (length_enumerated (λ p. after_post (last_number w + 1) (is_listed p.0 blocks) p.1) 0 w.status);

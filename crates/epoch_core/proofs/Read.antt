@@ -9,7 +9,7 @@ use Rattle.epoch_blocks.specs.{declared.states.Version.Version, Posting.last_con
 use Rattle.epoch_core.specs.{declared.states.SessionState.SessionState, Machine.ReadsContent}
 use Rattle.epoch_core.specs.declared.states.SessionState.TheVariants.{Idle, Pinned, Holding, Asking}
 use Rattle.epoch_core.specs.Worlds.{HasContents, World, last_blocks, last_graph, last_number, session_of}
-use Rattle.epoch_blocks.specs.Versions.{IsContentGraph, Shows, blocks_at, content_with, edges_of, graph_at, version_at}
+use Rattle.epoch_blocks.specs.Versions.{IsContentGraph, AreEdgesOf, blocks_at, content_with, edges_of, graph_at, version_at}
 use Rattle.epoch_core.specs.Sound.{IsNamed, IsSessionSound, IsSound}
 
 same_within : (n m : ℕ) (x e : Edge) → key_of e ≡ key_of x → stamp_of e ≡ stamp_of x → IsEdgeWithin n m x → IsEdgeWithin n m e
@@ -24,7 +24,7 @@ same_within n m x e key stamp w = record {
 
 -- edges that show a content's graph are a content with its names and kinds
 pub is_content : (v : Version) (es : List Edge) (g : Graph) → IsContentGraph g → v.names ≡ g.names → v.kinds ≡ g.kinds
-    → Shows es g → IsContent (content_with v es)
+    → AreEdgesOf es g → IsContent (content_with v es)
 is_content v es g (c, is, same) names kinds shows =
     let ns : v.names ≡ c.names = names ∙ sym (ap (λ h. h.names) same) in
     let ks : v.kinds ≡ c.kinds = kinds ∙ sym (ap (λ h. h.kinds) same) in
@@ -66,7 +66,7 @@ reads_at w (Asking hold inquiry) sound contents p = λ all.
     p.1 ∙ ap (edges_of w.heap) (take_all inquiry.next (blocks_at w.opening w.versions hold.version) low) in
     is_content (version_at w.opening w.versions hold.version) inquiry.read (graph_at w.opening w.versions hold.version)
     (contents hold.version p.0.held_last) named.names named.kinds
-    (subst (λ es. Shows es (graph_at w.opening w.versions hold.version)) (sym whole) p.0.shown)
+    (subst (λ es. AreEdgesOf es (graph_at w.opening w.versions hold.version)) (sym whole) p.0.shown)
 
 pub reads_content : (w : World) (s : ℕ) → IsSound w → HasContents w.opening w.versions
     → ReadsContent w.opening w.versions (session_of w s)

@@ -5,7 +5,7 @@ use Rattle.std.specs.declared.option.Option.{Option, TheVariants.None, TheVarian
 use Rattle.std.specs.declared.result.Result.{Result, TheVariants.Ok, TheVariants.Err}
 use Rattle.epoch_blocks.specs.{Blocks.Stepped, Blocks.changed_at, declared.states.Status.Status, declared.steps.Step.Step}
 use Rattle.epoch_core.specs.declared.{events.Event.Event, states.SessionState.SessionState}
-use Rattle.epoch_core.specs.{Worlds.State, Worlds.World, Runs.Steps}
+use Rattle.epoch_core.specs.{Worlds.MachineState, Worlds.World, Runs.Steps}
 use Rattle.epoch_core.specs.Machine.{Replies, move, step, with_sessions, with_status}
 
 pub stepped_in : {A W : Type 0} (put_in : A → W) (o : Option A) (outcome : Step) (old new : A) → Stepped o outcome old new
@@ -13,7 +13,7 @@ pub stepped_in : {A W : Type 0} (put_in : A → W) (o : Option A) (outcome : Ste
 stepped_in put_in None outcome old new is = (is.0, ap put_in is.1)
 stepped_in put_in (Some after) outcome old new is = (is.0, ap put_in is.1)
 
-pub steps_by : {A : Type 0} (old : State) (e event : Event) (put_in : A → World) (o : Option A) (outcome : Step)
+pub steps_by : {A : Type 0} (old : MachineState) (e event : Event) (put_in : A → World) (o : Option A) (outcome : Step)
     (before after : A) → event ≡ e → step old.world e ≡ option_map put_in o → put_in before ≡ old.world
     → Replies old.world e old.replies old.replies → Stepped o outcome before after
     → Steps old event outcome (record { world = put_in after; replies = old.replies })
@@ -26,7 +26,7 @@ steps_by old e event put_in o outcome before after same does whole replies is =
     })
 
 -- a change of one block's status
-pub changed_by : (old : State) (e event : Event) (b : ℕ) (change : Status → Option Status) (outcome : Step)
+pub changed_by : (old : MachineState) (e event : Event) (b : ℕ) (change : Status → Option Status) (outcome : Step)
     (status : List Status) → event ≡ e
     → step old.world e ≡ option_map (with_status old.world) (changed_at change old.world.status b)
     → Replies old.world e old.replies old.replies
@@ -37,7 +37,7 @@ changed_by old e event b change outcome status same does replies is =
     refl replies is
 
 -- a move of one session
-pub moved_by : (old : State) (e event : Event) (s : ℕ) (change : SessionState → Option SessionState) (outcome : Step)
+pub moved_by : (old : MachineState) (e event : Event) (s : ℕ) (change : SessionState → Option SessionState) (outcome : Step)
     (sessions : List SessionState) → event ≡ e → step old.world e ≡ move old.world s change
     → Replies old.world e old.replies old.replies
     → Stepped (changed_at change old.world.sessions s) outcome old.world.sessions sessions

@@ -12,8 +12,8 @@ use Rattle.epoch_core.specs.{declared.states.SessionState.TheVariants.Idle, Post
 use Rattle.epoch_core.specs.declared.events.Event.{Event, TheVariants.Reply, TheVariants.Release}
 use Rattle.epoch_core.specs.declared.events.Event.TheVariants.{Take, Fill, Post, Floor, Recycle, Pin, Enter, Settle, Ask, Read}
 use Rattle.epoch_blocks.specs.Blocks.{changed_at, is_at, is_listed, is_used, recycled, taken}
-use Rattle.epoch_blocks.specs.Versions.{opening_graph, blocks_at, edges_of, graph_at, Shows}
-use Rattle.epoch_core.specs.Worlds.{IsStart, World, last_blocks, last_graph, last_number, session_of, start, State}
+use Rattle.epoch_blocks.specs.Versions.{opening_graph, blocks_at, edges_of, graph_at, AreEdgesOf}
+use Rattle.epoch_core.specs.Worlds.{IsStart, World, last_blocks, last_graph, last_number, session_of, start, MachineState}
 use Rattle.epoch_blocks.specs.Posting.{can_post}
 use Rattle.epoch_core.specs.Machine.{step, with_heap, with_status}
 use Rattle.epoch_core.specs.Sound.{IsDated, IsDatedAt, IsNamed, IsSessionSound, IsSound}
@@ -71,7 +71,7 @@ all_idle zero s = refl
 all_idle (suc n) zero = refl
 all_idle (suc n) (suc s) = all_idle n s
 
-pub idle_at : (start : State) (s : ℕ) → IsStart start → session_of start.world s ≡ Idle
+pub idle_at : (start : MachineState) (s : ℕ) → IsStart start → session_of start.world s ≡ Idle
 idle_at start s is = ap (λ xs. get_or xs s Idle) is.idle ∙ all_idle (length start.world.sessions) s
 
 -- a block's status at a start, by whether its number is listed
@@ -95,7 +95,7 @@ listed_within n b (c ∷ cs) all is =
       | false ↦ λ _ rest. listed_within n b cs (λ k d h. all (suc k) d (omega arith)) rest
     ] refl is
 
-used_start : (start : State) (b : ℕ) → IsStart start → is_at is_used (slice_get start.world.status b)
+used_start : (start : MachineState) (b : ℕ) → IsStart start → is_at is_used (slice_get start.world.status b)
     ≡ is_listed b start.world.opening.blocks
 used_start start b is =
     elim (cases_lt b (length start.world.status)) [
@@ -109,7 +109,7 @@ used_start start b is =
           ]
     ]
 
-dated_start : (start : State) (b : ℕ) → IsStart start → IsDatedAt 0 (slice_get start.world.status b)
+dated_start : (start : MachineState) (b : ℕ) → IsStart start → IsDatedAt 0 (slice_get start.world.status b)
 dated_start start b is =
     elim (cases_lt b (length start.world.status)) [
       | inl low ↦ subst (IsDatedAt 0) (sym (is.status b low)) (dated_first (is_listed b start.world.opening.blocks))
@@ -120,7 +120,7 @@ named_alone : (w : World) (n : ℕ) → n ≤ 0 → IsNamed w n
 named_alone w zero h = record { names = refl; kinds = refl }
 named_alone w (suc n) h = absurd (omega arith)
 
-pub sound_start : (start : State) → IsStart start → IsSound start.world
+pub sound_start : (start : MachineState) → IsStart start → IsSound start.world
 sound_start start is =
     let w : World = start.world in
     let none : last_number w ≡ 0 = ap length is.alone in
@@ -132,14 +132,14 @@ sound_start start is =
       used = λ b. used_start start b is ∙ ap (is_listed b) (sym blocks);
       dated = λ b. subst (λ n. IsDatedAt n (slice_get w.status b)) (sym none) (dated_start start b is);
       listed_once = subst (AllPairs ◌≢◌) (sym blocks) is.different;
-      shown = subst (λ bs. Shows (edges_of w.heap bs) (last_graph w)) (sym blocks)
-          (subst (Shows (edges_of w.heap w.opening.blocks)) (sym graph) is.shown);
+      shown = subst (λ bs. AreEdgesOf (edges_of w.heap bs) (last_graph w)) (sym blocks)
+          (subst (AreEdgesOf (edges_of w.heap w.opening.blocks)) (sym graph) is.shown);
       named = λ n low. named_alone w n (subst (λ m. n ≤ m) none low);
       sessions = λ s. subst (IsSessionSound w) (sym (idle_at start s is)) tt;
       sizes = is.heap;
     }
 
-pub always_sound : (start : State) (events : List Event) → IsStart start → IsSound (run events start.world)
+pub always_sound : (start : MachineState) (events : List Event) → IsStart start → IsSound (run events start.world)
 always_sound start events is = sound_run events start.world (sound_start start is)
 
 pub free_at : (n b : ℕ) → b < n → slice_get (replicate n Free) b ≡ Some Free

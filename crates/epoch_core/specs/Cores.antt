@@ -1,8 +1,8 @@
 -- What the fields of the machine show.
 use Rattle.epoch_core.specs.declared.states.Parts.{Parts}
-use Rattle.epoch_core.specs.Worlds.{State}
+use Rattle.epoch_core.specs.Worlds.{MachineState}
 
-abbrev pub state_of : Parts → State
+abbrev pub state_of : Parts → MachineState
 state_of p = record {
   world = record {
     opening = p.opening;

@@ -4,7 +4,7 @@ use Rattle.std.specs.List.{AllZip}
 use Rattle.graph_model.specs.declared.batches.NamedOp.{NamedOp}
 use Rattle.epoch_core.specs.declared.events.Event.{Event}
 use Rattle.epoch_core.specs.declared.events.Event.TheVariants.{Post}
-use Rattle.epoch_core.specs.Worlds.{World, State, IsStart, replies_of}
+use Rattle.epoch_core.specs.Worlds.{World, MachineState, IsStart, replies_of}
 use Rattle.epoch_core.specs.Posts.{MayPost}
 use Rattle.epoch_core.specs.Machine.{Answers}
 use Rattle.epoch_core.specs.Runs.{run, Runs, is_done}
@@ -16,7 +16,7 @@ use Rattle.epoch_core.specs.Collections.{LeavesWhatPinsNeed, LeavesNoneUnpinned}
 -- over what the batches up to the held version leave
 abbrev pub RepliesAreAnswers : Type 0
 RepliesAreAnswers =
-    (start end : State) (events : List Event) (s : ℕ)
+    (start end : MachineState) (events : List Event) (s : ℕ)
     → IsStart start → Runs start events end
     → AllZip Answers (questions (holdings s start.world events)) (replies_of end s)
 
@@ -25,7 +25,7 @@ RepliesAreAnswers =
 -- lists of requests that were replied to
 abbrev pub AgreeingRunsReplyAlike : Type 0
 AgreeingRunsReplyAlike =
-    (s : ℕ) (start end : State) (events : List Event) (other_start other_end : State) (other_events : List Event)
+    (s : ℕ) (start end : MachineState) (events : List Event) (other_start other_end : MachineState) (other_events : List Event)
     → IsStart start → Runs start events end
     → IsStart other_start → Runs other_start other_events other_end
     → holdings s start.world events ≡ holdings s other_start.world other_events
@@ -33,7 +33,7 @@ AgreeingRunsReplyAlike =
 
 -- at every moment of every list of events from a start
 abbrev pub Always : (ℕ → World → Type 0) → Type 0
-Always P = (start : State) (events : List Event) → IsStart start → P (length start.world.status) (run events start.world)
+Always P = (start : MachineState) (events : List Event) → IsStart start → P (length start.world.status) (run events start.world)
 
 abbrev pub AlwaysFillsNoHeldBlock : Type 0
 AlwaysFillsNoHeldBlock = Always (λ blocks w. FillsNoHeldBlock w)

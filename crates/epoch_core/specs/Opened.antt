@@ -6,8 +6,8 @@ use Rattle.graph_model.specs.declared.ids.Edge.{Edge}
 use Rattle.graph_model.specs.declared.contents.Content.{Content}
 use Rattle.epoch_blocks.specs.declared.states.Status.{Status}
 use Rattle.epoch_blocks.specs.declared.states.Status.TheVariants.{Free, Used}
-use Rattle.epoch_blocks.specs.Versions.{Shows}
-use Rattle.epoch_core.specs.Worlds.{State, start_world}
+use Rattle.epoch_blocks.specs.Versions.{AreEdgesOf}
+use Rattle.epoch_core.specs.Worlds.{MachineState, start_world}
 
 -- block numbers, each with the edges in its block
 abbrev pub Lists : Type 0
@@ -25,7 +25,7 @@ abbrev pub status_with : Lists → List Status → List Status
 status_with [] status = status
 status_with (l ∷ lists) status = status_with lists (slice_set status l.0 (Used 0))
 
-abbrev pub opened_state : ℕ → ℕ → Content → Lists → State
+abbrev pub opened_state : ℕ → ℕ → Content → Lists → MachineState
 opened_state sessions blocks content lists = record {
   world = record (start_world sessions blocks) {
     opening = record { content = content; blocks = numbers_in lists };
@@ -36,7 +36,7 @@ opened_state sessions blocks content lists = record {
 }
 
 -- the same from a state without versions
-abbrev pub opened_over : State → Content → Lists → State
+abbrev pub opened_over : MachineState → Content → Lists → MachineState
 opened_over state content lists = record {
   world = record state.world {
     opening = record { content = content; blocks = numbers_in lists };
@@ -51,4 +51,4 @@ pub record IsOpening (blocks : ℕ) (content : Content) (lists : Lists) : Type 0
   pub content_is : IsContent content
   pub within : All (λ l. l.0 < blocks) lists
   pub different : AllPairs ◌≢◌ (numbers_in lists)
-  pub shown : Shows (flat_map (λ l. l.1) lists) (graph_of content)
+  pub shown : AreEdgesOf (flat_map (λ l. l.1) lists) (graph_of content)

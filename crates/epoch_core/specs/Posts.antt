@@ -6,7 +6,7 @@ use Rattle.graph_model.specs.GraphLimits.{MeetsNameLimit, MeetsKindLimit}
 use Rattle.graph_model.specs.declared.batches.NamedOp.{NamedOp}
 use Rattle.epoch_blocks.specs.declared.states.Status.TheVariants.{Fresh}
 use Rattle.epoch_blocks.specs.Blocks.{is_listed, status_after}
-use Rattle.epoch_blocks.specs.Versions.{Shows, edges_of}
+use Rattle.epoch_blocks.specs.Versions.{AreEdgesOf, edges_of}
 use Rattle.epoch_blocks.specs.Posting.{graph_after, version_by}
 use Rattle.epoch_core.specs.Worlds.{World, last_number, last_blocks, last_graph}
 
@@ -22,7 +22,7 @@ pub record MayPost (w : World) (batch : List NamedOp) (blocks : List ℕ) : Type
   pub names : MeetsNameLimit batch (last_graph w) → ⊥
   pub kinds : MeetsKindLimit batch (last_graph w) → ⊥
   -- the edges in the blocks, taken together, are each once the edges that the batch leaves of the last version
-  pub shown : Shows (edges_of w.heap blocks) (graph_after w.opening w.versions batch)
+  pub shown : AreEdgesOf (edges_of w.heap blocks) (graph_after w.opening w.versions batch)
 
 -- the world once a Post is done
 abbrev pub posted : World → List NamedOp → List ℕ → World

@@ -4,7 +4,7 @@ use Rattle.std.specs.Option.{unwrap_or}
 use Rattle.epoch_core.specs.declared.events.Event.{Event}
 use Rattle.epoch_blocks.specs.declared.steps.Step.{Step}
 use Rattle.epoch_blocks.specs.declared.steps.Step.TheVariants.{Done, Skipped}
-use Rattle.epoch_core.specs.Worlds.{Answer, World, State}
+use Rattle.epoch_core.specs.Worlds.{Answer, World, MachineState}
 use Rattle.epoch_core.specs.Machine.{step, Replies}
 use Rattle.epoch_blocks.specs.Blocks.{Stepped}
 
@@ -31,7 +31,7 @@ count_of Done = 1
 count_of Skipped = 0
 
 -- one step of the machine
-pub record Steps (old : State) (e : Event) (outcome : Step) (new : State) : Type 0 where
+pub record Steps (old : MachineState) (e : Event) (outcome : Step) (new : MachineState) : Type 0 where
   pub world : Stepped (step old.world e) outcome old.world new.world
   pub replies : Replies old.world e old.replies new.replies
 
@@ -42,6 +42,6 @@ AllReplies w (e ∷ es) old new = (between : List (List Answer)) × Replies w e 
     × AllReplies (next_world w e) es between new
 
 -- a run of the machine through all these events
-pub record Runs (old : State) (events : List Event) (new : State) : Type 0 where
+pub record Runs (old : MachineState) (events : List Event) (new : MachineState) : Type 0 where
   pub world : new.world ≡ run events old.world
   pub replies : AllReplies old.world events old.replies new.replies

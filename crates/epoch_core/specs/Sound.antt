@@ -9,8 +9,8 @@ use Rattle.epoch_core.specs.declared.states.SessionState.TheVariants.{Idle, Pinn
 use Rattle.pin_copy.specs.declared.copies.PinCopy.{PinCopy}
 use Rattle.pin_copy.specs.Copies.{needs}
 use Rattle.epoch_blocks.specs.Blocks.{is_at, is_used, is_listed}
-use Rattle.epoch_core.specs.Worlds.{World, State, HasContents, last_number, last_blocks, last_graph, session_of}
-use Rattle.epoch_blocks.specs.Versions.{Shows, graph_at, version_at, blocks_at, edges_of}
+use Rattle.epoch_core.specs.Worlds.{World, MachineState, HasContents, last_number, last_blocks, last_graph, session_of}
+use Rattle.epoch_blocks.specs.Versions.{AreEdgesOf, graph_at, version_at, blocks_at, edges_of}
 
 -- a block was born at latest with this version, and retired after its birth and at latest with this version
 abbrev pub IsDated : ℕ → Status → Type 0
@@ -47,7 +47,7 @@ pub record IsHeld (w : World) (hold : Hold) : Type 0 where
   pub covered : IsCovered w.copy hold.version
   pub kept : (b : ℕ) → IsTrue (is_listed b (blocks_at w.opening w.versions hold.version))
       → IsKeptAt hold.version (slice_get w.status b)
-  pub shown : Shows (edges_of w.heap (blocks_at w.opening w.versions hold.version)) (graph_at w.opening w.versions hold.version)
+  pub shown : AreEdgesOf (edges_of w.heap (blocks_at w.opening w.versions hold.version)) (graph_at w.opening w.versions hold.version)
 
 abbrev pub IsSessionSound : World → SessionState → Type 0
 IsSessionSound w Idle = Unit {0}
@@ -67,14 +67,14 @@ pub record IsSound (w : World) : Type 0 where
   pub used : (b : ℕ) → is_at is_used (slice_get w.status b) ≡ is_listed b (last_blocks w)
   pub dated : (b : ℕ) → IsDatedAt (last_number w) (slice_get w.status b)
   pub listed_once : AllPairs ◌≢◌ (last_blocks w)
-  pub shown : Shows (edges_of w.heap (last_blocks w)) (last_graph w)
+  pub shown : AreEdgesOf (edges_of w.heap (last_blocks w)) (last_graph w)
   pub named : (n : ℕ) → n ≤ last_number w → IsNamed w n
   pub sessions : (s : ℕ) → IsSessionSound w (session_of w s)
   -- each block has its edges and its status
   pub sizes : length w.heap ≡ length w.status
 
 -- what holds of the whole state
-pub record IsCore (state : State) : Type 0 where
+pub record IsCore (state : MachineState) : Type 0 where
   pub sound : IsSound state.world
   pub contents : HasContents state.world.opening state.world.versions
   pub few : length state.world.sessions ≤ 16

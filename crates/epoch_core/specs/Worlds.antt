@@ -20,7 +20,7 @@ use Rattle.epoch_blocks.specs.Blocks.{is_listed}
 use Rattle.pin_copy.specs.declared.copies.PinCopy.{PinCopy}
 use Rattle.pin_copy.specs.declared.copies.TheConstants.{SEATS}
 use Rattle.pin_copy.specs.Copies.{no_copy}
-use Rattle.epoch_blocks.specs.Versions.{IsContentGraph, Shows, blocks_at, edges_of, graph_at, opening_graph}
+use Rattle.epoch_blocks.specs.Versions.{IsContentGraph, AreEdgesOf, blocks_at, edges_of, graph_at, opening_graph}
 
 -- a reply, or the refusal that stands in its place
 abbrev pub Answer : Type 0
@@ -42,7 +42,7 @@ pub record World : Type 0 where
   pub sessions : List SessionState
 
 -- the whole state: the world, and for each session number the replies to the session
-pub record State : Type 0 where
+pub record MachineState : Type 0 where
   pub world : World
   pub replies : List (List Answer)
 
@@ -114,7 +114,7 @@ held_in (Asking hold inquiry) = Some hold.version
 abbrev pub session_of : World → ℕ → SessionState
 session_of w s = slice_index_or w.sessions s Idle
 
-abbrev pub replies_of : State → ℕ → List Answer
+abbrev pub replies_of : MachineState → ℕ → List Answer
 replies_of state s = slice_index_or state.replies s []
 
 -- Starts
@@ -122,11 +122,11 @@ replies_of state s = slice_index_or state.replies s []
 -- a state from which a run may start: there is version 0 alone, whose blocks are there, each once, and have the
 -- edges of the opening graph; all other blocks are free; the floor is 0, no pin is copied, no session has
 -- a pin, and none a reply
-pub record IsStart (state : State) : Type 0 where
+pub record IsStart (state : MachineState) : Type 0 where
   pub alone : state.world.versions ≡ []
   pub within : All (λ b. b < length state.world.status) state.world.opening.blocks
   pub different : AllPairs ◌≢◌ state.world.opening.blocks
-  pub shown : Shows (edges_of state.world.heap state.world.opening.blocks) (opening_graph state.world.opening)
+  pub shown : AreEdgesOf (edges_of state.world.heap state.world.opening.blocks) (opening_graph state.world.opening)
   pub status : (b : ℕ) → b < length state.world.status → slice_get state.world.status b
       ≡ Some (if is_listed b state.world.opening.blocks then Used 0 else Free)
   pub heap : length state.world.heap ≡ length state.world.status
@@ -151,5 +151,5 @@ start_world sessions blocks = record {
   sessions = replicate sessions Idle;
 }
 
-abbrev pub start : ℕ → ℕ → State
+abbrev pub start : ℕ → ℕ → MachineState
 start sessions blocks = record { world = start_world sessions blocks; replies = replicate sessions [] }

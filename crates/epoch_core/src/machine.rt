@@ -33,9 +33,9 @@ impl Drop for Core {
 }
 
 impl Model for Core {
-    ghost use Rattle.epoch_core.specs.Worlds.{State};
+    ghost use Rattle.epoch_core.specs.Worlds.{MachineState};
 
-    ghost Value = { State };
+    ghost Value = { MachineState };
 
     ghost use Rattle.epoch_core.specs.Cores.{state_of};
     ghost use Rattle.epoch_core.specs.Sound.{IsCore};

@@ -9,8 +9,8 @@ use Rattle.graph_version.specs.Versions.{VersionView}
 use Rattle.stream_store.specs.Seats.{SeatView, SessionView, held_graph, held_version}
 use Rattle.version_answers.specs.{Numbered.IsNumberedAnswer, Numbered.named, declared.numbered.NumberedReply.NumberedReply}
 use Rattle.script_lines.specs.{Lines.shown_lines, declared.words.Word.Word}
-use Rattle.stinger_server.specs.{Servers.IsServer, Servers.Shows, Slots.IsEarlier, Slots.IsSlot, Slots.held_of}
-use Rattle.stinger_server.specs.States.{IsReplied, State, ask_word, version, version_in}
+use Rattle.stinger_server.specs.{Servers.IsServer, Servers.ShowsServer, Slots.IsEarlier, Slots.IsSlot, Slots.held_of}
+use Rattle.stinger_server.specs.States.{IsReplied, ServerState, ask_word, version, version_in}
 use Rattle.stinger_server.specs.declared.server.Server.{Server}
 use Rattle.stinger_server.proofs.{Commands.held_there, NamesApart.AreApart}
 use Rattle.stinger_server.proofs.Replies.{IsAsked, asked_version, replied_err, replied_ok}
@@ -40,7 +40,7 @@ asked_there server slot s is there =
     asked_version (held_version s) earlier.version (subst (λ (g : Graph). AreApart g.names) (sym earlier.opening) is.opening)
 
 -- the graph is that of the version whose number the slot holds
-pub graph_there : (server : Server) (state : State) (slot : ℕ) (s : SessionView) → IsServer server → Shows server state
+pub graph_there : (server : Server) (state : ServerState) (slot : ℕ) (s : SessionView) → IsServer server → ShowsServer server state
     → slice_get server.slots.sessions.items slot ≡ Some (Some s)
     → held_graph s ≡ version (length (held_version s).batches) state
 graph_there server state slot s is shows there =
@@ -50,15 +50,15 @@ graph_there server state slot s is shows there =
     let opening : (held_version s).opening ≡ state.opening = earlier.opening ∙ shows.desk.opening in
     λ i. left_by (batches i) (opening i)
 
-pub version_there : (server : Server) (state : State) (slot : ℕ) (s : SessionView) → Shows server state
+pub version_there : (server : Server) (state : ServerState) (slot : ℕ) (s : SessionView) → ShowsServer server state
     → slice_get server.slots.sessions.items slot ≡ Some (Some s)
     → version_in (slice_get state.held slot) ≡ Ok (held_of (held_version s))
 version_there server state slot s shows there =
     ap (λ held. version_in (slice_get held slot)) (sym shows.held)
     ∙ ap version_in (held_there server.slots.sessions.items slot s there)
 
-pub replied_ok_at : (server : Server) (state : State) (slot : ℕ) (request : Request) (s : SessionView) (reply : NumberedReply)
-    (lines : List ℕ) → IsServer server → Shows server state
+pub replied_ok_at : (server : Server) (state : ServerState) (slot : ℕ) (request : Request) (s : SessionView) (reply : NumberedReply)
+    (lines : List ℕ) → IsServer server → ShowsServer server state
     → slice_get server.slots.sessions.items slot ≡ Some (Some s)
     → ((let r : Result NumberedReply AskError = Ok reply in r ≡ Err ask.OutOfMemory)
     ⊎ IsNumberedAnswer request (held_graph s) (Ok reply))
@@ -69,8 +69,8 @@ replied_ok_at server state slot request s reply lines is shows there answer show
     (version_there server state slot s shows there) (asked_there server slot s is there)
     (graph_there server state slot s is shows there) answer shown
 
-pub replied_err_at : (server : Server) (state : State) (slot : ℕ) (request : Request) (s : SessionView) (error : AskError)
-    (word : Word) → IsServer server → Shows server state → slice_get server.slots.sessions.items slot ≡ Some (Some s)
+pub replied_err_at : (server : Server) (state : ServerState) (slot : ℕ) (request : Request) (s : SessionView) (error : AskError)
+    (word : Word) → IsServer server → ShowsServer server state → slice_get server.slots.sessions.items slot ≡ Some (Some s)
     → ((let r : Result NumberedReply AskError = Err error in r ≡ Err ask.OutOfMemory)
     ⊎ IsNumberedAnswer request (held_graph s) (Err error))
     → error ≢ ask.OutOfMemory → word ≡ ask_word error

@@ -24,7 +24,7 @@ use Rattle.stream_store.specs.declared.receipts.ApplyError.TheVariants as refuse
 use Rattle.script_lines.specs.Lines.{collect_line, commit_line, stat_line}
 use Rattle.stinger_server.proofs.SlotLaws.{floor_is}
 use Rattle.stinger_server.specs.{Servers.ShowsDesk, States.dates, States.dropped, States.floor_of, States.held_numbers}
-use Rattle.stinger_server.specs.States.{Dates, IsCommandResult, State, after_collect, after_commit, attempt, batch_word, beginning, copy_of}
+use Rattle.stinger_server.specs.States.{Dates, IsCommandResult, ServerState, after_collect, after_commit, attempt, batch_word, beginning, copy_of}
 use Rattle.stinger_server.specs.States.{last_version, left_by_pending, recycled, set_up, taken, used}
 
 -- Counts
@@ -83,13 +83,13 @@ all_counted_in [] = refl
 all_counted_in (x ∷ xs) = let one = count_more (λ (y : Dates). true) x xs in let rest = all_counted_in xs in omega arith
 
 -- how many are retired is how many dates there are
-all_retired : (d : DeskView) (s : State) → ShowsDesk d s → count_by is_retired d.pool ≡ length s.retired
+all_retired : (d : DeskView) (s : ServerState) → ShowsDesk d s → count_by is_retired d.pool ≡ length s.retired
 all_retired d s shows =
     same_counts is_retired (is_retired_by (λ birth since. true)) retired_any d.pool
     ∙ (shows.retired (λ birth since. true) ∙ all_counted_in s.retired)
 
 -- how many are used is how many are neither free nor retired
-all_used : (d : DeskView) (s : State) → ShowsDesk d s → count_by is_used d.pool ≡ used s
+all_used : (d : DeskView) (s : ServerState) → ShowsDesk d s → count_by is_used d.pool ≡ used s
 all_used d s shows =
     let whole = parts d.pool in
     let gone = all_retired d s shows in
@@ -128,15 +128,15 @@ shows_opened d config opened = rw opened (record {
 
 -- A batch
 
-content_is : (d : DeskView) (s : State) → ShowsDesk d s → content d.last ≡ last_version s
+content_is : (d : DeskView) (s : ServerState) → ShowsDesk d s → content d.last ≡ last_version s
 content_is d s shows = λ i. left_by (shows.batches i) (shows.opening i)
 
-left_is : (d : DeskView) (s : State) (ops : List NamedOp) → ShowsDesk d s → ops ≡ s.pending
+left_is : (d : DeskView) (s : ServerState) (ops : List NamedOp) → ShowsDesk d s → ops ≡ s.pending
     → after_all ops (content d.last) ≡ left_by_pending s
 left_is d s ops shows pending = λ i. after_all (pending i) (content_is d s shows i)
 
 -- the desk is asked what the state is: its last version's blocks are the used ones
-attempt_is : (d : DeskView) (s : State) (ops : List NamedOp) → ShowsDesk d s → ops ≡ s.pending
+attempt_is : (d : DeskView) (s : ServerState) (ops : List NamedOp) → ShowsDesk d s → ops ≡ s.pending
     → count_by is_used d.pool ≡ block_count d.last → attempt_on d.last (count_by is_free d.pool) ops ≡ attempt s
 attempt_is d s ops shows pending many = λ i. record {
   ops = pending i;
@@ -177,7 +177,7 @@ blocks_after d e ops accepts =
     accepted_counts d e ops accepts.taken accepts.dropped accepts.accepted in
     counts.blocks
 
-pub commit_done : (s : State) (d e : DeskView) (ops : List NamedOp) (number : ℕ) (results : List Outcome) (lines : List ℕ)
+pub commit_done : (s : ServerState) (d e : DeskView) (ops : List NamedOp) (number : ℕ) (results : List Outcome) (lines : List ℕ)
     → ShowsDesk d s → ops ≡ s.pending → count_by is_used d.pool ≡ block_count d.last
     → IsWithin d.last (count_by is_free d.pool) ops → Accepts d ops e
     → number ≡ length e.last.batches → results ≡ outcomes ops (content d.last) → lines ≡ commit_line number results
@@ -190,7 +190,7 @@ commit_done s d e ops number results lines shows pending many within accepts num
     results_are ∙ (λ i. outcomes (pending i) (content_is d s shows i)) in
     (subst IsAdmissible (attempt_is d s ops shows pending many) within, rw (lines_are, count, outcomes_are) refl)
 
-pub shows_committed : (s : State) (d e : DeskView) (ops : List NamedOp) → ShowsDesk d s → ops ≡ s.pending → Accepts d ops e
+pub shows_committed : (s : ServerState) (d e : DeskView) (ops : List NamedOp) → ShowsDesk d s → ops ≡ s.pending → Accepts d ops e
     → ShowsDesk e (after_commit s)
 shows_committed s d e ops shows pending accepts =
     let accepted = accepts.accepted in
@@ -217,14 +217,14 @@ shows_committed s d e ops shows pending accepts =
           ∙ sym (dated_counts q s.retired (dropped s) (length s.batches + 1))));
     }
 
-pub commit_refused : (s : State) (d : DeskView) (ops : List NamedOp) (error : ApplyError) → ShowsDesk d s → ops ≡ s.pending
+pub commit_refused : (s : ServerState) (d : DeskView) (ops : List NamedOp) (error : ApplyError) → ShowsDesk d s → ops ≡ s.pending
     → count_by is_used d.pool ≡ block_count d.last → error ≢ refused.OutOfMemory
     → Refuses d.last (count_by is_free d.pool) ops error → IsCommandResult Commit s (Err (batch_word error))
 commit_refused s d ops error shows pending many known is =
     (error, subst (λ (a : Attempt). BatchRefusal a error) (attempt_is d s ops shows pending many) is, known, refl)
 
 -- a refused batch is given up, and nothing else changes
-pub shows_given_up : (s : State) (d : DeskView) → ShowsDesk d s → ShowsDesk d (record s { pending = [] })
+pub shows_given_up : (s : ServerState) (d : DeskView) → ShowsDesk d s → ShowsDesk d (record s { pending = [] })
 shows_given_up s d shows = record {
   opening = shows.opening;
   batches = shows.batches;
@@ -237,14 +237,14 @@ shows_given_up s d shows = record {
 
 -- A collection
 
-past_is : (s : State) (d : DeskView) (copy : PinCopy) → ShowsDesk d s → copy ≡ copy_of s
+past_is : (s : ServerState) (d : DeskView) (copy : PinCopy) → ShowsDesk d s → copy ≡ copy_of s
     → count_by (is_past copy) d.pool ≡ recycled s
 past_is s d copy shows same =
     same_counts (is_past copy) (is_retired_by (λ birth since. not (needs copy birth since))) (past_any copy) d.pool
     ∙ (shows.retired (λ birth since. not (needs copy birth since))
     ∙ ap (λ k. count_by (λ (x : Dates). not (needs k x.birth x.since)) s.retired) same)
 
-pub shows_collected : (s : State) (d e : DeskView) (copy : PinCopy) → ShowsDesk d s → IsCollected d copy e
+pub shows_collected : (s : ServerState) (d e : DeskView) (copy : PinCopy) → ShowsDesk d s → IsCollected d copy e
     → ((source : ℕ) → births_in e source ≡ births_in d source) → copy ≡ copy_of s → ShowsDesk e (after_collect s)
 shows_collected s d e copy shows collected births same =
     let counts : CollectedCounts d copy e = collected_counts d e copy collected in
@@ -261,7 +261,7 @@ shows_collected s d e copy shows collected births same =
           ∙ count_filter (λ (x : Dates). needs (copy_of s) x.birth x.since) (λ (x : Dates). q x.birth x.since) s.retired));
     }
 
-pub collect_done : (s : State) (d e : DeskView) (copy : PinCopy) (floor count left : ℕ) (lines : List ℕ) → ShowsDesk d s
+pub collect_done : (s : ServerState) (d e : DeskView) (copy : PinCopy) (floor count left : ℕ) (lines : List ℕ) → ShowsDesk d s
     → IsCollected d copy e → ((source : ℕ) → births_in e source ≡ births_in d source) → copy ≡ copy_of s → floor ≡ copies.floor_of copy
     → count ≡ count_by (is_past copy) d.pool → left ≡ count_by is_retired e.pool
     → lines ≡ collect_line floor count left → IsCommandResult Collect s (Ok lines)
@@ -274,7 +274,7 @@ collect_done s d e copy floor count left lines shows collected births same floor
 
 -- The counts
 
-pub stat_done : (s : State) (d : DeskView) (number names edges free retired many : ℕ) (lines : List ℕ) → ShowsDesk d s
+pub stat_done : (s : ServerState) (d : DeskView) (number names edges free retired many : ℕ) (lines : List ℕ) → ShowsDesk d s
     → number ≡ length d.last.batches → names ≡ length (content d.last).names → edges ≡ edge_total d.last
     → free ≡ count_by is_free d.pool → retired ≡ count_by is_retired d.pool → many ≡ count_by is_used d.pool
     → lines ≡ stat_line number names edges free retired many → IsCommandResult Stat s (Ok lines)

@@ -10,10 +10,10 @@ use Rattle.stream_store.specs.Refusals.{Attempt, BatchRefusal, IsAdmissible}
 use Rattle.stream_store.specs.declared.receipts.ApplyError.{ApplyError}
 use Rattle.stream_store.specs.declared.receipts.ApplyError.TheVariants as refused
 use Rattle.stinger_server.specs.States.{IsCommitted, attempt, batch_word, answer_result, beginning, printed, version, version_in}
-use Rattle.stinger_server.specs.States.{Held, IsRecordResult, IsReplied, Progress, RecordResult, Setup, State, after_record}
+use Rattle.stinger_server.specs.States.{Held, IsRecordResult, IsReplied, Progress, RecordResult, Setup, ServerState, after_record}
 use Rattle.stinger_server.specs.Texts.{Executes, IsFullText}
 
-one_replied : (slot : ℕ) (request : Request) (s : State) (held : Result Held Word) (a b : RecordResult)
+one_replied : (slot : ℕ) (request : Request) (s : ServerState) (held : Result Held Word) (a b : RecordResult)
     → IsReplied slot request s held a
     → IsReplied slot request s held b → a ≡ b
 one_replied slot request s (Err word) a b first second = first ∙ sym second
@@ -51,14 +51,14 @@ not_refused a refused.KindsFull fits is known = fits.limits.1 is.1.0
 not_refused a (refused.PoolEmpty n l) fits is known = omega (arith, fits.blocks, is.4)
 not_refused a refused.OutOfMemory fits is known = known refl
 
-one_commit : (s : State) (a b : RecordResult) → IsCommitted s a → IsCommitted s b → a ≡ b
+one_commit : (s : ServerState) (a b : RecordResult) → IsCommitted s a → IsCommitted s b → a ≡ b
 one_commit s (Ok lines) (Ok others) first second = ap Ok (first.1 ∙ sym second.1)
 one_commit s (Ok lines) (Err word) first second = absurd (not_refused (attempt s) second.0 first.0 second.1 second.2)
 one_commit s (Err word) (Ok lines) first second = absurd (not_refused (attempt s) first.0 second.0 first.1 first.2)
 one_commit s (Err word) (Err other) first second =
     ap Err (first.3 ∙ (one_refusal (attempt s) first.0 second.0 first.1 second.1 first.2 second.2 ∙ sym second.3))
 
-one_outcome : (item : Result Command FeedWord) (s : State) (a b : RecordResult) → IsRecordResult item s a
+one_outcome : (item : Result Command FeedWord) (s : ServerState) (a b : RecordResult) → IsRecordResult item s a
     → IsRecordResult item s b → a ≡ b
 one_outcome (Err word) s a b first second = first ∙ sym second
 one_outcome (Ok (Op op)) s a b first second = first ∙ sym second

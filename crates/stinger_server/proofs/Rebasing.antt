@@ -15,7 +15,7 @@ use Rattle.store_steps.specs.{Desks.DeskView, Desks.IsDesk, Desks.birth_at, Desk
 use Rattle.stream_store.specs.Refusals.{block_count}
 use Rattle.stinger_server.proofs.{DeskLaws.length-replicate, DeskLaws.none_counted, DeskLaws.parts, HeldBlocks.blocks_counted}
 use Rattle.stinger_server.specs.{Servers.ShowsDesk, Slots.held_of}
-use Rattle.stinger_server.specs.States.{IsCommandResult, State, after_rebase, version, version_in, blocks_of as held_blocks}
+use Rattle.stinger_server.specs.States.{IsCommandResult, ServerState, after_rebase, version, version_in, blocks_of as held_blocks}
 
 -- The pool
 
@@ -86,14 +86,14 @@ content_rebased : (v new : VersionView) → IsRebased v new → content new ≡ 
 content_rebased v new rebased = λ i. left_by (rebased.batches i) (rebased.opening i)
 
 -- it has as many blocks as the held version in the text
-count_rebased : (s : State) (v : VersionView) (d : DeskView) → IsRebased v d.last → IsDesk d
+count_rebased : (s : ServerState) (v : VersionView) (d : DeskView) → IsRebased v d.last → IsDesk d
     → content v ≡ version (length v.batches) s → block_count d.last ≡ held_blocks (held_of v) s
 count_rebased s v d rebased desk same =
     let graph : content d.last ≡ version (length v.batches) s = content_rebased v d.last rebased ∙ same in
     blocks_counted d.last desk.version
     ∙ (λ i. sum_below (length (graph i).names) (λ source. length (rebased.rows source i)))
 
-pub shows_rebased : (s : State) (v : VersionView) (blocks : ℕ) (d : DeskView) → IsRebased v d.last
+pub shows_rebased : (s : ServerState) (v : VersionView) (blocks : ℕ) (d : DeskView) → IsRebased v d.last
     → d ≡ opened_desk blocks d.last → IsDesk d → count_by is_used d.pool ≡ block_count d.last
     → content v ≡ version (length v.batches) s → blocks ≡ s.blocks → ShowsDesk d (after_rebase (held_of v) s)
 shows_rebased s v blocks d rebased opened desk used same blocks_are = record {
@@ -112,7 +112,7 @@ shows_rebased s v blocks d rebased opened desk used same blocks_are = record {
   retired = λ q. none_opened (is_retired_by q) refl refl blocks d opened;
 }
 
-pub rebase_done : (s : State) (v : VersionView) (d : DeskView) (slot number names edges many : ℕ) (lines : List ℕ)
+pub rebase_done : (s : ServerState) (v : VersionView) (d : DeskView) (slot number names edges many : ℕ) (lines : List ℕ)
     → version_in (slice_get s.held slot) ≡ Ok (held_of v) → IsRebased v d.last → IsDesk d
     → count_by is_used d.pool ≡ block_count d.last → content v ≡ version (length v.batches) s
     → number ≡ length d.last.batches → names ≡ length (content d.last).names → edges ≡ edge_total d.last

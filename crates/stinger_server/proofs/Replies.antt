@@ -13,7 +13,7 @@ use Rattle.version_answers.specs.Numbered.{IsNumberedAnswer, IsNumberedReply, na
 use Rattle.version_answers.specs.declared.numbered.NumberedReply.{NumberedReply}
 use Rattle.stinger_server.proofs.{Edges.edges_in_view, NamesApart.AreApart, NamesApart.apart_names, OwnLabels.own_labels}
 use Rattle.script_lines.specs.{Lines.degree_lines, Lines.label_lines, Lines.shown_lines, declared.words.Word.Word}
-use Rattle.stinger_server.specs.States.{Held, IsReplied, State, ask_word, reply_lines, version, version_in}
+use Rattle.stinger_server.specs.States.{Held, IsReplied, ServerState, ask_word, reply_lines, version, version_in}
 
 -- a graph whose names differ, and whose edges join its vertices
 pub record IsAsked (g : Graph) : Type 0 where
@@ -60,7 +60,7 @@ answer_err : (request : Request) (g : Graph) (error : AskError) → (error ≡ a
 answer_err request g error known answer = elim answer [ inl short ↦ absurd (known cc) | inr is ↦ is ]
 
 -- the lines of a reply over the content of the version that the slot holds
-pub replied_ok : (slot : ℕ) (request : Request) (s : State) (g : Graph) (h : Held) (reply : NumberedReply) (lines : List ℕ)
+pub replied_ok : (slot : ℕ) (request : Request) (s : ServerState) (g : Graph) (h : Held) (reply : NumberedReply) (lines : List ℕ)
     → version_in (slice_get s.held slot) ≡ Ok h → IsAsked g → g ≡ version h.number s
     → ((let r : Result NumberedReply AskError = Ok reply in r ≡ Err ask.OutOfMemory) ⊎ IsNumberedAnswer request g (Ok reply))
     → lines ≡ shown_lines slot (named g.names reply) → IsReplied slot request s (version_in (slice_get s.held slot)) (Ok lines)
@@ -70,7 +70,7 @@ replied_ok slot request s g h reply lines held valid same answer shown =
     shown ∙ shown_lines-reply slot request g (named g.names reply) valid is.1 in
     rw (held, ← same) (Ok (named g.names reply), is, ap (λ text. Ok text) text)
 
-pub replied_err : (slot : ℕ) (request : Request) (s : State) (g : Graph) (h : Held) (error : AskError) (word : Word)
+pub replied_err : (slot : ℕ) (request : Request) (s : ServerState) (g : Graph) (h : Held) (error : AskError) (word : Word)
     → version_in (slice_get s.held slot) ≡ Ok h → g ≡ version h.number s
     → ((let r : Result NumberedReply AskError = Err error in r ≡ Err ask.OutOfMemory) ⊎ IsNumberedAnswer request g (Err error))
     → error ≢ ask.OutOfMemory → word ≡ ask_word error

@@ -3,7 +3,7 @@ use Rattle.std.specs.Prelude.{◌≡◌, pos, ℕ, List, [], ◌∷◌, Option, 
 use Rattle.graph_model.specs.Step.{empty_graph}
 use Rattle.graph_model.specs.declared.batches.NamedOp.{NamedOp}
 use Rattle.graph_model.specs.declared.batches.NamedOp.TheVariants.{Insert}
-use Rattle.stinger_server.specs.States.{Dates, Held, State, after_collect, after_commit, after_rebase, beginning, dates}
+use Rattle.stinger_server.specs.States.{Dates, Held, ServerState, after_collect, after_commit, after_rebase, beginning, dates}
 use Rattle.stinger_server.specs.States.{floor_of, last_held}
 use Rattle.stinger_server.specs.States.{recycled, used}
 
@@ -12,37 +12,37 @@ abbrev pub put_edge : ℕ → List NamedOp
 put_edge weight = Insert (107 ∷ []) (97 ∷ []) (98 ∷ []) (pos weight) 1 ∷ []
 
 -- eight blocks and two slots
-abbrev pub opened : State
+abbrev pub opened : ServerState
 opened = (beginning (record { opening = empty_graph; blocks = 8; seats = 2 })).state
 
 -- a state after one more batch that puts the edge
-abbrev pub put : ℕ → State → State
+abbrev pub put : ℕ → ServerState → ServerState
 put weight s = after_commit (record s { pending = put_edge weight })
 
 -- three versions of the edge, each of which took one block and dropped the one before
-abbrev pub once : State
+abbrev pub once : ServerState
 once = put 1 opened
 
-abbrev pub twice : State
+abbrev pub twice : ServerState
 twice = put 2 once
 
-abbrev pub thrice : State
+abbrev pub thrice : ServerState
 thrice = put 3 twice
 
 -- the third state, with these versions in its slots
-abbrev pub holding : List (Option Held) → State
+abbrev pub holding : List (Option Held) → ServerState
 holding held = record thrice { held = held }
 
 -- a slot that was opened in that state
-abbrev pub slot_of : State → Option Held
+abbrev pub slot_of : ServerState → Option Held
 slot_of s = Some (last_held s)
 
 -- the third state, opened anew with the first of the versions
-abbrev pub rebased : State
+abbrev pub rebased : ServerState
 rebased = after_rebase (last_held once) (holding (slot_of once ∷ slot_of thrice ∷ []))
 
 -- what a collection frees and leaves, with its floor
-pub record Collects (s : State) (floor freed : ℕ) (left : List Dates) : Type 0 where
+pub record Collects (s : ServerState) (floor freed : ℕ) (left : List Dates) : Type 0 where
   pub floor_are : floor_of s ≡ floor
   pub freed_are : recycled s ≡ freed
   pub left_are : (after_collect s).retired ≡ left

@@ -19,7 +19,7 @@ use Rattle.stinger_server.specs.declared.server.Response.TheVariants.{Lines, Ref
 use Rattle.script_lines.specs.declared.words.Word.TheVariants.{Feed}
 use Rattle.script_lines.specs.declared.words.Word.TheVariants as told
 use Rattle.script_lines.specs.Lines.{error_line}
-use Rattle.stinger_server.specs.Servers.{IsServer, Shows}
+use Rattle.stinger_server.specs.Servers.{IsServer, ShowsServer}
 use Rattle.stinger_server.specs.States.{IsRebase, IsRecordResult, RecordResult, Progress, Setup, after_record, beginning, printed}
 use Rattle.stinger_server.specs.Writes.{AppendsPart}
 
@@ -39,7 +39,7 @@ pub record IsReady (feed : Script) (run : Run) : Type 0 where
 
 -- the fields are those of a run that has come this far
 pub record ShowsRun (run : Run) (here : Progress) : Type 0 where
-  pub server : Shows run.server here.state
+  pub server : ShowsServer run.server here.state
   pub records : run.records ≡ here.records
   pub errors : run.errors ≡ here.errors
 

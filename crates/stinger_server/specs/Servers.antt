@@ -5,7 +5,7 @@ use Rattle.block_pool.specs.Pools.{is_free}
 use Rattle.store_steps.specs.Desks.{DeskView, births_in, is_retired_by}
 use Rattle.feed_csv.specs.declared.command.Command.{Command}
 use Rattle.stinger_server.specs.Slots.{AreFew, AreSlotsOf, held_in}
-use Rattle.stinger_server.specs.States.{Dates, IsCommandResult, RecordResult, State, after_command}
+use Rattle.stinger_server.specs.States.{Dates, IsCommandResult, RecordResult, ServerState, after_command}
 use Rattle.stinger_server.specs.declared.server.Server.{Server}
 use Rattle.stinger_server.specs.declared.server.Response.{Response}
 use Rattle.stinger_server.specs.declared.server.Response.TheVariants.{Lines, Refused}
@@ -21,7 +21,7 @@ pub record IsServer (server : Server) : Type 0 where
 
 -- the desk's last version is that of the state, its blocks have the births that the state says, and as many blocks are free, and
 -- retired with each birth and retirement, as the state says
-pub record ShowsDesk (d : DeskView) (s : State) : Type 0 where
+pub record ShowsDesk (d : DeskView) (s : ServerState) : Type 0 where
   pub opening : d.last.opening ≡ s.opening
   pub batches : d.last.batches ≡ s.batches
   pub layout : layout_of d.last.rows ≡ s.layout
@@ -31,7 +31,7 @@ pub record ShowsDesk (d : DeskView) (s : State) : Type 0 where
   pub retired : (q : ℕ → ℕ → Bool) → count_by (is_retired_by q) d.pool ≡ count_by (λ (x : Dates). q x.birth x.since) s.retired
 
 -- the fields are those of the state
-pub record Shows (server : Server) (s : State) : Type 0 where
+pub record ShowsServer (server : Server) (s : ServerState) : Type 0 where
   pub pending : server.pending ≡ s.pending
   pub desk : ShowsDesk server.desk.desk s
   pub held : held_in server.slots ≡ s.held
@@ -44,5 +44,5 @@ result_of (Refused word) lines = Err word
 -- the server did the command, in each state that it may show
 abbrev pub Obeys : Command → Server → Response → List ℕ → Server → Type 0
 Obeys command old response lines new =
-    (s : State) → Shows old s
-    → IsCommandResult command s (result_of response lines) × Shows new (after_command command (result_of response lines) s)
+    (s : ServerState) → ShowsServer old s
+    → IsCommandResult command s (result_of response lines) × ShowsServer new (after_command command (result_of response lines) s)

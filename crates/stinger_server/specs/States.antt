@@ -65,7 +65,7 @@ pub record Held : Type 0 where
 -- holds, or none, for as many slots as there are seats; the last version's row of blocks for each source, and which version
 -- each of these blocks was taken by; how many blocks there are, and how many of them are free; and for each retired block the
 -- versions that took and that retired it
-pub record State : Type 0 where
+pub record ServerState : Type 0 where
   pub opening : Graph
   pub pending : List NamedOp
   pub batches : List (List NamedOp)
@@ -78,7 +78,7 @@ pub record State : Type 0 where
 
 -- how far a run has come: its state, how many records there were, and how many of them printed an error line
 pub record Progress : Type 0 where
-  pub state : State
+  pub state : ServerState
   pub records : ℕ
   pub errors : ℕ
 
@@ -101,14 +101,14 @@ beginning setup = record {
 }
 
 -- version n is what the first n batches leave of the opening graph
-abbrev pub version : ℕ → State → Graph
+abbrev pub version : ℕ → ServerState → Graph
 version n s = left_by (take n s.batches) s.opening
 
-abbrev pub last_version : State → Graph
+abbrev pub last_version : ServerState → Graph
 last_version s = left_by s.batches s.opening
 
 -- the last version, as a slot that is opened holds it
-abbrev pub last_held : State → Held
+abbrev pub last_held : ServerState → Held
 last_held s = record { number = length s.batches; layout = s.layout }
 
 -- the number of the version that each slot holds
@@ -146,23 +146,23 @@ ask_word ask.NoVertex = NoVertex
 ask_word ask.OutOfMemory = Feed feed.Memory
 
 -- what the pending batch would leave of the last version
-abbrev pub left_by_pending : State → Graph
+abbrev pub left_by_pending : ServerState → Graph
 left_by_pending s = after_all s.pending (last_version s)
 
 -- how many blocks the pending batch takes, by the layout rule
-abbrev pub taken : State → ℕ
+abbrev pub taken : ServerState → ℕ
 taken s = taken_by s.pending (last_version s) s.layout (length (left_by_pending s).names)
 
 -- the births of those that it drops
-abbrev pub dropped : State → List ℕ
+abbrev pub dropped : ServerState → List ℕ
 dropped s = dropped_births s.pending (last_version s) s.layout s.births (length (left_by_pending s).names)
 
 -- how many blocks are used: neither free nor retired, they are the last version's
-abbrev pub used : State → ℕ
+abbrev pub used : ServerState → ℕ
 used s = s.blocks - (s.free + length s.retired)
 
 -- the pending batch, as a desk would be asked to apply it
-abbrev pub attempt : State → Attempt
+abbrev pub attempt : ServerState → Attempt
 attempt s = record {
   ops = s.pending;
   batches = length s.batches;
@@ -173,7 +173,7 @@ attempt s = record {
 
 -- the pending batch is accepted, with a line on its outcomes; or refused, with the word for its refusal. No record is refused for
 -- want of memory, which ends a run
-abbrev pub IsCommitted : State → RecordResult → Type 0
+abbrev pub IsCommitted : ServerState → RecordResult → Type 0
 IsCommitted s (Ok lines) =
     IsAdmissible (attempt s) × (lines ≡ commit_line (length s.batches + 1) (outcomes s.pending (last_version s)))
 IsCommitted s (Err word) =
@@ -181,7 +181,7 @@ IsCommitted s (Err word) =
 
 -- the pending batch is accepted: the blocks that it takes are no longer free, and born with the new version's number, with which
 -- those that it drops are retired
-abbrev pub after_commit : State → State
+abbrev pub after_commit : ServerState → ServerState
 after_commit s = record s {
   pending = [];
   batches = s.batches ++ s.pending ∷ [];
@@ -197,7 +197,7 @@ least_held last [] = last
 least_held last (None ∷ held) = least_held last held
 least_held last (Some n ∷ held) = min n (least_held last held)
 
-abbrev pub floor_of : State → ℕ
+abbrev pub floor_of : ServerState → ℕ
 floor_of s = least_held (length s.batches) (held_numbers s.held)
 
 -- the copy of a last number and of held numbers: each is a settled pin
@@ -205,14 +205,14 @@ abbrev pub copy_by : ℕ → List (Option ℕ) → PinCopy
 copy_by last held =
     record { last = last; settled = held ++ replicate (SEATS - length held) None; unsettled = replicate SEATS None }
 
-abbrev pub copy_of : State → PinCopy
+abbrev pub copy_of : ServerState → PinCopy
 copy_of s = copy_by (length s.batches) (held_numbers s.held)
 
 -- how many blocks a collection frees: the retired ones that the copy doesn't need
-abbrev pub recycled : State → ℕ
+abbrev pub recycled : ServerState → ℕ
 recycled s = count_by (λ (d : Dates). not (needs (copy_of s) d.birth d.since)) s.retired
 
-abbrev pub after_collect : State → State
+abbrev pub after_collect : ServerState → ServerState
 after_collect s = record s {
   free = s.free + recycled s;
   retired = filter (λ (d : Dates). needs (copy_of s) d.birth d.since) s.retired;
@@ -239,12 +239,12 @@ close_result slot (Ok held) = Ok (close_line slot)
 close_result slot (Err word) = Err word
 
 -- how many blocks a held version has: those in the rows of its vertices
-abbrev pub blocks_of : Held → State → ℕ
+abbrev pub blocks_of : Held → ServerState → ℕ
 blocks_of held s = sum_below (length (version held.number s).names) (λ source. length (held.layout source))
 
 -- A store is opened with the graph of a held version, which is laid out as it was there: the blocks are born with version 0, and
 -- all others are free. No batch is accepted, no slot is open, and what was pending still is.
-abbrev pub after_rebase : Held → State → State
+abbrev pub after_rebase : Held → ServerState → ServerState
 after_rebase held s = record s {
   opening = version held.number s;
   batches = [];
@@ -256,12 +256,12 @@ after_rebase held s = record s {
 }
 
 -- the line tells the new version 0
-abbrev pub rebase_result : State → Result Held Word → RecordResult
+abbrev pub rebase_result : ServerState → Result Held Word → RecordResult
 rebase_result s (Ok held) =
     let g = version held.number s in Ok (rebase_line 0 (length g.names) (len g.edges) (blocks_of held s))
 rebase_result s (Err word) = Err word
 
-abbrev pub rebased : State → Result Held Word → State
+abbrev pub rebased : ServerState → Result Held Word → ServerState
 rebased s (Ok held) = after_rebase held s
 rebased s (Err word) = s
 
@@ -282,14 +282,14 @@ answer_result slot request g (Ok reply) = Ok (reply_lines slot request g reply)
 answer_result slot request g (Err error) = Err (ask_word error)
 
 -- a request's outcome is that of its answer over the version that the slot holds
-abbrev pub IsReplied : ℕ → Request → State → Result Held Word → RecordResult → Type 0
+abbrev pub IsReplied : ℕ → Request → ServerState → Result Held Word → RecordResult → Type 0
 IsReplied slot request s (Err word) outcome = outcome ≡ Err word
 IsReplied slot request s (Ok held) outcome =
     (answer : Result Reply AskError) × IsAnswer request (version held.number s) answer
     × (outcome ≡ answer_result slot request (version held.number s) answer)
 
 -- what a command comes to
-abbrev pub IsCommandResult : Command → State → RecordResult → Type 0
+abbrev pub IsCommandResult : Command → ServerState → RecordResult → Type 0
 IsCommandResult (Op op) s outcome = outcome ≡ lines_unless (op_refusal (push_refusal op (length s.pending))) []
 IsCommandResult Commit s outcome = IsCommitted s outcome
 IsCommandResult (OpenSlot slot) s outcome = outcome
@@ -302,7 +302,7 @@ IsCommandResult Stat s outcome = outcome ≡ Ok (stat_line (length s.batches) (l
 IsCommandResult (Rebase slot) s outcome = outcome ≡ rebase_result s (version_in (slice_get s.held slot))
 
 -- the state that a command leaves: a refused batch is given up; a question, and any other refused command, changes nothing
-abbrev pub after_command : Command → RecordResult → State → State
+abbrev pub after_command : Command → RecordResult → ServerState → ServerState
 after_command (Op op) (Ok lines) s = record s { pending = s.pending ++ op ∷ [] }
 after_command Commit (Ok lines) s = after_commit s
 after_command Commit (Err word) s = record s { pending = [] }
@@ -313,7 +313,7 @@ after_command (Rebase slot) (Ok lines) s = rebased s (version_in (slice_get s.he
 after_command _ _ s = s
 
 -- a record is a command, or is refused for the word that its fields have
-abbrev pub IsRecordResult : Result Command FeedWord → State → RecordResult → Type 0
+abbrev pub IsRecordResult : Result Command FeedWord → ServerState → RecordResult → Type 0
 IsRecordResult (Ok command) s outcome = IsCommandResult command s outcome
 IsRecordResult (Err word) s outcome = outcome ≡ Err (Feed word)
 
@@ -321,7 +321,7 @@ IsRecordResult (Err word) s outcome = outcome ≡ Err (Feed word)
 abbrev pub IsRebase : Result Command FeedWord → Type 0
 IsRebase item = (slot : ℕ) × (item ≡ Ok (Rebase slot))
 
-abbrev pub after_item : Result Command FeedWord → RecordResult → State → State
+abbrev pub after_item : Result Command FeedWord → RecordResult → ServerState → ServerState
 after_item (Ok command) outcome s = after_command command outcome s
 after_item (Err word) outcome s = s
 

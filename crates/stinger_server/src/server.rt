@@ -11,7 +11,7 @@ ghost use Rattle.graph_model.specs.Valid.{IsValid};
 ghost use Rattle.feed_csv.specs.Commands.{HasValidOp};
 ghost use Rattle.stream_store.specs.Refusals.{block_count};
 ghost use Rattle.stream_store.specs.Seats.{SeatView, held_version};
-ghost use Rattle.stinger_server.specs.Servers.{IsServer, Obeys, Shows};
+ghost use Rattle.stinger_server.specs.Servers.{IsServer, Obeys, ShowsServer};
 ghost use Rattle.stinger_server.specs.States.{IsRebase};
 ghost use Rattle.stinger_server.specs.States as states;
 
@@ -82,7 +82,7 @@ impl Server {
         requires few { length seats.items ≤ 16 }
         requires numbers { map (λ (s : SeatView). s.number) seats.items ≡ range_with_len 0 (length seats.items) }
         ensures server { IfOk result IsServer }
-        ensures beginning { IfOk result (λ server. Shows server (states.beginning (states.set_up config)).state) }
+        ensures beginning { IfOk result (λ server. ShowsServer server (states.beginning (states.set_up config)).state) }
     {
         let slots = Slots::new(alloc, board, seats)?;
         Ok(Server {

@@ -18,7 +18,7 @@ const VERTICES: u32 = 24;
 const KINDS: u32 = 3;
 
 /// A letter and a number.
-fn numbered(alloc: Global, letter: &str, number: u32) -> Result<Name, AllocError>
+fn numbered_name(alloc: Global, letter: &str, number: u32) -> Result<Name, AllocError>
     ensures { IfOk result (λ name. name ≡ letter.now ++ decimal number) }
 {
     Ok(Name::of(format!(in alloc; "{letter}{number}")?))
@@ -27,13 +27,13 @@ fn numbered(alloc: Global, letter: &str, number: u32) -> Result<Name, AllocError
 fn vertex(alloc: Global, number: u32) -> Result<Name, AllocError>
     ensures { IfOk result (λ name. name ≡ load.vertex_name number) }
 {
-    numbered(alloc, "v", number)
+    numbered_name(alloc, "v", number)
 }
 
 fn kind(alloc: Global, number: u32) -> Result<Name, AllocError>
     ensures { IfOk result (λ name. name ≡ load.kind_name number) }
 {
-    numbered(alloc, "k", number)
+    numbered_name(alloc, "k", number)
 }
 
 /// The operation at a place of a batch: most insert an edge, some add to a weight, and the last one removes an edge.

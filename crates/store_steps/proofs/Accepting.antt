@@ -4,6 +4,7 @@ use Rattle.std.proofs.Common.{count_by, refl, sym, ap, ◌∙◌, arith}
 use Rattle.std.specs.{Prelude.slice_get, Prelude.if◌then◌else◌, Prelude.Contains, List.list_all, Option.option_and_then}
 use Rattle.std.specs.declared.option.Option.{Option, TheVariants.None, TheVariants.Some}
 use Rattle.std.proofs.lemmas.{Bool.true≢false, List.length-map}
+use Rattle.block_pool.proofs.Grants.{length-marked}
 use Rattle.edge_block.specs.Slots.{BlockView}
 use Rattle.row_pages.specs.Rows.{row_of, blocks_of, numbers_of}
 use Rattle.graph_version.specs.Versions.{is_in}
@@ -11,7 +12,7 @@ use Rattle.block_pool.specs.Pools.{Used, is_born, passes, retired, is_free_at, i
 use Rattle.epoch_blocks.specs.Blocks.{all_differ}
 use Rattle.store_steps.specs.Journal.{Entry, Ledger, opened_ledger, is_legal, after_entry, entered, replay}
 use Rattle.store_steps.specs.Desks.{IsDesk, IsAccepted, FollowsBirths, birth_at, last_numbers, ledger_of}
-use Rattle.store_steps.proofs.{NumberLists.all_by, NumberLists.number_in, ChangedLists.length-marked, ChangedLists.length-changed}
+use Rattle.store_steps.proofs.{NumberLists.all_by, NumberLists.number_in, ChangedLists.length-changed}
 use Rattle.store_steps.proofs.Counting.{is_some_times, in_times, apart_if, same_block, counted, listed}
 use Rattle.store_steps.proofs.OneNumber.{number_after}
 use Rattle.store_steps.proofs.Births.{birth_in, birth_from, birth_taken, birth_stays, births_of, number_of_row, row_listed}

@@ -13,12 +13,12 @@ use Rattle.seat_board.specs.Board.{BoardState, IsBoard, IsLeast, IsBelowPins, pi
 use Rattle.seat_board.specs.Board.{number_if, settled_number, unsettled_number}
 use Rattle.seat_board.proofs.Copied.{floor_is_least}
 use Rattle.seat_board.specs.declared.board.{Pin.Pin as SeatPin, TheConstants.SEATS}
-use Rattle.store_steps.specs.{Desks.DeskView, Shown.Shows, Boards.RaisesAsMachine}
+use Rattle.store_steps.specs.{Desks.DeskView, Shown.ShowsWorld, Boards.RaisesAsMachine}
 use Rattle.store_steps.specs.Boards.{seat_pin, ShowsBoard, raised_board, PinsAsMachine, SettlesAsMachine, UnpinsAsMachine}
 
 -- a desk shows no session, no floor and no copy
-pub shows_sessions : (d : DeskView) (w : World) (sessions : List SessionState) → Shows d w
-    → Shows d (record w { sessions = sessions })
+pub shows_sessions : (d : DeskView) (w : World) (sessions : List SessionState) → ShowsWorld d w
+    → ShowsWorld d (record w { sessions = sessions })
 shows_sessions d w sessions shown = record {
   opening = shown.opening;
   opened = shown.opened;
@@ -29,7 +29,7 @@ shows_sessions d w sessions shown = record {
   sizes = shown.sizes;
 }
 
-pub shows_floored : (d : DeskView) (w : World) → Shows d w → Shows d (floored w)
+pub shows_floored : (d : DeskView) (w : World) → ShowsWorld d w → ShowsWorld d (floored w)
 shows_floored d w shown = record {
   opening = shown.opening;
   opened = shown.opened;
@@ -45,7 +45,7 @@ moves : (b : BoardState) (w : World) (s : ℕ) (change : SessionState
     → Option SessionState) (after : World) (pin : Option SeatPin) → IsBoard b → s < SEATS → ShowsBoard b w
     → Moved w s change after → ((session next : SessionState) → session_of w s ≡ session → change session ≡ Some next
     → seat_pin next ≡ pin)
-    → ShowsBoard (with_pin b s pin) after × ((d : DeskView) → Shows d w → Shows d after) × (after.copy ≡ w.copy)
+    → ShowsBoard (with_pin b s pin) after × ((d : DeskView) → ShowsWorld d w → ShowsWorld d after) × (after.copy ≡ w.copy)
 moves b w s change after pin board low shows m says = (
   record {
     floor = ap (λ v. v.floor) m.result ∙ shows.floor;
@@ -58,7 +58,7 @@ moves b w s change after pin board low shows m says = (
       | inr ne ↦ ap seat_pin (session_else w s t m.next ne) ∙ shows.pins t ∙ sym (get_or-set_other b.pins s t pin None ne)
     ];
   },
-  λ d shown. subst (Shows d) (sym m.result) (shows_sessions d w (set w.sessions s m.next) shown),
+  λ d shown. subst (ShowsWorld d) (sym m.result) (shows_sessions d w (set w.sessions s m.next) shown),
   ap (λ v. v.copy) m.result,
 )
 
@@ -264,6 +264,6 @@ raises_as_machine b w board few shows after is =
         floor = least_is b w (last_number w) (floor_of (copy_of (last_number w) b.pins)) shows least;
         pins = shows.pins;
       }),
-      λ d shown. subst (Shows d) e (shows_floored d w shown),
+      λ d shown. subst (ShowsWorld d) e (shows_floored d w shown),
       ap (λ v. v.copy) (sym e) ∙ copies_same b w board few shows,
     )

@@ -50,10 +50,6 @@ marked_at (m ∷ ns) x xs n =
     ∙ ap (changed_if (λ _. x) (is_in n ns)) (set_at (λ _. x) xs m n x)
     ∙ twice (m == n) (is_in n ns) x (slice_get xs n)
 
-pub length-marked : {A : Type 0} (ns : List ℕ) (x : A) (xs : List A) → length (marked ns x xs) ≡ length xs
-length-marked [] x xs = refl
-length-marked (m ∷ ns) x xs = length-marked ns x (set xs m x) ∙ length-set xs m x
-
 once : {A : Type 0} (f : A → A) (a b : Bool) (o : Option A) → (a ≡ true → b ≡ false)
     → changed_if f b (changed_if f a o) ≡ changed_if f (a || b) o
 once f true true o apart = absurd (true≢false (apart refl))

@@ -5,13 +5,13 @@ use Rattle.std.specs.Prelude.{slice_get, if◌then◌else◌, nat_le, nat_lt}
 use Rattle.std.specs.Option.{option_map, option_and_then}
 use Rattle.std.specs.declared.option.Option.{Option, TheVariants.None, TheVariants.Some}
 use Rattle.std.proofs.lemmas.{List.append-nil, List.length-map, Bool.eq-eqb, Bool.or_right, Bool.Decides.nat_tests}
+use Rattle.std.proofs.lemmas.Option.{slice_get-map}
 use Rattle.edge_block.specs.Slots.{BlockView}
 use Rattle.row_pages.specs.Rows.{row_of, numbers_of}
 use Rattle.graph_version.specs.Versions.{VersionView, is_in}
 use Rattle.pin_copy.specs.declared.copies.PinCopy.{PinCopy}
 use Rattle.block_pool.specs.Pools.{Status, Free, Used, Retired, is_retired, is_past, is_born, passes, recycled}
 use Rattle.block_pool.proofs.Tallies.{count_more}
-use Rattle.epoch_blocks.proofs.Lists.{get_map}
 use Rattle.store_steps.specs.Journal.{Collected, Ledger, opened_ledger, is_legal, after_entry, entered, replay}
 use Rattle.store_steps.specs.Desks.{DeskView, IsDesk, IsCollected, birth_at, births_in, ledger_of, collections}
 use Rattle.store_steps.proofs.{NumberLists.apart_test, Accepting.replay_more}
@@ -91,7 +91,7 @@ collected_desk d copy desk low = record {
       ap (λ n. replay (d.journal ++ collections copy (count_by (is_past copy) d.pool)) (opened_ledger n d.opened))
       (length-map d.pool (recycled copy))
       ∙ replays_on d copy desk low (count_by (is_past copy) d.pool) refl;
-  listed = λ n. ap (passes is_born) (get_map (recycled copy) d.pool n) ∙ born_recycled copy (slice_get d.pool n)
+  listed = λ n. ap (passes is_born) (slice_get-map (recycled copy) d.pool n) ∙ born_recycled copy (slice_get d.pool n)
       ∙ desk.listed n;
 }
 
@@ -131,6 +131,6 @@ births_collected d e copy desk collected source =
     ap (λ (v : VersionView). map (λ b. birth_at e.pool b.number) (row_of v.rows source)) collected.last
     ∙ same_births e.pool d.pool (row_of d.last.rows source) (λ m is.
     birth_from e.pool m ∙ ap (λ p. birth_in (slice_get p m)) collected.pool
-    ∙ ap birth_in (get_map (recycled copy) d.pool m)
+    ∙ ap birth_in (slice_get-map (recycled copy) d.pool m)
     ∙ birth_recycled copy (slice_get d.pool m) (desk.listed m ∙ row_listed d.last.rows source m is)
     ∙ sym (birth_from d.pool m))

@@ -5,6 +5,8 @@ use Rattle.std.specs.{Prelude.slice_get, Prelude.if◌then◌else◌, Prelude.fi
 use Rattle.std.specs.Option.{option_map, option_and_then, is_some}
 use Rattle.std.specs.declared.option.Option.{Option, TheVariants.None, TheVariants.Some}
 use Rattle.std.proofs.lemmas.Bool.{eq-eqb, true≢false, or_right}
+use Rattle.std.proofs.lemmas.Option.{slice_get-map}
+use Rattle.block_pool.proofs.Grants.{length-marked}
 use Rattle.graph_version.specs.Versions.{is_in}
 use Rattle.block_pool.specs.Pools.{Status as PoolStatus, Free as PoolFree, Granted as PoolGranted, Used as PoolUsed}
 use Rattle.block_pool.specs.Pools.{Retired as PoolRetired, is_past, recycled as pool_recycled, passes, marked}
@@ -12,11 +14,11 @@ use Rattle.pin_copy.specs.{declared.copies.PinCopy.PinCopy, Copies.needs}
 use Rattle.epoch_blocks.specs.{declared.states.Status.Status, Blocks.recycled, Blocks.put, Blocks.all_differ}
 use Rattle.epoch_blocks.specs.declared.states.Status.TheVariants.{Free, Fresh, Used, Retired}
 use Rattle.epoch_core.specs.{declared.events.Event.TheVariants.Recycle, Worlds.World, Machine.step, Machine.with_status}
-use Rattle.epoch_blocks.proofs.Lists.{set_else, get_map}
-use Rattle.store_steps.specs.{Desks.DeskView, Desks.IsCollected, Shown.SameStatus, Shown.Shows}
+use Rattle.epoch_blocks.proofs.Lists.{set_else}
+use Rattle.store_steps.specs.{Desks.DeskView, Desks.IsCollected, Shown.SameStatus, Shown.ShowsWorld}
 use Rattle.store_steps.specs.Steps.{all_done, past_numbers, recycling, TakesAt}
 use Rattle.store_steps.proofs.{NumberLists.apart_test, NumberLists.differ_head, NumberLists.differ_tail, Filling.step_then}
-use Rattle.store_steps.proofs.ChangedLists.{marked_at, length-marked}
+use Rattle.store_steps.proofs.ChangedLists.{marked_at}
 
 -- whether the machine recycles a block by the copy
 abbrev goes : PinCopy → Option Status → Bool
@@ -162,10 +164,10 @@ status_collected copy old w n =
     ∙ ap (λ t. if t then option_map (λ _. Free) (slice_get w.status n) else slice_get w.status n)
     (past_at copy 0 n n old.pool (omega arith))
 
-shows_collected : (old new : DeskView) (copy : PinCopy) (w : World) → IsCollected old copy new → Shows old w
-    → Shows new (collected_world copy old w)
+shows_collected : (old new : DeskView) (copy : PinCopy) (w : World) → IsCollected old copy new → ShowsWorld old w
+    → ShowsWorld new (collected_world copy old w)
 shows_collected old new copy w collected shows =
-    subst (λ v. Shows (record { opened = new.opened; last = v; journal = new.journal; pool = new.pool })
+    subst (λ v. ShowsWorld (record { opened = new.opened; last = v; journal = new.journal; pool = new.pool })
     (collected_world copy old w)) (sym collected.last)
     (record {
       opening = shows.opening;
@@ -175,7 +177,7 @@ shows_collected old new copy w collected shows =
       edges = shows.edges;
       status = λ n.
           let pool : slice_get new.pool n ≡ option_map (pool_recycled copy) (slice_get old.pool n) =
-          ap (λ p. slice_get p n) collected.pool ∙ get_map (pool_recycled copy) old.pool n in
+          ap (λ p. slice_get p n) collected.pool ∙ slice_get-map (pool_recycled copy) old.pool n in
           subst (λ o. SameStatus o (slice_get (collected_world copy old w).status n)) (sym pool)
           (subst (SameStatus (option_map (pool_recycled copy) (slice_get old.pool n))) (sym (status_collected copy old w n))
           (same_collected copy (slice_get old.pool n) (slice_get w.status n) (shows.status n)));

@@ -5,6 +5,7 @@ use Rattle.std.specs.{Prelude.Contains, Cmp.Lexicographic.pointwise}
 use Rattle.std.specs.declared.option.Option.{Option, TheVariants.None, TheVariants.Some}
 use Rattle.std.proofs.lemmas.{Bool.eq-eqb, Bool.eqb-true, Slice.Eq.slice_eq-Decides}
 use Rattle.std.proofs.lemmas.Bool.Decides.{Decides-and, Decides-eqb, Decides-int_eq, Decides-like}
+use Rattle.epoch_blocks.proofs.Edges.{Decides-same_stamp}
 use Rattle.graph_model.specs.Graph.{Stamp}
 use Rattle.edge_block.specs.Slots.{BlockView, Slot}
 use Rattle.row_pages.specs.Rows.{numbers_of}
@@ -66,13 +67,6 @@ apart_if (n ∷ ns) once =
     count_more (λ x. x == m) n ns in omega arith))
 
 -- Blocks by their whole value
-
-Decides-same_stamp : (a b : Stamp) → Decides (same_stamp a b) (a ≡ b)
-Decides-same_stamp a b =
-    Decides-like _ (λ p i. record { weight = p.0.0 i; first = p.0.1 i; recent = p.1 i })
-    (λ q. ((ap (λ s. s.weight) q, ap (λ s. s.first) q), ap (λ s. s.recent) q))
-    (Decides-and _ _ (Decides-and _ _ (Decides-int_eq a.weight b.weight) (Decides-eqb a.first b.first))
-    (Decides-eqb a.recent b.recent))
 
 abbrev same_slot : Option Slot → Option Slot → Bool
 same_slot None None = true

@@ -3,12 +3,13 @@ use Rattle.std.proofs.Common.{◌≡◌, ℕ, zero, suc, ◌+◌, Bool, true, fa
 use Rattle.std.proofs.{Common.length-append, Common.replicate, lemmas.Bool.true≢false}
 use Rattle.std.specs.{Prelude.slice_get, Prelude.if◌then◌else◌, Option.option_map, Option.option_and_then}
 use Rattle.std.specs.declared.option.Option.{Option, TheVariants.None, TheVariants.Some}
+use Rattle.std.proofs.lemmas.Option.{slice_get-map}
 use Rattle.graph_model.specs.declared.batches.NamedOp.{NamedOp}
 use Rattle.graph_version.specs.Versions.{is_in}
 use Rattle.pin_copy.specs.declared.copies.PinCopy.{PinCopy}
 use Rattle.block_pool.specs.Pools.{Status, Free, Granted, Used, Retired, is_free, is_born, is_free_at, is_born_at, is_past, passes}
 use Rattle.block_pool.specs.Pools.{recycled}
-use Rattle.epoch_blocks.proofs.Lists.{all_listed, get_map}
+use Rattle.epoch_blocks.proofs.Lists.{all_listed}
 use Rattle.store_steps.specs.Journal.{Entry, Applied, Collected, Ledger, opened_ledger, is_legal, after_entry, exchanged, replay}
 use Rattle.store_steps.specs.{Desks.DeskView, Desks.IsDesk, Desks.ledger_of, Dates.IsDated, Dates.AreDated}
 use Rattle.store_steps.proofs.{ChangedLists.marked_at, OneNumber.number_after, Applications.exchanged_at}
@@ -68,7 +69,7 @@ entry_dated opened l (Applied ops taken dropped) is dated =
     subst (λ k. AreDated opened k (exchanged (length l.batches + 1) taken dropped l.pool)) (sym long)
     (batch_dated opened l ops taken dropped is dated)
 entry_dated opened l (Collected copy count) is dated = λ m.
-    subst (IsDated (is_in m opened) (length l.batches)) (sym (get_map (recycled copy) l.pool m))
+    subst (IsDated (is_in m opened) (length l.batches)) (sym (slice_get-map (recycled copy) l.pool m))
     (recycled_dated (is_in m opened) (length l.batches) copy (slice_get l.pool m) (dated m))
 
 replay_dated : (opened : List ℕ) (es : List Entry) (l m : Ledger) → AreDated opened (length l.batches) l.pool

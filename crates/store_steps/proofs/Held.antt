@@ -11,9 +11,9 @@ use Rattle.epoch_blocks.specs.declared.states.Status.{Status, TheVariants.Free, 
 use Rattle.epoch_blocks.specs.Blocks.{is_listed}
 use Rattle.epoch_core.specs.Sound.{IsSound, IsSessionSound, IsHeld, IsCovered, IsKeptAt}
 use Rattle.epoch_core.specs.Worlds.{World, session_of, held_in}
-use Rattle.epoch_blocks.specs.Versions.{Shows as ShowsGraph, opening_graph, blocks_at, edges_of, graph_at}
+use Rattle.epoch_blocks.specs.Versions.{AreEdgesOf, opening_graph, blocks_at, edges_of, graph_at}
 use Rattle.epoch_core.proofs.Steps.{always_sound}
-use Rattle.store_steps.specs.{Desks.DeskView, Shown.SameStatus, Shown.Shows, Reached.world_by}
+use Rattle.store_steps.specs.{Desks.DeskView, Shown.SameStatus, Shown.ShowsWorld, Reached.world_by}
 use Rattle.store_steps.specs.Held.{IsSnapshot, HeldIsSnapshot}
 use Rattle.store_steps.proofs.Reached.{same_count}
 
@@ -43,21 +43,21 @@ not_past n copy (Some (PoolRetired b v)) _ same kept covered = absurd same
 not_past n copy _ s same kept covered = refl
 
 -- the graph of the machine's version is what the desk's first batches leave
-graph_first : (d : DeskView) (w : World) (n : ℕ) → Shows d w → graph_at w.opening w.versions n
+graph_first : (d : DeskView) (w : World) (n : ℕ) → ShowsWorld d w → graph_at w.opening w.versions n
     ≡ left_by (take n d.last.batches) d.last.opening
 graph_first d w n shows =
     ap (λ bs. left_by bs (opening_graph w.opening)) (sym (take-map (λ v. v.batch) n w.versions) ∙ ap (take n) shows.batches)
     ∙ ap (left_by (take n d.last.batches)) shows.opening
 
-snapshot : (d : DeskView) (w : World) (copy : PinCopy) (n : ℕ) → Shows d w → w.copy ≡ copy → Holder w n → IsSnapshot d copy w n
+snapshot : (d : DeskView) (w : World) (copy : PinCopy) (n : ℕ) → ShowsWorld d w → w.copy ≡ copy → Holder w n → IsSnapshot d copy w n
 snapshot d w copy n shows same holder =
     let version = holder.version_is in
     let covered : IsCovered copy holder.hold.version =
     subst (λ k. IsCovered k holder.hold.version) same holder.held.covered in
     record {
       within = let last = holder.held.held_last in let count = same_count d w shows in omega arith;
-      shown = subst (ShowsGraph (edges_of w.heap (blocks_at w.opening w.versions n))) (graph_first d w n shows)
-          (subst (λ m. ShowsGraph (edges_of w.heap (blocks_at w.opening w.versions m)) (graph_at w.opening w.versions m))
+      shown = subst (AreEdgesOf (edges_of w.heap (blocks_at w.opening w.versions n))) (graph_first d w n shows)
+          (subst (λ m. AreEdgesOf (edges_of w.heap (blocks_at w.opening w.versions m)) (graph_at w.opening w.versions m))
           version holder.held.shown);
       in_use = λ c is.
           not_free holder.hold.version (slice_get d.pool c) (slice_get w.status c) (shows.status c)

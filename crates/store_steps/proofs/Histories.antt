@@ -11,7 +11,7 @@ use Rattle.epoch_core.specs.{Worlds.World, Worlds.session_of, Worlds.last_number
 use Rattle.epoch_core.specs.Machine.{step, read_on, is_all_read, to_enter, to_ask, to_read, to_reply}
 use Rattle.epoch_core.proofs.Moves.{Moved, moved, session_after, session_else}
 use Rattle.seat_board.specs.Board.{BoardState}
-use Rattle.store_steps.specs.{Desks.DeskView, Shown.Shows, Boards.seat_pin, Boards.ShowsBoard, Steps.all_done}
+use Rattle.store_steps.specs.{Desks.DeskView, Shown.ShowsWorld, Boards.seat_pin, Boards.ShowsBoard, Steps.all_done}
 use Rattle.store_steps.specs.Histories.{DoneIsRun, ReadersAreUnseen}
 use Rattle.store_steps.proofs.BoardSteps.{shows_sessions}
 
@@ -27,9 +27,9 @@ done_is_run (e ∷ es) w after is =
 unseen : (d : DeskView) (b : BoardState) (w after : World) (s : ℕ) (change : SessionState → Option SessionState)
     → Moved w s change after
     → ((session next : SessionState) → change session ≡ Some next → seat_pin next ≡ seat_pin session)
-    → Shows d w → ShowsBoard b w → Shows d after × ShowsBoard b after × (after.copy ≡ w.copy)
+    → ShowsWorld d w → ShowsBoard b w → ShowsWorld d after × ShowsBoard b after × (after.copy ≡ w.copy)
 unseen d b w after s change m keeps shown shows = (
-  subst (Shows d) (sym m.result) (shows_sessions d w (set w.sessions s m.next) shown),
+  subst (ShowsWorld d) (sym m.result) (shows_sessions d w (set w.sessions s m.next) shown),
   record {
     floor = ap (λ v. v.floor) m.result ∙ shows.floor;
     pins = λ t. ap (λ v. seat_pin (session_of v t)) m.result ∙ elim (cases_eq t s) [

@@ -4,6 +4,7 @@ use Rattle.std.proofs.Common.{get_or, refl, sym, ap, ◌∙◌, arith}
 use Rattle.std.specs.{Prelude.if◌then◌else◌, Prelude.All, Prelude.AllPairs, Prelude.filter, List.list_all}
 use Rattle.std.proofs.lemmas.List.Elements.{All-head, All-tail, All-cons}
 use Rattle.std.proofs.lemmas.Bool.{eq-eqb, eqb-true, true≢false, or_right}
+use Rattle.graph_model.proofs.Counts.{apart_tail}
 use Rattle.edge_block.specs.Slots.{BlockView}
 use Rattle.row_pages.specs.Rows.{numbers_of}
 use Rattle.graph_version.specs.Versions.{is_in}
@@ -44,9 +45,6 @@ not_in n (m ∷ ns) apart =
 
 apart_head : (n : ℕ) (ns : List ℕ) → AllPairs ◌≢◌ (n ∷ ns) → (k : ℕ) → k < length ns → n ≢ get_or ns k 0
 apart_head n ns apart k h = apart 0 (suc k) 0 (omega arith) (omega arith)
-
-apart_tail : (n : ℕ) (ns : List ℕ) → AllPairs ◌≢◌ (n ∷ ns) → AllPairs ◌≢◌ ns
-apart_tail n ns apart = λ i j d h g. apart (suc i) (suc j) d (omega arith) (omega arith)
 
 pub differ_from : (ns : List ℕ) → AllPairs ◌≢◌ ns → all_differ ns ≡ true
 differ_from [] apart = refl

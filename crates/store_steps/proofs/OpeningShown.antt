@@ -5,6 +5,7 @@ use Rattle.std.specs.{Prelude.map, Prelude.slice_get, Prelude.slice_set, Prelude
 use Rattle.std.specs.declared.option.Option.{Option, TheVariants.None, TheVariants.Some}
 use Rattle.std.proofs.lemmas.Bool.{eqb-true}
 use Rattle.std.proofs.lemmas.List.{length-replicate, Elements.All-head, Elements.All-tail, Elements.All-cons}
+use Rattle.block_pool.proofs.Grants.{length-marked}
 use Rattle.graph_model.specs.{Graph.Graph, Graph.graph_of, Graph.content_of, Graph.IsContent, Step.left_by}
 use Rattle.graph_model.specs.declared.{ids.Edge.Edge, contents.Content.Content}
 use Rattle.edge_block.specs.Slots.{BlockView}
@@ -14,14 +15,14 @@ use Rattle.graph_version.specs.Edges.{edges_in_block, edges_in_blocks, AreEachOn
 use Rattle.graph_version.proofs.{Empty.is_empty_version, Shown.rows_each_once}
 use Rattle.block_pool.specs.Pools.{Status as PoolStatus, Free as PoolFree, Used as PoolUsed, is_born, is_born_at, passes, marked}
 use Rattle.epoch_blocks.specs.declared.states.Status.{Status, TheVariants.Free, TheVariants.Used}
-use Rattle.epoch_blocks.specs.{Blocks.is_listed, Versions.Shows as ShowsGraph, Versions.edges_at, Versions.edges_of}
+use Rattle.epoch_blocks.specs.{Blocks.is_listed, Versions.AreEdgesOf, Versions.edges_at, Versions.edges_of}
 use Rattle.epoch_core.specs.Opened.{Lists, numbers_in, heap_with, status_with, IsOpening}
 use Rattle.epoch_core.specs.{Worlds.IsStart, declared.states.SessionState.TheVariants.Idle}
 use Rattle.epoch_core.proofs.Steps.{all_idle, free_at}
 use Rattle.seat_board.specs.Board.{pin_at}
-use Rattle.store_steps.specs.{Desks.IsDesk, Shown.Shows, Shown.SameStatus, Boards.seat_pin}
+use Rattle.store_steps.specs.{Desks.IsDesk, Shown.ShowsWorld, Shown.SameStatus, Boards.seat_pin}
 use Rattle.store_steps.specs.Opening.{opened_desk, opened_start, lists_of, IsVersionZero, OpensAsMachine, OpensBlank}
-use Rattle.store_steps.proofs.{NumberLists.differ_from, ChangedLists.marked_at, ChangedLists.length-marked}
+use Rattle.store_steps.proofs.{NumberLists.differ_from, ChangedLists.marked_at}
 use Rattle.store_steps.proofs.Filling as filling
 
 -- The pool
@@ -184,18 +185,18 @@ module _ (sessions blocks : ℕ) (v : VersionView) (c : Content) (zero_is : IsVe
   apart : AllPairs ◌≢◌ (numbers_of bs)
   apart = zero_is.version.rows.numbers
 
-  shown_edges : ShowsGraph (edges_in_blocks bs) (graph_of c)
+  shown_edges : AreEdgesOf (edges_in_blocks bs) (graph_of c)
   shown_edges =
       let each : AreEachOnce (edges_in_blocks bs) (content v) = rows_each_once (content v) v.rows zero_is.version.rows in
-      let shown : ShowsGraph (edges_in_blocks bs) (content v) = record { once = each.once; same = each.same } in
-      subst (λ (g : Graph). ShowsGraph (edges_in_blocks bs) g) (content_alone v zero_is.alone ∙ sym same) shown
+      let shown : AreEdgesOf (edges_in_blocks bs) (content v) = record { once = each.once; same = each.same } in
+      subst (λ (g : Graph). AreEdgesOf (edges_in_blocks bs) g) (content_alone v zero_is.alone ∙ sym same) shown
 
   is_opening : IsContent c → IsOpening blocks c (lists_of v)
   is_opening is = record {
     content_is = is;
     within = within_paired blocks bs zero_is.within;
     different = subst (λ ns. AllPairs ◌≢◌ ns) (sym (numbers_paired bs)) apart;
-    shown = subst (λ edges. ShowsGraph edges (graph_of c)) (sym (edges_paired bs)) shown_edges;
+    shown = subst (λ edges. AreEdgesOf edges (graph_of c)) (sym (edges_paired bs)) shown_edges;
   }
 
   status_start : (b : ℕ) → b < blocks
@@ -217,7 +218,7 @@ module _ (sessions blocks : ℕ) (v : VersionView) (c : Content) (zero_is : IsVe
     within = subst (λ n. All (λ b. b < n) (numbers_in (pairs bs))) (sym long)
         (subst (λ ns. All (λ b. b < blocks) ns) (sym (numbers_paired bs)) zero_is.within);
     different = subst (λ ns. AllPairs ◌≢◌ ns) (sym (numbers_paired bs)) apart;
-    shown = subst (λ edges. ShowsGraph edges (graph_of c))
+    shown = subst (λ edges. AreEdgesOf edges (graph_of c))
         (sym (ap (edges_of heap) (numbers_paired bs) ∙ filling.edges_from heap bs (edges_opened blocks bs zero_is.within apart)))
         shown_edges;
     status = λ b low. status_start b (omega (arith, low, long));
@@ -228,7 +229,7 @@ module _ (sessions blocks : ℕ) (v : VersionView) (c : Content) (zero_is : IsVe
     replies = ap (λ n. replicate n []) (sym (length-replicate sessions Idle));
   }
 
-  is_shown : Shows (opened_desk blocks v) (opened_start sessions blocks c v).world
+  is_shown : ShowsWorld (opened_desk blocks v) (opened_start sessions blocks c v).world
   is_shown = record {
     opening = same;
     opened = numbers_paired bs;

@@ -4,7 +4,10 @@ use Rattle.std.proofs.Common.{get_or, refl, sym, ap, subst, ◌∙◌, arith, le
 use Rattle.std.specs.Prelude.{slice_get, if◌then◌else◌, All, Contains, nat_lt, nat_le}
 use Rattle.std.specs.{List.list_all, Option.option_map}
 use Rattle.std.specs.declared.option.Option.TheVariants.{None, Some}
-use Rattle.std.proofs.lemmas.{List.map-append, List.length-map, Bool.or_right, Bool.Decides.nat_tests}
+use Rattle.std.proofs.lemmas.{List.map-append, List.length-map, Bool.or_right, Bool.Decides.nat_tests, Bool.lt-ltb, Bool.le-leb}
+use Rattle.std.proofs.lemmas.Option.{slice_get_within}
+use Rattle.std.proofs.lemmas.Bool.{or_left}
+use Rattle.block_pool.proofs.Grants.{length-marked}
 use Rattle.graph_model.specs.{Graph.Graph, Limits.batch_limit, GraphLimits.is_within_limits, Step.left_by, Step.after_all}
 use Rattle.graph_model.specs.declared.batches.NamedOp.{NamedOp}
 use Rattle.edge_block.specs.Slots.{BlockView}
@@ -15,17 +18,17 @@ use Rattle.block_pool.specs.Pools.{Status as PoolStatus, is_born, passes, is_fre
 use Rattle.epoch_blocks.specs.declared.states.{Status.TheVariants.Free, Status.TheVariants.Fresh, Version.Version}
 use Rattle.epoch_core.specs.{declared.events.Event.TheVariants.Post, Worlds.World, Worlds.last_blocks, Posts.posted}
 use Rattle.epoch_blocks.specs.Blocks.{is_at, is_fresh, is_listed, all_differ, after_post}
-use Rattle.epoch_blocks.specs.Versions.{Shows as ShowsGraph, opening_graph, edges_at, edges_of}
+use Rattle.epoch_blocks.specs.Versions.{AreEdgesOf, opening_graph, edges_at, edges_of}
 use Rattle.epoch_blocks.specs.Posting.{is_listable, version_by, can_post, graph_after, are_edges_of}
 use Rattle.epoch_blocks.proofs.Edges.{Decides-edges}
-use Rattle.epoch_blocks.proofs.Lists.{within, and_left, and_right, all_listed, length_enumerated}
-use Rattle.epoch_core.proofs.{Changes.version_next, Changes.batches_all, Posted.status_at}
-use Rattle.store_steps.specs.{Journal.Applied, Journal.Ledger, Journal.is_legal, Shown.SameStatus, Shown.Shows}
+use Rattle.epoch_blocks.proofs.Lists.{and_left, and_right, all_listed, length_enumerated}
+use Rattle.epoch_core.proofs.{Changes.version_next, Changes.batches_all, Changes.left_more, Posted.status_at}
+use Rattle.store_steps.specs.{Journal.Applied, Journal.Ledger, Journal.is_legal, Shown.SameStatus, Shown.ShowsWorld}
 use Rattle.store_steps.specs.Desks.{DeskView, IsDesk, IsAccepted, last_numbers, ledger_of}
 use Rattle.store_steps.specs.Steps.{fresh_in, posting, Takes}
 use Rattle.store_steps.proofs.NumberLists.{same_bool, differ_from, number_in, numbers_all, picked, in_picked, picked_in}
 use Rattle.store_steps.proofs.{NumberLists.picked_apart, NumberLists.picked_all, OneNumber.number_after, Filling.edges_from}
-use Rattle.store_steps.proofs.{ChangedLists.marked_at, ChangedLists.length-marked, Applications.exchanged_at}
+use Rattle.store_steps.proofs.{ChangedLists.marked_at, Applications.exchanged_at}
 use Rattle.store_steps.proofs.OneStatus.{status_by, same_after, free_there, born_mark}
 use Rattle.store_steps.proofs.Filling.{filled_world, fills_done, step_then, AllAre, length-heap_with, heap_else, heap_here}
 
@@ -45,25 +48,11 @@ legal_batch l ops taken dropped is = record {
   dropped_apart = and_right _ _ is;
 }
 
-left_more : (bs : List (List NamedOp)) (b : List NamedOp) (g : Graph) → left_by (bs ++ b ∷ []) g ≡ after_all b (left_by bs g)
-left_more [] b g = refl
-left_more (c ∷ cs) b g = left_more cs b (after_all c g)
-
 five : (a b c d e : Bool) → a ≡ true → b ≡ true → c ≡ true → d ≡ true → e ≡ true → (a && b && c && d && e) ≡ true
 five a b c d e p q r s t = rw (p, q, r, s, t) refl
 
-lt_test : (m n : ℕ) → m < n → nat_lt m n ≡ true
-lt_test m n h = grind (arith, nat_tests)
-
-le_test : (m n : ℕ) → m ≤ n → nat_le m n ≡ true
-le_test m n h = grind (arith, nat_tests)
-
 two : (a b : Bool) → a ≡ true → b ≡ true → (a && b) ≡ true
 two a b p q = rw (p, q) refl
-
-left_or : (a b : Bool) → a ≡ true → (a || b) ≡ true
-left_or true b e = refl
-left_or false b e = cc
 
 -- One batch that was accepted
 
@@ -122,15 +111,15 @@ fresh_apart a = picked_apart (λ m. is_in m a.taken) (new_blocks a)
 abbrev ready : Acceptance → World → World
 ready a w = filled_world w (fresh_blocks a)
 
-fresh_free : (a : Acceptance) (w : World) → Shows a.old w → AllAre Free w.status (fresh_blocks a)
+fresh_free : (a : Acceptance) (w : World) → ShowsWorld a.old w → AllAre Free w.status (fresh_blocks a)
 fresh_free a w shows k d h =
     let n : ℕ = (get_or (fresh_blocks a) k d).number in
     free_there (slice_get a.old.pool n) (slice_get w.status n) (shows.status n)
     (taken_free a n (picked_all (λ m. is_in m a.taken) (new_blocks a) k d h))
 
-fresh_within : (a : Acceptance) (w : World) → Shows a.old w → All (λ b. b.number < length w.heap) (fresh_blocks a)
+fresh_within : (a : Acceptance) (w : World) → ShowsWorld a.old w → All (λ b. b.number < length w.heap) (fresh_blocks a)
 fresh_within a w shows k d h =
-    let lt = within w.status (get_or (fresh_blocks a) k d).number Free (fresh_free a w shows k d h) in let same =
+    let lt = slice_get_within w.status (get_or (fresh_blocks a) k d).number Free (fresh_free a w shows k d h) in let same =
     shows.sizes in omega arith
 
 ready_status : (a : Acceptance) (w : World) (n : ℕ) → slice_get (ready a w).status n
@@ -144,7 +133,7 @@ pub record IsPlaced (a : Acceptance) (w : World) (b : BlockView) : Type 0 where
   pub edges : edges_at (ready a w).heap b.number ≡ edges_in_block b
   pub listable : is_listable (ready a w).status (last_blocks w) b.number ≡ true
 
-taken_placed : (a : Acceptance) (w : World) → Shows a.old w → (b : BlockView) → Contains (fresh_blocks a) b
+taken_placed : (a : Acceptance) (w : World) → ShowsWorld a.old w → (b : BlockView) → Contains (fresh_blocks a) b
     → is_in b.number a.taken ≡ true → IsPlaced a w b
 taken_placed a w shows b (k, h, at) is = record {
   edges = subst (λ x. edges_at (ready a w).heap x.number ≡ edges_in_block x) at
@@ -154,7 +143,7 @@ taken_placed a w shows b (k, h, at) is = record {
       free_there (slice_get a.old.pool b.number) (slice_get w.status b.number) (shows.status b.number)
       (taken_free a b.number is) in
       let fresh : slice_get (ready a w).status b.number ≡ Some Fresh = ready_status a w b.number ∙ rw (is, free) refl in
-      left_or (is_at is_fresh (slice_get (ready a w).status b.number)) (is_listed b.number (last_blocks w))
+      or_left (is_at is_fresh (slice_get (ready a w).status b.number)) (is_listed b.number (last_blocks w))
       (ap (is_at is_fresh) fresh);
 }
 
@@ -171,7 +160,7 @@ contains_picked p (c ∷ cs) b (suc k) h at is =
       | false ↦ rest
     ]
 
-kept_placed : (a : Acceptance) (w : World) → Shows a.old w → (b : BlockView) → Contains (blocks_of a.old.last.rows) b
+kept_placed : (a : Acceptance) (w : World) → ShowsWorld a.old w → (b : BlockView) → Contains (blocks_of a.old.last.rows) b
     → is_in b.number a.taken ≡ false → IsPlaced a w b
 kept_placed a w shows b (k, h, at) is = record {
   edges =
@@ -186,7 +175,7 @@ get_or_default [] k d e h = absurd (omega arith)
 get_or_default (b ∷ bs) zero d e h = refl
 get_or_default (b ∷ bs) (suc k) d e h = get_or_default bs k d e (omega arith)
 
-placed : (a : Acceptance) (w : World) → Shows a.old w → All (IsPlaced a w) (new_blocks a)
+placed : (a : Acceptance) (w : World) → ShowsWorld a.old w → All (IsPlaced a w) (new_blocks a)
 placed a w shows k d h =
     let b : BlockView = get_or (new_blocks a) k d in
     let at : get_or (new_blocks a) k b ≡ b = get_or_default (new_blocks a) k b d h in
@@ -195,21 +184,21 @@ placed a w shows k d h =
       | false ↦ λ is. kept_placed a w shows b (a.accepted.kept k d h is) is
     ] refl
 
-same_count : (a : Acceptance) (w : World) → Shows a.old w → length w.versions ≡ length a.old.last.batches
+same_count : (a : Acceptance) (w : World) → ShowsWorld a.old w → length w.versions ≡ length a.old.last.batches
 same_count a w shows = sym (length-map w.versions (λ v. v.batch)) ∙ ap length shows.batches
 
 new_batches : (a : Acceptance) → a.new.last.batches ≡ a.old.last.batches ++ a.ops ∷ []
 new_batches a = ap (λ l. l.batches) a.accepted.ledger
 
 -- the graph that the batch leaves
-graph_left : (a : Acceptance) (w : World) → Shows a.old w → graph_after w.opening w.versions a.ops ≡ content a.new.last
+graph_left : (a : Acceptance) (w : World) → ShowsWorld a.old w → graph_after w.opening w.versions a.ops ≡ content a.new.last
 graph_left a w shows =
     ap (λ bs. after_all a.ops (left_by bs (opening_graph w.opening))) (batches_all w.versions ∙ shows.batches)
     ∙ ap (λ g. after_all a.ops (left_by a.old.last.batches g)) (shows.opening ∙ sym a.accepted.opening)
     ∙ sym (left_more a.old.last.batches a.ops a.new.last.opening)
     ∙ ap (λ bs. left_by bs a.new.last.opening) (sym (new_batches a))
 
-posts : (a : Acceptance) (w : World) → Shows a.old w → can_post w.opening (ready a w).heap (ready a w).status w.versions a.ops
+posts : (a : Acceptance) (w : World) → ShowsWorld a.old w → can_post w.opening (ready a w).heap (ready a w).status w.versions a.ops
     (last_numbers a.new) ≡ true
 posts a w shows =
     let all = placed a w shows in
@@ -222,12 +211,12 @@ posts a w shows =
     rows_each_once (content a.new.last) a.new.last.rows a.after.version.rows in
     let there : edges_of (ready a w).heap (last_numbers a.new) ≡ edges_in_blocks (new_blocks a) =
     edges_from (ready a w).heap (new_blocks a) (λ k d h. (all k d h).edges) in
-    let shown : ShowsGraph (edges_in_blocks (new_blocks a)) (content a.new.last) =
+    let shown : AreEdgesOf (edges_in_blocks (new_blocks a)) (content a.new.last) =
     record { once = each.once; same = each.same } in
-    five _ _ _ _ _ (lt_test (length w.versions) batch_limit (omega arith))
+    five _ _ _ _ _ (lt-ltb (length w.versions) batch_limit (omega arith))
     (numbers_all (is_listable (ready a w).status (last_blocks w)) (new_blocks a) (λ k d h. (all k d h).listable))
     (differ_from (last_numbers a.new) a.after.version.rows.numbers)
-    (ap is_within_limits graph ∙ two _ _ (le_test _ _ a.after.version.small.names) (le_test _ _ a.after.version.small.kinds))
+    (ap is_within_limits graph ∙ two _ _ (le-leb _ _ a.after.version.small.names) (le-leb _ _ a.after.version.small.kinds))
     (ap (λ x. are_edges_of x (edges_of (ready a w).heap (last_numbers a.new))) graph
     ∙ ap (are_edges_of (content a.new.last)) there
     ∙ (Decides-edges (content a.new.last) (edges_in_blocks (new_blocks a))).1 shown)
@@ -235,7 +224,7 @@ posts a w shows =
 abbrev posted_world : Acceptance → World → World
 posted_world a w = posted (ready a w) a.ops (last_numbers a.new)
 
-status_posted : (a : Acceptance) (w : World) → Shows a.old w → (n : ℕ)
+status_posted : (a : Acceptance) (w : World) → ShowsWorld a.old w → (n : ℕ)
     → SameStatus (slice_get a.new.pool n) (slice_get (posted_world a w).status n)
 status_posted a w shows n =
     let listed : is_in n (last_numbers a.new) ≡ passes is_born
@@ -254,7 +243,7 @@ status_posted a w shows n =
     (same_after (number_in_desk a) (slice_get a.old.pool n) (slice_get w.status n) (is_in n a.taken) (is_in n a.dropped)
     (shows.status n) (taken_free a n) (dropped_born a n)))
 
-shows_posted : (a : Acceptance) (w : World) → Shows a.old w → Shows a.new (posted_world a w)
+shows_posted : (a : Acceptance) (w : World) → ShowsWorld a.old w → ShowsWorld a.new (posted_world a w)
 shows_posted a w shows =
     let v : Version = version_by w.opening w.versions a.ops (last_numbers a.new) in
     let all = placed a w shows in

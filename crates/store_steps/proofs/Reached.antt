@@ -3,20 +3,20 @@ use Rattle.std.proofs.Common.{◌≡◌, ℕ, zero, suc, ◌<◌, true, false, L
 use Rattle.std.proofs.{Common.◌∙◌, Common.arith, lemmas.List.length-map}
 use Rattle.std.specs.{Prelude.slice_get, Prelude.is_some, Option.unwrap_or, Option.option_map, Option.option_and_then}
 use Rattle.std.specs.declared.option.Option.{Option, TheVariants.None, TheVariants.Some}
+use Rattle.std.proofs.lemmas.Option.{slice_get-get_or}
 use Rattle.epoch_core.specs.{declared.events.Event.Event, declared.states.SessionState.SessionState, Epochs.PinsInOrder}
 use Rattle.epoch_core.specs.declared.events.Event.TheVariants.{Floor, Pin, Enter, Settle, Ask, Read, Reply, Release}
 use Rattle.epoch_core.specs.declared.states.SessionState.TheVariants.{Idle, Pinned, Holding, Asking}
 use Rattle.epoch_blocks.specs.Blocks.{put}
-use Rattle.epoch_core.specs.Worlds.{World, State, IsStart, start_world, last_number, session_of, held_in}
+use Rattle.epoch_core.specs.Worlds.{World, MachineState, IsStart, start_world, last_number, session_of, held_in}
 use Rattle.epoch_core.specs.Machine.{step, move, to_pin, to_enter, to_settle, with_sessions}
 use Rattle.epoch_core.specs.Runs.{run, next_world, is_done}
-use Rattle.epoch_blocks.proofs.Lists.{at_from_within}
 use Rattle.epoch_core.proofs.{Moves.Moved, Moves.moved, Moves.floored, Moves.session_after, Steps.always_sound, Steps.idle_at}
 use Rattle.epoch_core.proofs.{Sizes.size_run, Epochs.pins_in_order}
 use Rattle.graph_version.specs.Versions.{empty_version}
 use Rattle.pin_copy.specs.declared.copies.PinCopy.{PinCopy}
 use Rattle.seat_board.specs.Board.{BoardState, pin_at, with_pin, unsettled, settled, copy_of}
-use Rattle.store_steps.specs.{Desks.DeskView, Shown.Shows, Histories.IsUnseen, Steps.IsTaken, Opening.opened_desk}
+use Rattle.store_steps.specs.{Desks.DeskView, Shown.ShowsWorld, Histories.IsUnseen, Steps.IsTaken, Opening.opened_desk}
 use Rattle.store_steps.specs.Boards.{seat_pin, ShowsBoard, ShowsIfDone, raised_board}
 use Rattle.store_steps.specs.Reached.{Store, opened_store, world_by, IsReached, Leads, IsReaders, StaysReached}
 use Rattle.store_steps.proofs.BoardSteps.{pins_as_machine, settles_as_machine, unpins_as_machine, raises_as_machine}
@@ -42,7 +42,7 @@ taken_reached start s new events more t r =
       pins = λ seat. ap (λ ps. seat_pin (get_or ps seat Idle)) t.sessions ∙ r.board.pins seat;
     } in
     record {
-      desk = subst (Shows new) there t.shown;
+      desk = subst (ShowsWorld new) there t.shown;
       board = subst (ShowsBoard s.board) there board;
       copied_is = ap (λ w. w.copy) (sym there) ∙ t.copy ∙ r.copied_is;
     }
@@ -57,7 +57,7 @@ board_reached start s new copy events event after is shows r =
     run_next events event start after is in
     let all = shows after is in
     record {
-      desk = subst (Shows s.desk) there (all.1 s.desk r.desk);
+      desk = subst (ShowsWorld s.desk) there (all.1 s.desk r.desk);
       board = subst (ShowsBoard new) there all.0;
       copied_is = ap (λ w. w.copy) (sym there) ∙ all.2;
     }
@@ -81,7 +81,7 @@ reader_reached start event hidden s events r =
           sym (run_more events (event ∷ []) start
           ∙ ap (λ o. unwrap_or o (world_by start events)) is) in
           record {
-            desk = subst (Shows s.desk) there r.desk;
+            desk = subst (ShowsWorld s.desk) there r.desk;
             board = subst (ShowsBoard s.board) there r.board;
             copied_is = ap (λ w. w.copy) (sym there) ∙ r.copied_is;
           })
@@ -90,7 +90,7 @@ reader_reached start event hidden s events r =
           run_next events event start after is in
           let both = hidden s.desk s.board (world_by start events) after is r.desk r.board in
           record {
-            desk = subst (Shows s.desk) there both.0;
+            desk = subst (ShowsWorld s.desk) there both.0;
             board = subst (ShowsBoard s.board) there both.1;
             copied_is = ap (λ w. w.copy) (sym there) ∙ both.2 ∙ r.copied_is;
           })
@@ -122,7 +122,7 @@ pin_done start s seat events r low none =
     let w : World = world_by start events in
     let few : length w.sessions ≡ length start.sessions = (size_run events start).sessions in
     let idle : session_of w seat ≡ Idle = idle_if (session_of w seat) (r.board.pins seat ∙ none) in
-    move_done w seat (to_pin w.floor) Idle (Pinned w.floor) (at_from_within w.sessions seat Idle (omega arith) ∙ ap Some idle)
+    move_done w seat (to_pin w.floor) Idle (Pinned w.floor) (slice_get-get_or w.sessions seat Idle (omega arith) ∙ ap Some idle)
     refl
 
 held_settles : (session : SessionState) (n : ℕ) → held_in session ≡ Some n
@@ -154,7 +154,7 @@ held_entered last (Pinned pin) next is =
     let e : Holding (record { pin = pin; settled = false; version = last }) ≡ next = cc in ap held_in (sym e)
 held_entered last _ next is = cc
 
-pub same_count : (d : DeskView) (w : World) → Shows d w → last_number w ≡ length d.last.batches
+pub same_count : (d : DeskView) (w : World) → ShowsWorld d w → last_number w ≡ length d.last.batches
 same_count d w shows = sym (length-map w.versions (λ v. v.batch)) ∙ ap length shows.batches
 
 entered_holds : (start : World) (s : Store) (seat : ℕ) (events : List Event) → IsReached start events s
@@ -169,7 +169,7 @@ entered_holds start s seat events r done =
     ∙ held_entered (last_number w) m.session m.next m.changed ∙ ap Some (same_count s.desk w r.desk)
 
 -- a store whose desk shows a start is reached
-start_reached : (start : State) → IsStart start → (d : DeskView) → Shows d start.world
+start_reached : (start : MachineState) → IsStart start → (d : DeskView) → ShowsWorld d start.world
     → IsReached start.world [] (opened_store d)
 start_reached start is d shows = record {
   desk = shows;
@@ -177,7 +177,7 @@ start_reached start is d shows = record {
   copied_is = is.copy;
 }
 
-pub stays_reached : (start : State) → IsStart start → StaysReached start.world
+pub stays_reached : (start : MachineState) → IsStart start → StaysReached start.world
 stays_reached start is_start = record {
   opening = start_reached start is_start;
   applied = λ s next events more takes r.

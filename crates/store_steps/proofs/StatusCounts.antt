@@ -3,6 +3,7 @@ use Rattle.std.proofs.Common.{◌≡◌, ◌≢◌, ℕ, zero, suc, ◌+◌, ◌
 use Rattle.std.proofs.Common.{map, set, count_by, refl, sym, ap, ◌∙◌, arith, ◌&&◌}
 use Rattle.std.specs.{Prelude.slice_get, Prelude.if◌then◌else◌, Option.option_map, declared.option.Option.TheVariants.Some}
 use Rattle.std.proofs.lemmas.{List.length-map, Bool.eq-eqb, Bool.true≢false, Bool.or_right}
+use Rattle.std.proofs.lemmas.Option.{get_or_from_slice_get}
 use Rattle.block_pool.proofs.{Grants.length-marked, Tallies.count_more}
 use Rattle.graph_model.specs.declared.batches.NamedOp.{NamedOp}
 use Rattle.graph_version.specs.Versions.{is_in}
@@ -10,7 +11,7 @@ use Rattle.pin_copy.specs.{declared.copies.PinCopy.PinCopy, Copies.needs}
 use Rattle.block_pool.specs.Pools.{Status, Free, Granted, Used, Retired, is_free, is_retired, is_past, recycled, retired}
 use Rattle.block_pool.specs.Pools.{is_free_at, is_born_at, marked, changed}
 use Rattle.epoch_blocks.specs.Blocks.{all_differ}
-use Rattle.epoch_blocks.proofs.Lists.{set_else, get_at, all_listed}
+use Rattle.epoch_blocks.proofs.Lists.{set_else, all_listed}
 use Rattle.store_steps.specs.Desks.{DeskView, IsAccepted, IsCollected, AcceptedCounts, CollectedCounts, is_retired_by, birth_of, birth_at}
 use Rattle.store_steps.specs.Desks.{ledger_of}
 use Rattle.store_steps.proofs.{NumberLists.differ_head, NumberLists.differ_tail, CollectedDesk.past_and_left}
@@ -97,7 +98,7 @@ retired_counts : (p : Status → Bool) (number : ℕ) (births : ℕ → ℕ) (ns
 retired_counts p number births [] pool never apart have = omega arith
 retired_counts p number births (n ∷ ns) pool never apart have =
     let at = born_head pool births n ns have in
-    let there : get_or pool n Granted ≡ Used (births n) = get_at pool n (Used (births n)) Granted at in
+    let there : get_or pool n Granted ≡ Used (births n) = get_or_from_slice_get pool n (Used (births n)) Granted at in
     let dated : Status = Retired (births n) number in
     let one = count_set p pool n (Used (births n)) dated at in
     let a : (let k : ℕ = cond (p (Used (births n))) 1 0 in k) ≡ 0 = ap (λ b. cond b 1 0) (never (births n)) in
@@ -116,7 +117,7 @@ retired_alike : (p : Status → Bool) (number : ℕ) (births : ℕ → ℕ) (ns 
 retired_alike p number births [] pool same apart have = refl
 retired_alike p number births (n ∷ ns) pool same apart have =
     let at = born_head pool births n ns have in
-    let there : get_or pool n Granted ≡ Used (births n) = get_at pool n (Used (births n)) Granted at in
+    let there : get_or pool n Granted ≡ Used (births n) = get_or_from_slice_get pool n (Used (births n)) Granted at in
     let dated : Status = Retired (births n) number in
     let one = count_set p pool n (Used (births n)) dated at in
     let a : (let k : ℕ = cond (p (Used (births n))) 1 0 in k) ≡ cond (p dated) 1 0 = ap (λ b. cond b 1 0) (same (births n)) in
@@ -149,7 +150,7 @@ dropped_have : (pool : List Status) (number : ℕ) (taken dropped : List ℕ) �
     → AllBorn (marked taken (Used number) pool) (birth_at pool) dropped
 dropped_have pool number taken dropped legal m is =
     let born = born_is (slice_get pool m) (born_in pool taken dropped legal m is) in
-    let here : birth_at pool m ≡ born.0 = ap birth_of (get_at pool m (Used born.0) Granted born.1) in
+    let here : birth_at pool m ≡ born.0 = ap birth_of (get_or_from_slice_get pool m (Used born.0) Granted born.1) in
     marked_at taken (Used number) pool m
     ∙ ap (λ t. if t then option_map (λ _. Used number) (slice_get pool m) else slice_get pool m)
     (not_taken pool taken dropped legal m is)

@@ -13,7 +13,7 @@ use Rattle.seat_board.specs.Board.{BoardState, IsBoard, pin_at, with_pin, unsett
 use Rattle.seat_board.specs.declared.board.Pin.{Pin as SeatPin}
 use Rattle.seat_board.specs.declared.board.TheConstants.{SEATS}
 use Rattle.store_steps.specs.Desks.{DeskView}
-use Rattle.store_steps.specs.Shown.{Shows}
+use Rattle.store_steps.specs.Shown.{ShowsWorld}
 
 -- a session's pin as a seat has it, settled or not
 abbrev pub seat_pin : SessionState → Option SeatPin
@@ -32,7 +32,7 @@ pub record ShowsBoard (b : BoardState) (w : World) : Type 0 where
 abbrev pub ShowsIfDone : World → Event → BoardState → PinCopy → Type 0
 ShowsIfDone w event new copy =
     (after : World) → step w event ≡ Some after
-    → ShowsBoard new after × ((d : DeskView) → Shows d w → Shows d after) × (after.copy ≡ copy)
+    → ShowsBoard new after × ((d : DeskView) → ShowsWorld d w → ShowsWorld d after) × (after.copy ≡ copy)
 
 -- pinning a seat is Pin of its session
 abbrev pub PinsAsMachine : Type 0

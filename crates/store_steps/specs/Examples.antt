@@ -22,7 +22,7 @@ use Rattle.epoch_core.specs.Worlds.{World, empty_opening, start_world, session_o
 use Rattle.seat_board.specs.Board.{BoardState, no_pins, with_pin, unsettled}
 use Rattle.store_steps.specs.Journal.{Entry, Applied, Collected, Ledger, opened_ledger, replay}
 use Rattle.store_steps.specs.Desks.{DeskView, desk_after, collections}
-use Rattle.store_steps.specs.Shown.{Shows}
+use Rattle.store_steps.specs.Shown.{ShowsWorld}
 use Rattle.store_steps.specs.Boards.{ShowsBoard}
 use Rattle.store_steps.specs.Steps.{all_done, posting, recycling}
 use Rattle.store_steps.specs.Opening.{opened_desk, opened_start}
@@ -147,9 +147,9 @@ pub record AreExamples : Type 0 where
   pub collected_late : replay (two_batches ++ Collected (unpinned 3) 1 ∷ []) four_free ≡ None
   pub collected_nothing : replay (two_batches ++ Collected (unpinned 1) 0 ∷ []) four_free ≡ None
   -- the desk shows the world after the edge; not one in which block 1 is fresh, or was born later
-  pub desk : Shows desk_of_edge world_of_edge
-  pub later : (w : World) → Shows desk_of_edge (record w { status = Free ∷ Used 2 ∷ Free ∷ [] }) → ⊥
-  pub fresh : (w : World) → Shows desk_of_edge (record w { status = Free ∷ Fresh ∷ Free ∷ [] }) → ⊥
+  pub desk : ShowsWorld desk_of_edge world_of_edge
+  pub later : (w : World) → ShowsWorld desk_of_edge (record w { status = Free ∷ Used 2 ∷ Free ∷ [] }) → ⊥
+  pub fresh : (w : World) → ShowsWorld desk_of_edge (record w { status = Free ∷ Fresh ∷ Free ∷ [] }) → ⊥
   -- the events of the batch, of which Take and Fill are done from the start
   pub posted : posting desk_of_edge.last (put_edge (pos 1) 1) (1 ∷ [])
       ≡ Take 1 ∷ Fill 1 (edge_of (pos 1) 1) ∷ Post (put_edge (pos 1) 1) (1 ∷ []) ∷ []

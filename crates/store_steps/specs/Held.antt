@@ -4,8 +4,8 @@ use Rattle.graph_model.specs.Step.{left_by}
 use Rattle.block_pool.specs.Pools.{is_free, is_past, passes}
 use Rattle.epoch_core.specs.declared.events.Event.{Event}
 use Rattle.epoch_blocks.specs.Blocks.{is_listed}
-use Rattle.epoch_core.specs.Worlds.{World, State, IsStart, session_of, held_in}
-use Rattle.epoch_blocks.specs.Versions.{Shows as ShowsGraph, blocks_at, edges_of}
+use Rattle.epoch_core.specs.Worlds.{World, MachineState, IsStart, session_of, held_in}
+use Rattle.epoch_blocks.specs.Versions.{AreEdgesOf, blocks_at, edges_of}
 use Rattle.pin_copy.specs.declared.copies.PinCopy.{PinCopy}
 use Rattle.store_steps.specs.Desks.{DeskView}
 use Rattle.store_steps.specs.Reached.{Store, world_by, IsReached}
@@ -14,7 +14,7 @@ use Rattle.store_steps.specs.Reached.{Store, world_by, IsReached}
 -- batches leave; and none of its blocks is free, or freed by a collection by the copy made last
 pub record IsSnapshot (d : DeskView) (copy : PinCopy) (w : World) (n : ℕ) : Type 0 where
   pub within : n ≤ length d.last.batches
-  pub shown : ShowsGraph (edges_of w.heap (blocks_at w.opening w.versions n)) (left_by (take n d.last.batches) d.last.opening)
+  pub shown : AreEdgesOf (edges_of w.heap (blocks_at w.opening w.versions n)) (left_by (take n d.last.batches) d.last.opening)
   pub in_use : (c : ℕ) → IsTrue (is_listed c (blocks_at w.opening w.versions n)) → passes is_free (slice_get d.pool c) ≡ false
   pub kept : (c : ℕ) → IsTrue (is_listed c (blocks_at w.opening w.versions n))
       → passes (is_past copy) (slice_get d.pool c) ≡ false
@@ -22,6 +22,6 @@ pub record IsSnapshot (d : DeskView) (copy : PinCopy) (w : World) (n : ℕ) : Ty
 -- whatever the start and the run: the version that a session holds is such a one
 abbrev pub HeldIsSnapshot : Type 0
 HeldIsSnapshot =
-    (start : State) (events : List Event) (s : Store) (seat n : ℕ) → IsStart start → IsReached start.world events s
+    (start : MachineState) (events : List Event) (s : Store) (seat n : ℕ) → IsStart start → IsReached start.world events s
     → held_in (session_of (world_by start.world events) seat) ≡ Some n
     → IsSnapshot s.desk s.copy (world_by start.world events) n

@@ -9,7 +9,7 @@ use Rattle.epoch_core.specs.Runs.{run}
 use Rattle.graph_model.specs.declared.requests.Request.{Request}
 use Rattle.seat_board.specs.Board.{BoardState}
 use Rattle.store_steps.specs.Desks.{DeskView}
-use Rattle.store_steps.specs.Shown.{Shows}
+use Rattle.store_steps.specs.Shown.{ShowsWorld}
 use Rattle.store_steps.specs.Boards.{ShowsBoard}
 use Rattle.store_steps.specs.Steps.{all_done}
 
@@ -20,8 +20,8 @@ DoneIsRun = (events : List Event) (w after : World) → all_done events w ≡ So
 -- a step that neither the desk nor the board sees
 abbrev pub IsUnseen : Event → Type 0
 IsUnseen event =
-    (d : DeskView) (b : BoardState) (w after : World) → step w event ≡ Some after → Shows d w → ShowsBoard b w
-    → Shows d after × ShowsBoard b after × (after.copy ≡ w.copy)
+    (d : DeskView) (b : BoardState) (w after : World) → step w event ≡ Some after → ShowsWorld d w → ShowsBoard b w
+    → ShowsWorld d after × ShowsBoard b after × (after.copy ≡ w.copy)
 
 -- entering, asking, reading and replying are such steps
 pub record ReadersAreUnseen : Type 0 where

@@ -6,11 +6,11 @@ use Rattle.row_pages.specs.Rows.{blocks_of, numbers_of}
 use Rattle.graph_version.specs.Versions.{VersionView, IsVersion, empty_version}
 use Rattle.graph_version.specs.Edges.{edges_in_block}
 use Rattle.block_pool.specs.Pools.{Free, Used, marked}
-use Rattle.epoch_core.specs.Worlds.{State, IsStart, start_world}
+use Rattle.epoch_core.specs.Worlds.{MachineState, IsStart, start_world}
 use Rattle.epoch_core.specs.Opened.{Lists, IsOpening, opened_state}
 use Rattle.seat_board.specs.Board.{no_pins}
 use Rattle.store_steps.specs.Desks.{DeskView, IsDesk}
-use Rattle.store_steps.specs.Shown.{Shows}
+use Rattle.store_steps.specs.Shown.{ShowsWorld}
 use Rattle.store_steps.specs.Boards.{ShowsBoard}
 
 -- version 0, an empty journal, and all blocks free but those of version 0, which have birth 0
@@ -33,13 +33,13 @@ abbrev pub lists_of : VersionView → Lists
 lists_of v = map (λ b. (b.number, edges_in_block b)) (blocks_of v.rows)
 
 -- the machine's start over this content, in the blocks of this version
-abbrev pub opened_start : ℕ → ℕ → Content → VersionView → State
+abbrev pub opened_start : ℕ → ℕ → Content → VersionView → MachineState
 opened_start sessions blocks content v = opened_state sessions blocks content (lists_of v)
 
 -- at its opening the desk is one, and desk and board show a start of the machine, with which it opens where the content is one
 pub record OpensAsMachine (sessions blocks : ℕ) (v : VersionView) (content : Content) : Type 0 where
   pub desk : IsDesk (opened_desk blocks v)
-  pub shown : Shows (opened_desk blocks v) (opened_start sessions blocks content v).world
+  pub shown : ShowsWorld (opened_desk blocks v) (opened_start sessions blocks content v).world
   pub board : ShowsBoard no_pins (opened_start sessions blocks content v).world
   pub start : IsStart (opened_start sessions blocks content v)
   pub opening : IsContent content → IsOpening blocks content (lists_of v)
@@ -47,5 +47,5 @@ pub record OpensAsMachine (sessions blocks : ℕ) (v : VersionView) (content : C
 -- so it is over the version without blocks, where the machine starts with all blocks free
 pub record OpensBlank (sessions blocks : ℕ) : Type 0 where
   pub desk : IsDesk (opened_desk blocks empty_version)
-  pub shown : Shows (opened_desk blocks empty_version) (start_world sessions blocks)
+  pub shown : ShowsWorld (opened_desk blocks empty_version) (start_world sessions blocks)
   pub board : ShowsBoard no_pins (start_world sessions blocks)

@@ -11,7 +11,7 @@ use Rattle.seat_board.specs.Board.{BoardState, IsBoard, no_pins, pin_at, with_pi
 use Rattle.seat_board.specs.declared.board.Pin.{Pin as SeatPin}
 use Rattle.seat_board.specs.declared.board.TheConstants.{SEATS}
 use Rattle.store_steps.specs.Desks.{DeskView}
-use Rattle.store_steps.specs.Shown.{Shows}
+use Rattle.store_steps.specs.Shown.{ShowsWorld}
 use Rattle.store_steps.specs.Boards.{ShowsBoard, raised_board}
 use Rattle.store_steps.specs.Steps.{Takes, TakesAt}
 
@@ -43,7 +43,7 @@ raised_store s = record {
 
 -- the store shows the world that these events leave, whose copy of the pins is the store's
 pub record IsReached (start : World) (events : List Event) (s : Store) : Type 0 where
-  pub desk : Shows s.desk (world_by start events)
+  pub desk : ShowsWorld s.desk (world_by start events)
   pub board : ShowsBoard s.board (world_by start events)
   pub copied_is : (world_by start events).copy ≡ s.copy
 
@@ -57,7 +57,7 @@ IsReaders start event = (s : Store) (events : List Event) → Leads start events
 
 -- a store whose desk shows the start is reached by no events, and each call leads to what it leaves by its events
 pub record StaysReached (start : World) : Type 0 where
-  pub opening : (d : DeskView) → Shows d start → IsReached start [] (opened_store d)
+  pub opening : (d : DeskView) → ShowsWorld d start → IsReached start [] (opened_store d)
   -- the desk's calls
   pub applied :
       (s : Store) (next : DeskView) (events more : List Event) → Takes s.desk more next

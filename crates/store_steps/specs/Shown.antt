@@ -27,7 +27,7 @@ SameStatus _ _ = ⊥
 
 -- the desk shows this world: its opening graph and the blocks of it, its batches, the list of its last version's blocks, the
 -- edges in these, and what each block number is
-pub record Shows (d : DeskView) (w : World) : Type 0 where
+pub record ShowsWorld (d : DeskView) (w : World) : Type 0 where
   pub opening : opening_graph w.opening ≡ d.last.opening
   pub opened : w.opening.blocks ≡ d.opened
   pub batches : map (λ v. v.batch) w.versions ≡ d.last.batches

@@ -16,7 +16,7 @@ use Rattle.epoch_core.specs.declared.events.Event.TheVariants.{Take, Fill, Post,
 use Rattle.epoch_core.specs.Worlds.{World}
 use Rattle.epoch_core.specs.Machine.{step}
 use Rattle.store_steps.specs.Desks.{DeskView, IsAccepted}
-use Rattle.store_steps.specs.Shown.{Shows}
+use Rattle.store_steps.specs.Shown.{ShowsWorld}
 
 -- the world after these events, all of them done; none where one of them is skipped
 abbrev pub all_done : List Event → World → Option World
@@ -39,14 +39,14 @@ posting v batch taken = flat_map filling (fresh_in v taken) ++ Post batch (numbe
 pub record IsTaken (w : World) (events : List Event) (new : DeskView) : Type 0 where
   pub after : World
   pub done : all_done events w ≡ Some after
-  pub shown : Shows new after
+  pub shown : ShowsWorld new after
   pub floor : after.floor ≡ w.floor
   pub copy : after.copy ≡ w.copy
   pub sessions : after.sessions ≡ w.sessions
 
 -- so they do in each world that the desk showed before
 abbrev pub Takes : DeskView → List Event → DeskView → Type 0
-Takes old events new = (w : World) → Shows old w → IsTaken w events new
+Takes old events new = (w : World) → ShowsWorld old w → IsTaken w events new
 
 -- the numbers that are retired and not needed by the copy, rising
 abbrev pub past_numbers : PinCopy → List Status → List ℕ
@@ -59,7 +59,7 @@ recycling copy pool = map Recycle (past_numbers copy pool)
 -- these events are all done in worlds with this copy, and afterwards no further block goes
 abbrev pub TakesAt : PinCopy → DeskView → List Event → DeskView → Type 0
 TakesAt copy old events new =
-    (w : World) → Shows old w → w.copy ≡ copy
+    (w : World) → ShowsWorld old w → w.copy ≡ copy
     → (taken : IsTaken w events new) × ((n : ℕ) → step taken.after (Recycle n) ≡ None)
 
 -- the desk accepted the batch, which is those steps of the machine

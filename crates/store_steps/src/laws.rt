@@ -9,7 +9,7 @@ ghost use Rattle.edge_block.specs.Slots.{BlockView};
 ghost use Rattle.row_pages.specs.Rows.{numbers_of};
 ghost use Rattle.graph_version.specs.Versions.{VersionView, empty_version, is_in};
 ghost use Rattle.pin_copy.specs.declared.copies.PinCopy.{PinCopy};
-ghost use Rattle.epoch_core.specs.Worlds.{State, IsStart, start_world};
+ghost use Rattle.epoch_core.specs.Worlds.{MachineState, IsStart, start_world};
 ghost use Rattle.block_pool.specs.Pools.{Free, Granted, Used, retired, is_free_at, is_born_at, marked, changed};
 ghost use Rattle.store_steps.specs.Journal.{Entry, Applied, Ledger, entered, replay};
 ghost use Rattle.store_steps.specs.Desks.{DeskView, IsDesk, IsAppliedTo, IsAccepted, IsCollected, AcceptedCounts};
@@ -114,7 +114,7 @@ pub fn law_histories()
 /// - `reached`: from each of the machine's starts.
 /// - `blank`: the opening over no blocks is one, where all blocks are free.
 pub fn law_stays_reached()
-    ensures reached { (start : State) → IsStart start → StaysReached start.world }
+    ensures reached { (start : MachineState) → IsStart start → StaysReached start.world }
     ensures blank { (sessions blocks : ℕ)
         → IsReached (start_world sessions blocks) [] (opened_store (opened_desk blocks empty_version)) }
 {}

@@ -2,12 +2,12 @@
 use Rattle.std.proofs.Common.{◌≡◌, ℕ, ◌<◌, List, [], ◌∷◌, ◌++◌, append-nil, refl, sym, subst, ◌∙◌, arith}
 use Rattle.std.proofs.lemmas.List.Elements.{All-nil, All-cons}
 use Rattle.graph_model.specs.{Graph.IsContent, Graph.graph_of, declared.ids.Edge.Edge, declared.contents.Content.Content}
-use Rattle.epoch_blocks.specs.Versions.{Shows}
+use Rattle.epoch_blocks.specs.Versions.{AreEdgesOf}
 use Rattle.epoch_core.specs.Opened.{IsOpening}
 
-shows_all : (content : Content) (edges : List Edge) → IsContent content → edges ≡ content.edges → Shows edges (graph_of content)
+shows_all : (content : Content) (edges : List Edge) → IsContent content → edges ≡ content.edges → AreEdgesOf edges (graph_of content)
 shows_all content edges is same =
-    subst (λ es. Shows es (graph_of content)) (sym same) (record { once = is.keys_distinct; same = refl })
+    subst (λ es. AreEdgesOf es (graph_of content)) (sym same) (record { once = is.keys_distinct; same = refl })
 
 pub in_one : (blocks block : ℕ) (content : Content) (edges : List Edge) → IsContent content → block < blocks
     → edges ≡ content.edges → IsOpening blocks content ((block, edges) ∷ [])

@@ -5,14 +5,14 @@ use Rattle.epoch_blocks.specs.Blocks.{Stepped, changed_at, recycled, taken}
 use Rattle.epoch_core.specs.declared.{events.Event.Event, states.SessionState.SessionState}
 use Rattle.epoch_core.specs.declared.events.Event.TheVariants.{Take, Fill, Post, Recycle, Pin, Settle, Ask}
 use Rattle.epoch_core.specs.declared.events.Event.TheVariants.{Release}
-use Rattle.epoch_core.specs.{Worlds.State, Runs.Steps, Cores.state_of}
+use Rattle.epoch_core.specs.{Worlds.MachineState, Runs.Steps, Cores.state_of}
 use Rattle.epoch_core.specs.Machine.{takes_memory, to_ask, to_pin, to_release, to_settle, with_sessions}
 use Rattle.epoch_core.proofs.Stepping.{changed_by, moved_by, ok_also, err_always}
 use Rattle.epoch_core.proofs.advancing.advance.Goals as goal
 
 pub returns-in-Take-clause-steps : goal.returns-in-Take-clause-steps
 returns-in-Take-clause-steps c =
-    let old : State = state_of c.args.parts.now in
+    let old : MachineState = state_of c.args.parts.now in
     changed_by old (Take c.in-Take.block) c.args.event.now c.in-Take.block taken c.take_block.result c.take_block.new.status.items
     c.in-Take.is refl refl c.take_block.ensures
 
@@ -21,7 +21,7 @@ returns-in-Take-clause-contents c = c.requires.contents
 
 pub returns-in-Recycle-clause-steps : goal.returns-in-Recycle-clause-steps
 returns-in-Recycle-clause-steps c =
-    let old : State = state_of c.args.parts.now in
+    let old : MachineState = state_of c.args.parts.now in
     changed_by old (Recycle c.in-Recycle.block) c.args.event.now c.in-Recycle.block (recycled old.world.copy) c.recycle_block.result c.recycle_block.new.status.items
     c.in-Recycle.is refl refl c.recycle_block.ensures
 
@@ -30,7 +30,7 @@ returns-in-Recycle-clause-contents c = c.requires.contents
 
 pub returns-in-Pin-clause-steps : goal.returns-in-Pin-clause-steps
 returns-in-Pin-clause-steps c =
-    let old : State = state_of c.args.parts.now in
+    let old : MachineState = state_of c.args.parts.now in
     moved_by old (Pin c.in-Pin.session) c.args.event.now c.in-Pin.session (to_pin old.world.floor) c.pin.result c.pin.new.sessions.items
     c.in-Pin.is refl refl c.pin.ensures
 
@@ -39,7 +39,7 @@ returns-in-Pin-clause-contents c = c.requires.contents
 
 pub returns-in-Settle-clause-steps : goal.returns-in-Settle-clause-steps
 returns-in-Settle-clause-steps c =
-    let old : State = state_of c.args.parts.now in
+    let old : MachineState = state_of c.args.parts.now in
     moved_by old (Settle c.in-Settle.session) c.args.event.now c.in-Settle.session to_settle c.settle.result c.settle.new.sessions.items
     c.in-Settle.is refl refl c.settle.ensures
 
@@ -48,7 +48,7 @@ returns-in-Settle-clause-contents c = c.requires.contents
 
 pub returns-in-Release-clause-steps : goal.returns-in-Release-clause-steps
 returns-in-Release-clause-steps c =
-    let old : State = state_of c.args.parts.now in
+    let old : MachineState = state_of c.args.parts.now in
     moved_by old (Release c.in-Release.session) c.args.event.now c.in-Release.session to_release c.release.result c.release.new.sessions.items
     c.in-Release.is refl refl c.release.ensures
 
@@ -133,7 +133,7 @@ returns-in-Reply-clause-contents c = c.reply_to.ensures.contents
 
 pub returns-in-Ask-clause-steps : goal.returns-in-Ask-clause-steps
 returns-in-Ask-clause-steps c =
-    let old : State = state_of c.args.parts.now in
+    let old : MachineState = state_of c.args.parts.now in
     let request = c.in-Ask.request in
     ok_also c.ask.result (λ outcome. Stepped (changed_at (to_ask request) old.world.sessions c.in-Ask.session) outcome
     old.world.sessions c.ask.new.sessions.items)
@@ -146,8 +146,8 @@ returns-in-Ask-clause-steps c =
 
 pub returns-in-Ask-clause-unchanged : goal.returns-in-Ask-clause-unchanged
 returns-in-Ask-clause-unchanged c =
-    let old : State = state_of c.args.parts.now in
-    let with : List SessionState → State = λ sessions. record { world = with_sessions old.world sessions; replies = old.replies } in
+    let old : MachineState = state_of c.args.parts.now in
+    let with : List SessionState → MachineState = λ sessions. record { world = with_sessions old.world sessions; replies = old.replies } in
     on_err_weaker c.ask.result (λ same. ap with same) c.ask.ensures.unchanged
 
 pub returns-in-Ask-clause-memory : goal.returns-in-Ask-clause-memory

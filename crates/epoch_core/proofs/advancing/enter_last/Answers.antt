@@ -1,13 +1,13 @@
 use Rattle.std.proofs.Common.{◌≡◌, length, refl, subst, arith}
 use Rattle.epoch_blocks.specs.Blocks.{Stepped, changed_at}
 use Rattle.epoch_core.specs.declared.events.Event.TheVariants.{Enter}
-use Rattle.epoch_core.specs.{Worlds.State, Cores.state_of, Machine.to_enter}
+use Rattle.epoch_core.specs.{Worlds.MachineState, Cores.state_of, Machine.to_enter}
 use Rattle.epoch_core.proofs.Stepping.{moved_by}
 use Rattle.epoch_core.proofs.advancing.enter_last.Goals as goal
 
 pub returns-clause-steps : goal.returns-clause-steps
 returns-clause-steps c =
-    let old : State = state_of c.args.parts.now in
+    let old : MachineState = state_of c.args.parts.now in
     let last : c.len-last.result ≡ length old.world.versions = omega (arith, c.len-last.ensures, c.args.parts.now.versions.ok.0) in
     moved_by old (Enter c.args.session) (Enter c.args.session) c.args.session (to_enter (length old.world.versions)) c.enter.result
     c.enter.new.sessions.items refl refl refl

@@ -1,13 +1,13 @@
 use Rattle.std.proofs.Common.{refl, subst}
 use Rattle.epoch_blocks.specs.Blocks.{Stepped, filled}
 use Rattle.epoch_core.specs.declared.events.Event.TheVariants.{Fill}
-use Rattle.epoch_core.specs.{Worlds.State, Cores.state_of, Machine.with_heap}
+use Rattle.epoch_core.specs.{Worlds.MachineState, Cores.state_of, Machine.with_heap}
 use Rattle.epoch_core.proofs.Stepping.{steps_by}
 use Rattle.epoch_core.proofs.advancing.fill.Goals as goal
 
 pub returns-clause-steps : goal.returns-clause-steps
 returns-clause-steps c =
-    let old : State = state_of c.args.parts.now in
+    let old : MachineState = state_of c.args.parts.now in
     steps_by old (Fill c.args.block c.args.edges.now) (Fill c.args.block c.args.edges.now) (with_heap old.world)
     (filled old.world.status old.world.heap c.args.block c.args.edges.now) c.in_ok-step.step old.world.heap
     c.fill_block.new.heap.items refl refl refl refl

@@ -1,13 +1,13 @@
 use Rattle.std.proofs.Common.{refl, subst}
 use Rattle.epoch_blocks.specs.Blocks.{Stepped, changed_at}
 use Rattle.epoch_core.specs.declared.events.Event.TheVariants.{Read}
-use Rattle.epoch_core.specs.{Worlds.State, Cores.state_of, Machine.to_read}
+use Rattle.epoch_core.specs.{Worlds.MachineState, Cores.state_of, Machine.to_read}
 use Rattle.epoch_core.proofs.Stepping.{moved_by}
 use Rattle.epoch_core.proofs.advancing.read_next.Goals as goal
 
 pub returns-clause-steps : goal.returns-clause-steps
 returns-clause-steps c =
-    let old : State = state_of c.args.parts.now in
+    let old : MachineState = state_of c.args.parts.now in
     moved_by old (Read c.args.session) (Read c.args.session) c.args.session
     (to_read old.world.opening old.world.heap old.world.versions) c.in_ok-step.step c.read.new.sessions.items refl refl refl
     (subst (λ heap. Stepped (changed_at (to_read old.world.opening heap old.world.versions) old.world.sessions c.args.session)

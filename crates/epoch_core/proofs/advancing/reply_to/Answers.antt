@@ -1,7 +1,7 @@
 use Rattle.std.proofs.Common.{◌≡◌, sym, subst}
 use Rattle.std.specs.{Prelude.MatchOption, Prelude.slice_get, Prelude.slice_index_or, Option.option_and_then}
 use Rattle.epoch_blocks.specs.Blocks.{Stepped, changed_at}
-use Rattle.epoch_core.specs.{declared.states.SessionState.TheVariants.Idle, Machine.ReadsContent, Worlds.State, Cores.state_of}
+use Rattle.epoch_core.specs.{declared.states.SessionState.TheVariants.Idle, Machine.ReadsContent, Worlds.MachineState, Cores.state_of}
 use Rattle.epoch_core.specs.Machine.{IsAnswered, question_in, to_reply, with_sessions}
 use Rattle.epoch_core.proofs.{Read.reads_content, Stepping.stepped_in}
 use Rattle.epoch_core.proofs.advancing.reply_to.Goals as goal
@@ -14,7 +14,7 @@ reply-requires-clause-content c =
 
 pub returns-clause-steps : goal.returns-clause-steps
 returns-clause-steps c =
-    let old : State = state_of c.args.parts.now in
+    let old : MachineState = state_of c.args.parts.now in
     record {
       world = stepped_in (with_sessions old.world)
           (changed_at (to_reply old.world.opening old.world.versions) old.world.sessions c.args.session) c.in_ok-step.step

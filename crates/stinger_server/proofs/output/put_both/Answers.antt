@@ -1,4 +1,5 @@
-use Rattle.stinger_server.proofs.Writing.{appends_then, on_err, on_err_map, on_ok_map, part_longer, part_then}
+use Rattle.std.proofs.lemmas.Result.{on_err_weaker}
+use Rattle.stinger_server.proofs.Writing.{appends_then, on_err, on_ok_map, part_longer, part_then}
 use Rattle.stinger_server.proofs.output.put_both.Goals as goal
 
 pub returns-in_err-put-clause-part : goal.returns-in_err-put-clause-part
@@ -10,4 +11,4 @@ returns-clause-whole g c =
 
 pub returns-clause-part : goal.returns-clause-part
 returns-clause-part g c =
-    on_err_map _ _ _ (part_then _ _ _ c.args.text.now c.args.end.now c.in_ok-put.ensures.whole) c.put_flushed.ensures.part
+    on_err_weaker _ (part_then _ _ _ c.args.text.now c.args.end.now c.in_ok-put.ensures.whole) c.put_flushed.ensures.part
