@@ -26,6 +26,7 @@ impl ViewEdges for VersionEdges<'_> {
         self.version.names().len()
     }
 
+    #[inline(always)]
     fn list_targets(&self, source: u32, targets: &mut Vec<u32>) -> Result<(), AllocError> {
         let _number = self.version.number();
         targets.clear();

@@ -10,7 +10,7 @@ use std::marker::Model;
 const ROOM: usize = 72;
 
 /// The end of a row. It is written from its last byte to its first, so that digits are written where they stand, and goes
-/// into the lines by one copy.
+/// behind the row's name by one copy.
 #[derive(Drop)]
 pub(crate) struct RowEnd {
     bytes: [u8; ROOM],
@@ -39,6 +39,7 @@ impl RowEnd {
     }
 
     /// Puts a space and a number before what there is.
+    #[inline(always)]
     pub(crate) fn put(&mut self, number: u64)
         requires { length self.old ≤ 48 }
         ensures put { self.new ≡ codes " " ++ (decimal number ++ self.old) }
@@ -49,6 +50,7 @@ impl RowEnd {
     }
 
     /// Puts a space and a number that may be below zero before what there is.
+    #[inline(always)]
     pub(crate) fn put_signed(&mut self, number: i64)
         requires { length self.old ≤ 48 }
         ensures put { self.new ≡ codes " " ++ (signed_decimal number ++ self.old) }
@@ -62,6 +64,7 @@ impl RowEnd {
     }
 
     /// Puts digits before what there is.
+    #[inline(always)]
     fn put_digits(&mut self, number: u64)
         requires { length self.old ≤ 48 }
         ensures put { self.new ≡ decimal number ++ self.old }
@@ -71,6 +74,7 @@ impl RowEnd {
     }
 
     /// Puts a byte before what there is.
+    #[inline(always)]
     fn put_byte(&mut self, byte: u8)
         requires room { length self.old < 72 }
         requires ascii { byte < 128 }

@@ -4,6 +4,7 @@
 
 mod ends;
 mod lines;
+mod page;
 mod tables;
 mod words;
 

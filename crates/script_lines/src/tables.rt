@@ -12,6 +12,8 @@ ghost use Rattle.version_answers.specs.Numbered.{named};
 
 use crate::ends::RowEnd;
 use crate::lines::edge_line;
+use crate::page::{PAGE, flush, put};
+use arrayvec::ArrayString;
 use graph_model::{Degree, VertexId};
 use std::alloc::AllocError;
 use version_answers::NumberedReply;
@@ -61,9 +63,16 @@ fn level_rows(
         ++ flat_map lines_of.number_line (reached names.now.names levels.now)) }
 {
     let count = names.len().min(levels.len());
+    let mut page = ArrayString::new();
     for vertex in 0..count {
-        level_line(lines, name_at(names, vertex as u32), levels[vertex])?;
+        level_line(
+            lines,
+            &mut page,
+            name_at(names, vertex as u32),
+            levels[vertex],
+        )?;
     }
+    flush(lines, &page)?;
     Ok(())
 }
 
@@ -100,9 +109,16 @@ fn number_rows(lines: &mut String, names: &NameBook, numbers: &[u32]) -> Result<
         ++ flat_map lines_of.number_line (zip names.now.names numbers.now)) }
 {
     let count = names.len().min(numbers.len());
+    let mut page = ArrayString::new();
     for vertex in 0..count {
-        number_line(lines, name_at(names, vertex as u32), numbers[vertex])?;
+        number_line(
+            lines,
+            &mut page,
+            name_at(names, vertex as u32),
+            numbers[vertex],
+        )?;
     }
+    flush(lines, &page)?;
     Ok(())
 }
 
@@ -141,10 +157,12 @@ fn label_rows(lines: &mut String, names: &NameBook, labels: &[VertexId]) -> Resu
         ++ flat_map lines_of.label_line (zip names.now.names (names_of names.now.names (numbers_of labels.now)))) }
 {
     let count = names.len().min(labels.len());
+    let mut page = ArrayString::new();
     for vertex in 0..count {
         let name = name_at(names, vertex as u32);
-        label_line(lines, name, name_at(names, labels[vertex].0))?;
+        label_line(lines, &mut page, name, name_at(names, labels[vertex].0))?;
     }
+    flush(lines, &page)?;
     Ok(())
 }
 
@@ -183,9 +201,16 @@ fn degree_rows(lines: &mut String, names: &NameBook, degrees: &[Degree]) -> Resu
         ++ flat_map lines_of.degree_line (zip names.now.names degrees.now)) }
 {
     let count = names.len().min(degrees.len());
+    let mut page = ArrayString::new();
     for vertex in 0..count {
-        degree_line(lines, name_at(names, vertex as u32), degrees[vertex])?;
+        degree_line(
+            lines,
+            &mut page,
+            name_at(names, vertex as u32),
+            degrees[vertex],
+        )?;
     }
+    flush(lines, &page)?;
     Ok(())
 }
 
@@ -213,44 +238,71 @@ fn name_at(names: &NameBook, number: u32) -> &str
 }
 
 /// The line of a name with its level, and none where it has none.
-fn level_line(lines: &mut String, name: &str, level: Option<u32>) -> Result<(), AllocError>
-    ensures { OnOk result (string_bytes lines.new ≡ string_bytes lines.old
+#[inline(always)]
+fn level_line(
+    lines: &mut String,
+    page: &mut ArrayString<PAGE>,
+    name: &str,
+    level: Option<u32>,
+) -> Result<(), AllocError>
+    ensures { OnOk result (string_bytes lines.new ++ page.new.bytes ≡ (string_bytes lines.old ++ page.old.bytes)
         ++ flat_map lines_of.number_line (option_to_list (level_row (name.now, level)))) }
 {
     match level {
-        Some(level) => number_line(lines, name, level),
+        Some(level) => number_line(lines, page, name, level),
         None => Ok(()),
     }
 }
 
 /// The line of a name with a number.
-fn number_line(lines: &mut String, name: &str, number: u32) -> Result<(), AllocError>
-    ensures { OnOk result (string_bytes lines.new ≡ string_bytes lines.old ++ lines_of.number_line (name.now, number)) }
+#[inline(always)]
+fn number_line(
+    lines: &mut String,
+    page: &mut ArrayString<PAGE>,
+    name: &str,
+    number: u32,
+) -> Result<(), AllocError>
+    ensures { OnOk result (string_bytes lines.new ++ page.new.bytes ≡ (string_bytes lines.old ++ page.old.bytes)
+        ++ lines_of.number_line (name.now, number)) }
 {
     let mut end = RowEnd::new();
     end.put(u64::from(number));
-    lines.push_str(name)?;
-    lines.push_str(end.as_str())
+    put(lines, page, name)?;
+    put(lines, page, end.as_str())
 }
 
 /// The line of a name with the name of its label.
-fn label_line(lines: &mut String, name: &str, label: &str) -> Result<(), AllocError>
-    ensures { OnOk result (string_bytes lines.new ≡ string_bytes lines.old ++ lines_of.label_line (name.now, label.now)) }
+#[inline(always)]
+fn label_line(
+    lines: &mut String,
+    page: &mut ArrayString<PAGE>,
+    name: &str,
+    label: &str,
+) -> Result<(), AllocError>
+    ensures { OnOk result (string_bytes lines.new ++ page.new.bytes ≡ (string_bytes lines.old ++ page.old.bytes)
+        ++ lines_of.label_line (name.now, label.now)) }
 {
-    lines.push_str(name)?;
-    lines.push(' ')?;
-    lines.push_str(label)?;
-    lines.push('\n')
+    put(lines, page, name)?;
+    put(lines, page, " ")?;
+    put(lines, page, label)?;
+    put(lines, page, "\n")
 }
 
 /// The line of a name with its degrees.
-fn degree_line(lines: &mut String, name: &str, degree: Degree) -> Result<(), AllocError>
-    ensures { OnOk result (string_bytes lines.new ≡ string_bytes lines.old ++ lines_of.degree_line (name.now, degree)) }
+#[inline(always)]
+fn degree_line(
+    lines: &mut String,
+    page: &mut ArrayString<PAGE>,
+    name: &str,
+    degree: Degree,
+) -> Result<(), AllocError>
+    ensures { OnOk result (string_bytes lines.new ++ page.new.bytes ≡ (string_bytes lines.old ++ page.old.bytes)
+        ++ lines_of.degree_line (name.now, degree)) }
 {
     let mut end = RowEnd::new();
     end.put_signed(degree.out_weight);
     end.put(u64::from(degree.incoming));
     end.put(u64::from(degree.outgoing));
-    lines.push_str(name)?;
-    lines.push_str(end.as_str())
+    put(lines, page, name)?;
+    put(lines, page, end.as_str())
 }

@@ -4,5 +4,5 @@ use Rattle.script_lines.specs.Lines.{degree_line}
 use Rattle.script_lines.proofs.tables.degree_rows.Given as goal
 
 abbrev pub invariant-loop-vertex : goal.invariant-loop-vertex
-invariant-loop-vertex l = string_bytes l.lines
+invariant-loop-vertex l = string_bytes l.lines ++ l.page.bytes
     ≡ string_bytes l.initial.lines ++ flat_map degree_line (take l.vertex (zip l.names.names l.degrees))

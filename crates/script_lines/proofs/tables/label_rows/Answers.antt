@@ -1,4 +1,4 @@
-use Rattle.std.proofs.Common.{◌<◌, [], length, arith, string_bytes}
+use Rattle.std.proofs.Common.{◌<◌, ◌++◌, ◌∙◌, [], length, arith, string_bytes}
 use Rattle.graph_levels.specs.Vertices.{numbers_of}
 use Rattle.graph_model.specs.Answer.{names_of}
 use Rattle.script_lines.specs.Lines.{label_line}
@@ -15,7 +15,7 @@ loop-vertex-preserved c =
     let right : k < length labels = omega (arith, c.loop-vertex-test.true, c.min-count.ensures) in
     let all : k < length (names_of names (numbers_of labels)) = omega (arith, right, length-labels names labels) in
     lines_more names (names_of names (numbers_of labels)) label_line (string_bytes c.args.lines.now)
-    (string_bytes c.loop-vertex.lines) _ k c.name_at-name.result.now [] c.name_at.result.now c.loop-vertex.invariant
+    (string_bytes c.loop-vertex.lines ++ c.loop-vertex.page.bytes) _ k c.name_at-name.result.now [] c.name_at.result.now c.loop-vertex.invariant
     c.in_ok-label_line.ensures left all c.name_at-name.ensures
     (label_at names labels k _ c.name_at.result.now right c.name_at.ensures)
 
@@ -23,8 +23,8 @@ pub returns : goal.returns
 returns c =
     let names = c.args.names.now.names in
     let labels = c.args.labels.now in
-    lines_all names (names_of names (numbers_of labels)) label_line (string_bytes c.args.lines.now)
-    (string_bytes c.loop-vertex.lines) c.loop-vertex.vertex c.loop-vertex.invariant
+    c.in_ok-flush.ensures ∙ lines_all names (names_of names (numbers_of labels)) label_line (string_bytes c.args.lines.now)
+    (string_bytes c.loop-vertex.lines ++ c.loop-vertex.page.bytes) c.loop-vertex.vertex c.loop-vertex.invariant
     (omega (
       arith,
       c.loop-vertex.auto.vertex-end,

@@ -6,6 +6,6 @@ use Rattle.script_lines.specs.Lines.{label_line}
 use Rattle.script_lines.proofs.tables.label_rows.Given as goal
 
 abbrev pub invariant-loop-vertex : goal.invariant-loop-vertex
-invariant-loop-vertex l = string_bytes l.lines
+invariant-loop-vertex l = string_bytes l.lines ++ l.page.bytes
     ≡ string_bytes l.initial.lines
     ++ flat_map label_line (take l.vertex (zip l.names.names (names_of l.names.names (numbers_of l.labels))))

@@ -13,11 +13,11 @@ loop-vertex-preserved c =
     let k = c.loop-vertex.vertex in
     let left : k < length names = omega (arith, c.loop-vertex-test.true, c.min-count.ensures, c.len.ensures.value) in
     let right : k < length levels = omega (arith, c.loop-vertex-test.true, c.min-count.ensures) in
-    level_lines_more names levels (string_bytes c.args.lines.now) (string_bytes c.loop-vertex.lines) _ k _ c.name_at.result.now
+    level_lines_more names levels (string_bytes c.args.lines.now) (string_bytes c.loop-vertex.lines ++ c.loop-vertex.page.bytes) _ k _ c.name_at.result.now
     c.name_at.ensures c.loop-vertex.invariant c.in_ok-level_line.ensures left right
 
 pub returns : goal.returns
 returns c =
-    c.loop-vertex.invariant ∙ ap (λ rows. string_bytes c.args.lines.now ++ flat_map number_line (filter_map level_row rows))
+    c.in_ok-flush.ensures ∙ c.loop-vertex.invariant ∙ ap (λ rows. string_bytes c.args.lines.now ++ flat_map number_line (filter_map level_row rows))
     (rows_all c.args.names.now.names c.args.levels.now c.loop-vertex.vertex
     (omega (arith, c.loop-vertex.auto.vertex-end, c.loop-vertex-test.false, c.min-count.ensures, c.len.ensures.value)))
