@@ -76,6 +76,16 @@ fn shows_a_posted_version_to_each_reader(rt: HostRuntime) {
     assert_eq!(rt; over_a_new_shelf(&rt, rt.alloc()), Some([0, 0, 1, 1]));
 }
 
+// The writer confirms what each reader has seen.
+fn confirm_both(writer: &mut ShelfWriter, first: &ShelfReader, second: &ShelfReader)
+    requires first { first.now.book ≡ writer.old.book }
+    requires second { second.now.book ≡ writer.old.book }
+    ensures { writer.new ≡ writer.old }
+{
+    writer.confirm(first.told());
+    writer.confirm(second.told());
+}
+
 // Posts the version, and says whether it did. The first reader learns of it, and the second looks; the writer confirms what
 // was told, and what each of them had seen before and has seen since.
 fn is_confirmed<R: Wait>(
@@ -89,16 +99,14 @@ fn is_confirmed<R: Wait>(
     requires first { IsOfOneShelf (record { book = writer.old.book; version = arc_value {X = Version} version }) first.old }
     requires second { second.old.book ≡ writer.old.book }
 {
-    writer.confirm(first.told());
-    writer.confirm(second.told());
+    confirm_both(writer, first, second);
     let Ok(told) = writer.post(rt, version) else {
         return false;
     };
     let is_learnt = first.learn(&told).is_ok();
     second.look();
     writer.confirm(&told);
-    writer.confirm(first.told());
-    writer.confirm(second.told());
+    confirm_both(writer, first, second);
     is_learnt
 }
 
