@@ -1,1 +1,4 @@
 mod Empty
+mod OneEdge
+mod TakenBack
+pub mod NoRows

@@ -1,6 +1,10 @@
-//! Tests of versions: batches planned and applied by workers, each compared with the plain application of one
-//! operation after another.
+//! Tests of public calls of the crates from graph_version to version_answers, version_shelf and store_steps, in a crate above
+//! them: a crate with tests of its own is proved once more for these.
 #![tactic(auto)]
 
 #[cfg(test)]
-mod tests;
+mod layers;
+#[cfg(test)]
+mod texts;
+#[cfg(test)]
+mod versions;

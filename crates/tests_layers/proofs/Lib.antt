@@ -1,3 +1,0 @@
-mod OneEdge
-mod TakenBack
-pub mod NoRows

@@ -1,5 +1,0 @@
-use Rattle.graph_model.specs.Graph.{IsContent}
-use Rattle.tests_versions.proofs.tests.lines.check_lines.Given as goal
-
-abbrev pub invariant-loop-line : goal.invariant-loop-line
-invariant-loop-line g l = IsContent l.content

@@ -1,5 +1,0 @@
-use Rattle.graph_model.specs.Graph.{IsContent}
-use Rattle.tests_versions.proofs.tests.turns.shares_batches_at_the_ends_of_pieces.Given as goal
-
-abbrev pub invariant-loop-number : goal.invariant-loop-number
-invariant-loop-number g l = IsContent l.content

@@ -1,0 +1,8 @@
+// Drafts, shards, shelves and laws, a module for each crate whose calls are tested, and one for tables of views.
+
+mod drafts;
+mod journals;
+mod shards;
+mod shelves;
+mod tables;
+mod workers;

@@ -1,0 +1,220 @@
+//! Tables of views from text: `WHAT SOURCE of COUNT: ARCS => TABLE` is a table of the view of so many vertices and these arcs,
+//! `SOURCE>TARGET` each. The values were written by hand from the definitions; those of a club are known from elsewhere.
+
+use crate::texts::{check_so, push_item, tell_refused};
+use graph_cores::cores_over;
+use graph_levels::{labels_over, levels_over};
+use graph_model::VertexId;
+use graph_views::{ListedArcs, ViewEdges};
+use std::alloc::{AllocError, Global};
+use std::io::Print;
+use std::process::Abort;
+
+fn arc(word: &str) -> Option<(u32, u32)> {
+    let (source, target) = word.split_once('>')?;
+    Some((source.parse().ok()?, target.parse().ok()?))
+}
+
+fn push_arc(arcs: &mut Vec<(u32, u32)>, word: &str) -> Option<()> {
+    arcs.push(arc(word)?).ok()
+}
+
+/// The view of a text: how many vertices, a colon, and the arcs, with blanks between them. Nothing where memory is refused.
+fn view_of(alloc: Global, text: &str) -> Option<ListedArcs> {
+    let (count, words) = text.split_once(':')?;
+    let count: u16 = count.parse().ok()?;
+    let mut arcs = Vec::new(alloc);
+    for word in words.split_whitespace() {
+        push_arc(&mut arcs, word)?;
+    }
+    Some(ListedArcs { count, arcs })
+}
+
+/// Each number, with a comma behind it.
+fn write_numbers(text: &mut String, numbers: &[u32]) -> Result<(), AllocError> {
+    for number in numbers {
+        push_item(text, *number, ",")?;
+    }
+    Ok(())
+}
+
+/// Each level, `-` where there is none, with a comma behind it.
+fn write_levels(text: &mut String, levels: &[Option<u32>]) -> Result<(), AllocError> {
+    for level in levels {
+        match level {
+            Some(level) => push_item(text, *level, ",")?,
+            None => text.push_str("-,")?,
+        }
+    }
+    Ok(())
+}
+
+/// The levels from a source that is a vertex.
+fn add_levels(alloc: Global, text: &mut String, edges: &ListedArcs, source: u32) -> Option<()> {
+    if source >= edges.count as u32 {
+        return None;
+    }
+    let levels = levels_over(alloc, edges, VertexId(source)).ok()?;
+    write_levels(text, levels.as_slice()).ok()
+}
+
+fn add_labels(alloc: Global, text: &mut String, edges: &ListedArcs) -> Option<()> {
+    let labels = labels_over(alloc, edges).ok()?;
+    write_numbers(text, labels.as_slice()).ok()
+}
+
+fn add_cores(alloc: Global, text: &mut String, edges: &ListedArcs) -> Option<()> {
+    let numbers = cores_over(alloc, edges).ok()?;
+    write_numbers(text, numbers.as_slice()).ok()
+}
+
+/// How many vertices there are, and the targets of a source's arcs, in place of a 7 that stood there before.
+fn add_targets(alloc: Global, text: &mut String, edges: &ListedArcs, source: u32) -> Option<()> {
+    let mut targets = Vec::new(alloc);
+    targets.push(7).ok()?;
+    edges.list_targets(source, &mut targets).ok()?;
+    push_item(text, edges.vertex_count(), ":").ok()?;
+    write_numbers(text, targets.as_slice()).ok()
+}
+
+fn add_table(alloc: Global, text: &mut String, edges: &ListedArcs, what: &str) -> Option<()> {
+    let (what, source) = what.split_once(' ').unwrap_or((what, "0"));
+    let source: u32 = source.parse().ok()?;
+    match what {
+        "levels" => add_levels(alloc, text, edges, source),
+        "labels" => add_labels(alloc, text, edges),
+        "cores" => add_cores(alloc, text, edges),
+        _ => add_targets(alloc, text, edges, source),
+    }
+}
+
+/// Whether a view has a table; nothing where memory is refused.
+fn has_table(alloc: Global, edges: &ListedArcs, what: &str, wanted: &str) -> Option<bool> {
+    let mut text = String::new(alloc);
+    add_table(alloc, &mut text, edges, what)?;
+    Some(text.as_str() == wanted)
+}
+
+/// Whether the view of a text has a table, nothing where memory is refused; and whether it is as it was then. Nothing where there
+/// was no memory for the view.
+fn told_of(alloc: Global, view: &str, what: &str, wanted: &str) -> Option<(Option<bool>, bool)> {
+    let edges = view_of(alloc, view)?;
+    let told = has_table(alloc, &edges, what, wanted);
+    let before = view_of(alloc, view)?;
+    Some((told, edges.arcs.as_slice() == before.arcs.as_slice()))
+}
+
+fn told_of_line(alloc: Global, line: &str) -> Option<(Option<bool>, bool)> {
+    let (what, rest) = line.split_once(" of ")?;
+    let (view, wanted) = rest.split_once(" =>")?;
+    told_of(alloc, view, what, wanted.trim_start())
+}
+
+/// A triangle with a tail, from its corner and from the tail's end; levels go by direction, and labels against it too; loops, and
+/// an arc twice; the shorter of two ways; trees that are joined by their ends; one vertex, and an arc to none; no vertices.
+///
+/// Core numbers: no vertices, and one without arcs; a loop and parallel arcs, one of them the other way; an arc to no vertex, and
+/// no arcs between the others; a path, by arcs in both directions; a triangle with a tail; five vertices that are joined two by
+/// two, with a sixth that hangs on; two triangles, joined by a path whose inner vertex has two neighbors.
+///
+/// Targets: an arc twice, one back, one to no vertex, and a loop.
+const LINES: &str = "\
+levels 0 of 4: 0>1 1>2 2>0 2>3 => 0,1,2,3,
+labels of 4: 0>1 1>2 2>0 2>3 => 0,0,0,0,
+levels 3 of 4: 0>1 1>2 2>0 2>3 => -,-,-,0,
+levels 0 of 2: 1>0 => 0,-,
+labels of 2: 1>0 => 0,0,
+levels 0 of 4: 0>0 0>1 0>1 2>2 => 0,1,-,-,
+labels of 4: 0>0 0>1 0>1 2>2 => 0,0,2,3,
+levels 0 of 5: 0>1 1>2 2>3 0>3 3>4 => 0,1,2,1,2,
+labels of 5: 0>1 1>2 2>3 0>3 3>4 => 0,0,0,0,0,
+levels 3 of 6: 3>4 1>2 2>4 => -,-,-,0,1,-,
+labels of 6: 3>4 1>2 2>4 => 0,1,1,1,1,5,
+levels 0 of 1: 0>1 => 0,
+labels of 1: 0>1 => 0,
+labels of 0: =>
+cores of 0: =>
+cores of 1: => 0,
+cores of 2: 0>0 0>1 0>1 1>0 => 1,1,
+cores of 3: 0>3 => 0,0,0,
+cores of 4: 0>1 2>1 2>3 => 1,1,1,1,
+cores of 4: 0>1 1>2 2>0 2>3 => 2,2,2,1,
+cores of 6: 0>1 0>2 0>3 0>4 1>2 1>3 1>4 2>3 2>4 3>4 5>0 => 4,4,4,4,4,1,
+cores of 7: 0>1 1>2 2>0 2>3 3>4 4>5 5>6 6>4 => 2,2,2,2,2,2,2,
+targets 0 of 3: 0>1 0>1 1>0 0>3 2>2 3>0 => 3:1,1,
+targets 1 of 3: 0>1 0>1 1>0 0>3 2>2 3>0 => 3:0,
+targets 2 of 3: 0>1 0>1 1>0 0>3 2>2 3>0 => 3:2,
+targets 3 of 3: 0>1 0>1 1>0 0>3 2>2 3>0 => 3:";
+
+/// Who met whom in a karate club (Zachary, An information flow model for conflict and fission in small groups, 1977), and core
+/// numbers as NetworkX 3.6 has them.
+const CLUB: &str = "\
+cores of 34: 0>1 0>2 0>3 0>4 0>5 0>6 0>7 0>8 0>10 0>11 0>12 0>13 0>17 0>19 0>21 0>31 1>2 1>3 1>7 1>13 1>17 1>19 1>21 1>30 \
+    2>3 2>7 2>8 2>9 2>13 2>27 2>28 2>32 3>7 3>12 3>13 4>6 4>10 5>6 5>10 5>16 6>16 8>30 8>32 8>33 9>33 13>33 14>32 \
+    14>33 15>32 15>33 18>32 18>33 19>33 20>32 20>33 22>32 22>33 23>25 23>27 23>29 23>32 23>33 24>25 24>27 24>31 \
+    25>31 26>29 26>33 27>33 28>31 28>33 29>32 29>33 30>32 30>33 31>32 31>33 32>33 \
+    => 4,4,4,4,3,3,3,4,4,2,3,1,2,4,2,2,2,2,2,3,2,2,2,3,3,3,2,3,3,3,4,3,4,4,";
+
+fn check_line(rt: &impl Abort, alloc: Global, line: &str) {
+    let told = told_of_line(alloc, line);
+    check_so(rt, matches!(told, Some((Some(true), true))), line);
+}
+
+#[test]
+fn small_views_have_their_tables(rt: HostRuntime) {
+    for line in LINES.lines() {
+        check_line(&rt, rt.alloc(), line);
+    }
+    check_line(&rt, rt.alloc(), CLUB);
+}
+
+/// The table is right and the view as it was, or memory was refused.
+fn check_told(rt: &(impl Abort + Print), told: Option<(Option<bool>, bool)>, line: &str) {
+    let (is_so, is_left) = told.unwrap_or((None, true));
+    check_so(rt, is_left && is_so.unwrap_or(true), line);
+    if is_so.is_none() {
+        tell_refused(rt);
+    }
+}
+
+const REFUSED: &str = "\
+levels 0 of 4: 0>1 1>2 2>0 2>3 => 0,1,2,3,
+labels of 4: 0>1 1>2 2>0 2>3 => 0,0,0,0,
+cores of 4: 0>1 1>2 2>0 2>3 => 2,2,2,1,
+targets 2 of 4: 0>1 1>2 2>0 2>3 => 4:0,3,";
+
+#[test]
+fn refused_tables_leave_the_view(rt: HostRuntime) {
+    for line in REFUSED.lines() {
+        check_told(&rt, told_of_line(rt.alloc(), line), line);
+    }
+}
+
+/// A path of so many vertices, from the last down to the first.
+fn path(alloc: Global, count: u16) -> Result<ListedArcs, AllocError> {
+    let mut arcs = Vec::new(alloc);
+    for vertex in 1..count {
+        arcs.push((vertex as u32, vertex as u32 - 1))?;
+    }
+    Ok(ListedArcs { count, arcs })
+}
+
+/// The greatest level from the last vertex of a path, and the greatest label; nothing where memory is refused.
+fn path_ends(alloc: Global, count: u16) -> Option<(Option<u32>, Option<u32>)> {
+    let edges = path(alloc, count).ok()?;
+    let last = (count as u32).checked_sub(1)?;
+    if last >= edges.count as u32 {
+        return None;
+    }
+    let far = {
+        let table = levels_over(alloc, &edges, VertexId(last)).ok()?;
+        table.first().copied()?
+    };
+    let least = labels_over(alloc, &edges).ok()?;
+    Some((far, least.last().copied()))
+}
+
+#[test]
+fn a_long_path_is_one_part(rt: HostRuntime) {
+    assert_eq!(rt; path_ends(rt.alloc(), 3000), Some((Some(2999), Some(0))));
+}

@@ -1,0 +1,17 @@
+// Most tests are texts: lines of batches, each with its outcomes and what it leaves, and of requests with their answers.
+
+mod answers;
+mod batches;
+mod gates;
+mod limits;
+mod lines;
+mod ops;
+mod plans;
+mod rebased;
+mod refusals;
+mod replies;
+mod requests;
+mod sames;
+mod steps;
+mod tables;
+mod turns;

@@ -1,0 +1,127 @@
+// A version against the content that the plain application leaves.
+
+use crate::texts::write_blocks;
+use graph_model::{Content, Edge, Name, VertexId};
+use graph_version::Version;
+use std::alloc::{AllocError, Global};
+use std::process::Abort;
+use vertex_names::NameBook;
+
+// Whether a book has a name with this number.
+fn has_name(book: &NameBook, name: &str, number: u32) -> bool {
+    match book.name(number) {
+        Some(told) => told == name && book.number(name) == Some(number),
+        None => false,
+    }
+}
+
+// The book has these names, in order, and no others.
+fn check_names(rt: &impl Abort, book: &NameBook, names: &[Name]) {
+    assert_eq!(rt; book.len(), names.len());
+    for (number, name) in names.iter().enumerate() {
+        assert!(rt; has_name(book, name.as_str(), number as u32));
+    }
+}
+
+// How many edges with this edge's kind and target its source's row lends.
+fn times_listed(version: &Version, edge: &Edge) -> usize {
+    let mut times = 0_usize;
+    for lent in version.row(edge.source) {
+        if lent.kind == edge.kind && *lent.target == edge.target.0 {
+            times = times.saturating_add(1);
+        }
+    }
+    times
+}
+
+/// Whether a version has an edge, by its key and in its source's row, where it stands once.
+pub(super) fn has_edge(version: &Version, edge: &Edge) -> bool {
+    let Some(found) = version.edge(edge.kind, edge.source, edge.target) else {
+        return false;
+    };
+    times_listed(version, edge) == 1
+        && (*found.weight, *found.first, *found.recent) == (edge.weight, edge.first, edge.recent)
+}
+
+// How many edges a vertex's row lends.
+fn edges_lent(version: &Version, source: VertexId) -> usize {
+    let mut edges = 0_usize;
+    for _lent in version.row(source) {
+        edges = edges.saturating_add(1);
+    }
+    edges
+}
+
+// How many edges a vertex's row lends: as many as its blocks have, of which each has an edge and the vertex as its
+// source.
+fn check_row(rt: &impl Abort, version: &Version, source: VertexId) -> usize {
+    let mut edges = 0_usize;
+    for block in version.row_blocks(source) {
+        assert!(rt; !block.is_empty());
+        assert_eq!(rt; block.source(), source);
+        edges = edges.saturating_add(block.len());
+    }
+    assert_eq!(rt; edges_lent(version, source), edges);
+    edges
+}
+
+// How many edges all rows lend.
+fn edges_in_rows(rt: &impl Abort, version: &Version) -> usize {
+    let mut edges = 0_usize;
+    for source in 0..version.names().len() {
+        edges = edges.saturating_add(check_row(rt, version, VertexId(source as u32)));
+    }
+    edges
+}
+
+// How many blocks all rows have.
+fn blocks_in_rows(version: &Version) -> usize {
+    let mut blocks = 0_usize;
+    for source in 0..version.names().len() {
+        blocks = blocks.saturating_add(version.row_blocks(VertexId(source as u32)).len());
+    }
+    blocks
+}
+
+// How many of the version's blocks have this number.
+fn times_numbered(version: &Version, number: u32) -> usize {
+    let mut times = 0_usize;
+    for other in version.blocks() {
+        if other == number {
+            times = times.saturating_add(1);
+        }
+    }
+    times
+}
+
+// The block numbers of the version are as many as its rows' blocks, and each stands once.
+fn check_blocks(rt: &impl Abort, version: &Version) {
+    let mut blocks = 0_usize;
+    for number in version.blocks() {
+        assert_eq!(rt; times_numbered(version, number), 1);
+        blocks = blocks.saturating_add(1);
+    }
+    assert_eq!(rt; blocks, blocks_in_rows(version));
+}
+
+/// The version has the content's names, kinds and edges, and no others.
+pub(super) fn check_same(rt: &impl Abort, version: &Version, content: &Content) {
+    check_names(rt, version.names(), content.names.as_slice());
+    check_names(rt, version.kinds(), content.kinds.as_slice());
+    let edges = content.edges.as_slice();
+    assert_eq!(rt; version.edge_count(), edges.len() as u64);
+    for edge in edges {
+        assert!(rt; has_edge(version, edge));
+    }
+    assert_eq!(rt; edges_in_rows(rt, version), edges.len());
+    check_blocks(rt, version);
+}
+
+/// The blocks of a row, in row order.
+pub(super) fn write_row(
+    text: &mut String,
+    version: &Version,
+    source: VertexId,
+) -> Result<(), AllocError> {
+    write_blocks(text, version.row_blocks(source))
+}

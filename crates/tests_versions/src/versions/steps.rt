@@ -1,0 +1,156 @@
+// Lines of batches: each is planned and applied by workers, and applied plainly.
+
+ghost use Rattle.std.specs.Prelude.{◌<◌, IfOk, OnOk};
+ghost use Rattle.row_pages.specs.Rows.{row_of};
+ghost use Rattle.graph_version.specs.Versions.{content};
+ghost use Rattle.batch_plan.specs.Planned.{IsPlan, MeetsNeitherLimit};
+ghost use Rattle.graph_model.specs.Graph.{IsContent};
+
+use super::ops::batch_of;
+use super::sames::check_same;
+use batch_apply::{Applied, Gate, PassAll, apply};
+use batch_plan::{Plan, PlanError, old_rows, plan};
+use graph_model::{Batch, Content, List, Outcome};
+use graph_version::Version;
+use reference_graph::plain_apply;
+use std::alloc::Global;
+use std::process::Abort;
+use std::sync::Arc;
+use std::thread::Threads;
+use tests_blocks::fresh_blocks;
+
+/// The content without names and edges.
+#[tactic(auto, using(crate::proofs::Empty::empty_content))]
+pub(super) fn empty(alloc: Global) -> Content
+    ensures { IsContent result }
+{
+    Content {
+        names: List::of(Vec::new(alloc)),
+        kinds: List::of(Vec::new(alloc)),
+        edges: List::of(Vec::new(alloc)),
+    }
+}
+
+// The plan of a batch over a version for so many workers.
+fn plan_of(
+    alloc: Global,
+    version: &Version,
+    batch: &Batch,
+    workers: usize,
+) -> Result<Plan, PlanError>
+    requires workers { 0 < workers }
+    ensures plan { IfOk result (IsPlan workers batch.now (content version.now) (row_of version.now.rows)) }
+    ensures limits { OnOk result (MeetsNeitherLimit batch.now (content version.now)) }
+{
+    let old = old_rows(alloc, version, batch)?;
+    plan(alloc, version, batch, &old, workers)
+}
+
+/// The plan of operations over a version for so many workers.
+pub(super) fn planned(
+    alloc: Global,
+    version: &Version,
+    ops: &str,
+    workers: usize,
+) -> Result<Plan, PlanError>
+    requires workers { 0 < workers }
+{
+    match batch_of(alloc, ops) {
+        Some(batch) => plan_of(alloc, version, &batch, workers),
+        None => Err(PlanError::OutOfMemory),
+    }
+}
+
+// What a batch leaves of a version, planned for so many workers, which pass a gate.
+fn applied_batch<R: Threads + Sync, G: Gate + Sync>(
+    rt: &R,
+    alloc: Global,
+    gate: &G,
+    workers: usize,
+    version: &Version,
+    batch: Batch,
+) -> Option<Applied>
+    requires workers { 0 < workers }
+{
+    if version.number() >= 65_536 {
+        return None;
+    }
+    let plan = plan_of(alloc, version, &batch, workers).ok()?;
+    let count = plan.blocks_needed();
+    if count > 4096 {
+        return None;
+    }
+    let blocks = fresh_blocks(alloc, version, count)?;
+    let Ok(batch) = Arc::new(alloc, batch) else {
+        return None;
+    };
+    apply(rt, alloc, gate, version, plan, batch, blocks).ok()
+}
+
+/// What operations leave of a version, planned for so many workers, which pass a gate.
+pub(super) fn applied<R: Threads + Sync, G: Gate + Sync>(
+    rt: &R,
+    alloc: Global,
+    gate: &G,
+    workers: usize,
+    version: &Version,
+    ops: &str,
+) -> Option<Applied>
+    requires workers { 0 < workers }
+{
+    match batch_of(alloc, ops) {
+        Some(batch) => applied_batch(rt, alloc, gate, workers, version, batch),
+        None => None,
+    }
+}
+
+/// As `applied`, of the version without batches.
+pub(super) fn first<R: Threads + Sync, G: Gate + Sync>(
+    rt: &R,
+    alloc: Global,
+    gate: &G,
+    workers: usize,
+    ops: &str,
+) -> Option<Applied>
+    requires workers { 0 < workers }
+{
+    applied(rt, alloc, gate, workers, &Version::empty(alloc), ops)
+}
+
+/// The outcomes of operations that are applied plainly.
+fn plain(alloc: Global, content: &mut Content, ops: &str) -> Option<Vec<Outcome>>
+    requires { IsContent content.old }
+    ensures { IsContent content.new }
+{
+    match batch_of(alloc, ops) {
+        Some(batch) => plain_apply(alloc, content, &batch).ok(),
+        None => None,
+    }
+}
+
+fn check_plain(rt: &impl Abort, alloc: Global, content: &mut Content, ops: &str, told: &[Outcome])
+    requires { IsContent content.old }
+    ensures { IsContent content.new }
+{
+    let outcomes = plain(alloc, content, ops).expect(rt, "the plain application");
+    assert_eq!(rt; outcomes.as_slice(), told);
+}
+
+/// The version after operations, which has what the plain application leaves of the content, and the same outcomes.
+pub(super) fn next<R: Threads + Sync + Abort>(
+    rt: &R,
+    alloc: Global,
+    workers: usize,
+    version: &Version,
+    content: &mut Content,
+    ops: &str,
+) -> Applied
+    requires workers { 0 < workers }
+    requires content { IsContent content.old }
+    ensures { IsContent content.new }
+{
+    let next = applied(rt, alloc, &PassAll, workers, version, ops).expect(rt, "the next version");
+    check_plain(rt, alloc, content, ops, next.outcomes.as_slice());
+    check_same(rt, &next.version, content);
+    next
+}
