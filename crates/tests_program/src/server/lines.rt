@@ -1,0 +1,197 @@
+// The lines of records by themselves: a call of each kind, and growths that are refused.
+
+use super::check_text;
+use crate::shared::tell_refused;
+use feed_csv::FeedWord;
+use graph_model::{List, Outcome, VertexId, is_name};
+use script_lines::{
+    Word, close_line, collect_line, commit_line, open_line, rebase_line, reply_lines, stat_line,
+};
+use std::alloc::{AllocError, Global};
+use std::process::Abort;
+use stream_store::{Collected, Stat};
+use version_answers::NumberedReply;
+use vertex_names::NameBook;
+
+const WORDS: [(FeedWord, &str); 8] = [
+    (FeedWord::Read, "Read"),
+    (FeedWord::BadCommand, "BadCommand"),
+    (FeedWord::BadFields, "BadFields"),
+    (FeedWord::BadName, "BadName"),
+    (FeedWord::BadWeight, "BadWeight"),
+    (FeedWord::BadTime, "BadTime"),
+    (FeedWord::BadSlot, "BadSlot"),
+    (FeedWord::Memory, "Memory"),
+];
+
+#[test]
+fn words_have_their_texts(rt: HostRuntime) {
+    for (word, text) in WORDS {
+        check_text(&rt, word.word(), text);
+        check_text(&rt, Word::Feed(word).text(), text);
+    }
+    check_text(&rt, Word::NotOpen.text(), "NotOpen");
+    check_text(&rt, Word::Start.text(), "Start");
+}
+
+// A line of each kind that is no answer, one behind another.
+const EACH_LINE: &str = "commit v=65536 ins=1 upd=2 rem=1 abs=3 ovf=1\n\
+     commit v=7 ins=1 upd=0 rem=0 abs=0 ovf=0 exp=42\ncommit v=8 ins=0 upd=0 rem=0 abs=0 ovf=0 exp=0\n\
+     open 15 v=12\nclose 15\n\
+     collect floor=3 recycled=40 retired=500\n\
+     stat v=9 names=80 edges=700 free=6000 retired=50000 used=4\n\
+     rebase v=9 names=80 edges=700 used=4\n";
+
+const LEVEL_LINES: &str = "bfs 1 reached=2\nann 1\ncat 0\n";
+
+const LABEL_LINES: &str = "comp 1 parts=2\nann ann\nbob bob\ncat ann\n";
+
+// The lines of two batches with expiries.
+fn append_expiries(lines: &mut String) -> Result<(), AllocError> {
+    let outcomes = [
+        Outcome::Expired(2),
+        Outcome::Inserted,
+        Outcome::Expired(0),
+        Outcome::Expired(40),
+    ];
+    commit_line(lines, 7, outcomes.as_slice())?;
+    commit_line(lines, 8, &outcomes[2..3])
+}
+
+// Appends these lines.
+fn append_each(lines: &mut String) -> Result<(), AllocError> {
+    let outcomes = [
+        Outcome::Overflow,
+        Outcome::Updated,
+        Outcome::Removed,
+        Outcome::Updated,
+        Outcome::Absent,
+        Outcome::Absent,
+        Outcome::Absent,
+        Outcome::Inserted,
+    ];
+    commit_line(lines, 65_536, outcomes.as_slice())?;
+    append_expiries(lines)?;
+    open_line(lines, 15, 12)?;
+    close_line(lines, 15)?;
+    let collected = Collected {
+        floor: 3,
+        recycled: 40,
+        retired: 500,
+    };
+    collect_line(lines, collected)?;
+    let stat = Stat {
+        number: 9,
+        names: 80,
+        edges: 700,
+        free: 6_000,
+        retired: 50_000,
+        used: 4,
+    };
+    stat_line(lines, stat)?;
+    rebase_line(lines, stat)
+}
+
+// Whether lines were appended whole to one that stood; where a growth was refused, that one is still the first.
+fn is_whole(
+    rt: &impl Abort,
+    appended: Result<(), AllocError>,
+    lines: &str,
+    before: &str,
+    text: &str,
+) -> bool {
+    match appended {
+        Ok(()) => check_text(
+            rt,
+            lines.strip_prefix(before).unwrap_or("other lines"),
+            text,
+        ),
+        Err(_) => assert!(rt; lines.starts_with(before)),
+    }
+    appended.is_ok()
+}
+
+// Whether a line for each record was appended behind one that stood; else a growth was refused.
+fn appends_each(rt: &(impl Abort + AllocGlobal)) -> bool {
+    let mut lines = String::new(rt.alloc());
+    if lines.push_str("close 3\n").is_err() {
+        return false;
+    }
+    let appended = append_each(&mut lines);
+    is_whole(rt, appended, lines.as_str(), "close 3\n", EACH_LINE)
+}
+
+#[test]
+fn appends_a_line_for_each_record(rt: HostRuntime) {
+    assert!(rt; appends_each(&rt));
+}
+
+#[test]
+fn refused_lines_leave_those_before(rt: HostRuntime) {
+    if !appends_each(&rt) {
+        tell_refused(&rt);
+    }
+}
+
+// A book of three names, where there is memory for it.
+fn three_names(alloc: Global) -> Option<NameBook> {
+    let mut book = NameBook::new(alloc, 3);
+    for name in ["ann", "bob", "cat"] {
+        if !is_name(name) || book.add(name).is_err() {
+            return None;
+        }
+    }
+    Some(book)
+}
+
+// The lines of levels in slot 1, where there is memory for the levels.
+fn append_levels(alloc: Global, book: &NameBook, lines: &mut String) -> Result<(), AllocError> {
+    let levels = List::of(vec![in alloc; Some(1), None, Some(0)]?);
+    reply_lines(lines, 1, book, &NumberedReply::Levels(levels))
+}
+
+// The same of labels.
+fn append_labels(alloc: Global, book: &NameBook, lines: &mut String) -> Result<(), AllocError> {
+    let labels = List::of(vec![in alloc; VertexId(0), VertexId(1), VertexId(0)]?);
+    reply_lines(lines, 1, book, &NumberedReply::Labels(labels))
+}
+
+// Whether the lines of levels, else those of labels, were appended; else a growth was refused, and the names are left.
+fn appends_table(rt: &(impl Abort + AllocGlobal), book: &NameBook, of_levels: bool) -> bool {
+    let mut lines = String::new(rt.alloc());
+    let (appended, text) = if of_levels {
+        (append_levels(rt.alloc(), book, &mut lines), LEVEL_LINES)
+    } else {
+        (append_labels(rt.alloc(), book, &mut lines), LABEL_LINES)
+    };
+    check_text(rt, book.name(2).unwrap_or("no name"), "cat");
+    is_whole(rt, appended, lines.as_str(), "", text)
+}
+
+// The same with a book of names, where there is memory for it.
+fn tells_table(rt: &(impl Abort + AllocGlobal), of_levels: bool) -> bool {
+    match three_names(rt.alloc()) {
+        Some(book) => appends_table(rt, &book, of_levels),
+        None => false,
+    }
+}
+
+#[test]
+fn tells_levels_and_labels(rt: HostRuntime) {
+    assert!(rt; tells_table(&rt, true));
+    assert!(rt; tells_table(&rt, false));
+}
+
+#[test]
+fn refused_levels_leave_the_lines_and_the_names(rt: HostRuntime) {
+    if !tells_table(&rt, true) {
+        tell_refused(&rt);
+    }
+}
+
+#[test]
+fn refused_labels_leave_the_lines_and_the_names(rt: HostRuntime) {
+    if !tells_table(&rt, false) {
+        tell_refused(&rt);
+    }
+}

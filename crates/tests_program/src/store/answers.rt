@@ -1,0 +1,148 @@
+// What sessions answer.
+
+use super::batches::{ends_of, name};
+use super::texts::{push_item, push_numbers, split_word};
+use graph_model::{AskError, Degree, Name, NamedFilter, Reply, Request};
+use std::alloc::{AllocError, Global};
+use stream_store::Session;
+use version_answers::NumberedReply;
+
+/// Weight, first and recent time of the edge from `a` to `b`, where it is there.
+pub(super) type Edge = Option<(i64, u64, u64)>;
+
+fn edge_request(alloc: Global) -> Result<Request, AllocError> {
+    let kind = name(alloc, "k")?;
+    match ends_of(alloc, "a", "b") {
+        Ok((source, target)) => Ok(Request::OneEdge {
+            kind,
+            source,
+            target,
+        }),
+        Err(error) => Err(error),
+    }
+}
+
+fn any() -> NamedFilter {
+    NamedFilter {
+        kind: None,
+        lo: 0,
+        hi: 99,
+    }
+}
+
+/// The request of `levels SOURCE`, `labels`, `cores`, `degrees`, or else of the edge from `a` to `b`.
+fn request_of(alloc: Global, text: &str) -> Result<Request, AllocError> {
+    let (word, source) = split_word(text);
+    match word {
+        "levels" => Ok(Request::Levels {
+            source: name(alloc, source)?,
+            filter: any(),
+        }),
+        "labels" => Ok(Request::Labels { filter: any() }),
+        "cores" => Ok(Request::Cores { filter: any() }),
+        "degrees" => Ok(Request::Degrees { filter: any() }),
+        _ => edge_request(alloc),
+    }
+}
+
+fn push_counts(text: &mut String, rows: &[(Name, u32)]) -> Result<(), AllocError> {
+    for row in rows {
+        push_item(text, row.0.as_str(), " ")?;
+        push_item(text, row.1, ",")?;
+    }
+    Ok(())
+}
+
+fn push_names(text: &mut String, rows: &[(Name, Name)]) -> Result<(), AllocError> {
+    for row in rows {
+        push_item(text, row.0.as_str(), " ")?;
+        push_item(text, row.1.as_str(), ",")?;
+    }
+    Ok(())
+}
+
+fn push_degrees(text: &mut String, rows: &[(Name, Degree)]) -> Result<(), AllocError> {
+    for row in rows {
+        push_item(text, row.0.as_str(), " ")?;
+        push_item(text, row.1.outgoing, " ")?;
+        push_item(text, row.1.incoming, " ")?;
+        push_item(text, row.1.out_weight, ",")?;
+    }
+    Ok(())
+}
+
+fn push_edge(text: &mut String, edge: &Edge) -> Result<(), AllocError> {
+    match edge {
+        Some((weight, first, recent)) => {
+            push_item(text, *weight, " ")?;
+            push_numbers(text, &[*first, *recent])
+        }
+        None => text.push_str("none"),
+    }
+}
+
+fn push_reply(text: &mut String, reply: &Reply) -> Result<(), AllocError> {
+    match reply {
+        Reply::Levels(rows) => push_counts(text, rows.as_slice()),
+        Reply::Labels(rows) => push_names(text, rows.as_slice()),
+        Reply::Cores(rows) => push_counts(text, rows.as_slice()),
+        Reply::Degrees(rows) => push_degrees(text, rows.as_slice()),
+        Reply::OneEdge(edge) => push_edge(text, edge),
+    }
+}
+
+fn push_replied(text: &mut String, told: Result<Reply, AskError>) -> Result<(), AllocError> {
+    match told {
+        Ok(reply) => push_reply(text, &reply),
+        Err(error) => push_item(text, error, ""),
+    }
+}
+
+/// What the session answers a request of these words: the reply's rows, or the refusal.
+pub(super) fn push_answer(
+    text: &mut String,
+    alloc: Global,
+    session: &Session,
+    words: &str,
+) -> Result<(), AllocError> {
+    match request_of(alloc, words) {
+        Ok(request) => push_replied(text, session.ask(&request)),
+        Err(error) => Err(error),
+    }
+}
+
+fn push_cores(text: &mut String, reply: &NumberedReply) -> Result<(), AllocError> {
+    match reply {
+        NumberedReply::Cores(numbers) => {
+            for number in numbers.as_slice() {
+                push_item(text, *number, ",")?;
+            }
+            Ok(())
+        }
+        _ => text.push_str("no core numbers"),
+    }
+}
+
+/// The core number of each vertex, in the order of their numbers, or the refusal.
+pub(super) fn push_numbered(text: &mut String, session: &Session) -> Result<(), AllocError> {
+    match session.ask_in_numbers(&Request::Cores { filter: any() }) {
+        Ok(reply) => push_cores(text, &reply),
+        Err(error) => push_item(text, error, ""),
+    }
+}
+
+fn edge_of(reply: &Reply) -> Option<Edge> {
+    match reply {
+        Reply::OneEdge(edge) => Some(*edge),
+        _ => None,
+    }
+}
+
+/// What the session answers of the edge from `a` to `b`; nothing where it refuses.
+pub(super) fn edge_told(alloc: Global, session: &Session) -> Option<Edge> {
+    let request = edge_request(alloc).ok()?;
+    match session.ask(&request) {
+        Ok(reply) => edge_of(&reply),
+        Err(_) => None,
+    }
+}

@@ -1,0 +1,143 @@
+// Where seats are, how they move on, and what is seen from them.
+
+use super::answers::{push_answer, push_numbered};
+use super::texts::{push_item, split_word};
+use super::told::{push_opening, push_stat, push_version};
+use graph_version::Version;
+use seat_board::Board;
+use std::alloc::{AllocError, Global};
+use std::sync::Wait;
+use stream_store::{Config, Desk, Naming, PinnedSeat, Seat, Session, Store, open_parts_from};
+
+/// Where a seat is.
+#[derive(Drop)]
+pub(super) enum Place {
+    Free(Seat),
+    Pinned(PinnedSeat),
+    Held(Session),
+    Nowhere,
+}
+
+fn push_place(text: &mut String, place: &Place) -> Result<(), AllocError> {
+    match place {
+        Place::Free(_) => text.push_str("free"),
+        Place::Pinned(_) => text.push_str("pinned"),
+        Place::Held(session) => {
+            text.push_str("holds ")?;
+            push_item(text, session.version().number(), "")
+        }
+        Place::Nowhere => Ok(()),
+    }
+}
+
+/// A free seat is pinned, a pinned one enters, and one that holds a version lets it go.
+fn moved<J: Naming, R: Wait>(rt: &R, store: &Store<J>, place: Place) -> Place {
+    match place {
+        Place::Free(seat) => Place::Pinned(seat.pin(rt, store)),
+        Place::Pinned(seat) => Place::Held(seat.enter(rt, store)),
+        Place::Held(session) => Place::Free(session.release(rt, store)),
+        Place::Nowhere => Place::Nowhere,
+    }
+}
+
+/// Moves the seat of that number on, over a store, and tells where it is.
+pub(super) fn move_seat<J: Naming, R: Wait>(
+    rt: &R,
+    store: &Store<J>,
+    place: Option<&mut Place>,
+    text: &mut String,
+) -> Result<(), AllocError> {
+    let Some(place) = place else {
+        return text.push_str("no such seat");
+    };
+    *place = moved(rt, store, std::mem::replace(place, Place::Nowhere));
+    push_place(text, place)
+}
+
+/// The desk lends a free seat its last version, and one that holds it lets it go. A seat that is refused comes back.
+fn lent(desk: &Desk, board: &mut Board, place: Place) -> Result<Place, Seat> {
+    match place {
+        Place::Free(seat) => match seat.acquire_lent(desk, board) {
+            Ok(session) => Ok(Place::Held(session)),
+            Err((seat, AllocError)) => Err(seat),
+        },
+        Place::Held(session) => Ok(Place::Free(session.release_lent(board))),
+        place => Ok(place),
+    }
+}
+
+/// Moves the seat of that number on, at a desk, and tells where it is.
+pub(super) fn lend_seat(
+    desk: &Desk,
+    board: &mut Board,
+    place: Option<&mut Place>,
+    text: &mut String,
+) -> Result<(), AllocError> {
+    let Some(place) = place else {
+        return text.push_str("no such seat");
+    };
+    match lent(desk, board, std::mem::replace(place, Place::Nowhere)) {
+        Ok(now) => {
+            *place = now;
+            push_place(text, place)
+        }
+        Err(seat) => {
+            *place = Place::Free(seat);
+            Err(AllocError)
+        }
+    }
+}
+
+/// The counts of a store of so many blocks that opens with what a version holds, or why none opens.
+fn push_opened<R: Wait>(
+    rt: &R,
+    text: &mut String,
+    alloc: Global,
+    version: &Version,
+    blocks: &str,
+) -> Result<(), AllocError> {
+    let Ok(config) = Config::new(1, blocks.parse().unwrap_or(0), 1) else {
+        return text.push_str("past the limits");
+    };
+    match open_parts_from(rt, alloc, config, version) {
+        Ok((desk, _board, _seats)) => push_stat(text, desk.stat()),
+        Err(error) => push_item(text, error, ""),
+    }
+}
+
+fn push_asked<R: Wait>(
+    rt: &R,
+    text: &mut String,
+    alloc: Global,
+    session: &Session,
+    words: (&str, &str),
+) -> Result<(), AllocError> {
+    match words.0 {
+        "ask" => push_answer(text, alloc, session, words.1),
+        "numbered" => push_numbered(text, session),
+        "opening" => push_opening(text, session.version()),
+        "open" => push_opened(rt, text, alloc, session.version(), words.1),
+        _ => push_version(text, session.version()),
+    }
+}
+
+/// The seat whose number the text begins with, and what is behind it.
+pub(super) fn index_of(text: &str) -> (usize, &str) {
+    let (number, others) = split_word(text);
+    (number.parse().unwrap_or(usize::MAX), others)
+}
+
+/// What a word asks of the session of a seat; the text is the seat's number and what is asked.
+pub(super) fn push_seen<R: Wait>(
+    rt: &R,
+    text: &mut String,
+    alloc: Global,
+    places: &[Place],
+    words: (&str, &str),
+) -> Result<(), AllocError> {
+    let (index, asked) = index_of(words.1);
+    match places.get(index) {
+        Some(Place::Held(session)) => push_asked(rt, text, alloc, session, (words.0, asked)),
+        _ => text.push_str("no session"),
+    }
+}
