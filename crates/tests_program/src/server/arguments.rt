@@ -4,6 +4,7 @@
 use super::{
     FIRST, FIRST_TEXT, FakeReader, FakeWriter, ROOMY, check_ran, check_text, ran_at, ran_on,
 };
+use std::alloc::AllocError;
 use std::process::Abort;
 use std::sync::Wait;
 use std::thread::Threads;
@@ -48,10 +49,14 @@ fn refuses_an_argument_that_is_no_text(rt: HostRuntime) {
     law_options();
 }
 
+fn is_told(told: Result<bool, AllocError>, wanted: bool) -> bool {
+    told == Ok(wanted)
+}
+
 // Whether the arguments have a script served, and whether its progress is shown then.
 fn asks(rt: &(impl Abort + AllocGlobal), arguments: &[&str], for_script: bool, progress: bool) {
-    assert!(rt; serves(rt, arguments) == Ok(for_script));
-    assert!(rt; shows_progress(rt, arguments) == Ok(progress));
+    assert!(rt; is_told(serves(rt, arguments), for_script));
+    assert!(rt; is_told(shows_progress(rt, arguments), progress));
 }
 
 #[test]

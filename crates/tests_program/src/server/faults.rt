@@ -22,8 +22,19 @@ fn runs_so(
     check_text(rt, writer.text(), text);
 }
 
-// A run of the script into a writer of each smaller size writes that many bytes of the text and tells `Write`, and calls the
-// writer no more.
+// Whether a run into a writer with so much room wrote that many bytes of the text, told `Write`, and called the writer no more.
+fn is_filled(
+    answer: Result<Summary, ServeFault>,
+    writer: &FakeWriter,
+    room: usize,
+    text: &str,
+) -> bool {
+    let held = writer.text();
+    let is_so = answer == Err(ServeFault::Write) && writer.refusals == 1;
+    is_so && held.len() == room && text.starts_with(held)
+}
+
+// Runs of the script fill each writer that is too small for the text.
 fn fills_each_writer(
     rt: &(impl Abort + AllocGlobal + Threads + Wait + Sync),
     script: &str,
@@ -34,12 +45,7 @@ fn fills_each_writer(
         let mut writer = FakeWriter::new(room);
         writer.fails = fails;
         let answer = served(rt, FakeReader::whole(script), &mut writer);
-        let is_so = answer == Err(ServeFault::Write) && writer.refusals == 1;
-        let held = writer.text();
-        assert!(rt;
-            is_so && held.len() == room && text.starts_with(held),
-            "{room} {fails}"
-        );
+        assert!(rt; is_filled(answer, &writer, room, text), "{room}");
     }
 }
 
@@ -128,14 +134,22 @@ fn tells_the_record(
     );
 }
 
+// So at each of the script's reads.
+fn tells_each_record(
+    rt: &(impl Abort + AllocGlobal + Threads + Wait + Sync),
+    script: &str,
+    text: &str,
+    ends: &[usize],
+) {
+    for reads in 0..=script.len() {
+        tells_the_record(rt, script, text, ends, reads);
+    }
+}
+
 #[test]
 fn tells_the_record_that_a_reader_failed_at(rt: HostRuntime) {
-    for reads in 0..=FIRST.len() {
-        tells_the_record(&rt, FIRST, FIRST_TEXT, FIRST_ENDS.as_slice(), reads);
-    }
-    for reads in 0..=HELD.len() {
-        tells_the_record(&rt, HELD, HELD_TEXT, HELD_ENDS.as_slice(), reads);
-    }
+    tells_each_record(&rt, FIRST, FIRST_TEXT, FIRST_ENDS.as_slice());
+    tells_each_record(&rt, HELD, HELD_TEXT, HELD_ENDS.as_slice());
 }
 
 // A text and its end into a writer with so much room come to this, and leave it holding that.

@@ -104,11 +104,18 @@ fn check_end(rt: &impl Abort, feed: &mut Feed<impl Read>, at: u64, word: Option<
     }
 }
 
+// Whether the call of this number was refused a growth, and whether it gave what `SCRIPT` says.
+fn told_at(call: u64, outcome: &Result<Option<Command>, FeedFault>) -> (bool, bool) {
+    (
+        is_end(outcome, call, Some(FeedWord::Memory)),
+        is_given(call, outcome),
+    )
+}
+
 // Whether the call of this number was refused a growth; if not, it gave what `SCRIPT` says.
 fn is_refused_at(rt: &impl Abort, feed: &mut Feed<impl Read>, call: u64) -> bool {
-    let outcome = feed.next();
-    let is_refused = is_end(&outcome, call, Some(FeedWord::Memory));
-    assert!(rt; is_refused || is_given(call, &outcome), "call {call}");
+    let (is_refused, is_given) = told_at(call, &feed.next());
+    assert!(rt; is_refused || is_given, "call {call}");
     is_refused
 }
 

@@ -67,6 +67,24 @@ pub(super) struct Front {
 }
 
 impl Front {
+    /// Applies a batch whose workers meet, and tells how many did.
+    fn push_met<R: Threads + Wait + Sync>(
+        &mut self,
+        rt: &R,
+        text: &mut String,
+        batch: Result<Batch, AllocError>,
+    ) -> Result<(), AllocError> {
+        let meeting = Meeting::new();
+        let told = apply_at(rt, &mut self.desk, &meeting, batch);
+        meeting.push_met(text, told)
+    }
+
+    /// Collects by a copy of the pins.
+    fn push_collected(&mut self, text: &mut String) -> Result<(), AllocError> {
+        let copy = self.board.raise(self.desk.last().number());
+        push_collected(text, self.desk.collect(&copy))
+    }
+
     /// Pins a seat, or tells its pin.
     fn push_pinned(&mut self, text: &mut String, words: (&str, &str)) -> Result<(), AllocError> {
         match SeatNo::new(words.1.parse().unwrap_or(u8::MAX)) {
@@ -91,15 +109,8 @@ impl Stage for Front {
                 text,
                 apply_at(rt, &mut self.desk, &PassAll, batch_named(alloc, words.1)),
             ),
-            "meet" => {
-                let meeting = Meeting::new();
-                let told = apply_at(rt, &mut self.desk, &meeting, batch_named(alloc, words.1));
-                meeting.push_met(text, told)
-            }
-            "collect" => {
-                let copy = self.board.raise(self.desk.last().number());
-                push_collected(text, self.desk.collect(&copy))
-            }
+            "meet" => self.push_met(rt, text, batch_named(alloc, words.1)),
+            "collect" => self.push_collected(text),
             "stat" => push_stat(text, self.desk.stat()),
             "journal" => push_journal(text, self.desk.journal()),
             "kept" => push_kept(text, &self.desk, &self.board),
