@@ -50,9 +50,9 @@ fn check_change(rt: &impl Abort, before: &Rows, after: &Rows, source: u32) {
     assert_row(rt, after, source.saturating_add(2), 0, 0);
     assert_eq!(rt;
         before.len(),
-        (source as usize / 512)
+        (source as usize / 1024)
             .saturating_add(1)
-            .saturating_mul(512)
+            .saturating_mul(1024)
     );
 }
 
@@ -76,7 +76,7 @@ fn check_again(rt: &impl Abort, alloc: Global, before: &Rows) -> Result<(), Fail
 
 #[test]
 fn changes_one_row_at_the_ends_of_parts_pages_and_groups(rt: HostRuntime) -> Result<(), Fail> {
-    for source in [0, 7, 8, 63, 64, 65, 511, 512, 4096] {
+    for source in [0, 7, 8, 63, 64, 65, 511, 512, 1023, 1024, 4096] {
         check_source(
             &rt,
             rt.alloc(),
