@@ -24,7 +24,7 @@ use Rattle.stinger_cli.specs.declared.arguments.Order.TheVariants as order
 use Rattle.stinger_server.specs.declared.script.ServeFault.{ServeFault}
 use Rattle.stinger_server.specs.declared.script.ServeFault.TheVariants.{Read, Start, Write}
 use Rattle.stinger_server.specs.declared.script.Summary.{Summary}
-use Rattle.stinger_server.specs.States.{set_up}
+use Rattle.script_commands.specs.States.{set_up}
 use Rattle.stinger_server.specs.Texts.{IsText}
 use Rattle.stinger_server.specs.Writes.{AppendsPart, AppendsSome}
 use Rattle.store_drive.specs.Reports.{IsReaderCount, IsReport, word_text}

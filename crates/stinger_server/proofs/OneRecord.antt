@@ -3,9 +3,10 @@ use Rattle.std.proofs.Common.{◌≡◌, ℕ, ◌+◌, List, string_bytes, arith
 use Rattle.std.specs.{Prelude.Option, Prelude.Result, Prelude.Err, Io.KnownBytes.Appends}
 use Rattle.feed_csv.specs.{Script.FaultStep, Script.RefusesRow, Script.Script, declared.command.Command.Command}
 use Rattle.feed_csv.specs.declared.command.FeedWord.{FeedWord, TheVariants.Read, TheVariants.Memory}
-use Rattle.stinger_server.specs.{declared.script.Run.Run, declared.server.Response.TheVariants.Refused, States.printed}
+use Rattle.stinger_server.specs.declared.script.Run.{Run}
+use Rattle.script_commands.specs.{declared.server.Response.TheVariants.Refused, Servers.IsServer, Servers.result_of, States.printed}
 use Rattle.script_lines.specs.declared.words.Word.TheVariants.{Feed}
-use Rattle.stinger_server.specs.{Runs.FailsToWrite, Runs.CountsRecord, Runs.CompletesRecord, Servers.IsServer, Servers.result_of}
+use Rattle.stinger_server.specs.Runs.{FailsToWrite, CountsRecord, CompletesRecord}
 use Rattle.stinger_server.specs.Writes.{AppendsPart}
 
 -- a word of the feed that ends nothing refuses a record

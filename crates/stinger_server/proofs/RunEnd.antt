@@ -5,7 +5,7 @@ use Rattle.std.proofs.lemmas.Bool.{true≢false}
 use Rattle.feed_csv.specs.{Records.record_limit, Script.NextStep, Script.Script, declared.command.Command.Command}
 use Rattle.stinger_server.specs.declared.script.{Run.Run, ServeFault.ServeFault, Summary.Summary}
 use Rattle.stinger_server.specs.declared.script.ServeFault.TheVariants.{Read, Memory, Start, Write}
-use Rattle.stinger_server.specs.States.{IsRebase}
+use Rattle.script_commands.specs.{Servers.pending_of, States.IsRebase}
 use Rattle.stinger_server.specs.Runs.{ExecutesRecord, FailsToWrite, HasCause, IsReady, IsTurn, done_by, is_start, is_write}
 
 -- a turn ended the run
@@ -23,7 +23,7 @@ pub cause_ended : (feed feed' : Script) (run run' : Run) (now mid : Option (List
     (result : Result Summary ServeFault)
     → IsReady feed run → IsTurn feed run now (Ok false) feed' run' mid
     → IfOk result
-    (λ summary. summary ≡ record { records = run'.records; errors = run'.errors; pending = length run'.server.pending })
+    (λ summary. summary ≡ record { records = run'.records; errors = run'.errors; pending = length (pending_of run'.server) })
     → IfErr result (λ fault. fault ≡ Write) → failed ≡ is_err result → HasCause feed' failed result
 cause_ended feed feed' run run' now mid failed (Ok summary) ready turned counts fault marked = (
   turned.0.ended,

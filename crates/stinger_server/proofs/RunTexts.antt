@@ -12,8 +12,10 @@ use Rattle.script_lines.specs.declared.words.Word.{Word, TheVariants.Feed}
 use Rattle.script_lines.specs.declared.words.Word.TheVariants as told
 use Rattle.script_lines.specs.Lines.{end_line, error_line}
 use Rattle.stinger_server.specs.Runs.{FailsToWrite, IsFresh, IsReady, ShowsRun, IsStartup, IsTurn, records_done}
-use Rattle.stinger_server.specs.States.{IsRecordResult, RecordResult, Setup, after_record, beginning, printed}
-use Rattle.stinger_server.specs.Texts.{IsTextToFault, ExecutesPrefix, IsText, IsTextToRebase, IsIntendedText, IsFullText}
+use Rattle.script_commands.specs.States.{IsRecordResult, RecordResult, Setup, after_record, beginning, printed}
+use Rattle.script_commands.specs.Executions.{ExecutesPrefix, IsFullText}
+use Rattle.script_commands.specs.Servers.{pending_of}
+use Rattle.stinger_server.specs.Texts.{IsTextToFault, IsText, IsTextToRebase, IsIntendedText}
 use Rattle.stinger_server.specs.Writes.{AppendsPart, AppendsSome}
 use Rattle.stinger_server.proofs.Writing.{appends_nothing, appends_then, part_then}
 use Rattle.stinger_server.proofs.RunSoFar.{Reaches, few_given, leaves-append, run-append}
@@ -164,7 +166,7 @@ stopped setup rows feed feed' run run' before now after Write reached turned = e
 -- all records were given
 whole_of : (setup : Setup) (rows : List Row) (left : Option (List Row)) (run : Run) (before now : Option (List ℕ))
     → (reached : Reaches setup (Some rows) left run before now) → IsOver left → run.records < record_limit
-    → IsFullText setup rows (reached.lines ++ end_line (length run.server.pending)) reached.here
+    → IsFullText setup rows (reached.lines ++ end_line (length (pending_of run.server))) reached.here
 whole_of setup rows None run before now reached over few = absurd reached.leaves
 whole_of setup rows (Some rest) run before now reached over few =
     let all : rows ≡ reached.given = reached.leaves ∙ (ap (λ rest. reached.given ++ rest) over ∙ append-nil reached.given) in
@@ -179,11 +181,11 @@ pub finished : (setup : Setup) (rows : List Row) (left : Option (List Row)) (run
     (count : ℕ)
     (summary : Summary) → Reaches setup (Some rows) left run before now → IsOver left → run.records < record_limit
     → count ≡ run.records
-    → Appends now after (end_line (length run.server.pending))
-    → summary ≡ record { records = run.records; errors = run.errors; pending = length run.server.pending }
+    → Appends now after (end_line (length (pending_of run.server)))
+    → summary ≡ record { records = run.records; errors = run.errors; pending = length (pending_of run.server) }
     → AppendsSome before after (IsText setup rows count (Ok summary))
 finished setup rows left run before now after count summary reached over few same written counts = (
-  reached.lines ++ end_line (length run.server.pending),
+  reached.lines ++ end_line (length (pending_of run.server)),
   appends_then before now after reached.lines _ reached.written written,
   (
     reached.here,
@@ -196,10 +198,10 @@ finished setup rows left run before now after count summary reached over few sam
 pub unfinished : (setup : Setup) (rows : List Row) (left : Option (List Row)) (run : Run) (before now after : Option (List ℕ))
     (count : ℕ)
     → Reaches setup (Some rows) left run before now → IsOver left → run.records < record_limit
-    → AppendsPart now after (end_line (length run.server.pending))
+    → AppendsPart now after (end_line (length (pending_of run.server)))
     → AppendsSome before after (IsText setup rows count (Err Write))
 unfinished setup rows left run before now after count reached over few part =
-    part_of setup rows left run before now after (end_line (length run.server.pending)) count reached
+    part_of setup rows left run before now after (end_line (length (pending_of run.server))) count reached
     (inr (inl (reached.here, whole_of setup rows left run before now reached over few))) part
 
 -- a run that memory ended before its first record
@@ -235,24 +237,24 @@ pub whole_or_part : (setup : Setup) (rows : List Row) (feed feed' : Script) (run
     (before now mid after : Option (List ℕ))
     (result : Result Summary ServeFault) → IsReady feed run → Reaches setup (Some rows) feed.left run before now
     → IsTurn feed run now (Ok false) feed' run' mid
-    → OnOk result (Appends mid after (end_line (length run'.server.pending)))
+    → OnOk result (Appends mid after (end_line (length (pending_of run'.server))))
     → IfOk result
-    (λ summary. summary ≡ record { records = run'.records; errors = run'.errors; pending = length run'.server.pending })
-    → OnErr result (AppendsPart mid after (end_line (length run'.server.pending)))
+    (λ summary. summary ≡ record { records = run'.records; errors = run'.errors; pending = length (pending_of run'.server) })
+    → OnErr result (AppendsPart mid after (end_line (length (pending_of run'.server))))
     → IfErr result (λ fault. fault ≡ Write)
     → AppendsSome before after (IsText setup rows (records_done feed') result)
 whole_or_part setup rows feed feed' run run' before now mid after (Ok summary) ready reached turned whole counts part fault =
     let same : run' ≡ run = turned.1 in
     let few : run.records < record_limit = few_given feed run ready turned.0.open_before in
-    let written : Appends now after (end_line (length run.server.pending)) =
-    appends_then now mid after [] (end_line (length run.server.pending)) turned.2 (rw same at whole) in
+    let written : Appends now after (end_line (length (pending_of run.server))) =
+    appends_then now mid after [] (end_line (length (pending_of run.server))) turned.2 (rw same at whole) in
     finished setup rows feed.left run before now after (records_done feed') summary reached turned.0.over few
     (done_ended feed feed' run ready turned.0) written (rw same at counts)
 whole_or_part setup rows feed feed' run run' before now mid after (Err error) ready reached turned whole counts part fault =
     let same : run' ≡ run = turned.1 in
     let few : run.records < record_limit = few_given feed run ready turned.0.open_before in
-    let written : AppendsPart now after (end_line (length run.server.pending)) =
-    part_then now mid after [] (end_line (length run.server.pending)) turned.2 (rw same at part) in
+    let written : AppendsPart now after (end_line (length (pending_of run.server))) =
+    part_then now mid after [] (end_line (length (pending_of run.server))) turned.2 (rw same at part) in
     let text = unfinished setup rows feed.left run before now after (records_done feed') reached turned.0.over few written in
     rw fault text
 
@@ -271,10 +273,10 @@ pub all_ended : (first : Option (List Row)) (feed feed' : Script) (start run run
     (result : Result Summary ServeFault) → IsReady feed run
     → ((setup : Setup) → ShowsRun start (beginning setup) → Reaches setup first feed.left run before now)
     → IsTurn feed run now (Ok false) feed' run' mid
-    → OnOk result (Appends mid after (end_line (length run'.server.pending)))
+    → OnOk result (Appends mid after (end_line (length (pending_of run'.server))))
     → IfOk result
-    (λ summary. summary ≡ record { records = run'.records; errors = run'.errors; pending = length run'.server.pending })
-    → OnErr result (AppendsPart mid after (end_line (length run'.server.pending)))
+    (λ summary. summary ≡ record { records = run'.records; errors = run'.errors; pending = length (pending_of run'.server) })
+    → OnErr result (AppendsPart mid after (end_line (length (pending_of run'.server))))
     → IfErr result (λ fault. fault ≡ Write)
     → IfSome first (λ rows. (setup : Setup) → ShowsRun start (beginning setup)
     → AppendsSome before after (IsText setup rows (records_done feed') result))

@@ -14,13 +14,13 @@ use Rattle.stinger_server.specs.declared.script.Run.{Run}
 use Rattle.stinger_server.specs.declared.script.ServeFault.{ServeFault}
 use Rattle.stinger_server.specs.declared.script.ServeFault.TheVariants.{Read, Memory, Start, Write}
 use Rattle.stinger_server.specs.declared.script.Summary.{Summary}
-use Rattle.stinger_server.specs.declared.server.Response.{Response}
-use Rattle.stinger_server.specs.declared.server.Response.TheVariants.{Lines, Refused}
+use Rattle.script_commands.specs.declared.server.Response.{Response}
+use Rattle.script_commands.specs.declared.server.Response.TheVariants.{Lines, Refused}
 use Rattle.script_lines.specs.declared.words.Word.TheVariants.{Feed}
 use Rattle.script_lines.specs.declared.words.Word.TheVariants as told
 use Rattle.script_lines.specs.Lines.{error_line}
-use Rattle.stinger_server.specs.Servers.{IsServer, ShowsServer}
-use Rattle.stinger_server.specs.States.{IsRebase, IsRecordResult, RecordResult, Progress, Setup, after_record, beginning, printed}
+use Rattle.script_commands.specs.Servers.{IsServer, ShowsServer}
+use Rattle.script_commands.specs.States.{IsRebase, IsRecordResult, RecordResult, Progress, Setup, after_record, beginning, printed}
 use Rattle.stinger_server.specs.Writes.{AppendsPart}
 
 -- a feed that gave nothing yet

@@ -2,15 +2,12 @@
 //! `specs/Texts.antt` says of them.
 #![tactic(auto)]
 
-mod laws;
 mod output;
 mod script;
-mod server;
 mod sink;
-mod slots;
 
-pub use laws::{law_examples, law_one_text};
 pub use output::write_text;
 pub use script::{ServeFault, Summary, serve};
+pub use script_commands::{law_examples, law_one_text};
 pub use sink::Unwritten;
 pub use stream_store::{BadConfig, Config};

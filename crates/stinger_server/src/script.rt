@@ -6,30 +6,23 @@ ghost use Rattle.std.specs.Io.KnownBytes.{Appends};
 ghost use Rattle.feed_csv.specs.Commands.{HasValidOp};
 ghost use Rattle.feed_csv.specs.Records.{record_limit, records_of};
 ghost use Rattle.script_lines.specs.Lines.{end_line, error_line};
-ghost use Rattle.std.specs.Prelude.{map};
-ghost use Rattle.std.specs.List.{range_with_len};
-ghost use Rattle.seat_board.specs.Board.{no_pins};
-ghost use Rattle.graph_version.specs.Versions.{empty_version};
-ghost use Rattle.store_steps.specs.Opening.{opened_desk};
-ghost use Rattle.stream_store.specs.Seats.{SeatView};
-ghost use Rattle.stinger_server.specs.States.{Setup, beginning, printed, set_up};
-ghost use Rattle.stinger_server.specs.Servers.{IsServer, result_of};
+ghost use Rattle.script_commands.specs.States.{Setup, beginning, printed, set_up};
+ghost use Rattle.script_commands.specs.Servers.{IsServer, ShowsServer, pending_of, result_of};
 ghost use Rattle.stinger_server.specs.Texts.{IsText};
 ghost use Rattle.stinger_server.specs.Runs.{CountsRecord, ExecutesRecord, HasCause, IsFresh, IsReady, IsStartup, IsTurn};
 ghost use Rattle.stinger_server.specs.Runs.{ShowsRun, is_start, is_write, records_done};
 ghost use Rattle.stinger_server.specs.Writes.{AppendsPart, AppendsSome, held};
 
 use crate::output;
-use crate::server::{Response, Server, Stop};
 use crate::sink::{Sink, Unwritten};
 use feed_csv::{Command, Feed, FeedWord};
+use script_commands::{Response, Server, Stop};
 use script_lines::Word;
-use seat_board::Board;
-use std::alloc::{AllocError, Global};
+use std::alloc::Global;
 use std::io::{Read, Write};
 use std::sync::Wait;
 use std::thread::Threads;
-use stream_store::{Config, Desk, Seat, open_parts};
+use stream_store::Config;
 use thiserror::Error;
 
 /// What a run that met the end of its input counted.
@@ -128,12 +121,10 @@ fn start<A: AllocGlobal + Wait, W: Write>(
     ensures unflushed { is_start result ≡ true → sink.new.flushed ≡ sink.old.flushed }
     ensures starts { IsStartup (set_up config) (held W.contents sink.old) result (held W.contents sink.new) }
 {
-    let Ok((desk, board, seats)) = open_parts(rt, rt.alloc(), config) else {
-        return Err(ServeFault::Start);
-    };
-    match Run::new(rt.alloc(), config, desk, board, seats) {
-        Ok(run) => Ok(run),
-        Err(_) => {
+    match Server::begin(rt, config) {
+        Ok(server) => Ok(Run::over(rt.alloc(), server)),
+        Err(Stop::Start) => Err(ServeFault::Start),
+        Err(Stop::Memory) => {
             output::last_line(sink, 1, Word::Feed(FeedWord::Memory))?;
             Err(ServeFault::Memory)
         }
@@ -141,28 +132,19 @@ fn start<A: AllocGlobal + Wait, W: Write>(
 }
 
 impl Run {
-    fn new(
-        alloc: Global,
-        config: Config,
-        desk: Desk,
-        board: Board,
-        seats: Vec<Seat>,
-    ) -> Result<Run, AllocError>
-        requires desk { desk.desk ≡ opened_desk config.blocks empty_version }
-        requires board { board ≡ no_pins }
-        requires seats { length seats.items ≡ config.seats }
-        requires few { length seats.items ≤ 16 }
-        requires numbers { map (λ (s : SeatView). s.number) seats.items ≡ range_with_len 0 (length seats.items) }
-        ensures server { IfOk result (λ run. IsServer run.server) }
-        ensures counts { IfOk result (λ run. (run.records ≡ 0) × (run.errors ≡ 0)) }
-        ensures beginning { IfOk result (λ run. ShowsRun run (beginning (set_up config))) }
+    /// A run that has done no record.
+    fn over(alloc: Global, server: Server) -> Run
+        requires { IsServer server }
+        ensures server { IsServer result.server }
+        ensures counts { (result.records ≡ 0) × (result.errors ≡ 0) }
+        ensures beginning { (setup : Setup) → ShowsServer server (beginning setup).state → ShowsRun result (beginning setup) }
     {
-        Ok(Run {
-            server: Server::new(alloc, config, desk, board, seats)?,
+        Run {
+            server,
             lines: String::new(alloc),
             records: 0,
             errors: 0,
-        })
+        }
     }
 
     /// Does a command, and writes what it came to. The lines are built before a byte of them is written.
@@ -249,14 +231,14 @@ impl Run {
         ensures failed { sink.new.failed ≡ is_err result }
         ensures flushed { OnOk result (sink.new.flushed ≡ true) }
         ensures whole { OnOk result (Appends (held W.contents sink.old) (held W.contents sink.new)
-            (end_line (length self.now.server.pending))) }
+            (end_line (length (pending_of self.now.server)))) }
         ensures summary { IfOk result (λ summary. summary ≡ record {
           records = self.now.records;
           errors = self.now.errors;
-          pending = length self.now.server.pending;
+          pending = length (pending_of self.now.server);
         }) }
         ensures part { OnErr result (AppendsPart (held W.contents sink.old) (held W.contents sink.new)
-            (end_line (length self.now.server.pending))) }
+            (end_line (length (pending_of self.now.server)))) }
         ensures fault { IfErr result (λ fault. fault ≡ ServeFault.Write) }
     {
         let pending = self.server.pending();

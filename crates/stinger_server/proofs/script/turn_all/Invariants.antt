@@ -1,6 +1,7 @@
 use Rattle.std.proofs.Common.{◌≡◌, ◌-◌, false}
 use Rattle.feed_csv.specs.Records.{record_limit}
-use Rattle.stinger_server.specs.{Runs.IsReady, Runs.ShowsRun, States.Setup, States.beginning, Writes.held}
+use Rattle.script_commands.specs.States.{Setup, beginning}
+use Rattle.stinger_server.specs.{Runs.IsReady, Runs.ShowsRun, Writes.held}
 use Rattle.stinger_server.proofs.RunSoFar.{Reaches}
 use Rattle.stinger_server.proofs.script.turn_all.Given as goal
 

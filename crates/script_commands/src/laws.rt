@@ -1,0 +1,14 @@
+//! Laws about the definitions, as contracts of functions that do nothing.
+
+ghost use Rattle.script_commands.specs.Examples.{AreExamples};
+ghost use Rattle.script_commands.specs.Laws.{HasOneText};
+
+/// A script has one text: no definition leaves a choice, also where a request's answer is given by a relation.
+pub fn law_one_text()
+    ensures { HasOneText }
+{}
+
+/// The examples that are worked out by hand.
+pub fn law_examples()
+    ensures { AreExamples }
+{}
