@@ -15,6 +15,8 @@ use Rattle.block_layout.specs.Batches.{Resolved, AtKey, InAll, is_known}
 use Rattle.batch_plan.specs.declared.plans.PlanError.{PlanError}
 use Rattle.batch_plan.specs.declared.plans.PlanError.TheVariants as plan
 use Rattle.batch_plan.specs.declared.resolve.Ends.{Ends}
+use Rattle.batch_plan.specs.declared.resolve.EndsList.{EndsList}
+use Rattle.batch_plan.specs.declared.resolve.EndsList.TheVariants.{One, Many}
 use Rattle.batch_plan.specs.declared.resolve.EdgeKey.{EdgeKey}
 use Rattle.batch_plan.specs.declared.resolve.ResolvedOp.{ResolvedOp}
 use Rattle.batch_plan.specs.declared.resolve.ResolvedOp.TheVariants.{Edge, Expire}
@@ -49,6 +51,11 @@ kinds_all (op ∷ ops) kinds = kinds_all ops (kinds_after op kinds)
 abbrev pub ends_all : List NamedOp → List (List ℕ) → List Ends
 ends_all [] names = []
 ends_all (op ∷ ops) names = ends_in (names_after op names) op ∷ ends_all ops (names_after op names)
+
+-- the ends in a list
+abbrev pub ends_listed : EndsList → List Ends
+ends_listed (One ends) = ends ∷ []
+ends_listed (Many ends) = ends.items
 
 -- the key of three numbers, if all of them are known
 abbrev pub key_from : Option ℕ → Option ℕ → Option ℕ → Option Key

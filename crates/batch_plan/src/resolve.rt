@@ -8,10 +8,11 @@ ghost use Rattle.std.specs.Option.{option_map};
 ghost use Rattle.block_layout.specs.Operations.{parts_of, names_after, kinds_after};
 ghost use Rattle.batch_plan.specs.Plan as plan;
 ghost use Rattle.batch_plan.specs.Plan.{known, ends_in, ends_all, names_all, kinds_all, key_from, key_of, shown, with_names};
-ghost use Rattle.batch_plan.specs.Plan.{kind_by, IsInRange, IsRefusal};
+ghost use Rattle.batch_plan.specs.Plan.{ends_listed, kind_by, IsInRange, IsRefusal};
 
 use graph_model::{EdgeChange, KindId, NamedOp};
 use std::alloc::Global;
+use std::slice;
 use vertex_names::{AddError, NameBook};
 
 /// The numbers of an operation's source and target: none where a name has not appeared.
@@ -19,6 +20,24 @@ use vertex_names::{AddError, NameBook};
 pub struct Ends {
     pub source: Option<u32>,
     pub target: Option<u32>,
+}
+
+/// The ends of a batch's operations, in order. A batch of one operation needs no memory for them.
+#[derive(Drop)]
+pub enum EndsList {
+    One(Ends),
+    Many(Vec<Ends>),
+}
+
+impl EndsList {
+    pub fn as_slice(&self) -> &[Ends]
+        ensures { result.now ≡ ends_listed self.now }
+    {
+        match self {
+            EndsList::One(ends) => slice::from_ref(ends),
+            EndsList::Many(ends) => ends.as_slice(),
+        }
+    }
 }
 
 /// Which edge: the numbers of its kind, its source and its target.
@@ -81,10 +100,8 @@ fn op_ends(names: &mut NameBook, op: &NamedOp) -> Result<Ends, AddError>
     }
 }
 
-/// The numbers of the ends of operations in order, each by the names that it leaves.
-///
-/// After an error the book has some of the names.
-pub fn ends_of(alloc: Global, names: &mut NameBook, ops: &[NamedOp]) -> Result<Vec<Ends>, AddError>
+/// As `ends_of`, of any number of operations.
+fn list_ends(alloc: Global, names: &mut NameBook, ops: &[NamedOp]) -> Result<Vec<Ends>, AddError>
     requires { All IsValid ops.now }
     ensures ends { IfOk result (λ e. e.items ≡ ends_all ops.now names.old.names) }
     ensures names { OnOk result (names.new ≡ with_names names.old (names_all ops.now names.old.names)) }
@@ -95,6 +112,21 @@ pub fn ends_of(alloc: Global, names: &mut NameBook, ops: &[NamedOp]) -> Result<V
         found.push(op_ends(names, op)?)?;
     }
     Ok(found)
+}
+
+/// The numbers of the ends of operations in order, each by the names that it leaves.
+///
+/// After an error the book has some of the names.
+pub fn ends_of(alloc: Global, names: &mut NameBook, ops: &[NamedOp]) -> Result<EndsList, AddError>
+    requires { All IsValid ops.now }
+    ensures ends { IfOk result (λ e. ends_listed e ≡ ends_all ops.now names.old.names) }
+    ensures names { OnOk result (names.new ≡ with_names names.old (names_all ops.now names.old.names)) }
+    ensures refused { IfErr result (λ error. IsRefusal error names.old (names_all ops.now names.old.names)) }
+{
+    if let [op] = ops {
+        return Ok(EndsList::One(op_ends(names, op)?));
+    }
+    Ok(EndsList::Many(list_ends(alloc, names, ops)?))
 }
 
 /// The kind of a number that a book of at most 64 kinds has.

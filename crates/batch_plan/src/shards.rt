@@ -1,7 +1,7 @@
 //! A batch's operations by worker.
 
 ghost use Rattle.std.specs.Prelude.{◌≡◌, ◌≢◌, ◌+◌, ◌-◌, ◌≤◌, ◌<◌, ◌^◌, ℕ, List, length, map, min, IfOk, OnOk, All, AllPairs};
-ghost use Rattle.std.specs.Prelude.{IfSome, Some, nat_eq, position, slice_get};
+ghost use Rattle.std.specs.Prelude.{[], IfSome, Some, nat_eq, position, slice_get};
 ghost use Rattle.std.specs.Option.{option_map};
 ghost use Rattle.indexmap.specs.IndexSet.{keys};
 ghost use Rattle.edge_block.specs.Slots.{BlockView};
@@ -44,17 +44,17 @@ fn is_in_shard(workers: usize, worker: usize, op: ResolvedOp) -> bool
     }
 }
 
-/// So many operations ask for few sources: these are looked through, and need no table.
+/// So many operations and old rows ask for few sources: these are looked through, and need no table.
 const FEW: usize = 16;
 
-/// The table of a worker's sources, but none where they and as many operations are few.
-fn table_of_many(places: IndexSet<u32>, operations: usize) -> Option<IndexSet<u32>>
-    ensures { IfSome result (λ kept. kept.keys ≡ places.keys) }
+/// A table for the sources of so many operations and old rows, none where these are few.
+fn table_for(alloc: Global, count: usize) -> Option<IndexSet<u32>>
+    ensures { IfSome result (λ p. p.keys ≡ []) }
 {
-    if places.len().saturating_add(operations) <= FEW {
+    if count <= FEW {
         None
     } else {
-        Some(places)
+        Some(IndexSet::new(alloc))
     }
 }
 
@@ -163,41 +163,31 @@ fn act_in(
     }
 }
 
-/// A worker's sources before its first operation, the place of each, and how many old blocks they have.
-#[derive(Drop)]
-struct Listed {
-    sources: Vec<VertexId>,
-    places: IndexSet<u32>,
-    blocks: usize,
-}
-
-/// The old rows of a worker. The greatest number stands for as many blocks, or more.
+/// Lists the sources of a worker's old rows, before its first operation, and returns how many old blocks they have. The
+/// greatest number stands for as many blocks, or more.
 fn list_old(
-    alloc: Global,
     workers: usize,
     worker: usize,
     old: &[OldRow],
-) -> Result<Listed, AllocError>
+    sources: &mut Vec<VertexId>,
+    places: &mut Option<IndexSet<u32>>,
+) -> Result<usize, AllocError>
     requires workers { 0 < workers }
     requires distinct { AllPairs (λ a b. a ≢ b) (old_sources old.now) }
-    ensures same { IfOk result (λ l. source_numbers l.sources.items ≡ l.places.keys) }
-    ensures own { IfOk result (λ l. l.places.keys ≡ old_sources (own_rows workers worker old.now)) }
-    ensures blocks { IfOk result (λ l. l.blocks ≡ min (blocks_in (own_rows workers worker old.now)) (2 ^ 64 - 1)) }
+    requires none { source_numbers sources.old.items ≡ [] }
+    requires same { IfSome places.old (λ p. source_numbers sources.old.items ≡ p.keys) }
+    ensures same { OnOk result (IfSome places.new (λ p. source_numbers sources.new.items ≡ p.keys)) }
+    ensures own { OnOk result (source_numbers sources.new.items ≡ old_sources (own_rows workers worker old.now)) }
+    ensures blocks { IfOk result (λ b. b ≡ min (blocks_in (own_rows workers worker old.now)) (2 ^ 64 - 1)) }
 {
-    let mut sources = Vec::new(alloc);
-    let mut places = IndexSet::new(alloc);
     let mut blocks = 0_usize;
     for row in old {
         if row.source.0 as usize % workers == worker {
-            place_in_table(&mut sources, &mut places, row.source.0)?;
+            place_of(sources, places, row.source.0)?;
             blocks = blocks.saturating_add(row.blocks);
         }
     }
-    Ok(Listed {
-        sources,
-        places,
-        blocks,
-    })
+    Ok(blocks)
 }
 
 /// A shard without fresh blocks, and how many of them it may take.
@@ -227,12 +217,9 @@ pub fn shard_for(
     ensures blocks { IfOk result (λ n. (rows : ℕ → List BlockView) → AreOldRows (latest (map shown ops.now)) rows old.now
         → n.blocks ≡ min (needed rows (sources_in n.shard) n.shard.steps.items) (2 ^ 64 - 1)) }
 {
-    let Listed {
-        mut sources,
-        places,
-        mut blocks,
-    } = list_old(alloc, workers, worker, old)?;
-    let mut places = table_of_many(places, ops.len());
+    let mut sources = Vec::new(alloc);
+    let mut places = table_for(alloc, old.len().saturating_add(ops.len()));
+    let mut blocks = list_old(workers, worker, old, &mut sources, &mut places)?;
     let mut steps = Vec::new(alloc);
     for k in 0..ops.len() {
         let op = ops[k];

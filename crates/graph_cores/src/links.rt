@@ -8,15 +8,16 @@ ghost use Rattle.graph_cores.specs.Links.{AreLinks, IsLinked};
 use graph_views::ViewEdges;
 use std::alloc::{AllocError, Global};
 
-/// Links the source and each of the targets, both ways. A loop links nothing.
+/// Links the source and each of the targets, both ways. A loop links nothing. Room is made once, so that no push looks for it.
 fn link(links: &mut Vec<(u32, u32)>, source: u32, targets: &[u32]) -> Result<(), AllocError>
     ensures { OnOk result ((v w : ℕ) → Contains links.new.items (v, w)
         ↔ (Contains links.old.items (v, w) ⊎ IsLinked source targets.now v w)) }
 {
+    links.reserve(targets.len().checked_mul(2).ok_or(AllocError)?)?;
     for target in targets {
         if *target != source {
-            links.push((source, *target))?;
-            links.push((*target, source))?;
+            links.push_reserved((source, *target));
+            links.push_reserved((*target, source));
         }
     }
     Ok(())

@@ -21,11 +21,11 @@ pub fn commit_line(lines: &mut String, version: u64, outcomes: &[Outcome]) -> Re
     let absent = count_of(outcomes, Outcome::Absent);
     let overflow = count_of(outcomes, Outcome::Overflow);
     number_part(lines, "commit v=", version)?;
-    number_part(lines, " ins=", inserted as u64)?;
-    number_part(lines, " upd=", updated as u64)?;
-    number_part(lines, " rem=", removed as u64)?;
-    number_part(lines, " abs=", absent as u64)?;
-    number_part(lines, " ovf=", overflow as u64)?;
+    count_part(lines, " ins=", " ins=0", inserted)?;
+    count_part(lines, " upd=", " upd=0", updated)?;
+    count_part(lines, " rem=", " rem=0", removed)?;
+    count_part(lines, " abs=", " abs=0", absent)?;
+    count_part(lines, " ovf=", " ovf=0", overflow)?;
     expired_part(lines, outcomes)?;
     line_feed(lines)
 }
@@ -43,6 +43,17 @@ fn number_part(lines: &mut String, label: &str, number: u64) -> Result<(), Alloc
     let mut digits = Buffer::new();
     lines.push_str(label)?;
     lines.push_str(digits.format(number))
+}
+
+/// Appends a label and a count. Most counts of a small batch are 0, whose text is there as a whole.
+fn count_part(lines: &mut String, label: &str, none: &str, count: usize) -> Result<(), AllocError>
+    requires { none.now ≡ label.now ++ decimal 0 }
+    ensures { OnOk result (string_bytes lines.new ≡ string_bytes lines.old ++ (label.now ++ decimal count)) }
+{
+    if count == 0 {
+        return lines.push_str(none);
+    }
+    number_part(lines, label, count as u64)
 }
 
 /// Appends how many edges expiries removed, where an operation was one.

@@ -25,25 +25,28 @@ kept_same : {A : Type 0} (keys_of : A → List ℕ) (kept : Option A) (keys sour
 kept_same keys_of None keys sources is same = tt
 kept_same keys_of (Some p) keys sources is same = same ∙ sym is
 
+pub list_old-requires-clause-same : goal.list_old-requires-clause-same
+list_old-requires-clause-same c = kept_same _ c.table_for-places.result [] _ c.table_for-places.ensures
+    (ap source_numbers c.new-sources.ensures.items)
+
 pub loop-k-init : goal.loop-k-init
 loop-k-init c =
     let old : List OldRow = c.args.old.now in
     let (rows, are) = c.requires.old in
     let first : ℕ = blocks_in (own_rows c.args.workers c.args.worker old) in
     let none : first ≡ first + 0 = omega arith in
-    let listed : source_numbers c.in_ok-sources.field-0.sources.items ≡ old_sources (own_rows c.args.workers c.args.worker old) =
-    c.in_ok-sources.ensures.same ∙ c.in_ok-sources.ensures.own in
+    let listed : source_numbers c.list_old.new.sources.items ≡ old_sources (own_rows c.args.workers c.args.worker old) =
+    c.in_ok-blocks.ensures.own in
     record {
       steps = rw (listed, c.new-steps.ensures.items) (start c.args.workers c.args.worker old are.distinct);
-      same = kept_same _ c.table_of_many-places.result c.in_ok-sources.field-0.places.keys _ c.table_of_many-places.ensures
-          c.in_ok-sources.ensures.same;
+      same = c.in_ok-blocks.ensures.same;
       old_blocks = rw listed (own_blocks (latest (map shown c.args.ops.now)) rows old are c.args.workers c.args.worker);
-      blocks = rw c.new-steps.ensures.items (c.in_ok-sources.ensures.blocks ∙ ap (λ n. min n (2 ^ 64 - 1)) none);
+      blocks = rw c.new-steps.ensures.items (c.in_ok-blocks.ensures.blocks ∙ ap (λ n. min n (2 ^ 64 - 1)) none);
       few = let few = own_few c.args.workers c.args.worker old in omega (
         arith,
         few,
         ap length listed,
-        length-map c.in_ok-sources.field-0.sources.items (λ (s : VertexId). s.0),
+        length-map c.list_old.new.sources.items (λ (s : VertexId). s.0),
       );
     }
 

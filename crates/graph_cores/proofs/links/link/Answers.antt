@@ -1,9 +1,10 @@
-use Rattle.std.proofs.Common.{◌≡◌, ◌<◌, ◌+◌, ◌++◌, ◌∷◌, [], ℕ, List, arith, length, get_or, take, subst, sym, ap, ◌∙◌, refl}
+use Rattle.std.proofs.Common.{◌≡◌, ◌<◌, ◌≤◌, ◌+◌, ◌*◌, ◌++◌, ◌∷◌, [], ℕ, List, arith, length, get_or, take, subst, sym, ap, ◌∙◌}
+use Rattle.std.proofs.Common.{refl, vec_len, vec_capacity}
 use Rattle.std.proofs.lemmas.List.{take_all}
 use Rattle.std.specs.declared.{alloc.Global.Global, vec.Vec.Vec}
 use Rattle.graph_cores.proofs.LinkSteps.{LinkedSoFar, linked, not_linked}
 use Rattle.graph_cores.proofs.links.link.Goals as goal
-use Rattle.graph_cores.proofs.links.link.Goals.{then-target-source+in_ok-push+in_ok-push-2, else-target-source}
+use Rattle.graph_cores.proofs.links.link.Goals.{then-target-source, else-target-source}
 
 pub loop-target-preserved : goal.loop-target-preserved
 loop-target-preserved c =
@@ -14,20 +15,35 @@ loop-target-preserved c =
     let i = c.loop-target.target-index in
     let t = get_or ts i 0 in
     let lt : i < length ts = omega arith in
-    elim c.if-target-source.branch [
-      | then-target-source+in_ok-push+in_ok-push-2 w ↦
+    let linked_now : LinkedSoFar start s (take (i + 1) ts) c.if-target-source.links.items = elim c.if-target-source.branch [
+      | then-target-source w ↦
           let e : c.if-target-source.links.items ≡ (before ++ (s, t) ∷ []) ++ (t, s) ∷ [] =
-          ap (λ (x : Vec (ℕ × ℕ) Global). x.items) w.links-is ∙ w.in_ok-push-2.ensures.items
-          ∙ ap (λ (xs : List (ℕ × ℕ)). xs ++ (t, s) ∷ []) w.in_ok-push.ensures.items in
+          ap (λ (x : Vec (ℕ × ℕ) Global). x.items) w.links-is ∙ w.push_reserved-then-target-source.ensures.items
+          ∙ ap (λ (xs : List (ℕ × ℕ)). xs ++ (t, s) ∷ []) w.push_reserved.ensures.items in
           subst (LinkedSoFar start s (take (i + 1) ts)) (sym e)
-          (linked start before s ts i lt c.loop-target.invariant t refl w.if-target-source.true)
+          (linked start before s ts i lt c.loop-target.invariant.linked t refl w.if-target-source.true)
       | else-target-source w ↦
           subst (LinkedSoFar start s (take (i + 1) ts)) (sym (ap (λ (x : Vec (ℕ × ℕ) Global). x.items) w.links-is))
-          (not_linked start before s ts i lt c.loop-target.invariant t refl w.if-target-source.false)
-    ]
+          (not_linked start before s ts i lt c.loop-target.invariant.linked t refl w.if-target-source.false)
+    ] in
+    let room = c.loop-target.invariant.room in
+    let room_now : vec_len c.if-target-source.links + length ts * 2 ≤ vec_capacity c.if-target-source.links + (i + 1) * 2 =
+    elim c.if-target-source.branch [
+      | then-target-source w ↦
+          let len = ap vec_len w.links-is ∙ w.push_reserved-then-target-source.ensures.len in
+          let len_one = w.push_reserved.ensures.len in
+          let capacity = ap vec_capacity w.links-is ∙ w.push_reserved-then-target-source.ensures.capacity in
+          let capacity_one = w.push_reserved.ensures.capacity in
+          omega arith
+      | else-target-source w ↦
+          let len = ap vec_len w.links-is in
+          let capacity = ap vec_capacity w.links-is in
+          omega arith
+    ] in
+    record { linked = linked_now; room = room_now }
 
 pub returns : goal.returns
 returns c =
     let ts = c.args.targets.now in
     subst (λ (xs : List ℕ). LinkedSoFar c.args.links.now.items c.args.source xs c.loop-target.links.items)
-    (take_all c.loop-target.target-index ts (omega arith)) c.loop-target.invariant
+    (take_all c.loop-target.target-index ts (omega arith)) c.loop-target.invariant.linked

@@ -1,4 +1,5 @@
-use Rattle.std.proofs.Common.{◌≡◌, ◌++◌, ℕ, List, refl, ap, ◌∙◌, append_assoc, count_by}
+use Rattle.std.proofs.Common.{◌≡◌, ◌++◌, ◌∷◌, [], ℕ, List, refl, sym, ap, ◌∙◌, append_assoc, count_by, arith}
+use Rattle.std.proofs.lemmas.Fmt.{decimal_digit}
 use Rattle.std.specs.Prelude.{codes, decimal, string_bytes}
 use Rattle.std.proofs.lemmas.Result.{on_ok_weaker}
 use Rattle.graph_model.specs.declared.batches.Outcome.TheVariants.{Inserted, Updated, Removed, Absent, Overflow}
@@ -6,22 +7,41 @@ use Rattle.script_lines.specs.Lines.{expired_part, is_outcome}
 use Rattle.script_lines.proofs.Parts.{part_more}
 use Rattle.script_lines.proofs.lines.commit_line.Goals as goal
 
+-- the text of a label and 0
+with_zero : (label : List ℕ) → label ++ 48 ∷ [] ≡ label ++ decimal 0
+with_zero label = ap (λ l. label ++ l) (sym (decimal_digit 0 (omega arith)))
+
+pub count_part-requires : goal.count_part-requires
+count_part-requires c = with_zero (codes " ins=")
+
+pub count_part-requires-2 : goal.count_part-requires-2
+count_part-requires-2 c = with_zero (codes " upd=")
+
+pub count_part-requires-3 : goal.count_part-requires-3
+count_part-requires-3 c = with_zero (codes " rem=")
+
+pub count_part-requires-4 : goal.count_part-requires-4
+count_part-requires-4 c = with_zero (codes " abs=")
+
+pub count_part-requires-5 : goal.count_part-requires-5
+count_part-requires-5 c = with_zero (codes " ovf=")
+
 pub returns : goal.returns
 returns c =
     let l1 : List ℕ = string_bytes c.number_part.new.lines in
-    let l2 : List ℕ = string_bytes c.number_part-2.new.lines in
-    let l3 : List ℕ = string_bytes c.number_part-3.new.lines in
-    let l4 : List ℕ = string_bytes c.number_part-4.new.lines in
-    let l5 : List ℕ = string_bytes c.number_part-5.new.lines in
-    let l6 : List ℕ = string_bytes c.number_part-6.new.lines in
+    let l2 : List ℕ = string_bytes c.count_part.new.lines in
+    let l3 : List ℕ = string_bytes c.count_part-2.new.lines in
+    let l4 : List ℕ = string_bytes c.count_part-3.new.lines in
+    let l5 : List ℕ = string_bytes c.count_part-4.new.lines in
+    let l6 : List ℕ = string_bytes c.count_part-5.new.lines in
     let l0 : List ℕ = string_bytes c.args.lines.now in
     let end : List ℕ = expired_part c.args.outcomes.now ++ codes "\n" in
     let e1 : l1 ≡ l0 ++ (codes "commit v=" ++ decimal c.args.version) = c.in_ok-number_part.ensures in
-    let e2 : l2 ≡ l1 ++ (codes " ins=" ++ decimal c.count_of-inserted.result) = c.in_ok-number_part-2.ensures in
-    let e3 : l3 ≡ l2 ++ (codes " upd=" ++ decimal c.count_of-updated.result) = c.in_ok-number_part-3.ensures in
-    let e4 : l4 ≡ l3 ++ (codes " rem=" ++ decimal c.count_of-removed.result) = c.in_ok-number_part-4.ensures in
-    let e5 : l5 ≡ l4 ++ (codes " abs=" ++ decimal c.count_of-absent.result) = c.in_ok-number_part-5.ensures in
-    let e6 : l6 ≡ l5 ++ (codes " ovf=" ++ decimal c.count_of-overflow.result) = c.in_ok-number_part-6.ensures in
+    let e2 : l2 ≡ l1 ++ (codes " ins=" ++ decimal c.count_of-inserted.result) = c.in_ok-count_part.ensures in
+    let e3 : l3 ≡ l2 ++ (codes " upd=" ++ decimal c.count_of-updated.result) = c.in_ok-count_part-2.ensures in
+    let e4 : l4 ≡ l3 ++ (codes " rem=" ++ decimal c.count_of-removed.result) = c.in_ok-count_part-3.ensures in
+    let e5 : l5 ≡ l4 ++ (codes " abs=" ++ decimal c.count_of-absent.result) = c.in_ok-count_part-4.ensures in
+    let e6 : l6 ≡ l5 ++ (codes " ovf=" ++ decimal c.count_of-overflow.result) = c.in_ok-count_part-5.ensures in
     let e7 : string_bytes c.expired_part.new.lines ≡ l6 ++ expired_part c.args.outcomes.now = c.in_ok-expired_part.ensures in
     on_ok_weaker c.line_feed.result
     (λ last.

@@ -1,6 +1,6 @@
 use Rattle.std.proofs.Common.{◌≡◌, ◌++◌, drop}
 use Rattle.batch_plan.specs.Plan.{ends_all, names_all}
-use Rattle.batch_plan.proofs.resolve.ends_of.Given as goal
+use Rattle.batch_plan.proofs.resolve.list_ends.Given as goal
 
 -- what is left of the operations leaves what all leave
 abbrev pub invariant-loop-op : goal.invariant-loop-op

@@ -1,7 +1,7 @@
 use Rattle.std.proofs.Common.{◌≡◌, ◌∷◌, ◌+◌, drop, drop-cons, rules}
 use Rattle.batch_plan.specs.Plan.{names_all, IsRefusal}
 use Rattle.batch_plan.proofs.Names.{refused_all, err_then}
-use Rattle.batch_plan.proofs.resolve.ends_of.Goals as goal
+use Rattle.batch_plan.proofs.resolve.list_ends.Goals as goal
 
 pub returns-in_err-op_ends-clause-refused : goal.returns-in_err-op_ends-clause-refused
 returns-in_err-op_ends-clause-refused c =
