@@ -9,10 +9,9 @@ use Rattle.epoch_core.specs.Worlds.{World, session_of, pin_in, pin_if, settled_i
 use Rattle.epoch_core.specs.Machine.{least_pin, lesser, to_pin, to_settle, to_release}
 use Rattle.epoch_core.proofs.Moves.{Moved, moved, floored, session_after, session_else, least_first, least_each}
 use Rattle.pin_copy.specs.Copies.{floor_of}
-use Rattle.seat_board.specs.Board.{BoardState, IsBoard, IsLeast, IsBelowPins, pin_at, with_pin, unsettled, settled, copy_of}
-use Rattle.seat_board.specs.Board.{number_if, settled_number, unsettled_number}
-use Rattle.seat_board.proofs.Copied.{floor_is_least}
-use Rattle.seat_board.specs.declared.board.{Pin.Pin as SeatPin, TheConstants.SEATS}
+use Rattle.seat_board.{proofs.Copied.floor_is_least, specs.Board.BoardState, specs.Board.IsBoard}
+use Rattle.seat_board.specs.Board.{IsLeast, IsBelowPins, pin_at, with_pin, unsettled, settled, copy_of, number_if, settled_number}
+use Rattle.seat_board.specs.{Board.unsettled_number, declared.board.Pin.Pin as SeatPin, declared.board.TheConstants.SEATS}
 use Rattle.store_steps.specs.{Desks.DeskView, Shown.ShowsWorld, Boards.RaisesAsMachine}
 use Rattle.store_steps.specs.Boards.{seat_pin, ShowsBoard, raised_board, PinsAsMachine, SettlesAsMachine, UnpinsAsMachine}
 
