@@ -1,6 +1,5 @@
 use Rattle.std.proofs.Common.{◌≡◌, ℕ, ◌+◌, ◌%◌, ◌^◌, ◌≤◌, List, length, replicate, zip, sym, ap, ◌∙◌, subst}
-use Rattle.std.specs.{Prelude.count_by, List.sum_by, List.AllZip, FinMap.len}
-use Rattle.std.proofs.lemmas.List.{length-map}
+use Rattle.std.{specs.Prelude.count_by, specs.List.sum_by, specs.List.AllZip, specs.FinMap.len, proofs.lemmas.List.length-map}
 use Rattle.graph_model.specs.{Limits.operation_limit, Step.after_all, Step.outcomes}
 use Rattle.graph_model.specs.declared.batches.{NamedOp.NamedOp, Outcome.TheVariants.Absent}
 use Rattle.block_layout.specs.Batches.{resolved}
@@ -14,7 +13,7 @@ use Rattle.batch_apply.proofs.Applying.{version_made, outcomes_made, applied_mad
 use Rattle.batch_apply.proofs.applied.apply.Goals as goal
 
 pub work-requires-clause-long : goal.work-requires-clause-long
-work-requires-clause-long g c κs within = ap length (c.as_slice.ensures.value ∙ c.requires.plan.2.needs)
+work-requires-clause-long g c κs within = ap length c.requires.plan.2.needs
     ∙ length-map c.args.plan.shards.items (needs_of (row_of c.args.version.now.rows))
 
 pub work-requires-clause-ready : goal.work-requires-clause-ready
@@ -23,7 +22,7 @@ work-requires-clause-ready g c κs within = λ jobs dealt.
     let n : ℕ = c.requires.plan.0 in
     dealt_ready n (resolved (batch_value c.args.batch) (content v).names (content v).kinds) (layout_of v.rows) (row_of v.rows) 0 n
     c.args.plan.shards.items c.args.plan.needs.items jobs c.requires.plan.2.needs c.requires.plan.2.shards
-    (subst (λ ns. AllZip IsDealt (zip c.args.plan.shards.items ns) jobs) c.as_slice.ensures.value dealt)
+    dealt
 
 pub finish_counted-requires-clause-whole : goal.finish_counted-requires-clause-whole
 finish_counted-requires-clause-whole g c =
@@ -45,10 +44,9 @@ finish_counted-requires-clause-whole g c =
     a.dones
     (numbers_of c.args.blocks.items) a.rest
     c.requires.plan.1 c.facts.ensures c.requires.plan.2.shards c.requires.plan.2.needs
-    (subst (λ ns. AllZip IsDealt (zip c.args.plan.shards.items ns) a.jobs) c.as_slice.ensures.value
-    a.dealt) a.done a.shared_out
+    a.dealt a.done a.shared_out
     c.requires.distinct c.requires.unlisted c.requires.limits c.requires.few (subst (λ ops. length ops ≤ operation_limit) c.deref.ensures
-    c.len-operations.ensures.batch.few) d2.version.rows among)
+    c.len.ensures.batch.few) d2.version.rows among)
 
 pub finish_counted-requires-clause-edges : goal.finish_counted-requires-clause-edges
 finish_counted-requires-clause-edges g c =
@@ -67,15 +65,14 @@ finish_counted-requires-clause-edges g c =
     c.set_names-draft.ensures e2 c.in_ok-draft.ensures in
     let told : c.in_ok-all.all.outcomes.items ≡ outcomes ops (content v) = a.outcomes_are
     ∙ ap (λ n. written_from a.dones (replicate n Absent))
-    (c.len-operations.ensures.count ∙ ap length c.deref.ensures)
+    (c.len.ensures.count ∙ ap length c.deref.ensures)
     ∙ outcomes_made v ops c.requires.plan.0 c.args.plan.shards.items c.args.plan.needs.items a.jobs
     a.dones
     (numbers_of c.args.blocks.items) a.rest
     c.requires.plan.1 c.facts.ensures c.requires.plan.2.shards c.requires.plan.2.needs
-    (subst (λ ns. AllZip IsDealt (zip c.args.plan.shards.items ns) a.jobs) c.as_slice.ensures.value
-    a.dealt) a.done a.shared_out
+    a.dealt a.done a.shared_out
     c.requires.distinct c.requires.unlisted c.requires.limits c.requires.few (subst (λ ops. length ops ≤ operation_limit) c.deref.ensures
-    c.len-operations.ensures.batch.few) d2.version.rows among in
+    c.len.ensures.batch.few) d2.version.rows among in
     let as_many : len (after_all ops (content v)).edges + sum_by taken_away c.deref-2.result.now
     ≡ c.edge_count.result + count_by is_inserted c.deref-2.result.now
     = rw (c.deref-2.ensures.value, told, c.edge_count.ensures) (len_after_all ops (content v)) in
@@ -100,14 +97,13 @@ returns g c =
     a.dones
     (numbers_of c.args.blocks.items) a.rest
     c.requires.plan.1 c.facts.ensures c.requires.plan.2.shards c.requires.plan.2.needs
-    (subst (λ ns. AllZip IsDealt (zip c.args.plan.shards.items ns) a.jobs) c.as_slice.ensures.value
-    a.dealt) a.done a.shared_out
+    a.dealt a.done a.shared_out
     c.requires.distinct c.requires.unlisted c.requires.limits c.requires.few (subst (λ ops. length ops ≤ operation_limit) c.deref.ensures
-    c.len-operations.ensures.batch.few) d2.version.rows among
+    c.len.ensures.batch.few) d2.version.rows among
     _
     (c.finish_counted.ensures ∙ ap (λ (d : DraftView). d.version) made)
     (a.outcomes_are ∙ ap (λ n. written_from a.dones (replicate n Absent))
-    (c.len-operations.ensures.count ∙ ap length c.deref.ensures))
+    (c.len.ensures.count ∙ ap length c.deref.ensures))
     a.taken_are
     a.dropped_are
     a.unused_are
