@@ -11,19 +11,17 @@ use Rattle.block_layout.specs.Rows.{Shape, OpenBlock, untouched, taken_in, dropp
 use Rattle.block_layout.specs.Batches.{Resolved, AtKey, InAll, resolved, is_in_shard, shard_ops, rows_all, opened, key_is_of}
 use Rattle.block_layout.specs.Batches.{taken_by, dropped_by, outcomes_all, layout_after, sum_below, IsWithin, IsLayoutOf}
 use Rattle.batch_shards.specs.{Births.births_end, Shards.IsAct, Shards.IsPlace, Shards.key_at, Shards.resolved_at}
-use Rattle.graph_version.specs.Versions.{is_in}
 use Rattle.batch_shards.specs.declared.shard.{Act.Act, Act.TheVariants.Edge, Act.TheVariants.Expire, Shard.Shard, Step.Step}
 use Rattle.batch_shards.specs.Done.{IsShardDone, sources_in, steps_in, rows_by, layout_by, sum_of}
-use Rattle.batch_shards.specs.{declared.shard.ShardDone.ShardDone, declared.shard.Place.Place, Closing.row_values}
+use Rattle.batch_shards.specs.declared.shard.{ShardDone.ShardDone, Place.Place}
+use Rattle.batch_shards.{specs.Closing.row_values, proofs.Closed.count_more, proofs.Places.count_by-append}
+use Rattle.graph_version.specs.Versions.{is_in}
 use Rattle.batch_plan.specs.{Shards.acts, Shards.unsourced, Shards.latest, Shards.is_old_row, Shards.IsShardOf, Plan.ends_all}
-use Rattle.batch_shards.proofs.Closed.{count_more}
-use Rattle.batch_shards.proofs.Places.{count_by-append}
 use Rattle.batch_apply.specs.{Plans.results, Plans.told, Sums.ArePlanned}
 use Rattle.batch_apply.proofs.Spared.{Spares, KeepsOff, rows_spared, over_all, all_spare, off_all}
-use Rattle.batch_plan.proofs.{Resolving.placed_in, Resolving.resolved_is, Sources.sources_within}
 use Rattle.batch_apply.proofs.Totals.{sum_all, worker_rows, none_taken, none_dropped, same_outcomes}
-use Rattle.batch_apply.proofs.{Kept.some_times, Placed.times}
-use Rattle.batch_apply.proofs.Merge.{same_ops, shard_places, kept_all}
+use Rattle.batch_apply.proofs.{Kept.some_times, Placed.times, Merge.same_ops, Merge.shard_places, Merge.kept_all}
+use Rattle.batch_plan.proofs.{Resolving.placed_in, Resolving.resolved_is, Sources.sources_within}
 use Rattle.edge_block.specs.Slots.{BlockView}
 
 no_times : (m : ℕ) (xs : List ℕ) → All (λ x. x ≡ m → ⊥) xs → times m xs ≡ 0
