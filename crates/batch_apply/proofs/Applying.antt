@@ -240,24 +240,22 @@ module _ (v : VersionView) (ops : List NamedOp) (workers : ℕ) (shards : List S
   handed_jobs : (q : ℕ → Bool) → count_by q (fresh_all with_fresh) + count_by q rest ≡ count_by q numbers
   handed_jobs q = ap (λ ns. count_by q ns + count_by q rest) (sym (fresh_in jobs)) ∙ handed q
 
-  pub version_made : IsVersion (record { opening = v.opening; batches = v.batches ++ ops ∷ []; rows = after })
-  version_made =
-      version_next v ops workers positive is with_fresh planned_jobs dones (done_in (row_of v.rows) jobs dones done) after among
-      numbers rest handed_jobs distinct unlisted limits few short
-
-  pub outcomes_made : written_from dones (replicate (length ops) Absent) ≡ outcomes ops (content v)
-  outcomes_made =
-      outcomes_next v ops workers positive is with_fresh planned_jobs dones (done_in (row_of v.rows) jobs dones done) after among
-      numbers rest handed_jobs distinct unlisted limits few short
-
-  pub applied_made : (a : Applied) → a.version ≡ record { opening = v.opening; batches = v.batches ++ ops ∷ []; rows = after }
-      → a.outcomes.items ≡ written_from dones (replicate (length ops) Absent)
-      → a.taken.items ≡ taken_left dones → blocks_of a.dropped.items ≡ dropped_left dones → numbers_of a.unused.items ≡ rest
-      ++ unused_left dones
-      → IsApplied v ops numbers a
-  applied_made =
-      applied v ops workers positive is with_fresh planned_jobs dones (done_in (row_of v.rows) jobs dones done) after among
-      numbers rest handed_jobs distinct unlisted limits few short
+  -- the next version is one, the outcomes are the operation rule's, and so is all that is left
+  pub next_made : IsVersion (record { opening = v.opening; batches = v.batches ++ ops ∷ []; rows = after })
+      × (written_from dones (replicate (length ops) Absent) ≡ outcomes ops (content v))
+      × ((a : Applied) → a.version ≡ record { opening = v.opening; batches = v.batches ++ ops ∷ []; rows = after }
+      → a.outcomes.items ≡ written_from dones (replicate (length ops) Absent) → a.taken.items ≡ taken_left dones
+      → blocks_of a.dropped.items ≡ dropped_left dones → numbers_of a.unused.items ≡ rest ++ unused_left dones
+      → IsApplied v ops numbers a)
+  next_made =
+      let each = done_in (row_of v.rows) jobs dones done in (
+        version_next v ops workers positive is with_fresh planned_jobs dones each after among numbers rest handed_jobs distinct
+            unlisted limits few short,
+        outcomes_next v ops workers positive is with_fresh planned_jobs dones each after among numbers rest handed_jobs distinct
+            unlisted limits few short,
+        applied v ops workers positive is with_fresh planned_jobs dones each after among numbers rest handed_jobs distinct
+            unlisted limits few short,
+      )
 
 -- The drafts of the next version
 
