@@ -299,9 +299,11 @@ module _ (workers w : ℕ) (ops : List NamedOp) (g : Graph) (layout : ℕ → Li
       ∙ shard_places workers w ops g (layout_by before) (sources_in shard)
       (λ k d lt. ap (λ n. n == w) (planned.own k d lt) ∙ eq-eqb w w refl)
 
-  -- a shard's rows have the layout that the batch leaves
-  pub shard_layout_at : All (λ r. map shape_of r.1 ≡ layout_after ops g (layout_by before) r.0) (row_values done.rows.items)
-  shard_layout_at k d lt =
+  -- a shard leaves its rows as the batch does
+  row_there : (k : ℕ) (d : ℕ × List BlockView) → k < length (row_values done.rows.items)
+      → rows_all (steps_in shard) (opened (layout_by before)) (get_or (row_values done.rows.items) k d).0
+      ≡ rows_all (resolved ops g.names g.kinds) (opened (layout_by before)) (get_or (row_values done.rows.items) k d).0
+  row_there k d lt =
       let r : ℕ × List BlockView = get_or (row_values done.rows.items) k d in
       let long : length (map (λ (r : ℕ × List BlockView). r.0) (row_values done.rows.items))
       ≡ length (row_values done.rows.items) = length-map (row_values done.rows.items) (λ (r : ℕ × List BlockView). r.0) in
@@ -309,8 +311,11 @@ module _ (workers w : ℕ) (ops : List NamedOp) (g : Graph) (layout : ℕ → Li
       ∙ get_or-map (λ (r : ℕ × List BlockView). r.0) (row_values done.rows.items) k d 0 lt in
       let within : k < length (sources_in shard) = omega (arith, ap length is.sources_are) in
       let own : r.0 % workers ≡ w = ap (λ s. s % workers) (sym source) ∙ planned.own k 0 within in
-      is.layout k d lt ∙ ap row_end (worker_rows workers w ops g layout shard planned (opened (layout_by before)) r.0
-      (ap (λ b. b == w) own ∙ eq-eqb w w refl))
+      worker_rows workers w ops g layout shard planned (opened (layout_by before)) r.0 (ap (λ b. b == w) own ∙ eq-eqb w w refl)
+
+  -- a shard's rows have the layout that the batch leaves
+  pub shard_layout_at : All (λ r. map shape_of r.1 ≡ layout_after ops g (layout_by before) r.0) (row_values done.rows.items)
+  shard_layout_at k d lt = is.layout k d lt ∙ ap row_end (row_there k d lt)
 
   -- a shard's rows have the births that the batch leaves
   pub shard_births_at : (f h : BlockView → ℕ) (n : ℕ) → ((b : BlockView) → is_in b.number done.left.taken.items ≡ true → h b ≡ n)
@@ -318,12 +323,5 @@ module _ (workers w : ℕ) (ops : List NamedOp) (g : Graph) (layout : ℕ → Li
       ≡ births_end n (rows_all (resolved ops g.names g.kinds) (opened (layout_by before)) r.0) (map f (before r.0)))
       (row_values done.rows.items)
   shard_births_at f h n each k d lt = λ old.
-      let r : ℕ × List BlockView = get_or (row_values done.rows.items) k d in
-      let long : length (map (λ (r : ℕ × List BlockView). r.0) (row_values done.rows.items))
-      ≡ length (row_values done.rows.items) = length-map (row_values done.rows.items) (λ (r : ℕ × List BlockView). r.0) in
-      let source : get_or (sources_in shard) k 0 ≡ r.0 = ap (λ ss. get_or ss k 0) (sym is.sources_are)
-      ∙ get_or-map (λ (r : ℕ × List BlockView). r.0) (row_values done.rows.items) k d 0 lt in
-      let within : k < length (sources_in shard) = omega (arith, ap length is.sources_are) in
-      let own : r.0 % workers ≡ w = ap (λ s. s % workers) (sym source) ∙ planned.own k 0 within in
-      is.births f h n each k d lt old ∙ ap (λ row. births_end n row (map f (before r.0)))
-      (worker_rows workers w ops g layout shard planned (opened (layout_by before)) r.0 (ap (λ b. b == w) own ∙ eq-eqb w w refl))
+      is.births f h n each k d lt old
+      ∙ ap (λ row. births_end n row (map f (before (get_or (row_values done.rows.items) k d).0))) (row_there k d lt)
