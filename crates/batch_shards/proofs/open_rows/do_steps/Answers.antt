@@ -9,7 +9,7 @@ use Rattle.batch_shards.specs.{Spending.latest, declared.shard.Act.Act}
 use Rattle.batch_shards.proofs.{ShardSteps.first_step, SourceSteps.earlier_next, SourceSteps.next_from}
 use Rattle.batch_shards.proofs.SourceSteps.{stepped, outcome_here, left_alone, left_told, skipped_count, at_row, wrote, beside}
 use Rattle.batch_shards.proofs.Expiring.{not_later, spends_least}
-use Rattle.batch_shards.proofs.shard.do_steps.Goals as goal
+use Rattle.batch_shards.proofs.open_rows.do_steps.Goals as goal
 
 pub loop-index-init : goal.loop-index-init
 loop-index-init c =
