@@ -1,8 +1,7 @@
 -- The work of a batch that has one shard.
-use Rattle.std.proofs.Common.{◌≡◌, ℕ, ◌+◌, List, [], ◌∷◌, ◌++◌, length, length-append, zip, get_or, refl, ap, sym, ◌∙◌, arith, count_by, Bool}
-use Rattle.std.proofs.lemmas.List.{append-nil}
-use Rattle.std.specs.List.{sum_by}
-use Rattle.std.proofs.lemmas.List.Sums.{sum_by-cons}
+use Rattle.std.proofs.Common.{◌≡◌, ℕ, ◌+◌}
+use Rattle.std.proofs.Common.{List, [], ◌∷◌, ◌++◌, length, length-append, zip, get_or, refl, ap, sym, ◌∙◌, arith, count_by, Bool}
+use Rattle.std.{proofs.lemmas.List.append-nil, specs.List.sum_by, proofs.lemmas.List.Sums.sum_by-cons}
 
 -- the last of one is the only one, with its need
 pub paired : {A B : Type 0} (xs rest : List A) (x : A) (ys : List B) (d : B) → xs ≡ rest ++ x ∷ [] → length xs ≡ 1
@@ -17,10 +16,6 @@ pub only : (xs : List ℕ) (d : ℕ) → length xs ≡ 1 → sum_by (λ n. n) xs
 only [] d one = absurd (omega arith)
 only (x ∷ []) d one = omega (arith, sum_by-cons (λ (n : ℕ). n) x [])
 only (x ∷ y ∷ xs) d one = absurd (omega arith)
-
--- what one shard leaves is what the list of it has
-pub after_none : {A : Type 0} (xs : List A) → xs ≡ xs ++ []
-after_none xs = sym (append-nil xs)
 
 pub numbers_one : (q : ℕ → Bool) (xs : List ℕ) (rest all : ℕ) → rest + count_by q xs ≡ all → count_by q (xs ++ []) + rest ≡ all
 numbers_one q xs rest all e =

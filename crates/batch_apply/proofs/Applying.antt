@@ -1,9 +1,9 @@
 -- What all shards leave is what the batch leaves of the version.
-use Rattle.std.proofs.Common.{◌≡◌, ◌≢◌, ℕ, suc, ◌+◌, ◌<◌, ◌≤◌, ◌==◌, Bool, true, false, List, [], ◌∷◌, ◌++◌}
-use Rattle.std.proofs.Common.{length, length-append, map, flat_map, zip, count_by, replicate, refl, sym, ap, ◌∙◌, arith}
-use Rattle.std.proofs.Common.{subst, All, AllPairs, ltb}
-use Rattle.std.specs.{List.range_with_len, List.AllZip, FinMap.len}
-use Rattle.std.proofs.lemmas.{Bool.ltb-true, Bool.ltb-false, List.length-map, List.FromFn.length-range_with_len}
+use Rattle.std.proofs.Common.{◌≡◌, ◌≢◌, ℕ, suc, ◌+◌, ◌<◌, ◌≤◌, ◌==◌, Bool, true, false, List, [], ◌∷◌, ◌++◌, length}
+use Rattle.std.proofs.Common.{length-append, map, flat_map, zip, count_by, replicate, refl, sym, ap, ◌∙◌, arith, subst, All}
+use Rattle.std.{proofs.Common.AllPairs, proofs.Common.ltb, specs.List.range_with_len, specs.List.AllZip, specs.FinMap.len}
+use Rattle.std.proofs.lemmas.{Bool.ltb-true, Bool.ltb-false, List.length-map}
+use Rattle.std.proofs.lemmas.{List.FromFn.length-range_with_len, List.Concat.length-flat_map, Slice.Zip.AllZip-long}
 use Rattle.graph_model.specs.{Graph.Graph, Limits.name_limit, Limits.kind_limit, Limits.batch_limit, Limits.operation_limit}
 use Rattle.graph_model.specs.Step.{after_all, outcomes, left_by}
 use Rattle.graph_model.specs.declared.batches.{NamedOp.NamedOp, Outcome.TheVariants.Absent}
@@ -14,38 +14,28 @@ use Rattle.block_layout.specs.Batches.{Resolved, resolved, outcomes_all, opened,
 use Rattle.block_layout.proofs.GraphLaws.{batch_layout}
 use Rattle.row_pages.specs.Rows as rows
 use Rattle.row_pages.specs.Rows.{row_of}
-use Rattle.batch_shards.specs.{RowBlocks.block_of, RowBlocks.blocks_of, RowBlocks.numbers_of, Groups.told}
-use Rattle.batch_shards.specs.Done.{IsShardDone, Exchanges, sources_in, rows_by}
-use Rattle.batch_shards.specs.Births.{births_end, births_dropped, open_row, births_after, dropped_births}
-use Rattle.batch_shards.specs.declared.shard.{Shard.Shard, ShardDone.ShardDone}
+use Rattle.batch_shards.specs.{RowBlocks.block_of, RowBlocks.blocks_of, RowBlocks.numbers_of, Groups.told, Done.IsShardDone}
+use Rattle.batch_shards.specs.{Done.Exchanges, Done.sources_in, Done.rows_by, Births.births_end, Births.births_dropped}
+use Rattle.batch_shards.specs.{Births.open_row, Births.births_after, Births.dropped_births, declared.shard.Shard.Shard}
+use Rattle.batch_shards.{specs.declared.shard.ShardDone.ShardDone, proofs.Places.count_by-append}
 use Rattle.graph_version.specs.Versions.{VersionView, IsVersion, IsBlockOf, AreRowsOf, content, layout_of, is_in}
-use Rattle.graph_version.specs.Kept.{vertex_book, kind_book, edge_total}
-use Rattle.graph_version.specs.Drafts.{DraftView, drafted_over, with_batch, IsWhole}
-use Rattle.graph_version.proofs.Few.{few_total}
-use Rattle.batch_plan.specs.{Shards.IsShardOf, Planned.MeetsNeitherLimit}
+use Rattle.graph_version.specs.{Kept.vertex_book, Kept.kind_book, Kept.edge_total, Drafts.DraftView, Drafts.drafted_over}
+use Rattle.graph_version.{specs.Drafts.with_batch, specs.Drafts.IsWhole, proofs.Few.few_total}
+use Rattle.batch_plan.{specs.Shards.IsShardOf, specs.Planned.MeetsNeitherLimit, proofs.Resolving.as_many_resolved}
 use Rattle.batch_apply.specs.{Plans.written_all, Sums.ArePlanned, declared.applied.Applied.Applied, declared.workers.Job.Job}
 use Rattle.batch_apply.specs.Applied.{IsApplied, ReplacesRows, row_among, written_from}
-use Rattle.batch_plan.proofs.Resolving.{as_many_resolved}
-use Rattle.batch_shards.proofs.Places.{count_by-append}
 use Rattle.batch_apply.proofs.{Told.told_exact, Written.all_written, Written.all_sources, Placed.times, Placed.among_is}
-use Rattle.batch_apply.proofs.Together.{all_once, all_within, once, quiet_layout, batch_totals, outcomes_over}
-use Rattle.batch_apply.proofs.{Together.quiet_row, Together.births_sum, Together.together_at, Numbers.numbers_once}
-use Rattle.batch_apply.proofs.{Kept.pairs, Kept.exchanged_all, Left.outcomes_left}
+use Rattle.batch_apply.proofs.Together.{all_once, all_within, once, quiet_layout, batch_totals, outcomes_over, quiet_row}
+use Rattle.batch_apply.proofs.{Together.births_sum, Together.together_at, Numbers.numbers_once, Kept.pairs, Kept.exchanged_all}
+use Rattle.batch_apply.proofs.Left.{outcomes_left, sum_each, rows_left, taken_left, dropped_left, unused_left}
+use Rattle.batch_apply.proofs.Left.{fresh_all, sources_left, blocks_left, exchanged_left, handed_left, layouts_left, births_left}
 use Rattle.batch_apply.specs.Jobs.{IsDealt, AreDone}
 use Rattle.batch_apply.proofs.Dealt.{shards_in, needs_of, dealt_planned, done_in, fresh_in}
 use Rattle.batch_apply.proofs.BirthCounts.{map_same, untouched_births, untouched_dropped, count_births, count_pieces, count_lists}
-use Rattle.batch_apply.proofs.Left.{length_flat, sum_each, rows_left, taken_left, dropped_left, unused_left, fresh_all}
-use Rattle.batch_apply.proofs.Left.{sources_left, blocks_left, exchanged_left, handed_left, layouts_left, births_left}
 
 all_shards : (shards : List Shard) → all_sources (map sources_in shards) ≡ flat_map sources_in shards
 all_shards [] = refl
 all_shards (s ∷ shards) = ap (λ l. sources_in s ++ l) (all_shards shards)
-
-as_many : {A B : Type 0} (R : A → B → Type 0) (xs : List A) (ys : List B) → AllZip R xs ys → length ys ≡ length xs
-as_many R [] [] z = refl
-as_many R [] (y ∷ ys) z = absurd z
-as_many R (x ∷ xs) [] z = absurd z
-as_many R (x ∷ xs) (y ∷ ys) z = ap suc (as_many R xs ys z.1)
 
 left_more : (bs : List (List NamedOp)) (b : List NamedOp) (g : Graph) → left_by (bs ++ b ∷ []) g ≡ after_all b (left_by bs g)
 left_more [] b g = refl
@@ -177,7 +167,7 @@ module _ (v : VersionView) (ops : List NamedOp) (workers : ℕ) (positive : 0 < 
           let rs : List Resolved = resolved ops g.names g.kinds in
           let rows : ℕ → List OpenBlock = opened (layout_of v.rows) in
           let lists : List (List ℕ) = map sources_in shards in
-          let many : length lists ≡ workers = length-map shards sources_in ∙ as_many (IsShardOf workers rs (layout_of v.rows))
+          let many : length lists ≡ workers = length-map shards sources_in ∙ AllZip-long (IsShardOf workers rs (layout_of v.rows))
           (range_with_len 0 workers) shards planned ∙ length-range_with_len 0 workers in
           outcomes_left (row_of v.rows) workers ops g (layout_of v.rows) 0 workers shards dones planned done
           (replicate (length ops) Absent)
@@ -219,10 +209,10 @@ module _ (v : VersionView) (ops : List NamedOp) (workers : ℕ) (positive : 0 < 
                   ∙ births_next f h n s (λ b is. each b (ap (is_in b.number) taken ∙ is)) old;
               dropped_are = λ f q. ap (λ bs. count_by q (map f bs)) dropped ∙ dropped_next f q;
             };
-            taken_are = ap length taken ∙ length_flat (λ (d : ShardDone). d.left.taken.items) dones ∙ totals.0;
+            taken_are = ap length taken ∙ length-flat_map (λ (d : ShardDone). d.left.taken.items) dones ∙ totals.0;
             dropped_are =
                 sym (length-map a.dropped.items block_of) ∙ ap length dropped
-                ∙ length_flat (λ (d : ShardDone). blocks_of d.left.dropped.items) dones
+                ∙ length-flat_map (λ (d : ShardDone). blocks_of d.left.dropped.items) dones
                 ∙ sum_each (λ (d : ShardDone). length (blocks_of d.left.dropped.items))
                 (λ (d : ShardDone). length d.left.dropped.items) (λ d. length-map d.left.dropped.items block_of) dones
                 ∙ totals.1;
@@ -250,24 +240,22 @@ module _ (v : VersionView) (ops : List NamedOp) (workers : ℕ) (shards : List S
   handed_jobs : (q : ℕ → Bool) → count_by q (fresh_all with_fresh) + count_by q rest ≡ count_by q numbers
   handed_jobs q = ap (λ ns. count_by q ns + count_by q rest) (sym (fresh_in jobs)) ∙ handed q
 
-  pub version_made : IsVersion (record { opening = v.opening; batches = v.batches ++ ops ∷ []; rows = after })
-  version_made =
-      version_next v ops workers positive is with_fresh planned_jobs dones (done_in (row_of v.rows) jobs dones done) after among
-      numbers rest handed_jobs distinct unlisted limits few short
-
-  pub outcomes_made : written_from dones (replicate (length ops) Absent) ≡ outcomes ops (content v)
-  outcomes_made =
-      outcomes_next v ops workers positive is with_fresh planned_jobs dones (done_in (row_of v.rows) jobs dones done) after among
-      numbers rest handed_jobs distinct unlisted limits few short
-
-  pub applied_made : (a : Applied) → a.version ≡ record { opening = v.opening; batches = v.batches ++ ops ∷ []; rows = after }
-      → a.outcomes.items ≡ written_from dones (replicate (length ops) Absent)
-      → a.taken.items ≡ taken_left dones → blocks_of a.dropped.items ≡ dropped_left dones → numbers_of a.unused.items ≡ rest
-      ++ unused_left dones
-      → IsApplied v ops numbers a
-  applied_made =
-      applied v ops workers positive is with_fresh planned_jobs dones (done_in (row_of v.rows) jobs dones done) after among
-      numbers rest handed_jobs distinct unlisted limits few short
+  -- the next version is one, the outcomes are the operation rule's, and so is all that is left
+  pub next_made : IsVersion (record { opening = v.opening; batches = v.batches ++ ops ∷ []; rows = after })
+      × (written_from dones (replicate (length ops) Absent) ≡ outcomes ops (content v))
+      × ((a : Applied) → a.version ≡ record { opening = v.opening; batches = v.batches ++ ops ∷ []; rows = after }
+      → a.outcomes.items ≡ written_from dones (replicate (length ops) Absent) → a.taken.items ≡ taken_left dones
+      → blocks_of a.dropped.items ≡ dropped_left dones → numbers_of a.unused.items ≡ rest ++ unused_left dones
+      → IsApplied v ops numbers a)
+  next_made =
+      let each = done_in (row_of v.rows) jobs dones done in (
+        version_next v ops workers positive is with_fresh planned_jobs dones each after among numbers rest handed_jobs distinct
+            unlisted limits few short,
+        outcomes_next v ops workers positive is with_fresh planned_jobs dones each after among numbers rest handed_jobs distinct
+            unlisted limits few short,
+        applied v ops workers positive is with_fresh planned_jobs dones each after among numbers rest handed_jobs distinct
+            unlisted limits few short,
+      )
 
 -- The drafts of the next version
 

@@ -1,22 +1,18 @@
 -- The blocks of a version and of the next one, by the sources whose rows were replaced.
-use Rattle.std.proofs.Common.{◌≡◌, ◌≢◌, ℕ, zero, suc, ◌+◌, ◌<◌, ◌≤◌, ◌==◌, Bool, true, false, cond, List, [], ◌∷◌, ◌++◌, length}
-use Rattle.std.proofs.Common.{get_or, map, flat_map, count_by, refl, sym, ap, ap₂, ◌∙◌, arith, subst, All, AllPairs}
-use Rattle.std.specs.List.{sum_by}
-use Rattle.std.proofs.lemmas.Bool.{eq-eqb, eqb-true, ne_eqb}
-use Rattle.std.proofs.lemmas.List.{Sums.sum_by-cons, Elements.All-head, Elements.All-tail}
+use Rattle.std.proofs.Common.{◌≡◌, ◌≢◌, ℕ, zero, suc, ◌+◌, ◌<◌, ◌≤◌, ◌==◌, Bool, true, false, cond, List, [], ◌∷◌}
+use Rattle.std.proofs.Common.{◌++◌, length, get_or, map, flat_map, count_by, refl, sym, ap, ap₂, ◌∙◌, arith, subst, All, AllPairs}
+use Rattle.std.{specs.List.sum_by, proofs.lemmas.Bool.eq-eqb}
+use Rattle.std.proofs.lemmas.{Bool.eqb-true, Bool.ne_eqb, List.Sums.sum_by-cons, List.Elements.All-head, List.Elements.All-tail}
 use Rattle.edge_block.specs.Slots.{BlockView}
 use Rattle.block_layout.specs.Batches.{sum_below}
 use Rattle.row_pages.specs.Rows.{row_of, blocks_of}
-use Rattle.batch_shards.specs.Done.{Exchanges}
-use Rattle.batch_shards.proofs.Places.{count_by-append}
-use Rattle.batch_shards.proofs.Closed.{count_more}
-use Rattle.batch_apply.specs.Applied.{row_among}
-use Rattle.batch_apply.proofs.Totals.{sum_all}
+use Rattle.batch_shards.{specs.Done.Exchanges, proofs.Places.count_by-append, proofs.Closed.count_more}
+use Rattle.batch_apply.{specs.Applied.row_among, proofs.Totals.sum_all}
 use Rattle.batch_apply.proofs.Placed.{times, sources_of, among_none, among_all}
 
 -- Sums below a number
 
-shift : (n : ℕ) (f : ℕ → ℕ) → sum_below (suc n) f ≡ f 0 + sum_below n (λ s. f (suc s))
+pub shift : (n : ℕ) (f : ℕ → ℕ) → sum_below (suc n) f ≡ f 0 + sum_below n (λ s. f (suc s))
 shift zero f = refl
 shift (suc n) f = let rest = shift n f in omega arith
 
@@ -24,7 +20,7 @@ below_plus : (n : ℕ) (f g h : ℕ → ℕ) → ((s : ℕ) → f s ≡ g s + h 
 below_plus zero f g h each = refl
 below_plus (suc n) f g h each = let here = each n in let rest = below_plus n f g h each in omega arith
 
-below_zero : (n : ℕ) → (let f : ℕ → ℕ = λ _. 0 in sum_below n f) ≡ 0
+pub below_zero : (n : ℕ) → (let f : ℕ → ℕ = λ _. 0 in sum_below n f) ≡ 0
 below_zero zero = refl
 below_zero (suc n) = let rest = below_zero n in omega arith
 

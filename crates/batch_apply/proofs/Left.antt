@@ -1,29 +1,22 @@
 -- What shards leave, one after another.
-use Rattle.std.proofs.Common.{◌≡◌, ℕ, zero, suc, ◌+◌, Bool, true, List, [], ◌∷◌, ◌++◌, subst, All}
-use Rattle.std.proofs.Common.{length, length-append, map, flat_map, count_by, refl, sym, ap, ap₂, ◌∙◌, arith}
-use Rattle.std.specs.List.{sum_by, range_with_len, AllZip}
-use Rattle.std.proofs.lemmas.List.{map-append, Sums.sum_by-cons, Elements.All-nil, Elements.All-append}
-use Rattle.std.proofs.lemmas.Grind.{flat_map-append}
+use Rattle.std.proofs.Common.{◌≡◌, ℕ, zero, suc, ◌+◌, Bool, true, List, [], ◌∷◌}
+use Rattle.std.proofs.Common.{◌++◌, subst, All, length, length-append, map, flat_map, count_by, refl, sym, ap, ap₂, ◌∙◌, arith}
+use Rattle.std.{specs.List.sum_by, specs.List.range_with_len, specs.List.AllZip, proofs.lemmas.List.map-append}
+use Rattle.std.proofs.lemmas.{List.Sums.sum_by-cons, List.Elements.All-nil, List.Elements.All-append, Grind.flat_map-append}
 use Rattle.graph_model.specs.{Graph.Graph, declared.batches.NamedOp.NamedOp, declared.batches.Outcome.Outcome}
 use Rattle.edge_block.specs.Slots.{BlockView}
 use Rattle.block_layout.specs.Rows.{Shape, shape_of}
 use Rattle.block_layout.specs.Batches.{Resolved, resolved, opened, layout_after, rows_all}
-use Rattle.batch_shards.specs.{RowBlocks.blocks_of, RowBlocks.numbers_of, Closing.row_values, Births.births_end}
-use Rattle.batch_shards.specs.Done.{IsShardDone, Exchanges, sources_in}
-use Rattle.batch_shards.specs.declared.shard.{Shard.Shard, ShardDone.ShardDone}
+use Rattle.batch_shards.specs.{RowBlocks.blocks_of, RowBlocks.numbers_of, Closing.row_values, Births.births_end, Done.IsShardDone}
+use Rattle.batch_shards.specs.{Done.Exchanges, Done.sources_in, declared.shard.Shard.Shard, declared.shard.ShardDone.ShardDone}
+use Rattle.batch_shards.proofs.Places.{count_by-append}
 use Rattle.graph_version.specs.Versions.{IsBlockOf, is_in}
 use Rattle.batch_plan.specs.Shards.{IsShardOf}
 use Rattle.batch_apply.specs.{Plans.written, Plans.written_all, Applied.written_from}
-use Rattle.batch_shards.proofs.Places.{count_by-append}
 use Rattle.batch_apply.proofs.{Together.shard_outcomes_at, Together.shard_layout_at, Together.shard_births_at, Placed.sources_of}
 use Rattle.batch_apply.proofs.{BirthCounts.in_left, BirthCounts.in_right}
 
 -- What shards leave, one after another
-
-pub length_flat : {X A : Type 0} (f : X → List A) (xs : List X) → length (flat_map f xs) ≡ sum_by (λ x. length (f x)) xs
-length_flat f [] = refl
-length_flat f (x ∷ xs) = length-append (f x) (flat_map f xs) ∙ ap (λ n. length (f x) + n) (length_flat f xs)
-    ∙ sym (sum_by-cons (λ x. length (f x)) x xs)
 
 pub sum_each : {X : Type 0} (f h : X → ℕ) → ((x : X) → f x ≡ h x) → (xs : List X) → sum_by f xs ≡ sum_by h xs
 sum_each f h each [] = refl

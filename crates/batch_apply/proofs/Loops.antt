@@ -7,11 +7,10 @@ use Rattle.graph_model.specs.declared.{ids.VertexId.VertexId, batches.Outcome.Ou
 use Rattle.edge_block.specs.declared.blocks.Block.{Block}
 use Rattle.row_pages.specs.Rows.{row_of}
 use Rattle.batch_shards.specs.{RowBlocks.block_of, RowBlocks.blocks_of, RowBlocks.numbers_of, Closing.row_values, Groups.told}
-use Rattle.batch_shards.specs.declared.shard.ShardDone.{ShardDone}
+use Rattle.batch_shards.{specs.declared.shard.ShardDone.ShardDone, proofs.Places.count_by-append}
 use Rattle.graph_version.specs.Drafts.{DraftView, ReplacesRow}
 use Rattle.block_layout.specs.Batches.{together}
 use Rattle.batch_apply.specs.{Plans.written, Applied.ReplacesRows, Applied.written_from, Applied.row_among}
-use Rattle.batch_shards.proofs.Places.{count_by-append}
 use Rattle.batch_apply.proofs.{Placed.among_more}
 
 pub written_more : (ps : List (ℕ × Outcome)) (p : ℕ × Outcome) (xs : List Outcome)

@@ -1,7 +1,6 @@
 -- What shards leave, put together, is what the batch leaves.
-use Rattle.std.proofs.Common.{◌≡◌, ℕ, ◌+◌, ◌%◌, ◌==◌, List, [], ◌∷◌, map, filter, zip, Bool, true, false, cond, refl, ap}
-use Rattle.std.proofs.Common.{◌∙◌, All}
-use Rattle.std.specs.List.{enumerate_from}
+use Rattle.std.proofs.Common.{◌≡◌, ℕ, ◌+◌, ◌%◌, ◌==◌, List, [], ◌∷◌, map, filter, zip, Bool, true, false, cond, refl, ap, ◌∙◌}
+use Rattle.std.{proofs.Common.All, specs.List.enumerate_from}
 use Rattle.graph_model.specs.{Graph.Graph, declared.batches.NamedOp.NamedOp, declared.batches.Outcome.Outcome}
 use Rattle.block_layout.specs.Rows.{Shape, untouched, row_end}
 use Rattle.block_layout.specs.Batches.{Resolved, resolved, is_in_shard, shard_ops, picked, outcomes_all, opened}

@@ -1,8 +1,7 @@
 -- Rows that took the places of others.
-use Rattle.std.proofs.Common.{◌≡◌, ℕ, ◌≤◌, ◌==◌, true, false, cond, List, [], ◌∷◌, ◌++◌, map, flat_map, count_by}
-use Rattle.std.proofs.Common.{refl, sym, ap, ap₂, ◌∙◌, arith, subst, All}
-use Rattle.std.proofs.lemmas.Bool.{eq-eqb, eqb-true, eqb-false, ne_eqb}
-use Rattle.std.proofs.lemmas.List.Elements.{All-head, All-tail}
+use Rattle.std.proofs.Common.{◌≡◌, ℕ, ◌≤◌, ◌==◌, true, false, cond, List, [], ◌∷◌, ◌++◌, map, flat_map, count_by, refl, sym, ap}
+use Rattle.std.proofs.{Common.ap₂, Common.◌∙◌, Common.arith, Common.subst, Common.All, lemmas.Bool.eq-eqb}
+use Rattle.std.proofs.lemmas.{Bool.eqb-true, Bool.eqb-false, Bool.ne_eqb, List.Elements.All-head, List.Elements.All-tail}
 use Rattle.edge_block.specs.Slots.{BlockView}
 use Rattle.batch_shards.proofs.Closed.{count_more}
 use Rattle.batch_apply.specs.Applied.{row_among}

@@ -11,19 +11,17 @@ use Rattle.block_layout.specs.Rows.{Shape, OpenBlock, untouched, taken_in, dropp
 use Rattle.block_layout.specs.Batches.{Resolved, AtKey, InAll, resolved, is_in_shard, shard_ops, rows_all, opened, key_is_of}
 use Rattle.block_layout.specs.Batches.{taken_by, dropped_by, outcomes_all, layout_after, sum_below, IsWithin, IsLayoutOf}
 use Rattle.batch_shards.specs.{Births.births_end, Shards.IsAct, Shards.IsPlace, Shards.key_at, Shards.resolved_at}
-use Rattle.graph_version.specs.Versions.{is_in}
 use Rattle.batch_shards.specs.declared.shard.{Act.Act, Act.TheVariants.Edge, Act.TheVariants.Expire, Shard.Shard, Step.Step}
 use Rattle.batch_shards.specs.Done.{IsShardDone, sources_in, steps_in, rows_by, layout_by, sum_of}
-use Rattle.batch_shards.specs.{declared.shard.ShardDone.ShardDone, declared.shard.Place.Place, Closing.row_values}
+use Rattle.batch_shards.specs.declared.shard.{ShardDone.ShardDone, Place.Place}
+use Rattle.batch_shards.{specs.Closing.row_values, proofs.Closed.count_more, proofs.Places.count_by-append}
+use Rattle.graph_version.specs.Versions.{is_in}
 use Rattle.batch_plan.specs.{Shards.acts, Shards.unsourced, Shards.latest, Shards.is_old_row, Shards.IsShardOf, Plan.ends_all}
-use Rattle.batch_shards.proofs.Closed.{count_more}
-use Rattle.batch_shards.proofs.Places.{count_by-append}
 use Rattle.batch_apply.specs.{Plans.results, Plans.told, Sums.ArePlanned}
 use Rattle.batch_apply.proofs.Spared.{Spares, KeepsOff, rows_spared, over_all, all_spare, off_all}
-use Rattle.batch_plan.proofs.{Resolving.placed_in, Resolving.resolved_is, Sources.sources_within}
 use Rattle.batch_apply.proofs.Totals.{sum_all, worker_rows, none_taken, none_dropped, same_outcomes}
-use Rattle.batch_apply.proofs.{Kept.some_times, Placed.times}
-use Rattle.batch_apply.proofs.Merge.{same_ops, shard_places, kept_all}
+use Rattle.batch_apply.proofs.{Kept.some_times, Placed.times, Merge.same_ops, Merge.shard_places, Merge.kept_all}
+use Rattle.batch_plan.proofs.{Resolving.placed_in, Resolving.resolved_is, Sources.sources_within}
 use Rattle.edge_block.specs.Slots.{BlockView}
 
 no_times : (m : ℕ) (xs : List ℕ) → All (λ x. x ≡ m → ⊥) xs → times m xs ≡ 0
@@ -301,9 +299,11 @@ module _ (workers w : ℕ) (ops : List NamedOp) (g : Graph) (layout : ℕ → Li
       ∙ shard_places workers w ops g (layout_by before) (sources_in shard)
       (λ k d lt. ap (λ n. n == w) (planned.own k d lt) ∙ eq-eqb w w refl)
 
-  -- a shard's rows have the layout that the batch leaves
-  pub shard_layout_at : All (λ r. map shape_of r.1 ≡ layout_after ops g (layout_by before) r.0) (row_values done.rows.items)
-  shard_layout_at k d lt =
+  -- a shard leaves its rows as the batch does
+  row_there : (k : ℕ) (d : ℕ × List BlockView) → k < length (row_values done.rows.items)
+      → rows_all (steps_in shard) (opened (layout_by before)) (get_or (row_values done.rows.items) k d).0
+      ≡ rows_all (resolved ops g.names g.kinds) (opened (layout_by before)) (get_or (row_values done.rows.items) k d).0
+  row_there k d lt =
       let r : ℕ × List BlockView = get_or (row_values done.rows.items) k d in
       let long : length (map (λ (r : ℕ × List BlockView). r.0) (row_values done.rows.items))
       ≡ length (row_values done.rows.items) = length-map (row_values done.rows.items) (λ (r : ℕ × List BlockView). r.0) in
@@ -311,8 +311,11 @@ module _ (workers w : ℕ) (ops : List NamedOp) (g : Graph) (layout : ℕ → Li
       ∙ get_or-map (λ (r : ℕ × List BlockView). r.0) (row_values done.rows.items) k d 0 lt in
       let within : k < length (sources_in shard) = omega (arith, ap length is.sources_are) in
       let own : r.0 % workers ≡ w = ap (λ s. s % workers) (sym source) ∙ planned.own k 0 within in
-      is.layout k d lt ∙ ap row_end (worker_rows workers w ops g layout shard planned (opened (layout_by before)) r.0
-      (ap (λ b. b == w) own ∙ eq-eqb w w refl))
+      worker_rows workers w ops g layout shard planned (opened (layout_by before)) r.0 (ap (λ b. b == w) own ∙ eq-eqb w w refl)
+
+  -- a shard's rows have the layout that the batch leaves
+  pub shard_layout_at : All (λ r. map shape_of r.1 ≡ layout_after ops g (layout_by before) r.0) (row_values done.rows.items)
+  shard_layout_at k d lt = is.layout k d lt ∙ ap row_end (row_there k d lt)
 
   -- a shard's rows have the births that the batch leaves
   pub shard_births_at : (f h : BlockView → ℕ) (n : ℕ) → ((b : BlockView) → is_in b.number done.left.taken.items ≡ true → h b ≡ n)
@@ -320,12 +323,5 @@ module _ (workers w : ℕ) (ops : List NamedOp) (g : Graph) (layout : ℕ → Li
       ≡ births_end n (rows_all (resolved ops g.names g.kinds) (opened (layout_by before)) r.0) (map f (before r.0)))
       (row_values done.rows.items)
   shard_births_at f h n each k d lt = λ old.
-      let r : ℕ × List BlockView = get_or (row_values done.rows.items) k d in
-      let long : length (map (λ (r : ℕ × List BlockView). r.0) (row_values done.rows.items))
-      ≡ length (row_values done.rows.items) = length-map (row_values done.rows.items) (λ (r : ℕ × List BlockView). r.0) in
-      let source : get_or (sources_in shard) k 0 ≡ r.0 = ap (λ ss. get_or ss k 0) (sym is.sources_are)
-      ∙ get_or-map (λ (r : ℕ × List BlockView). r.0) (row_values done.rows.items) k d 0 lt in
-      let within : k < length (sources_in shard) = omega (arith, ap length is.sources_are) in
-      let own : r.0 % workers ≡ w = ap (λ s. s % workers) (sym source) ∙ planned.own k 0 within in
-      is.births f h n each k d lt old ∙ ap (λ row. births_end n row (map f (before r.0)))
-      (worker_rows workers w ops g layout shard planned (opened (layout_by before)) r.0 (ap (λ b. b == w) own ∙ eq-eqb w w refl))
+      is.births f h n each k d lt old
+      ∙ ap (λ row. births_end n row (map f (before (get_or (row_values done.rows.items) k d).0))) (row_there k d lt)

@@ -7,11 +7,9 @@ use Rattle.std.proofs.lemmas.List.{Sums.sum_by-cons, Elements.All-head, Elements
 use Rattle.graph_model.specs.{Graph.Graph, declared.batches.NamedOp.NamedOp}
 use Rattle.block_layout.specs.Rows.{Shape, OpenBlock, untouched, taken_in, dropped_in, has_none}
 use Rattle.block_layout.specs.Batches.{Resolved, AtKey, InAll, resolved, shard_ops, sum_below, rows_all, rows_step, outcome_in}
-use Rattle.block_layout.specs.Batches.{outcomes_all}
-use Rattle.block_layout.proofs.ShardLaws.{shard_rows}
+use Rattle.block_layout.{specs.Batches.outcomes_all, proofs.ShardLaws.shard_rows}
 use Rattle.batch_plan.specs.Shards.{acts, unsourced, IsShardOf}
-use Rattle.batch_shards.specs.{Done.steps_in, declared.shard.Shard.Shard}
-use Rattle.batch_shards.proofs.Closed.{count_more}
+use Rattle.batch_shards.{specs.Done.steps_in, specs.declared.shard.Shard.Shard, proofs.Closed.count_more}
 
 -- rows and outcomes don't depend on the sources' numbers beside the keys
 unsourced_rows : (r : Resolved) (rows : ℕ → List OpenBlock) → rows_step (unsourced r) rows ≡ rows_step r rows

@@ -1,10 +1,9 @@
 -- Results of all shards, put together at their places, are the batch's results.
-use Rattle.std.proofs.Common.{◌≡◌, ℕ, suc, ◌+◌, ◌%◌, ◌^◌, ◌<◌, ◌==◌, List, [], ◌∷◌, ◌++◌, length, set, Bool, true, false}
-use Rattle.std.proofs.Common.{refl, sym, ap, ap₂, ◌∙◌, arith, Option, Some, None, mod-lt, length-append, get_or, map, flat_map}
-use Rattle.std.proofs.{Common.cond, Common.replicate, Common.ltb, lemmas.List.append_assoc, lemmas.List.Sums.sum_by-append}
-use Rattle.std.specs.List.{sum_by}
+use Rattle.std.proofs.Common.{◌≡◌, ℕ, suc, ◌+◌, ◌%◌, ◌^◌, ◌<◌, ◌==◌, List, [], ◌∷◌, ◌++◌, length, set, Bool, true, false, refl}
+use Rattle.std.proofs.Common.{sym, ap, ap₂, ◌∙◌, arith, Option, Some, None, mod-lt, length-append, get_or, map, flat_map, cond}
+use Rattle.std.proofs.{Common.replicate, Common.ltb, Math.Nat.add-mod-mod, Math.Nat.mod-add-mod, Math.Nat.mod-mod}
 use Rattle.std.proofs.lemmas.Bool.{eqb-true, eqb-false, lt-ltb, le-ltb, ltb-true, ltb-false}
-use Rattle.std.proofs.Math.Nat.{add-mod-mod, mod-add-mod, mod-mod}
+use Rattle.std.{proofs.lemmas.List.append_assoc, proofs.lemmas.List.Sums.sum_by-append, specs.List.sum_by}
 use Rattle.graph_model.specs.declared.batches.Outcome.{Outcome}
 use Rattle.graph_model.specs.declared.batches.Outcome.TheVariants.{Inserted, Updated, Removed, Absent, Overflow, Expired}
 use Rattle.block_layout.specs.{Rows.OpenBlock, Rows.old_in_row, Batches.key_outcome}

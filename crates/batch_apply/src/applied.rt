@@ -73,17 +73,13 @@ pub fn apply<R: Threads + Sync, G: Gate + Sync>(
         shards,
         needs,
     } = plan;
-    let operations = batch.len();
-    let all = work(
-        rt,
-        alloc,
-        gate,
-        version,
+    let load = Workload {
         shards,
-        needs.as_slice(),
+        needs,
         blocks,
-        operations,
-    )?;
+        operations: batch.len(),
+    };
+    let all = work(rt, alloc, gate, version, load)?;
     let edges = edges_after(version.edge_count(), &all.outcomes);
     let draft = VersionDraft::over(version)?.set_names(names, kinds);
     let draft = replace_rows(draft, all.rows)?.push_batch(batch)?;
@@ -96,29 +92,44 @@ pub fn apply<R: Threads + Sync, G: Gate + Sync>(
     })
 }
 
-/// What all shards leave together, of a batch of so many operations, with as many of the blocks as each shard may take.
+/// What the shards of a batch are given.
+#[derive(Drop)]
+struct Workload {
+    shards: Vec<Shard>,
+    /// How many of the blocks each shard gets.
+    needs: Vec<usize>,
+    blocks: Vec<Arc<Block>>,
+    /// How many operations the batch has.
+    operations: usize,
+}
+
+/// What all shards leave together.
 fn work<R: Threads + Sync, G: Gate + Sync>(
     rt: &R,
     alloc: Global,
     gate: &G,
     version: &Version,
-    shards: Vec<Shard>,
-    needs: &[usize],
-    blocks: Vec<Arc<Block>>,
-    operations: usize,
+    load: Workload,
 ) -> Result<Gathered, AllocError>
-    requires long { length needs.now ≡ length shards.items }
-    requires blocks { sum_by (λ n. n) needs.now ≤ length blocks.items }
-    requires ready { (jobs : List Job) → AllZip IsDealt (zip shards.items needs.now) jobs
+    requires long { length load.needs.items ≡ length load.shards.items }
+    requires blocks { sum_by (λ n. n) load.needs.items ≤ length load.blocks.items }
+    requires ready { (jobs : List Job) → AllZip IsDealt (zip load.shards.items load.needs.items) jobs
         → All (λ j. IsShard (row_of version.now.rows) j.shard) jobs }
-    ensures { IfOk result (IsGathered (row_of version.now.rows) (zip shards.items needs.now) (numbers_of blocks.items) operations) }
+    ensures { IfOk result (IsGathered (row_of version.now.rows) (zip load.shards.items load.needs.items)
+        (numbers_of load.blocks.items) load.operations) }
 {
-    if shards.len() == 1 {
-        return work_alone(alloc, gate, version, shards, needs, blocks, operations);
+    if load.shards.len() == 1 {
+        return work_alone(alloc, gate, version, load);
     }
+    let Workload {
+        shards,
+        needs,
+        blocks,
+        operations,
+    } = load;
     let workers = shards.len();
     let mut unused = blocks;
-    let jobs = deal(alloc, shards, needs, &mut unused)?;
+    let jobs = deal(alloc, shards, needs.as_slice(), &mut unused)?;
     let dones = do_all(rt, alloc, gate, version, workers, jobs)?;
     let all = gather(alloc, operations, dones, unused)?;
     Ok(all)
@@ -129,18 +140,22 @@ fn work_alone<G: Gate>(
     alloc: Global,
     gate: &G,
     version: &Version,
-    mut shards: Vec<Shard>,
-    needs: &[usize],
-    blocks: Vec<Arc<Block>>,
-    operations: usize,
+    load: Workload,
 ) -> Result<Gathered, AllocError>
-    requires alone { length shards.items ≡ 1 }
-    requires long { length needs.now ≡ length shards.items }
-    requires blocks { sum_by (λ n. n) needs.now ≤ length blocks.items }
-    requires ready { (jobs : List Job) → AllZip IsDealt (zip shards.items needs.now) jobs
+    requires alone { length load.shards.items ≡ 1 }
+    requires long { length load.needs.items ≡ length load.shards.items }
+    requires blocks { sum_by (λ n. n) load.needs.items ≤ length load.blocks.items }
+    requires ready { (jobs : List Job) → AllZip IsDealt (zip load.shards.items load.needs.items) jobs
         → All (λ j. IsShard (row_of version.now.rows) j.shard) jobs }
-    ensures { IfOk result (IsGathered (row_of version.now.rows) (zip shards.items needs.now) (numbers_of blocks.items) operations) }
+    ensures { IfOk result (IsGathered (row_of version.now.rows) (zip load.shards.items load.needs.items)
+        (numbers_of load.blocks.items) load.operations) }
 {
+    let Workload {
+        mut shards,
+        needs,
+        blocks,
+        operations,
+    } = load;
     let Some(shard) = shards.pop() else {
         unreachable!()
     };

@@ -1,9 +1,8 @@
 -- Before a shard's first row is done: the rows as they are opened, no outcome yet, and the blocks that are needed.
-use Rattle.std.proofs.Common.{◌≡◌, ℕ, ◌≤◌, true, false, not, List, [], ◌∷◌, length, get_or, take}
-use Rattle.std.proofs.Common.{map, refl, sym, ap, ◌∙◌, arith, subst, All}
-use Rattle.std.specs.declared.{option.Option.TheVariants.None, option.Option.TheVariants.Some, sync.Arc.Arc, alloc.Global.Global}
-use Rattle.std.proofs.lemmas.Bool.{false≢true, le-ltb}
+use Rattle.std.proofs.Common.{◌≡◌, ℕ, ◌≤◌, true, false, not, List, [], ◌∷◌, length, get_or, take, map, refl, sym, ap, ◌∙◌, arith}
+use Rattle.std.proofs.{Common.subst, Common.All, lemmas.Bool.false≢true, lemmas.Bool.le-ltb}
 use Rattle.std.proofs.lemmas.List.{get_or-map, get_or_default, length-map, Elements.All-nil}
+use Rattle.std.specs.declared.{alloc.Global.Global, option.Option.TheVariants.None, option.Option.TheVariants.Some, sync.Arc.Arc}
 use Rattle.graph_model.specs.declared.batches.Outcome.{Outcome}
 use Rattle.block_layout.specs.Batches.{opened, rows_all, outcome_in}
 use Rattle.edge_block.specs.{declared.blocks.Block.Block, Slots.BlockView}

@@ -10,9 +10,8 @@ use Rattle.graph_version.specs.Versions.{is_in}
 use Rattle.block_layout.specs.Rows.{OpenBlock, shape_of, has_none}
 use Rattle.batch_shards.specs.RowBlocks.{block_of, opens, had_here, had_in}
 use Rattle.batch_shards.specs.Closing.{written_here, after_of, written_of, dropped_of, closed_rows, written_all, dropped_all}
-use Rattle.batch_shards.specs.Shards.{AreOpen, sources_of}
-use Rattle.batch_shards.specs.Births.{first_birth, left_over, births_end, births_dropped}
-use Rattle.batch_shards.specs.declared.{row_blocks.RowBlock.RowBlock, shard.OpenRow.OpenRow}
+use Rattle.batch_shards.specs.{Shards.AreOpen, Shards.sources_of, Births.first_birth, Births.left_over, Births.births_end}
+use Rattle.batch_shards.specs.{Births.births_dropped, declared.row_blocks.RowBlock.RowBlock, declared.shard.OpenRow.OpenRow}
 use Rattle.batch_shards.proofs.Closed.{all_left, all_right}
 
 -- a block of the row, by whether it is kept, touched, and was had

@@ -1,9 +1,8 @@
 -- An expiry, block by block, and how many fresh blocks operations need.
-use Rattle.std.proofs.Common.{◌≡◌, ℕ, zero, suc, ◌+◌, ◌%◌, ◌^◌, ◌<◌, ◌≤◌, Bool, true, false, cond, not, ◌&&◌, ◌||◌, List, [], ◌∷◌, ◌++◌}
-use Rattle.std.proofs.Common.{map, length, get_or, set, take, drop, count_by, refl, sym, ap, ◌∙◌, arith, subst}
-use Rattle.std.proofs.lemmas.{Bool.false≢true, Bool.lt-ltb, Bool.ltb-true}
-use Rattle.std.proofs.lemmas.List.Sums.{sum_by-cons, sum_by-append, sum_by-set}
-use Rattle.std.specs.{List.list_any, List.sum_by, Prelude.◌+ℤ◌}
+use Rattle.std.proofs.Common.{◌≡◌, ℕ, zero, suc, ◌+◌, ◌%◌, ◌^◌, ◌<◌, ◌≤◌, Bool, true, false, cond, not, ◌&&◌, ◌||◌, List}
+use Rattle.std.proofs.Common.{[], ◌∷◌, ◌++◌, map, length, get_or, set, take, drop, count_by, refl, sym, ap, ◌∙◌, arith, subst}
+use Rattle.std.proofs.lemmas.{Bool.false≢true, Bool.lt-ltb, Bool.ltb-true, List.Sums.sum_by-cons, List.Sums.sum_by-append}
+use Rattle.std.{proofs.lemmas.List.Sums.sum_by-set, specs.List.list_any, specs.List.sum_by, specs.Prelude.◌+ℤ◌}
 use Rattle.std.specs.declared.option.Option.{Option, TheVariants.None, TheVariants.Some}
 use Rattle.graph_model.specs.{Graph.Stamp, Graph.Key, Limits.is_weight, Step.is_before, Step.outcome_at, Step.stamp_after}
 use Rattle.graph_model.specs.declared.changes.EdgeChange.{EdgeChange, TheVariants.Insert, TheVariants.Incr, TheVariants.Remove}
@@ -296,20 +295,6 @@ pub edge_stands : (x : Outcome) (change : EdgeChange) (key : Option Key) (rows :
 edge_stands x change None rows = last_stands x Absent refl
 edge_stands x change (Some k) rows =
     last_stands x (outcome_at change (edge_at (rows k.source) (k.kind, k.target)))
-    (not_counted change (edge_at (rows k.source) (k.kind, k.target)))
-
-told_as : (o : Outcome) → is_counted o ≡ false → told o ≡ o
-told_as Inserted e = refl
-told_as Updated e = refl
-told_as Removed e = refl
-told_as Absent e = refl
-told_as Overflow e = refl
-told_as (Expired a) e = absurd (false≢true (sym e))
-
-pub edge_told : (change : EdgeChange) (key : Option Key) (rows : ℕ → List OpenBlock)
-    → told (key_outcome change key rows) ≡ key_outcome change key rows
-edge_told change None rows = refl
-edge_told change (Some k) rows = told_as (outcome_at change (edge_at (rows k.source) (k.kind, k.target)))
     (not_counted change (edge_at (rows k.source) (k.kind, k.target)))
 
 -- counts told one after another

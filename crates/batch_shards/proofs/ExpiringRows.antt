@@ -1,16 +1,14 @@
 -- An expiry of a row of the program's blocks.
-use Rattle.std.proofs.Common.{◌≡◌, ℕ, ◌+◌, ◌%◌, ◌^◌, ◌<◌, ◌≤◌, true, false, cond, List, length, get_or, set, take}
-use Rattle.std.proofs.Common.{sym, ap, ◌∙◌, arith, All}
-use Rattle.std.proofs.lemmas.List.{Elements.All-set, map-set, get_or-map, length-map}
-use Rattle.std.specs.List.{list_any, sum_by}
+use Rattle.std.proofs.Common.{◌≡◌, ℕ, ◌+◌, ◌%◌, ◌^◌, ◌<◌, ◌≤◌, true, false, cond, List, length, get_or, set, take, sym, ap, ◌∙◌}
+use Rattle.std.proofs.{Common.arith, Common.All, lemmas.List.Elements.All-set, lemmas.List.map-set, lemmas.List.get_or-map}
+use Rattle.std.{proofs.lemmas.List.length-map, specs.List.list_any, specs.List.sum_by}
 use Rattle.std.specs.declared.option.Option.{Option, TheVariants.None, TheVariants.Some}
 use Rattle.edge_block.specs.Slots.{slots_since, has_before, old_in, holds}
 use Rattle.block_layout.specs.Rows.{OpenBlock, touch, expire_block, expire_row}
-use Rattle.batch_shards.specs.{RowBlocks.block_of, RowBlocks.open_of, RowBlocks.opens, RowBlocks.IsOf, Notes.IsNoted}
-use Rattle.batch_shards.specs.Spending.{is_unspent, unspent}
-use Rattle.batch_shards.specs.declared.{notes.Notes.Notes, row_blocks.RowBlock.RowBlock}
-use Rattle.batch_shards.proofs.Expiring.{map_first, map_first_more, map_first_there, sum_more, mod_more, count_set, count_there}
-use Rattle.batch_shards.proofs.Expiring.{expired_owes, holds_since}
+use Rattle.batch_shards.specs.RowBlocks.{block_of, open_of, opens, IsOf}
+use Rattle.batch_shards.specs.{Notes.IsNoted, Spending.is_unspent, Spending.unspent, declared.notes.Notes.Notes}
+use Rattle.batch_shards.{specs.declared.row_blocks.RowBlock.RowBlock, proofs.Expiring.map_first, proofs.Expiring.map_first_more}
+use Rattle.batch_shards.proofs.Expiring.{map_first_there, sum_more, mod_more, count_set, count_there, expired_owes, holds_since}
 
 module _ (row : List RowBlock) (k : ℕ) (h : RowBlock) (lt : k < length row) (is : h ≡ get_or row k h) where
   pub open_there : get_or (opens row) k (open_of h) ≡ open_of h

@@ -7,19 +7,18 @@ use Rattle.graph_model.specs.declared.batches.Outcome.{Outcome, TheVariants.Abse
 use Rattle.block_layout.specs.{Batches.opened, Batches.outcomes_all, Rows.shape_of, Rows.row_end, Rows.taken_in, Rows.dropped_in}
 use Rattle.edge_block.specs.{declared.blocks.Block.Block, Slots.BlockView}
 use Rattle.batch_shards.specs.RowBlocks.{block_of, blocks_of, numbers_of}
-use Rattle.batch_shards.specs.Closing.{written_here, dropped_here, closed_rows, row_values, stays_all, written_all}
-use Rattle.batch_shards.specs.{Closing.dropped_all, Closing.unused_all, Groups.is_past, Groups.told, Groups.outcome_over}
+use Rattle.batch_shards.specs.Closing.{written_here, dropped_here, closed_rows, row_values, stays_all, written_all, dropped_all}
+use Rattle.batch_shards.specs.{Closing.unused_all, Groups.is_past, Groups.told, Groups.outcome_over}
 use Rattle.batch_shards.specs.Shards.{IsAct, AreSteps, resolved_at, resolved_in, sources_of, had_all}
 use Rattle.batch_shards.specs.declared.shard.{Act.Act, Act.TheVariants.Edge, Act.TheVariants.Expire, Step.Step, Shard.Shard}
 use Rattle.batch_shards.specs.{Progress.AreOutcomes, Progress.AreRowsDone, Births.births_end, Births.births_dropped}
-use Rattle.graph_version.specs.Versions.{IsBlockOf, is_in}
 use Rattle.batch_shards.proofs.{Dating.all_births, Dating.all_dropped, Dating.written_births, Places.count_by-append}
 use Rattle.batch_shards.specs.Done.{AreBlockRows, IsShardDone, sum_of, layout_by, rows_by, sources_in}
 use Rattle.batch_shards.specs.declared.shard.{ShardDone.ShardDone, OpenRow.OpenRow}
-use Rattle.batch_shards.proofs.ShardSteps.{first_step, length-outcomes_all}
-use Rattle.batch_shards.proofs.Balances.{all_before, all_after, all_numbers}
-use Rattle.batch_shards.proofs.Closed.{length-written, length-dropped, sum_open, same_sources, pieces_closed, all_layout}
-use Rattle.batch_shards.proofs.Closed.{HasEdges, all_blocks, rows_edges}
+use Rattle.batch_shards.proofs.{ShardSteps.first_step, ShardSteps.length-outcomes_all, Balances.all_before}
+use Rattle.batch_shards.proofs.{Balances.all_after, Balances.all_numbers, Closed.length-written, Closed.length-dropped}
+use Rattle.batch_shards.proofs.Closed.{sum_open, same_sources, pieces_closed, all_layout, HasEdges, all_blocks, rows_edges}
+use Rattle.graph_version.specs.Versions.{IsBlockOf, is_in}
 
 -- a list of pairs by their parts
 zipped : (outs : List (ℕ × Outcome)) (rs : List Outcome) → length rs ≡ length outs

@@ -8,8 +8,7 @@ use Rattle.std.proofs.lemmas.Bool.{false≢true, eqb-true, eqb-false, eq-eqb, or
 use Rattle.std.proofs.lemmas.List.{Elements.All-head, Elements.All-tail, get_or-map, get_or-set_same, get_or-set_other, map-set}
 use Rattle.graph_model.specs.{View.in_view, declared.ids.Filter.Filter}
 use Rattle.edge_block.specs.Slots.{Slot, BlockView, holds, edges_in, entry_in, IsSlot}
-use Rattle.edge_block.specs.Lending.{LentEdge, lent_of}
-use Rattle.edge_block.proofs.SlotLaws.{target_of_edge}
+use Rattle.edge_block.{specs.Lending.LentEdge, specs.Lending.lent_of, proofs.SlotLaws.target_of_edge}
 use Rattle.std.proofs.{lemmas.List.Folds.list_any-append, Math.ListN.length-set}
 use Rattle.batch_shards.specs.Notes.{may_stand, list_of, places_in, stands, HasMore}
 use Rattle.batch_shards.specs.declared.notes.Notes.{Notes}

@@ -4,8 +4,7 @@ use Rattle.std.specs.{List.position, declared.option.Option.TheVariants.None, de
 use Rattle.std.proofs.lemmas.Bool.{true≢false, false_from_ne_true, eqb-true, eqb-false}
 use Rattle.std.proofs.lemmas.List.{get_or-set_same, get_or-set_other, get_or_append_left, Quantifiers.position-Some}
 use Rattle.std.proofs.Math.ListN.{length-set}
-use Rattle.batch_shards.specs.{Room.IsFull, declared.row_blocks.RowBlock.RowBlock}
-use Rattle.batch_shards.proofs.RowSteps.{at_room}
+use Rattle.batch_shards.{specs.Room.IsFull, specs.declared.row_blocks.RowBlock.RowBlock, proofs.RowSteps.at_room}
 
 -- the row behind a change of one block, at which the test on its room fails where it matters
 pub full_set : (kind place p : ℕ) (row : List RowBlock) (y : RowBlock) → IsFull kind place row

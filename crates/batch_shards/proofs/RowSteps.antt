@@ -7,14 +7,13 @@ use Rattle.std.specs.declared.option.Option.{Option, TheVariants.None, TheVarian
 use Rattle.std.proofs.lemmas.Bool.{false≢true, and_parts}
 use Rattle.graph_model.specs.{Graph.Stamp, Graph.IsWeight, Graph.IsTime, Step.stamp_after, Step.outcome_at}
 use Rattle.graph_model.specs.declared.changes.EdgeChange.{EdgeChange, TheVariants.Insert, TheVariants.Incr, TheVariants.Remove}
-use Rattle.edge_block.proofs.Entries.{list_any-holds}
+use Rattle.edge_block.proofs.{Entries.list_any-holds, Firsts.first_some-by_any}
 use Rattle.edge_block.specs.Slots.{Slot, holds, stamp_at, is_free, put_slot, has_room_for, IsSlot, first_some, at_first}
 use Rattle.block_layout.specs.Rows.{OpenBlock, has_edge, has_room, open_at, edge_at, touch, touches, put_edge, set_edge}
 use Rattle.block_layout.specs.Rows.{new_block, change_row}
 use Rattle.batch_shards.specs.RowBlocks.{block_of, open_of, opens, set_slot, IsChanged, HaveSame}
 use Rattle.batch_shards.specs.declared.row_blocks.RowBlock.{RowBlock}
 use Rattle.batch_shards.proofs.Places.{list_any-map, none_passes, one_passes, first_changed, first_has, count_by-set}
-use Rattle.edge_block.proofs.Firsts.{first_some-by_any}
 
 -- an edge in a slot has a weight and times in range
 pub stamped_at : (slots : List (Option Slot)) (target : ℕ) (s : Stamp) → All IsSlot slots → stamp_at slots target ≡ Some s
@@ -38,6 +37,11 @@ at_edge kind target h = has_edge (kind, target) (open_of h)
 
 abbrev pub at_room : ℕ → RowBlock → Bool
 at_room kind h = has_room kind (open_of h).shape
+
+-- what is found in a row as it was read is found in the row
+pub placed : (p : RowBlock → Bool) {read row : List RowBlock} {place : Option ℕ} → read ≡ row → place ≡ position p read
+    → position p row ≡ place
+placed p same found = ap (position p) (sym same) ∙ sym found
 
 -- a block with the edge is of the kind, and its slots have it
 edge_kind : (kind target : ℕ) (h : OpenBlock) → has_edge (kind, target) h ≡ true

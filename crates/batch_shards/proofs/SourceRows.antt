@@ -1,8 +1,7 @@
 -- One more source's row is done.
-use Rattle.std.proofs.Common.{◌≡◌, ℕ, ◌+◌, ◌<◌, true, false, List, [], ◌∷◌, ◌++◌, length, get_or, map, flat_map, count_by, take}
-use Rattle.std.proofs.Common.{refl, sym, ap, ap₂, ◌∙◌, arith, All}
-use Rattle.std.specs.{declared.sync.Arc.Arc, declared.alloc.Global.Global, List.sum_by}
-use Rattle.std.proofs.lemmas.{Bool.false≢true}
+use Rattle.std.proofs.Common.{◌≡◌, ℕ, ◌+◌, ◌<◌, true, false, List}
+use Rattle.std.proofs.Common.{[], ◌∷◌, ◌++◌, length, get_or, map, flat_map, count_by, take, refl, sym, ap, ap₂, ◌∙◌, arith, All}
+use Rattle.std.{specs.declared.sync.Arc.Arc, specs.declared.alloc.Global.Global, specs.List.sum_by, proofs.lemmas.Bool.false≢true}
 use Rattle.std.proofs.lemmas.List.{map-append, take_more, get_or_default, Sums.sum_by-append, Elements.All-push}
 use Rattle.graph_model.specs.declared.batches.Outcome.{Outcome, TheVariants.Expired}
 use Rattle.edge_block.specs.{declared.blocks.Block.Block, Slots.BlockView}

@@ -1,11 +1,10 @@
 -- The operations on one source's row, among those of a shard.
-use Rattle.std.proofs.Common.{◌≡◌, ℕ, zero, suc, ◌+◌, ◌-◌, ◌<◌, ◌≤◌, ◌==◌, not, Bool, true, false, cond, List, [], ◌∷◌, length}
-use Rattle.std.proofs.Common.{get_or, set, ◌||◌, min, take, count_by, refl, sym, ap, ◌∙◌, arith, subst}
-use Rattle.std.specs.{Prelude.slice_index, Prelude.nat_lt, List.sum_by}
-use Rattle.std.specs.declared.option.Option.TheVariants.{None, Some}
+use Rattle.std.proofs.Common.{◌≡◌, ℕ, zero, suc, ◌+◌, ◌-◌, ◌<◌, ◌≤◌, ◌==◌, not, Bool, true, false, cond}
+use Rattle.std.proofs.Common.{List, [], ◌∷◌, length, get_or, set, ◌||◌, min, take, count_by, refl, sym, ap, ◌∙◌, arith, subst}
 use Rattle.std.proofs.lemmas.Bool.{false≢true, or_right, eq-eqb, eqb-true, eqb-false, ne_eqb, ltb-true, ltb-false, lt-ltb, le-ltb}
-use Rattle.std.proofs.lemmas.List.{get_or-set_same, get_or-set_other}
-use Rattle.std.proofs.lemmas.List.Sums.{count_by_more_yes, count_by_more_no, sum_by-cons}
+use Rattle.std.proofs.lemmas.List.{get_or-set_same, get_or-set_other, Sums.count_by_more_yes, Sums.count_by_more_no}
+use Rattle.std.{proofs.lemmas.List.Sums.sum_by-cons, specs.List.sum_by, specs.Prelude.slice_index, specs.Prelude.nat_lt}
+use Rattle.std.specs.declared.option.Option.TheVariants.{None, Some}
 use Rattle.graph_model.specs.{Step.outcome_at, declared.batches.Outcome.Outcome, declared.batches.Outcome.TheVariants.Expired}
 use Rattle.graph_model.specs.declared.changes.EdgeChange.{EdgeChange}
 use Rattle.block_layout.specs.Rows.{OpenBlock, change_row, edge_at, old_in_row}

@@ -1,9 +1,8 @@
 -- For each place, the first expiry that is not before it.
-use Rattle.std.proofs.Common.{◌≡◌, ℕ, ◌+◌, ◌<◌, ◌==◌, Bool, true, false, cond, List, length, get_or, set, refl, sym, ap, ◌∙◌, arith}
-use Rattle.std.proofs.{Common.subst, lemmas.Bool.eqb-true, lemmas.Bool.eqb-false, lemmas.Bool.false≢true, Math.ListN.length-set}
-use Rattle.std.specs.declared.option.Option.TheVariants.{Some}
-use Rattle.std.proofs.lemmas.Bool.{eq-eqb, ne_eqb}
-use Rattle.std.proofs.lemmas.List.{get_or-set_same, get_or-set_other, get_or_default}
+use Rattle.std.proofs.Common.{◌≡◌, ℕ, ◌+◌, ◌<◌, ◌==◌, Bool, true, false, cond, List, length, get_or, set, refl, sym, ap, ◌∙◌}
+use Rattle.std.proofs.{Common.arith, Common.subst, Math.ListN.length-set, lemmas.Bool.eqb-true, lemmas.Bool.eqb-false}
+use Rattle.std.proofs.lemmas.{Bool.false≢true, Bool.eq-eqb, Bool.ne_eqb, List.get_or-set_same, List.get_or-set_other}
+use Rattle.std.{proofs.lemmas.List.get_or_default, specs.declared.option.Option.TheVariants.Some}
 use Rattle.batch_shards.specs.Groups.{is_at, is_expiry, IsNext, AreGroups, AreExpiries}
 use Rattle.batch_shards.specs.declared.shard.{Step.Step, Place.Place, Act.Act, Act.TheVariants.Edge}
 use Rattle.batch_shards.proofs.ShardSteps.{first_step, further}

@@ -6,6 +6,7 @@
 
 mod groups;
 mod notes;
+mod open_rows;
 mod room;
 mod row_blocks;
 mod rows;

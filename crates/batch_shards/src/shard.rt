@@ -1,30 +1,19 @@
 //! The rows of a shard's sources while a batch goes on.
 
-ghost use Rattle.std.specs.Prelude.{◌≡◌, ◌≢◌, ◌+◌, ◌++◌, ◌<◌, ◌≤◌, ℕ, List, [], IfOk, OnOk, All, AllPairs, true, false};
-ghost use Rattle.std.specs.Prelude.{vec_len, length, get_or, map, count_by, ◌%◌, ◌^◌};
-ghost use Rattle.graph_model.specs.declared.batches.Outcome.TheVariants.{Expired};
-ghost use Rattle.graph_model.specs.Changes.{IsChange};
-ghost use Rattle.block_layout.specs.Rows as layout;
-ghost use Rattle.block_layout.specs.Rows.{OpenBlock, has_none, shape_of};
-ghost use Rattle.block_layout.specs.Batches.{key_step, rows_all, key_outcome, together};
+ghost use Rattle.std.specs.Prelude.{◌≡◌, ◌≢◌, ◌+◌, ◌<◌, ◌≤◌, ℕ, List, [], IfOk, OnOk, All, AllPairs};
+ghost use Rattle.std.specs.Prelude.{vec_len, length, map};
 ghost use Rattle.row_pages.specs.Rows.{row_of};
-ghost use Rattle.batch_shards.specs.RowBlocks.{block_of, blocks_of, kept_of, opens, had_in, own_in, numbers_of, HaveSame, IsOf};
-ghost use Rattle.batch_shards.specs.Closing.{after_here, written_here, dropped_here, unused_here, after_of, written_of};
-ghost use Rattle.batch_shards.specs.Closing.{dropped_of, unused_of};
+ghost use Rattle.batch_shards.specs.RowBlocks.{block_of, blocks_of};
 ghost use Rattle.batch_shards.specs.Done.{AreBlockRows, IsShardDone};
-ghost use Rattle.batch_shards.specs.Groups.{is_at, is_expiry, does_act, key_of, IsSourceRow};
-ghost use Rattle.batch_shards.specs.Groups.{IsOneMore, IsTold, told, none_told, act_step, act_outcome};
-ghost use Rattle.batch_shards.specs.Spending.{spends, takes, time_of, latest, unspent, needed, needed_past, IsGrouped};
+ghost use Rattle.batch_shards.specs.Groups.{is_at, is_expiry, none_told};
+ghost use Rattle.batch_shards.specs.Spending.{time_of, needed, needed_past, IsGrouped};
 ghost use Rattle.batch_shards.specs.Progress.{AreRowsDone};
-ghost use Rattle.batch_shards.specs.Shards.{AreSteps, IsActChange, resolved_in};
-ghost use Rattle.batch_shards.specs.Notes.{IsNoted};
-ghost use Rattle.batch_shards.specs.Room.{AreHints};
+ghost use Rattle.batch_shards.specs.Shards.{AreSteps};
 
-use crate::groups::{Groups, edge_behind, first_edge, group_steps, later_expiry, targets_of};
-use crate::notes::Notes;
-use crate::room::Room;
+use crate::groups::{Groups, group_steps, targets_of};
+use crate::open_rows::{LONG_ROW, close_row, do_steps, open_row};
 use crate::row_blocks::RowBlock;
-use crate::rows::{Hints, apply_step, expire_blocks, least_time};
+use crate::rows::Hints;
 use edge_block::Block;
 use graph_model::{EdgeChange, KindId, Outcome, VertexId};
 use graph_version::Version;
@@ -65,7 +54,7 @@ pub struct Step {
 
 impl Step {
     /// Whether it is on an edge of a row.
-    pub fn is_on(&self, row: usize) -> bool
+    pub(crate) fn is_on(&self, row: usize) -> bool
         ensures { result ≡ is_at row self.now.act }
     {
         match self.act {
@@ -96,221 +85,6 @@ impl Step {
     }
 }
 
-/// Does one operation on its row, and answers its outcome.
-fn do_step(
-    row: &mut OpenRow,
-    fresh: &mut Vec<Arc<Block>>,
-    place: Option<Place>,
-    change: EdgeChange,
-) -> Result<Outcome, AllocError>
-    requires change { IsChange change }
-    requires fresh { 0 < vec_len fresh.old }
-    requires own { All (IsOf row.old.source.0) row.old.blocks.items }
-    requires hinted { AreHints row.old.hints row.old.blocks.items }
-    ensures row { OnOk result (opens row.new.blocks.items
-        ≡ key_step change (key_of row.old.source.0 place) (opens row.old.blocks.items)) }
-    ensures outcome { IfOk result (λ o. o
-        ≡ key_outcome change (key_of row.old.source.0 place) (λ _. opens row.old.blocks.items)) }
-    ensures source { OnOk result (row.new.source ≡ row.old.source) }
-    ensures hinted { OnOk result (AreHints row.new.hints row.new.blocks.items) }
-    ensures had { OnOk result (had_in row.new.blocks.items ≡ had_in row.old.blocks.items) }
-    ensures own { OnOk result (All (IsOf row.new.source.0) row.new.blocks.items) }
-    ensures numbers { OnOk result (HaveSame (own_in row.new.blocks.items) (numbers_of fresh.new.items)
-        (own_in row.old.blocks.items) (numbers_of fresh.old.items)) }
-    ensures few { OnOk result (vec_len fresh.old ≤ vec_len fresh.new + 1) }
-{
-    let Some(place) = place else {
-        return Ok(Outcome::Absent);
-    };
-    let outcome = apply_step(
-        &mut row.blocks,
-        &mut row.hints,
-        fresh,
-        row.source,
-        place.kind,
-        place.target,
-        change,
-    )?;
-    Ok(outcome)
-}
-
-/// Takes old edges out of a row, and answers how many they were, modulo 2^64.
-fn expire_row(row: &mut OpenRow, fresh: &mut Vec<Arc<Block>>, time: u64) -> Result<u64, AllocError>
-    requires fresh { unspent time (opens row.old.blocks.items) ≤ vec_len fresh.old }
-    requires own { All (IsOf row.old.source.0) row.old.blocks.items }
-    requires hinted { AreHints row.old.hints row.old.blocks.items }
-    ensures row { OnOk result (opens row.new.blocks.items ≡ layout.expire_row time (opens row.old.blocks.items)) }
-    ensures count { IfOk result (λ n. n ≡ layout.old_in_row time (opens row.old.blocks.items) % 2 ^ 64) }
-    ensures source { OnOk result (row.new.source ≡ row.old.source) }
-    ensures hinted { OnOk result (AreHints row.new.hints row.new.blocks.items) }
-    ensures had { OnOk result (had_in row.new.blocks.items ≡ had_in row.old.blocks.items) }
-    ensures own { OnOk result (All (IsOf row.new.source.0) row.new.blocks.items) }
-    ensures numbers { OnOk result (HaveSame (own_in row.new.blocks.items) (numbers_of fresh.new.items)
-        (own_in row.old.blocks.items) (numbers_of fresh.old.items)) }
-    ensures few { OnOk result ((t : ℕ) → time ≤ t → vec_len fresh.old + unspent t (opens row.new.blocks.items)
-        ≤ vec_len fresh.new + unspent t (opens row.old.blocks.items)) }
-{
-    if time <= row.hints.since {
-        return Ok(0);
-    }
-    let count = expire_blocks(&mut row.blocks, fresh, time)?;
-    // A block before the place may have room now.
-    row.hints.room.place = 0;
-    row.hints.since = least_time(row.blocks.as_slice());
-    Ok(count)
-}
-
-/// What is told of an expiry, with what was told of it before in other rows.
-fn counted(before: Outcome, count: u64) -> Outcome
-    ensures { result ≡ told (together before (Expired count)) }
-{
-    match before {
-        Outcome::Expired(counted) => Outcome::Expired(counted.wrapping_add(count)),
-        _ => Outcome::Expired(count),
-    }
-}
-
-/// Does one operation on a row, and answers its outcome in this row and those before.
-fn do_act(
-    row: &mut OpenRow,
-    fresh: &mut Vec<Arc<Block>>,
-    act: Act,
-    before: Outcome,
-) -> Result<Outcome, AllocError>
-    requires act { IsActChange act }
-    requires fresh { spends act (opens row.old.blocks.items) ≤ vec_len fresh.old }
-    requires own { All (IsOf row.old.source.0) row.old.blocks.items }
-    requires hinted { AreHints row.old.hints row.old.blocks.items }
-    ensures row { OnOk result (opens row.new.blocks.items ≡ act_step row.old.source.0 act (opens row.old.blocks.items)) }
-    ensures outcome { IfOk result (λ o. o ≡ told (together before
-        (act_outcome row.old.source.0 act (opens row.old.blocks.items)))) }
-    ensures source { OnOk result (row.new.source ≡ row.old.source) }
-    ensures hinted { OnOk result (AreHints row.new.hints row.new.blocks.items) }
-    ensures had { OnOk result (had_in row.new.blocks.items ≡ had_in row.old.blocks.items) }
-    ensures own { OnOk result (All (IsOf row.new.source.0) row.new.blocks.items) }
-    ensures numbers { OnOk result (HaveSame (own_in row.new.blocks.items) (numbers_of fresh.new.items)
-        (own_in row.old.blocks.items) (numbers_of fresh.old.items)) }
-    ensures few { OnOk result ((t : ℕ) → time_of act ≤ t → vec_len fresh.old + unspent t (opens row.new.blocks.items)
-        ≤ vec_len fresh.new + (takes act + unspent t (opens row.old.blocks.items))) }
-{
-    match act {
-        Act::Edge(place, change) => {
-            let outcome = do_step(row, fresh, place, change)?;
-            Ok(outcome)
-        }
-        Act::Expire(time) => {
-            let count = expire_row(row, fresh, time)?;
-            Ok(counted(before, count))
-        }
-    }
-}
-
-/// Does the operations on one row in order, and writes their outcomes.
-///
-/// Expiries that find no edge of the row are passed over, and what was told of them stands.
-fn do_steps(
-    opened: &mut OpenRow,
-    fresh: &mut Vec<Arc<Block>>,
-    outcomes: &mut Vec<(u32, Outcome)>,
-    steps: &[Step],
-    groups: &Option<Groups>,
-    row: usize,
-) -> Result<(), AllocError>
-    requires groups { (rows : ℕ) × (row < rows) × IsGrouped rows steps.now groups.now }
-    requires changes { All (λ s. IsActChange s.act) steps.now }
-    requires outcomes { length outcomes.old.items ≡ length steps.now }
-    requires fresh { count_by (λ s. is_at row s.act) steps.now + unspent (latest steps.now) (opens opened.old.blocks.items)
-        ≤ vec_len fresh.old }
-    requires own { All (IsOf opened.old.source.0) opened.old.blocks.items }
-    requires hinted { AreHints opened.old.hints opened.old.blocks.items }
-    ensures rows { OnOk result ((sources : List ℕ) (rows : ℕ → List OpenBlock)
-        → IsSourceRow sources steps.now row opened.old.source.0 → opens opened.old.blocks.items ≡ rows opened.old.source.0
-        → opens opened.new.blocks.items ≡ rows_all (resolved_in sources steps.now) rows opened.old.source.0) }
-    ensures written { OnOk result ((sources : List ℕ) (rows : ℕ → List OpenBlock)
-        → IsSourceRow sources steps.now row opened.old.source.0 → opens opened.old.blocks.items ≡ rows opened.old.source.0
-        → (k : ℕ) (s : Step) (o : ℕ × Outcome) → k < length steps.now → does_act row (get_or steps.now k s).act ≡ true
-        → IsTold (get_or steps.now k s).act (get_or outcomes.old.items k o).1
-        → IsOneMore sources steps.now rows opened.old.source.0 k (get_or outcomes.old.items k o).1
-        (get_or outcomes.new.items k o).1) }
-    ensures others { OnOk result ((k : ℕ) (s : Step) (o : ℕ × Outcome) → k < length steps.now
-        → does_act row (get_or steps.now k s).act ≡ false → get_or outcomes.new.items k o ≡ get_or outcomes.old.items k o) }
-    ensures places { OnOk result (map (λ o. o.0) outcomes.new.items ≡ map (λ o. o.0) outcomes.old.items) }
-    ensures source { OnOk result (opened.new.source ≡ opened.old.source) }
-    ensures had { OnOk result (had_in opened.new.blocks.items ≡ had_in opened.old.blocks.items) }
-    ensures own { OnOk result (All (IsOf opened.new.source.0) opened.new.blocks.items) }
-    ensures numbers { OnOk result (HaveSame (own_in opened.new.blocks.items) (numbers_of fresh.new.items)
-        (own_in opened.old.blocks.items) (numbers_of fresh.old.items)) }
-    ensures few { OnOk result (vec_len fresh.old ≤ vec_len fresh.new + (count_by (λ s. is_at row s.act) steps.now
-        + unspent (latest steps.now) (opens opened.old.blocks.items))) }
-{
-    let mut edge = first_edge(groups, steps, row);
-    let mut index = edge.min(later_expiry(groups, steps, 0, opened.hints.since));
-    while index < steps.len() {
-        let outcome = do_act(opened, fresh, steps[index].act, outcomes[index].1)?;
-        outcomes[index].1 = outcome;
-        edge = edge_behind(groups, steps, row, index, edge);
-        index = edge.min(later_expiry(groups, steps, index + 1, opened.hints.since));
-    }
-    Ok(())
-}
-
-/// A row of as many blocks is read once beforehand, where many operations touch it.
-const LONG_ROW: usize = 4;
-
-/// As many operations are many for a row.
-const MANY_STEPS: usize = 16;
-
-/// The row of a source as the version has it, before the batch's first operation.
-///
-/// The targets are those that the batch's operations ask for, where it has many for this row.
-pub fn open_row(
-    alloc: Global,
-    source: VertexId,
-    row: &[Arc<Block>],
-    targets: &[u32],
-) -> Result<OpenRow, AllocError>
-    requires { All (λ b. (block_of b).source ≡ source.0) row.now }
-    ensures source { IfOk result (λ r. r.source ≡ source) }
-    ensures blocks { IfOk result (λ r. opens r.blocks.items ≡ map kept_of row.now) }
-    ensures had { IfOk result (λ r. had_in r.blocks.items ≡ blocks_of row.now) }
-    ensures none_own { IfOk result (λ r. own_in r.blocks.items ≡ []) }
-    ensures own { IfOk result (λ r. All (IsOf source.0) r.blocks.items) }
-    ensures hinted { IfOk result (λ r. AreHints r.hints r.blocks.items) }
-{
-    let mut blocks = Vec::with_capacity(alloc, row.len() + 1)?;
-    for block in row {
-        blocks.push(RowBlock {
-            block: Arc::try_clone(block)?,
-            touched: false,
-            before: None,
-        })?;
-    }
-    let notes = notes_for(alloc, blocks.as_slice(), targets)?;
-    Ok(OpenRow {
-        source,
-        blocks,
-        hints: Hints {
-            notes,
-            room: Room {
-                kind: KindId(0),
-                place: 0,
-            },
-            since: 0,
-        },
-    })
-}
-
-/// Notes of a row for the targets that the batch asks for, where the row is long and they are many.
-fn notes_for(alloc: Global, row: &[RowBlock], targets: &[u32]) -> Result<Option<Notes>, AllocError>
-    ensures { IfOk result (λ notes. IsNoted notes row.now) }
-{
-    if row.len() < LONG_ROW || targets.len() < MANY_STEPS {
-        return Ok(None);
-    }
-    let notes = Notes::of_row(alloc, row, targets)?;
-    Ok(Some(notes))
-}
-
 /// What rows leave at the batch's end.
 #[derive(Drop)]
 pub struct Leavings {
@@ -320,64 +94,6 @@ pub struct Leavings {
     pub dropped: Vec<Arc<Block>>,
     /// The fresh blocks that no row keeps.
     pub unused: Vec<Arc<Block>>,
-}
-
-/// Whether the block has no edge.
-fn is_bare(block: &Block) -> bool
-    ensures { result ≡ has_none (shape_of block.now) }
-{
-    block.is_empty()
-}
-
-/// Adds a block to its row's blocks of the next version, unless the batch has emptied it.
-fn close_block(
-    blocks: RowBlock,
-    row: &mut Vec<Arc<Block>>,
-    left: &mut Leavings,
-) -> Result<(), AllocError>
-    ensures row { OnOk result (blocks_of row.new.items ≡ blocks_of row.old.items ++ after_here blocks) }
-    ensures taken { OnOk result (left.new.taken.items ≡ left.old.taken.items ++ map (λ b. b.number) (written_here blocks)) }
-    ensures dropped { OnOk result (blocks_of left.new.dropped.items ≡ blocks_of left.old.dropped.items ++ dropped_here blocks) }
-    ensures unused { OnOk result (numbers_of left.new.unused.items ≡ numbers_of left.old.unused.items ++ unused_here blocks) }
-{
-    let RowBlock {
-        block,
-        touched,
-        before,
-    } = blocks;
-    if !touched {
-        row.push(block)?;
-        return Ok(());
-    }
-    if let Some(old) = before {
-        left.dropped.push(old)?;
-    }
-    if is_bare(&block) {
-        left.unused.push(block)?;
-        return Ok(());
-    }
-    left.taken.push(block.number())?;
-    row.push(block)?;
-    Ok(())
-}
-
-/// The row's blocks of the next version.
-pub fn close_row(
-    alloc: Global,
-    blocks: Vec<RowBlock>,
-    left: &mut Leavings,
-) -> Result<Vec<Arc<Block>>, AllocError>
-    ensures row { IfOk result (λ r. blocks_of r.items ≡ after_of blocks.items) }
-    ensures taken { OnOk result (left.new.taken.items ≡ left.old.taken.items ++ map (λ b. b.number) (written_of blocks.items)) }
-    ensures dropped { OnOk result (blocks_of left.new.dropped.items ≡ blocks_of left.old.dropped.items
-        ++ dropped_of blocks.items) }
-    ensures unused { OnOk result (numbers_of left.new.unused.items ≡ numbers_of left.old.unused.items ++ unused_of blocks.items) }
-{
-    let mut row = Vec::with_capacity(alloc, blocks.len())?;
-    for block in blocks {
-        close_block(block, &mut row, left)?;
-    }
-    Ok(row)
 }
 
 /// The blocks of a source's row.

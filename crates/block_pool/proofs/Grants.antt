@@ -1,12 +1,27 @@
 -- The numbers that a grant takes.
 use Rattle.std.proofs.Common.{◌≡◌, ℕ, zero, suc, ◌+◌, ◌-◌, ◌<◌, ◌≤◌, ◌==◌, List, [], ◌∷◌, ◌++◌, length, get_or, set, count_by}
 use Rattle.std.proofs.Common.{take, Bool, true, false, cond, ◌&&◌, refl, sym, ap, ◌∙◌, arith, length-take}
-use Rattle.std.proofs.lemmas.Bool.{true≢false, false≢true, eqb-true, eqb-false, and_parts}
-use Rattle.std.proofs.lemmas.List.{get_or-take, get_or-set_same, get_or-set_other, take_more_set}
+use Rattle.std.proofs.lemmas.Bool.{eqb-true, eqb-false, and_parts}
+use Rattle.std.proofs.lemmas.List.{get_or-take, get_or-set_same, get_or-set_other, get_or_read, length-map, take_more_set}
 use Rattle.std.proofs.Math.{ListN.length-set, Seq.take-set-lt}
 use Rattle.block_pool.specs.Pools.{Status, is_free, marked, AreFree}
-use Rattle.block_pool.specs.Kept.{status_of, tally, Lists, popped}
-use Rattle.block_pool.proofs.Tallies.{count_more, count_last, count_here, count_at, listed_at, same_number, passes_at}
+use Rattle.block_pool.specs.Kept.{IsNumbers, statuses, status_from, status_of, tally, Lists, popped}
+use Rattle.block_pool.specs.declared.numbers.Numbers.{Numbers}
+use Rattle.block_pool.proofs.Tallies.{count_more, count_last, count_here, count_at, listed_at, listed_count, same_number, passes_at}
+
+-- the free numbers are as many as the list has, and each that the list has is one of the pool's
+pub free_listed : (n : Numbers) → IsNumbers n → n.free_len ≡ count_by is_free (statuses n)
+free_listed n kept =
+    let listed = listed_count is_free (statuses n) (take n.free_len n.free.items) kept.free_are in
+    omega (arith, length-take n.free_len n.free.items, kept.free_in, kept.free_room, listed)
+
+pub free_read : (n : Numbers) → IsNumbers n → (at number : ℕ) → at < n.free_len → number ≡ get_or n.free.items at number
+    → (number ≡ get_or n.free.items at 0) × (number < length n.places.items)
+free_read n kept at number lt is =
+    let in_room : n.free_len ≤ length n.free.items = omega (arith, kept.free_in, kept.free_room) in
+    let here = listed_at is_free (statuses n) n.free_len n.free.items kept.free_are in_room at lt in
+    let same : number ≡ get_or n.free.items at 0 = get_or_read n.free.items at number (omega arith) is 0 in
+    (same, omega (arith, here.0, same, length-map n.places.items status_from))
 
 pub popped_more : (room : List ℕ) (len k : ℕ) → 0 < k
     → popped room len k ≡ get_or room (len - 1) 0 ∷ popped room (len - 1) (k - 1)

@@ -1,7 +1,6 @@
 -- What a copy needs, by one seat's pin and by what it reaches.
 use Rattle.std.proofs.Common.{◌≡◌, ℕ, ◌<◌, Bool, true, false, ◌||◌, not, List, get_or, Option, Some, None, refl, ap, ltb}
-use Rattle.std.proofs.lemmas.Bool.{false≢true}
-use Rattle.std.specs.List.{list_any}
+use Rattle.std.{proofs.lemmas.Bool.false≢true, specs.List.list_any}
 use Rattle.pin_copy.specs.{declared.copies.PinCopy.PinCopy, Copies.reach_of, Copies.is_between, Copies.is_before, Copies.needs}
 use Rattle.pin_copy.proofs.Least.{any_at, reach_needed}
 use Rattle.block_pool.specs.Pools.{Retired, is_past}

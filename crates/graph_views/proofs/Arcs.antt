@@ -5,9 +5,8 @@ use Rattle.std.specs.{Prelude.filter, Prelude.nat_lt, Prelude.◌&&◌, Prelude.
 use Rattle.std.proofs.lemmas.Bool.{and_parts, eqb-true, Decides.nat_tests, Decides.Decides-eqb}
 use Rattle.std.proofs.lemmas.List.{length-replicate}
 use Rattle.graph_model.specs.Graph.{Key, Stamp, key_cmp, key_of, stamp_of, entry_of}
-use Rattle.graph_model.specs.Analyses.{LeadsTo}
-use Rattle.graph_model.proofs.{Arcs.contains_map, Arcs.map_contains, Counts.contains_filter, Counts.filter_contains}
-use Rattle.graph_model.proofs.Keys.{get_is, find_listed, is_key_of, is_key_of_at}
+use Rattle.graph_model.{specs.Analyses.LeadsTo, proofs.Arcs.contains_map, proofs.Arcs.map_contains, proofs.Counts.contains_filter}
+use Rattle.graph_model.proofs.{Counts.filter_contains, Keys.get_is, Keys.find_listed, Keys.is_key_of, Keys.is_key_of_at}
 use Rattle.graph_views.specs.Listed.{edge_along, is_within, leaves, along, all_edges, put_targets}
 
 pick : (b : Bool) (s : Stamp) (o : Option Stamp) → o ≡ Some s → cond b (Some s) o ≡ Some s

@@ -8,9 +8,8 @@ use Rattle.graph_model.proofs.{Arcs.contains_map, Arcs.map_contains, Counts.cont
 use Rattle.graph_model.proofs.Keys.{get_is, get_listed, find_listed}
 use Rattle.edge_block.specs.Slots.{BlockView, edges_in, entry_in, entries_of}
 use Rattle.row_pages.specs.Rows.{row_of, blocks_of}
-use Rattle.graph_version.specs.Versions.{AreRowsOf, IsBlockOf}
-use Rattle.graph_version.specs.Edges.{edge_from, edges_in_block, edges_in_blocks}
-use Rattle.graph_version.proofs.Shown.{rows_each_once}
+use Rattle.graph_version.specs.{Versions.AreRowsOf, Versions.IsBlockOf, Edges.edge_from, Edges.edges_in_block}
+use Rattle.graph_version.{specs.Edges.edges_in_blocks, proofs.Shown.rows_each_once}
 use Rattle.graph_views.specs.Shown.{shown, shown_in, targets_of}
 use Rattle.graph_views.proofs.Members.{contains_flat, flat_contains, in_rows, row_with}
 

@@ -1,6 +1,5 @@
 -- Targets gathered block by block.
-use Rattle.std.proofs.Common.{ℕ, List}
-use Rattle.std.specs.declared.{sync.Arc.Arc, alloc.Global.Global}
+use Rattle.std.{proofs.Common.ℕ, proofs.Common.List, specs.declared.sync.Arc.Arc, specs.declared.alloc.Global.Global}
 use Rattle.graph_model.specs.declared.ids.Filter.{Filter}
 use Rattle.edge_block.specs.declared.blocks.Block.{Block}
 use Rattle.row_pages.specs.Sharing.{block_values}

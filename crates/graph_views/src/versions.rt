@@ -21,14 +21,14 @@ impl ViewEdges for VersionEdges<'_> {
     ghost graph = { λ edges. content edges.version.now };
 
     fn vertex_count(&self) -> usize {
-        // A version's contract says with its number that its edges join its vertices, and that these are few.
-        let _number = self.version.number();
+        // A version's facts say that its edges join its vertices, and that these are few.
+        self.version.facts();
         self.version.names().len()
     }
 
     #[inline(always)]
     fn list_targets(&self, source: u32, targets: &mut Vec<u32>) -> Result<(), AllocError> {
-        let _number = self.version.number();
+        self.version.facts();
         targets.clear();
         for block in self.version.row_blocks(VertexId(source)) {
             block.list_targets(&self.filter, targets)?;

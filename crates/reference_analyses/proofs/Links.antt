@@ -12,10 +12,9 @@ use Rattle.std.proofs.lemmas.Bool.{cases_Bool, eqb-true, and_parts, Decides.nat_
 use Rattle.std.proofs.lemmas.List.{get_or_default, Sorted.Contains-permutation, Sorted.IsPermutation-sym}
 use Rattle.std.proofs.lemmas.List.Elements.{All-contains, All-weaker, All-from_recursion, Contains-get_or}
 use Rattle.std.proofs.lemmas.List.Kept.{AllPairs-cons, IsStrictlySortedBy-dedup, Contains-dedup, Contains-from_dedup}
-use Rattle.graph_model.specs.Graph.{Graph, graph_of, IsContent}
-use Rattle.graph_model.specs.Analyses.{Joins, IsCoreNumber, IsTable}
-use Rattle.graph_model.specs.Arcs.{Arc, arcs_of, two_way, AreWithin, at, AreNeighbors, support, AreUpper}
-use Rattle.graph_model.specs.declared.{contents.Content.Content, ids.Filter.Filter}
+use Rattle.graph_model.specs.{Graph.Graph, Graph.graph_of, Graph.IsContent, Analyses.Joins, Analyses.IsCoreNumber}
+use Rattle.graph_model.specs.{Analyses.IsTable, Arcs.Arc, Arcs.arcs_of, Arcs.two_way, Arcs.AreWithin, Arcs.at, Arcs.AreNeighbors}
+use Rattle.graph_model.specs.{Arcs.support, Arcs.AreUpper, declared.contents.Content.Content, declared.ids.Filter.Filter}
 use Rattle.graph_model.proofs.Counts.{apart_tail, apart_head, count_yes, count_no, sub_length, contains_filter, filter_contains}
 use Rattle.graph_model.proofs.Arcs.{contains_map, map_contains, arc_joins, joins_arc, two_way_within}
 use Rattle.graph_model.proofs.Cores.{upper_first, upper_more, settled_cores}

@@ -1,8 +1,7 @@
 -- Levels and labels of a content, once its numbers are settled.
 use Rattle.std.proofs.Common.{◌≡◌, ℕ, ◌<◌, ◌≤◌, arith, sym, ap, ◌∙◌, subst, List, length, map}
-use Rattle.std.specs.{Prelude.All, Prelude.replicate, List.range_with_len}
-use Rattle.std.proofs.lemmas.List.Elements.{All-set, All-replicate}
-use Rattle.std.proofs.lemmas.List.FromFn.{length-range_with_len, get_or-range_with_len}
+use Rattle.std.{specs.Prelude.All, specs.Prelude.replicate, specs.List.range_with_len, proofs.lemmas.List.Elements.All-set}
+use Rattle.std.proofs.lemmas.List.{Elements.All-replicate, FromFn.length-range_with_len, FromFn.get_or-range_with_len}
 use Rattle.graph_model.specs.{Graph.graph_of, Graph.IsContent, Analyses.AreLevels, Analyses.AreLabels}
 use Rattle.graph_model.specs.Arcs.{arcs_of, two_way, AreWithin, IsLowered, IsClosed, level_start, level_of}
 use Rattle.graph_model.specs.declared.{contents.Content.Content, ids.Filter.Filter}

@@ -1,9 +1,8 @@
 -- A batch that was applied with granted blocks is accepted, and the desk after it is a desk.
-use Rattle.std.proofs.Common.{◌≡◌, ℕ, zero, suc, ◌<◌, Bool, true, false, List, [], ◌∷◌, ◌++◌, length, get_or}
-use Rattle.std.proofs.Common.{count_by, refl, sym, ap, ◌∙◌, arith}
-use Rattle.std.specs.{Prelude.slice_get, Prelude.if◌then◌else◌, Prelude.Contains, List.list_all, Option.option_and_then}
+use Rattle.std.proofs.Common.{◌≡◌, ℕ, zero, suc, ◌<◌, Bool, true, false, List, [], ◌∷◌, ◌++◌, length, get_or, count_by, refl, sym}
+use Rattle.std.proofs.{Common.ap, Common.◌∙◌, Common.arith, lemmas.Bool.true≢false, lemmas.List.length-map}
+use Rattle.std.specs.{List.list_all, Option.option_and_then, Prelude.slice_get, Prelude.if◌then◌else◌, Prelude.Contains}
 use Rattle.std.specs.declared.option.Option.{Option, TheVariants.None, TheVariants.Some}
-use Rattle.std.proofs.lemmas.{Bool.true≢false, List.length-map}
 use Rattle.block_pool.proofs.Grants.{length-marked}
 use Rattle.edge_block.specs.Slots.{BlockView}
 use Rattle.row_pages.specs.Rows.{row_of, blocks_of, numbers_of}

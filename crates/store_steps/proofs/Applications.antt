@@ -6,12 +6,10 @@ use Rattle.edge_block.specs.Slots.{BlockView}
 use Rattle.row_pages.specs.Rows.{blocks_of, numbers_of}
 use Rattle.graph_version.specs.Versions.{VersionView, is_in}
 use Rattle.block_pool.specs.Pools.{Status, Free, Granted, Used, retired, is_free_at, is_born_at, marked, changed, AreFree}
-use Rattle.epoch_blocks.specs.Blocks.{all_differ}
-use Rattle.epoch_blocks.proofs.Lists.{all_listed}
-use Rattle.store_steps.specs.Journal.{Entry, Applied, exchanged}
-use Rattle.store_steps.specs.Desks.{DeskView, IsDesk, IsAppliedTo, desk_after, last_numbers}
-use Rattle.store_steps.proofs.NumberLists.{all_from, differ_from}
-use Rattle.store_steps.proofs.ChangedLists.{marked_at, changed_at, same_list}
+use Rattle.epoch_blocks.{specs.Blocks.all_differ, proofs.Lists.all_listed}
+use Rattle.store_steps.specs.{Journal.Entry, Journal.Applied, Journal.exchanged, Desks.DeskView, Desks.IsDesk, Desks.IsAppliedTo}
+use Rattle.store_steps.{specs.Desks.desk_after, specs.Desks.last_numbers, proofs.NumberLists.all_from}
+use Rattle.store_steps.proofs.{NumberLists.differ_from, ChangedLists.marked_at, ChangedLists.changed_at, ChangedLists.same_list}
 use Rattle.store_steps.proofs.Counting.{times, is_some_times, in_times, times_numbers, once_at_most, apart_if}
 use Rattle.store_steps.proofs.OneNumber.{marked_if, number_after, OneNumber, one_number}
 

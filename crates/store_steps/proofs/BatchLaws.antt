@@ -9,9 +9,8 @@ use Rattle.block_pool.specs.Pools.{Free, Granted, Used, retired, is_free_at, is_
 use Rattle.epoch_blocks.proofs.Lists.{all_listed}
 use Rattle.store_steps.specs.Journal.{Entry, Applied, Ledger, is_legal, after_entry, entered}
 use Rattle.store_steps.specs.Desks.{DeskView, IsDesk, IsAppliedTo, IsAccepted, desk_after}
-use Rattle.store_steps.specs.Steps.{Takes, posting}
-use Rattle.store_steps.proofs.{Applications.Application, Applications.moves_left, Accepting.made_accepted, Accepting.made_desk}
-use Rattle.store_steps.proofs.Posting.{legal_batch, accepted_takes}
+use Rattle.store_steps.{specs.Steps.Takes, specs.Steps.posting, proofs.Applications.Application, proofs.Applications.moves_left}
+use Rattle.store_steps.proofs.{Accepting.made_accepted, Accepting.made_desk, Posting.legal_batch, Posting.accepted_takes}
 
 -- an entry that isn't legal isn't entered
 pub not_entered : (l : Ledger) (e : Entry) → is_legal l e ≡ false → entered l e ≡ None

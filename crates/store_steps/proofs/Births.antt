@@ -7,8 +7,7 @@ use Rattle.edge_block.specs.Slots.{BlockView}
 use Rattle.row_pages.specs.Rows.{row_of, blocks_of, numbers_of}
 use Rattle.graph_version.specs.Versions.{is_in}
 use Rattle.block_pool.specs.Pools.{Status, Free, is_free, passes}
-use Rattle.store_steps.specs.Desks.{birth_of, birth_at}
-use Rattle.store_steps.proofs.OneNumber.{number_after}
+use Rattle.store_steps.{specs.Desks.birth_of, specs.Desks.birth_at, proofs.OneNumber.number_after}
 
 -- One number
 

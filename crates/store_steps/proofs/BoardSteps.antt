@@ -2,17 +2,16 @@
 use Rattle.std.proofs.Common.{◌≡◌, ℕ, zero, suc, ◌<◌, ◌≤◌, ◌-◌, ◌⊎◌, inl, inr, Bool, not, List, [], ◌∷◌, ◌++◌, length, map, replicate, get_or, set, max, min}
 use Rattle.std.proofs.Common.{true, false, length-append, refl, sym, ap, subst, ◌∙◌, arith}
 use Rattle.std.specs.Prelude.{Option, Some, None, option_map, IfSome, IsSomeAnd}
-use Rattle.std.proofs.lemmas.{Bool.cases_eq, List.get_or-set_same, List.get_or-set_other, List.length-map, List.length-replicate}
+use Rattle.std.proofs.lemmas.{Bool.cases_eq, Bool.cases_lt, List.get_or-set_same, List.get_or-set_other, List.length-map, List.length-replicate}
 use Rattle.epoch_core.specs.{declared.states.SessionState.SessionState, Worlds.copy_of as world_copy}
 use Rattle.epoch_core.specs.declared.states.SessionState.TheVariants.{Idle, Pinned, Holding, Asking}
 use Rattle.epoch_core.specs.Worlds.{World, session_of, pin_in, pin_if, settled_in, unsettled_in, seated, held_in, last_number}
 use Rattle.epoch_core.specs.Machine.{least_pin, lesser, to_pin, to_settle, to_release}
 use Rattle.epoch_core.proofs.Moves.{Moved, moved, floored, session_after, session_else, least_first, least_each}
 use Rattle.pin_copy.specs.Copies.{floor_of}
-use Rattle.seat_board.specs.Board.{BoardState, IsBoard, IsLeast, IsBelowPins, pin_at, with_pin, unsettled, settled, copy_of}
-use Rattle.seat_board.specs.Board.{number_if, settled_number, unsettled_number}
-use Rattle.seat_board.proofs.Copied.{floor_is_least}
-use Rattle.seat_board.specs.declared.board.{Pin.Pin as SeatPin, TheConstants.SEATS}
+use Rattle.seat_board.{proofs.Copied.floor_is_least, specs.Board.BoardState, specs.Board.IsBoard}
+use Rattle.seat_board.specs.Board.{IsLeast, IsBelowPins, pin_at, with_pin, unsettled, settled, copy_of, number_if, settled_number}
+use Rattle.seat_board.specs.{Board.unsettled_number, declared.board.Pin.Pin as SeatPin, declared.board.TheConstants.SEATS}
 use Rattle.store_steps.specs.{Desks.DeskView, Shown.ShowsWorld, Boards.RaisesAsMachine}
 use Rattle.store_steps.specs.Boards.{seat_pin, ShowsBoard, raised_board, PinsAsMachine, SettlesAsMachine, UnpinsAsMachine}
 
@@ -131,16 +130,12 @@ seat_number (Asking hold inquiry) = refl
 pin_number : (b : BoardState) (w : World) → ShowsBoard b w → (s : ℕ) → pin_in (session_of w s) ≡ number_of (pin_at b.pins s)
 pin_number b w shows s = sym (seat_number (session_of w s)) ∙ ap number_of (shows.pins s)
 
-min_either : (m n : ℕ) → (min m n ≡ m) ⊎ (min m n ≡ n)
-min_either zero n = inl (omega arith)
-min_either (suc m) zero = inr (omega arith)
-min_either (suc m) (suc n) = elim (min_either m n) as (λ _. (min (suc m) (suc n) ≡ suc m) ⊎ (min (suc m) (suc n) ≡ suc n))
-    [ inl e ↦ inl (omega arith) | inr e ↦ inr (omega arith) ]
-
 lesser_either : (n : ℕ) (o : Option ℕ) → (lesser n o ≡ n) ⊎ (o ≡ Some (lesser n o))
 lesser_either n None = inl refl
-lesser_either n (Some m) = elim (min_either n m) as (λ _. (min n m ≡ n) ⊎ (Some m ≡ Some (min n m)))
-    [ inl e ↦ inl e | inr e ↦ inr (ap Some (sym e)) ]
+lesser_either n (Some m) = elim (cases_lt n m) [
+  | inl low ↦ inl (omega arith)
+  | inr high ↦ let e : m ≡ min n m = omega arith in inr (ap Some e)
+]
 
 below_pin : (o : Option SeatPin) (pin floor : ℕ) → number_of o ≡ Some pin → IfSome o (λ p. floor ≤ p.number) → floor ≤ pin
 below_pin None pin floor is low = cc

@@ -1,9 +1,8 @@
 -- Lists with some elements changed: what stands at a place afterwards.
 use Rattle.std.proofs.Common.{◌≡◌, ℕ, zero, suc, ◌==◌, Bool, true, false, ◌||◌, List, [], ◌∷◌, length, get_or, set, refl, sym, ap}
-use Rattle.std.proofs.Common.{subst, ◌∙◌, arith}
-use Rattle.std.specs.{Prelude.slice_get, Prelude.if◌then◌else◌, Option.option_map}
+use Rattle.std.proofs.{Common.subst, Common.◌∙◌, Common.arith, lemmas.Bool.eq-eqb, lemmas.Bool.eqb-true, lemmas.Bool.true≢false}
+use Rattle.std.{proofs.lemmas.List.length-set, specs.Option.option_map, specs.Prelude.slice_get, specs.Prelude.if◌then◌else◌}
 use Rattle.std.specs.declared.option.Option.{Option, TheVariants.None, TheVariants.Some}
-use Rattle.std.proofs.lemmas.{List.length-set, Bool.eq-eqb, Bool.eqb-true, Bool.true≢false}
 use Rattle.graph_version.specs.Versions.{is_in}
 use Rattle.block_pool.specs.Pools.{Status, Granted, marked, changed}
 use Rattle.epoch_blocks.specs.Blocks.{all_differ}

@@ -1,11 +1,10 @@
 -- A collection leaves a desk.
-use Rattle.std.proofs.Common.{◌≡◌, ℕ, zero, suc, ◌+◌, ◌<◌, ◌≤◌, ◌==◌, true, false, cond, List, [], ◌∷◌, ◌++◌, length, map}
-use Rattle.std.proofs.Common.{count_by, refl, sym, ap, ap₂, subst, ◌∙◌, arith}
-use Rattle.std.specs.Prelude.{slice_get, if◌then◌else◌, nat_le, nat_lt}
-use Rattle.std.specs.Option.{option_map, option_and_then}
-use Rattle.std.specs.declared.option.Option.{Option, TheVariants.None, TheVariants.Some}
-use Rattle.std.proofs.lemmas.{List.append-nil, List.length-map, Bool.eq-eqb, Bool.or_right, Bool.Decides.nat_tests}
-use Rattle.std.proofs.lemmas.Option.{slice_get-map}
+use Rattle.std.proofs.Common.{◌≡◌, ℕ, zero, suc, ◌+◌, ◌<◌, ◌≤◌, ◌==◌, true}
+use Rattle.std.proofs.Common.{false, cond, List, [], ◌∷◌, ◌++◌, length, map, count_by, refl, sym, ap, ap₂, subst, ◌∙◌, arith}
+use Rattle.std.specs.{Prelude.slice_get, Prelude.if◌then◌else◌, Prelude.nat_le, Prelude.nat_lt, Option.option_map}
+use Rattle.std.specs.{Option.option_and_then, declared.option.Option.Option, declared.option.Option.TheVariants.None}
+use Rattle.std.{specs.declared.option.Option.TheVariants.Some, proofs.lemmas.List.append-nil}
+use Rattle.std.proofs.lemmas.{List.length-map, Bool.eq-eqb, Bool.or_right, Bool.Decides.nat_tests, Option.slice_get-map}
 use Rattle.edge_block.specs.Slots.{BlockView}
 use Rattle.row_pages.specs.Rows.{row_of, numbers_of}
 use Rattle.graph_version.specs.Versions.{VersionView, is_in}

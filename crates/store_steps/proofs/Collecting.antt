@@ -1,11 +1,10 @@
 -- A collection is Recycle of each block that the copy frees, all done, and no further block goes afterwards.
-use Rattle.std.proofs.Common.{◌≡◌, ◌≢◌, ℕ, zero, suc, ◌+◌, ◌<◌, ◌==◌, Bool, true, false, not, ◌||◌, List, [], ◌∷◌, map, set, refl, sym}
-use Rattle.std.proofs.Common.{ap, subst, ◌∙◌, arith}
-use Rattle.std.specs.{Prelude.slice_get, Prelude.if◌then◌else◌, Prelude.filter, List.enumerate_from}
-use Rattle.std.specs.Option.{option_map, option_and_then, is_some}
+use Rattle.std.proofs.Common.{◌≡◌, ◌≢◌, ℕ, zero, suc, ◌+◌}
+use Rattle.std.proofs.Common.{◌<◌, ◌==◌, Bool, true, false, not, ◌||◌, List, [], ◌∷◌, map, set, refl, sym, ap, subst, ◌∙◌, arith}
+use Rattle.std.specs.Prelude.{slice_get, if◌then◌else◌, filter}
+use Rattle.std.specs.{List.enumerate_from, Option.option_map, Option.option_and_then, Option.is_some}
 use Rattle.std.specs.declared.option.Option.{Option, TheVariants.None, TheVariants.Some}
-use Rattle.std.proofs.lemmas.Bool.{eq-eqb, true≢false, or_right}
-use Rattle.std.proofs.lemmas.Option.{slice_get-map}
+use Rattle.std.proofs.lemmas.{Bool.eq-eqb, Bool.true≢false, Bool.or_right, Option.slice_get-map}
 use Rattle.block_pool.proofs.Grants.{length-marked}
 use Rattle.graph_version.specs.Versions.{is_in}
 use Rattle.block_pool.specs.Pools.{Status as PoolStatus, Free as PoolFree, Granted as PoolGranted, Used as PoolUsed}
@@ -15,10 +14,9 @@ use Rattle.epoch_blocks.specs.{declared.states.Status.Status, Blocks.recycled, B
 use Rattle.epoch_blocks.specs.declared.states.Status.TheVariants.{Free, Fresh, Used, Retired}
 use Rattle.epoch_core.specs.{declared.events.Event.TheVariants.Recycle, Worlds.World, Machine.step, Machine.with_status}
 use Rattle.epoch_blocks.proofs.Lists.{set_else}
-use Rattle.store_steps.specs.{Desks.DeskView, Desks.IsCollected, Shown.SameStatus, Shown.ShowsWorld}
-use Rattle.store_steps.specs.Steps.{all_done, past_numbers, recycling, TakesAt}
-use Rattle.store_steps.proofs.{NumberLists.apart_test, NumberLists.differ_head, NumberLists.differ_tail, Filling.step_then}
-use Rattle.store_steps.proofs.ChangedLists.{marked_at}
+use Rattle.store_steps.specs.{Desks.DeskView, Desks.IsCollected, Shown.SameStatus, Shown.ShowsWorld, Steps.all_done}
+use Rattle.store_steps.{specs.Steps.past_numbers, specs.Steps.recycling, specs.Steps.TakesAt, proofs.NumberLists.apart_test}
+use Rattle.store_steps.proofs.{NumberLists.differ_head, NumberLists.differ_tail, Filling.step_then, ChangedLists.marked_at}
 
 -- whether the machine recycles a block by the copy
 abbrev goes : PinCopy → Option Status → Bool

@@ -5,13 +5,11 @@ use Rattle.std.specs.{Prelude.Contains, Cmp.Lexicographic.pointwise}
 use Rattle.std.specs.declared.option.Option.{Option, TheVariants.None, TheVariants.Some}
 use Rattle.std.proofs.lemmas.{Bool.eq-eqb, Bool.eqb-true, Slice.Eq.slice_eq-Decides}
 use Rattle.std.proofs.lemmas.Bool.Decides.{Decides-and, Decides-eqb, Decides-int_eq, Decides-like}
-use Rattle.epoch_blocks.proofs.Edges.{Decides-same_stamp}
-use Rattle.graph_model.specs.Graph.{Stamp}
+use Rattle.epoch_blocks.{proofs.Edges.Decides-same_stamp, specs.Blocks.all_differ, specs.Posting.same_stamp}
 use Rattle.edge_block.specs.Slots.{BlockView, Slot}
 use Rattle.row_pages.specs.Rows.{numbers_of}
 use Rattle.graph_version.specs.Versions.{is_in}
 use Rattle.block_pool.proofs.Tallies.{count_more}
-use Rattle.epoch_blocks.specs.{Blocks.all_differ, Posting.same_stamp}
 use Rattle.store_steps.proofs.NumberLists.{differ_head, differ_tail}
 
 -- how often a number stands in a list

@@ -1,9 +1,8 @@
 -- A journal that replays leaves blocks whose births and retirements are numbers of its versions.
 use Rattle.std.proofs.Common.{◌≡◌, ℕ, zero, suc, ◌+◌, Bool, true, false, List, [], ◌∷◌, ◌++◌, length, refl, sym, subst, arith}
-use Rattle.std.proofs.{Common.length-append, Common.replicate, lemmas.Bool.true≢false}
-use Rattle.std.specs.{Prelude.slice_get, Prelude.if◌then◌else◌, Option.option_map, Option.option_and_then}
+use Rattle.std.proofs.{Common.length-append, Common.replicate, lemmas.Bool.true≢false, lemmas.Option.slice_get-map}
+use Rattle.std.specs.{Option.option_map, Option.option_and_then, Prelude.slice_get, Prelude.if◌then◌else◌}
 use Rattle.std.specs.declared.option.Option.{Option, TheVariants.None, TheVariants.Some}
-use Rattle.std.proofs.lemmas.Option.{slice_get-map}
 use Rattle.graph_model.specs.declared.batches.NamedOp.{NamedOp}
 use Rattle.graph_version.specs.Versions.{is_in}
 use Rattle.pin_copy.specs.declared.copies.PinCopy.{PinCopy}

@@ -1,9 +1,8 @@
 -- Take and Fill of several blocks.
 use Rattle.std.proofs.Common.{◌≡◌, ◌≢◌, ℕ, ◌<◌, ◌==◌, true, false, List, [], ◌∷◌, ◌++◌, length, set, refl, sym, ap, ◌∙◌, arith}
 use Rattle.std.proofs.{Common.get_or-set_same, Common.get_or-set_other, lemmas.Bool.eq-eqb, lemmas.Bool.true≢false}
-use Rattle.std.specs.{Prelude.slice_get, Prelude.if◌then◌else◌, Prelude.All, List.flat_map}
-use Rattle.std.specs.Option.{option_map, option_and_then}
-use Rattle.std.specs.declared.option.Option.TheVariants.{None, Some}
+use Rattle.std.specs.{Prelude.slice_get, Prelude.if◌then◌else◌, Prelude.All, List.flat_map, Option.option_map}
+use Rattle.std.specs.{Option.option_and_then, declared.option.Option.TheVariants.None, declared.option.Option.TheVariants.Some}
 use Rattle.std.proofs.lemmas.List.{length-set, Elements.All-head, Elements.All-tail, Elements.All-cons}
 use Rattle.graph_model.specs.declared.ids.Edge.{Edge}
 use Rattle.edge_block.specs.Slots.{BlockView}
@@ -15,8 +14,7 @@ use Rattle.epoch_core.specs.declared.events.Event.{Event, TheVariants.Take, TheV
 use Rattle.epoch_blocks.specs.{Blocks.taken, Blocks.is_fresh, Blocks.put, Blocks.all_differ, Versions.edges_at, Versions.edges_of}
 use Rattle.epoch_core.specs.{Worlds.World, Machine.step, Machine.with_status, Machine.with_heap}
 use Rattle.epoch_blocks.proofs.Lists.{set_same, set_else, or_false}
-use Rattle.store_steps.specs.Steps.{all_done, filling}
-use Rattle.store_steps.proofs.NumberLists.{differ_head, differ_tail}
+use Rattle.store_steps.{specs.Steps.all_done, specs.Steps.filling, proofs.NumberLists.differ_head, proofs.NumberLists.differ_tail}
 
 -- the heap with the edges of these blocks at their numbers
 abbrev pub heap_with : List BlockView → List (List Edge) → List (List Edge)

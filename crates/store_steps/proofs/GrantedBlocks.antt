@@ -1,8 +1,7 @@
 -- The blocks that a batch was granted can be born, and given back.
 use Rattle.std.proofs.Common.{◌≡◌, ℕ, zero, suc, ◌+◌, ◌≤◌, Bool, true, false, List, refl, sym, ap, ◌∙◌, arith}
-use Rattle.std.specs.{Prelude.slice_get, Prelude.if◌then◌else◌, Option.option_map}
+use Rattle.std.{proofs.lemmas.Bool.true≢false, specs.Option.option_map, specs.Prelude.slice_get, specs.Prelude.if◌then◌else◌}
 use Rattle.std.specs.declared.option.Option.{Option, TheVariants.None, TheVariants.Some}
-use Rattle.std.proofs.lemmas.Bool.{true≢false}
 use Rattle.graph_version.specs.Versions.{is_in}
 use Rattle.block_pool.specs.Pools.{Status, Free, Granted, Used, Retired, is_free, is_used, is_born, passes, retired, is_free_at}
 use Rattle.block_pool.specs.Pools.{is_used_at, is_born_at, marked, AreFree}

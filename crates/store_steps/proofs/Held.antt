@@ -7,15 +7,13 @@ use Rattle.block_pool.specs.Pools.{Status as PoolStatus, Free as PoolFree, Retir
 use Rattle.pin_copy.specs.{declared.copies.PinCopy.PinCopy, Copies.needs}
 use Rattle.epoch_core.specs.declared.states.{Hold.Hold, SessionState.SessionState}
 use Rattle.epoch_core.specs.declared.states.SessionState.TheVariants.{Idle, Pinned, Holding, Asking}
+use Rattle.epoch_core.specs.Sound.{IsSound, IsSessionSound, IsHeld, IsCovered, IsKeptAt}
+use Rattle.epoch_core.{specs.Worlds.World, specs.Worlds.session_of, specs.Worlds.held_in, proofs.Steps.always_sound}
 use Rattle.epoch_blocks.specs.declared.states.Status.{Status, TheVariants.Free, TheVariants.Retired}
 use Rattle.epoch_blocks.specs.Blocks.{is_listed}
-use Rattle.epoch_core.specs.Sound.{IsSound, IsSessionSound, IsHeld, IsCovered, IsKeptAt}
-use Rattle.epoch_core.specs.Worlds.{World, session_of, held_in}
 use Rattle.epoch_blocks.specs.Versions.{AreEdgesOf, opening_graph, blocks_at, edges_of, graph_at}
-use Rattle.epoch_core.proofs.Steps.{always_sound}
-use Rattle.store_steps.specs.{Desks.DeskView, Shown.SameStatus, Shown.ShowsWorld, Reached.world_by}
-use Rattle.store_steps.specs.Held.{IsSnapshot, HeldIsSnapshot}
-use Rattle.store_steps.proofs.Reached.{same_count}
+use Rattle.store_steps.specs.{Desks.DeskView, Shown.SameStatus, Shown.ShowsWorld, Reached.world_by, Held.IsSnapshot}
+use Rattle.store_steps.{specs.Held.HeldIsSnapshot, proofs.Reached.same_count}
 
 -- a session that holds a version holds it soundly
 pub record Holder (w : World) (n : ℕ) : Type 0 where

@@ -12,8 +12,7 @@ use Rattle.epoch_core.specs.Machine.{step, read_on, is_all_read, to_enter, to_as
 use Rattle.epoch_core.proofs.Moves.{Moved, moved, session_after, session_else}
 use Rattle.seat_board.specs.Board.{BoardState}
 use Rattle.store_steps.specs.{Desks.DeskView, Shown.ShowsWorld, Boards.seat_pin, Boards.ShowsBoard, Steps.all_done}
-use Rattle.store_steps.specs.Histories.{DoneIsRun, ReadersAreUnseen}
-use Rattle.store_steps.proofs.BoardSteps.{shows_sessions}
+use Rattle.store_steps.{specs.Histories.DoneIsRun, specs.Histories.ReadersAreUnseen, proofs.BoardSteps.shows_sessions}
 
 pub done_is_run : DoneIsRun
 done_is_run [] w after is = cc

@@ -1,8 +1,7 @@
 -- What a batch makes of one number, which was kept, dropped, taken or left unused so often.
 use Rattle.std.proofs.Common.{◌≡◌, ℕ, zero, suc, ◌+◌, ◌≤◌, Bool, true, refl, sym, arith}
-use Rattle.std.specs.{Prelude.if◌then◌else◌, Option.option_map}
-use Rattle.std.specs.declared.option.Option.{Option, TheVariants.Some}
-use Rattle.std.proofs.lemmas.Bool.{true≢false}
+use Rattle.std.specs.{Prelude.if◌then◌else◌, Option.option_map, declared.option.Option.Option}
+use Rattle.std.{specs.declared.option.Option.TheVariants.Some, proofs.lemmas.Bool.true≢false}
 use Rattle.block_pool.specs.Pools.{Status, Free, Granted, Used, is_free, is_born, passes, retired}
 use Rattle.store_steps.proofs.Counting.{is_some_times}
 

@@ -6,8 +6,7 @@ use Rattle.block_pool.specs.Pools.{Status as PoolStatus, Free as PoolFree, Grant
 use Rattle.block_pool.specs.Pools.{Retired as PoolRetired, is_free, is_born, passes}
 use Rattle.epoch_blocks.specs.{declared.states.Status.Status, Blocks.after_post}
 use Rattle.epoch_blocks.specs.declared.states.Status.TheVariants.{Free, Fresh, Used, Retired}
-use Rattle.store_steps.specs.Shown.{SameStatus}
-use Rattle.store_steps.proofs.OneNumber.{number_after}
+use Rattle.store_steps.{specs.Shown.SameStatus, proofs.OneNumber.number_after}
 
 -- what Take, and the Post of version n, make of a status
 abbrev pub status_by : ℕ → Bool → Option Status → Bool → Option Status

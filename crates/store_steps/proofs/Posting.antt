@@ -1,14 +1,12 @@
 -- An accepted batch is Take and Fill of each taken block and then one Post, all done.
-use Rattle.std.proofs.Common.{◌≡◌, ℕ, zero, suc, ◌+◌, ◌<◌, ◌≤◌, Bool, true, false, ◌&&◌, ◌||◌, List, [], ◌∷◌, ◌++◌, length}
-use Rattle.std.proofs.Common.{get_or, refl, sym, ap, subst, ◌∙◌, arith, length-append}
-use Rattle.std.specs.Prelude.{slice_get, if◌then◌else◌, All, Contains, nat_lt, nat_le}
-use Rattle.std.specs.{List.list_all, Option.option_map}
+use Rattle.std.proofs.Common.{◌≡◌, ℕ, zero, suc, ◌+◌, ◌<◌, ◌≤◌, Bool, true, false}
+use Rattle.std.proofs.Common.{◌&&◌, ◌||◌, List, [], ◌∷◌, ◌++◌, length, get_or, refl, sym, ap, subst, ◌∙◌, arith, length-append}
+use Rattle.std.specs.{Prelude.slice_get, Prelude.if◌then◌else◌, Prelude.All, Prelude.Contains, List.list_all, Option.option_map}
 use Rattle.std.specs.declared.option.Option.TheVariants.{None, Some}
-use Rattle.std.proofs.lemmas.{List.map-append, List.length-map, Bool.or_right, Bool.Decides.nat_tests, Bool.lt-ltb, Bool.le-leb}
-use Rattle.std.proofs.lemmas.Option.{slice_get_within}
-use Rattle.std.proofs.lemmas.Bool.{or_left}
+use Rattle.std.proofs.lemmas.{List.map-append, List.length-map, Bool.and_from, Bool.or_right}
+use Rattle.std.proofs.lemmas.{Bool.lt-ltb, Bool.le-leb, Bool.or_left, Bool.Decides.nat_tests, Option.slice_get_within}
 use Rattle.block_pool.proofs.Grants.{length-marked}
-use Rattle.graph_model.specs.{Graph.Graph, Limits.batch_limit, GraphLimits.is_within_limits, Step.left_by, Step.after_all}
+use Rattle.graph_model.specs.{Limits.batch_limit, GraphLimits.is_within_limits, Step.left_by, Step.after_all}
 use Rattle.graph_model.specs.declared.batches.NamedOp.{NamedOp}
 use Rattle.edge_block.specs.Slots.{BlockView}
 use Rattle.row_pages.specs.Rows.{blocks_of, numbers_of}
@@ -16,12 +14,11 @@ use Rattle.graph_version.specs.{Versions.content, Versions.is_in, Edges.edges_in
 use Rattle.graph_version.proofs.Shown.{rows_each_once}
 use Rattle.block_pool.specs.Pools.{Status as PoolStatus, is_born, passes, is_free_at, is_born_at}
 use Rattle.epoch_blocks.specs.declared.states.{Status.TheVariants.Free, Status.TheVariants.Fresh, Version.Version}
-use Rattle.epoch_core.specs.{declared.events.Event.TheVariants.Post, Worlds.World, Worlds.last_blocks, Posts.posted}
 use Rattle.epoch_blocks.specs.Blocks.{is_at, is_fresh, is_listed, all_differ, after_post}
 use Rattle.epoch_blocks.specs.Versions.{AreEdgesOf, opening_graph, edges_at, edges_of}
 use Rattle.epoch_blocks.specs.Posting.{is_listable, version_by, can_post, graph_after, are_edges_of}
-use Rattle.epoch_blocks.proofs.Edges.{Decides-edges}
-use Rattle.epoch_blocks.proofs.Lists.{and_left, and_right, all_listed, length_enumerated}
+use Rattle.epoch_blocks.proofs.{Edges.Decides-edges, Lists.and_left, Lists.and_right, Lists.all_listed, Lists.length_enumerated}
+use Rattle.epoch_core.specs.{declared.events.Event.TheVariants.Post, Worlds.World, Worlds.last_blocks, Posts.posted}
 use Rattle.epoch_core.proofs.{Changes.version_next, Changes.batches_all, Changes.left_more, Posted.status_at}
 use Rattle.store_steps.specs.{Journal.Applied, Journal.Ledger, Journal.is_legal, Shown.SameStatus, Shown.ShowsWorld}
 use Rattle.store_steps.specs.Desks.{DeskView, IsDesk, IsAccepted, last_numbers, ledger_of}
@@ -50,9 +47,6 @@ legal_batch l ops taken dropped is = record {
 
 five : (a b c d e : Bool) → a ≡ true → b ≡ true → c ≡ true → d ≡ true → e ≡ true → (a && b && c && d && e) ≡ true
 five a b c d e p q r s t = rw (p, q, r, s, t) refl
-
-two : (a b : Bool) → a ≡ true → b ≡ true → (a && b) ≡ true
-two a b p q = rw (p, q) refl
 
 -- One batch that was accepted
 
@@ -216,7 +210,7 @@ posts a w shows =
     five _ _ _ _ _ (lt-ltb (length w.versions) batch_limit (omega arith))
     (numbers_all (is_listable (ready a w).status (last_blocks w)) (new_blocks a) (λ k d h. (all k d h).listable))
     (differ_from (last_numbers a.new) a.after.version.rows.numbers)
-    (ap is_within_limits graph ∙ two _ _ (le-leb _ _ a.after.version.small.names) (le-leb _ _ a.after.version.small.kinds))
+    (ap is_within_limits graph ∙ and_from _ _ (le-leb _ _ a.after.version.small.names) (le-leb _ _ a.after.version.small.kinds))
     (ap (λ x. are_edges_of x (edges_of (ready a w).heap (last_numbers a.new))) graph
     ∙ ap (are_edges_of (content a.new.last)) there
     ∙ (Decides-edges (content a.new.last) (edges_in_blocks (new_blocks a))).1 shown)

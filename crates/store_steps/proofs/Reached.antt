@@ -1,9 +1,8 @@
 -- The desk and the board beside a run of the machine.
 use Rattle.std.proofs.Common.{◌≡◌, ℕ, zero, suc, ◌<◌, true, false, List, [], ◌∷◌, ◌++◌, length, get_or, set, refl, sym, ap, subst}
-use Rattle.std.proofs.{Common.◌∙◌, Common.arith, lemmas.List.length-map}
-use Rattle.std.specs.{Prelude.slice_get, Prelude.is_some, Option.unwrap_or, Option.option_map, Option.option_and_then}
+use Rattle.std.proofs.{Common.◌∙◌, Common.arith, lemmas.List.length-map, lemmas.Option.slice_get-get_or}
+use Rattle.std.specs.{Option.unwrap_or, Option.option_map, Option.option_and_then, Prelude.slice_get, Prelude.is_some}
 use Rattle.std.specs.declared.option.Option.{Option, TheVariants.None, TheVariants.Some}
-use Rattle.std.proofs.lemmas.Option.{slice_get-get_or}
 use Rattle.epoch_core.specs.{declared.events.Event.Event, declared.states.SessionState.SessionState, Epochs.PinsInOrder}
 use Rattle.epoch_core.specs.declared.events.Event.TheVariants.{Floor, Pin, Enter, Settle, Ask, Read, Reply, Release}
 use Rattle.epoch_core.specs.declared.states.SessionState.TheVariants.{Idle, Pinned, Holding, Asking}

@@ -1,17 +1,16 @@
 -- How many blocks are free, and how many retired, after a batch and after a collection.
-use Rattle.std.proofs.Common.{◌≡◌, ◌≢◌, ℕ, zero, suc, ◌+◌, ◌==◌, Bool, true, false, not, cond, ◌||◌, List, [], ◌∷◌, length, get_or}
-use Rattle.std.proofs.Common.{map, set, count_by, refl, sym, ap, ◌∙◌, arith, ◌&&◌}
+use Rattle.std.proofs.Common.{◌≡◌, ◌≢◌, ℕ, ◌+◌, ◌==◌, Bool, true, false, not, cond, ◌||◌, List, [], ◌∷◌}
+use Rattle.std.proofs.Common.{length, get_or, map, set, count_by, refl, sym, ap, ◌∙◌, arith, ◌&&◌, subst}
 use Rattle.std.specs.{Prelude.slice_get, Prelude.if◌then◌else◌, Option.option_map, declared.option.Option.TheVariants.Some}
-use Rattle.std.proofs.lemmas.{List.length-map, Bool.eq-eqb, Bool.true≢false, Bool.or_right}
+use Rattle.std.proofs.lemmas.{List.length-map, Bool.eq-eqb, Bool.true≢false, Bool.or_right, Option.slice_get_within}
 use Rattle.std.proofs.lemmas.Option.{get_or_from_slice_get}
-use Rattle.block_pool.proofs.{Grants.length-marked, Tallies.count_more}
+use Rattle.block_pool.proofs.{Grants.length-marked, Tallies.count_here, Tallies.count_more}
 use Rattle.graph_model.specs.declared.batches.NamedOp.{NamedOp}
 use Rattle.graph_version.specs.Versions.{is_in}
 use Rattle.pin_copy.specs.{declared.copies.PinCopy.PinCopy, Copies.needs}
 use Rattle.block_pool.specs.Pools.{Status, Free, Granted, Used, Retired, is_free, is_retired, is_past, recycled, retired}
 use Rattle.block_pool.specs.Pools.{is_free_at, is_born_at, marked, changed}
-use Rattle.epoch_blocks.specs.Blocks.{all_differ}
-use Rattle.epoch_blocks.proofs.Lists.{set_else, all_listed}
+use Rattle.epoch_blocks.{specs.Blocks.all_differ, proofs.Lists.set_else, proofs.Lists.all_listed}
 use Rattle.store_steps.specs.Desks.{DeskView, IsAccepted, IsCollected, AcceptedCounts, CollectedCounts, is_retired_by, birth_of, birth_at}
 use Rattle.store_steps.specs.Desks.{ledger_of}
 use Rattle.store_steps.proofs.{NumberLists.differ_head, NumberLists.differ_tail, CollectedDesk.past_and_left}
@@ -21,14 +20,9 @@ use Rattle.store_steps.proofs.OneNumber.{free_is, born_is, not_both}
 -- one status is set
 count_set : (p : Status → Bool) (pool : List Status) (n : ℕ) (s t : Status) → slice_get pool n ≡ Some s
     → count_by p (set pool n t) + cond (p s) 1 0 ≡ count_by p pool + cond (p t) 1 0
-count_set p [] n s t is = cc
-count_set p (x ∷ pool) zero s t is =
-    let same : x ≡ s = cc in
-    let a = count_more p x pool in let b = count_more p t pool in
-    let c : (let k : ℕ = cond (p x) 1 0 in k) ≡ cond (p s) 1 0 = ap (λ y. cond (p y) 1 0) same in omega arith
-count_set p (x ∷ pool) (suc n) s t is =
-    let a = count_more p x pool in let b = count_more p x (set pool n t) in
-    let rest = count_set p pool n s t is in omega arith
+count_set p pool n s t is =
+    subst (λ x. count_by p (set pool n t) + cond (p x) 1 0 ≡ count_by p pool + cond (p t) 1 0)
+    (get_or_from_slice_get pool n s s is) (count_here p pool n t s (slice_get_within pool n s is))
 
 -- each of these numbers has this status
 abbrev AllHave : Status → List Status → List ℕ → Type 0

@@ -6,29 +6,30 @@ use Rattle.batch_shards.specs.{RowBlocks.numbers_of, declared.shard.Shard.Shard}
 use Rattle.batch_apply.specs.{Jobs.IsDealt, declared.workers.Job.Job}
 use Rattle.batch_apply.proofs.{Dealt.sum_taken, Dealt.zip_push, Halves.zip_more}
 use Rattle.batch_shards.proofs.Places.{count_by-append, one_piece}
+use Rattle.batch_apply.proofs.applied.deal.Goals.{After-len-in-loop-shard}
 use Rattle.batch_apply.proofs.applied.deal.Goals as goal
+
+-- the next shard is one of the plan's, and what it needs is read at its place
+turned : (c : After-len-in-loop-shard) → (length c.loop-shard.yielded < length c.args.needs.now)
+    × (slice_index_or c.args.needs.now c.len-in-loop-shard.result 0 ≡ get_or c.args.needs.now (length c.loop-shard.yielded) 0)
+turned c =
+    let start = c.into_iter-shard-iterator.ensures.into_iter_gives in
+    let turn = YieldsList-turn (YieldsList-from_vec {s = c.into_iter-shard-iterator.result} c.args.shards.items start.0
+    (start.1 ∙ c.args.shards.ok.0))
+    c.loop-shard.yielded c.loop-shard.shard-iterator c.loop-shard.yielded_by c.next.result c.next.new.self
+    c.in-Some.shard c.in-Some.is c.next.ensures.steps in
+    let place : c.len-in-loop-shard.result ≡ length c.loop-shard.yielded =
+    omega (arith, c.len-in-loop-shard.ensures, c.loop-shard.jobs.ok.0, c.loop-shard.invariant.many) in
+    (omega (arith, turn.0, c.requires.long), ap (λ (n : ℕ). slice_index_or c.args.needs.now n 0) place)
 
 -- what the plan's next shard needs is left
 pub take_last-requires : goal.take_last-requires
 take_last-requires c =
     let needs : List ℕ = c.args.needs.now in
     let i : ℕ = length c.loop-shard.yielded in
-    let start = c.into_iter-shard-iterator.ensures.into_iter_gives in
-    let turn = YieldsList-turn (YieldsList-from_vec {s = c.into_iter-shard-iterator.result} c.args.shards.items start.0
-    (start.1 ∙ c.args.shards.ok.0))
-    c.loop-shard.yielded c.loop-shard.shard-iterator c.loop-shard.yielded_by c.next.result c.next.new.self
-    c.in-Some.shard c.in-Some.is c.next.ensures.steps in
-    let place : c.len-in-loop-shard.result ≡ i =
-    omega (arith, c.len-in-loop-shard.ensures, c.loop-shard.jobs.ok.0, c.loop-shard.invariant.many) in
-    let need : slice_index_or needs c.len-in-loop-shard.result 0 ≡ get_or needs i 0 = ap (λ (n : ℕ). slice_index_or needs n 0) place in
-    omega (
-      arith,
-      need,
-      sum_taken i needs 0 (omega (arith, turn.0, c.requires.long)),
-      sum_by-take-le (λ (n : ℕ). n) needs (i + 1),
-      c.loop-shard.invariant.left,
-      c.requires.blocks,
-    )
+    let turn = turned (goal.at.take_last-requires c).After-len-in-loop-shard in
+    let rest = sum_by-take-le (λ (n : ℕ). n) needs (i + 1) in
+    omega (arith, turn.1, sum_taken i needs 0 turn.0, rest, c.loop-shard.invariant.left, c.requires.blocks)
 
 pub loop-shard-preserved : goal.loop-shard-preserved
 loop-shard-preserved c =
@@ -36,15 +37,7 @@ loop-shard-preserved c =
     let yielded : List Shard = c.loop-shard.yielded in
     let s : Shard = c.in-Some.shard in
     let i : ℕ = length yielded in
-    let start = c.into_iter-shard-iterator.ensures.into_iter_gives in
-    let turn = YieldsList-turn (YieldsList-from_vec {s = c.into_iter-shard-iterator.result} c.args.shards.items start.0
-    (start.1 ∙ c.args.shards.ok.0))
-    yielded c.loop-shard.shard-iterator c.loop-shard.yielded_by c.next.result c.next.new.self s c.in-Some.is
-    c.next.ensures.steps in
-    let within : i < length needs = omega (arith, turn.0, c.requires.long) in
-    let place : c.len-in-loop-shard.result ≡ i =
-    omega (arith, c.len-in-loop-shard.ensures, c.loop-shard.jobs.ok.0, c.loop-shard.invariant.many) in
-    let need : slice_index_or needs c.len-in-loop-shard.result 0 ≡ get_or needs i 0 = ap (λ (n : ℕ). slice_index_or needs n 0) place in
+    let turn = turned (goal.at.loop-shard-preserved c).After-len-in-loop-shard in
     let more : length (yielded ++ s ∷ []) ≡ i + 1 = length-append yielded (s ∷ []) in
     let job : Job = record {
       worker = c.len-in-loop-shard-2.result;
@@ -54,12 +47,12 @@ loop-shard-preserved c =
     let fresh_of : Job → List ℕ = λ j. numbers_of j.shard.fresh.items in
     record {
       jobs = subst (λ js. AllZip IsDealt (zip (yielded ++ s ∷ []) needs) js) (sym c.in_ok-push.ensures.items)
-          (subst (λ ps. AllZip IsDealt ps (c.loop-shard.jobs.items ++ job ∷ [])) (sym (zip_push yielded s needs 0 within))
+          (subst (λ ps. AllZip IsDealt ps (c.loop-shard.jobs.items ++ job ∷ [])) (sym (zip_push yielded s needs 0 turn.0))
           (zip_more IsDealt (zip yielded needs) c.loop-shard.jobs.items (s, get_or needs i 0) job c.loop-shard.invariant.jobs
           (record {
             sources_are = refl;
             steps_are = refl;
-            fresh = c.in_ok-fresh.ensures.taken ∙ need;
+            fresh = c.in_ok-fresh.ensures.taken ∙ turn.1;
           })));
       many = omega (
         arith,
@@ -70,9 +63,9 @@ loop-shard-preserved c =
       );
       left = omega (
         arith,
-        need,
+        turn.1,
         ap (λ (n : ℕ). sum_by (λ k. k) (take n needs)) more,
-        sum_taken i needs 0 within,
+        sum_taken i needs 0 turn.0,
         c.in_ok-fresh.ensures.left,
         c.loop-shard.invariant.left,
       );

@@ -1,5 +1,4 @@
-use Rattle.std.proofs.Common.{◌≡◌, ◌%◌, ◌^◌, take}
-use Rattle.std.specs.List.{sum_by}
+use Rattle.std.{proofs.Common.◌≡◌, proofs.Common.◌%◌, proofs.Common.◌^◌, proofs.Common.take, specs.List.sum_by}
 use Rattle.batch_apply.specs.Counts.{taken_away}
 use Rattle.batch_apply.proofs.applied.gone_in.Given as goal
 

@@ -1,6 +1,5 @@
 use Rattle.std.proofs.Common.{subst, get_or, arith}
-use Rattle.batch_shards.specs.Spending.{AreListed, IsGrouped}
-use Rattle.batch_shards.proofs.SourceSteps.{edge_behind}
+use Rattle.batch_shards.{specs.Spending.AreListed, specs.Spending.IsGrouped, proofs.SourceSteps.edge_behind}
 use Rattle.batch_shards.proofs.groups.edge_behind.Goals as goal
 
 pub returns-in-Some : goal.returns-in-Some

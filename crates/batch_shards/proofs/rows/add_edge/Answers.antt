@@ -1,26 +1,23 @@
 use Rattle.std.proofs.Common.{◌≡◌, true, get_or, length, arith, [], ◌∷◌, ◌++◌, sym, ap, ◌∙◌, subst, w64}
-use Rattle.std.specs.{List.position, declared.option.Option.TheVariants.None, declared.option.Option.TheVariants.Some}
 use Rattle.std.proofs.lemmas.Int.{to_z-of_z}
 use Rattle.edge_block.specs.Slots.{Slot, has_room_for, edge_slot, put_slot}
 use Rattle.block_layout.specs.Rows.{touch}
 use Rattle.batch_shards.specs.RowBlocks.{block_of, open_of, had_here, numbers_of, own_here, HaveSame, IsTouched}
 use Rattle.batch_shards.specs.{declared.row_blocks.RowBlock.RowBlock, Notes.Gains, Room.IsFull}
 use Rattle.batch_shards.proofs.{Places.flat_map-set, Rooms.full_set, Rooms.full_before, Rooms.full_all}
-use Rattle.batch_shards.proofs.RowSteps.{at_room, weight_fits, put_into, put_last, room_is, room_within, row_numbers}
+use Rattle.batch_shards.proofs.RowSteps.{at_room, placed, weight_fits, put_into, put_last, room_is, room_within, row_numbers}
 use Rattle.batch_shards.proofs.Noting.{gains_put, gains_push, put_block_targets, new_block_targets}
 use Rattle.batch_shards.proofs.rows.add_edge.Goals as goal
 
 pub put-requires-clause-room : goal.put-requires-clause-room
 put-requires-clause-room c =
-    let found : position (at_room c.args.kind.0) c.args.row.now.items ≡ Some c.in-Some.place =
-    ap (position (at_room c.args.kind.0)) (sym c.as_slice.ensures.value) ∙ sym c.in-Some.ensures in
+    let found = placed (at_room c.args.kind.0) c.as_slice.ensures.value c.in-Some.ensures in
     subst (λ (h : RowBlock). has_room_for c.args.target (block_of h.block).slots ≡ true) (sym c.index_mut.ensures.value)
     (room_is c.args.kind.0 c.args.target c.args.row.now.items c.in-Some.place c.index_mut.result.now found)
 
 pub returns-in_ok-put-in-Some-clause-row : goal.returns-in_ok-put-in-Some-clause-row
 returns-in_ok-put-in-Some-clause-row c =
-    let found : position (at_room c.args.kind.0) c.args.row.now.items ≡ Some c.in-Some.place =
-    ap (position (at_room c.args.kind.0)) (sym c.as_slice.ensures.value) ∙ sym c.in-Some.ensures in
+    let found = placed (at_room c.args.kind.0) c.as_slice.ensures.value c.in-Some.ensures in
     let e : Slot = edge_slot c.args.target c.args.marks.weight c.args.marks.first c.args.marks.recent in
     let h : RowBlock = c.index_mut.result.now in
     let t : IsTouched (put_slot e) h c.put.new.self =
@@ -31,8 +28,7 @@ returns-in_ok-put-in-Some-clause-row c =
 
 pub returns-in_ok-put-in-Some-clause-gains : goal.returns-in_ok-put-in-Some-clause-gains
 returns-in_ok-put-in-Some-clause-gains c =
-    let found : position (at_room c.args.kind.0) c.args.row.now.items ≡ Some c.in-Some.place =
-    ap (position (at_room c.args.kind.0)) (sym c.as_slice.ensures.value) ∙ sym c.in-Some.ensures in
+    let found = placed (at_room c.args.kind.0) c.as_slice.ensures.value c.in-Some.ensures in
     let e : Slot = edge_slot c.args.target c.args.marks.weight c.args.marks.first c.args.marks.recent in
     let h : RowBlock = c.index_mut.result.now in
     let t : IsTouched (put_slot e) h c.put.new.self =
@@ -45,16 +41,14 @@ returns-in_ok-put-in-Some-clause-gains c =
 
 pub returns-in_ok-put-in-Some-clause-full : goal.returns-in_ok-put-in-Some-clause-full
 returns-in_ok-put-in-Some-clause-full c =
-    let found : position (at_room c.args.kind.0) c.args.row.now.items ≡ Some c.in-Some.place =
-    ap (position (at_room c.args.kind.0)) (sym c.as_slice.ensures.value) ∙ sym c.in-Some.ensures in
+    let found = placed (at_room c.args.kind.0) c.as_slice.ensures.value c.in-Some.ensures in
     full_set c.args.kind.0 c.in-Some.place c.in-Some.place c.args.row.now.items c.put.new.self
     (full_before c.args.kind.0 c.in-Some.place c.args.row.now.items c.index_mut.result.now found)
     (λ below within. absurd (omega arith))
 
 pub returns-in_ok-put-in-Some-clause-had : goal.returns-in_ok-put-in-Some-clause-had
 returns-in_ok-put-in-Some-clause-had c =
-    let found : position (at_room c.args.kind.0) c.args.row.now.items ≡ Some c.in-Some.place =
-    ap (position (at_room c.args.kind.0)) (sym c.as_slice.ensures.value) ∙ sym c.in-Some.ensures in
+    let found = placed (at_room c.args.kind.0) c.as_slice.ensures.value c.in-Some.ensures in
     let h : RowBlock = c.index_mut.result.now in
     flat_map-set had_here c.args.row.now.items c.in-Some.place c.put.new.self h
     (room_within c.args.kind.0 c.args.row.now.items c.in-Some.place h found)
@@ -62,8 +56,7 @@ returns-in_ok-put-in-Some-clause-had c =
 
 pub returns-in_ok-put-in-Some-clause-numbers : goal.returns-in_ok-put-in-Some-clause-numbers
 returns-in_ok-put-in-Some-clause-numbers c =
-    let found : position (at_room c.args.kind.0) c.args.row.now.items ≡ Some c.in-Some.place =
-    ap (position (at_room c.args.kind.0)) (sym c.as_slice.ensures.value) ∙ sym c.in-Some.ensures in
+    let found = placed (at_room c.args.kind.0) c.as_slice.ensures.value c.in-Some.ensures in
     let h : RowBlock = c.index_mut.result.now in
     row_numbers own_here c.args.row.now.items c.in-Some.place c.put.new.self h (numbers_of c.put.new.fresh.items)
     (numbers_of c.args.fresh.now.items) (room_within c.args.kind.0 c.args.row.now.items c.in-Some.place h found)
@@ -85,16 +78,14 @@ pub returns-in_ok-push-in-None-clause-full : goal.returns-in_ok-push-in-None-cla
 returns-in_ok-push-in-None-clause-full c =
     let row = c.args.row.now.items in
     let y : RowBlock = c.in_ok-block-in-None.block in
-    let none : position (at_room c.args.kind.0) row ≡ None =
-    ap (position (at_room c.args.kind.0)) (sym c.as_slice.ensures.value) ∙ sym c.in-None.ensures in
+    let none = placed (at_room c.args.kind.0) c.as_slice.ensures.value c.in-None.ensures in
     let end : length row ≡ c.len-place.result = omega (arith, c.len-place.ensures) in
     rw c.in_ok-push-in-None.ensures.items
     (subst (λ n. IsFull c.args.kind.0 n (row ++ y ∷ [])) end (full_all c.args.kind.0 row y none))
 
 pub returns-in_ok-push-in-None-clause-row : goal.returns-in_ok-push-in-None-clause-row
 returns-in_ok-push-in-None-clause-row c =
-    let none : position (at_room c.args.kind.0) c.args.row.now.items ≡ None =
-    ap (position (at_room c.args.kind.0)) (sym c.as_slice.ensures.value) ∙ sym c.in-None.ensures in
+    let none = placed (at_room c.args.kind.0) c.as_slice.ensures.value c.in-None.ensures in
     rw c.in_ok-push-in-None.ensures.items
     (sym (put_last c.args.kind.0 (edge_slot c.args.target c.args.marks.weight c.args.marks.first c.args.marks.recent)
     c.args.row.now.items _ c.requires.absent none

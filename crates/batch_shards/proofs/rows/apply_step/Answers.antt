@@ -1,41 +1,35 @@
 use Rattle.std.proofs.Common.{◌≡◌, ◌<◌, List, true, sym, ap, ◌∙◌, subst, get_or, set, length}
-use Rattle.std.specs.{List.position, Option.is_some}
-use Rattle.std.specs.declared.option.Option.TheVariants.{None, Some}
+use Rattle.std.specs.{Option.is_some, declared.option.Option.TheVariants.None, declared.option.Option.TheVariants.Some}
 use Rattle.graph_model.specs.{Step.stamp_after, Changes.option_stamp, Changes.stamp_in}
-use Rattle.edge_block.specs.Slots.{stamp_at}
+use Rattle.edge_block.{specs.Slots.stamp_at, proofs.Entries.list_any-holds}
 use Rattle.batch_shards.specs.RowBlocks.{block_of, opens, had_here, numbers_of, own_here, HaveSame, IsChanged}
 use Rattle.batch_shards.specs.{declared.row_blocks.RowBlock.RowBlock, Notes.has_target, Room.IsRoom}
 use Rattle.batch_shards.proofs.{Places.flat_map-set, RowSteps.absent_edge, RowSteps.absent_puts, RowSteps.absent_stays}
-use Rattle.batch_shards.proofs.RowSteps.{at_edge, row_numbers, found_within, found_edge, found_some, found_changed, absent_any}
-use Rattle.edge_block.proofs.Entries.{list_any-holds}
+use Rattle.batch_shards.proofs.RowSteps.{at_edge, placed, row_numbers, found_within, found_edge, found_some, found_changed, absent_any}
 use Rattle.batch_shards.proofs.{Noting.noted_kept, Noting.changed_targets, Young.none_at_start}
 use Rattle.batch_shards.proofs.rows.apply_step.Goals as goal
 
 pub change_here-requires-clause-edge : goal.change_here-requires-clause-edge
 change_here-requires-clause-edge c =
-    let found : position (at_edge c.args.kind.0 c.args.target) c.args.row.now.items ≡ Some c.in-Some.place =
-    ap (position (at_edge c.args.kind.0 c.args.target)) (sym c.as_slice.ensures.value) ∙ sym c.in-Some.ensures in
+    let found = placed (at_edge c.args.kind.0 c.args.target) c.as_slice.ensures.value c.in-Some.ensures in
     subst (λ (h : RowBlock). is_some (stamp_at (block_of h.block).slots c.args.target) ≡ true) (sym c.index_mut.ensures.value)
     (found_some c.args.kind.0 c.args.target c.args.row.now.items c.in-Some.place c.index_mut.result.now found)
 
 pub add_edge-requires-clause-absent : goal.add_edge-requires-clause-absent
 add_edge-requires-clause-absent c =
-    let none : position (at_edge c.args.kind.0 c.args.target) c.args.row.now.items ≡ None =
-    ap (position (at_edge c.args.kind.0 c.args.target)) (sym c.as_slice.ensures.value) ∙ sym c.in-None.ensures in
+    let none = placed (at_edge c.args.kind.0 c.args.target) c.as_slice.ensures.value c.in-None.ensures in
     absent_any c.args.kind.0 c.args.target c.args.row.now.items none
 
 pub returns-in_ok-outcome-in-Some-clause-outcome : goal.returns-in_ok-outcome-in-Some-clause-outcome
 returns-in_ok-outcome-in-Some-clause-outcome c =
-    let found : position (at_edge c.args.kind.0 c.args.target) c.args.row.now.items ≡ Some c.in-Some.place =
-    ap (position (at_edge c.args.kind.0 c.args.target)) (sym c.as_slice.ensures.value) ∙ sym c.in-Some.ensures in
+    let found = placed (at_edge c.args.kind.0 c.args.target) c.as_slice.ensures.value c.in-Some.ensures in
     let h : RowBlock = c.index_mut.result.now in
     rw (found_edge c.args.kind.0 c.args.target c.args.row.now.items c.in-Some.place h found, ← c.index_mut.ensures.value)
     c.in_ok-outcome-in-Some.ensures.outcome
 
 pub returns-in_ok-outcome-in-Some-clause-row : goal.returns-in_ok-outcome-in-Some-clause-row
 returns-in_ok-outcome-in-Some-clause-row c =
-    let found : position (at_edge c.args.kind.0 c.args.target) c.args.row.now.items ≡ Some c.in-Some.place =
-    ap (position (at_edge c.args.kind.0 c.args.target)) (sym c.as_slice.ensures.value) ∙ sym c.in-Some.ensures in
+    let found = placed (at_edge c.args.kind.0 c.args.target) c.as_slice.ensures.value c.in-Some.ensures in
     let h : RowBlock = c.index_mut.result.now in
     sym (found_changed c.args.kind.0 c.args.target c.args.row.now.items c.in-Some.place h found c.args.change
     c.change_here.new.here (subst (λ (x : RowBlock). IsChanged c.args.change c.args.target x c.change_here.new.here)
@@ -43,8 +37,7 @@ returns-in_ok-outcome-in-Some-clause-row c =
 
 pub returns-in_ok-outcome-in-Some-clause-hints : goal.returns-in_ok-outcome-in-Some-clause-hints
 returns-in_ok-outcome-in-Some-clause-hints c =
-    let found : position (at_edge c.args.kind.0 c.args.target) c.args.row.now.items ≡ Some c.in-Some.place =
-    ap (position (at_edge c.args.kind.0 c.args.target)) (sym c.as_slice.ensures.value) ∙ sym c.in-Some.ensures in
+    let found = placed (at_edge c.args.kind.0 c.args.target) c.as_slice.ensures.value c.in-Some.ensures in
     let h : RowBlock = c.index_mut.result.now in
     let y : RowBlock = c.change_here.new.here in
     let here : RowBlock = get_or c.args.row.now.items c.in-Some.place h in
@@ -66,8 +59,7 @@ returns-in_ok-outcome-in-Some-clause-hints c =
 
 pub returns-in_ok-outcome-in-Some-clause-had : goal.returns-in_ok-outcome-in-Some-clause-had
 returns-in_ok-outcome-in-Some-clause-had c =
-    let found : position (at_edge c.args.kind.0 c.args.target) c.args.row.now.items ≡ Some c.in-Some.place =
-    ap (position (at_edge c.args.kind.0 c.args.target)) (sym c.as_slice.ensures.value) ∙ sym c.in-Some.ensures in
+    let found = placed (at_edge c.args.kind.0 c.args.target) c.as_slice.ensures.value c.in-Some.ensures in
     let h : RowBlock = c.index_mut.result.now in
     flat_map-set had_here c.args.row.now.items c.in-Some.place c.change_here.new.here h
     (found_within c.args.kind.0 c.args.target c.args.row.now.items c.in-Some.place h found)
@@ -75,8 +67,7 @@ returns-in_ok-outcome-in-Some-clause-had c =
 
 pub returns-in_ok-outcome-in-Some-clause-numbers : goal.returns-in_ok-outcome-in-Some-clause-numbers
 returns-in_ok-outcome-in-Some-clause-numbers c =
-    let found : position (at_edge c.args.kind.0 c.args.target) c.args.row.now.items ≡ Some c.in-Some.place =
-    ap (position (at_edge c.args.kind.0 c.args.target)) (sym c.as_slice.ensures.value) ∙ sym c.in-Some.ensures in
+    let found = placed (at_edge c.args.kind.0 c.args.target) c.as_slice.ensures.value c.in-Some.ensures in
     let h : RowBlock = c.index_mut.result.now in
     row_numbers own_here c.args.row.now.items c.in-Some.place c.change_here.new.here h
     (numbers_of c.change_here.new.fresh.items) (numbers_of c.args.fresh.now.items)
@@ -86,14 +77,12 @@ returns-in_ok-outcome-in-Some-clause-numbers c =
 
 pub returns-in_ok-note_edge-in-None-clause-outcome : goal.returns-in_ok-note_edge-in-None-clause-outcome
 returns-in_ok-note_edge-in-None-clause-outcome c =
-    let none : position (at_edge c.args.kind.0 c.args.target) c.args.row.now.items ≡ None =
-    ap (position (at_edge c.args.kind.0 c.args.target)) (sym c.as_slice.ensures.value) ∙ sym c.in-None.ensures in
+    let none = placed (at_edge c.args.kind.0 c.args.target) c.as_slice.ensures.value c.in-None.ensures in
     rw (absent_edge c.args.kind.0 c.args.target c.args.row.now.items none) c.change_edge-outcome.ensures.outcome
 
 pub returns-in_ok-note_edge-in-None-clause-row : goal.returns-in_ok-note_edge-in-None-clause-row
 returns-in_ok-note_edge-in-None-clause-row c =
-    let none : position (at_edge c.args.kind.0 c.args.target) c.args.row.now.items ≡ None =
-    ap (position (at_edge c.args.kind.0 c.args.target)) (sym c.as_slice.ensures.value) ∙ sym c.in-None.ensures in
+    let none = placed (at_edge c.args.kind.0 c.args.target) c.as_slice.ensures.value c.in-None.ensures in
     let marks = c.in-Some-after.marks in
     let stamp : Some (stamp_in marks) ≡ stamp_after c.args.change None = ap option_stamp (sym c.in-Some-after.is)
     ∙ c.change_edge-outcome.ensures.stamp in
@@ -118,14 +107,12 @@ returns-in_default-clause-hints c = record {
 
 pub returns-in_default-clause-outcome : goal.returns-in_default-clause-outcome
 returns-in_default-clause-outcome c =
-    let none : position (at_edge c.args.kind.0 c.args.target) c.args.row.now.items ≡ None =
-    ap (position (at_edge c.args.kind.0 c.args.target)) (sym c.as_slice.ensures.value) ∙ sym c.in-None.ensures in
+    let none = placed (at_edge c.args.kind.0 c.args.target) c.as_slice.ensures.value c.in-None.ensures in
     rw (absent_edge c.args.kind.0 c.args.target c.args.row.now.items none) c.change_edge-outcome.ensures.outcome
 
 pub returns-in_default-clause-row : goal.returns-in_default-clause-row
 returns-in_default-clause-row c =
-    let none : position (at_edge c.args.kind.0 c.args.target) c.args.row.now.items ≡ None =
-    ap (position (at_edge c.args.kind.0 c.args.target)) (sym c.as_slice.ensures.value) ∙ sym c.in-None.ensures in
+    let none = placed (at_edge c.args.kind.0 c.args.target) c.as_slice.ensures.value c.in-None.ensures in
     rw (absent_edge c.args.kind.0 c.args.target c.args.row.now.items none)
     (sym (absent_stays c.args.change (c.args.kind.0, c.args.target) (opens c.args.row.now.items)
     (ap option_stamp (sym c.in_default.is) ∙ c.change_edge-outcome.ensures.stamp)))

@@ -3,8 +3,7 @@ use Rattle.std.specs.List.{sum_by}
 use Rattle.edge_block.specs.Slots.{old_in}
 use Rattle.block_layout.specs.Rows.{expire_block}
 use Rattle.batch_shards.specs.RowBlocks.{opens, had_in, own_in, numbers_of, HaveSame, IsOf}
-use Rattle.batch_shards.specs.Spending.{unspent}
-use Rattle.batch_shards.proofs.Expiring.{map_first}
+use Rattle.batch_shards.{specs.Spending.unspent, proofs.Expiring.map_first}
 use Rattle.batch_shards.proofs.rows.expire_blocks.Given as goal
 
 abbrev pub invariant-loop-place : goal.invariant-loop-place

@@ -1,6 +1,5 @@
 use Rattle.std.proofs.Common.{◌∙◌, get_or}
-use Rattle.batch_shards.specs.Notes.{IsNoted}
-use Rattle.batch_shards.proofs.RowSteps.{edge_target}
+use Rattle.batch_shards.{specs.Notes.IsNoted, proofs.RowSteps.edge_target}
 use Rattle.batch_shards.proofs.rows.find_place.Goals as goal
 
 pub first_place-requires : goal.first_place-requires

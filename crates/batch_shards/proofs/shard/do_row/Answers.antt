@@ -4,12 +4,11 @@ use Rattle.graph_model.specs.declared.ids.VertexId.{VertexId}
 use Rattle.edge_block.specs.{Slots.BlockView, declared.blocks.Block.Block}
 use Rattle.block_layout.specs.{Rows.OpenBlock, Rows.untouched, Rows.shape_of, Batches.opened}
 use Rattle.row_pages.specs.Rows.{row_of}
-use Rattle.batch_shards.specs.{RowBlocks.blocks_of, RowBlocks.kept_of, RowBlocks.opens, Groups.IsSourceRow, Shards.AreSteps}
+use Rattle.batch_shards.proofs.{Beginnings.kept_all, Expiring.opened_owes, Expiring.needed_row, SourceRows.outcomes_more}
+use Rattle.batch_shards.{proofs.SourceRows.row_done, proofs.SourceSteps.past_more, specs.Closing.row_values, specs.Done.layout_by}
+use Rattle.batch_shards.specs.{Groups.IsSourceRow, RowBlocks.blocks_of, RowBlocks.kept_of, RowBlocks.opens, Shards.AreSteps}
+use Rattle.batch_shards.specs.{Spending.latest, Spending.unspent, Spending.old_blocks, declared.shard.OpenRow.OpenRow}
 use Rattle.std.specs.declared.{sync.Arc.Arc, alloc.Global.Global, vec.Vec.Vec}
-use Rattle.batch_shards.specs.{Closing.row_values, Done.layout_by, declared.shard.OpenRow.OpenRow}
-use Rattle.batch_shards.proofs.{Beginnings.kept_all, SourceSteps.past_more, Expiring.opened_owes, Expiring.needed_row}
-use Rattle.batch_shards.specs.Spending.{latest, unspent, old_blocks}
-use Rattle.batch_shards.proofs.SourceRows.{outcomes_more, row_done}
 use Rattle.batch_shards.proofs.shard.do_row.Goals as goal
 
 -- the row that is opened owes its old blocks

@@ -1,6 +1,5 @@
 use Rattle.std.proofs.{Common.◌+◌, Common.sym, Common.subst, Common.arith, lemmas.Grind.common_steps}
-use Rattle.block_pool.specs.Bodies.{AreBodies}
-use Rattle.block_pool.proofs.BodyLaws.{bodies_more}
+use Rattle.block_pool.{specs.Bodies.AreBodies, proofs.BodyLaws.bodies_more}
 use Rattle.block_pool.proofs.pool.blank_bodies.Goals as goal
 
 pub loop-number-preserved : goal.loop-number-preserved

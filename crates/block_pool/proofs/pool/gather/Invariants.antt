@@ -1,5 +1,4 @@
-use Rattle.std.proofs.Common.{◌≡◌, map, length}
-use Rattle.std.specs.Arc.{arc_value}
+use Rattle.std.{proofs.Common.◌≡◌, proofs.Common.map, proofs.Common.length, specs.Arc.arc_value}
 use Rattle.edge_block.specs.declared.blocks.Block.{Block}
 use Rattle.block_pool.specs.{Kept.popped, Bodies.AreBodies}
 use Rattle.block_pool.proofs.pool.gather.Given as goal

@@ -26,7 +26,7 @@ count_row-requires c =
       subst
           (λ m. AreViewEdges f m (shown_edges f (blocks_below v.rows k) ++ shown_edges f (block_values c.row_blocks.result.now)))
           (sym long)
-          (subst (AreViewEdges f n) edges (below_within v c.number-number.ensures.version f (k + 1) more)),
+          (subst (AreViewEdges f n) edges (below_within v c.facts.ensures f (k + 1) more)),
     )
 
 pub loop-source-preserved : goal.loop-source-preserved
@@ -49,5 +49,5 @@ returns c =
     let long : length c.loop-source.table ≡ n = c.loop-source.auto.table ∙ ap length c.requires ∙ length-replicate n none in
     let end : c.loop-source.source ≡ n = omega
     (arith, c.loop-source-test.false, c.loop-source.auto.table, c.loop-source.auto.source-end, long) in
-    table_is v c.number-number.ensures.version c.args.view.now c.loop-source.source c.loop-source.table long end
+    table_is v c.facts.ensures c.args.view.now c.loop-source.source c.loop-source.table long end
     c.loop-source.invariant

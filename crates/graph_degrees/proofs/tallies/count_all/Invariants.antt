@@ -1,5 +1,4 @@
-use Rattle.graph_degrees.specs.Tallies.{shown_edges, IsCounted}
-use Rattle.graph_degrees.proofs.Whole.{blocks_below}
+use Rattle.graph_degrees.{specs.Tallies.shown_edges, specs.Tallies.IsCounted, proofs.Whole.blocks_below}
 use Rattle.graph_degrees.proofs.tallies.count_all.Given as goal
 
 abbrev pub invariant-loop-source : goal.invariant-loop-source

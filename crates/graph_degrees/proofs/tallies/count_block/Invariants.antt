@@ -1,7 +1,6 @@
 use Rattle.std.specs.Prelude.{All}
 use Rattle.edge_block.specs.{Slots.IsStamp, Lending.edges_left}
-use Rattle.graph_degrees.specs.Tallies.{shown_block}
-use Rattle.graph_degrees.proofs.{Blocks.edges_lent, Parts.IsBegun}
+use Rattle.graph_degrees.{specs.Tallies.shown_block, proofs.Blocks.edges_lent, proofs.Parts.IsBegun}
 use Rattle.graph_degrees.proofs.tallies.count_block.Given as goal
 
 abbrev pub invariant-loop-edge : goal.invariant-loop-edge

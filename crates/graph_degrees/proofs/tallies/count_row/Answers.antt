@@ -1,6 +1,5 @@
 use Rattle.std.proofs.Common.{◌≡◌, ◌∙◌, ◌+◌, List, [], get_or, drop, ap, sym, subst, arith}
-use Rattle.std.proofs.lemmas.List.{drop_all}
-use Rattle.std.specs.declared.{sync.Arc.Arc, alloc.Global.Global}
+use Rattle.std.{proofs.lemmas.List.drop_all, specs.declared.sync.Arc.Arc, specs.declared.alloc.Global.Global}
 use Rattle.edge_block.specs.{Slots.BlockView, declared.blocks.Block.Block}
 use Rattle.row_pages.specs.Sharing.{block_value, block_values}
 use Rattle.graph_degrees.specs.Tallies.{shown_block, shown_edges, HasRoomFor, Counts}

@@ -1,7 +1,6 @@
 use Rattle.std.proofs.Common.{drop}
 use Rattle.row_pages.specs.Sharing.{block_values}
-use Rattle.graph_degrees.specs.Tallies.{shown_edges}
-use Rattle.graph_degrees.proofs.Parts.{IsBegun}
+use Rattle.graph_degrees.{specs.Tallies.shown_edges, proofs.Parts.IsBegun}
 use Rattle.graph_degrees.proofs.tallies.count_row.Given as goal
 
 abbrev pub invariant-loop-block : goal.invariant-loop-block

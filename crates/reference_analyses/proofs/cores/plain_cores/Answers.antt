@@ -2,8 +2,8 @@ use Rattle.std.proofs.Common.{◌≡◌, ◌<◌, ◌≤◌, ◌⊎◌, ℕ, suc
 use Rattle.std.specs.{Prelude.All, Prelude.count_by, Prelude.replicate, declared.alloc.Global.Global, declared.vec.Vec.Vec}
 use Rattle.std.proofs.lemmas.{List.take_at, List.length-replicate, Result.IfOk-weaker}
 use Rattle.graph_model.specs.{Graph.graph_of, Analyses.AreCoreNumbers, Arcs.at, Arcs.AreUpper}
-use Rattle.reference_analyses.specs.Links.{supports}
-use Rattle.reference_analyses.proofs.Links.{joined_within, first_upper, more_upper, cores_done, cores_few}
+use Rattle.reference_analyses.{specs.Links.supports, proofs.Links.joined_within, proofs.Links.first_upper}
+use Rattle.reference_analyses.proofs.{Links.more_upper, Links.cores_done, Links.cores_few, cores.plain_cores.Goals.After-deref-3}
 use Rattle.reference_analyses.proofs.cores.plain_cores.Goals as goal
 
 pub rounds-init : goal.rounds-init
@@ -46,8 +46,10 @@ rounds-preserved c =
       upper = subst (AreUpper f (graph_of content) n) (sym same) upper;
     }
 
-pub shortened-requires : goal.shortened-requires
-shortened-requires c =
+-- once a round has lowered no number, the numbers are core numbers
+ended : (c : After-deref-3) → (c.deref-3.result.now ≡ c.rounds.numbers.items)
+    × AreCoreNumbers c.args.filter (graph_of c.args.content.now) c.rounds.numbers.items
+ended c =
     let f = c.args.filter in
     let content = c.args.content.now in
     let n = length content.names in
@@ -62,34 +64,24 @@ shortened-requires c =
     let stays = c.lower_once.ensures.stays c.if-not-lower_once.true in
     let same = take_at new (drop (length new) numbers) c.rounds.numbers.len
     (c.lower_once.auto.numbers ∙ c.deref_mut.ensures.len) in
-    let read : c.deref-3.result.now ≡ numbers = c.deref-3.ensures.value ∙ same ∙ stays.0 ∙ c.deref_mut.ensures.value in
-    let done = cores_done f (graph_of content) n links c.in_ok-links.ensures.links
-    (joined_within f content c.requires) numbers enough c.rounds.invariant.size c.rounds.invariant.upper counted
-    (λ v. subst (λ (xs : List ℕ). at xs v ≤ at enough v) c.deref_mut.ensures.value (stays.1 v)) in
-    subst (λ (xs : List ℕ). All (λ number. number ≤ 65536) xs) (sym read)
-    (cores_few f (graph_of content) n links c.in_ok-links.ensures.links
-    (joined_within f content c.requires) numbers c.requires.names_few done)
+    let read : c.deref-3.result.now ≡ numbers = c.deref-3.ensures.value ∙ same ∙ stays.0 ∙ c.deref_mut.ensures.value in (
+      read,
+      cores_done f (graph_of content) n links c.in_ok-links.ensures.links
+          (joined_within f content c.requires) numbers enough c.rounds.invariant.size c.rounds.invariant.upper counted
+          (λ v. subst (λ (xs : List ℕ). at xs v ≤ at enough v) c.deref_mut.ensures.value (stays.1 v)),
+    )
+
+pub shortened-requires : goal.shortened-requires
+shortened-requires c =
+    let end = ended (goal.at.shortened-requires c).After-deref-3 in
+    subst (λ (xs : List ℕ). All (λ number. number ≤ 65536) xs) (sym end.0)
+    (cores_few c.args.filter (graph_of c.args.content.now) (length c.args.content.now.names) c.in_ok-links.links.items
+    c.in_ok-links.ensures.links (joined_within c.args.filter c.args.content.now c.requires) c.rounds.numbers.items
+    c.requires.names_few end.1)
 
 pub returns : goal.returns
 returns c =
-    let f = c.args.filter in
-    let content = c.args.content.now in
-    let n = length content.names in
-    let links = c.in_ok-links.links.items in
-    let numbers = c.rounds.numbers.items in
-    let new = c.lower_once.new.numbers in
-    let enough = c.deref-in-rounds-3.result.now in
-    let counted : (v : ℕ) → at enough v ≡ count_by (supports numbers v) links = λ v.
-    ap (λ xs. at xs v) c.deref-in-rounds-3.ensures.value ∙ c.in_ok-enough.ensures.counted v
-    ∙ ap (λ xs. count_by (supports xs v) c.deref-in-rounds.result.now) c.deref-in-rounds-2.ensures.value
-    ∙ ap (count_by (supports numbers v)) c.deref-in-rounds.ensures.value in
-    let stays = c.lower_once.ensures.stays c.if-not-lower_once.true in
-    let same = take_at new (drop (length new) numbers) c.rounds.numbers.len
-    (c.lower_once.auto.numbers ∙ c.deref_mut.ensures.len) in
-    let read : c.deref-3.result.now ≡ numbers = c.deref-3.ensures.value ∙ same ∙ stays.0 ∙ c.deref_mut.ensures.value in
-    let done = cores_done f (graph_of content) n links c.in_ok-links.ensures.links
-    (joined_within f content c.requires) numbers enough c.rounds.invariant.size c.rounds.invariant.upper counted
-    (λ v. subst (λ (xs : List ℕ). at xs v ≤ at enough v) c.deref_mut.ensures.value (stays.1 v)) in
+    let end = ended (goal.at.returns c).After-deref-3 in
     IfOk-weaker c.shortened.result (λ (short : Vec ℕ Global). short.items ≡ c.deref-3.result.now)
-    (λ (short : Vec ℕ Global). AreCoreNumbers f (graph_of content) short.items)
-    (λ short e. subst (AreCoreNumbers f (graph_of content)) (sym (e ∙ read)) done) c.shortened.ensures
+    (λ (short : Vec ℕ Global). AreCoreNumbers c.args.filter (graph_of c.args.content.now) short.items)
+    (λ short e. subst (AreCoreNumbers c.args.filter (graph_of c.args.content.now)) (sym (e ∙ end.0)) end.1) c.shortened.ensures

@@ -1,5 +1,4 @@
-use Rattle.std.proofs.Common.{◌≡◌, length}
-use Rattle.std.specs.Prelude.{sum}
+use Rattle.std.{proofs.Common.◌≡◌, proofs.Common.length, specs.Prelude.sum}
 use Rattle.graph_model.specs.{Graph.graph_of, Arcs.AreUpper}
 use Rattle.reference_analyses.proofs.cores.plain_cores.Given as goal
 

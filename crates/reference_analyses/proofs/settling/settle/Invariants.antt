@@ -1,5 +1,4 @@
-use Rattle.std.proofs.Common.{◌≤◌}
-use Rattle.std.specs.Prelude.{All, sum}
+use Rattle.std.{proofs.Common.◌≤◌, specs.Prelude.All, specs.Prelude.sum}
 use Rattle.graph_model.specs.Arcs.{IsLowered}
 use Rattle.reference_analyses.proofs.settling.settle.Given as goal
 

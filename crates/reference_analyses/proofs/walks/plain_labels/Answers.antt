@@ -1,6 +1,5 @@
 use Rattle.std.proofs.Common.{◌≡◌, length, ◌∙◌, sym, ap, ℕ, List, subst, drop}
-use Rattle.std.specs.List.{range_with_len}
-use Rattle.std.proofs.lemmas.List.{take_at}
+use Rattle.std.{specs.List.range_with_len, proofs.lemmas.List.take_at}
 use Rattle.graph_model.specs.{Graph.graph_of, Analyses.AreLabels, Arcs.two_way}
 use Rattle.reference_analyses.proofs.Tables.{labels_within, labels_few, labels_done}
 use Rattle.reference_analyses.proofs.walks.plain_labels.Goals as goal

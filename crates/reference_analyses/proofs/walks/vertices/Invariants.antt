@@ -1,5 +1,4 @@
-use Rattle.std.proofs.Common.{◌≡◌}
-use Rattle.std.specs.List.{range_with_len}
+use Rattle.std.{proofs.Common.◌≡◌, specs.List.range_with_len}
 use Rattle.reference_analyses.proofs.walks.vertices.Given as goal
 
 abbrev pub invariant-loop-vertex : goal.invariant-loop-vertex

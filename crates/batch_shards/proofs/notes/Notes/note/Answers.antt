@@ -1,5 +1,4 @@
-use Rattle.std.proofs.Common.{refl, arith}
-use Rattle.std.specs.Vec.{with_item}
+use Rattle.std.{proofs.Common.refl, proofs.Common.arith, specs.Vec.with_item}
 use Rattle.batch_shards.proofs.NotedBlocks.{now_stands, more_stand}
 use Rattle.batch_shards.proofs.notes.Notes.note.Goals as goal
 

@@ -1,6 +1,5 @@
 use Rattle.std.proofs.Common.{◌≡◌, ℕ, ◌<◌, length, get_or, false}
-use Rattle.batch_shards.specs.declared.row_blocks.RowBlock.{RowBlock}
-use Rattle.batch_shards.proofs.RowSteps.{at_room}
+use Rattle.batch_shards.{specs.declared.row_blocks.RowBlock.RowBlock, proofs.RowSteps.at_room}
 use Rattle.batch_shards.proofs.room.Room.first.Given as goal
 
 abbrev pub invariant-loop-place : goal.invariant-loop-place

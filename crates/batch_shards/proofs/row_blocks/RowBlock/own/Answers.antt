@@ -4,8 +4,7 @@ use Rattle.std.specs.{Option.is_some, Option.option_to_list, Prelude.Some, decla
 use Rattle.edge_block.specs.declared.blocks.Block.{Block}
 use Rattle.block_layout.specs.Rows.{shape_of, touch}
 use Rattle.batch_shards.specs.RowBlocks.{block_of, open_of, had_here, numbers_of, own_here}
-use Rattle.batch_shards.specs.declared.row_blocks.RowBlock.{RowBlock}
-use Rattle.batch_shards.proofs.Places.{count_by-append}
+use Rattle.batch_shards.{specs.declared.row_blocks.RowBlock.RowBlock, proofs.Places.count_by-append}
 use Rattle.batch_shards.proofs.row_blocks.RowBlock.own.Goals as goal
 
 -- a block with the same edges stands in the place of one that the batch had not touched

@@ -1,6 +1,5 @@
 use Rattle.std.proofs.{Common.◌∙◌, Common.sym, Common.ap, lemmas.Bool.false≢true}
-use Rattle.block_pool.specs.{Pools.is_retired, Kept.status_from}
-use Rattle.block_pool.proofs.PlaceReads.{status_read}
+use Rattle.block_pool.{specs.Pools.is_retired, specs.Kept.status_from, proofs.PlaceReads.status_read}
 use Rattle.block_pool.proofs.numbers.Numbers.dates_of.Goals as goal
 
 pub unreachable-requires : goal.unreachable-requires

@@ -1,5 +1,4 @@
-use Rattle.std.proofs.Common.{◌≡◌, ◌<◌, ℕ, None}
-use Rattle.std.specs.Prelude.{slice_index_or}
+use Rattle.std.{proofs.Common.◌≡◌, proofs.Common.◌<◌, proofs.Common.ℕ, proofs.Common.None, specs.Prelude.slice_index_or}
 use Rattle.block_pool.specs.Kept.{statuses, IsNumbers}
 use Rattle.block_pool.proofs.numbers.Numbers.follow.Given as goal
 

@@ -1,6 +1,5 @@
 use Rattle.std.proofs.Common.{sym, subst, arith}
-use Rattle.block_pool.specs.Kept.{statuses, AreNeeded}
-use Rattle.block_pool.proofs.Stacking.{sorted_least, needed_none}
+use Rattle.block_pool.{specs.Kept.statuses, specs.Kept.AreNeeded, proofs.Stacking.sorted_least, proofs.Stacking.needed_none}
 use Rattle.block_pool.proofs.numbers.Numbers.recall.Goals as goal
 
 pub returns-then-reach-self-clause-late : goal.returns-then-reach-self-clause-late

@@ -1,6 +1,5 @@
 use Rattle.std.proofs.{Common.◌∙◌, Common.set, Common.ap, Math.ListN.length-set}
-use Rattle.block_pool.specs.Kept.{statuses}
-use Rattle.block_pool.proofs.Stacking.{sorted_pin}
+use Rattle.block_pool.{specs.Kept.statuses, proofs.Stacking.sorted_pin}
 use Rattle.block_pool.proofs.numbers.Numbers.repin.Goals as goal
 
 pub returns-clause-kept : goal.returns-clause-kept

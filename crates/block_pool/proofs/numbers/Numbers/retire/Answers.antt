@@ -1,9 +1,8 @@
 use Rattle.std.proofs.Common.{◌≡◌, ◌∙◌, count_by, ◌<◌, length, set, sym, ap, subst, refl, take, arith, false}
 use Rattle.std.proofs.{Math.ListN.length-set, lemmas.List.map-set, lemmas.List.length-map, lemmas.List.get_or-map}
-use Rattle.block_pool.specs.declared.numbers.TheConstants.{LOOSE}
-use Rattle.block_pool.specs.Pools.{Status, Granted, Retired, is_free, is_retired, retired}
-use Rattle.block_pool.specs.Kept.{statuses, status_from, status_of, Lists, IsSorted}
-use Rattle.block_pool.proofs.Tallies.{lists_same, born_at, count_here}
+use Rattle.block_pool.specs.{declared.numbers.TheConstants.LOOSE, Pools.Status, Pools.Granted, Pools.Retired, Pools.is_free}
+use Rattle.block_pool.specs.{Pools.is_retired, Pools.retired, Kept.statuses, Kept.status_from, Kept.status_of, Kept.Lists}
+use Rattle.block_pool.{specs.Kept.IsSorted, proofs.Tallies.lists_same, proofs.Tallies.born_at, proofs.Tallies.count_here}
 use Rattle.block_pool.proofs.Stacking.{absent, room, sorted_retired}
 use Rattle.block_pool.proofs.numbers.Numbers.retire.Goals as goal
 

@@ -1,11 +1,10 @@
 use Rattle.std.proofs.Common.{◌≡◌, ◌∙◌, ℕ, map, count_by, true, sym, ap, subst, arith}
 use Rattle.std.proofs.lemmas.List.{length-map}
 use Rattle.linked_stacks.specs.Stacks.{stack_of}
-use Rattle.block_pool.specs.declared.numbers.TheConstants.{LOOSE, LATE}
-use Rattle.block_pool.specs.Pools.{Retired, is_retired, is_past, recycled}
-use Rattle.block_pool.specs.Kept.{statuses, status_from, status_of, AreNeeded, top_of}
-use Rattle.block_pool.proofs.{Tallies.recycled_set, Tallies.past_set, Needs.pinned, Needs.later, Needs.kept_back, Needs.due}
-use Rattle.block_pool.proofs.Stacking.{top_listed, needed_moved}
+use Rattle.block_pool.specs.{declared.numbers.TheConstants.LOOSE, declared.numbers.TheConstants.LATE, Pools.Retired}
+use Rattle.block_pool.specs.{Pools.is_retired, Pools.is_past, Pools.recycled, Kept.statuses, Kept.status_from, Kept.status_of}
+use Rattle.block_pool.{specs.Kept.AreNeeded, specs.Kept.top_of, proofs.Tallies.recycled_set, proofs.Tallies.past_set}
+use Rattle.block_pool.proofs.{Needs.pinned, Needs.later, Needs.kept_back, Needs.due, Stacking.top_listed, Stacking.needed_moved}
 use Rattle.block_pool.proofs.numbers.Numbers.sort_top.Goals as goal
 
 pub top-number-requires : goal.top-number-requires

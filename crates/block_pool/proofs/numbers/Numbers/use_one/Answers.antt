@@ -1,11 +1,10 @@
 use Rattle.std.proofs.Common.{◌≡◌, ◌∙◌, ◌+◌, ◌<◌, ℕ, length, get_or, set, count_by, cond, ◌-◌, sym, ap, subst, refl, take, arith}
 use Rattle.std.proofs.{Common.true, Math.ListN.length-set}
 use Rattle.std.proofs.lemmas.List.{get_or_read, take_more, map-set, length-map}
-use Rattle.block_pool.specs.Pools.{Granted, is_free, is_retired}
-use Rattle.block_pool.specs.Kept.{statuses, status_from, status_of, Lists, IsSorted}
+use Rattle.block_pool.specs.{Pools.Granted, Pools.is_free, Pools.is_retired, Kept.statuses, Kept.status_from, Kept.status_of}
+use Rattle.block_pool.{specs.Kept.Lists, specs.Kept.IsSorted, proofs.Tallies.lists_less, proofs.Tallies.listed_at}
+use Rattle.block_pool.proofs.{Tallies.count_last, Tallies.free_not_retired, Tallies.count_kept, Stacking.sorted_set}
 use Rattle.block_pool.specs.declared.numbers.Place.TheVariants as places
-use Rattle.block_pool.proofs.Tallies.{lists_less, listed_at, count_last, free_not_retired, count_kept}
-use Rattle.block_pool.proofs.Stacking.{sorted_set}
 use Rattle.block_pool.proofs.numbers.Numbers.use_one.Goals as goal
 
 pub index_mut-requires : goal.index_mut-requires

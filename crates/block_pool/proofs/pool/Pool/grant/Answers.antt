@@ -1,47 +1,19 @@
-use Rattle.std.proofs.Common.{◌≡◌, ℕ, ◌∙◌, ◌≤◌, length, sym, ap, subst, take, count_by, length-take, arith}
+use Rattle.std.proofs.Common.{◌≡◌, ℕ, ◌∙◌, ◌≤◌, length, sym, ap, subst, count_by, arith}
 use Rattle.block_pool.specs.{Pools.Granted, Pools.is_free, Pools.AreFree, Kept.statuses, Kept.status_from, Kept.popped}
 use Rattle.block_pool.specs.Bodies.{AreBodies}
 use Rattle.std.proofs.lemmas.List.{length-map}
-use Rattle.block_pool.proofs.{Tallies.listed_count, Grants.popped_free, Grants.length-popped, Grants.length-marked}
+use Rattle.block_pool.proofs.Grants.{free_listed, popped_free, length-popped, length-marked}
 use Rattle.block_pool.proofs.pool.Pool.grant.Goals as goal
 
 pub gather-requires-clause-enough : goal.gather-requires-clause-enough
 gather-requires-clause-enough c =
-    let n = c.self.inside.numbers in
-    let kept = c.self.invariant.0 in
-    let listed = listed_count is_free (statuses n) (take n.free_len n.free.items) kept.free_are in
-    let v = ap (count_by is_free) c.self.view_is in
-    let enough : c.args.count ≤ n.free_len =
-    omega (
-      arith,
-      length-take n.free_len n.free.items,
-      kept.free_in,
-      kept.free_room,
-      listed,
-      v,
-      c.free-free.ensures,
-      c.if-count-free.false,
-    ) in
-    enough
+    let free = free_listed c.self.inside.numbers c.self.invariant.0 in
+    omega (arith, free, ap (count_by is_free) c.self.view_is, c.free-free.ensures, c.if-count-free.false)
 
 pub use_last-requires-clause-enough : goal.use_last-requires-clause-enough
 use_last-requires-clause-enough c =
-    let n = c.self.inside.numbers in
-    let kept = c.self.invariant.0 in
-    let listed = listed_count is_free (statuses n) (take n.free_len n.free.items) kept.free_are in
-    let v = ap (count_by is_free) c.self.view_is in
-    let enough : c.args.count ≤ n.free_len =
-    omega (
-      arith,
-      length-take n.free_len n.free.items,
-      kept.free_in,
-      kept.free_room,
-      listed,
-      v,
-      c.free-free.ensures,
-      c.if-count-free.false,
-    ) in
-    enough
+    let free = free_listed c.self.inside.numbers c.self.invariant.0 in
+    omega (arith, free, ap (count_by is_free) c.self.view_is, c.free-free.ensures, c.if-count-free.false)
 
 pub invariant_of-self-2 : goal.invariant_of-self-2
 invariant_of-self-2 c =
@@ -57,19 +29,9 @@ pub returns-clause-numbers : goal.returns-clause-numbers
 returns-clause-numbers c =
     let n = c.self.inside.numbers in
     let kept = c.self.invariant.0 in
-    let listed = listed_count is_free (statuses n) (take n.free_len n.free.items) kept.free_are in
-    let v = ap (count_by is_free) c.self.view_is in
+    let free = free_listed n kept in
     let enough : c.args.count ≤ n.free_len =
-    omega (
-      arith,
-      length-take n.free_len n.free.items,
-      kept.free_in,
-      kept.free_room,
-      listed,
-      v,
-      c.free-free.ensures,
-      c.if-count-free.false,
-    ) in (
+    omega (arith, free, ap (count_by is_free) c.self.view_is, c.free-free.ensures, c.if-count-free.false) in (
       subst (AreFree c.args.self.now) (sym c.in-Ok.ensures.numbers)
           (subst (λ pool. AreFree pool (popped n.free.items n.free_len c.args.count)) c.self.view_is
           (popped_free (statuses n) n.free_len n.free.items c.args.count kept.free_are

@@ -1,6 +1,5 @@
 use Rattle.std.proofs.Common.{◌≡◌, ℕ, List, [], arith, map, drop, subst, sym, ap, ◌∙◌}
-use Rattle.std.specs.{Prelude.◌↔◌, Prelude.filter, List.Contains}
-use Rattle.std.proofs.lemmas.List.{drop_all}
+use Rattle.std.{specs.Prelude.◌↔◌, specs.Prelude.filter, specs.List.Contains, proofs.lemmas.List.drop_all}
 use Rattle.graph_model.specs.Analyses.{LeadsTo}
 use Rattle.graph_views.specs.Listed.{along, all_edges, leaves, put_targets}
 use Rattle.graph_views.proofs.Arcs.{listed, put_is}

@@ -5,8 +5,7 @@ use Rattle.graph_model.specs.Analyses.{LeadsTo}
 use Rattle.edge_block.specs.declared.blocks.Block.{Block}
 use Rattle.row_pages.specs.Rows.{row_of}
 use Rattle.graph_version.specs.Versions.{content}
-use Rattle.graph_views.specs.Shown.{shown_in, targets_of}
-use Rattle.graph_views.proofs.{Rows.row_targets, Targets.targets_in}
+use Rattle.graph_views.{specs.Shown.shown_in, specs.Shown.targets_of, proofs.Rows.row_targets, proofs.Targets.targets_in}
 use Rattle.graph_views.proofs.versions.VersionEdgesViewEdges.list_targets.Goals as goal
 
 pub returns : goal.returns
@@ -23,4 +22,4 @@ returns c =
     ∙ c.loop-block.invariant
     ∙ ap (λ row. targets_of (shown_in f row)) c.row_blocks-block-items.ensures in
     λ b. subst (λ (ts : List ℕ). Contains ts b ↔ LeadsTo f (content v) source b) (sym whole)
-    (row_targets (content v) v.rows c.number-number.ensures.version.rows f source b)
+    (row_targets (content v) v.rows c.facts.ensures.rows f source b)

@@ -1,6 +1,5 @@
 use Rattle.std.proofs.Common.{◌∙◌, length, sym, ap}
-use Rattle.linked_stacks.specs.Chains.{chain_of}
-use Rattle.linked_stacks.proofs.Links.{shown, length-chain}
+use Rattle.linked_stacks.{specs.Chains.chain_of, proofs.Links.shown, proofs.Links.length-chain}
 use Rattle.linked_stacks.proofs.stacks.LinkedStacks.height.Goals as goal
 
 pub returns : goal.returns

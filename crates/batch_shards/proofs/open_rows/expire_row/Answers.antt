@@ -2,7 +2,7 @@ use Rattle.std.proofs.Common.{◌≡◌, ◌%◌, ◌^◌, List, sym, ap, subst,
 use Rattle.block_layout.specs.Rows.{old_in_row}
 use Rattle.batch_shards.specs.{RowBlocks.opens, declared.row_blocks.RowBlock.RowBlock}
 use Rattle.batch_shards.proofs.{Young.young_before, Young.young_stays, ExpiringRows.noted_since}
-use Rattle.batch_shards.proofs.shard.expire_row.Goals as goal
+use Rattle.batch_shards.proofs.open_rows.expire_row.Goals as goal
 
 pub returns-clause-hinted : goal.returns-clause-hinted
 returns-clause-hinted c = record {

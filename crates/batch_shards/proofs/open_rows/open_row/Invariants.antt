@@ -1,6 +1,6 @@
 use Rattle.std.proofs.Common.{◌≡◌, [], map, take, All}
 use Rattle.batch_shards.specs.RowBlocks.{blocks_of, kept_of, opens, had_in, own_in, IsOf}
-use Rattle.batch_shards.proofs.shard.open_row.Given as goal
+use Rattle.batch_shards.proofs.open_rows.open_row.Given as goal
 
 abbrev pub invariant-loop-block : goal.invariant-loop-block
 invariant-loop-block l = record {

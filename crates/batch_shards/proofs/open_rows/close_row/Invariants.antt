@@ -1,7 +1,7 @@
 use Rattle.std.proofs.Common.{◌≡◌, ◌++◌, map}
 use Rattle.batch_shards.specs.RowBlocks.{blocks_of, numbers_of}
 use Rattle.batch_shards.specs.Closing.{after_of, written_of, dropped_of, unused_of}
-use Rattle.batch_shards.proofs.shard.close_row.Given as goal
+use Rattle.batch_shards.proofs.open_rows.close_row.Given as goal
 
 abbrev pub invariant-loop-block : goal.invariant-loop-block
 invariant-loop-block l = record {

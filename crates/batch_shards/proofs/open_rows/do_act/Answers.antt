@@ -1,7 +1,7 @@
 use Rattle.std.proofs.Common.{ap, arith}
 use Rattle.batch_shards.specs.{RowBlocks.opens, Groups.key_of, Spending.takes, Spending.time_of}
 use Rattle.batch_shards.proofs.Expiring.{edge_owes}
-use Rattle.batch_shards.proofs.shard.do_act.Goals as goal
+use Rattle.batch_shards.proofs.open_rows.do_act.Goals as goal
 
 pub returns-in_ok-outcome-in-Edge-clause-few : goal.returns-in_ok-outcome-in-Edge-clause-few
 returns-in_ok-outcome-in-Edge-clause-few c = λ t le.

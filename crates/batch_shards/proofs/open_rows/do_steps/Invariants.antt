@@ -4,7 +4,7 @@ use Rattle.graph_model.specs.declared.batches.Outcome.{Outcome}
 use Rattle.batch_shards.specs.RowBlocks.{opens, had_in, own_in, numbers_of, HaveSame, IsOf}
 use Rattle.batch_shards.specs.{Room.AreHints, Shards.resolved_in, Spending.latest, Spending.unspent, declared.shard.Step.Step}
 use Rattle.batch_shards.specs.Groups.{is_at, does_act, IsNext, IsSourceRow, IsOneMore, IsTold}
-use Rattle.batch_shards.proofs.shard.do_steps.Given as goal
+use Rattle.batch_shards.proofs.open_rows.do_steps.Given as goal
 
 abbrev pub invariant-loop-index : goal.invariant-loop-index
 invariant-loop-index l = record {

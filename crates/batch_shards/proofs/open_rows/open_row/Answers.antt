@@ -1,7 +1,7 @@
 use Rattle.std.proofs.Common.{List, subst, arith}
 use Rattle.batch_shards.specs.{RowBlocks.opens, Notes.IsNoted, declared.row_blocks.RowBlock.RowBlock}
 use Rattle.batch_shards.proofs.Young.{none_at_start}
-use Rattle.batch_shards.proofs.shard.open_row.Goals as goal
+use Rattle.batch_shards.proofs.open_rows.open_row.Goals as goal
 
 pub returns-clause-hinted : goal.returns-clause-hinted
 returns-clause-hinted c = record {
