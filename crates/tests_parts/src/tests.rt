@@ -1,8 +1,8 @@
-// A module for each crate whose calls are tested.
+// A module for each crate whose calls are tested, and one of what they all call.
 
 mod batches;
-mod blanks;
 mod blocks;
+mod checks;
 mod collections;
 mod copies;
 mod lanes;

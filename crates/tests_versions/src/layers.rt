@@ -1,5 +1,6 @@
-// Drafts, shards, shelves and laws, a module for each crate whose calls are tested, and one for tables of views.
+// Blank blocks, drafts, shards, shelves and laws, a module for each crate whose calls are tested, and one for tables of views.
 
+mod blanks;
 mod drafts;
 mod journals;
 mod shards;

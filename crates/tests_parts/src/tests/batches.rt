@@ -1,53 +1,50 @@
 // Lists of batches.
 
+use super::checks::{same, tell_refused};
 use batch_pages::BatchList;
-use graph_model::{Batch, Name, NamedOp};
+use graph_model::{Batch, NamedOp};
 use std::alloc::{AllocError, Global};
 use std::io::Print;
 use std::process::Abort;
 use std::sync::Arc;
 use std::test::Fail;
 
-fn name(alloc: Global, text: &str) -> Result<Name, AllocError> {
-    Ok(Name::of(String::from_str(alloc, text)?))
-}
-
-fn operation(alloc: Global, time: u64) -> Result<NamedOp, AllocError> {
-    let kind = name(alloc, "k")?;
-    let source = name(alloc, "a")?;
-    let target = name(alloc, "b")?;
-    Ok(NamedOp::Insert {
-        kind,
-        source,
-        target,
-        weight: 1,
-        time,
-    })
-}
-
-// A batch of one insertion, at this time.
+// A batch of one expiry, of what was touched before this time.
 fn batch(alloc: Global, time: u64) -> Result<Arc<Batch>, AllocError> {
     let mut batch = Batch::new(alloc);
-    if batch.push(operation(alloc, time)?).is_err() {
+    if batch.push(NamedOp::Expire { time }).is_err() {
         return Err(AllocError);
     }
     Ok(Arc::new(alloc, batch)?)
 }
 
+// Adds a batch of this time.
+fn add(alloc: Global, list: &mut BatchList, time: u64) -> Result<(), AllocError> {
+    if list.len() < 2000 {
+        list.push(batch(alloc, time)?)?;
+    }
+    Ok(())
+}
+
 // Adds batches of the times up to this one.
 fn fill(alloc: Global, list: &mut BatchList, times: u64) -> Result<(), AllocError> {
     for time in 0..times {
-        if list.len() < 2000 {
-            list.push(batch(alloc, time)?)?;
-        }
+        add(alloc, list, time)?;
     }
     Ok(())
+}
+
+fn is_expiry(op: &NamedOp, wanted: u64) -> bool {
+    match op {
+        NamedOp::Expire { time } => *time == wanted,
+        _ => false,
+    }
 }
 
 fn is_at(batch: Option<&Batch>, wanted: u64) -> bool {
     match batch {
         Some(batch) => match batch.ops() {
-            [NamedOp::Insert { time, .. }] => *time == wanted,
+            [op] => is_expiry(op, wanted),
             _ => false,
         },
         None => false,
@@ -56,7 +53,7 @@ fn is_at(batch: Option<&Batch>, wanted: u64) -> bool {
 
 // The list has a batch for each time below this one, in order, and no other.
 fn check_list(rt: &impl Abort, list: &BatchList, times: usize) {
-    assert_eq!(rt; list.len(), times);
+    same(rt, list.len(), times);
     for place in 0..times {
         assert!(rt; is_at(list.get(place), place as u64), "place {place}");
     }
@@ -66,15 +63,13 @@ fn check_list(rt: &impl Abort, list: &BatchList, times: usize) {
         assert!(rt; is_at(Some(batch), time), "time {time}");
         time = time.saturating_add(1);
     }
-    assert_eq!(rt; time, times as u64);
+    same(rt, time, times as u64);
 }
 
 // One batch more in a list that shares the pages; the list before is as it was.
 fn check_next(rt: &impl Abort, alloc: Global, list: &BatchList, times: usize) -> Result<(), Fail> {
     let mut next = list.share()?;
-    if next.len() < 2000 {
-        next.push(batch(alloc, times as u64)?)?;
-    }
+    add(alloc, &mut next, times as u64)?;
     check_list(rt, &next, times.saturating_add(1));
     assert!(rt; is_at(next.last(), times as u64));
     check_list(rt, list, times);
@@ -96,29 +91,26 @@ fn adds_a_batch_at_the_ends_of_pages_and_groups(rt: HostRuntime) -> Result<(), F
     Ok(())
 }
 
-// Whether the batch was added.
-fn is_added(list: &mut BatchList, batch: Arc<Batch>) -> bool {
-    list.len() < 2000 && list.push(batch).is_ok()
+// One batch more in a list of two; where a growth is refused, the list is as it was. So is the one that shares its pages.
+fn check_push(rt: &(impl Abort + Print), alloc: Global, list: &mut BatchList) {
+    let Ok(shared) = list.share() else {
+        tell_refused(rt);
+        return check_list(rt, list, 2);
+    };
+    if add(alloc, list, 2).is_ok() {
+        check_list(rt, list, 3);
+    } else {
+        tell_refused(rt);
+        check_list(rt, list, 2);
+    }
+    check_list(rt, &shared, 2);
 }
 
-// Where a growth is refused, the list is as it was, and so is the one that shares its pages.
 #[test]
 fn refused_pushes_leave_the_list(rt: HostRuntime) {
     let mut list = BatchList::new(rt.alloc());
-    let (Ok(()), Ok(added)) = (fill(rt.alloc(), &mut list, 2), batch(rt.alloc(), 2)) else {
-        let _ = println!(rt; "refused");
-        return;
-    };
-    let Ok(shared) = list.share() else {
-        let _ = println!(rt; "refused");
-        check_list(&rt, &list, 2);
-        return;
-    };
-    if is_added(&mut list, added) {
-        check_list(&rt, &list, 3);
-    } else {
-        let _ = println!(rt; "refused");
-        check_list(&rt, &list, 2);
+    match fill(rt.alloc(), &mut list, 2) {
+        Ok(()) => check_push(&rt, rt.alloc(), &mut list),
+        Err(AllocError) => tell_refused(&rt),
     }
-    check_list(&rt, &shared, 2);
 }

@@ -1,8 +1,9 @@
 // Edge blocks.
 
 ghost use Rattle.std.specs.Prelude.{◌≡◌, IfOk};
-ghost use Rattle.graph_model.specs.Graph.{IsTime};
+ghost use Rattle.graph_model.specs.Graph.{IsTime, IsWeight};
 
+use super::checks::{same, tell_refused};
 use edge_block::{Block, EdgeRef};
 use graph_model::{Filter, KindId, VertexId};
 use std::alloc::{AllocError, Global};
@@ -16,54 +17,88 @@ const ALL: Filter = Filter {
     hi: u64::MAX,
 };
 
-/// Puts an edge of weight 1 into a block that has room for it.
+/// Puts an edge into a block that has room for it.
 #[tactic(auto, using(edge_block::proofs::Room::room_found, edge_block::proofs::Room::room_free))]
-fn put(rt: &impl Abort, block: &mut Block, target: u32, recent: u64)
-    requires { IsTime recent }
+fn put_edge(rt: &impl Abort, block: &mut Block, target: u32, weight: i64, first: u64, recent: u64)
+    requires weight { IsWeight weight }
+    requires first { IsTime first }
+    requires recent { IsTime recent }
 {
     if block.find(target).is_none() {
         assert!(rt; !block.is_full());
     }
-    block.put(target, 1, 3, recent);
+    block.put(target, weight, first, recent);
+}
+
+/// Puts one of weight 1, first seen at 3.
+fn put(rt: &impl Abort, block: &mut Block, target: u32, recent: u64)
+    requires { IsTime recent }
+{
+    put_edge(rt, block, target, 1, 3, recent);
 }
 
 fn take(rt: &impl Abort, block: &mut Block, target: u32, was_there: bool) {
-    assert_eq!(rt; block.take(target), was_there);
+    same(rt, block.take(target), was_there);
 }
 
 fn any_within(lo: u64, hi: u64) -> Filter {
     Filter { kind: None, lo, hi }
 }
 
+fn target_of(edge: Option<EdgeRef<'_>>) -> Option<u32> {
+    Some(*edge?.target)
+}
+
 fn leads_to(rt: &impl Abort, edge: Option<EdgeRef<'_>>, target: Option<u32>) {
-    assert_eq!(rt; edge.map(|edge| *edge.target), target);
+    same(rt, target_of(edge), target);
+}
+
+/// The view's edges lead to these targets, in slot order, and no other does.
+fn leads_to_all(rt: &impl Abort, block: &Block, filter: &Filter, targets: &[u32]) {
+    let mut edges = block.select(filter);
+    for target in targets {
+        leads_to(rt, edges.next(), Some(*target));
+    }
+    leads_to(rt, edges.next(), None);
+}
+
+/// The edge has this kind and weight, and these times, of its first insertion and of what touched it last.
+fn is_edge(rt: &impl Abort, edge: EdgeRef<'_>, kind: u8, weight: i64, first: u64, recent: u64) {
+    same(rt, edge.kind, KindId(kind));
+    same(
+        rt,
+        (*edge.weight, *edge.first, *edge.recent),
+        (weight, first, recent),
+    );
 }
 
 /// The block has this number, so many edges, and these time bounds.
 fn has(rt: &impl Abort, block: &Block, number: u32, len: usize, bounds: Option<(u64, u64)>) {
-    assert_eq!(rt;
+    same(
+        rt,
         (block.number(), block.len(), block.time_bounds()),
-        (number, len, bounds)
+        (number, len, bounds),
     );
 }
 
 fn is_full(rt: &impl Abort, block: &Block, wanted: bool) {
-    assert_eq!(rt; block.is_full(), wanted);
+    same(rt, block.is_full(), wanted);
 }
 
 fn is_of(rt: &impl Abort, block: &Block, source: u32, kind: u8) {
-    assert_eq!(rt;
+    same(
+        rt,
         (block.source(), block.kind()),
-        (VertexId(source), KindId(kind))
+        (VertexId(source), KindId(kind)),
     );
 }
 
 fn selects(rt: &impl Abort, block: &Block, filter: &Filter, count: usize) {
-    assert_eq!(rt; block.select(filter).count(), count);
+    same(rt, block.select(filter).count(), count);
 }
 
 fn same_targets(rt: &impl Abort, left: &Block, right: &Block, wanted: bool) {
-    assert_eq!(rt; left.same_targets(right), wanted);
+    same(rt, left.same_targets(right), wanted);
 }
 
 #[test]
@@ -76,17 +111,9 @@ fn keeps_its_slots_through_puts_and_takes(rt: HostRuntime) {
     take(&rt, &mut block, 8, true);
     put(&rt, &mut block, 5, 15);
 
-    let mut slots = block.select(&ALL);
-    leads_to(&rt, slots.next(), Some(7));
-    leads_to(&rt, slots.next(), Some(5));
-    leads_to(&rt, slots.next(), Some(9));
-    leads_to(&rt, slots.next(), None);
+    leads_to_all(&rt, &block, &ALL, &[7, 5, 9]);
     has(&rt, &block, 4, 3, Some((10, 30)));
-
-    let mut within = block.select(&any_within(10, 20));
-    leads_to(&rt, within.next(), Some(7));
-    leads_to(&rt, within.next(), Some(5));
-    leads_to(&rt, within.next(), None);
+    leads_to_all(&rt, &block, &any_within(10, 20), &[7, 5]);
 
     take(&rt, &mut block, 8, false);
     leads_to(&rt, block.find(8), None);
@@ -105,7 +132,8 @@ fn fills_the_lowest_free_slot(rt: HostRuntime) {
     // over the slot of a target that is there
     put(&rt, &mut block, 31, 6);
     has(&rt, &block, 0, 32, Some((1, 6)));
-    assert_eq!(rt; block.find(31).map(|edge| *edge.recent), Some(6));
+    let edge = block.find(31).expect(&rt, "an edge to 31");
+    is_edge(&rt, edge, 0, 1, 3, 6);
 
     take(&rt, &mut block, 30, true);
     take(&rt, &mut block, 2, true);
@@ -114,67 +142,53 @@ fn fills_the_lowest_free_slot(rt: HostRuntime) {
     is_full(&rt, &block, false);
 }
 
-/// The view's targets come behind 1, or want of memory is told.
-fn lists(
-    rt: &impl Abort,
-    alloc: Global,
-    block: &Block,
-    filter: &Filter,
-    wanted: &[u32],
-) -> Result<(), AllocError> {
+/// The view's targets behind 1.
+fn listed(alloc: Global, block: &Block, filter: &Filter) -> Result<Vec<u32>, AllocError> {
     let mut targets = Vec::new(alloc);
     targets.push(1)?;
     block.list_targets(filter, &mut targets)?;
-    assert_eq!(rt; targets.as_slice(), wanted);
-    Ok(())
+    Ok(targets)
+}
+
+/// The view's targets come behind 1.
+fn lists(rt: &impl Abort, alloc: Global, block: &Block, filter: &Filter, wanted: &[u32]) {
+    let targets = listed(alloc, block, filter).expect(rt, "memory for targets");
+    same(rt, targets.as_slice(), wanted);
 }
 
 #[test]
-fn lists_targets_of_a_run_and_past_a_free_slot(rt: HostRuntime) -> Result<(), Fail> {
+fn lists_targets_of_a_run_and_past_a_free_slot(rt: HostRuntime) {
     let mut block = Block::blank(4);
-    lists(&rt, rt.alloc(), &block, &ALL, &[1])?;
+    lists(&rt, rt.alloc(), &block, &ALL, &[1]);
     put(&rt, &mut block, 7, 10);
     put(&rt, &mut block, 8, 20);
     put(&rt, &mut block, 9, 30);
-    lists(&rt, rt.alloc(), &block, &ALL, &[1, 7, 8, 9])?;
-    lists(&rt, rt.alloc(), &block, &any_within(10, 20), &[1, 7, 8])?;
-    lists(&rt, rt.alloc(), &block, &any_within(20, 30), &[1, 8, 9])?;
+    lists(&rt, rt.alloc(), &block, &ALL, &[1, 7, 8, 9]);
+    lists(&rt, rt.alloc(), &block, &any_within(10, 20), &[1, 7, 8]);
+    lists(&rt, rt.alloc(), &block, &any_within(20, 30), &[1, 8, 9]);
     take(&rt, &mut block, 7, true);
-    lists(&rt, rt.alloc(), &block, &ALL, &[1, 8, 9])?;
-    Ok(())
+    lists(&rt, rt.alloc(), &block, &ALL, &[1, 8, 9]);
 }
 
 // So many are copied in one piece.
 #[test]
-fn lists_targets_of_a_long_run(rt: HostRuntime) -> Result<(), Fail> {
+fn lists_targets_of_a_long_run(rt: HostRuntime) {
     let mut block = Block::blank(4);
     for target in 20..29 {
         put(&rt, &mut block, target, 10);
     }
-    lists(
-        &rt,
-        rt.alloc(),
-        &block,
-        &ALL,
-        &[1, 20, 21, 22, 23, 24, 25, 26, 27, 28],
-    )?;
-    lists(&rt, rt.alloc(), &block, &any_within(11, 20), &[1])?;
+    let run = [1, 20, 21, 22, 23, 24, 25, 26, 27, 28];
+    lists(&rt, rt.alloc(), &block, &ALL, &run);
+    lists(&rt, rt.alloc(), &block, &any_within(11, 20), &[1]);
     take(&rt, &mut block, 28, true);
-    lists(
-        &rt,
-        rt.alloc(),
-        &block,
-        &ALL,
-        &[1, 20, 21, 22, 23, 24, 25, 26, 27],
-    )?;
-    Ok(())
+    lists(&rt, rt.alloc(), &block, &ALL, &run[..9]);
 }
 
 /// So many edges were touched before the time, and are gone; the others keep their slots.
 fn expires(rt: &impl Abort, block: &mut Block, time: u64, count: u32) {
-    assert_eq!(rt; block.has_before(time), count > 0);
-    assert_eq!(rt; block.expire(time), count);
-    assert_eq!(rt; block.has_before(time), false);
+    same(rt, block.has_before(time), count > 0);
+    same(rt, block.expire(time), count);
+    same(rt, block.has_before(time), false);
 }
 
 #[test]
@@ -192,10 +206,7 @@ fn expires_what_was_touched_before_a_time(rt: HostRuntime) {
     has(&rt, &block, 4, 4, Some((10, 30)));
     expires(&rt, &mut block, 20, 2);
     has(&rt, &block, 4, 2, Some((20, 30)));
-    let mut slots = block.select(&ALL);
-    leads_to(&rt, slots.next(), Some(8));
-    leads_to(&rt, slots.next(), Some(9));
-    leads_to(&rt, slots.next(), None);
+    leads_to_all(&rt, &block, &ALL, &[8, 9]);
 
     // what was freed is filled again, the lowest slot first
     put(&rt, &mut block, 6, 25);
@@ -215,22 +226,16 @@ fn expires_a_full_block(rt: HostRuntime) {
     has(&rt, &block, 0, 0, None);
 }
 
-/// The edge of kind 3, weight -40, first time 50 and recent time 20.
-fn is_edge(rt: &impl Abort, edge: Option<EdgeRef<'_>>) {
-    let stamp = edge.map(|edge| (edge.kind, *edge.weight, *edge.first, *edge.recent));
-    assert_eq!(rt; stamp, Some((KindId(3), -40, 50, 20)));
-}
-
 #[test]
 fn lends_what_was_put(rt: HostRuntime) {
     let mut block = Block::blank(1);
     block.clear_for(VertexId(12), KindId(3));
-    assert!(rt; block.find(7).is_none());
-    assert!(rt; !block.is_full());
-    block.put(7, -40, 50, 20);
+    leads_to(&rt, block.find(7), None);
+    put_edge(&rt, &mut block, 7, -40, 50, 20);
     is_of(&rt, &block, 12, 3);
     has(&rt, &block, 1, 1, Some((20, 20)));
-    is_edge(&rt, block.find(7));
+    let edge = block.find(7).expect(&rt, "an edge to 7");
+    is_edge(&rt, edge, 3, -40, 50, 20);
 
     // 0 is a target like any other, and an empty slot has none
     leads_to(&rt, block.find(0), None);
@@ -317,28 +322,31 @@ fn clones_the_number_too(rt: HostRuntime) -> Result<(), Fail> {
     Ok(())
 }
 
-#[test]
-fn refused_copy_leaves_the_shared_block(rt: HostRuntime) -> Result<(), Fail> {
-    let Ok(mut block) = Arc::new(rt.alloc(), two_edges(&rt)) else {
-        return refused(&rt);
+/// An edge of a copy of a shared block is taken, and the other one who shares it has both; or a growth was refused, and both
+/// have them.
+fn check_copy(rt: &(impl Abort + Print), block: &mut Arc<Block>, other: &Block) {
+    let is_copied = match Arc::make_mut(block) {
+        Ok(copy) => copy.take(7),
+        Err(AllocError) => false,
     };
-    let Ok(other) = Arc::try_clone(&block) else {
-        return refused(&rt);
-    };
-    let is_refused = match Arc::make_mut(&mut block) {
-        Ok(copy) => !copy.take(7),
-        Err(AllocError) => true,
-    };
-    assert_eq!(rt; (other.number(), other.len()), (4, 2));
-    assert_eq!(rt; block.len() == 2, is_refused);
-    if is_refused {
-        return refused(&rt);
+    if !is_copied {
+        tell_refused(rt);
     }
-    Ok(())
+    same(rt, (other.number(), other.len()), (4, 2));
+    same(rt, block.len(), if is_copied { 1 } else { 2 });
 }
 
-/// Tells `tools/refuse-each-growth` that a growth was refused, which the test accepted.
-fn refused(rt: &impl Print) -> Result<(), Fail> {
-    println!(rt; "refused")?;
-    Ok(())
+fn check_shared(rt: &(impl Abort + Print), block: &mut Arc<Block>) {
+    match Arc::try_clone(block) {
+        Ok(other) => check_copy(rt, block, &other),
+        Err(_) => tell_refused(rt),
+    }
+}
+
+#[test]
+fn refused_copy_leaves_the_shared_block(rt: HostRuntime) {
+    match Arc::new(rt.alloc(), two_edges(&rt)) {
+        Ok(mut block) => check_shared(&rt, &mut block),
+        Err(_) => tell_refused(&rt),
+    }
 }

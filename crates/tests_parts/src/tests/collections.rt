@@ -6,7 +6,8 @@
 ghost use Rattle.std.specs.Prelude.{◌<◌};
 ghost use Rattle.pin_copy.specs.declared.copies.TheConstants.{SEATS};
 
-use crate::tests::pools::{Hand, counts, freed, granted};
+use super::checks::same;
+use super::pools::{Hand, counts, freed, granted};
 use pin_copy::{PinCopy, SEATS};
 use std::process::Abort;
 use std::test::Fail;
@@ -109,7 +110,11 @@ fn retires(rt: &impl Abort, hand: &mut Hand, retired: &mut Retired, text: &str) 
 fn collects(rt: &impl Abort, hand: &mut Hand, retired: &mut Retired, text: &str) {
     let (copy, wanted) = text.split_once(" => ").expect(rt, "a copy");
     let copy = copy_of(rt, copy);
-    assert_eq!(rt; retired.collect(&copy), count(rt, wanted), "{text}");
+    same(
+        rt,
+        (text, retired.collect(&copy)),
+        (text, count(rt, wanted)),
+    );
     freed(rt, hand, &copy, count(rt, wanted));
 }
 

@@ -1,5 +1,6 @@
 // Copies of the pins.
 
+use super::checks::same;
 use pin_copy::PinCopy;
 use std::process::Abort;
 
@@ -16,7 +17,7 @@ fn copy_of_three() -> PinCopy {
 }
 
 fn tells(rt: &impl Abort, copy: &PinCopy, floor: u64, reach: u64) {
-    assert_eq!(rt; (copy.floor(), copy.reach()), (floor, reach));
+    same(rt, (copy.floor(), copy.reach()), (floor, reach));
 }
 
 #[test]
@@ -27,10 +28,11 @@ fn tells_the_least_of_all_pins_and_of_the_unsettled(rt: HostRuntime) {
 
 /// Whether a block of this birth and retirement is needed.
 fn needs(rt: &impl Abort, birth: u64, retirement: u64, is_needed: bool) {
-    assert_eq!(rt;
-        copy_of_three().needs(birth, retirement),
-        is_needed,
-        "{birth} to {retirement}"
+    let told = copy_of_three().needs(birth, retirement);
+    same(
+        rt,
+        (birth, retirement, told),
+        (birth, retirement, is_needed),
     );
 }
 

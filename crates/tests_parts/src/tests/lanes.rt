@@ -3,6 +3,7 @@
 ghost use Rattle.std.specs.Prelude.{◌≡◌, ◌≤◌, length, All};
 ghost use Rattle.lane_scan.specs.Masks.{IsWeight, selected};
 
+use super::checks::same;
 use lane_scan::{bounds, equal_columns, find_target, masked_sum, widened, window_mask};
 use std::process::Abort;
 
@@ -12,7 +13,7 @@ const INPUTS: usize = 64 * 33;
 fn finds(rt: &impl Abort, targets: &[u32], live: u32, target: u32, wanted: Option<usize>)
     requires { length targets.now ≤ 32 }
 {
-    assert_eq!(rt; find_target(targets, live, target), wanted);
+    same(rt, find_target(targets, live, target), wanted);
 }
 
 #[test]
@@ -27,7 +28,7 @@ fn finds_the_least_live_place(rt: HostRuntime) {
 fn is_within(rt: &impl Abort, times: &[u64], live: u32, lo: u64, hi: u64, wanted: u32)
     requires { length times.now ≤ 32 }
 {
-    assert_eq!(rt; window_mask(times, live, lo, hi), wanted);
+    same(rt, window_mask(times, live, lo, hi), wanted);
 }
 
 /// The numbers from 0 to 31.
@@ -54,7 +55,7 @@ fn sums(rt: &impl Abort, weights: &[i64], mask: u32, wanted: i64)
     requires few { length weights.now ≤ 32 }
     requires counted_are_weights { All IsWeight (selected mask weights.now) }
 {
-    assert_eq!(rt; masked_sum(weights, mask), wanted);
+    same(rt, masked_sum(weights, mask), wanted);
 }
 
 #[test]
@@ -68,7 +69,7 @@ fn sums_the_masked_weights_alone(rt: HostRuntime) {
 fn is_bounded(rt: &impl Abort, times: &[u64], mask: u32, wanted: Option<(u64, u64)>)
     requires { length times.now ≤ 32 }
 {
-    assert_eq!(rt; bounds(times, mask), wanted);
+    same(rt, bounds(times, mask), wanted);
 }
 
 #[test]
@@ -81,7 +82,7 @@ fn bounds_the_masked_values_alone(rt: HostRuntime) {
 }
 
 fn widens(rt: &impl Abort, bounds: Option<(u64, u64)>, time: u64, wanted: (u64, u64)) {
-    assert_eq!(rt; widened(bounds, time), wanted);
+    same(rt, widened(bounds, time), wanted);
 }
 
 #[test]
@@ -96,7 +97,7 @@ fn compares(rt: &impl Abort, left: &[u32], right: &[u32], wanted: bool)
     requires few { length left.now ≤ 32 }
     requires equal_lengths { length left.now ≡ length right.now }
 {
-    assert_eq!(rt; equal_columns(left, right), wanted);
+    same(rt, equal_columns(left, right), wanted);
 }
 
 #[test]

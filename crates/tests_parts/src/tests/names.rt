@@ -1,5 +1,6 @@
 // Books of names.
 
+use super::checks::{same, tell_refused};
 use graph_model::is_name;
 use std::alloc::{AllocError, Global};
 use std::io::Print;
@@ -15,7 +16,7 @@ fn add(rt: &impl Abort, book: &mut NameBook, name: &str) -> Result<u32, AddError
 
 // Adding the text, which is a name, answers this.
 fn added(rt: &impl Abort, book: &mut NameBook, name: &str, answer: Result<u32, AddError>) {
-    assert_eq!(rt; add(rt, book, name), answer);
+    same(rt, add(rt, book, name), answer);
 }
 
 // The name v0, v1 .. of that number.
@@ -25,20 +26,15 @@ fn push_plain(text: &mut String, number: u32) -> Result<(), AllocError> {
 
 // The name has this number.
 fn assert_numbered(rt: &impl Abort, book: &NameBook, name: &str, number: u32) {
-    assert_eq!(rt; book.number(name), Some(number));
-    assert_eq!(rt; book.name(number), Some(name));
+    same(rt, book.number(name), Some(number));
+    same(rt, book.name(number), Some(name));
 }
 
 // The name has no number, and this is how many names there are.
 fn assert_absent(rt: &impl Abort, book: &NameBook, name: &str, len: u32) {
-    assert_eq!(rt; book.number(name), None);
-    assert_eq!(rt; book.name(len), None);
-    assert_eq!(rt; book.len(), len as usize);
-}
-
-// Tells `tools/refuse-each-growth` that a growth was refused.
-fn tell_refused(rt: &impl Print) {
-    let _ = println!(rt; "refused");
+    same(rt, book.number(name), None);
+    same(rt, book.name(len), None);
+    same(rt, book.len(), len as usize);
 }
 
 // Adds a new name. Where a growth is refused, the book is as before, and the next try answers.
@@ -49,12 +45,12 @@ fn add_new(rt: &(impl Abort + Print), book: &mut NameBook, name: &str, number: u
         assert_absent(rt, book, name, number);
         answer = add(rt, book, name);
     }
-    assert_eq!(rt; answer, Ok(number));
+    same(rt, answer, Ok(number));
     assert_numbered(rt, book, name, number);
 }
 
 #[test]
-fn numbers_names_by_first_appearance(rt: HostRuntime) -> Result<(), Fail> {
+fn numbers_names_by_first_appearance(rt: HostRuntime) {
     let mut book = NameBook::new(rt.alloc(), 2);
     assert!(rt; book.is_empty());
     added(&rt, &mut book, "a", Ok(0));
@@ -64,10 +60,15 @@ fn numbers_names_by_first_appearance(rt: HostRuntime) -> Result<(), Fail> {
     assert!(rt; !book.is_empty());
     assert_absent(&rt, &book, "c", 2);
     assert_numbered(&rt, &book, "b", 1);
-    let shared = book.share()?;
+    let shared = book.share().expect(&rt, "memory for a book");
     assert_absent(&rt, &shared, "c", 2);
     assert_numbered(&rt, &shared, "b", 1);
-    Ok(())
+}
+
+fn plain(alloc: Global, number: u32) -> Result<String, AllocError> {
+    let mut name = String::new(alloc);
+    push_plain(&mut name, number)?;
+    Ok(name)
 }
 
 // Adds the name of that number in the book of v0, v1 ..
@@ -77,9 +78,7 @@ fn add_plain(
     book: &mut NameBook,
     number: u32,
 ) -> Result<(), AllocError> {
-    let mut name = String::new(alloc);
-    push_plain(&mut name, number)?;
-    added(rt, book, name.as_str(), Ok(number));
+    added(rt, book, plain(alloc, number)?.as_str(), Ok(number));
     Ok(())
 }
 
@@ -105,6 +104,15 @@ fn takes_as_many_names_as_a_graph_may_have(rt: HostRuntime) -> Result<(), Fail> 
     check_many(&rt, rt.alloc(), &mut NameBook::new(rt.alloc(), 65_536))
 }
 
+// The book has the name by this number, or it is the first that it doesn't have.
+fn check_name(rt: &impl Abort, book: &NameBook, name: &str, number: u32, len: u32) {
+    if number < len {
+        assert_numbered(rt, book, name, number);
+    } else {
+        assert_absent(rt, book, name, len);
+    }
+}
+
 // Of the names v0, v1 .. the book has this one, or it is the first that it doesn't have.
 fn check_plain(
     rt: &impl Abort,
@@ -113,13 +121,7 @@ fn check_plain(
     number: u32,
     len: u32,
 ) -> Result<(), AllocError> {
-    let mut name = String::new(alloc);
-    push_plain(&mut name, number)?;
-    if number < len {
-        assert_numbered(rt, book, name.as_str(), number);
-    } else {
-        assert_absent(rt, book, name.as_str(), len);
-    }
+    check_name(rt, book, plain(alloc, number)?.as_str(), number, len);
     Ok(())
 }
 
@@ -172,21 +174,26 @@ fn refused_names_leave_the_book(rt: HostRuntime) {
         add_new(&rt, &mut book, names[number as usize], number);
     }
     assert_absent(&rt, &book, "f", 5);
-    assert_eq!(rt; add(&rt, &mut book, "c"), Ok(2));
-    assert_eq!(rt; add(&rt, &mut book, "f"), Err(AddError::NamesFull));
+    same(&rt, add(&rt, &mut book, "c"), Ok(2));
+    same(&rt, add(&rt, &mut book, "f"), Err(AddError::NamesFull));
+}
+
+// What shares the names; where a growth is refused, once no more is refused.
+fn shared(rt: &(impl Abort + Print), book: &NameBook) -> NameBook {
+    match book.share() {
+        Ok(shared) => shared,
+        Err(_) => {
+            tell_refused(rt);
+            book.share().expect(rt, "one growth alone is refused")
+        }
+    }
 }
 
 #[test]
 fn refused_shares_leave_the_book(rt: HostRuntime) {
     let mut book = NameBook::new(rt.alloc(), 2);
     add_new(&rt, &mut book, "a", 0);
-    let shared = match book.share() {
-        Ok(shared) => shared,
-        Err(_) => {
-            tell_refused(&rt);
-            book.share().expect(&rt, "one growth alone is refused")
-        }
-    };
+    let shared = shared(&rt, &book);
     assert_numbered(&rt, &book, "a", 0);
     add_new(&rt, &mut book, "b", 1);
     assert_numbered(&rt, &shared, "a", 0);

@@ -2,6 +2,7 @@
 
 ghost use Rattle.std.specs.Prelude.{◌≡◌};
 
+use super::checks::{same, tell_refused};
 use block_pool::{Grant, GrantError, Pool};
 use edge_block::Block;
 use pin_copy::PinCopy;
@@ -115,24 +116,20 @@ impl Hand {
 /// So many blocks are free, used and retired.
 pub(super) fn counts(rt: &impl Abort, hand: &Hand, free: u32, used: u32, retired: u32) {
     let pool = &hand.pool;
-    assert_eq!(rt;
+    same(
+        rt,
         (pool.free(), pool.used(), pool.retired()),
-        (free, used, retired)
+        (free, used, retired),
     );
 }
 
 pub(super) fn granted(rt: &impl Abort, hand: &mut Hand, count: u32) {
-    assert_eq!(rt; hand.grant(count), None);
+    same(rt, hand.grant(count), None);
 }
 
 /// So many blocks are freed by a copy.
 pub(super) fn freed(rt: &impl Abort, hand: &mut Hand, copy: &PinCopy, count: u32) {
-    assert_eq!(rt; hand.recycle(copy), count, "by {copy:?}");
-}
-
-/// Tells `tools/refuse-each-growth` that a growth was refused.
-fn tell_refused(rt: &impl Print) {
-    let _ = println!(rt; "refused");
+    same(rt, hand.recycle(copy), count);
 }
 
 fn check_full(rt: &impl Abort, hand: &mut Hand) {
@@ -140,7 +137,7 @@ fn check_full(rt: &impl Abort, hand: &mut Hand) {
         needed: 17,
         free: 16,
     };
-    assert_eq!(rt; hand.grant(17), Some(refused));
+    same(rt, hand.grant(17), Some(refused));
     counts(rt, hand, 16, 0, 0);
 }
 
@@ -150,16 +147,16 @@ fn grants_no_more_blocks_than_there_are(rt: HostRuntime) -> Result<(), Fail> {
     Ok(())
 }
 
-fn first_is(rt: &impl Abort, hand: &Hand, number: Option<u32>) {
-    assert_eq!(rt; hand.first().map(|block| block.number()), number);
-    assert_eq!(rt; hand.numbers.first().copied(), number);
+fn first_is(rt: &impl Abort, hand: &Hand, number: u32) {
+    same(rt, hand.first().expect(rt, "a block").number(), number);
+    same(rt, hand.numbers.first().copied(), Some(number));
 }
 
 fn check_last_back(rt: &impl Abort, hand: &mut Hand) {
     granted(rt, hand, 3);
     hand.give_number_back();
     hand.give_number_back();
-    let last = hand.give_number_back();
+    let last = hand.give_number_back().expect(rt, "a block");
     granted(rt, hand, 1);
     first_is(rt, hand, last);
     counts(rt, hand, 15, 1, 0);
@@ -189,7 +186,7 @@ fn check_exchange(rt: &impl Abort, alloc: Global, hand: &mut Hand) {
     hand.exchange(Arc::new(alloc, filled(rt, number)).expect(rt, "memory for a block"));
     counts(rt, hand, 16, 0, 0);
     granted(rt, hand, 1);
-    assert_eq!(rt; hand.first().map(|block| block.len()), Some(1));
+    same(rt, hand.first().expect(rt, "a block").len(), 1);
 }
 
 /// A block that was then retired and recycled is granted as it was, too, after those that were free before.
@@ -208,8 +205,8 @@ fn check_retired(rt: &impl Abort, alloc: Global, hand: &mut Hand) {
     };
     freed(rt, hand, &copy, 1);
     granted(rt, hand, 16);
-    assert_eq!(rt; hand.first().map(|block| block.len()), Some(0));
-    assert_eq!(rt; hand.last().map(|block| block.len()), Some(1));
+    same(rt, hand.first().expect(rt, "a block").len(), 0);
+    same(rt, hand.last().expect(rt, "a block").len(), 1);
 }
 
 /// A new pool of 16 blocks; where a growth was refused, once no more is refused.
@@ -224,7 +221,11 @@ fn new_pool(rt: &(impl Abort + Print), alloc: Global) -> Pool {
 }
 
 fn pool_counts(rt: &impl Abort, pool: &Pool, free: u32, used: u32) {
-    assert_eq!(rt; (pool.free(), pool.used(), pool.retired()), (free, used, 0));
+    same(
+        rt,
+        (pool.free(), pool.used(), pool.retired()),
+        (free, used, 0),
+    );
 }
 
 fn lengths(grant: Result<Grant, GrantError>) -> Result<(usize, usize), GrantError> {
@@ -240,7 +241,7 @@ fn check_grant(rt: &(impl Abort + Print), pool: &mut Pool) {
         pool_counts(rt, pool, 16, 0);
         granted = lengths(pool.grant(4));
     }
-    assert_eq!(rt; granted, Ok((4, 4)));
+    same(rt, granted, Ok((4, 4)));
     pool_counts(rt, pool, 12, 4);
 }
 

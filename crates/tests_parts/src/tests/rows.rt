@@ -1,5 +1,6 @@
 // Rows of sources.
 
+use super::checks::{same, tell_refused};
 use edge_block::Block;
 use graph_model::VertexId;
 use row_pages::Rows;
@@ -33,10 +34,10 @@ fn replaced(
 // The row of a source has so many blocks, numbered from the first.
 fn assert_row(rt: &impl Abort, rows: &Rows, source: u32, first: u32, count: usize) {
     let blocks = rows.row_blocks(VertexId(source));
-    assert_eq!(rt; blocks.len(), count, "source {source}");
+    same(rt, (source, blocks.len()), (source, count));
     let mut number = first;
     for block in blocks {
-        assert_eq!(rt; block.number(), number, "source {source}");
+        same(rt, (source, block.number()), (source, number));
         number = number.saturating_add(1);
     }
 }
@@ -48,11 +49,12 @@ fn check_change(rt: &impl Abort, before: &Rows, after: &Rows, source: u32) {
     assert_row(rt, after, source, 5, 1);
     assert_row(rt, after, source.saturating_add(1), 6, 2);
     assert_row(rt, after, source.saturating_add(2), 0, 0);
-    assert_eq!(rt;
+    same(
+        rt,
         before.len(),
         (source as usize / 1024)
             .saturating_add(1)
-            .saturating_mul(1024)
+            .saturating_mul(1024),
     );
 }
 
@@ -96,22 +98,24 @@ fn replaces_a_row_again(rt: HostRuntime) -> Result<(), Fail> {
     )
 }
 
-// Where a growth is refused, the rows that were shared before are as they were.
+// Where a growth is refused, the rows that were shared before are as they were, and the next try changes them.
+fn check_refused(rt: &(impl Abort + Print), alloc: Global, before: &Rows) {
+    match replaced(alloc, before, 65, 6, 2) {
+        Ok(after) => check_change(rt, before, &after, 64),
+        Err(AllocError) => {
+            tell_refused(rt);
+            assert_row(rt, before, 64, 5, 1);
+            assert_row(rt, before, 65, 0, 0);
+            let after = replaced(alloc, before, 65, 6, 2).expect(rt, "one growth alone is refused");
+            check_change(rt, before, &after, 64);
+        }
+    }
+}
+
 #[test]
 fn refused_changes_leave_other_rows(rt: HostRuntime) {
-    let Ok(before) = replaced(rt.alloc(), &Rows::new(rt.alloc()), 64, 5, 1) else {
-        let _ = println!(rt; "refused");
-        return;
-    };
-    let mut after = replaced(rt.alloc(), &before, 65, 6, 2);
-    if after.is_err() {
-        let _ = println!(rt; "refused");
-        assert_row(&rt, &before, 64, 5, 1);
-        assert_row(&rt, &before, 65, 0, 0);
-        after = replaced(rt.alloc(), &before, 65, 6, 2);
-    }
-    match after {
-        Ok(after) => check_change(&rt, &before, &after, 64),
-        Err(_) => assert!(&rt; false, "one growth alone is refused"),
+    match replaced(rt.alloc(), &Rows::new(rt.alloc()), 64, 5, 1) {
+        Ok(before) => check_refused(&rt, rt.alloc(), &before),
+        Err(AllocError) => tell_refused(&rt),
     }
 }

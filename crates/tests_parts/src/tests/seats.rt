@@ -1,5 +1,6 @@
 // The board of seats.
 
+use super::checks::same;
 use pin_copy::PinCopy;
 use seat_board::{Board, Pin, SeatNo};
 use std::process::Abort;
@@ -7,17 +8,17 @@ use std::test::Fail;
 
 // Raising the floor to a version gives this floor.
 fn raised(rt: &impl Abort, board: &mut Board, version: u64, floor: u64) {
-    assert_eq!(rt; board.raise(version).floor(), floor);
-    assert_eq!(rt; board.floor(), floor);
+    same(rt, board.raise(version).floor(), floor);
+    same(rt, board.floor(), floor);
 }
 
 // A new pin of the seat has this number.
 fn pinned(rt: &impl Abort, board: &mut Board, seat: SeatNo, number: u64) {
-    assert_eq!(rt; board.pin(seat), number);
+    same(rt, board.pin(seat), number);
 }
 
 fn has_pin(rt: &impl Abort, board: &Board, seat: SeatNo, pin: Option<Pin>) {
-    assert_eq!(rt; board.pin_of(seat), pin);
+    same(rt, board.pin_of(seat), pin);
 }
 
 #[test]
@@ -36,12 +37,12 @@ fn keeps_the_floor_below_each_pin(rt: HostRuntime) -> Result<(), Fail> {
     raised(&rt, &mut board, 6, 6);
     board.unpin(second);
     raised(&rt, &mut board, 7, 7);
-    assert_eq!(rt; board.floor(), 7);
+    same(&rt, board.floor(), 7);
     Ok(())
 }
 
 fn copied(rt: &impl Abort, board: &mut Board, last: u64, copy: PinCopy) {
-    assert_eq!(rt; board.raise(last), copy);
+    same(rt, board.raise(last), copy);
 }
 
 /// Seat 0 has a settled pin, and seat 15 an unsettled one.
@@ -64,7 +65,7 @@ fn copies_the_pins(rt: HostRuntime) -> Result<(), Fail> {
 #[test]
 fn shows_the_pin_of_a_seat(rt: HostRuntime) -> Result<(), Fail> {
     let seat = SeatNo::new(15).ok_or("seat 15")?;
-    assert_eq!(rt; seat.number(), 15);
+    same(&rt, seat.number(), 15);
     let mut board = Board::new();
     board.settle(seat, 3);
     has_pin(&rt, &board, seat, None);

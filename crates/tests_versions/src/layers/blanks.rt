@@ -1,5 +1,6 @@
 // Blank blocks for a version.
 
+use crate::texts::tell_refused;
 use graph_version::Version;
 use tests_blocks::fresh_blocks;
 
@@ -8,8 +9,7 @@ use tests_blocks::fresh_blocks;
 fn refused_or_fresh_blocks(rt: HostRuntime) {
     let version = Version::empty(rt.alloc());
     let Some(blocks) = fresh_blocks(rt.alloc(), &version, 3) else {
-        let _ = println!(rt; "refused");
-        return;
+        return tell_refused(&rt);
     };
     assert_eq!(rt; blocks.len(), 3);
     for (number, block) in blocks.iter().enumerate() {

@@ -1,0 +1,14 @@
+// What tests of each crate call. Values of any type go through one function, which is proved once.
+
+use std::fmt::Debug;
+use std::process::Abort;
+
+/// What was told is what is wanted.
+pub(super) fn same<T: PartialEq + Debug + Drop>(rt: &impl Abort, told: T, wanted: T) {
+    assert_eq!(rt; told, wanted);
+}
+
+/// Tells `tools/refuse-each-growth` that a growth was refused, which the test accepted.
+pub(super) fn tell_refused(rt: &impl Print) {
+    let _ = println!(rt; "refused");
+}
