@@ -1,9 +1,10 @@
 // Records to commands, one function for each command.
 
-ghost use Rattle.std.specs.Prelude.{◌≡◌, MatchResult, Ok, Err, IfOk, IfErr};
+ghost use Rattle.std.specs.Prelude.{◌≡◌, MatchResult, Ok, Err, IfOk, IfErr, bytes_eq, codes, false};
 ghost use Rattle.csv.specs.Records.{fields_of};
 ghost use Rattle.feed_csv.specs.Commands as spec;
 ghost use Rattle.feed_csv.specs.Fields.{of_length};
+ghost use Rattle.feed_csv.specs.Fields as fields;
 
 use crate::fields::{any_kind_at, field, kind_at, name_at, slot_at, time_at, weight_at};
 use crate::{Command, FeedWord};
@@ -23,7 +24,23 @@ pub(crate) fn command_of(alloc: Global, row: &ByteRecord) -> Result<Command, Fee
         incr(alloc, row)
     } else if word == b"r".as_slice() {
         remove(alloc, row)
-    } else if word == b"x".as_slice() {
+    } else {
+        other_command(alloc, row)
+    }
+}
+
+/// The command of a record that has no edge's operation. It isn't inlined, since the room for what each of its rules gives would
+/// then be cleared at every record.
+#[inline(never)]
+#[tactic(auto, using(crate::proofs::Giving::gives_same), unfolding(crate::specs::Commands::item_of))]
+fn other_command(alloc: Global, row: &ByteRecord) -> Result<Command, FeedWord>
+    requires no_insert { bytes_eq (fields.field (fields_of row.now) 0) (codes "i") ≡ false }
+    requires no_incr { bytes_eq (fields.field (fields_of row.now) 0) (codes "a") ≡ false }
+    requires no_remove { bytes_eq (fields.field (fields_of row.now) 0) (codes "r") ≡ false }
+    ensures { spec.Gives result (spec.item_of (fields_of row.now)) }
+{
+    let word = field(row, 0);
+    if word == b"x".as_slice() {
         expire(row)
     } else if word == b"commit".as_slice() {
         commit(row)
