@@ -1,6 +1,6 @@
 -- Lemmas on the value of decimal digits.
 use Rattle.std.proofs.Common.{◌≡◌, ℕ, suc, ◌+◌, ◌-◌, ◌*◌, ◌^◌, ◌<◌, ◌≤◌, List, [], ◌∷◌, ◌++◌, length, Bool, false, refl, true}
-use Rattle.std.proofs.{Common.◌&&◌, Common.arith, Common.length-append, lemmas.Bool.Decides.nat_tests}
+use Rattle.std.proofs.{Common.◌&&◌, Common.arith, Common.length-append, lemmas.Bool.and_parts, lemmas.Bool.Decides.nat_tests}
 use Rattle.std.proofs.Math.Nat.{pow-suc, pow-le-pow_right, mul-le-mul_right}
 use Rattle.std.specs.{Char.is_ascii_digit, List.list_all}
 use Rattle.feed_csv.specs.Number.{decimal_value}
@@ -23,15 +23,11 @@ digit-le first digit = grind (arith, nat_tests)
 below_place : (d n v : ℕ) → d ≤ 9 → v < n → d * n + v < n * 10
 below_place d n v small below = omega (arith, mul-le-mul_right n small)
 
-pub both : (a b : Bool) → (a && b) ≡ true → (a ≡ true) × (b ≡ true)
-both true b h = (refl, h)
-both false b h = cc h
-
 -- the value is below the next power of ten
 pub decimal_value-lt : (digits : List ℕ) → list_all is_ascii_digit digits ≡ true → decimal_value digits < 10 ^ length digits
 decimal_value-lt [] all = omega arith
 decimal_value-lt (first ∷ rest) all =
-    let each = both (is_ascii_digit first) (list_all is_ascii_digit rest) all in
+    let each = and_parts (is_ascii_digit first) (list_all is_ascii_digit rest) all in
     rw (pow-suc 10 (length rest)) (below_place (first - 48) (10 ^ length rest) (decimal_value rest) (digit-le first each.0)
     (decimal_value-lt rest each.1))
 

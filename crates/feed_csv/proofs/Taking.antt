@@ -3,12 +3,11 @@ use Rattle.std.proofs.Common.{◌≡◌, ℕ, zero, suc, ◌+◌, ◌<◌, ◌�
 use Rattle.std.proofs.Common.{true, false, cond, Option, Some, None, Result, Ok, Err, arith, add-one}
 use Rattle.std.specs.Prelude.{option_map, IfOk}
 use Rattle.csv.specs.Machine.{Read, next_record, ends_at_end, is_end, step, fields_after, field_after}
-use Rattle.csv.specs.Reading.{NextIs, ReadRecord, ReadsNext, Ready, default_config, pending_of, reader_trim, records_from}
-use Rattle.csv.specs.{Reading.records_next, Reading.source_of, declared.parser.Config.Config, declared.parser.State.State}
+use Rattle.csv.specs.Reading.{NextIs, ReadRecord}
+use Rattle.csv.specs.Reading.{ReadsNext, Ready, default_config, pending_of, reader_trim, records_from, records_next, source_of}
+use Rattle.csv.specs.declared.{parser.Config.Config, parser.State.State, reader.Reader.Reader, error.Error.Error}
 use Rattle.csv.specs.declared.parser.State.TheVariants as st
-use Rattle.csv.specs.declared.reader.Reader.{Reader}
 use Rattle.csv.specs.declared.reader.Trim.TheVariants as trim
-use Rattle.csv.specs.declared.error.Error.{Error}
 use Rattle.feed_csv.specs.Records.{Finds, IsOver, IsPlain, Takes, rows_left}
 
 -- a record takes a byte at least, or it is the last of a text that is at its end

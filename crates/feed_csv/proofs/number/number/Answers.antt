@@ -1,8 +1,7 @@
 use Rattle.std.proofs.Common.{◌≡◌, ℕ, ◌+◌, ◌-◌, ◌*◌, ◌<◌, ◌≤◌, ◌^◌, length, List, take, get_or, true, arith, ap, ◌∙◌, sym, refl}
 use Rattle.std.proofs.{Common.length-take, lemmas.List.take_more, lemmas.List.Folds.list_all_more}
 use Rattle.std.specs.{Char.is_ascii_digit, List.list_all}
-use Rattle.feed_csv.specs.Number.{decimal_value}
-use Rattle.feed_csv.proofs.Decimal.{decimal_value-push, decimal_value-lt_19}
+use Rattle.feed_csv.{specs.Number.decimal_value, proofs.Decimal.decimal_value-push, proofs.Decimal.decimal_value-lt_19}
 use Rattle.feed_csv.proofs.number.number.Goals as goal
 
 -- there is room for one more digit

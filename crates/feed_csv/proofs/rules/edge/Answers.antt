@@ -1,6 +1,5 @@
 use Rattle.std.proofs.Common.{rules}
-use Rattle.feed_csv.specs.Commands.{edge_of}
-use Rattle.feed_csv.proofs.Giving.{refuses_same}
+use Rattle.feed_csv.{specs.Commands.edge_of, proofs.Giving.refuses_same}
 use Rattle.feed_csv.proofs.rules.edge.Goals as goal
 
 -- Its search is long where it fails.
