@@ -5,8 +5,9 @@ ghost use Rattle.std.specs.Prelude.{◌≡◌, IfOk};
 ghost use Rattle.graph_model.specs.Graph.{IsContent};
 ghost use Rattle.epoch_core.specs.Worlds.{empty_opening};
 
+use super::checks::{check_told, refused, same};
 use super::graph_stories::{KINDS, REFUSED_STORIES, STORIES, TOO_MANY_KINDS};
-use super::parts::{LineError, batch, check_told, refused, request};
+use super::parts::{LineError, batch, request};
 use super::texts::{push_item, push_names, push_reply, push_shown};
 use graph_model::{Batch, Content, List, Request};
 use reference_graph::{PlainError, plain_apply, plain_reply};
@@ -158,7 +159,7 @@ fn is_refused(
     match check_line(rt, alloc, content, line) {
         Ok(()) => Ok(false),
         Err(LineError::OutOfMemory) => {
-            assert_eq!(rt; sizes(content), before, "{line}");
+            same(rt, (line, sizes(content)), (line, before));
             Ok(true)
         }
         Err(error) => Err(error)?,

@@ -4,8 +4,9 @@
 
 ghost use Rattle.std.specs.Prelude.{◌≡◌, ◌≤◌, ◌<◌, length};
 
+use super::checks::check_told;
 use super::events::event;
-use super::parts::{LineError, check_told};
+use super::parts::LineError;
 use super::texts::{push_item, push_reply, push_shown};
 use epoch_core::{Core, PinCopy, Step};
 use std::alloc::{AllocError, Global};
