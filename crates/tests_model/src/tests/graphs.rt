@@ -28,15 +28,22 @@ pub(super) fn empty(alloc: Global) -> Content
     }
 }
 
-fn apply(alloc: Global, content: &mut Content, ops: &str) -> Result<(), LineError>
+fn apply_batch(alloc: Global, content: &mut Content, batch: &Batch) -> Result<(), LineError>
     requires { IsContent content.old }
     ensures { IsContent content.new }
 {
-    match plain_apply(alloc, content, &batch(alloc, ops)?) {
+    match plain_apply(alloc, content, batch) {
         Ok(_) => Ok(()),
         Err(PlainError::OutOfMemory) => Err(LineError::OutOfMemory),
         Err(_) => Err(LineError::Wrong),
     }
+}
+
+fn apply(alloc: Global, content: &mut Content, ops: &str) -> Result<(), LineError>
+    requires { IsContent content.old }
+    ensures { IsContent content.new }
+{
+    apply_batch(alloc, content, &batch(alloc, ops)?)
 }
 
 /// What these operations leave of nothing.
@@ -84,7 +91,21 @@ fn push_outcomes(
     }
 }
 
-// What is told of the operations, and then the content.
+// What is told of the batch, and then the content.
+fn push_both(
+    alloc: Global,
+    text: &mut String,
+    content: &mut Content,
+    batch: &Batch,
+) -> Result<(), LineError>
+    requires { IsContent content.old }
+    ensures { IsContent content.new }
+{
+    push_outcomes(alloc, text, content, batch)?;
+    Ok(push_content(text, content)?)
+}
+
+// What is told of these operations, and then the content.
 fn push_applied(
     alloc: Global,
     text: &mut String,
@@ -94,8 +115,7 @@ fn push_applied(
     requires { IsContent content.old }
     ensures { IsContent content.new }
 {
-    push_outcomes(alloc, text, content, &batch(alloc, ops)?)?;
-    Ok(push_content(text, content)?)
+    push_both(alloc, text, content, &batch(alloc, ops)?)
 }
 
 fn push_answer(

@@ -187,14 +187,20 @@ pub(super) fn push_op(alloc: Global, batch: &mut Batch, text: &str) -> Result<()
     Ok(())
 }
 
+fn next_command(feed: &mut Feed<&[u8]>) -> Result<Command, LineError>
+    ensures { IfOk result HasValidOp }
+{
+    match feed.next()? {
+        Some(command) => Ok(command),
+        None => Err(LineError::Wrong),
+    }
+}
+
 // The command of a record as a script has it. The feed stands alone in this function, since each way out of it lets it go.
 fn command(alloc: Global, record: &str) -> Result<Command, LineError>
     ensures { IfOk result HasValidOp }
 {
-    match Feed::over(alloc, record.as_bytes()).next()? {
-        Some(command) => Ok(command),
-        None => Err(LineError::Wrong),
-    }
+    next_command(&mut Feed::over(alloc, record.as_bytes()))
 }
 
 /// The operation of a record as a script has it, at the end of the batch: it was judged when it was read.

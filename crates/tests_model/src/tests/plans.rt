@@ -32,8 +32,8 @@ const PLANS: &str =
 // The other opening.
 fn opening(alloc: Global) -> Result<Opening, LineError> {
     Ok(Opening {
-        content: content_of(alloc, "i,m,x,y,1,1")?,
         blocks: numbers(alloc, "7")?,
+        content: content_of(alloc, "i,m,x,y,1,1")?,
     })
 }
 
