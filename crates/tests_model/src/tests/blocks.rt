@@ -2,7 +2,8 @@
 
 ghost use Rattle.std.specs.Prelude.{◌≡◌, IfOk, length};
 
-use super::parts::{LineError, check_told, edges, only_refused, push, refused};
+use super::checks::{check_told, only_refused, refused, same};
+use super::parts::{LineError, edges, push};
 use super::texts::push_shown;
 use epoch_blocks::{Status, Step, edges_at, fill_block, recycle_block, take_block};
 use graph_model::{Edge, KindId, List, VertexId};
@@ -109,7 +110,7 @@ const BACK: Edge = Edge {
 
 // What is in the two blocks, and in a third one that there isn't.
 fn check_edges(rt: &impl Abort, heap: &[List<Edge>], first: Edge) {
-    assert_eq!(rt; edges_at(heap, 0), [first].as_slice());
+    same(rt, edges_at(heap, 0), [first].as_slice());
     assert!(rt; edges_at(heap, 1).is_empty());
     assert!(rt; edges_at(heap, 2).is_empty());
 }
@@ -126,7 +127,7 @@ fn check_fill(
 {
     match fill_block(alloc, &FRESH_AND_FREE, heap, block, &[BACK]) {
         Ok(step) => {
-            assert_eq!(rt; step, wanted.0);
+            same(rt, step, wanted.0);
             check_edges(rt, heap.as_slice(), wanted.1);
             Ok(())
         }

@@ -5,8 +5,9 @@ ghost use Rattle.std.specs.Prelude.{◌≡◌, IfOk};
 ghost use Rattle.graph_model.specs.Graph.{IsContent};
 ghost use Rattle.epoch_core.specs.Worlds.{empty_opening};
 
+use super::checks::{check_told, refused, same};
 use super::graph_stories::{KINDS, REFUSED_STORIES, STORIES, TOO_MANY_KINDS};
-use super::parts::{LineError, batch, check_told, refused, request};
+use super::parts::{LineError, batch, request};
 use super::texts::{push_item, push_names, push_reply, push_shown};
 use graph_model::{Batch, Content, List, Request};
 use reference_graph::{PlainError, plain_apply, plain_reply};
@@ -27,15 +28,22 @@ pub(super) fn empty(alloc: Global) -> Content
     }
 }
 
-fn apply(alloc: Global, content: &mut Content, ops: &str) -> Result<(), LineError>
+fn apply_batch(alloc: Global, content: &mut Content, batch: &Batch) -> Result<(), LineError>
     requires { IsContent content.old }
     ensures { IsContent content.new }
 {
-    match plain_apply(alloc, content, &batch(alloc, ops)?) {
+    match plain_apply(alloc, content, batch) {
         Ok(_) => Ok(()),
         Err(PlainError::OutOfMemory) => Err(LineError::OutOfMemory),
         Err(_) => Err(LineError::Wrong),
     }
+}
+
+fn apply(alloc: Global, content: &mut Content, ops: &str) -> Result<(), LineError>
+    requires { IsContent content.old }
+    ensures { IsContent content.new }
+{
+    apply_batch(alloc, content, &batch(alloc, ops)?)
 }
 
 /// What these operations leave of nothing.
@@ -83,7 +91,21 @@ fn push_outcomes(
     }
 }
 
-// What is told of the operations, and then the content.
+// What is told of the batch, and then the content.
+fn push_both(
+    alloc: Global,
+    text: &mut String,
+    content: &mut Content,
+    batch: &Batch,
+) -> Result<(), LineError>
+    requires { IsContent content.old }
+    ensures { IsContent content.new }
+{
+    push_outcomes(alloc, text, content, batch)?;
+    Ok(push_content(text, content)?)
+}
+
+// What is told of these operations, and then the content.
 fn push_applied(
     alloc: Global,
     text: &mut String,
@@ -93,8 +115,7 @@ fn push_applied(
     requires { IsContent content.old }
     ensures { IsContent content.new }
 {
-    push_outcomes(alloc, text, content, &batch(alloc, ops)?)?;
-    Ok(push_content(text, content)?)
+    push_both(alloc, text, content, &batch(alloc, ops)?)
 }
 
 fn push_answer(
@@ -158,7 +179,7 @@ fn is_refused(
     match check_line(rt, alloc, content, line) {
         Ok(()) => Ok(false),
         Err(LineError::OutOfMemory) => {
-            assert_eq!(rt; sizes(content), before, "{line}");
+            same(rt, (line, sizes(content)), (line, before));
             Ok(true)
         }
         Err(error) => Err(error)?,

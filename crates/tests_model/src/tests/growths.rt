@@ -3,9 +3,10 @@
 
 ghost use Rattle.std.specs.Prelude.{◌≡◌, ◌<◌, length};
 
+use super::checks::{only_refused, refused, same};
 use super::events::events;
 use super::machines::step;
-use super::parts::{LineError, only_refused, refused};
+use super::parts::LineError;
 use epoch_core::{Core, Event, Step, run};
 use graph_model::Reply;
 use std::alloc::Global;
@@ -35,12 +36,12 @@ fn is_done(rt: &impl Abort, alloc: Global, core: &mut Core, line: &str) -> bool
     let before = shown(core);
     match step(alloc, core, line) {
         Ok(step) => {
-            assert_eq!(rt; step, Step::Done, "{line}");
+            same(rt, (line, step), (line, Step::Done));
             true
         }
         Err(error) => {
-            assert_eq!(rt; error, LineError::OutOfMemory, "{line}");
-            assert_eq!(rt; shown(core), before, "{line}");
+            same(rt, (line, error), (line, LineError::OutOfMemory));
+            same(rt, (line, shown(core)), (line, before));
             false
         }
     }
@@ -72,11 +73,11 @@ reply 0";
 fn check_answered(rt: &(impl Abort + Print), alloc: Global, core: &mut Core) -> Result<(), Fail>
     requires { 0 < length core.old.world.sessions }
 {
-    assert_eq!(rt; shown(core), (0, None, None, 0));
+    same(rt, shown(core), (0, None, None, 0));
     if !are_done(rt, alloc, core, ANSWERED) {
         return refused(rt);
     }
-    assert_eq!(rt; shown(core), (0, Some(1), Some(0), 1));
+    same(rt, shown(core), (0, Some(1), Some(0), 1));
     assert!(rt; matches!(core.replies(0), [Ok(Reply::OneEdge(Some((1, 1, 1))))]));
     Ok(())
 }
@@ -120,7 +121,7 @@ fn check_run(
 {
     match run(core, events) {
         Ok(done) => {
-            assert_eq!(rt; (done, shown(core)), wanted);
+            same(rt, (done, shown(core)), wanted);
             Ok(())
         }
         Err(_) => {

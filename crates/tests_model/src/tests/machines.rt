@@ -4,8 +4,9 @@
 
 ghost use Rattle.std.specs.Prelude.{◌≡◌, ◌≤◌, ◌<◌, length};
 
+use super::checks::check_told;
 use super::events::event;
-use super::parts::{LineError, check_told};
+use super::parts::LineError;
 use super::texts::{push_item, push_reply, push_shown};
 use epoch_core::{Core, PinCopy, Step};
 use std::alloc::{AllocError, Global};
@@ -75,15 +76,22 @@ fn push_look(text: &mut String, core: &Core, sessions: usize, place: &str) -> Re
     push_reply(text, reply)
 }
 
-// What an event comes to, and what is then seen of session 0.
+// What an event came to, and what is then seen of session 0.
+fn push_behind(text: &mut String, core: &Core, step: Step) -> Result<(), LineError>
+    requires { 0 < length core.now.world.sessions }
+{
+    push_shown(text, "", step)?;
+    text.push_str(": ")?;
+    Ok(push_seen(text, core, 0)?)
+}
+
+// Does an event, and tells what it came to.
 fn push_step(alloc: Global, text: &mut String, core: &mut Core, line: &str) -> Result<(), LineError>
     requires { 0 < length core.old.world.sessions }
     ensures { length core.new.world.sessions ≡ length core.old.world.sessions }
 {
     let step = step(alloc, core, line)?;
-    push_shown(text, "", step)?;
-    text.push_str(": ")?;
-    Ok(push_seen(text, core, 0)?)
+    push_behind(text, core, step)
 }
 
 // What a line comes to. The machine has so many sessions.

@@ -3,10 +3,10 @@
 ghost use Rattle.std.specs.Prelude.{◌≡◌, ◌<◌, ◌≤◌, IfOk, length};
 ghost use Rattle.graph_model.specs.Graph.{IsContent};
 
+use super::checks::{only_refused, refused, same};
 use super::graphs::content_of;
 use super::growths::shown;
 use super::machines::check_table;
-use super::parts::{only_refused, refused};
 use epoch_core::{Core, OutOfMemory};
 use graph_model::{Content, List};
 use std::alloc::Global;
@@ -71,7 +71,7 @@ fn check_refused(rt: &(impl Abort + Print), alloc: Global, content: &Content) ->
     requires { IsContent content.now }
 {
     match opened(alloc, content) {
-        Ok(core) => assert_eq!(rt; shown(&core), (0, None, None, 0)),
+        Ok(core) => same(rt, shown(&core), (0, None, None, 0)),
         Err(_) => return refused(rt),
     }
     Ok(())

@@ -1,13 +1,12 @@
 // Values from text: names, numbers, edges, operations, batches and requests.
 
-ghost use Rattle.std.specs.Prelude.{◌≡◌, ◌++◌, ◌∷◌, [], OnOk};
+ghost use Rattle.std.specs.Prelude.{◌≡◌, ◌++◌, ◌∷◌, [], IfOk, OnOk};
+ghost use Rattle.feed_csv.specs.Commands.{HasValidOp};
 
 use feed_csv::{Command, Feed, FeedFault, FeedWord};
 use graph_model::{Batch, Edge, KindId, List, Name, NamedOp, PushError, Request, VertexId};
 use std::alloc::{AllocError, Global};
 use std::num::ParseIntError;
-use std::process::Abort;
-use std::test::Fail;
 
 /// Why a text gives nothing.
 #[derive(Clone, Copy, Debug, PartialEq, Eq)]
@@ -49,26 +48,6 @@ impl From<FeedFault> for LineError {
     }
 }
 
-/// Tells `tools/refuse-each-growth` that a growth was refused, which the test accepted.
-pub(super) fn refused(rt: &impl Print) -> Result<(), Fail> {
-    println!(rt; "refused")?;
-    Ok(())
-}
-
-/// A text that gives nothing, since a growth was refused and for no other reason.
-pub(super) fn only_refused(rt: &impl Print, error: LineError) -> Result<(), Fail> {
-    match error {
-        LineError::OutOfMemory => refused(rt),
-        _ => Err(error)?,
-    }
-}
-
-/// What a line comes to is what is wanted of it, all of it or what stands before a colon and a blank.
-pub(super) fn check_told(rt: &impl Abort, line: &str, told: &str, wanted: &str) {
-    let (outcome, _) = told.split_once(": ").unwrap_or((told, ""));
-    assert!(rt; told == wanted || outcome == wanted, "{line}: {told}");
-}
-
 /// The name of this text, whether it is one by the rules or not.
 pub(super) fn name(alloc: Global, text: &str) -> Result<Name, AllocError> {
     Ok(Name::of(String::from_str(alloc, text)?))
@@ -91,17 +70,34 @@ pub(super) fn numbers(alloc: Global, text: &str) -> Result<List<usize>, LineErro
     Ok(List::of(numbers))
 }
 
+// An edge of this kind, source and target.
+fn edge_on(kind: &str, source: &str, target: &str) -> Result<Edge, LineError> {
+    Ok(Edge {
+        kind: KindId(kind.parse()?),
+        source: VertexId(source.parse()?),
+        target: VertexId(target.parse()?),
+        weight: 0,
+        first: 0,
+        recent: 0,
+    })
+}
+
+// The edge with this weight and these times.
+fn stamped(edge: Edge, weight: &str, first: &str, recent: &str) -> Result<Edge, LineError> {
+    Ok(Edge {
+        weight: weight.parse()?,
+        first: first.parse()?,
+        recent: recent.parse()?,
+        ..edge
+    })
+}
+
 // `kind,source,target,weight,first,recent`, by numbers.
 fn edge_of(fields: &[&str]) -> Result<Edge, LineError> {
     match *fields {
-        [kind, source, target, weight, first, recent] => Ok(Edge {
-            kind: KindId(kind.parse()?),
-            source: VertexId(source.parse()?),
-            target: VertexId(target.parse()?),
-            weight: weight.parse()?,
-            first: first.parse()?,
-            recent: recent.parse()?,
-        }),
+        [kind, source, target, weight, first, recent] => {
+            stamped(edge_on(kind, source, target)?, weight, first, recent)
+        }
         _ => Err(LineError::Wrong),
     }
 }
@@ -191,10 +187,26 @@ pub(super) fn push_op(alloc: Global, batch: &mut Batch, text: &str) -> Result<()
     Ok(())
 }
 
+fn next_command(feed: &mut Feed<&[u8]>) -> Result<Command, LineError>
+    ensures { IfOk result HasValidOp }
+{
+    match feed.next()? {
+        Some(command) => Ok(command),
+        None => Err(LineError::Wrong),
+    }
+}
+
+// The command of a record as a script has it. The feed stands alone in this function, since each way out of it lets it go.
+fn command(alloc: Global, record: &str) -> Result<Command, LineError>
+    ensures { IfOk result HasValidOp }
+{
+    next_command(&mut Feed::over(alloc, record.as_bytes()))
+}
+
 /// The operation of a record as a script has it, at the end of the batch: it was judged when it was read.
 pub(super) fn push_record(alloc: Global, batch: &mut Batch, record: &str) -> Result<(), LineError> {
-    match Feed::over(alloc, record.as_bytes()).next()? {
-        Some(Command::Op(op)) => {
+    match command(alloc, record)? {
+        Command::Op(op) => {
             batch.push_valid(op)?;
             Ok(())
         }
@@ -213,8 +225,8 @@ pub(super) fn batch(alloc: Global, text: &str) -> Result<Batch, LineError> {
 
 /// A request as a script has it; the slot is for nothing.
 pub(super) fn request(alloc: Global, record: &str) -> Result<Request, LineError> {
-    match Feed::over(alloc, record.as_bytes()).next()? {
-        Some(Command::Query(_, request)) => Ok(request),
+    match command(alloc, record)? {
+        Command::Query(_, request) => Ok(request),
         _ => Err(LineError::Wrong),
     }
 }

@@ -4,8 +4,9 @@ ghost use Rattle.std.specs.Prelude.{◌≡◌};
 ghost use Rattle.epoch_core.specs.Worlds.{empty_opening};
 
 use super::blocks::{FRESH_AND_FREE, two_blocks};
+use super::checks::{check_told, only_refused};
 use super::graphs::{content_of, empty};
-use super::parts::{LineError, batch, check_told, edges, numbers, only_refused};
+use super::parts::{LineError, batch, edges, numbers};
 use super::texts::{push_item, push_names, push_shown};
 use epoch_blocks::{Opening, Status, Version, blocks_at, content_with, plan_post};
 use graph_model::{Batch, Content, Edge, List};
@@ -31,8 +32,8 @@ const PLANS: &str =
 // The other opening.
 fn opening(alloc: Global) -> Result<Opening, LineError> {
     Ok(Opening {
-        content: content_of(alloc, "i,m,x,y,1,1")?,
         blocks: numbers(alloc, "7")?,
+        content: content_of(alloc, "i,m,x,y,1,1")?,
     })
 }
 

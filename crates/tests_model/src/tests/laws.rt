@@ -1,0 +1,21 @@
+// The laws of the model are there to be called.
+
+use graph_model::{
+    law_edge_order, law_expiry, law_first_time_stays, law_names_stay_names, law_one_answer,
+    law_one_table, law_some_answer, law_some_table, law_within_limits,
+};
+use reference_graph::law_names_before_kinds;
+
+#[test]
+fn laws_can_be_called() {
+    law_one_answer();
+    law_some_answer();
+    law_edge_order();
+    law_within_limits();
+    law_names_stay_names();
+    law_first_time_stays();
+    law_expiry();
+    law_one_table();
+    law_some_table();
+    law_names_before_kinds();
+}

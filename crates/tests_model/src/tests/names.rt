@@ -1,0 +1,45 @@
+// Tests of names.
+
+use super::checks::same;
+use super::parts::name;
+use graph_model::{is_kind_name, is_name};
+use std::process::Abort;
+use std::test::Fail;
+
+// Names that a kind may have, a line each. The last one has 64 bytes.
+const NAMES: &str = "ann
+!
+~
+**
+knows
+a,b\"c
+0123456789012345678901234567890123456789012345678901234567890123";
+
+// What is no name, a line each. The first one has 65 bytes, and the second one none.
+const NO_NAMES: &str = "01234567890123456789012345678901234567890123456789012345678901234
+
+two words
+tab\t
+\u{7f}
+\u{e9}";
+
+/// Whether each line is a name, and whether it is that of a kind.
+fn check_texts(rt: &impl Abort, lines: &str, are_names: bool, are_kinds: bool) {
+    for text in lines.lines() {
+        let told = (is_name(text), is_kind_name(text));
+        same(rt, (text, told), (text, (are_names, are_kinds)));
+    }
+}
+
+#[test]
+fn names_are_short_printable_texts(rt: HostRuntime) {
+    check_texts(&rt, NAMES, true, true);
+    check_texts(&rt, "*", true, false);
+    check_texts(&rt, NO_NAMES, false, false);
+}
+
+#[test]
+fn a_name_gives_back_its_text(rt: HostRuntime) -> Result<(), Fail> {
+    same(&rt, name(rt.alloc(), "ann")?.into_string().as_str(), "ann");
+    Ok(())
+}
