@@ -1,5 +1,5 @@
-//! Tests of the store that threads share, and of the program, by their public calls: of `stream_store` and `store_drive` in `store`,
-//! of `feed_csv`, `script_lines`, `stinger_server`, `stinger_cli` and `progress_reader` in `server`. They stand in one crate above
+//! Tests of the store that threads share, and of the program, by their public calls: of `stream_store` in `store`, of `feed_csv`,
+//! `script_lines`, `stinger_server`, `stinger_cli` with its drives, and `progress_reader` in `server`. They stand in one crate above
 //! all these. A crate with tests of its own is proved once more for them, and each crate up here first loads what all below state.
 #![tactic(auto)]
 

@@ -9,6 +9,7 @@ mod lines;
 mod progress;
 mod scripts;
 
+use crate::shared::{check_so, check_text};
 use std::io;
 use std::io::{ErrorKind, Read, Write};
 use std::process::Abort;
@@ -165,11 +166,7 @@ fn ran_on(
 fn check_ran(rt: &impl Abort, ran: &Ran, (status, text, complaint): (u8, &str, &str)) {
     check_text(rt, ran.output.text(), text);
     check_text(rt, ran.faults.text(), complaint);
-    assert!(rt; ran.status == status, "{text}{complaint}");
-}
-
-fn check_text(rt: &impl Abort, text: &str, wanted: &str) {
-    assert_eq!(rt; text, wanted);
+    check_so(rt, ran.status == status, "the status");
 }
 
 // A writer holds no more bytes than these.
@@ -320,22 +317,36 @@ fn is_cut_of(text: &str, ends: &[usize], output: &str, given: usize, word: &str)
     }
 }
 
-const NUMBERS: [&str; 11] = ["1", "2", "3", "4", "5", "6", "7", "8", "9", "10", "11"];
+// How the error line of each of the first records begins.
+const ERRORS: [&str; 11] = [
+    "error 1 ",
+    "error 2 ",
+    "error 3 ",
+    "error 4 ",
+    "error 5 ",
+    "error 6 ",
+    "error 7 ",
+    "error 8 ",
+    "error 9 ",
+    "error 10 ",
+    "error 11 ",
+];
 
-// What stands behind the number in the error line of the record behind so many, fewer than eleven.
-fn behind_number(line: &[u8], given: usize) -> Option<&[u8]> {
-    let number = NUMBERS.get(given)?;
-    line.strip_prefix(b"error ".as_slice())?
-        .strip_prefix(number.as_bytes())
+// Whether this is the word and the end of a line.
+fn is_word(told: &[u8], word: &str) -> bool {
+    match told.strip_prefix(word.as_bytes()) {
+        Some(end) => end == b"\n".as_slice(),
+        None => false,
+    }
 }
 
-// Whether this is the error line of that record with the word.
+// Whether this is the error line with the word of the record behind so many, fewer than eleven.
 fn is_error(line: &[u8], given: usize, word: &str) -> bool {
-    let Some(rest) = behind_number(line, given) else {
+    let Some(begin) = ERRORS.get(given) else {
         return false;
     };
-    let Some(told) = rest.strip_prefix(b" ".as_slice()) else {
-        return false;
-    };
-    told.strip_prefix(word.as_bytes()) == Some(b"\n".as_slice())
+    match line.strip_prefix(begin.as_bytes()) {
+        Some(told) => is_word(told, word),
+        None => false,
+    }
 }

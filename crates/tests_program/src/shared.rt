@@ -1,7 +1,8 @@
-// What both trees say: operations as plain values, and that a growth was refused.
+// What both trees say: operations as plain values, what is to be so, and that a growth was refused.
 
 use graph_model::{Name, NamedOp};
 use std::io::Print;
+use std::process::Abort;
 
 /// An operation of kind `k`: `i` inserts, `a` adds to the weight, `r` removes, `x` expires; its source and target, its weight or
 /// amount, its time.
@@ -45,6 +46,21 @@ pub(crate) fn is_edge(kind: &Name, source: &Name, target: &Name, from: &str, to:
 /// Equality of texts is dear to prove, so it stands in one function.
 pub(crate) fn is_named(name: &Name, text: &str) -> bool {
     name.as_str() == text
+}
+
+/// What a text says is so. An assertion that prints something is dear to prove, so each kind of them stands in one function.
+pub(crate) fn check_so(rt: &impl Abort, is_so: bool, what: &str) {
+    assert!(rt; is_so, "{what}");
+}
+
+/// What is so at each number is so at this one.
+pub(crate) fn check_at(rt: &impl Abort, is_so: bool, number: u64) {
+    assert!(rt; is_so, "{number}");
+}
+
+/// A text is the wanted one.
+pub(crate) fn check_text(rt: &impl Abort, text: &str, wanted: &str) {
+    assert_eq!(rt; text, wanted);
 }
 
 /// Tells `tools/refuse-each-growth` that a growth was refused, which the test accepted.

@@ -4,7 +4,6 @@
 mod answers;
 mod batches;
 mod desks;
-mod drives;
 mod gates;
 mod handed;
 mod learnt;

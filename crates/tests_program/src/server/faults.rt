@@ -2,8 +2,9 @@
 
 use super::{
     FIRST, FIRST_ENDS, FIRST_TEXT, FakeReader, FakeWriter, HELD, HELD_ENDS, HELD_TEXT, REFUSED,
-    REFUSED_TEXT, check_text, count_of, is_cut_of, served,
+    REFUSED_TEXT, count_of, is_cut_of, served,
 };
+use crate::shared::{check_at, check_so, check_text};
 use std::io::ErrorKind;
 use std::process::Abort;
 use std::sync::Wait;
@@ -18,7 +19,8 @@ fn runs_so(
     answer: Result<Summary, ServeFault>,
     text: &str,
 ) {
-    assert_eq!(rt; served(rt, script, writer), answer);
+    let told = served(rt, script, writer);
+    check_so(rt, told == answer, writer.text());
     check_text(rt, writer.text(), text);
 }
 
@@ -45,7 +47,7 @@ fn fills_each_writer(
         let mut writer = FakeWriter::new(room);
         writer.fails = fails;
         let answer = served(rt, FakeReader::whole(script), &mut writer);
-        assert!(rt; is_filled(answer, &writer, room, text), "{room}");
+        check_at(rt, is_filled(answer, &writer, room, text), room as u64);
     }
 }
 
@@ -128,10 +130,8 @@ fn tells_the_record(
     let (read, _) = script.as_bytes().split_at(reads.min(script.len()));
     let given = count_of(read, b'\n');
     let is_so = answer == Err(ServeFault::Read) && writer.flushed;
-    assert!(rt;
-        is_so && is_cut_of(text, ends, writer.text(), given, "Read"),
-        "{reads}"
-    );
+    let is_cut = is_cut_of(text, ends, writer.text(), given, "Read");
+    check_at(rt, is_so && is_cut, reads as u64);
 }
 
 // So at each of the script's reads.
@@ -156,10 +156,8 @@ fn tells_the_record_that_a_reader_failed_at(rt: HostRuntime) {
 fn writes_both(rt: &impl Abort, room: usize, written: Result<(), Unwritten>, held: &str) {
     let mut writer = FakeWriter::new(room);
     let answer = write_text(&mut writer, "ann ", "bob\n");
-    assert!(rt;
-        answer == written && writer.flushed == written.is_ok(),
-        "{room}"
-    );
+    let is_so = answer == written && writer.flushed == written.is_ok();
+    check_at(rt, is_so, room as u64);
     check_text(rt, writer.text(), held);
 }
 

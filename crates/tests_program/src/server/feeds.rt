@@ -1,11 +1,10 @@
 // What a feed's calls give that no script of the program shows: readers that fail or pause, refused growths, a fault's text.
 
-use super::{FakeReader, check_text, count_of};
-use crate::shared::{Op, is_edge, is_named, is_op, tell_refused};
+use super::{FakeReader, count_of};
+use crate::shared::{Op, check_at, check_text, is_edge, is_named, is_op, tell_refused};
 use feed_csv::{Command, Feed, FeedFault, FeedWord};
 use graph_model::{NamedFilter, NamedOp, Request};
-use std::io;
-use std::io::{ErrorKind, Read};
+use std::io::ErrorKind;
 use std::process::Abort;
 use std::test::Fail;
 
@@ -93,14 +92,14 @@ fn is_end(outcome: &Result<Option<Command>, FeedFault>, at: u64, word: Option<Fe
     }
 }
 
-fn tells_end(feed: &mut Feed<impl Read>, at: u64, word: Option<FeedWord>) -> bool {
+fn tells_end(feed: &mut Feed<FakeReader<'_>>, at: u64, word: Option<FeedWord>) -> bool {
     is_end(&feed.next(), at, word)
 }
 
 // Now and later a call tells this.
-fn check_end(rt: &impl Abort, feed: &mut Feed<impl Read>, at: u64, word: Option<FeedWord>) {
+fn check_end(rt: &impl Abort, feed: &mut Feed<FakeReader<'_>>, at: u64, word: Option<FeedWord>) {
     for _ in 0..3 {
-        assert!(rt; tells_end(feed, at, word), "record {at}");
+        check_at(rt, tells_end(feed, at, word), at);
     }
 }
 
@@ -113,9 +112,9 @@ fn told_at(call: u64, outcome: &Result<Option<Command>, FeedFault>) -> (bool, bo
 }
 
 // Whether the call of this number was refused a growth; if not, it gave what `SCRIPT` says.
-fn is_refused_at(rt: &impl Abort, feed: &mut Feed<impl Read>, call: u64) -> bool {
+fn is_refused_at(rt: &impl Abort, feed: &mut Feed<FakeReader<'_>>, call: u64) -> bool {
     let (is_refused, is_given) = told_at(call, &feed.next());
-    assert!(rt; is_refused || is_given, "call {call}");
+    check_at(rt, is_refused || is_given, call);
     is_refused
 }
 
@@ -123,7 +122,7 @@ fn is_refused_at(rt: &impl Abort, feed: &mut Feed<impl Read>, call: u64) -> bool
 // tell the word at the next record, or the end.
 fn meets_refusal(
     rt: &impl Abort,
-    feed: &mut Feed<impl Read>,
+    feed: &mut Feed<FakeReader<'_>>,
     calls: u64,
     word: Option<FeedWord>,
 ) -> bool {
@@ -140,7 +139,7 @@ fn meets_refusal(
 // The same over this reader.
 fn is_refused(
     rt: &(impl Abort + AllocGlobal),
-    reader: impl Read + Drop,
+    reader: FakeReader<'_>,
     calls: u64,
     word: Option<FeedWord>,
 ) -> bool {
@@ -150,12 +149,12 @@ fn is_refused(
 
 #[test]
 fn gives_each_command(rt: HostRuntime) {
-    assert!(rt; !is_refused(&rt, SCRIPT.as_bytes(), 14, None));
+    assert!(rt; !is_refused(&rt, FakeReader::whole(SCRIPT), 14, None));
 }
 
 #[test]
 fn refused_next(rt: HostRuntime) {
-    if is_refused(&rt, SCRIPT.as_bytes(), 15, None) {
+    if is_refused(&rt, FakeReader::whole(SCRIPT), 15, None) {
         tell_refused(&rt);
     }
 }
@@ -167,10 +166,8 @@ fn check_failures(rt: &(impl Abort + AllocGlobal), script: &[u8], kind: ErrorKin
         let (read, _) = script.split_at(reads);
         let records = count_of(read, b'\n') as u64;
         let reader = FakeReader::torn(script, reads, Some(kind));
-        assert!(rt;
-            !is_refused(rt, reader, records, Some(FeedWord::Read)),
-            "read {reads}"
-        );
+        let is_refused = is_refused(rt, reader, records, Some(FeedWord::Read));
+        check_at(rt, !is_refused, reads as u64);
     }
 }
 
@@ -192,39 +189,6 @@ fn stops_where_a_read_fails(rt: HostRuntime) {
 fn ends_for_good(rt: HostRuntime) {
     let reader = FakeReader::torn(SCRIPT.as_bytes(), 12, None);
     assert!(rt; !is_refused(&rt, reader, 1, None));
-}
-
-// `SCRIPT`, and behind it records `stat`, of which a reader gives so many bytes.
-#[derive(Drop)]
-struct Stats {
-    script: &'static [u8],
-    left: usize,
-}
-
-const STATS: &[u8] = b"stat\nstat\nstat\nstat\nstat\nstat\nstat\nstat\nstat\nstat\n";
-
-impl Read for Stats {
-    fn read(&mut self, buf: &mut [u8]) -> io::Result<usize> {
-        if !self.script.is_empty() {
-            return self.script.read(buf);
-        }
-        let begun = (5 - self.left % 5) % 5;
-        let rest = &STATS[begun..];
-        let n = buf.len().min(rest.len()).min(self.left);
-        buf[..n].copy_from_slice(&rest[..n]);
-        self.left -= n;
-        Ok(n)
-    }
-}
-
-// A million records are given, of which 14 are `SCRIPT`, and the reader's next one isn't.
-#[test]
-fn gives_a_million_records(rt: HostRuntime) {
-    let reader = Stats {
-        script: SCRIPT.as_bytes(),
-        left: 5 * (1_000_001 - 14),
-    };
-    assert!(rt; !is_refused(&rt, reader, 1_000_000, Some(FeedWord::Read)));
 }
 
 #[test]

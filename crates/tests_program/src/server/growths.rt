@@ -2,10 +2,10 @@
 
 use super::arguments::{HELP, UNKNOWN};
 use super::{
-    FIRST, FIRST_ENDS, FIRST_TEXT, FakeReader, FakeWriter, ROOMY, TABLES, TABLES_ENDS, TABLES_TEXT,
-    check_ran, check_text, is_cut_of, ran_at, served,
+    FIRST, FIRST_ENDS, FIRST_TEXT, FakeReader, FakeWriter, ROOMY, Ran, TABLES, TABLES_ENDS,
+    TABLES_TEXT, check_ran, is_cut_of, ran_at, served,
 };
-use crate::shared::tell_refused;
+use crate::shared::{check_so, check_text, tell_refused};
 use std::io::Print;
 use std::process::Abort;
 use std::sync::Wait;
@@ -44,7 +44,8 @@ fn runs_or_is_cut(
     match served(rt, FakeReader::whole(script), &mut writer) {
         Ok(_) => check_text(rt, writer.text(), text),
         Err(fault) => {
-            assert!(rt; is_cut(text, ends, rebase, writer.text(), fault), "{fault}");
+            let is_so = is_cut(text, ends, rebase, writer.text(), fault);
+            check_so(rt, is_so, writer.text());
             tell_refused(rt);
         }
     }
@@ -142,7 +143,7 @@ fn tells_or_is_refused(
         tell_refused(rt);
     } else {
         let is_so = begins(ran.output.text(), text) && begins(ran.faults.text(), complaint);
-        assert!(rt; ran.status == status && is_so, "{argument}");
+        check_so(rt, ran.status == status && is_so, argument);
     }
 }
 
@@ -163,16 +164,22 @@ fn is_drive_told(output: &str) -> bool {
 }
 
 // A reader compares five answers in each of its 16 rounds, so 80.
+const DRIVEN: &str = "drive readers=1 batches=64 checked=80 wrong=0 last=64\n";
+
+// A drive of one reader prints its line; or a growth was refused, and it prints the word for it.
+fn check_drive(rt: &(impl Abort + Print), ran: &Ran) {
+    if ran.status == 0 {
+        return check_ran(rt, ran, (0, DRIVEN, ""));
+    }
+    let is_so = ran.status == 1 && is_drive_told(ran.output.text());
+    check_so(rt, is_so, ran.output.text());
+    check_text(rt, ran.faults.text(), "");
+    tell_refused(rt);
+}
+
 #[test]
 fn refused_growth_gives_a_drive_its_word(rt: HostRuntime) {
     let arguments = ["drive", "--readers", "1"];
     let ran = ran_at(&rt, &arguments, FakeReader::whole(""), ROOMY);
-    if ran.status == 0 {
-        let line = "drive readers=1 batches=64 checked=80 wrong=0 last=64\n";
-        check_ran(&rt, &ran, (0, line, ""));
-    } else {
-        assert!(rt; ran.status == 1 && is_drive_told(ran.output.text()));
-        check_text(&rt, ran.faults.text(), "");
-        tell_refused(&rt);
-    }
+    check_drive(&rt, &ran);
 }

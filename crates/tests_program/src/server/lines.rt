@@ -1,7 +1,6 @@
 // The lines of records by themselves: a call of each kind, and growths that are refused.
 
-use super::check_text;
-use crate::shared::tell_refused;
+use crate::shared::{check_so, check_text, tell_refused};
 use feed_csv::FeedWord;
 use graph_model::{List, Outcome, VertexId, is_name};
 use script_lines::{
@@ -13,29 +12,16 @@ use stream_store::{Collected, Stat};
 use version_answers::NumberedReply;
 use vertex_names::NameBook;
 
-const WORDS: [(FeedWord, &str); 8] = [
-    (FeedWord::Read, "Read"),
-    (FeedWord::BadCommand, "BadCommand"),
-    (FeedWord::BadFields, "BadFields"),
-    (FeedWord::BadName, "BadName"),
-    (FeedWord::BadWeight, "BadWeight"),
-    (FeedWord::BadTime, "BadTime"),
-    (FeedWord::BadSlot, "BadSlot"),
-    (FeedWord::Memory, "Memory"),
-];
-
+// The scripts in `examples/` show the words of all other refusals.
 #[test]
-fn words_have_their_texts(rt: HostRuntime) {
-    for (word, text) in WORDS {
-        check_text(&rt, word.word(), text);
-        check_text(&rt, Word::Feed(word).text(), text);
-    }
-    check_text(&rt, Word::NotOpen.text(), "NotOpen");
+fn words_of_refused_growths_have_their_texts(rt: HostRuntime) {
+    check_text(&rt, FeedWord::Memory.word(), "Memory");
+    check_text(&rt, Word::Feed(FeedWord::Memory).text(), "Memory");
     check_text(&rt, Word::Start.text(), "Start");
 }
 
-// A line of each kind that is no answer, one behind another.
-const EACH_LINE: &str = "commit v=65536 ins=1 upd=2 rem=1 abs=3 ovf=1\n\
+// A line that stood, and behind it one of each kind that is no answer.
+const EACH_LINE: &str = "close 3\ncommit v=65536 ins=1 upd=2 rem=1 abs=3 ovf=1\n\
      commit v=7 ins=1 upd=0 rem=0 abs=0 ovf=0 exp=42\ncommit v=8 ins=0 upd=0 rem=0 abs=0 ovf=0 exp=0\n\
      open 15 v=12\nclose 15\n\
      collect floor=3 recycled=40 retired=500\n\
@@ -58,7 +44,7 @@ fn append_expiries(lines: &mut String) -> Result<(), AllocError> {
     commit_line(lines, 8, &outcomes[2..3])
 }
 
-// Appends these lines.
+// Appends the lines behind the first.
 fn append_each(lines: &mut String) -> Result<(), AllocError> {
     let outcomes = [
         Outcome::Overflow,
@@ -92,7 +78,7 @@ fn append_each(lines: &mut String) -> Result<(), AllocError> {
     rebase_line(lines, stat)
 }
 
-// Whether lines were appended whole to one that stood; where a growth was refused, that one is still the first.
+// Whether lines were appended, which then are the text; where a growth was refused, those that stood before are still the first.
 fn is_whole(
     rt: &impl Abort,
     appended: Result<(), AllocError>,
@@ -100,15 +86,13 @@ fn is_whole(
     before: &str,
     text: &str,
 ) -> bool {
-    match appended {
-        Ok(()) => check_text(
-            rt,
-            lines.strip_prefix(before).unwrap_or("other lines"),
-            text,
-        ),
-        Err(_) => assert!(rt; lines.starts_with(before)),
+    let is_appended = appended.is_ok();
+    if is_appended {
+        check_text(rt, lines, text);
+    } else {
+        check_so(rt, lines.starts_with(before), lines);
     }
-    appended.is_ok()
+    is_appended
 }
 
 // Whether a line for each record was appended behind one that stood; else a growth was refused.

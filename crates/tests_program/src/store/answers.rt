@@ -5,7 +5,6 @@ use super::texts::{push_item, push_numbers, split_word};
 use graph_model::{AskError, Degree, Name, NamedFilter, Reply, Request};
 use std::alloc::{AllocError, Global};
 use stream_store::Session;
-use version_answers::NumberedReply;
 
 /// Weight, first and recent time of the edge from `a` to `b`, where it is there.
 pub(super) type Edge = Option<(i64, u64, u64)>;
@@ -108,26 +107,6 @@ pub(super) fn push_answer(
     match request_of(alloc, words) {
         Ok(request) => push_replied(text, session.ask(&request)),
         Err(error) => Err(error),
-    }
-}
-
-fn push_cores(text: &mut String, reply: &NumberedReply) -> Result<(), AllocError> {
-    match reply {
-        NumberedReply::Cores(numbers) => {
-            for number in numbers.as_slice() {
-                push_item(text, *number, ",")?;
-            }
-            Ok(())
-        }
-        _ => text.push_str("no core numbers"),
-    }
-}
-
-/// The core number of each vertex, in the order of their numbers, or the refusal.
-pub(super) fn push_numbered(text: &mut String, session: &Session) -> Result<(), AllocError> {
-    match session.ask_in_numbers(&Request::Cores { filter: any() }) {
-        Ok(reply) => push_cores(text, &reply),
-        Err(error) => push_item(text, error, ""),
     }
 }
 

@@ -1,6 +1,6 @@
 // Batches of operations, all of them of kind `k`.
 
-use super::texts::{push_numbers, split_word};
+use super::texts::{push_numbers, split_at, split_word};
 use crate::shared::Op;
 use graph_model::{Batch, Name, NamedOp};
 use std::alloc::{AllocError, Global};
@@ -41,7 +41,7 @@ const SIZES: &str = "\
 /// What a table of lines has behind the name.
 fn found_in(table: &'static str, name: &str) -> Option<&'static str> {
     for line in table.lines() {
-        let (found, text) = line.split_once(": ")?;
+        let (found, text) = split_at(line, ": ");
         if found == name {
             return Some(text);
         }

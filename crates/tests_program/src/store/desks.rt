@@ -102,16 +102,14 @@ pinned 1 => none
 close => 1
 
 1 16 a session answers of its version
-# The edge goes while the session holds version 1. In numbers it answers with core numbers.
+# The edge goes while the session holds version 1.
 apply to b => 1 i
 seat 0 => holds 1
 apply on => 2 ri
 ask 0 edge => 1 1 1
-numbered 0 => 1,1,
 seat 0 => free
 seat 0 => holds 2
 ask 0 edge => none
-numbered 0 => 0,1,1,
 close => 2";
 
 #[test]

@@ -132,7 +132,9 @@ fn check_entered<J: Naming, R: Threads + Wait + Sync + Abort + Print>(
 {
     let store = Store::<J>::over(desk, board);
     let wanted = learnt_of(rt, alloc, &store, &mut seat);
-    assert_eq!(rt; number_entered(rt, &store, seat), wanted);
+    let entered = number_entered(rt, &store, seat);
+    let _last = store.close(rt);
+    assert!(rt; entered == wanted);
 }
 
 fn over_a_new_store<R: Threads + Wait + Sync + Abort + Print>(rt: &R, alloc: Global) {

@@ -1,6 +1,6 @@
 // Where seats are, how they move on, and what is seen from them.
 
-use super::answers::{push_answer, push_numbered};
+use super::answers::push_answer;
 use super::texts::{push_item, split_word};
 use super::told::{push_opening, push_stat, push_version};
 use graph_version::Version;
@@ -114,7 +114,6 @@ fn push_asked<R: Wait>(
 ) -> Result<(), AllocError> {
     match words.0 {
         "ask" => push_answer(text, alloc, session, words.1),
-        "numbered" => push_numbered(text, session),
         "opening" => push_opening(text, session.version()),
         "open" => push_opened(rt, text, alloc, session.version(), words.1),
         _ => push_version(text, session.version()),

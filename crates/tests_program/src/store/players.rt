@@ -4,8 +4,8 @@ ghost use Rattle.std.specs.Prelude.{◌≡◌};
 
 use super::places::Place;
 use super::stages::{End, Front, Stage};
-use super::texts::split_word;
-use crate::shared::tell_refused;
+use super::texts::{split_at, split_word};
+use crate::shared::{check_so, tell_refused};
 use seat_board::Board;
 use std::alloc::{AllocError, Global};
 use std::io::Print;
@@ -31,24 +31,24 @@ pub(super) struct Play<'a> {
 }
 
 /// A play's text is a line of its workers, blocks and name; lines at the desk; where it is shared, `share` and the lines then; and
-/// `close => NUMBER` with the lines behind the end.
-pub(super) fn play_of(text: &str, may_refuse: bool) -> Option<Play<'_>> {
-    let (head, lines) = text.split_once('\n')?;
-    let (workers, head) = head.split_once(' ')?;
-    let (blocks, name) = head.split_once(' ')?;
-    let (before, last) = lines.split_once("close => ")?;
-    let (last, ended) = last.split_once('\n').unwrap_or((last, ""));
-    let (at_desk, shared) = before.split_once("share\n").unwrap_or((before, ""));
-    Some(Play {
+/// `close => NUMBER` with the lines behind the end. A number that can't be read is one that no store opens with, or ends at.
+pub(super) fn play_of(text: &str, may_refuse: bool) -> Play<'_> {
+    let (head, lines) = split_at(text, "\n");
+    let (workers, head) = split_word(head);
+    let (blocks, name) = split_word(head);
+    let (before, last) = split_at(lines, "close => ");
+    let (last, ended) = split_at(last, "\n");
+    let (at_desk, shared) = split_at(before, "share\n");
+    Play {
         name,
-        workers: workers.parse().ok()?,
-        blocks: blocks.parse().ok()?,
+        workers: workers.parse().unwrap_or(0),
+        blocks: blocks.parse().unwrap_or(0),
         at_desk,
         shared,
-        last: last.parse().ok()?,
+        last: last.parse().unwrap_or(u64::MAX),
         ended,
         may_refuse,
-    })
+    }
 }
 
 /// A text has room for what a line tells, so that no line is done whose telling is refused.
@@ -70,13 +70,18 @@ fn told_of<S: Stage, R: Threads + Wait + Sync>(
     }
 }
 
+/// What a line or a play of this text tells is the wanted text.
+fn check_told(rt: &impl Abort, told: &str, wanted: &str, text: &str) {
+    assert_eq!(rt; told, wanted, "{text}");
+}
+
 /// Whether there was memory for what is told. Where there was, it is what is wanted.
 fn is_wanted<R: Abort>(rt: &R, told: &str, wanted: &str, name: &str) -> bool {
-    if told == "out of memory" {
-        return false;
+    let is_told = told != "out of memory";
+    if is_told {
+        check_told(rt, told, wanted, name);
     }
-    assert_eq!(rt; told, wanted, "{name}");
-    true
+    is_told
 }
 
 /// Plays a line; whether there was memory for it.
@@ -122,8 +127,26 @@ fn check_kept<S: Stage, R: Threads + Wait + Sync + Abort + Print>(
         return;
     }
     tell_refused(rt);
-    assert_eq!(rt; kept(rt, alloc, stage, places).as_str(), before, "{line}");
+    check_told(rt, kept(rt, alloc, stage, places).as_str(), before, line);
     assert!(rt; is_played(rt, alloc, stage, places, line, line));
+}
+
+/// Plays a line, which may be refused where the play accepts that.
+fn check_line<S: Stage, R: Threads + Wait + Sync + Abort + Print>(
+    rt: &R,
+    alloc: Global,
+    stage: &mut S,
+    places: &mut Vec<Place>,
+    line: &str,
+    play: &Play,
+) {
+    if play.may_refuse {
+        let before = kept(rt, alloc, stage, places);
+        check_kept(rt, alloc, stage, places, line, before.as_str());
+    } else {
+        let is_played = is_played(rt, alloc, stage, places, line, play.name);
+        check_so(rt, is_played, line);
+    }
 }
 
 /// Plays lines; one that begins with `#` says why.
@@ -136,19 +159,16 @@ fn check_lines<S: Stage, R: Threads + Wait + Sync + Abort + Print>(
     play: &Play,
 ) {
     for line in lines.lines() {
-        if line.starts_with('#') {
-            continue;
-        }
-        if play.may_refuse {
-            let before = kept(rt, alloc, stage, places);
-            check_kept(rt, alloc, stage, places, line, before.as_str());
-        } else {
-            assert!(rt;
-                is_played(rt, alloc, stage, places, line, play.name),
-                "{line}"
-            );
+        if !line.starts_with('#') {
+            check_line(rt, alloc, stage, places, line, play);
         }
     }
+}
+
+/// Ends a store, at its last number.
+fn check_closed<J: Naming, R: Wait + Abort>(rt: &R, store: Store<J>, play: &Play) {
+    let number = store.close(rt).number();
+    check_so(rt, number == play.last, play.name);
 }
 
 /// Plays over the store of a desk and a board, to its end.
@@ -165,7 +185,7 @@ fn check_shared<J: Naming, R: Threads + Wait + Sync + Abort + Print>(
 {
     let mut store = Store::<J>::over(desk, board);
     check_lines(rt, alloc, &mut store, places, play.shared, play);
-    assert_eq!(rt; store.close(rt).number(), play.last, "{}", play.name);
+    check_closed(rt, store, play);
     check_lines(rt, alloc, &mut End, places, play.ended, play);
 }
 
@@ -194,12 +214,12 @@ fn places_of(alloc: Global, seats: Vec<Seat>) -> Result<Vec<Place>, AllocError> 
 pub(super) fn check_parts<R: Threads + Wait + Sync + Abort + Print>(
     rt: &R,
     alloc: Global,
-    parts: (Desk, Board, Vec<Seat>),
+    front: Front,
+    seats: Vec<Seat>,
     play: &Play,
 ) {
-    let (desk, board, seats) = parts;
     match places_of(alloc, seats) {
-        Ok(mut places) => check_over(rt, alloc, Front { desk, board }, &mut places, play),
+        Ok(mut places) => check_over(rt, alloc, front, &mut places, play),
         Err(AllocError) => {
             assert!(rt; play.may_refuse);
             tell_refused(rt);
@@ -207,22 +227,31 @@ pub(super) fn check_parts<R: Threads + Wait + Sync + Abort + Print>(
     }
 }
 
-/// The parts of a new store. Where its opening is refused, nothing was opened, and the next one opens.
-fn opened<R: Wait + Abort + Print>(rt: &R, alloc: Global, play: &Play) -> (Desk, Board, Vec<Seat>) {
-    let config = Config::new(play.workers, play.blocks, 4).expect(rt, "within the limits");
+/// Plays over a new store, which opens, since the opening before it was refused, and one growth alone is.
+fn check_again<R: Threads + Wait + Sync + Abort + Print>(
+    rt: &R,
+    alloc: Global,
+    config: Config,
+    play: &Play,
+) {
     match open_parts(rt, alloc, config) {
-        Ok(parts) => parts,
-        Err(error) => {
-            assert!(rt; play.may_refuse && error == OpenError::OutOfMemory);
-            tell_refused(rt);
-            open_parts(rt, alloc, config).expect(rt, "one growth alone is refused")
-        }
+        Ok((desk, board, seats)) => check_parts(rt, alloc, Front { desk, board }, seats, play),
+        Err(_) => check_so(rt, false, "one growth alone is refused"),
     }
 }
 
-/// Plays over a new store.
+/// Plays over a new store. Where its opening is refused, nothing was opened, and the next one opens.
 fn check_play<R: Threads + Wait + Sync + Abort + Print>(rt: &R, alloc: Global, play: &Play) {
-    check_parts(rt, alloc, opened(rt, alloc, play), play);
+    let config = Config::new(play.workers, play.blocks, 4).expect(rt, "within the limits");
+    match open_parts(rt, alloc, config) {
+        Ok((desk, board, seats)) => check_parts(rt, alloc, Front { desk, board }, seats, play),
+        Err(error) => {
+            let is_so = play.may_refuse && error == OpenError::OutOfMemory;
+            check_so(rt, is_so, play.name);
+            tell_refused(rt);
+            check_again(rt, alloc, config, play);
+        }
+    }
 }
 
 /// Plays one play after another, which stand between empty lines.
@@ -233,7 +262,6 @@ pub(super) fn check_plays<R: Threads + Wait + Sync + Abort + Print>(
     may_refuse: bool,
 ) {
     for text in plays.split("\n\n") {
-        let play = play_of(text, may_refuse).expect(rt, text);
-        check_play(rt, alloc, &play);
+        check_play(rt, alloc, &play_of(text, may_refuse));
     }
 }

@@ -1,9 +1,10 @@
 // Plays: stories over the store that threads share, and its four seats, in lines.
 
 use super::batches::batch_named;
-use super::opened::new_store;
+use super::opened::{Opened, new_store};
 use super::players::{check_parts, check_plays, play_of};
-use super::stages::apply_at;
+use super::stages::{Front, apply_at};
+use crate::shared::check_so;
 use batch_apply::PassAll;
 use graph_version::Version;
 use std::alloc::Global;
@@ -11,7 +12,7 @@ use std::io::Print;
 use std::process::Abort;
 use std::sync::{Arc, Wait};
 use std::thread::Threads;
-use stream_store::{Config, open_parts_from};
+use stream_store::{Config, Desk, open_parts_from};
 
 const PLAYS: &str = "2 16 applies one batch twice
 share
@@ -268,29 +269,42 @@ ask 1 edge => 6 10 20
 stat => 2 2 0 15 1 0
 close => 2";
 
-/// The last version of a store that has the edge of a to b; nothing where a growth was refused.
+/// The last version of a desk behind the batch that makes the edge of a to b, where that was applied.
+fn held_at<R: Threads + Wait + Sync>(rt: &R, alloc: Global, mut desk: Desk) -> Arc<Version> {
+    let _applied = apply_at(rt, &mut desk, &PassAll, batch_named(alloc, "first"));
+    desk.close(rt)
+}
+
+/// The last version of a store that has the edge; nothing where it wasn't opened.
 fn held<R: Threads + Wait + Sync>(rt: &R, alloc: Global) -> Option<Arc<Version>> {
-    let mut desk = new_store(rt, alloc, 1, 16)?.desk;
-    if apply_at(rt, &mut desk, &PassAll, batch_named(alloc, "first")).is_err() {
-        return None;
+    match new_store(rt, alloc, 1, 16) {
+        Some(
+            Opened {
+                desk,
+                board: _board,
+                seat: _seat,
+            },
+        ) => Some(held_at(rt, alloc, desk)),
+        None => None,
     }
-    Some(desk.close(rt))
 }
 
 /// Plays over a store that opens with what that version holds.
-fn check_rebased<R: Threads + Wait + Sync + Abort + Print>(rt: &R, alloc: Global) {
+fn check_rebased<R: Threads + Wait + Sync + Abort + Print>(
+    rt: &R,
+    alloc: Global,
+    version: &Version,
+) {
     let config = Config::new(2, 16, 4).expect(rt, "within the limits");
-    let version = held(rt, alloc).expect(rt, "a version");
-    let parts = open_parts_from(rt, alloc, config, &version).expect(rt, "an opening");
-    check_parts(
-        rt,
-        alloc,
-        parts,
-        &play_of(REBASED, false).expect(rt, "a play"),
-    );
+    let play = play_of(REBASED, false);
+    match open_parts_from(rt, alloc, config, version) {
+        Ok((desk, board, seats)) => check_parts(rt, alloc, Front { desk, board }, seats, &play),
+        Err(_) => check_so(rt, false, "an opening"),
+    }
 }
 
 #[test]
 fn goes_on_from_what_a_version_holds(rt: HostRuntime) {
-    check_rebased(&rt, rt.alloc());
+    let version = held(&rt, rt.alloc()).expect(&rt, "a version");
+    check_rebased(&rt, rt.alloc(), &version);
 }

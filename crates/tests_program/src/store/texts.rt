@@ -23,7 +23,12 @@ pub(super) fn push_numbers(text: &mut String, numbers: &[u64]) -> Result<(), All
     Ok(())
 }
 
+/// A text before a part, and what is behind the part; all of it, and nothing, where it has no such part.
+pub(super) fn split_at<'a>(text: &'a str, part: &str) -> (&'a str, &'a str) {
+    text.split_once(part).unwrap_or((text, ""))
+}
+
 /// The first word of a text, and what is behind it.
 pub(super) fn split_word(text: &str) -> (&str, &str) {
-    text.split_once(' ').unwrap_or((text, ""))
+    split_at(text, " ")
 }

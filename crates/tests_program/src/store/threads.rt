@@ -3,7 +3,7 @@
 ghost use Rattle.std.specs.Prelude.{◌≡◌};
 ghost use Rattle.stream_store.specs.Stores.{IsOfOpening};
 
-use super::answers::{Edge, edge_told};
+use super::answers::edge_told;
 use super::batches::batch_named;
 use super::handed::{handed_of, learns_of};
 use super::opened::{Opened, new_store};
@@ -14,6 +14,7 @@ use graph_model::Batch;
 use seat_board::Board;
 use std::alloc::{AllocError, Global};
 use std::marker::Brand;
+use std::process::Abort;
 use std::sync::Wait;
 use std::sync::atomic::AtomicBool;
 use std::sync::atomic::Ordering::SeqCst;
@@ -42,64 +43,70 @@ impl Gate for HoldFirst {
     }
 }
 
-/// The number of the version that a session holds, and what it answers of the edge; nothing where that was refused.
-type Shown = (u64, Option<Edge>);
-
-fn shown_to(alloc: Global, session: &Session) -> Shown {
-    (session.version().number(), edge_told(alloc, session))
+/// Whether the session holds version 1, and has the edge as the first batch left it.
+fn has_first(alloc: Global, session: &Session) -> bool {
+    let is_first = session.version().number() == 1;
+    is_first && matches!(edge_told(alloc, session), Some(Some((5, 10, 10))))
 }
 
-/// Whether the session is shown the same each time.
-fn is_shown(alloc: Global, session: &Session, shown: Shown) -> bool {
+/// Whether it has that each time that it is asked.
+fn keeps_first(alloc: Global, session: &Session) -> bool {
     for _ in 0..ASKED {
-        if shown_to(alloc, session) != shown {
+        if !has_first(alloc, session) {
             return false;
         }
     }
     true
 }
 
-/// A seat acquires a version, asks, and lets it go.
-fn looked<J: Naming, R: Wait>(
+/// What a reader sees beside a batch: whether the first worker had arrived and version 1 was shown each time, and the counts and a
+/// collection behind the batch.
+#[derive(Clone, Copy)]
+struct Sights {
+    is_first: bool,
+    stat: Stat,
+    collected: Collected,
+}
+
+/// A seat acquires a version, asks, and lets it go; whether it was version 1, too.
+fn look<J: Naming, R: Wait>(
     rt: &R,
     alloc: Global,
     store: &Store<J>,
     seat: Seat,
-) -> (Seat, Shown) {
+    is_first: &mut bool,
+) -> Seat {
     let session = seat.pin(rt, store).enter(rt, store);
-    let shown = shown_to(alloc, &session);
-    (session.release(rt, store), shown)
+    *is_first &= has_first(alloc, &session);
+    session.release(rt, store)
 }
 
-/// What a reader is shown beside a batch; and the counts and a collection behind it.
-type Sights = (Shown, Stat, Collected);
-
-/// What a session is shown while the first worker is held, and still while that goes on; nothing where two answers differ. The
-/// counts wait for the batch, and the session holds its version still while the store is collected.
+/// What a session sees while the first worker is held, and still while that goes on. The counts wait for the batch, and the
+/// session holds its version still while the store is collected.
 fn seen_beside<J: Naming, R: Wait>(
     rt: &R,
     alloc: Global,
     store: &Store<J>,
     gate: &HoldFirst,
     session: &Session,
-) -> Option<Sights> {
-    let shown = shown_to(alloc, session);
+) -> Sights {
+    let is_first = has_first(alloc, session);
     gate.read.store(true, SeqCst);
-    if is_shown(alloc, session, shown) {
-        Some((shown, store.stat(rt), store.collect(rt)))
-    } else {
-        None
+    Sights {
+        is_first: keeps_first(alloc, session) && is_first,
+        stat: store.stat(rt),
+        collected: store.collect(rt),
     }
 }
 
 /// A seat acquires a version while the first worker is held, and lets it go behind the batch.
-fn looked_on<J: Naming, R: Wait>(
+fn look_on<J: Naming, R: Wait>(
     rt: &R,
     alloc: Global,
     store: &Store<J>,
     gate: &HoldFirst,
     seat: Seat,
-) -> Option<Sights> {
+) -> Sights {
     let session = seat.pin(rt, store).enter(rt, store);
     let sights = seen_beside(rt, alloc, store, gate, &session);
     let _seat = session.release(rt, store);
@@ -113,12 +120,12 @@ fn read_beside<J: Naming, R: Wait>(
     store: &Store<J>,
     gate: &HoldFirst,
     seat: Seat,
-) -> Option<(Shown, Sights)> {
-    if !is_set(&gate.arrived) {
-        return None;
-    }
-    let (seat, shown) = looked(rt, alloc, store, seat);
-    Some((shown, looked_on(rt, alloc, store, gate, seat)?))
+) -> Sights {
+    let mut is_first = is_set(&gate.arrived);
+    let seat = look(rt, alloc, store, seat, &mut is_first);
+    let mut sights = look_on(rt, alloc, store, gate, seat);
+    sights.is_first &= is_first;
+    sights
 }
 
 fn apply_behind<J: Naming, R: Threads + Wait + Sync>(
@@ -134,7 +141,12 @@ fn apply_behind<J: Naming, R: Threads + Wait + Sync>(
 }
 
 /// What two threads did beside each other: the receipt's number, what the other saw, and whether a thread gave up waiting.
-type Beside = (Option<u64>, Option<(Shown, Sights)>, bool);
+#[derive(Clone, Copy)]
+struct Beside {
+    applied: Option<u64>,
+    sights: Sights,
+    is_late: bool,
+}
 
 /// One thread applies a batch that changes the edge, whose first worker is held while the other acquires, asks and lets go.
 fn beside_a_batch<J: Naming + Send + Sync, R: Threads + Wait + Sync>(
@@ -149,12 +161,16 @@ fn beside_a_batch<J: Naming + Send + Sync, R: Threads + Wait + Sync>(
         late: AtomicBool::new(false),
     };
     let batch = batch_named(alloc, "more");
-    let (applied, shown) = join(
+    let (applied, sights) = join(
         rt,
         || apply_behind(rt, store, &gate, batch),
         || read_beside(rt, alloc, store, &gate, seat),
     );
-    (applied, shown, gate.late.load(SeqCst))
+    Beside {
+        applied,
+        sights,
+        is_late: gate.late.load(SeqCst),
+    }
 }
 
 /// The same over the store of these parts, behind a first batch that the seat learnt of; nothing where that is refused.
@@ -171,11 +187,10 @@ fn beside_over<J: Naming + Send + Sync, R: Threads + Wait + Sync>(
 {
     let store = Store::<J>::over(desk, board);
     let first = handed_of(rt, &store, batch_named(alloc, "chain"));
-    if learns_of(&mut seat, &first, 1) {
-        Some(beside_a_batch(rt, alloc, &store, seat))
-    } else {
-        None
-    }
+    let is_learnt = learns_of(&mut seat, &first, 1);
+    let beside = beside_a_batch(rt, alloc, &store, seat);
+    let _last = store.close(rt);
+    if is_learnt { Some(beside) } else { None }
 }
 
 fn over_a_new_store<R: Threads + Wait + Sync>(rt: &R, alloc: Global) -> Option<Beside> {
@@ -183,38 +198,36 @@ fn over_a_new_store<R: Threads + Wait + Sync>(rt: &R, alloc: Global) -> Option<B
     beside_over::<Brand, R>(rt, alloc, desk, board, seat)
 }
 
-/// The reader has the edge as the first batch left it, both times.
-const HELD: Shown = (1, Some(Some((5, 10, 10))));
+/// The counts behind the second batch: its block that version 1 had is retired.
+const STAT: Stat = Stat {
+    number: 2,
+    names: 3,
+    edges: 2,
+    free: 13,
+    retired: 1,
+    used: 2,
+};
 
-/// Had the reader waited for the batch that is held, the worker's turns would have run out. The block of version 1 that the second
-/// batch replaced is retired, and stays, since the reader holds that version.
-const BESIDE: Beside = (
-    Some(2),
-    Some((
-        HELD,
-        (
-            HELD,
-            Stat {
-                number: 2,
-                names: 3,
-                edges: 2,
-                free: 13,
-                retired: 1,
-                used: 2,
-            },
-            Collected {
-                floor: 1,
-                recycled: 0,
-                retired: 1,
-            },
-        ),
-    )),
-    false,
-);
+/// That block stays, since the reader holds version 1.
+const COLLECTED: Collected = Collected {
+    floor: 1,
+    recycled: 0,
+    retired: 1,
+};
+
+/// Had the reader waited for the batch that is held, the worker's turns would have run out. It has the edge as the first batch left
+/// it, each time.
+fn check_beside<R: Abort>(rt: &R, beside: &Beside) {
+    assert_eq!(rt; beside.applied, Some(2));
+    assert!(rt; beside.sights.is_first && !beside.is_late);
+    assert_eq!(rt; beside.sights.stat, STAT);
+    assert_eq!(rt; beside.sights.collected, COLLECTED);
+}
 
 /// While the first worker of the second batch is held, another thread acquires version 1, asks, lets it go, and acquires it once
 /// more; it looks on while the batch goes on.
 #[test]
 fn a_reader_waits_for_no_batch(rt: HostRuntime) {
-    assert_eq!(rt; over_a_new_store(&rt, rt.alloc()), Some(BESIDE));
+    let beside = over_a_new_store(&rt, rt.alloc()).expect(&rt, "two threads");
+    check_beside(&rt, &beside);
 }

@@ -44,13 +44,25 @@ fn ops_at(number: u32) -> [Op<'static>; 2] {
 
 /// What the threads share beside the store: the receipts that are handed over, how many readers have begun and how many of them
 /// hold a version, whether the store was collected meanwhile, and whether one of them waited in vain.
-#[derive(Drop)]
 struct Shared<J: Naming> {
     receipts: Vec<OnceLock<Option<Handed<J>>>>,
     readers: AtomicU32,
     holding: AtomicU64,
     is_collected: AtomicBool,
     is_late: AtomicBool,
+}
+
+// Written by hand: who lets one go rests on this function, and not on how each part is let go.
+impl<J: Naming> Drop for Shared<J> {
+    fn drop(self) {
+        let Shared {
+            receipts: _receipts,
+            readers: _readers,
+            holding: _holding,
+            is_collected: _is_collected,
+            is_late: _is_late,
+        } = self;
+    }
 }
 
 /// A place for the receipt of each batch.
@@ -261,10 +273,27 @@ fn read_all<J: Naming + Send + Sync, R: Threads + Wait + Sync>(
     )
 }
 
+/// In each of 16 rounds two versions were acquired, and one of them all was looked at twice.
+fn is_whole(reading: &Reading) -> bool {
+    reading.looked == 33 && reading.is_right && reading.is_told && reading.last >= 61
+}
+
+/// How many readings are whole, of as many as there are; nothing where a growth was refused.
+fn whole_of(readings: &Result<Vec<Reading>, AllocError>) -> Option<(usize, usize)> {
+    let Ok(readings) = readings else {
+        return None;
+    };
+    let mut whole = 0_usize;
+    for reading in readings.as_slice() {
+        whole = whole.saturating_add(usize::from(is_whole(reading)));
+    }
+    Some((whole, readings.len()))
+}
+
 /// What the readers found, what the collection came to while all of them held a version, and whether one waited in vain.
-#[derive(Drop)]
+#[derive(Clone, Copy)]
 struct Found {
-    readings: Vec<Reading>,
+    whole: Option<(usize, usize)>,
     beside: Collected,
     is_late: bool,
 }
@@ -275,7 +304,7 @@ fn fed_and_read<J: Naming + Send + Sync, R: Threads + Wait + Sync>(
     store: &Store<J>,
     shared: &Shared<J>,
     seats: Vec<Seat>,
-) -> Option<Found>
+) -> Found
     requires { All (IsSeatOf J.book J.opening) seats.items }
 {
     let (beside, readings) = join(
@@ -285,13 +314,10 @@ fn fed_and_read<J: Naming + Send + Sync, R: Threads + Wait + Sync>(
             requires { All (IsSeatOf J.book J.opening) seats.items }
         { read_all(rt, alloc, store, shared, seats) },
     );
-    match readings {
-        Ok(readings) => Some(Found {
-            readings,
-            beside,
-            is_late: shared.is_late.load(SeqCst),
-        }),
-        Err(_) => None,
+    Found {
+        whole: whole_of(&readings),
+        beside,
+        is_late: shared.is_late.load(SeqCst),
     }
 }
 
@@ -307,10 +333,12 @@ fn found_over<J: Naming + Send + Sync, R: Threads + Wait + Sync>(
     requires seats { All (IsSeatOf J.book J.opening) seats.items }
 {
     let store = Store::<J>::over(desk, board);
-    match Shared::<J>::new(alloc) {
-        Ok(shared) => fed_and_read(rt, alloc, &store, &shared, seats),
+    let found = match Shared::<J>::new(alloc) {
+        Ok(shared) => Some(fed_and_read(rt, alloc, &store, &shared, seats)),
         Err(_) => None,
-    }
+    };
+    let _last = store.close(rt);
+    found
 }
 
 fn over_a_new_store<R: Threads + Wait + Sync>(rt: &R, alloc: Global) -> Option<Found> {
@@ -321,21 +349,11 @@ fn over_a_new_store<R: Threads + Wait + Sync>(rt: &R, alloc: Global) -> Option<F
     }
 }
 
-/// In each of 16 rounds two versions were acquired, and one of them all was looked at twice.
-fn check_reading<R: Abort>(rt: &R, reading: &Reading) {
-    assert_eq!(rt; reading.looked, 33);
-    assert!(rt; reading.is_right && reading.is_told && reading.last >= 61);
-}
-
 /// While each reader held one of versions 29 to 32, eight batches were applied. The blocks that batches 33 to 39 made for `a`
 /// and 33 to 36 for the others were retired by then and came behind all that is held: these eleven are recycled, at least. Of
 /// each of the five sources a version held has a block that was retired.
 fn check_found<R: Abort>(rt: &R, found: &Found) {
-    for reading in found.readings.as_slice() {
-        check_reading(rt, reading);
-    }
-    assert_eq!(rt; found.readings.len(), 4);
-    assert!(rt; !found.is_late);
+    assert!(rt; matches!(found.whole, Some((4, 4))) && !found.is_late);
     assert!(rt; found.beside.recycled >= 11 && found.beside.retired >= 5);
 }
 
