@@ -1,4 +1,3 @@
 mod Empty
-mod OneEdge
 mod TakenBack
 pub mod NoRows

@@ -3,7 +3,6 @@
 mod answers;
 mod batches;
 mod gates;
-mod limits;
 mod lines;
 mod ops;
 mod plans;

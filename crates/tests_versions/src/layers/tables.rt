@@ -38,13 +38,17 @@ fn write_numbers(text: &mut String, numbers: &[u32]) -> Result<(), AllocError> {
     Ok(())
 }
 
+fn write_level(text: &mut String, level: Option<u32>) -> Result<(), AllocError> {
+    match level {
+        Some(level) => push_item(text, level, ","),
+        None => text.push_str("-,"),
+    }
+}
+
 /// Each level, `-` where there is none, with a comma behind it.
 fn write_levels(text: &mut String, levels: &[Option<u32>]) -> Result<(), AllocError> {
     for level in levels {
-        match level {
-            Some(level) => push_item(text, *level, ",")?,
-            None => text.push_str("-,")?,
-        }
+        write_level(text, *level)?;
     }
     Ok(())
 }

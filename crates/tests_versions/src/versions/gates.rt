@@ -5,6 +5,7 @@ ghost use Rattle.std.specs.Prelude.{◌<◌};
 use super::steps::first;
 use crate::texts::check_so;
 use batch_apply::{Applied, Gate};
+use graph_version::Version;
 use std::alloc::Global;
 use std::process::Abort;
 use std::sync::atomic::{AtomicBool, AtomicUsize, Ordering};
@@ -46,9 +47,11 @@ impl Gate for Meeting {
     }
 }
 
-fn check_met(rt: &impl Abort, meeting: &Meeting) {
+// Two workers met, and each of them put an edge.
+fn check_met(rt: &impl Abort, meeting: &Meeting, next: &Version) {
     assert!(rt; !meeting.in_vain.load(Ordering::SeqCst));
-    assert_eq!(rt; meeting.arrived.load(Ordering::SeqCst), 2);
+    assert!(rt; meeting.arrived.load(Ordering::SeqCst) == 2);
+    assert!(rt; next.edge_count() == 2);
 }
 
 // Each of two workers has an operation, and none goes on before both have come.
@@ -59,8 +62,7 @@ fn workers_work_at_once(rt: HostRuntime) {
         in_vain: AtomicBool::new(false),
     };
     let next = passed(&rt, rt.alloc(), &meeting, 2, "i,k,a,b,1,1 i,k,b,a,1,1");
-    check_met(&rt, &meeting);
-    assert_eq!(rt; next.version.edge_count(), 2);
+    check_met(&rt, &meeting, &next.version);
 }
 
 // Counts the arrivals of each of at most four workers in a byte of its own, and in a fifth one those of any other, or that

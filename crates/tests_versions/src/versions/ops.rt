@@ -5,9 +5,18 @@ use feed_csv::{Command, Feed};
 use graph_model::{Batch, Request};
 use std::alloc::{AllocError, Global};
 
-// The command of a record of a script; nothing where memory is refused.
+// A feed's next command; nothing where memory is refused.
+fn next_of(feed: &mut Feed<&[u8]>) -> Option<Command> {
+    match feed.next() {
+        Ok(command) => command,
+        Err(_) => None,
+    }
+}
+
+// The command of a record of a script.
 fn command_of(alloc: Global, record: &str) -> Option<Command> {
-    Feed::over(alloc, record.as_bytes()).next().ok()?
+    let mut feed = Feed::over(alloc, record.as_bytes());
+    next_of(&mut feed)
 }
 
 /// The request of a record of a script, to any slot.

@@ -14,14 +14,19 @@ use std::io::Print;
 use std::process::Abort;
 use vertex_names::NameBook;
 
-/// An operation's place in the batch and its source's place in the shard, `-` where a name is unknown, `*` for all.
-fn write_step(text: &mut String, step: &Step) -> Result<(), AllocError> {
-    push_item(text, step.op, "@")?;
-    match step.act {
+/// A source's place in the shard, `-` where a name is unknown, `*` for all.
+fn write_row(text: &mut String, act: &Act) -> Result<(), AllocError> {
+    match act {
         Act::Edge(Some(place), _) => push_item(text, place.row, " "),
         Act::Edge(None, _) => text.push_str("- "),
         Act::Expire(_) => text.push_str("* "),
     }
+}
+
+/// An operation's place in the batch, and that of its source.
+fn write_step(text: &mut String, step: &Step) -> Result<(), AllocError> {
+    push_item(text, step.op, "@")?;
+    write_row(text, &step.act)
 }
 
 /// How many fresh blocks the shard has, its operations, and its sources.

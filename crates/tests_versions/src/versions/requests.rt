@@ -2,10 +2,14 @@
 
 use super::lines::check;
 
-// Loops and edges of two kinds; windows, of which both ends are in them; a path of which the second edge goes. The window is
-// refused before the kind, and the kind before the vertices. Last, batches with edges put, touched again and taken away, a
-// loop, a vertex without edges and three kinds, whose versions answer as the plain application does.
+// One edge. Loops and edges of two kinds; windows, of which both ends are in them; a path of which the second edge goes. The
+// window is refused before the kind, and the kind before the vertices. Last, batches with edges put, touched again and taken
+// away, a loop, a vertex without edges and three kinds, whose versions answer as the plain application does.
 const REQUESTS: &str = "\
+i,k,a,b,5,10 => i 2 1 0 0 0:1,
+? edge,0,k,a,b => 5 10 10
+? edge,0,k,b,a => none
+
 i,k,a,b,1,1 i,k,b,c,1,1 i,k,c,a,1,1 i,k,c,d,1,1 => iiii 4 3 0 1 0:1,
 ? core,0,*,0,9 => a 2,b 2,c 2,d 1,
 ? comp,0,*,0,9 => a a,b a,c a,d a,

@@ -1,8 +1,11 @@
 // Lines of batches: each is planned and applied by workers, and applied plainly.
 
-ghost use Rattle.std.specs.Prelude.{◌<◌, IfOk, OnOk};
+ghost use Rattle.std.specs.Prelude.{◌≡◌, ◌≢◌, ◌<◌, ◌≤◌, length, false, IfOk, OnOk, IfSome, All, AllPairs};
+ghost use Rattle.std.specs.List.{sum_by};
 ghost use Rattle.row_pages.specs.Rows.{row_of};
-ghost use Rattle.graph_version.specs.Versions.{content};
+ghost use Rattle.row_pages.specs.Rows as rows;
+ghost use Rattle.batch_shards.specs.RowBlocks.{numbers_of};
+ghost use Rattle.graph_version.specs.Versions.{content, is_in};
 ghost use Rattle.batch_plan.specs.Planned.{IsPlan, MeetsNeitherLimit};
 ghost use Rattle.graph_model.specs.Graph.{IsContent};
 
@@ -10,6 +13,7 @@ use super::ops::batch_of;
 use super::sames::check_same;
 use batch_apply::{Applied, Gate, PassAll, apply};
 use batch_plan::{Plan, PlanError, old_rows, plan};
+use edge_block::Block;
 use graph_model::{Batch, Content, List, Outcome};
 use graph_version::Version;
 use reference_graph::plain_apply;
@@ -61,6 +65,20 @@ pub(super) fn planned(
     }
 }
 
+// Fresh blocks for a plan; nothing where it asks for more than 4,096.
+fn blocks_for(alloc: Global, version: &Version, plan: &Plan) -> Option<Vec<Arc<Block>>>
+    ensures many { IfSome result (λ v. sum_by (λ n. n) plan.now.needs.items ≤ length v.items) }
+    ensures distinct { IfSome result (λ v. AllPairs ◌≢◌ (numbers_of v.items)) }
+    ensures unlisted { IfSome result (λ v.
+        All (λ n. is_in n (rows.numbers_of (rows.blocks_of version.now.rows)) ≡ false) (numbers_of v.items)) }
+{
+    let count = plan.blocks_needed();
+    if count > 4096 {
+        return None;
+    }
+    fresh_blocks(alloc, version, count)
+}
+
 // What a batch leaves of a version, planned for so many workers, which pass a gate.
 fn applied_batch<R: Threads + Sync, G: Gate + Sync>(
     rt: &R,
@@ -71,16 +89,10 @@ fn applied_batch<R: Threads + Sync, G: Gate + Sync>(
     batch: Batch,
 ) -> Option<Applied>
     requires workers { 0 < workers }
+    requires few { length version.now.batches < 65536 }
 {
-    if version.number() >= 65_536 {
-        return None;
-    }
     let plan = plan_of(alloc, version, &batch, workers).ok()?;
-    let count = plan.blocks_needed();
-    if count > 4096 {
-        return None;
-    }
-    let blocks = fresh_blocks(alloc, version, count)?;
+    let blocks = blocks_for(alloc, version, &plan)?;
     let Ok(batch) = Arc::new(alloc, batch) else {
         return None;
     };
@@ -98,6 +110,9 @@ pub(super) fn applied<R: Threads + Sync, G: Gate + Sync>(
 ) -> Option<Applied>
     requires workers { 0 < workers }
 {
+    if version.number() >= 65_536 {
+        return None;
+    }
     match batch_of(alloc, ops) {
         Some(batch) => applied_batch(rt, alloc, gate, workers, version, batch),
         None => None,

@@ -86,17 +86,22 @@ fn tables_of_no_vertex_and_of_an_empty_window(rt: HostRuntime) {
     check_tables(&rt, rt.alloc(), &first.version);
 }
 
-// How many vertices there are, and how many targets of the first number stand in place of another; nothing where memory is
-// refused.
-fn listed(alloc: Global, version: &Version) -> Option<(usize, usize)> {
+// How many targets of the first number stand in place of those that were listed before; nothing where memory is refused.
+fn list_first(edges: &VersionEdges, targets: &mut Vec<u32>) -> Option<usize> {
+    targets.push(7).ok()?;
+    edges.list_targets(0, targets).ok()?;
+    Some(targets.len())
+}
+
+// There are no vertices, and no targets of the first number.
+fn has_none(alloc: Global, version: &Version) -> bool {
     let edges = VersionEdges {
         version,
         filter: ALL,
     };
     let mut targets = Vec::new(alloc);
-    targets.push(7).ok()?;
-    edges.list_targets(0, &mut targets).ok()?;
-    Some((edges.vertex_count(), targets.len()))
+    let count = list_first(&edges, &mut targets);
+    edges.vertex_count() == 0 && count == Some(0)
 }
 
 fn check_no_tables(rt: &impl Abort, alloc: Global, version: &Version) {
@@ -104,7 +109,7 @@ fn check_no_tables(rt: &impl Abort, alloc: Global, version: &Version) {
     assert!(rt; are_cores(alloc, version, &ALL, &[]));
     assert!(rt; are_degrees(alloc, version, &ALL, &[]));
     assert!(rt; is_no_vertex(alloc, version, &ALL, 0));
-    assert!(rt; matches!(listed(alloc, version), Some((0, 0))));
+    assert!(rt; has_none(alloc, version));
 }
 
 #[test]

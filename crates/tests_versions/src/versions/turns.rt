@@ -42,11 +42,11 @@ fn turns_lent(version: &Version) -> Option<u64> {
 }
 
 fn check_last(rt: &impl Abort, version: &Version, number: u64) {
-    assert!(rt;
-        version
-            .last_batch()
-            .is_some_and(|batch| is_turn(batch, number))
-    );
+    let is_last = match version.last_batch() {
+        Some(batch) => is_turn(batch, number),
+        None => false,
+    };
+    assert!(rt; is_last);
 }
 
 fn line(rt: &impl Abort, alloc: Global, number: u64) -> String {
