@@ -60,7 +60,6 @@ pub(crate) enum SessionState {
 }
 
 /// The fields of the machine.
-#[derive(Drop)]
 pub(crate) struct Parts {
     pub(crate) alloc: Global,
     pub(crate) opening: Opening,
@@ -73,4 +72,21 @@ pub(crate) struct Parts {
     pub(crate) copy: PinCopy,
     pub(crate) sessions: Vec<SessionState>,
     pub(crate) replies: Vec<List<Answer>>,
+}
+
+// Written by hand: what makes the parts, or lets them go after a refused growth, doesn't take each apart.
+impl Drop for Parts {
+    fn drop(self) {
+        let Parts {
+            alloc: _alloc,
+            opening: _opening,
+            heap: _heap,
+            status: _status,
+            versions: _versions,
+            floor: _floor,
+            copy: _copy,
+            sessions: _sessions,
+            replies: _replies,
+        } = self;
+    }
 }
