@@ -8,6 +8,11 @@ use thiserror::Error;
 
 /// How many workers apply a batch, how many blocks there are, and how many seats readers have: 1 to 8, 16 to 65,536 and
 /// 1 to 16.
+///
+/// ```
+/// let config = Config::new(4, 1_024, 2)?;
+/// assert_eq!(rt; config.seats(), 2);
+/// ```
 #[derive(Clone, Copy, Debug, PartialEq, Eq)]
 pub struct Config {
     workers: usize,

@@ -6,6 +6,11 @@ use version_shelf::Told;
 
 /// The answer to an accepted batch: the number of the version that it made, its operations' outcomes in their order, and
 /// the posted version.
+///
+/// ```
+/// let receipt = store.apply(rt, &PassAll, batch)?;
+/// let is_past_range = receipt.outcomes.as_slice().contains(&Outcome::Overflow);
+/// ```
 #[derive(Drop)]
 pub struct Receipt {
     pub number: u64,

@@ -57,6 +57,12 @@ impl Model for Seat {
 }
 
 /// A seat of a store whose pin is set, and which hasn't entered a version since. Where it is dropped, the pin stays.
+///
+/// ```
+/// let pinned = seat.pin(rt, &store);
+/// let receipt = store.apply(rt, &PassAll, batch)?;
+/// let session = pinned.enter(rt, &store);
+/// ```
 pub struct PinnedSeat {
     number: SeatNo,
     reader: ShelfReader,
