@@ -34,3 +34,42 @@ loop-i-preserved c =
           ∙ ap (λ j. c.loop-i.granted.items ++ j ∷ []) c.in_ok-body.ensures.number
           ∙ sym c.in_ok-push-2.ensures.items;
     }
+
+pub returns-in_err-granted-clause-bodies : goal.returns-in_err-granted-clause-bodies
+returns-in_err-granted-clause-bodies c = c.requires.bodies
+
+pub returns-in_err-blocks-clause-bodies : goal.returns-in_err-blocks-clause-bodies
+returns-in_err-blocks-clause-bodies c = c.requires.bodies
+
+pub returns-in_err-body-clause-bodies : goal.returns-in_err-body-clause-bodies
+returns-in_err-body-clause-bodies c =
+    let n = c.args.numbers.now in
+    let is = free_read n c.requires.kept (n.free_len - 1 - c.loop-i.i) c.index-number.result.now
+    (omega (arith, c.loop-i-test.true, c.requires.enough)) c.index-number.ensures in
+    subst (AreBodies (length n.places.items)) (sym c.in_err-body.ensures.bodies)
+    (bodies_set (length n.places.items) c.loop-i.bodies.items c.index-number.result.now None is.1 tt
+    c.loop-i.invariant.bodies)
+
+pub returns-in_err-push-clause-bodies : goal.returns-in_err-push-clause-bodies
+returns-in_err-push-clause-bodies c =
+    let n = c.args.numbers.now in
+    let is = free_read n c.requires.kept (n.free_len - 1 - c.loop-i.i) c.index-number.result.now
+    (omega (arith, c.loop-i-test.true, c.requires.enough)) c.index-number.ensures in
+    subst (AreBodies (length n.places.items)) (sym c.in_ok-body.ensures.bodies)
+    (bodies_set (length n.places.items) c.loop-i.bodies.items c.index-number.result.now None is.1 tt
+    c.loop-i.invariant.bodies)
+
+pub returns-in_err-push-2-clause-bodies : goal.returns-in_err-push-2-clause-bodies
+returns-in_err-push-2-clause-bodies c =
+    let n = c.args.numbers.now in
+    let is = free_read n c.requires.kept (n.free_len - 1 - c.loop-i.i) c.index-number.result.now
+    (omega (arith, c.loop-i-test.true, c.requires.enough)) c.index-number.ensures in
+    subst (AreBodies (length n.places.items)) (sym c.in_ok-body.ensures.bodies)
+    (bodies_set (length n.places.items) c.loop-i.bodies.items c.index-number.result.now None is.1 tt
+    c.loop-i.invariant.bodies)
+
+pub returns-clause-bodies : goal.returns-clause-bodies
+returns-clause-bodies c = c.loop-i.invariant.bodies
+
+pub returns-clause-blocks : goal.returns-clause-blocks
+returns-clause-blocks c = c.loop-i.invariant.blocks

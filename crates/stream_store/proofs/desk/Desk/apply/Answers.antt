@@ -239,3 +239,39 @@ returns-clause-receipt g c =
       outcomes_are = made.outcomes_are ∙ ap (λ (v : VersionView). outcomes c.args.batch (content v))
           (last ∙ ap (λ (s : DeskState). s.desk.last) c.self.view_is);
     }
+
+pub returns-in_default-clause-accepted : goal.returns-in_default-clause-accepted
+returns-in_default-clause-accepted g c = tt
+
+pub returns-in_default-clause-receipt : goal.returns-in_default-clause-receipt
+returns-in_default-clause-receipt g c = tt
+
+pub returns-in_default-clause-within : goal.returns-in_default-clause-within
+returns-in_default-clause-within g c = tt
+
+pub returns-in_default-publish-clause-accepted : goal.returns-in_default-publish-clause-accepted
+returns-in_default-publish-clause-accepted g c = tt
+
+pub returns-in_default-publish-clause-receipt : goal.returns-in_default-publish-clause-receipt
+returns-in_default-publish-clause-receipt g c = tt
+
+pub returns-in_default-publish-clause-within : goal.returns-in_default-publish-clause-within
+returns-in_default-publish-clause-within g c = tt
+
+pub returns-clause-refused : goal.returns-clause-refused
+returns-clause-refused g c = tt
+
+pub returns-clause-unchanged : goal.returns-clause-unchanged
+returns-clause-unchanged g c = tt
+
+pub returns-in_err-numbers-clause-workers : goal.returns-in_err-numbers-clause-workers
+returns-in_err-numbers-clause-workers g c = ap (λ (s : DeskState). s.workers) c.self.view_is
+
+pub returns-in_default-clause-workers : goal.returns-in_default-clause-workers
+returns-in_default-clause-workers g c = ap (λ (s : DeskState). s.workers) c.self.view_is
+
+pub returns-in_default-publish-clause-workers : goal.returns-in_default-publish-clause-workers
+returns-in_default-publish-clause-workers g c = ap (λ (s : DeskState). s.workers) c.self.view_is
+
+pub returns-clause-workers : goal.returns-clause-workers
+returns-clause-workers g c = ap (λ (s : DeskState). s.workers) c.self.view_is

@@ -53,3 +53,14 @@ returns-clause-shown g c =
           ∙ (ap (λ (v : VersionView). v.batches) c.in_ok-copy.ensures ∙ (ends
           ∙ sym (ap (λ (s : ShelfView). s.posted) c.self.view_is ∙ c.if-not-enter_batch.ensures.posted))))
     ]
+
+pub returns-clause-same : goal.returns-clause-same
+returns-clause-same g c = (
+  ap (λ (s : ShelfView). s.book) (c.self.view_is ∙ c.enter_batch.ensures.same),
+  elim c.show_in.ensures.shown [
+    | inl same ↦ ap (λ (t : ToldView). t.version.opening) same
+        ∙ ap (λ (s : ShelfView). s.opening) (c.self.view_is ∙ c.enter_batch.ensures.same)
+    | inr same ↦ ap (λ (t : ToldView). t.version.opening) same
+        ∙ (ap (λ (v : VersionView). v.opening) c.in_ok-copy.ensures ∙ c.requires.next.0)
+  ],
+)
