@@ -1,6 +1,6 @@
 // A feed of commands from a reader.
 
-ghost use Rattle.std.specs.Prelude.{◌≡◌, ◌+◌, ◌<◌, option_map, true, false, IfOk, IfSome};
+ghost use Rattle.std.specs.Prelude.{◌≡◌, ◌+◌, ◌<◌, option_map, true, false, IfOk, IfSome, None};
 ghost use Rattle.csv.specs.Reading.{error_kind};
 ghost use Rattle.feed_csv.specs.Commands.{HasValidOp};
 ghost use Rattle.feed_csv.specs.Faults.{fault_word};
@@ -19,7 +19,8 @@ const RECORD_LIMIT: u64 = 1_000_000;
 
 /// The commands of a script: comma-separated records, without a header, each of any number of fields, with
 /// nothing trimmed. Contracts see the `Script` that it is: whether it goes on, how many records it gave, and the
-/// records that are left where the reader's bytes are known.
+/// records that are left where the reader's bytes are known. They also see whether csv's reader has failed, and the kind of what
+/// it told then, which the feed keeps.
 #[derive(Drop)]
 pub struct Feed<R: Read> {
     alloc: Global,
@@ -27,6 +28,8 @@ pub struct Feed<R: Read> {
     row: ByteRecord,
     phase: Phase,
     given: u64,
+    // What csv's reader told where it failed.
+    fault: Option<Error>,
 }
 
 impl<R: Read> Model for Feed<R> {
@@ -35,7 +38,8 @@ impl<R: Read> Model for Feed<R> {
     ghost Value = { Script };
 
     ghost use Rattle.std.specs.Prelude.{◌≡◌, ◌≤◌};
-    ghost use Rattle.csv.specs.Reading.{has_failed};
+    ghost use Rattle.std.specs.Prelude.{option_map};
+    ghost use Rattle.csv.specs.Reading.{error_kind, has_failed};
     ghost use Rattle.feed_csv.specs.Records.{IsPlain, record_limit, rows_left};
     ghost use Rattle.feed_csv.specs.declared.phase.Phase.TheVariants.{Reading};
 
@@ -43,6 +47,7 @@ impl<R: Read> Model for Feed<R> {
       phase = f.phase;
       given = f.given;
       failed = has_failed f.reader;
+      fault = option_map error_kind f.fault;
       left = rows_left R.remaining f.reader;
     } };
 
@@ -59,6 +64,7 @@ impl<R: Read> Feed<R> {
           phase = Phase.Reading;
           given = 0;
           failed = false;
+          fault = None;
           left = option_map records_of (R.remaining reader);
         } }
     {
@@ -72,6 +78,7 @@ impl<R: Read> Feed<R> {
             row: ByteRecord::new(alloc),
             phase: Phase::Reading,
             given: 0,
+            fault: None,
         }
     }
 
@@ -136,10 +143,12 @@ impl<R: Read> Feed<R> {
                 return Ok(None);
             }
             Err(error) => {
+                let word = word_of(&error);
                 self.phase = Phase::Stopped;
+                self.fault = Some(error);
                 return Err(FeedFault {
                     at: self.given + 1,
-                    word: word_of(&error),
+                    word,
                 });
             }
         }

@@ -1,13 +1,17 @@
 -- A version 0 over copies of another version's blocks.
 use Rattle.std.proofs.Common.{◌≡◌, ◌≢◌, ℕ, zero, suc, ◌+◌, ◌-◌, ◌<◌, ◌≤◌, List, [], ◌∷◌, ◌++◌, map, length, take}
 use Rattle.std.proofs.Common.{drop, get_or, refl, sym, ap, ap₂, subst, ◌∙◌, arith, inl, inr, All, AllPairs, length-append}
+use Rattle.std.proofs.Common.{ℤ, true, rules, w64, FitsSigned}
 use Rattle.std.proofs.lemmas.List.{append-nil, take-append-drop, take_all, drop_all, length-map, map-append}
 use Rattle.std.specs.{List.list_all, declared.sync.Arc.Arc, declared.alloc.Global.Global, FinMap.len}
 use Rattle.std.proofs.lemmas.Bool.{cases_lt, Decides.eqb_tells}
 use Rattle.std.proofs.lemmas.List.Elements.{All-head, All-tail, All-cons}
-use Rattle.graph_model.specs.{Graph.Graph, Graph.graph_of, Graph.map_of, Limits.name_limit, Limits.kind_limit}
+use Rattle.graph_model.specs.{Graph.key_of, Graph.stamp_of, Graph.IsContent}
+use Rattle.graph_model.proofs.Keys.{get_listed}
+use Rattle.std.specs.{Option.is_some, FinMap.get}
+use Rattle.graph_model.specs.{Graph.Graph, Graph.graph_of, Graph.map_of, Limits.name_limit, Limits.kind_limit, Limits.IsWeight}
 use Rattle.graph_model.specs.declared.{batches.NamedOp.NamedOp, contents.Content.Content, ids.Edge.Edge}
-use Rattle.edge_block.specs.Slots.{Slot, BlockView, is_free, entry_in, entries_of, edges_in}
+use Rattle.edge_block.specs.Slots.{IsStamp, Slot, BlockView, is_free, entry_in, entries_of, edges_in}
 use Rattle.edge_block.specs.{Lending.LentEdge, Lending.lent_of, declared.blocks.Block.Block}
 use Rattle.block_layout.specs.{Rows.shape_of, Batches.IsLayoutOf, Batches.IsWithin}
 use Rattle.vertex_names.specs.Book.{Book}
@@ -316,6 +320,34 @@ same_content names kinds edges v c is n k e =
       edges = (ap map_of e ∙ each.same) i;
     }
 
+-- they are a content
+pub listed_content : (names kinds : Book) (edges : ℕ) (v : VersionView) (c : Content) → IsSummary names kinds edges v
+    → AllPairs (λ a b. a ≢ b) c.names → AllPairs (λ a b. a ≢ b) c.kinds → All (λ e. IsStamp (stamp_of e)) c.edges
+    → c.edges ≡ edges_in_blocks (blocks_of v.rows) → graph_of c ≡ content v → IsContent c
+listed_content names kinds edges v c is apart kinds_apart stamps e same =
+    let each = rows_each_once (content v) v.rows is.version.rows in
+    let once = subst (AllPairs (λ (a b : Edge). key_of a ≢ key_of b)) (sym e) each.once in
+    record {
+      names_distinct = apart;
+      kinds_distinct = kinds_apart;
+      names_few = subst (λ (g : Graph). length g.names ≤ name_limit) (sym same) is.version.small.names;
+      kinds_few = subst (λ (g : Graph). length g.kinds ≤ kind_limit) (sym same) is.version.small.kinds;
+      keys_distinct = once;
+      edges_within = λ k d lt.
+          let x = get_or c.edges k d in
+          let there : is_some (get (graph_of c).edges (key_of x)) ≡ true = ap is_some (get_listed c.edges once k d lt) in
+          let at = subst IsWithin (sym same) is.version.within (key_of x) there in
+          let stamp = stamps k d lt in
+          record {
+            kind = at.0;
+            source = at.1;
+            target = at.2;
+            weight = stamp.0;
+            first = stamp.1;
+            recent = stamp.2;
+          };
+    }
+
 -- Edges as they are lent
 
 -- a lent edge of a source
@@ -328,6 +360,10 @@ edge_lent source e = record {
   first = e.stamp.first;
   recent = e.stamp.recent;
 }
+
+-- a weight is a number of 64 bits
+pub weight_fits : (z : ℤ) → IsWeight z → FitsSigned w64 z
+weight_fits z h = search rules
 
 lent_slots : (b : BlockView) (es : List Slot)
     → map (edge_lent b.source) (map lent_of (map (entry_in b) es)) ≡ map edge_from (map (entry_in b) es)

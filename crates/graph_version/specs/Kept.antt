@@ -9,6 +9,7 @@ use Rattle.graph_model.specs.declared.contents.Content.{Content}
 use Rattle.edge_block.specs.Slots.{BlockView}
 use Rattle.vertex_names.specs.Book.{Book}
 use Rattle.graph_version.specs.Versions.{VersionView, content, IsVersion}
+use Rattle.graph_version.specs.declared.listed.ListedContent.{ListedContent}
 use Rattle.graph_version.specs.declared.opening.Opening.{Opening}
 use Rattle.graph_version.specs.declared.opening.Opening.TheVariants.{Alone, Shared}
 
@@ -21,8 +22,8 @@ kind_book kinds = record { limit = kind_limit; names = kinds }
 
 -- what a version began with, as a content and as a graph
 abbrev pub opening_content : Opening → Content
-opening_content (Alone content) = content
-opening_content (Shared content) = arc_value {X = Content} content
+opening_content (Alone listed) = listed.content
+opening_content (Shared listed) = (arc_value {X = ListedContent} listed).content
 
 abbrev pub opening_graph : Opening → Graph
 opening_graph opening = graph_of (opening_content opening)

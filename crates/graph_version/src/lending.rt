@@ -1,9 +1,9 @@
 //! Edges and block numbers as a version lends them.
 
-ghost use Rattle.std.specs.Prelude.{◌≡◌, map};
+ghost use Rattle.std.specs.Prelude.{◌≡◌, map, All};
 ghost use Rattle.std.specs.Iterator.{YieldsFirstBy};
 ghost use Rattle.graph_version.specs.Lending.{left_in};
-ghost use Rattle.edge_block.specs.Slots.{entries_of};
+ghost use Rattle.edge_block.specs.Slots.{IsStamp, entries_of};
 ghost use Rattle.edge_block.specs.Lending.{lent_edge, lent_of, edges_left};
 ghost use Rattle.row_pages.specs.Rows.{blocks_of, numbers_of};
 ghost use Rattle.row_pages.specs.Sharing.{block_values};
@@ -67,7 +67,8 @@ impl<'a> Iterator for RowIter<'a> {
 
 /// All edges of a block, in slot order.
 pub(crate) fn all_edges(block: &Block) -> BlockIter<'_>
-    ensures { edges_left result ≡ map lent_of (entries_of block.now) }
+    ensures lends { edges_left result ≡ map lent_of (entries_of block.now) }
+    ensures in_range { All (λ edge. IsStamp edge.stamp) (edges_left result) }
 {
     // A block's contract says with its count that its times are times: the window leaves out none of them.
     let _count = block.len();

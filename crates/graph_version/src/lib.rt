@@ -8,6 +8,7 @@
 mod drafts;
 mod laws;
 mod lending;
+mod listed;
 mod opening;
 mod rebase;
 mod versions;

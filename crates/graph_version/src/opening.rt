@@ -1,9 +1,10 @@
 //! What versions began with.
 
 ghost use Rattle.std.specs.Prelude.{◌≡◌, IfOk};
-ghost use Rattle.graph_model.specs.Graph.{content_of};
+ghost use Rattle.graph_model.specs.Graph.{IsContent, content_of};
 ghost use Rattle.graph_version.specs.Kept.{opening_content};
 
+use crate::listed::ListedContent;
 use graph_model::{Content, List};
 use std::alloc::{AllocError, Global};
 use std::sync::Arc;
@@ -12,8 +13,8 @@ use std::sync::Arc;
 /// memory, so that each version has its own.
 #[derive(Drop)]
 pub(crate) enum Opening {
-    Alone(Content),
-    Shared(Arc<Content>),
+    Alone(ListedContent),
+    Shared(Arc<ListedContent>),
 }
 
 impl Opening {
@@ -23,10 +24,12 @@ impl Opening {
     pub(crate) fn empty(alloc: Global) -> Opening
         ensures { opening_content result ≡ content_of [] [] [] }
     {
-        Opening::Alone(Content {
-            names: List::of(Vec::new(alloc)),
-            kinds: List::of(Vec::new(alloc)),
-            edges: List::of(Vec::new(alloc)),
+        Opening::Alone(ListedContent {
+            content: Content {
+                names: List::of(Vec::new(alloc)),
+                kinds: List::of(Vec::new(alloc)),
+                edges: List::of(Vec::new(alloc)),
+            },
         })
     }
 
@@ -35,17 +38,18 @@ impl Opening {
         ensures { IfOk result (λ opening. opening_content opening ≡ opening_content self.now) }
     {
         match self {
-            Opening::Alone(content) => Ok(Opening::Alone(content.clone()?)),
-            Opening::Shared(content) => Ok(Opening::Shared(Arc::try_clone(content)?)),
+            Opening::Alone(listed) => Ok(Opening::Alone(listed.again()?)),
+            Opening::Shared(listed) => Ok(Opening::Shared(Arc::try_clone(listed)?)),
         }
     }
 
     pub(crate) fn content(&self) -> &Content
-        ensures { result.now ≡ opening_content self.now }
+        ensures same { result.now ≡ opening_content self.now }
+        ensures content { IsContent result.now }
     {
         match self {
-            Opening::Alone(content) => content,
-            Opening::Shared(content) => content,
+            Opening::Alone(listed) => &listed.content,
+            Opening::Shared(listed) => &listed.content,
         }
     }
 }

@@ -1,7 +1,8 @@
 //! Version 0 of a store that opens with what a version holds.
 
-ghost use Rattle.std.specs.Prelude.{◌≡◌, ◌≢◌, ◌++◌, ℕ, [], length, map, slice_index_or, AllPairs, IfOk, OnOk};
-ghost use Rattle.graph_model.specs.Graph.{graph_of};
+ghost use Rattle.std.specs.Prelude.{◌≡◌, ◌≢◌, ◌++◌, ℕ, [], length, map, slice_index_or, All, AllPairs, IfOk, OnOk};
+ghost use Rattle.graph_model.specs.Graph.{graph_of, stamp_of};
+ghost use Rattle.edge_block.specs.Slots.{IsStamp};
 ghost use Rattle.row_pages.specs.Rows.{row_of, blocks_of, numbers_of, Replaces};
 ghost use Rattle.row_pages.specs.Sharing.{block_value, block_values};
 ghost use Rattle.graph_version.specs.Versions.{content};
@@ -9,6 +10,7 @@ ghost use Rattle.graph_version.specs.Edges.{edges_in_block, edges_in_blocks};
 ghost use Rattle.graph_version.specs.Rebased.{AreCopies, IsRebased, rows_like, unnumbered};
 
 use crate::lending::all_edges;
+use crate::listed::ListedContent;
 use crate::opening::Opening;
 use crate::versions::Version;
 use batch_pages::BatchList;
@@ -56,20 +58,22 @@ impl Version {
     }
 
     /// Its content as plain lists.
-    fn contents(&self, alloc: Global) -> Result<Content, AllocError>
-        ensures { IfOk result (λ c. graph_of c ≡ content self.now) }
+    fn contents(&self, alloc: Global) -> Result<ListedContent, AllocError>
+        ensures { IfOk result (λ listed. graph_of listed.content ≡ content self.now) }
     {
-        Ok(Content {
+        let content = Content {
             names: List::of(names_in(alloc, &self.names)?),
             kinds: List::of(names_in(alloc, &self.kinds)?),
             edges: List::of(edges_in(alloc, &self.rows)?),
-        })
+        };
+        Ok(ListedContent { content })
     }
 }
 
 /// The names of a book, in order.
 fn names_in(alloc: Global, book: &NameBook) -> Result<Vec<Name>, AllocError>
-    ensures { IfOk result (λ names. names.items ≡ book.now.names) }
+    ensures names { IfOk result (λ names. names.items ≡ book.now.names) }
+    ensures distinct { IfOk result (λ names. AllPairs (λ a b. a ≢ b) names.items) }
 {
     let count = book.len();
     let mut names = Vec::with_capacity(alloc, count)?;
@@ -124,7 +128,8 @@ fn copy_each(blocks: &mut [Arc<Block>], held: &[Arc<Block>]) -> Result<(), Alloc
 
 /// The edges of rows, block by block, slots rising.
 fn edges_in(alloc: Global, rows: &Rows) -> Result<Vec<Edge>, AllocError>
-    ensures { IfOk result (λ edges. edges.items ≡ edges_in_blocks (blocks_of rows.now)) }
+    ensures edges { IfOk result (λ edges. edges.items ≡ edges_in_blocks (blocks_of rows.now)) }
+    ensures stamps { IfOk result (λ edges. All (λ e. IsStamp (stamp_of e)) edges.items) }
 {
     let mut edges = Vec::new(alloc);
     for source in 0..rows.len() {
@@ -135,7 +140,8 @@ fn edges_in(alloc: Global, rows: &Rows) -> Result<Vec<Edge>, AllocError>
 
 /// Adds the edges of blocks.
 fn push_row(edges: &mut Vec<Edge>, blocks: &[Arc<Block>]) -> Result<(), AllocError>
-    ensures { OnOk result (edges.new.items ≡ edges.old.items ++ edges_in_blocks (block_values blocks.now)) }
+    ensures edges { OnOk result (edges.new.items ≡ edges.old.items ++ edges_in_blocks (block_values blocks.now)) }
+    ensures stamps { OnOk result (All (λ e. IsStamp (stamp_of e)) edges.old.items → All (λ e. IsStamp (stamp_of e)) edges.new.items) }
 {
     for block in blocks {
         push_edges(edges, block)?;
@@ -145,7 +151,8 @@ fn push_row(edges: &mut Vec<Edge>, blocks: &[Arc<Block>]) -> Result<(), AllocErr
 
 /// Adds a block's edges, in slot order.
 fn push_edges(edges: &mut Vec<Edge>, block: &Block) -> Result<(), AllocError>
-    ensures { OnOk result (edges.new.items ≡ edges.old.items ++ edges_in_block block.now) }
+    ensures edges { OnOk result (edges.new.items ≡ edges.old.items ++ edges_in_block block.now) }
+    ensures stamps { OnOk result (All (λ e. IsStamp (stamp_of e)) edges.old.items → All (λ e. IsStamp (stamp_of e)) edges.new.items) }
 {
     let source = block.source();
     for edge in all_edges(block) {

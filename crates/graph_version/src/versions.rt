@@ -2,7 +2,7 @@
 
 ghost use Rattle.std.specs.Prelude.{◌≡◌, ◌%◌, ◌^◌, ◌++◌, ◌∷◌, [], List, length, MatchOption};
 ghost use Rattle.std.specs.Option.{option_map};
-ghost use Rattle.graph_model.specs.Graph.{graph_of};
+ghost use Rattle.graph_model.specs.Graph.{IsContent, graph_of};
 ghost use Rattle.graph_model.specs.declared.batches.NamedOp.{NamedOp};
 ghost use Rattle.edge_block.specs.Lending.{lent_edge};
 ghost use Rattle.row_pages.specs.Rows.{row_of, blocks_of, numbers_of};
@@ -89,9 +89,10 @@ impl Version {
         }
     }
 
-    /// What it began with, before its first batch. It takes no memory.
+    /// What it began with, before its first batch: a content within the limits, with each edge listed once. It takes no memory.
     pub fn opening(&self) -> &Content
-        ensures { graph_of result.now ≡ self.now.opening }
+        ensures graph { graph_of result.now ≡ self.now.opening }
+        ensures content { IsContent result.now }
     {
         self.opening.content()
     }

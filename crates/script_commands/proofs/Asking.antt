@@ -1,6 +1,6 @@
 -- What a slot's session answers, from what the server's slots hold.
-use Rattle.std.proofs.Common.{◌≡◌, ◌≢◌, ℕ, List, length, take, get_or, sym, ap, subst, ◌∙◌}
-use Rattle.std.specs.Prelude.{◌⊎◌, Option, None, Some, Result, Ok, Err, slice_get}
+use Rattle.std.proofs.Common.{◌≡◌, ◌≢◌, ℕ, List, length, take, get_or, refl, sym, ap, subst, ◌∙◌}
+use Rattle.std.specs.Prelude.{◌⊎◌, IfErr, Option, None, Some, Result, Ok, Err, slice_get}
 use Rattle.std.proofs.lemmas.Option.{get_or_from_slice_get, slice_get_within}
 use Rattle.graph_model.specs.{Graph.Graph, Step.left_by, declared.requests.AskError.AskError}
 use Rattle.graph_model.specs.declared.requests.AskError.TheVariants as ask
@@ -9,9 +9,11 @@ use Rattle.graph_version.specs.Versions.{VersionView}
 use Rattle.stream_store.specs.Seats.{SeatView, SessionView, held_graph, held_version}
 use Rattle.version_answers.specs.{Numbered.IsNumberedAnswer, Numbered.named, declared.numbered.NumberedReply.NumberedReply}
 use Rattle.script_lines.specs.{Lines.shown_lines, declared.words.Word.Word}
-use Rattle.script_commands.specs.{Servers.IsServer, Servers.ShowsServer, Slots.IsEarlier, Slots.IsSlot, Slots.held_of}
+use Rattle.feed_csv.specs.declared.command.Command.TheVariants.{Rebase}
+use Rattle.script_commands.specs.{Servers.IsServer, Servers.ReopensIn, Servers.ShowsServer, Slots.IsEarlier, Slots.IsSlot}
+use Rattle.script_commands.specs.Slots.{held_of}
 use Rattle.script_commands.specs.States.{IsReplied, ServerState, ask_word, version, version_in}
-use Rattle.script_commands.specs.declared.server.Server.{Server}
+use Rattle.script_commands.specs.declared.server.{Server.Server, Stop.Stop, Stop.TheVariants.Start}
 use Rattle.script_commands.proofs.{Commands.held_there, NamesApart.AreApart}
 use Rattle.script_commands.proofs.Replies.{IsAsked, asked_version, replied_err, replied_ok}
 
@@ -78,3 +80,15 @@ pub replied_err_at : (server : Server) (state : ServerState) (slot : ℕ) (reque
 replied_err_at server state slot request s error word is shows there answer known is_word =
     replied_err slot request state (held_graph s) (held_of (held_version s)) error word
     (version_there server state slot s shows there) (graph_there server state slot s is shows there) answer known is_word
+
+reopens_in : (server : Server) (slot : ℕ) (s : SessionView) → slice_get server.slots.sessions.items slot ≡ Some (Some s)
+    → ReopensIn (Rebase slot) server
+reopens_in server slot s there = λ state shows.
+    (slot, held_of (held_version s), refl, version_there server state slot s shows there)
+
+-- a rebase to what a slot holds may end a run
+pub stops_reopening : {T : Type 0} (server : Server) (slot : ℕ) (s : SessionView) (result : Result T Stop)
+    → slice_get server.slots.sessions.items slot ≡ Some (Some s)
+    → IfErr result (λ stop. stop ≡ Start → ReopensIn (Rebase slot) server)
+stops_reopening server slot s (Ok value) there = tt
+stops_reopening server slot s (Err stop) there = λ start. reopens_in server slot s there

@@ -1,5 +1,5 @@
 -- A desk that opened with what a session holds: which state it shows, and what its line says.
-use Rattle.std.proofs.Common.{◌≡◌, ℕ, zero, suc, ◌-◌, Bool, false, cond, List, [], ◌∷◌, length, map, set}
+use Rattle.std.proofs.Common.{◌≡◌, ℕ, zero, suc, Bool, false, cond, List, [], ◌∷◌, length, map, set}
 use Rattle.std.proofs.Common.{count_by, replicate, refl, ap, ap₂, ◌∙◌, arith}
 use Rattle.std.specs.{Prelude.Ok, Prelude.slice_get, FinMap.len}
 use Rattle.block_layout.specs.{Batches.sum_below, Rows.Shape, Rows.shape_of}

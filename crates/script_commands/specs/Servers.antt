@@ -6,10 +6,14 @@ use Rattle.store_steps.specs.Desks.{DeskView, births_in, is_retired_by}
 use Rattle.feed_csv.specs.declared.command.Command.{Command}
 use Rattle.graph_model.specs.declared.batches.NamedOp.{NamedOp}
 use Rattle.script_commands.specs.Slots.{AreFew, AreSlotsOf, held_in}
-use Rattle.script_commands.specs.States.{Dates, IsCommandResult, RecordResult, ServerState, after_command}
+use Rattle.script_commands.specs.States.{Dates, IsCommandResult, RecordResult, Reopens, ServerState, after_command}
 use Rattle.script_commands.specs.declared.server.Server.{Server}
 use Rattle.script_commands.specs.declared.server.Response.{Response}
 use Rattle.script_commands.specs.declared.server.Response.TheVariants.{Lines, Refused}
+use Rattle.script_commands.specs.declared.server.Stop.{Stop}
+use Rattle.script_commands.specs.declared.server.Stop.TheVariants.{Memory, Start}
+use Rattle.stream_store.specs.declared.opening.OpenError.{OpenError}
+use Rattle.stream_store.specs.declared.opening.OpenError.TheVariants as opening
 
 -- the operations that are pending
 abbrev pub pending_of : Server → List NamedOp
@@ -51,3 +55,12 @@ abbrev pub Obeys : Command → Server → Response → List ℕ → Server → T
 Obeys command old response lines new =
     (s : ServerState) → ShowsServer old s
     → IsCommandResult command s (result_of response lines) × ShowsServer new (after_command command (result_of response lines) s)
+
+-- the command opens a store anew with a version that a slot holds, in each state that the server may show
+abbrev pub ReopensIn : Command → Server → Type 0
+ReopensIn command server = (s : ServerState) → ShowsServer server s → Reopens (Ok command) s
+
+-- what ends a run at a rebase whose store was not opened: want of memory has a word of its own
+abbrev pub stop_of : OpenError → Stop
+stop_of opening.OutOfMemory = Memory
+stop_of _ = Start

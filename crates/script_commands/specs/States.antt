@@ -317,9 +317,9 @@ abbrev pub IsRecordResult : Result Command FeedWord → ServerState → RecordRe
 IsRecordResult (Ok command) s outcome = IsCommandResult command s outcome
 IsRecordResult (Err word) s outcome = outcome ≡ Err (Feed word)
 
--- the record opens a store anew
-abbrev pub IsRebase : Result Command FeedWord → Type 0
-IsRebase item = (slot : ℕ) × (item ≡ Ok (Rebase slot))
+-- the record opens a store anew, with the version that this slot holds
+abbrev pub Reopens : Result Command FeedWord → ServerState → Type 0
+Reopens item s = (slot : ℕ) × (held : Held) × (item ≡ Ok (Rebase slot)) × (version_in (slice_get s.held slot) ≡ Ok held)
 
 abbrev pub after_item : Result Command FeedWord → RecordResult → ServerState → ServerState
 after_item (Ok command) outcome s = after_command command outcome s

@@ -11,8 +11,8 @@ ghost use Rattle.graph_model.specs.Valid.{IsValid};
 ghost use Rattle.feed_csv.specs.Commands.{HasValidOp};
 ghost use Rattle.stream_store.specs.Refusals.{block_count};
 ghost use Rattle.stream_store.specs.Seats.{SeatView, held_version};
-ghost use Rattle.script_commands.specs.Servers.{IsServer, Obeys, ShowsServer, pending_of};
-ghost use Rattle.script_commands.specs.States.{IsRebase};
+ghost use Rattle.script_commands.specs.Servers.{IsServer, Obeys, ReopensIn, ShowsServer, pending_of};
+ghost use Rattle.script_commands.specs.Servers as servers;
 ghost use Rattle.script_commands.specs.States as states;
 
 use crate::slots::Slots;
@@ -126,7 +126,8 @@ impl Server {
         self.pending.len()
     }
 
-    /// Does a command. Its lines replace those in the buffer; where it was refused, these mean nothing.
+    /// Does a command. Its lines replace those in the buffer; where it was refused, these mean nothing. `Start` at a rebase alone,
+    /// and only where its slot holds a version.
     pub fn obey<R: Threads + Wait + Sync>(
         &mut self,
         rt: &R,
@@ -137,7 +138,7 @@ impl Server {
         requires valid { HasValidOp command }
         ensures kept { IsServer self.new }
         ensures obeys { IfOk result (λ response. Obeys command self.old response (string_bytes lines.new) self.new) }
-        ensures stops { IfErr result (λ stop. stop ≡ Stop.Start → IsRebase (Ok command)) }
+        ensures stops { IfErr result (λ stop. stop ≡ Stop.Start → ReopensIn command self.old) }
     {
         lines.clear();
         match command {
@@ -278,6 +279,7 @@ impl Server {
         ensures obeys { IfOk result (λ response. Obeys (Command.Rebase slot) self.old response
             (string_bytes lines.new) self.new) }
         ensures unchanged { OnErr result (self.new ≡ self.old) }
+        ensures stops { IfErr result (λ stop. stop ≡ Stop.Start → ReopensIn (Command.Rebase slot) self.old) }
     {
         let session = match self.slots.session(slot) {
             Ok(session) => session,
@@ -322,8 +324,17 @@ fn parts_from<R: Wait>(
     match open_parts_from(rt, alloc, config, session.version()) {
         Ok(parts) => Ok(parts),
         Err(OpenError::PoolEmpty { .. }) => unreachable!(),
-        Err(OpenError::NoReader) => Err(Stop::Start),
-        Err(OpenError::OutOfMemory) => Err(Stop::Memory),
+        Err(error) => Err(stop_of(error)),
+    }
+}
+
+/// What ends a run at a rebase whose store was not opened.
+fn stop_of(error: OpenError) -> Stop
+    ensures { result ≡ servers.stop_of error }
+{
+    match error {
+        OpenError::OutOfMemory => Stop::Memory,
+        OpenError::NoReader | OpenError::PoolEmpty { .. } => Stop::Start,
     }
 }
 

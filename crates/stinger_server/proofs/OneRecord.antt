@@ -1,10 +1,13 @@
 -- A turn, from what the calls below it say.
-use Rattle.std.proofs.Common.{◌≡◌, ℕ, ◌+◌, List, string_bytes, arith, refl, ◌∙◌, ap, inl}
-use Rattle.std.specs.{Prelude.Option, Prelude.Result, Prelude.Err, Io.KnownBytes.Appends}
+use Rattle.std.proofs.Common.{◌≡◌, ℕ, ◌+◌, List, string_bytes, arith, refl, ◌∙◌, ap, inl, inr}
+use Rattle.std.specs.{Prelude.Option, Prelude.Result, Prelude.Ok, Prelude.Err, Io.KnownBytes.Appends}
 use Rattle.feed_csv.specs.{Script.FaultStep, Script.RefusesRow, Script.Script, declared.command.Command.Command}
 use Rattle.feed_csv.specs.declared.command.FeedWord.{FeedWord, TheVariants.Read, TheVariants.Memory}
 use Rattle.stinger_server.specs.declared.script.Run.{Run}
-use Rattle.script_commands.specs.{declared.server.Response.TheVariants.Refused, Servers.IsServer, Servers.result_of, States.printed}
+use Rattle.script_commands.specs.{declared.server.Response.TheVariants.Refused, Servers.IsServer, Servers.ReopensIn}
+use Rattle.script_commands.specs.{Servers.result_of, States.printed}
+use Rattle.script_lines.specs.Lines.{error_line}
+use Rattle.script_lines.specs.declared.words.Word.TheVariants as told
 use Rattle.script_lines.specs.declared.words.Word.TheVariants.{Feed}
 use Rattle.stinger_server.specs.Runs.{FailsToWrite, CountsRecord, CompletesRecord}
 use Rattle.stinger_server.specs.Writes.{AppendsPart}
@@ -47,3 +50,10 @@ pub breaks_refused : (row_item : Result Command FeedWord) (word : FeedWord) (old
     → FailsToWrite row_item old before after
 breaks_refused row_item word old before after is part = λ here shows.
     inl (Err (Feed word), rw is refl, rw (← shows.records) part)
+
+-- a write failed in the error line of a rebase
+pub breaks_reopening : (command : Command) (old : Run) (before after : Option (List ℕ)) → ReopensIn command old.server
+    → AppendsPart before after (error_line (old.records + 1) told.Start)
+    → FailsToWrite (Ok command) old before after
+breaks_reopening command old before after reopens part = λ here shows.
+    inr (inr (reopens here.state shows.server, rw (← shows.records) part))

@@ -5,8 +5,9 @@ use Rattle.std.proofs.lemmas.Bool.{true≢false}
 use Rattle.feed_csv.specs.{Records.record_limit, Script.NextStep, Script.Script, declared.command.Command.Command}
 use Rattle.stinger_server.specs.declared.script.{Run.Run, ServeFault.ServeFault, Summary.Summary}
 use Rattle.stinger_server.specs.declared.script.ServeFault.TheVariants.{Read, Memory, Start, Write}
-use Rattle.script_commands.specs.{Servers.pending_of, States.IsRebase}
-use Rattle.stinger_server.specs.Runs.{ExecutesRecord, FailsToWrite, HasCause, IsReady, IsTurn, done_by, is_start, is_write}
+use Rattle.script_commands.specs.Servers.{pending_of}
+use Rattle.stinger_server.specs.Runs.{ExecutesRecord, FailsToWrite, HasCause, IsReady, IsTurn, ReopensAfter, done_by}
+use Rattle.stinger_server.specs.Runs.{is_start, is_write}
 
 -- a turn ended the run
 pub cause_stopped : (feed feed' : Script) (run run' : Run) (now after : Option (List ℕ)) (failed : Bool) (fault : ServeFault)
@@ -14,7 +15,7 @@ pub cause_stopped : (feed feed' : Script) (run run' : Run) (now after : Option (
     → HasCause feed' failed (Err fault)
 cause_stopped feed feed' run run' now after failed Read turned marked = (turned.0, marked)
 cause_stopped feed feed' run run' now after failed Memory turned marked =
-    (subst (λ (n : ℕ). n < record_limit) (sym turned.0) turned.1, marked)
+    (subst (λ (n : ℕ). n < record_limit) (sym turned.0) turned.1, turned.2, marked)
 cause_stopped feed feed' run run' now after failed Start turned marked = (turned.1.reading, marked)
 cause_stopped feed feed' run run' now after failed Write turned marked = marked
 
@@ -44,7 +45,7 @@ turn_broken command field feed feed' run run' before after Start ready is step d
     let count : feed'.given ≡ feed.given + 1 = taken.2.given in (
       taken.0,
       taken.2,
-      subst IsRebase (sym taken.1) does.0,
+      subst (λ item. ReopensAfter item run) (sym taken.1) does.0,
       ap (λ phase. done_by phase feed'.given) taken.2.reading ∙ omega (arith, count, ready.records),
       does.1,
     )
@@ -54,6 +55,7 @@ turn_broken command field feed feed' run run' before after Memory ready is step 
     let room = taken.2.open_before.room in (
       ap (λ phase. done_by phase feed'.given) taken.2.reading ∙ omega (arith, count, ready.records),
       omega (arith, ready.records, room),
+      λ failed. absurd (true≢false (sym failed ∙ (taken.2.works ∙ ready.works))),
       does,
     )
 turn_broken command field feed feed' run run' before after Write ready is step does =

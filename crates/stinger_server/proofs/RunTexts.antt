@@ -4,7 +4,7 @@ use Rattle.std.proofs.Common.{subst, inl, inr}
 use Rattle.std.specs.Prelude.{false, Option, None, Some, Result, Ok, Err, IfErr, IfOk, IfSome, OnErr, OnOk, option_map}
 use Rattle.std.specs.Io.KnownBytes.{Appends}
 use Rattle.feed_csv.specs.{Commands.item_of, Records.IsOver, Records.Row, Records.Takes, Records.record_limit, Records.records_of}
-use Rattle.feed_csv.specs.{Script.MeetsEnd, Script.Script, Script.TakesRow, declared.command.Command.TheVariants.Rebase}
+use Rattle.feed_csv.specs.{Script.MeetsEnd, Script.Script, Script.TakesRow}
 use Rattle.feed_csv.specs.declared.command.FeedWord.TheVariants as feed_word
 use Rattle.stinger_server.specs.declared.script.{Run.Run, ServeFault.ServeFault, Summary.Summary}
 use Rattle.stinger_server.specs.declared.script.ServeFault.TheVariants.{Read, Memory, Start, Write}
@@ -12,7 +12,7 @@ use Rattle.script_lines.specs.declared.words.Word.{Word, TheVariants.Feed}
 use Rattle.script_lines.specs.declared.words.Word.TheVariants as told
 use Rattle.script_lines.specs.Lines.{end_line, error_line}
 use Rattle.stinger_server.specs.Runs.{FailsToWrite, IsFresh, IsReady, ShowsRun, IsStartup, IsTurn, records_done}
-use Rattle.script_commands.specs.States.{IsRecordResult, RecordResult, Setup, after_record, beginning, printed}
+use Rattle.script_commands.specs.States.{IsRecordResult, RecordResult, Reopens, Setup, after_record, beginning, printed}
 use Rattle.script_commands.specs.Executions.{ExecutesPrefix, IsFullText}
 use Rattle.script_commands.specs.Servers.{pending_of}
 use Rattle.stinger_server.specs.Texts.{IsTextToFault, IsText, IsTextToRebase, IsIntendedText}
@@ -41,21 +41,20 @@ cut_of setup rows left run before now word count reached same = (
 
 -- the text so far, and then the error line of a rebase
 unopened_of : (setup : Setup) (rows : List Row) (row : Row) (left rest : Option (List Row)) (run : Run)
-    (before now : Option (List ℕ)) (slot count : ℕ)
-    → (reached : Reaches setup (Some rows) left run before now) → Takes left row rest → item_of row ≡ Ok (Rebase slot)
+    (before now : Option (List ℕ)) (count : ℕ)
+    → (reached : Reaches setup (Some rows) left run before now) → Takes left row rest → Reopens (item_of row) reached.here.state
     → count ≡ run.records
     → IsTextToRebase setup rows count (reached.lines ++ error_line (run.records + 1) told.Start)
-unopened_of setup rows row None rest run before now slot count reached takes is same = absurd reached.leaves
-unopened_of setup rows row (Some more) None run before now slot count reached takes is same = absurd takes
-unopened_of setup rows row (Some more) (Some others) run before now slot count reached takes is same = (
+unopened_of setup rows row None rest run before now count reached takes reopens same = absurd reached.leaves
+unopened_of setup rows row (Some more) None run before now count reached takes reopens same = absurd takes
+unopened_of setup rows row (Some more) (Some others) run before now count reached takes reopens same = (
   reached.given,
   row,
   others,
-  slot,
   reached.lines,
   reached.here,
   reached.leaves ∙ ap (λ rows. reached.given ++ rows) takes,
-  is,
+  reopens,
   reached.is_run,
   sym (same ∙ reached.shows.records),
   ap (λ n. reached.lines ++ error_line (n + 1) told.Start) (sym same),
@@ -106,7 +105,7 @@ stopped setup rows feed feed' run run' before now after Read reached turned = (
 )
 stopped setup rows feed feed' run run' before now after Memory reached turned = (
   reached.lines ++ error_line (run.records + 1) (Feed feed_word.Memory),
-  appends_then before now after reached.lines _ reached.written turned.2,
+  appends_then before now after reached.lines _ reached.written turned.3,
   (
     cut_of setup rows feed.left run before now (Feed feed_word.Memory) (records_done feed') reached turned.0,
     subst (λ (n : ℕ). n < record_limit) (sym turned.0) turned.1,
@@ -116,8 +115,8 @@ stopped setup rows feed feed' run run' before now after Start reached turned = (
   reached.lines ++ error_line (run.records + 1) told.Start,
   appends_then before now after reached.lines _ reached.written turned.4,
   inr
-      (unopened_of setup rows turned.0 feed.left feed'.left run before now turned.2.0 (records_done feed') reached turned.1.left
-      turned.2.1 turned.3),
+      (unopened_of setup rows turned.0 feed.left feed'.left run before now (records_done feed') reached turned.1.left
+      (turned.2 reached.here reached.shows) turned.3),
 )
 stopped setup rows feed feed' run run' before now after Write reached turned = elim turned [
   | inl broken ↦ broken_off broken
@@ -154,8 +153,8 @@ stopped setup rows feed feed' run run' before now after Write reached turned = e
                 (inl (reached.lines, reached.here, start_of setup rows feed.left run before now reached, refl, refl)),
           ))) part
       | inr unopened ↦
-          let wanted = unopened_of setup rows broken.0 feed.left feed'.left run before now unopened.0.0 run.records reached
-          broken.1.left unopened.0.1 refl in
+          let wanted = unopened_of setup rows broken.0 feed.left feed'.left run before now run.records reached
+          broken.1.left unopened.0 refl in
           let next = error_line (run.records + 1) told.Start in
           part_of setup rows feed.left run before now after next (records_done feed') reached
           (inr (inr (run.records, inr (inr wanted))))

@@ -4,7 +4,7 @@ use Rattle.std.specs.Prelude.{◌≡◌, ◌<◌, ◌≤◌, ◌⊎◌, ℕ, ◌
 use Rattle.std.specs.Io.KnownBytes.{Appends}
 use Rattle.feed_csv.specs.Commands.{item_of}
 use Rattle.feed_csv.specs.Records.{Row, record_limit}
-use Rattle.feed_csv.specs.Script.{MeetsEnd, Script, TakesRow}
+use Rattle.feed_csv.specs.Script.{FailsWith, LacksMemory, MeetsEnd, Script, TakesRow}
 use Rattle.feed_csv.specs.declared.command.Command.{Command}
 use Rattle.feed_csv.specs.declared.command.FeedWord.{FeedWord}
 use Rattle.feed_csv.specs.declared.command.FeedWord.TheVariants as word
@@ -20,7 +20,7 @@ use Rattle.script_lines.specs.declared.words.Word.TheVariants.{Feed}
 use Rattle.script_lines.specs.declared.words.Word.TheVariants as told
 use Rattle.script_lines.specs.Lines.{error_line}
 use Rattle.script_commands.specs.Servers.{IsServer, ShowsServer}
-use Rattle.script_commands.specs.States.{IsRebase, IsRecordResult, RecordResult, Progress, Setup, after_record, beginning, printed}
+use Rattle.script_commands.specs.States.{IsRecordResult, Progress, RecordResult, Reopens, Setup, after_record, beginning, printed}
 use Rattle.stinger_server.specs.Writes.{AppendsPart}
 
 -- a feed that gave nothing yet
@@ -79,7 +79,11 @@ FailsToWrite item old before after =
     → ((outcome : RecordResult) × IsRecordResult item here.state outcome
     × AppendsPart before after (printed (here.records + 1) outcome))
     ⊎ (AppendsPart before after (error_line (here.records + 1) (Feed word.Memory))
-    ⊎ (IsRebase item × AppendsPart before after (error_line (here.records + 1) told.Start)))
+    ⊎ (Reopens item here.state × AppendsPart before after (error_line (here.records + 1) told.Start)))
+
+-- behind what a run has done the record opens a store anew, with the version that its slot holds
+abbrev pub ReopensAfter : Result Command FeedWord → Run → Type 0
+ReopensAfter item run = (here : Progress) → ShowsRun run here → Reopens item here.state
 
 -- the execution of a record, by its result: it came to its end; or it ended the run, which an error line tells; or a write failed
 abbrev pub ExecutesRecord : Result Command FeedWord → Run → Option (List ℕ) → Result Unit ServeFault → Run → Option (List ℕ)
@@ -88,12 +92,12 @@ ExecutesRecord item old before (Ok u) new after = CompletesRecord item old befor
 ExecutesRecord item old before (Err Read) new after = ⊥
 ExecutesRecord item old before (Err Memory) new after = Appends before after (error_line (old.records + 1) (Feed word.Memory))
 ExecutesRecord item old before (Err Start) new after =
-    IsRebase item × Appends before after (error_line (old.records + 1) told.Start)
+    ReopensAfter item old × Appends before after (error_line (old.records + 1) told.Start)
 ExecutesRecord item old before (Err Write) new after = FailsToWrite item old before after
 
--- the feed stopped, since csv's reader failed or the limit was reached
+-- the feed stopped, since csv's reader failed, and not for want of memory, or the limit was reached
 abbrev pub HasReadFault : Script → Type 0
-HasReadFault feed = (feed.phase ≡ Stopped) × ((feed.failed ≡ true) ⊎ (feed.given ≡ record_limit))
+HasReadFault feed = (feed.phase ≡ Stopped) × (FailsWith word.Read feed ⊎ (feed.given ≡ record_limit))
 
 -- how many records a run has done whose feed gave so many: each of them where the feed has ended or stopped, and else all but
 -- the last, at which a growth was refused
@@ -112,10 +116,10 @@ IsTurn feed run before (Ok false) feed' run' after = MeetsEnd feed feed' × (run
 IsTurn feed run before (Err Read) feed' run' after =
     HasReadFault feed' × (records_done feed' ≡ run.records) × Appends before after (error_line (run.records + 1) (Feed word.Read))
 IsTurn feed run before (Err Memory) feed' run' after =
-    (records_done feed' ≡ run.records) × (run.records < record_limit)
+    (records_done feed' ≡ run.records) × (run.records < record_limit) × LacksMemory feed'
     × Appends before after (error_line (run.records + 1) (Feed word.Memory))
 IsTurn feed run before (Err Start) feed' run' after =
-    (row : Row) × TakesRow feed row feed' × IsRebase (item_of row) × (records_done feed' ≡ run.records)
+    (row : Row) × TakesRow feed row feed' × ReopensAfter (item_of row) run × (records_done feed' ≡ run.records)
     × Appends before after (error_line (run.records + 1) told.Start)
 IsTurn feed run before (Err Write) feed' run' after =
     ((row : Row) × TakesRow feed row feed' × FailsToWrite (item_of row) run before after)
@@ -133,12 +137,13 @@ is_start (Err Start) = true
 is_start _ = false
 
 -- Why a run ends as it does, by what its feed came to and whether a call of the writer failed: at Ok the feed met the end of
--- the input, and csv's reader never failed; Read is told of the feed's fault alone, and Write of the writer's. Of memory
--- can be said that it is no other fault, and never told of the limit of records; and Start comes while the feed gives records.
+-- the input, and csv's reader never failed; Read is told of the feed's fault alone, and Write of the writer's. Memory is told where
+-- csv's reader failed for want of it. Else can be said that it is no other fault, and never told of the limit of records. Start
+-- comes while the feed gives records.
 abbrev pub HasCause : Script → Bool → Result Summary ServeFault → Type 0
 HasCause feed failed (Ok summary) =
     (feed.phase ≡ Ended) × (feed.failed ≡ false) × (summary.records ≡ feed.given) × (failed ≡ false)
 HasCause feed failed (Err Read) = HasReadFault feed × (failed ≡ false)
-HasCause feed failed (Err Memory) = (records_done feed < record_limit) × (failed ≡ false)
+HasCause feed failed (Err Memory) = (records_done feed < record_limit) × LacksMemory feed × (failed ≡ false)
 HasCause feed failed (Err Start) = (feed.phase ≡ Reading) × (failed ≡ false)
 HasCause feed failed (Err Write) = failed ≡ true

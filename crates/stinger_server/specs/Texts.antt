@@ -2,7 +2,6 @@
 use Rattle.std.specs.Prelude.{◌≡◌, ◌<◌, ◌⊎◌, ℕ, ◌+◌, List, [], ◌∷◌, ◌++◌, length, Result, Ok, Err}
 use Rattle.feed_csv.specs.Commands.{item_of}
 use Rattle.feed_csv.specs.Records.{Row, record_limit}
-use Rattle.feed_csv.specs.declared.command.Command.TheVariants.{Rebase}
 use Rattle.feed_csv.specs.declared.command.FeedWord.TheVariants as feed
 use Rattle.stinger_server.specs.declared.script.ServeFault.{ServeFault}
 use Rattle.stinger_server.specs.declared.script.ServeFault.TheVariants.{Read, Memory, Start, Write}
@@ -12,7 +11,7 @@ use Rattle.script_lines.specs.declared.words.Word.TheVariants.{Feed}
 use Rattle.script_lines.specs.declared.words.Word.TheVariants as word
 use Rattle.script_lines.specs.Lines.{error_line}
 use Rattle.script_commands.specs.Executions.{Executes, ExecutesPrefix, IsFullText}
-use Rattle.script_commands.specs.States.{Progress, Setup, beginning}
+use Rattle.script_commands.specs.States.{Progress, Reopens, Setup, beginning}
 
 -- the text of a run that this word ended after so many records: the lines of exactly these records, the first of the script,
 -- and then one error line, whose number is that of the next record
@@ -21,11 +20,11 @@ IsTextToFault setup rows word count text =
     (lines : List ℕ) × (there : Progress) × ExecutesPrefix setup rows lines there × (there.records ≡ count)
     × (text ≡ lines ++ error_line (count + 1) word)
 
--- the text of a run that did so many records, at whose next one, a rebase, no store was opened
+-- the text of a run that did so many records, at whose next one, a rebase to a version that its slot holds, no store was opened
 abbrev pub IsTextToRebase : Setup → List Row → ℕ → List ℕ → Type 0
 IsTextToRebase setup rows count text =
-    (given : List Row) × (row : Row) × (rest : List Row) × (slot : ℕ) × (lines : List ℕ) × (there : Progress)
-    × (rows ≡ given ++ row ∷ rest) × (item_of row ≡ Ok (Rebase slot)) × Executes given (beginning setup) lines there
+    (given : List Row) × (row : Row) × (rest : List Row) × (lines : List ℕ) × (there : Progress)
+    × (rows ≡ given ++ row ∷ rest) × Reopens (item_of row) there.state × Executes given (beginning setup) lines there
     × (there.records ≡ count) × (text ≡ lines ++ error_line (count + 1) word.Start)
 
 -- a text that a run writes where each write succeeds: the lines of a prefix, the full text, or a text to one of the faults

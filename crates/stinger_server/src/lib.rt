@@ -1,5 +1,5 @@
 //! A script of batches and requests to lines: [`serve`] reads comma-separated records and writes what
-//! `specs/Texts.antt` says of them.
+//! `specs/Texts.antt` says of them. [`run_script`] does the same over a feed and a [`Sink`], and its contract says why it ended.
 #![tactic(auto)]
 
 mod output;
@@ -7,7 +7,7 @@ mod script;
 mod sink;
 
 pub use output::write_text;
-pub use script::{ServeFault, Summary, serve};
+pub use script::{ServeFault, Summary, run_script, serve};
 pub use script_commands::{law_examples, law_one_text};
-pub use sink::Unwritten;
+pub use sink::{Sink, Unwritten};
 pub use stream_store::{BadConfig, Config};

@@ -68,8 +68,8 @@ struct Run {
 /// fails or 1,000,000 records were read, and `Memory` where a growth was refused, each after the lines of exactly the
 /// records done before and an error line with the number of the record that was not done; `Write` where a write failed
 /// or took nothing, or the flush at the end failed, after which nothing more is written. No clause here says when each
-/// of these ends comes, since a reader and a writer have no word for a call that failed; `HasCause` in
-/// `specs/Runs.antt` says it of the run itself.
+/// of these ends comes, since a reader and a writer have no word for a call that failed. These are three calls, and
+/// [`run_script`], the last of them, says it.
 pub fn serve<A: AllocGlobal + Threads + Wait + Sync, R: Read + Drop, W: Write>(
     rt: &A,
     config: Config,
@@ -85,9 +85,20 @@ pub fn serve<A: AllocGlobal + Threads + Wait + Sync, R: Read + Drop, W: Write>(
     run_script(rt, config, &mut feed, &mut sink)
 }
 
-/// A run from the first record on, over a feed that gave nothing yet and a sink that hasn't failed. Where no store was opened and
-/// nothing flushed, as where the first one isn't opened, nothing was read.
-fn run_script<A: AllocGlobal + Threads + Wait + Sync, R: Read, W: Write>(
+/// [`serve`] over a feed that gave nothing yet and a sink that hasn't failed, which show afterwards why the run ended.
+///
+/// `cause` says when each end comes. `Ok` where the feed met the end of the input, csv's reader never failed and no call
+/// of the writer did; fewer than 1,000,000 records were read then. `Read` where csv's reader failed or the limit on
+/// records was reached, `Write` where a call of the writer failed. `Memory` never at the limit; `Start` while the feed
+/// gives records. `flushed` says that each text but one cut off by the writer was flushed. `unread`: where no store was
+/// opened and nothing flushed, as at the first opening, nothing was read.
+///
+/// ```
+/// let mut feed = Feed::over(rt.alloc(), script);
+/// let mut sink = Sink::over(writer);
+/// let answer = run_script(rt, config, &mut feed, &mut sink);
+/// ```
+pub fn run_script<A: AllocGlobal + Threads + Wait + Sync, R: Read, W: Write>(
     rt: &A,
     config: Config,
     feed: &mut Feed<R>,

@@ -8,9 +8,10 @@ ghost use Rattle.stinger_server.specs.Writes.{held};
 
 use std::io::Write;
 
-/// A writer with its marks.
+/// The writer of a run, with a mark for a call of it that failed, and one for a flush after its last write. Contracts see the
+/// marks and the bytes that the writer holds; a run is the only one that writes to it, and takes no memory for that.
 #[derive(Drop)]
-pub(crate) struct Sink<'w, W> {
+pub struct Sink<'w, W> {
     writer: &'w mut W,
     // A write failed or took nothing, or a flush failed.
     failed: bool,
@@ -19,8 +20,8 @@ pub(crate) struct Sink<'w, W> {
 }
 
 impl<'w, W: Write> Sink<'w, W> {
-    /// The writer, of which no call has failed, and which was not flushed.
-    pub(crate) fn over(writer: &'w mut W) -> Sink<'w, W>
+    /// The writer, of which no call has failed, and which was not flushed. It writes nothing and takes no memory.
+    pub fn over(writer: &'w mut W) -> Sink<'w, W>
         ensures same_writer { result.writer.ghost_name ≡ writer.entry.ghost_name }
         ensures held { result.writer.now ≡ writer.old }
         ensures working { result.failed ≡ false }

@@ -1,6 +1,6 @@
 -- The steps of the shelf keep its rule.
 use Rattle.graph_model.specs.declared.batches.NamedOp.{NamedOp}
-use Rattle.std.proofs.Common.{fold, ◌≡◌, ℕ, ◌≢◌, ◌⊎◌, Bool, true, false, MatchBool, List, [], ◌∷◌, ◌++◌, set, refl, sym, ap}
+use Rattle.std.proofs.Common.{◌≡◌, ℕ, ◌≢◌, ◌⊎◌, Bool, true, false, MatchBool, List, [], ◌∷◌, ◌++◌, set, refl, sym, ap}
 use Rattle.std.proofs.Common.{subst, ◌∙◌, ⊎_elim, Option, Some, None, IfSome, IfOk, Result, Ok, Err}
 use Rattle.std.specs.Result.{result_ok}
 use mathlib.Core.Option.{some}
@@ -10,7 +10,7 @@ use Rattle.left_right.specs.Register.{Admits, TurnsAt, Forks, Merges}
 use Rattle.atomic_table.proofs.Lists.{at_set, at_snoc, set_again}
 use Rattle.version_shelf.specs.Histories.{HistoryView}
 use Rattle.version_shelf.specs.Shelves.{ToldView, Begins, IsOfOneShelf, IsShowing, Keeps, Sees}
-use Rattle.version_shelf.proofs.Beginnings.{prefix_self, prefix_trans, fold_last, same_last}
+use Rattle.version_shelf.proofs.Beginnings.{prefix_self, prefix_trans, same_last}
 
 some_same : (x u : ToldView) → Some x ≡ Some u → x ≡ u
 some_same x u e = cc e
@@ -65,12 +65,6 @@ merges place v other w x views h at apart there j u e =
     (λ (s : (j ≢ place) × (get_elem? views j ≡ some (Some u))). h j u s.1) (at_set views place j w (Some u) t.1))
     (at_set (set views place w) other j None (Some u) e)
 
--- the value that the last operation sets begins with what was shown
-pub next_begins : (x next op : ToldView) (before pending : List ToldView) → next ≡ fold (λ (_ y : ToldView). y) x pending
-    → pending ≡ before ++ op ∷ [] → Begins x op → Begins x next
-next_begins x next op before pending is all up =
-    subst (λ z. Begins x z) (sym (is ∙ (ap (fold (λ (_ y : ToldView). y) x) all ∙ fold_last x before op))) up
-
 -- what is shown, as before or what was posted, is a version of the history with that version
 pub still_showing : (old shown told : ToldView) (after : HistoryView) → IsShowing after old → told.book ≡ after.book
     → told.version.batches ≡ after.batches
@@ -101,8 +95,3 @@ pub ends_with_last : (batches posted others : List (List NamedOp)) (next last : 
     → batches ≡ posted ++ last ∷ []
 ends_with_last batches posted others next last p q = p
     ∙ ap (λ x. posted ++ x ∷ []) (same_last posted others next last (sym p ∙ q))
-
--- the state of a shelf that nothing waits for is the one shown
-pub folded_nothing : (shown next : ToldView) (pending : List ToldView) → next ≡ fold (λ (_ y : ToldView). y) shown pending
-    → pending ≡ [] → next ≡ shown
-folded_nothing shown next pending is none = is ∙ ap (fold (λ (_ y : ToldView). y) shown) none

@@ -48,4 +48,4 @@ impl Join<Option<Told>> for Notes {
 pub type ReaderPlace = Reader<Told, Option<Told>, ShelfRule>;
 
 /// The writer's place.
-pub type WriterPlace = Writer<Told, Told, Option<Told>, ShelfRule>;
+pub type WriterPlace = Writer<Told, (), Option<Told>, ShelfRule>;

@@ -56,21 +56,15 @@ impl Told {
     }
 }
 
-/// Each operation sets what is shown whole, so one that had to wait is overwritten by the next.
-impl Absorb<Told> for Told {
-    type State = Told;
+/// Nothing is ever applied: a publication sets the copy that no reader has, whole. So copies have nothing in common.
+impl Absorb<()> for Told {
+    type State = ();
 
-    ghost state = { λ shown. shown };
+    ghost state = { λ shown. tt };
 
-    ghost applied = { λ _ told. told };
+    ghost applied = { λ state operation. tt };
 
-    fn absorb_first(&mut self, operation: &Told, _other: &Told) -> Result<(), AllocError> {
-        *self = operation.share()?;
-        Ok(())
-    }
-
-    fn absorb_second(&mut self, operation: Told, _other: &Told) -> Result<(), Told> {
-        *self = operation;
+    fn absorb_first(&mut self, _operation: &(), _other: &Told) -> Result<(), AllocError> {
         Ok(())
     }
 }

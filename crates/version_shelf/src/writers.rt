@@ -1,6 +1,6 @@
 //! The writer of the shelf, and its opening.
 
-ghost use Rattle.std.specs.Prelude.{◌≡◌, ◌<◌, ◌≤◌, ◌⊎◌, ◌^◌, ◌++◌, ◌∷◌, [], length, drop, fold, IfOk, MatchBool, MatchResult, All, vec_len, Some};
+ghost use Rattle.std.specs.Prelude.{◌≡◌, ◌<◌, ◌≤◌, ◌^◌, ◌++◌, ◌∷◌, [], length, IfOk, MatchBool, MatchResult, All, vec_len, Some};
 ghost use Rattle.std.specs.Arc.{arc_value};
 ghost use Rattle.left_right.specs.Sides.{view};
 ghost use Rattle.graph_version.specs.declared.versions.Version.{Version};
@@ -132,72 +132,48 @@ fn opened<R: Wait>(
     let Ok(first) = told.share() else {
         return Err(ShelfError::OutOfMemory);
     };
+    let Ok(spare) = told.share() else {
+        return Err(ShelfError::OutOfMemory);
+    };
     let Ok(second) = told.share() else {
         return Err(ShelfError::OutOfMemory);
     };
-    let Ok(fresh) = Writer::new(alloc, first, second, readers) else {
+    let Ok(mut place) = Writer::new(alloc, first, spare, readers) else {
         return Err(ShelfError::OutOfMemory);
     };
-    let (writer, is_shown) = publish(rt, fresh);
-    if is_shown {
-        return Ok(writer);
-    }
-    writer.take(rt);
-    Err(ShelfError::OutOfMemory)
+    show(rt, &mut place, second);
+    Ok(place)
 }
 
-/// Publishes what waits, and says whether it did; where it did not, nothing changes.
-fn publish<R: Wait>(rt: &R, place: WriterPlace) -> (WriterPlace, bool)
-    requires { Begins place.desk.shown.value
-        (fold (λ (_ told : ToldView). told) place.desk.shown.value (drop place.behind place.log.items)) }
-    ensures { MatchBool result.1
-        ((result.0.desk.shown.value
-        ≡ fold (λ (_ told : ToldView). told) place.desk.shown.value (drop place.behind place.log.items))
-        × (view result.0.desk.place ≡ Some result.0.desk.shown.value))
-        ((result.0.desk.shown.value ≡ place.desk.shown.value) × (view result.0.desk.place ≡ view place.desk.place)) }
-{
-    let (place, shown) = place.publish_as::<Look, R>(rt);
-    (place, shown.is_ok())
-}
-
-/// Shows readers what was told, where there is memory for it.
-fn show<R: Wait>(rt: &R, mut place: WriterPlace, told: Told) -> WriterPlace
-    requires view { view place.desk.place ≡ Some place.desk.shown.value }
-    requires newer { Begins place.desk.shown.value told }
-    ensures view { view result.desk.place ≡ Some result.desk.shown.value }
-    ensures shown { (result.desk.shown.value ≡ place.desk.shown.value) ⊎ (result.desk.shown.value ≡ told) }
-{
-    match place.append(told) {
-        Ok(()) => {}
-        Err(_) => return place,
-    }
-    let (place, _) = publish(rt, place);
-    place
-}
-
-fn show_in<R: Wait>(rt: &R, place: &mut WriterPlace, told: Told)
-    requires view { view place.old.desk.place ≡ Some place.old.desk.shown.value }
+/// Shows readers what was told. It takes no memory: the copy that no reader has is set, and shown in place of the other.
+fn show<R: Wait>(rt: &R, place: &mut WriterPlace, told: Told)
     requires newer { Begins place.old.desk.shown.value told }
-    ensures view { view place.new.desk.place ≡ Some place.new.desk.shown.value }
-    ensures shown { (place.new.desk.shown.value ≡ place.old.desk.shown.value) ⊎ (place.new.desk.shown.value ≡ told) }
+    ensures shown { place.new.desk.shown.value ≡ told }
+    ensures view { view place.new.desk.place ≡ Some told }
 {
-    replace_with(place, (rt, told), |place, (rt, told)| {
-        (show(rt, place, told), ())
-    })
+    replace_with(
+        &mut place.desk,
+        (rt, told),
+        |desk, (rt, told)|
+            requires { Begins desk.shown.value told }
+            ensures { (result.0.shown.value ≡ told) × (view result.0.place ≡ Some told) }
+        {
+            let (open, mut spare) = desk.open(rt);
+            *spare = told;
+            (open.show_as::<Look>(spare), ())
+        },
+    )
 }
 
 impl ShelfWriter {
-    /// Posts the next version: one publication. What is refused is posted nowhere and never shown.
-    ///
-    /// A version whose batch was entered in the history is posted, also where the growth that would show it at once was
-    /// refused: then readers find it by what is told of it, or find the next version.
+    /// Posts the next version and shows it: one publication. What is refused is posted nowhere and never shown.
     pub fn post<R: Wait>(&mut self, rt: &R, version: Arc<Version>) -> Result<Told, AllocError>
         requires next { IsNext self.old (arc_value {X = Version} version) }
         ensures posted { MatchResult result
             (λ told. (self.new.posted ≡ (arc_value {X = Version} version).batches)
+            × (self.new.shown ≡ (arc_value {X = Version} version).batches)
             × (told ≡ record { book = self.old.book; version = arc_value {X = Version} version }))
             (λ _. self.new ≡ self.old) }
-        ensures shown { (self.new.shown ≡ self.old.shown) ⊎ (self.new.shown ≡ self.new.posted) }
         ensures same { (self.new.book ≡ self.old.book) × (self.new.opening ≡ self.old.opening) }
     {
         version.facts();
@@ -212,7 +188,7 @@ impl ShelfWriter {
             version: copy,
             history: self.history.again(),
         };
-        show_in(rt, &mut self.place, shown);
+        show(rt, &mut self.place, shown);
         Ok(Told {
             version,
             history: self.history.again(),

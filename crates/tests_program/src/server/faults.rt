@@ -5,11 +5,15 @@ use super::{
     REFUSED_TEXT, count_of, is_cut_of, served,
 };
 use crate::shared::{check_at, check_so, check_text};
+use feed_csv::Feed;
 use std::io::ErrorKind;
 use std::process::Abort;
 use std::sync::Wait;
 use std::thread::Threads;
-use stinger_server::{ServeFault, Summary, Unwritten, law_examples, law_one_text, write_text};
+use stinger_server::{
+    Config, ServeFault, Sink, Summary, Unwritten, law_examples, law_one_text, run_script,
+    write_text,
+};
 
 // A run of the script into the writer comes to this, and leaves the writer holding the text.
 fn runs_so(
@@ -98,6 +102,33 @@ fn counts_records_errors_and_pending_operations(rt: HostRuntime) {
     assert!(rt; writer.writes == 3 && writer.flushed, "one write a line");
     law_one_text();
     law_examples();
+}
+
+// A run over the feed comes to this, and leaves the writer holding the text.
+fn runs_on(
+    rt: &(impl Abort + AllocGlobal + Threads + Wait + Sync),
+    feed: &mut Feed<FakeReader<'_>>,
+    answer: Result<Summary, ServeFault>,
+    text: &str,
+) {
+    let two_seats = Config::new(4, 16, 2).expect(rt, "within the limits");
+    let mut writer = FakeWriter::new(usize::MAX);
+    let told = run_script(rt, two_seats, feed, &mut Sink::over(&mut writer));
+    check_so(rt, told == answer, writer.text());
+    check_text(rt, writer.text(), text);
+}
+
+// The feed shows afterwards that it met the end of the input, or at which record it stopped.
+#[test]
+fn leaves_the_feed_where_the_run_ended(rt: HostRuntime) {
+    let mut whole = Feed::over(rt.alloc(), FakeReader::whole(REFUSED));
+    runs_on(&rt, &mut whole, Ok(REFUSED_COUNTED), REFUSED_TEXT);
+    check_so(&rt, matches!(whole.next(), Ok(None)), "the end");
+    let mut torn = Feed::over(rt.alloc(), failing(REFUSED, 6));
+    let cut = "error 1 BadCommand\nerror 2 Read\n";
+    runs_on(&rt, &mut torn, Err(ServeFault::Read), cut);
+    let stopped = matches!(torn.next(), Err(fault) if fault.at == 2);
+    check_so(&rt, stopped, "the record that was not given");
 }
 
 // A reader that gives a byte a read and fails after so many reads.

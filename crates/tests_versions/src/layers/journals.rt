@@ -1,8 +1,8 @@
 // The laws of the store's journal are there to be called.
 
 use store_steps::{
-    law_accepted, law_board_steps, law_collected, law_examples, law_held_versions, law_histories,
-    law_journal, law_opening_shown, law_stays_reached,
+    law_accepted, law_board_steps, law_collected, law_dated, law_examples, law_held_versions,
+    law_histories, law_journal, law_opening_shown, law_stays_reached,
 };
 
 #[test]
@@ -15,5 +15,6 @@ fn the_laws_are_there(rt: HostRuntime) {
     law_histories();
     law_stays_reached();
     law_held_versions();
+    law_dated();
     law_examples();
 }

@@ -1,6 +1,7 @@
 use Rattle.std.proofs.Common.{◌≡◌, ◌∙◌, ap, subst}
 use Rattle.std.specs.Arc.{arc_value}
-use Rattle.graph_model.specs.{Graph.graph_of, declared.contents.Content.Content}
+use Rattle.graph_model.specs.Graph.{graph_of}
+use Rattle.graph_version.specs.declared.listed.ListedContent.{ListedContent}
 use Rattle.row_pages.specs.{Rows.row_of, Sharing.block_values}
 use Rattle.graph_version.specs.{Versions.content, Kept.IsSummary, Rebased.rows_like}
 use Rattle.graph_version.proofs.Rebased.{LookLike, look_blocks, rebased_kept, rebased_is}
@@ -13,8 +14,8 @@ invariant_of-result c =
       looks = λ s. c.in_ok-rows_over.ensures s
           ∙ (λ i. row_of (rows_like (c.self.view_is i).rows (block_values (c.as_slice.ensures.value i))) s);
     } in
-    let same : graph_of (arc_value {X = Content} c.in_ok-new.field-0) ≡ content c.args.self.now =
-    ap graph_of c.in_ok-new.ensures.ok ∙ c.in_ok-contents.ensures in
+    let same : graph_of (arc_value {X = ListedContent} c.in_ok-new.field-0).content ≡ content c.args.self.now =
+    ap (λ (listed : ListedContent). graph_of listed.content) c.in_ok-new.ensures.ok ∙ c.in_ok-contents.ensures in
     rebased_kept _ _ c.self.inside.names c.self.inside.kinds c.args.self.now (block_values c.args.blocks.items) _ _ _ _
     (subst (IsSummary c.self.inside.names c.self.inside.kinds c.self.inside.edges) c.self.view_is c.self.invariant)
     c.in_ok-share.ensures c.in_ok-share-2.ensures c.new-2.ensures like same
@@ -26,8 +27,8 @@ returns-clause-rebased c =
       looks = λ s. c.in_ok-rows_over.ensures s
           ∙ (λ i. row_of (rows_like (c.self.view_is i).rows (block_values (c.as_slice.ensures.value i))) s);
     } in
-    let same : graph_of (arc_value {X = Content} c.in_ok-new.field-0) ≡ content c.args.self.now =
-    ap graph_of c.in_ok-new.ensures.ok ∙ c.in_ok-contents.ensures in
+    let same : graph_of (arc_value {X = ListedContent} c.in_ok-new.field-0).content ≡ content c.args.self.now =
+    ap (λ (listed : ListedContent). graph_of listed.content) c.in_ok-new.ensures.ok ∙ c.in_ok-contents.ensures in
     rebased_is c.args.self.now (block_values c.args.blocks.items) _ _ _ c.new-2.ensures like same
 
 pub returns-clause-blocks : goal.returns-clause-blocks

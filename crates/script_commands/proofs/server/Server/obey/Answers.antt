@@ -8,3 +8,6 @@ returns-in_ok-commit-in-Commit-clause-obeys g c = rw c.in-Commit.is c.in_ok-comm
 
 pub push-requires-clause-valid : goal.push-requires-clause-valid
 push-requires-clause-valid g c = rw c.in-Op.is at c.requires.valid
+
+pub returns-in-Rebase-clause-stops : goal.returns-in-Rebase-clause-stops
+returns-in-Rebase-clause-stops g c = rw c.in-Rebase.is c.rebase.ensures.stops

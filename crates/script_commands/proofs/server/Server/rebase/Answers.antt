@@ -3,7 +3,8 @@ use Rattle.std.specs.Prelude.{None, Ok, slice_get}
 use Rattle.std.proofs.lemmas.List.{length-replicate}
 use Rattle.graph_model.specs.Graph.{Graph}
 use Rattle.stream_store.specs.Seats.{held_graph, held_version}
-use Rattle.script_commands.proofs.{Asking.asked_there, Asking.graph_there, Asking.version_there, NamesApart.AreApart}
+use Rattle.script_commands.proofs.{Asking.asked_there, Asking.graph_there, Asking.stops_reopening, Asking.version_there}
+use Rattle.script_commands.proofs.NamesApart.{AreApart}
 use Rattle.script_commands.proofs.Rebasing.{length_opened, rebase_done, shows_rebased}
 use Rattle.script_commands.specs.{Slots.held_of, States.version, States.version_in}
 use Rattle.script_commands.proofs.server.Server.rebase.Goals as goal
@@ -40,3 +41,7 @@ returns-clause-obeys g c = λ s shows.
         held = c.in_ok-slots.ensures.none ∙ ap (λ n. replicate n None) seats;
       }),
     )
+
+pub returns-in_err-desk-clause-stops : goal.returns-in_err-desk-clause-stops
+returns-in_err-desk-clause-stops g c =
+    stops_reopening c.args.self.now c.args.slot c.in-Ok.session.now c.from_residual.result c.in-Ok.ensures.session

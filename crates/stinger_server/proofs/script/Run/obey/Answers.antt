@@ -1,4 +1,5 @@
-use Rattle.std.proofs.Common.{rules}
+use Rattle.std.proofs.{Common.arith, Common.rules, lemmas.Grind.common_steps}
+use Rattle.stinger_server.proofs.OneRecord.{breaks_reopening}
 use Rattle.stinger_server.proofs.script.Run.obey.Goals as goal
 
 pub returns-in_err-break_off-in-Err-Memory-clause-does : goal.returns-in_err-break_off-in-Err-Memory-clause-does
@@ -6,3 +7,9 @@ returns-in_err-break_off-in-Err-Memory-clause-does g c = search rules
 
 pub returns-in_ok-break_off-in-Err-Memory-clause-does : goal.returns-in_ok-break_off-in-Err-Memory-clause-does
 returns-in_ok-break_off-in-Err-Memory-clause-does g c = search rules
+
+pub returns-in_err-break_off-in-Err-Start-clause-does : goal.returns-in_err-break_off-in-Err-Start-clause-does
+returns-in_err-break_off-in-Err-Start-clause-does g c =
+    let broken = breaks_reopening c.args.command c.args.self.now _ _ (c.in-Err-Start.ensures.stops c.in-Err-Start.field-0-is)
+    c.in_err-break_off-in-Err-Start.ensures.part in
+    first_of (search (rules, broken), grind (arith, common_steps, broken))

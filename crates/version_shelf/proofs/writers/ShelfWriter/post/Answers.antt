@@ -1,4 +1,4 @@
-use Rattle.std.proofs.Common.{◌≡◌, ◌++◌, ◌∷◌, [], inl, inr, sym, ap, ◌∙◌}
+use Rattle.std.proofs.Common.{◌≡◌, ◌++◌, ◌∷◌, [], inr, Some, sym, ap, ◌∙◌}
 use Rattle.graph_version.specs.Versions.{VersionView}
 use Rattle.version_shelf.specs.{Histories.HistoryView, Shelves.ToldView, Shelves.ShelfView}
 use Rattle.version_shelf.proofs.Steps.{still_showing, ends_with_last}
@@ -17,10 +17,10 @@ invariant_of-self g c =
     let posted : history.batches ≡ version.batches =
     ap (λ (s : ShelfView). s.posted) c.self.view_is ∙ (c.if-not-enter_batch.ensures.posted ∙ sym ends) in (
       c.self.invariant.0,
-      still_showing shown c.show_in.new.place.desk.shown.value told history c.self.invariant.1
+      still_showing shown c.show.new.place.desk.shown.value told history c.self.invariant.1
           (ap (λ (h : HistoryView). h.book) c.again.ensures)
-          (ap (λ (v : VersionView). v.batches) c.in_ok-copy.ensures ∙ sym posted) c.show_in.ensures.shown,
-      c.show_in.ensures.view,
+          (ap (λ (v : VersionView). v.batches) c.in_ok-copy.ensures ∙ sym posted) (inr c.show.ensures.shown),
+      c.show.ensures.view ∙ ap (λ (t : ToldView). Some t) (sym c.show.ensures.shown),
     )
 
 pub returns-clause-posted : goal.returns-clause-posted
@@ -32,6 +32,7 @@ returns-clause-posted g c =
     c.requires.next.1.1
     (ap (λ (v : VersionView). v.batches) (sym c.deref-2.ensures) ∙ c.in-Some.ensures.1) in (
       ap (λ (s : ShelfView). s.posted) c.self.view_is ∙ (c.if-not-enter_batch.ensures.posted ∙ sym ends),
+      ap (λ (t : ToldView). t.version.batches) c.show.ensures.shown ∙ ap (λ (v : VersionView). v.batches) c.in_ok-copy.ensures,
       λ i. record {
         book = (ap (λ (h : HistoryView). h.book) c.again-2.ensures
             ∙ ap (λ (s : ShelfView). s.book) (c.self.view_is ∙ c.enter_batch.ensures.same)) i;
@@ -39,28 +40,9 @@ returns-clause-posted g c =
       },
     )
 
-pub returns-clause-shown : goal.returns-clause-shown
-returns-clause-shown g c =
-    let version : VersionView = c.args.version.value in
-    let ends : version.batches ≡ c.args.self.now.posted ++ c.in-Some.batch.now ∷ [] =
-    ends_with_last version.batches c.args.self.now.posted c.in-Some.ensures.0 c.requires.next.1.0 c.in-Some.batch.now
-    c.requires.next.1.1
-    (ap (λ (v : VersionView). v.batches) (sym c.deref-2.ensures) ∙ c.in-Some.ensures.1) in
-    elim c.show_in.ensures.shown [
-      | inl same ↦ inl (ap (λ (t : ToldView). t.version.batches) same
-          ∙ ap (λ (s : ShelfView). s.shown) (c.self.view_is ∙ c.enter_batch.ensures.same))
-      | inr same ↦ inr (ap (λ (t : ToldView). t.version.batches) same
-          ∙ (ap (λ (v : VersionView). v.batches) c.in_ok-copy.ensures ∙ (ends
-          ∙ sym (ap (λ (s : ShelfView). s.posted) c.self.view_is ∙ c.if-not-enter_batch.ensures.posted))))
-    ]
-
 pub returns-clause-same : goal.returns-clause-same
 returns-clause-same g c = (
   ap (λ (s : ShelfView). s.book) (c.self.view_is ∙ c.enter_batch.ensures.same),
-  elim c.show_in.ensures.shown [
-    | inl same ↦ ap (λ (t : ToldView). t.version.opening) same
-        ∙ ap (λ (s : ShelfView). s.opening) (c.self.view_is ∙ c.enter_batch.ensures.same)
-    | inr same ↦ ap (λ (t : ToldView). t.version.opening) same
-        ∙ (ap (λ (v : VersionView). v.opening) c.in_ok-copy.ensures ∙ c.requires.next.0)
-  ],
+  ap (λ (t : ToldView). t.version.opening) c.show.ensures.shown
+      ∙ (ap (λ (v : VersionView). v.opening) c.in_ok-copy.ensures ∙ c.requires.next.0),
 )
