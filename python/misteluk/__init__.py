@@ -11,12 +11,29 @@
 Python's standard library is enough; pandas, networkx, matplotlib and tqdm are used where they are there.
 """
 from .answers import Answer, Collected, Commit, Degree, Edge, Rebased, Stat
-from .errors import *  # noqa: F401,F403
-from .errors import StoreError
-from .feeds import Columns, Feed, delimited, from_networkx, from_pandas, matrix_market, open_feed, snap
+from .delimited import delimited
+from .errors import (AlreadyOpen, BadCommand, BadFields, BadName, BadRows, BadSlot, BadTime, BadWeight, BadWindow, BatchFull,
+                     BatchLimit, FeedFault, KindsFull, Misread, Missing, NamesFull, NoAnswer, NoKind, NoSeat, NotOpen, NoVertex,
+                     OperationsRefused, OutOfMemory, OverLimit, Place, PoolEmpty, ProgramEnded, ProgramNotFound, RecordLimit,
+                     Refused, SessionClosed, StoreError, Uncommitted)
+from .feeds import Columns, Feed, matrix_market, snap
+from .finding import find_program
 from .lint import lint
 from .loading import Loaded, Survey, load, load_in_steps, survey
-from .program import find_program
-from .store import Session, Store
+from .objects import from_columns, from_networkx, from_pandas, from_rows
+from .opening import open_feed
+from .session import Session
+from .store import Store
 
+# What there is, in the order in which a newcomer meets it.
+__all__ = [
+    "Store", "Session",
+    "load", "survey", "load_in_steps", "Loaded", "Survey", "Columns", "Feed", "open_feed", "delimited", "snap", "matrix_market",
+    "from_networkx", "from_pandas", "from_columns", "from_rows",
+    "Answer", "Collected", "Commit", "Degree", "Edge", "Rebased", "Stat", "lint", "find_program",
+    "StoreError", "Refused", "Place", "AlreadyOpen", "BadCommand", "BadFields", "BadName", "BadRows", "BadSlot", "BadTime",
+    "BadWeight", "BadWindow", "BatchFull", "BatchLimit", "FeedFault", "KindsFull", "Misread", "Missing", "NamesFull", "NoAnswer",
+    "NoKind", "NoSeat", "NoVertex", "NotOpen", "OperationsRefused", "OutOfMemory", "OverLimit", "PoolEmpty", "ProgramEnded",
+    "ProgramNotFound", "RecordLimit", "SessionClosed", "Uncommitted",
+]
 __version__ = "0.1.0"

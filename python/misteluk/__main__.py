@@ -3,16 +3,22 @@ from __future__ import annotations
 
 import argparse
 import code
+import csv
+import io
 import sys
 from contextlib import ExitStack
 from typing import Any, Dict, List, Optional
 
 from . import pictures, records
+from .answers import BY_COLUMN
 from .errors import StoreError
-from .feeds import Column, Columns
+from .feeds import STANDARD_INPUT, Column, Columns
 from .lint import lint
-from .loading import COMMANDS, Ahead, Survey, check, load, load_in_steps, survey
-from .store import Session, Store
+from .loading import Ahead, Survey, check, load, load_in_steps, survey
+from .names import shown
+from .notations import DATES, DECIMALS
+from .session import Session
+from .store import Store
 
 
 def column(text: str) -> Column:
@@ -21,7 +27,8 @@ def column(text: str) -> Column:
 
 
 def add_feed_options(parser: argparse.ArgumentParser) -> None:
-    parser.add_argument("file", help="a delimited file, an edge list (SNAP), or a Matrix Market file; .gz is unpacked")
+    parser.add_argument("file", help="a delimited file, an edge list (SNAP), or a Matrix Market file; .gz is unpacked; - is "
+                        "standard input")
     way = parser.add_mutually_exclusive_group(required=True)
     way.add_argument("--set", dest="by", action="store_const", const="set", help="a later row sets the weight of its edge anew")
     way.add_argument("--add", dest="by", action="store_const", const="add", help="a later row adds to the weight of its edge")
@@ -32,10 +39,15 @@ def add_feed_options(parser: argparse.ArgumentParser) -> None:
     feed.add_argument("--kind", default="link", help="the kind of all edges, where no column has it (else link)")
     feed.add_argument("--delimiter", help="else the comma, tab, semicolon or bar of which the first line has most")
     feed.add_argument("--header", action=argparse.BooleanOptionalAction, help="else there is one where columns are named")
+    feed.add_argument("--encoding", default="utf-8", help="the file's, as cp1252, latin-1 or utf-16 (utf-8)")
+    feed.add_argument("--decimal", choices=DECIMALS, default=".", help="the sign before decimals: , takes 12,50 and 1.234,50 (.)")
+    feed.add_argument("--dates", choices=tuple(DATES), help="times are dates of this form, which a time of day may follow; else "
+                      "--times iso takes 2024-03-05")
     feed.add_argument("--third", choices=("weight", "time"), help="what the third field of an edge list is")
-    feed.add_argument("--weight-scale", type=int, default=1, metavar="N", help="weights in so many parts: 100 makes 12.50 1250")
-    feed.add_argument("--times", choices=("number", "iso"), default="number", help="iso: dates, as seconds since 1970")
-    feed.add_argument("--names", choices=("plain", "escape"), default="plain", help="escape: %%20 for a space, and so on")
+    feed.add_argument("--weight-scale", type=int, metavar="N", help="weights are decimals of so many parts: 100 takes 12.50")
+    feed.add_argument("--times", choices=("number", "iso"), help="iso: times are dates, here and in what is asked and told")
+    feed.add_argument("--names", choices=("plain", "escape"), default="plain", help="any text is a name; escape: with %%20 for a "
+                      "space and so on, which a script has else as an id")
     feed.add_argument("--skip-bad", action="store_true", help="pass over rows that can't be taken, and count them")
     store = parser.add_argument_group("the store")
     store.add_argument("--blocks", type=int, help="else as many as are needed, and no fewer than 16,384; where a file "
@@ -47,8 +59,8 @@ def add_feed_options(parser: argparse.ArgumentParser) -> None:
 
 def add_window(parser: argparse.ArgumentParser) -> None:
     parser.add_argument("--of-kind", metavar="KIND", help="answer over edges of one kind; else of any")
-    parser.add_argument("--since", type=int, default=0, metavar="TIME", help="answer over edges with a recent time from this on")
-    parser.add_argument("--until", type=int, default=records.MOST_TIME, metavar="TIME", help="and up to this")
+    parser.add_argument("--since", default="0", metavar="TIME", help="answer over edges with a recent time from this on")
+    parser.add_argument("--until", default=str(records.MOST_TIME), metavar="TIME", help="and up to this; to the end of a day")
 
 
 def make_parser() -> argparse.ArgumentParser:
@@ -62,6 +74,8 @@ def make_parser() -> argparse.ArgumentParser:
     ask.add_argument("--ask", action="append", default=[], choices=("degrees", "components", "cores"), help="print a table")
     ask.add_argument("--levels", action="append", default=[], metavar="NAME", help="print the levels from a source")
     ask.add_argument("--top", type=int, default=10, metavar="N", help="how many rows of a table are printed (10)")
+    ask.add_argument("--by", choices=tuple(BY_COLUMN), default="out", dest="column",
+                     help="by which column the greatest degrees are (out)")
     ask.add_argument("--interactive", action="store_true", help="then a Python prompt with `store` and `session`")
     add_window(load)
     check = commands.add_parser("lint", help="tell each refused record of a script, with its line, field and reason")
@@ -85,7 +99,7 @@ def read(words: argparse.Namespace, ahead: Optional[Ahead] = None) -> Survey:
     columns = Columns(words.source, words.target, words.kind_column, words.weight, words.time, words.kind)
     found = survey(words.file, by=words.by, batch=words.batch, weight_scale=words.weight_scale, times=words.times,
                    names=words.names, format=words.format, columns=columns, delimiter=words.delimiter, header=words.header,
-                   third=words.third, ahead=ahead)
+                   third=words.third, ahead=ahead, encoding=words.encoding, decimal=words.decimal, dates=words.dates)
     check(found, skip_bad=words.skip_bad)
     return found
 
@@ -102,6 +116,8 @@ def window(words: argparse.Namespace) -> Dict[str, Any]:
 
 def run_load(words: argparse.Namespace) -> int:
     """Loads a file and asks. The program works while the file is still counted, where none says how many blocks it is to have."""
+    if words.interactive and words.file == STANDARD_INPUT:
+        raise ValueError("--interactive reads standard input, which is the file here")
     with ExitStack() as stack:
         def start(blocks: int = records.MOST_BLOCKS) -> Store:
             return stack.enter_context(Store(blocks=blocks, program=words.program, timeout=words.timeout))
@@ -131,6 +147,8 @@ def tell(words: argparse.Namespace, found: Survey) -> None:
             for part in found.parts:
                 file.write(part.text + b"commit\ncollect\n")
         print(f"{found.records()} records written to {words.script}: stinger run --blocks {found.fitting()} < {words.script}")
+        if len(found.terms.names):
+            print(f"  {len(found.terms.names)} names and kinds stand in it as ids, ~~ and 20 signs")
 
 
 def answer(words: argparse.Namespace, session: Session) -> None:
@@ -140,13 +158,14 @@ def answer(words: argparse.Namespace, session: Session) -> None:
             show_components(session.components(**window(words)), words.top)
             continue
         table: Any = getattr(session, what)(**window(words))
-        print(f"{what}: {len(table)} names" + (f", greatest {max(table.values(), default=0)}" if what == "cores" else ""))
-        for name, value in table.most(words.top):
+        how = f"greatest {max(table.values(), default=0)}" if what == "cores" else f"greatest by {words.column}"
+        print(f"{what}: {len(table)} names, {how}")
+        for name, value in table.most(words.top, None if what == "cores" else words.column):
             told = value if what == "cores" else f"out {value.out} in {value.into} weight {value.weight_out}"
-            print(f"  {name} {told}")
+            print(f"  {shown(name)} {told}")
     for source in words.levels:
         levels = session.levels(source, **window(words))
-        print(f"levels from {source}: {len(levels)} reached, the farthest at {max(levels.values())}")
+        print(f"levels from {shown(source)}: {len(levels)} reached, the farthest at {max(levels.values())}")
         for level in range(min(max(levels.values()) + 1, words.top)):
             print(f"  {level}: {sum(it == level for it in levels.values())}")
 
@@ -157,7 +176,7 @@ def show_components(labels: Dict[str, str], most: int) -> None:
         sizes[label] = sizes.get(label, 0) + 1
     print(f"components: {len(sizes)} of {len(labels)} names")
     for label, size in sorted(sizes.items(), key=lambda it: -it[1])[:most]:
-        print(f"  {label} {size}")
+        print(f"  {shown(label)} {size}")
 
 
 def run_lint(words: argparse.Namespace) -> int:
@@ -189,17 +208,23 @@ def draw_last(words: argparse.Namespace, store: Store, found: Survey) -> Any:
         return pictures.core_numbers(session.cores(**window(words)), **more)
 
 
+def named_edge(text: str) -> List[str]:
+    """A kind, source and target, parted by commas; one that has a comma stands in quotes, as in a file."""
+    edge: List[str] = next(csv.reader([text]), [])
+    if len(edge) != 3:
+        raise ValueError("the picture of an edge wants --edge KIND,SOURCE,TARGET")
+    return edge
+
+
 def draw_versions(words: argparse.Namespace, store: Store, found: Survey) -> Any:
     """Pictures that need more than the last version: sessions are opened between batches."""
     steps = load_in_steps(store, found, skip_bad=words.skip_bad)
     if words.what == "edge":
-        edge = tuple((words.edge or "").split(","))
-        if len(edge) != 3:
-            raise ValueError("the picture of an edge wants --edge KIND,SOURCE,TARGET")
+        edge = named_edge(words.edge or "")
         weights = []
         for _ in steps:
             with store.open() as session:
-                it = session.edges([(edge[0], edge[1], edge[2])])[0]
+                it = session.edges([(edge[0], edge[1], edge[2])], missing=None)[0]
                 weights.append((session.version, it.weight if it else None))
         return pictures.edge_weights(weights, words.title or f"{edge[1]} to {edge[2]} ({edge[0]})")
     first: Optional[Session] = None
@@ -217,6 +242,9 @@ def draw_versions(words: argparse.Namespace, store: Store, found: Survey) -> Any
 
 def main(words: Optional[List[str]] = None) -> int:
     parsed = make_parser().parse_args(words)
+    for it in (sys.stdout, sys.stderr):
+        if isinstance(it, io.TextIOWrapper):  # (a name that the terminal has no signs for)
+            it.reconfigure(errors="backslashreplace")
     try:
         return {"load": run_load, "lint": run_lint, "picture": run_picture}[parsed.command](parsed)
     except (StoreError, OSError, ValueError) as fault:

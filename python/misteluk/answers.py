@@ -3,7 +3,7 @@ from __future__ import annotations
 
 from html import escape
 from itertools import islice
-from typing import TYPE_CHECKING, Any, Dict, List, NamedTuple, Tuple, TypeVar
+from typing import TYPE_CHECKING, Any, Dict, List, NamedTuple, Optional, Tuple, TypeVar
 
 from .errors import Missing, Misread
 
@@ -59,19 +59,25 @@ class Rebased(NamedTuple):
 
 
 class Degree(NamedTuple):
-    """How many edges go out of a vertex and how many come in, and the sum of the weights of those that go out."""
+    """How many edges go out of a vertex and how many come in, and the sum of the weights of those that go out: a whole number,
+    or a decimal one in a store that has a `weight_scale`."""
 
     out: int
     into: int
-    weight_out: int
+    weight_out: Any
 
 
 class Edge(NamedTuple):
-    """An edge's weight, the time of the operation that added it, and that of the last one that touched it."""
+    """An edge's weight, the time of the operation that added it, and that of the last one that touched it. These are whole
+    numbers; in a store that has units the weight is a decimal number, and a time a `datetime` in UTC."""
 
-    weight: int
-    first: int
-    recent: int
+    weight: Any
+    first: Any
+    recent: Any
+
+
+# What the columns of a degree may be asked for by.
+BY_COLUMN = {"out": "out", "incoming": "into", "weight": "weight_out"}
 
 
 class Answer(Dict[str, V]):
@@ -104,9 +110,17 @@ class Answer(Dict[str, V]):
         told = f"{len(self)} {'name' if len(self) == 1 else 'names'} of version {self.version}: {self.request}"
         return f"<table>{''.join(f'<tr>{it}</tr>' for it in cells)}</table><p>{escape(told)}</p>"
 
-    def most(self, count: int = 10) -> "list[Tuple[str, V]]":
-        """The rows with the greatest values, greatest first; equal ones in the order of the table."""
-        return sorted(self.items(), key=lambda it: it[1], reverse=True)[:count]  # type: ignore[arg-type, return-value]
+    def most(self, count: int = 10, by: Optional[str] = None) -> "list[Tuple[str, V]]":
+        """The rows with the greatest values, greatest first; equal ones in the order of the table. `by` says by which column of
+        degrees: "out" (which they are by where none is said), "incoming" or "weight"; other tables have one column alone."""
+        fields = self._columns()
+        field = BY_COLUMN.get(by or "out", by) if len(fields) > 1 or by else fields[0]
+        if self and field not in fields:
+            raise ValueError(f"by is 'out', 'incoming' or 'weight' for degrees, and not {by!r}")
+
+        def key(row: "Tuple[str, Any]") -> Any:
+            return getattr(row[1], field or "") if len(fields) > 1 else row[1]
+        return sorted(self.items(), key=key, reverse=True)[:count]
 
 
 def committed(head: str) -> Commit:

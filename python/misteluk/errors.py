@@ -36,9 +36,10 @@ class Refused(StoreError):
     applied: "Optional[Commit]" = None
 
     def __init__(self, text: str = "", *, record: Optional[int] = None, place: Optional[Place] = None,
-                 fault: Optional[Fault] = None, word: Optional[str] = None) -> None:
+                 fault: Optional[Fault] = None, word: Optional[str] = None, advice: Optional[str] = None) -> None:
         self.record, self.place, self.fault = record, place, fault
         self.word = word or self.word
+        self.advice = self.advice if advice is None else advice
         where = f"{place}: " if place else ""
         number = f" (record {record})" if record else ""
         reason = text or (str(fault) if fault else "")
@@ -64,17 +65,17 @@ class BadFields(Refused):
 
 class BadName(Refused):
     word = "BadName"
-    advice = "Names that have other signs can be written with escapes: names='escape' (--names escape) where a feed is loaded"
+    advice = "Any text is a name that isn't empty, and a kind too that isn't * alone"
 
 
 class BadWeight(Refused):
     word = "BadWeight"
-    advice = "Amounts with decimals can be counted in cents: weight_scale=100 (--weight-scale 100) where a feed is loaded"
+    advice = "Amounts with decimals are counted in cents by weight_scale=100 (--weight-scale 100)"
 
 
 class BadTime(Refused):
     word = "BadTime"
-    advice = "Dates can be counted in seconds since 1970: times='iso' (--times iso) where a feed is loaded"
+    advice = "Dates are taken by times='iso' (--times iso)"
 
 
 class BadSlot(Refused):
@@ -136,8 +137,9 @@ class PoolEmpty(Refused):
               "at most)")
 
     def __init__(self, *, needed: int, free: Optional[int], record: Optional[int] = None, place: Optional[Place] = None,
-                 text: str = "") -> None:
+                 text: str = "", advice: Optional[str] = None) -> None:
         self.needed, self.free = needed, free
+        self.advice = self.advice if advice is None else advice
         left = "" if free is None else f", and {free} are free"
         super().__init__(text or f"the batch needs {needed} free blocks{left}", record=record, place=place)
 
@@ -149,12 +151,13 @@ WORDS: Dict[str, Type[Refused]] = {it.word: it for it in _KNOWN}
 
 
 def refusal(word: str, text: str = "", *, record: Optional[int] = None, place: Optional[Place] = None,
-            fault: Optional[Fault] = None) -> Refused:
-    """The exception for a word, or a plain `Refused` for one that this package doesn't know."""
+            fault: Optional[Fault] = None, advice: Optional[str] = None) -> Refused:
+    """The exception for a word, or a plain `Refused` for one that this package doesn't know. `advice` stands for that of the
+    word, where it is told."""
     known = WORDS.get(word, Refused)
     if known is PoolEmpty:
         return Refused(text, record=record, place=place, fault=fault, word=word)
-    return known(text, record=record, place=place, fault=fault, word=word)
+    return known(text, record=record, place=place, fault=fault, word=word, advice=advice)
 
 
 class OperationsRefused(StoreError):
@@ -168,12 +171,18 @@ class OperationsRefused(StoreError):
 
 
 class BadRows(StoreError):
-    """Rows of a feed are no operations; nothing of the feed is loaded. `faults` has the first of them, `count` says how many."""
+    """Rows of a feed are no operations; nothing of the feed is loaded. `count` says how many they are, `faults` has the first
+    faults and the first of each rule, and `fault_counts` how many rows break each rule, by its word and field."""
 
-    def __init__(self, feed: str, count: int, rows: int, faults: Sequence[Refused]) -> None:
+    def __init__(self, feed: str, count: int, rows: int, faults: Sequence[Refused],
+                 fault_counts: Optional[Dict[str, int]] = None) -> None:
         self.feed, self.count, self.rows, self.faults = feed, count, rows, list(faults)
+        self.fault_counts = dict(fault_counts or {})
         lines = [it.told for it in self.faults]
-        lines += [f"and {count - len(self.faults)} more"] if count > len(self.faults) else []
+        told = len({it.place for it in self.faults})
+        lines += [f"and {count - told} more rows" if count - told > 1 else "and 1 more row"] if count > told else []
+        if len(self.fault_counts) > 1:
+            lines.append("In all " + ", ".join(f"{times} {rule}" for rule, times in self.fault_counts.items()))
         lines += dict.fromkeys(it.advice for it in self.faults if it.advice)
         lines += ["The others can be loaded without them: skip_bad=True (--skip-bad)"] if count < rows else []
         super().__init__("\n  ".join([f"{feed}: {count} of {rows} rows can't be taken, and none is loaded", *lines]))

@@ -8,7 +8,7 @@ from typing import Dict, Iterator, List, NamedTuple, Optional, Tuple, Union
 
 from . import records
 from .errors import WORDS, NoAnswer
-from .program import Path, find_program
+from .finding import Path, find_program
 
 # Which field a word is about where the record alone doesn't tell.
 STATE_FIELDS: Dict[str, Tuple[str, ...]] = {

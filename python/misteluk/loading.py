@@ -1,27 +1,37 @@
 """A feed is read whole, counted and checked before its first record is sent: a run takes 999,999 records, so it fits."""
 from __future__ import annotations
 
-import gc
-import sys
 import time
 from array import array
 from collections import defaultdict, deque
-from contextlib import contextmanager
+from functools import partial
 from itertools import compress, repeat
 from operator import getitem
 from typing import TYPE_CHECKING, Any, Callable, DefaultDict, Dict, Iterator, List, NamedTuple, Optional, Set, Tuple
 
 from . import records
 from .answers import Commit
-from .errors import BadRows, NoAnswer, OverLimit, Place, PoolEmpty, Refused, StoreError, Uncommitted, refusal
-from .feeds import Block, Row, open_feed, turned
+from .errors import Place, Refused, Uncommitted
+from .faults import advise
+from .feeds import Block, Columns, Row, of_columns, part_of, rows_of, turned
+from .limits import check as check, check_room
+from .opening import open_feed
+from .progress import Progress, no_collection
+from .sending import Ahead as Ahead, land, launch
+from .terms import Terms
+from .units import Units
 
 if TYPE_CHECKING:
     from .store import Store
 
 COMMANDS = {"set": "i", "add": "a"}
-# How many bad rows are told of.
+# How many faults are told of, beside the first of each rule.
 MOST_FAULTS = 10
+
+
+# Calls in C, as they are used here.
+_GET: Callable[[DefaultDict[str, Set[str]], str], Set[str]] = getitem
+_ADD: Callable[[Set[str], str], None] = set.add
 
 
 class Part(NamedTuple):
@@ -58,8 +68,10 @@ class Survey(NamedTuple):
     blocks: int
     needs: List[Need]
     bad: int
+    fault_counts: Dict[str, int]
     faults: List[Refused]
     seconds: float
+    terms: Terms
 
     def records(self, collect: bool = True) -> int:
         """How many records a load sends: the rows, a commit for each batch, and a collection."""
@@ -75,10 +87,10 @@ class Survey(NamedTuple):
         return max((it.beside(used) for it in self.needs), default=0)
 
     @property
-    def times(self) -> Tuple[int, int]:
-        """The first and the last time."""
-        times = [int(it.rpartition(b",")[2]) for part in self.parts for it in part.text.splitlines()]
-        return (min(times), max(times)) if times else (0, 0)
+    def times(self) -> Tuple[Any, Any]:
+        """The first and the last time, in the units that the feed was counted in."""
+        times = [int(it.rpartition(b",")[2]) for part in self.parts for it in part.text.splitlines()] or [0]
+        return self.terms.units.time_to_user(min(times)), self.terms.units.time_to_user(max(times))
 
     def fitting(self) -> int:
         """The number of blocks to make a store with: the usual one, or what is needed."""
@@ -124,56 +136,12 @@ class Loaded(NamedTuple):
         return f"<Loaded {self}>"
 
 
-class Progress:
-    """Tells on a terminal how far it is: by tqdm where that is there."""
-
-    def __init__(self, what: str, total: Optional[int], shown: Optional[bool]) -> None:
-        self.bar: Any = None
-        self.shown = sys.stderr.isatty() if shown is None else shown
-        self.what, self.total, self.count = what, total, 0
-        self.begun = self.told = time.monotonic()
-        if self.shown:
-            try:
-                import tqdm
-                self.bar = tqdm.tqdm(desc=what, total=total, unit=" records", file=sys.stderr)
-            except ImportError:
-                pass
-
-    def step(self, count: int) -> None:
-        self.count += count
-        if self.bar is not None:
-            self.bar.update(count)
-        elif self.shown and time.monotonic() - self.told > 0.2:
-            self.told = time.monotonic()
-            rate = self.count / (self.told - self.begun)
-            of = f" of {self.total}" if self.total else ""
-            print(f"\r\033[K{self.what}: {self.count}{of} records, {rate:.0f} a second", end="", file=sys.stderr, flush=True)
-
-    def end(self) -> None:
-        if self.bar is not None:
-            self.bar.close()
-        elif self.shown:
-            print("\r\033[K", end="", file=sys.stderr, flush=True)
-
-
-@contextmanager
-def _no_collection() -> Iterator[None]:
-    """Python's collector of cycles rests meanwhile. Rows make none, and it would look through them again and again: a third of
-    the time that counting takes."""
-    was_on = gc.isenabled()
-    gc.disable()
-    try:
-        yield
-    finally:
-        if was_on:
-            gc.enable()
-
-
 class Count:
     """Counts and checks rows, and makes batches of them. A loop over rows is one in C where it can be: there are many rows."""
 
-    def __init__(self, feed: str, by: str, batch: int) -> None:
+    def __init__(self, feed: str, by: str, batch: int, terms: Terms) -> None:
         self.begun = time.monotonic()
+        self.terms = terms
         self.feed, self.by, self.command, self.batch = feed, by, COMMANDS[by], batch
         self.parts: List[Part] = []
         # Of the batch that is being filled: its records, where they came from, and its rows.
@@ -188,13 +156,15 @@ class Count:
         self.targets: Set[str] = set()
         self.bad = self.rows = 0
         self.faults: List[Refused] = []
+        # How many rows break a rule, by its word and field.
+        self.fault_counts: Dict[str, int] = {}
 
     def take(self, block: Block) -> None:
         """Counts rows, and puts those that can be taken into batches of `batch`."""
         at = 0
         while at < len(block.lines):
             room = self.batch - len(self.lines)
-            self._fill(Block(*(it[at:at + room] for it in block)))
+            self._fill(part_of(block, slice(at, at + room)))
             at += room
 
     def _fill(self, block: Block) -> None:
@@ -217,29 +187,42 @@ class Count:
     def _put(self, blocks: List[Block]) -> None:
         """Puts rows among the edges."""
         for it in blocks:
-            of_sources = map(getitem, map(self.edges.__getitem__, it.kinds), it.sources)
-            deque(map(set.add, of_sources, it.targets), maxlen=0)
+            of_kinds: Iterator[DefaultDict[str, Set[str]]] = map(self.edges.__getitem__, it.kinds)
+            of_sources: Iterator[Set[str]] = map(_GET, of_kinds, it.sources)
+            deque(map(_ADD, of_sources, it.targets), maxlen=0)
 
     def _written(self, block: Block) -> Tuple[Block, str]:
-        """The rows that can be taken, and their records. Rows that keep every rule as they stand, nearly all of them, are found
-        so all at once, or else one by one; the few that are left are looked at field by field."""
-        lines = list(map(",".join, zip(repeat(self.command), *block[1:])))
-        text = "\n".join([*lines, ""])
-        if records.are_plain_operations(text) and text.count("\n") == len(lines):
+        """The rows that can be taken, in the program's terms, and their records. Rows that keep every rule as they stand, nearly
+        all of them, are found so all at once, or when they are turned to the program's terms; or else one by one, and the few
+        that are left are looked at field by field."""
+        lines, text = self._lines(block)
+        if self.terms.is_as_it_is(text) and _are_right(lines, text):
             return block, text
+        turned = self.terms.block(block)
+        lines, text = self._lines(turned)
+        if _are_right(lines, text):
+            return turned, text
         written = [line if records.is_plain_operation(line) else self._record(row)
-                   for line, row in zip(map("{}\n".format, lines), zip(*block))]
-        return Block(*(tuple(compress(column, written)) for column in block)), "".join(written)
+                   for line, row in zip(map("{}\n".format, lines), rows_of(block))]
+        return of_columns([tuple(compress(column, written)) for column in turned]), "".join(written)
+
+    def _lines(self, block: Block) -> Tuple[List[str], str]:
+        """A line for each row, as if no field needed quotes; and all of them."""
+        lines = list(map(",".join, zip(repeat(self.command), *block[1:])))
+        return lines, "\n".join([*lines, ""])
 
     def _record(self, row: Row) -> str:
         """The row's record, or nothing where a rule is broken, which is counted and told."""
         fields = (self.command, *row[1:])
-        faults = records.faults_of(fields)
+        faults = self.terms.faults_of(fields)
         if not faults:
-            return records.record(fields)
+            return self.terms.record(fields)
         self.bad += 1
-        if len(self.faults) < MOST_FAULTS:
-            self.faults.append(refusal(faults[0].word, fault=faults[0], place=Place(self.feed, row[0])))
+        for it in faults:
+            rule = f"{it.word} {it.field}"
+            self.fault_counts[rule] = self.fault_counts.get(rule, 0) + 1
+            if len(self.faults) < MOST_FAULTS or self.fault_counts[rule] == 1:
+                self.faults.append(self.terms.refusal(it, place=Place(self.feed, row[0])))
         return ""
 
     def _blocks(self) -> int:
@@ -257,92 +240,54 @@ class Count:
             self._end_batch()
         edges = sum(len(it) for of_kind in self.edges.values() for it in of_kind.values())
         names = self.targets.union(*self.edges.values())
-        return Survey(self.feed, self.by, self.parts, self.rows, len(names), list(self.edges), edges, self._blocks(), needs,
-                      self.bad, self.faults, time.monotonic() - self.begun)
+        kinds = list(map(self.terms.names.to_user, self.edges))
+        return Survey(self.feed, self.by, self.parts, self.rows, len(names), kinds, edges, self._blocks(), needs, self.bad,
+                      self.fault_counts, self.faults, time.monotonic() - self.begun, self.terms)
 
 
-def survey(data: Any, *, by: str, batch: int = records.MOST_OPERATIONS, progress: Optional[bool] = None, weight_scale: int = 1,
-           times: str = "number", names: str = "plain", ahead: "Optional[Ahead]" = None, **options: Any) -> Survey:
+def _are_right(lines: List[str], text: str) -> bool:
+    """Whether each line is an operation that keeps every rule, seen at once; others may keep them too."""
+    return records.are_plain_operations(text) and text.count("\n") == len(lines)
+
+
+def survey(data: Any, *, by: str, batch: int = records.MOST_OPERATIONS, progress: Optional[bool] = None,
+           weight_scale: Optional[int] = None, times: Optional[str] = None, names: str = "plain",
+           ahead: "Optional[Ahead]" = None, terms: Optional[Terms] = None, format: Optional[str] = None,
+           columns: Columns = Columns(), delimiter: Optional[str] = None, header: Optional[bool] = None,
+           third: Optional[str] = None, both_ways: bool = True, encoding: str = "utf-8", decimal: str = ".",
+           dates: Optional[str] = None) -> Survey:
     """Reads a feed whole, counts and checks it: what it holds, how many blocks it needs, which rows are bad. Nothing is sent,
-    unless something is to be sent ahead. The options are those of `load`."""
+    unless something is to be sent ahead. The options are those of `load`; a store that is loaded with it takes its units.
+    `terms` are those of a store that is to take it, and stand for its units."""
     if by not in COMMANDS:
         raise ValueError(f"by is 'set' (a later weight replaces an earlier one) or 'add' (amounts are summed), and not {by!r}")
     if not 1 <= batch <= records.MOST_OPERATIONS:
         raise ValueError(f"batch is from 1 to {records.MOST_OPERATIONS}, and not {batch}")
-    feed = turned(open_feed(data, **options), weight_scale=weight_scale, times=times, names=names)
-    counter, told = Count(feed.name, by, batch), Progress(f"reading {feed.name}", None, progress)
-    with _no_collection():
+    opened = open_feed(data, format=format, columns=columns, delimiter=delimiter, header=header, third=third, both_ways=both_ways,
+                       encoding=encoding, decimal=decimal, dates=dates)
+    feed = turned(opened, names=names)
+    times = "iso" if dates else times
+    terms = terms or Terms(units=Units(1 if weight_scale is None else weight_scale, times or "number"))
+    counter, told = Count(feed.name, by, batch, terms), Progress(f"reading {feed.name}", None, progress)
+    with no_collection():
         for block in feed.blocks():
             counter.take(block)
             told.step(len(block.lines))
             if ahead:
                 ahead.go_on(counter)
     told.end()
+    advise(counter.faults, encoding, decimal, dates)
     return counter.survey()
 
 
-class Ahead:
-    """Sends batches to a store of one's own while those behind them are still counted, and waits for nothing. At most half of the
-    batches that were counted are sent: so whatever a feed has that can't be taken is told before half of it is in.
-
-    `start` makes the store, as soon as there is a batch to send; it must be empty, and have as many blocks as there can be. What
-    it has is of no use where the rest of the feed can't be taken.
-    """
-
-    def __init__(self, start: "Callable[[], Store]", skip_bad: bool = False) -> None:
-        self.start, self.skip_bad = start, skip_bad
-        self.store: "Optional[Store]" = None
-        self.sent = 0
-        self.receipts: List[Commit] = []
-        self.fault: Optional[StoreError] = None
-
-    def go_on(self, count: Count) -> None:
-        """Takes what was answered, and sends the next batch where that may be."""
-        if self.fault or count.bad and not self.skip_bad or self.store and not self.store._has_landed():
-            return
-        if self.sent > len(self.receipts):
-            self._take(count.feed, count.parts)
-        if not self.fault and 2 * (self.sent + 1) <= len(count.parts):
-            self.store = self.store or self.start()
-            _launch(self.store, count.feed, count.parts[self.sent], True)
-            self.sent += 1
-
-    def _take(self, feed: str, parts: List[Part]) -> None:
-        """Takes the answer to the last batch that was sent. A fault is kept: what the rest of the feed has may be the reason."""
-        assert self.store
-        try:
-            self.receipts.append(_land(self.store, feed, parts, len(self.receipts)))
-        except StoreError as fault:
-            self.fault = fault
-
-    def rest(self, found: Survey) -> Iterator[Commit]:
-        """What was done of the batches that were sent, when the feed was found to be right."""
-        if self.sent > len(self.receipts) and not self.fault:
-            self._take(found.feed, found.parts)
-        yield from self.receipts
-        if self.fault:
-            raise self.fault
-
-
-def check(found: Survey, *, skip_bad: bool = False, collect: bool = True) -> None:
-    """Raises where rows are bad (unless they are to be passed over), and where the feed is more than an empty store takes."""
-    if found.bad and not skip_bad:
-        raise BadRows(found.feed, found.bad, found.rows, found.faults)
-    limits = (("names", found.names, records.MOST_NAMES), ("kinds", len(found.kinds), records.MOST_KINDS),
-              ("records with its commits and collections", found.records(collect), records.MOST_RECORDS),
-              ("batches", len(found.parts), records.MOST_BATCHES))
-    over = [f"{count} {what}, where a run takes {most}" for what, count, most in limits if count > most]
-    if found.needed > records.MOST_BLOCKS:
-        over.append(f"{found.blocks} blocks for its edges and {found.needed} for its batches, where a store has at most "
-                    f"{records.MOST_BLOCKS}: a batch needs as many free blocks as it has operations, so smaller ones need fewer")
-    if over:
-        raise OverLimit(f"{found.feed} has {'; '.join(over)}. Nothing is loaded", found.counts())
-
-
 def load(store: "Store", data: Any, *, by: str, batch: int = records.MOST_OPERATIONS, collect: bool = True,
-         skip_bad: bool = False, progress: Optional[bool] = None, ahead: Optional[Ahead] = None, **options: Any) -> Loaded:
-    """Loads a feed into a store: a file's path, a networkx graph, a pandas frame, a `Feed`, or a `Survey` made before (in its
-    own batches).
+         skip_bad: bool = False, progress: Optional[bool] = None, ahead: Optional[Ahead] = None,
+         weight_scale: Optional[int] = None, times: Optional[str] = None, names: str = "plain", format: Optional[str] = None,
+         columns: Columns = Columns(), delimiter: Optional[str] = None, header: Optional[bool] = None,
+         third: Optional[str] = None, both_ways: bool = True, encoding: str = "utf-8", decimal: str = ".",
+         dates: Optional[str] = None) -> Loaded:
+    """Loads a feed into a store: a file's path (`-` is standard input), a networkx graph, a pandas frame, columns by name, rows,
+    a `Feed`, or a `Survey` made before (in its own batches).
 
     `by` is "set" or "add": whether a second row of the same kind, source and target replaces the first one's weight or adds
     to it. Rows are sent in batches of `batch`, each followed by a collection unless `collect` is false.
@@ -352,13 +297,19 @@ def load(store: "Store", data: Any, *, by: str, batch: int = records.MOST_OPERAT
     edges or sessions already only a part of this is known beforehand: where it refuses a batch, `PoolEmpty` or another word
     says which lines are not in, and all lines before them are.
 
-    Further options: `format`, `columns`, `delimiter`, `header`, `third`, `both_ways` (see `open_feed`), `weight_scale`,
-    `times`, `names` (see `turned`). `progress` shows or hides a bar; without it a terminal has one. `ahead` has sent a part of
-    the feed to this store.
+    `weight_scale` and `times` say the units of a store that has none yet (see `Store`), and must be those of one that has;
+    without them the feed is in the store's. `ValueError` is raised where they differ, and nothing is read.
+
+    Further options: `format`, `columns`, `delimiter`, `header`, `third`, `both_ways`, `encoding`, `decimal`, `dates` (see
+    `open_feed`; dates of a form are read as with `times="iso"`), `names` (see `turned`). `progress` shows or hides a bar; without
+    it a terminal has one. `ahead` has sent a part of the feed to this store.
     """
     if isinstance(data, Survey) and data.by != by:
         raise ValueError(f"the survey was made to {data.by}, and the load is to {by}")
-    found = data if isinstance(data, Survey) else survey(data, by=by, batch=batch, progress=progress, **options)
+    terms = store._terms_for(weight_scale, "iso" if dates else times)
+    found = data if isinstance(data, Survey) else survey(
+        data, by=by, batch=batch, progress=progress, terms=terms, names=names, format=format, columns=columns,
+        delimiter=delimiter, header=header, third=third, both_ways=both_ways, encoding=encoding, decimal=decimal, dates=dates)
     told = Progress(f"loading {found.feed}", found.rows - found.bad, progress)
     sent = time.monotonic()
     receipts: List[Commit] = []
@@ -380,58 +331,25 @@ def load_in_steps(store: "Store", found: Survey, *, collect: bool = True, skip_b
     if ahead and sent:
         yield from ahead.rest(found)
     else:
-        _prepare(store, found, collect)
+        store._calls.make(lambda: _prepare(store, found, collect))
+    store._take_terms(found.terms)
     store._kinds.update(dict.fromkeys(found.kinds))
-    for part in found.parts[sent:]:
-        with store._lock:
-            _launch(store, found.feed, part, collect)
-            receipt = _land(store, found.feed, found.parts, sent)
+    while sent < len(found.parts):
+        receipt = store._calls.make(partial(_send, store, found, sent, collect))
         sent += 1
         yield receipt
 
 
+def _send(store: "Store", found: Survey, at: int, collect: bool) -> Commit:
+    """Sends one batch of a feed, and waits for what it did."""
+    launch(store, found.feed, found.parts[at], collect)
+    return land(store, found.feed, found.parts, at)
+
+
 def _prepare(store: "Store", found: Survey, collect: bool) -> None:
     """Raises where the store can't take the feed as it is."""
-    with store._lock:
-        if store.pending:
-            text = f"{store.pending} operations are pending: commit or discard them before a load"
-            raise Uncommitted(text, list(store._pending))
-        store._land_what_was_sent()
-        _check_room(store, found, store.stat().used, found.records(collect))
-
-
-def _check_room(store: "Store", found: Survey, used: int, count: int) -> None:
-    """Raises where the store's blocks can't be enough: the edges before a batch take at least those that they need alone, or
-    those in use now."""
-    needed = found.needed_beside(used)
-    if needed > store.blocks:
-        text = (f"{found.feed} needs at least {needed} blocks in batches of {max(len(it.lines) for it in found.parts)}, and the "
-                f"store was made with {store.blocks}; nothing was sent")
-        raise PoolEmpty(needed=needed, free=store.blocks - used, text=text)
-    if store.records_sent + count > records.MOST_RECORDS:
-        raise OverLimit(f"{found.feed} takes {count} records, and this run has had {store.records_sent} of "
-                        f"{records.MOST_RECORDS}. Nothing was sent", found.counts())
-
-
-def _launch(store: "Store", feed: str, part: Part, collect: bool) -> None:
-    """Sends one batch of a feed."""
-    store._launch(part.text, len(part.lines), collect, lambda it: Place(feed, part.lines[it]))
-
-
-def _land(store: "Store", feed: str, parts: List[Part], at: int) -> Commit:
-    """What one batch of a feed did that was sent; a refusal says which lines are not in."""
-    part = parts[at]
-    try:
-        return store._land()
-    except NoAnswer as fault:
-        raise NoAnswer(f"{fault}; lines {part.lines[0]} to {part.lines[-1]} of {feed} were sent, all before them are in, and "
-                       "none behind them was sent") from fault
-    except Refused as fault:
-        done = sum(len(it.lines) for it in parts[:at])
-        text = (f"the batch of lines {part.lines[0]} to {part.lines[-1]} was refused, and neither it nor what comes behind it is "
-                f"in; {done} rows before it are")
-        where: Dict[str, Any] = {"record": fault.record, "place": fault.place}
-        if isinstance(fault, PoolEmpty):
-            text += f". It needs {fault.needed} free blocks, and {fault.free} are free"
-            raise PoolEmpty(needed=fault.needed, free=fault.free, text=text, **where) from fault
-        raise refusal(fault.word, text, **where) from fault
+    if store.pending:
+        text = f"{store.pending} operations are pending: commit or discard them before a load"
+        raise Uncommitted(text, list(store._pending))
+    store._land_what_was_sent()
+    check_room(store, found, store.stat().used, found.records(collect))

@@ -6,10 +6,11 @@ from __future__ import annotations
 
 import os
 from collections import Counter
-from typing import Any, Mapping, Sequence, Tuple, Union
+from typing import Any, Iterable, Mapping, Sequence, Tuple, Union
 
 from .answers import Degree
 from .errors import Missing
+from .names import shown
 
 FIRST, SECOND, GRAY = "#1f5fa8", "#d9822b", "#777777"
 # Texts stay texts, and a figure that is drawn again has the same bytes.
@@ -42,6 +43,12 @@ def _whole(axis: Any) -> None:
     from matplotlib import ticker
     axis.set_major_locator(ticker.MaxNLocator(5, integer=True))
     axis.set_major_formatter(ticker.StrMethodFormatter("{x:,.0f}"))
+
+
+def _numbers(axis: Any, values: Iterable[float]) -> None:
+    """Whole numbers on an axis where the values are whole; decimal ones may be small."""
+    if all(float(it).is_integer() for it in values):
+        _whole(axis)
 
 
 def save(figure: Any, path: Union[str, "os.PathLike[str]"]) -> None:
@@ -87,6 +94,7 @@ def core_numbers(cores: Mapping[str, int], title: str = "Core numbers") -> Any:
 def edge_weights(weights: Sequence[Tuple[int, Any]], title: str = "An edge's weight") -> Any:
     """An edge's weight over versions: pairs of a version's number and the weight, or `None` where the edge is not there."""
     figure, axes = _figure(title, "version", "weight")
+    weights = [(version, None if it is None else float(it)) for version, it in weights]
     there = [it for it in weights if it[1] is not None]
     gone = [it[0] for it in weights if it[1] is None]
     axes.step([it[0] for it in weights], [float("nan") if it[1] is None else it[1] for it in weights], where="post", color=FIRST)
@@ -95,7 +103,7 @@ def edge_weights(weights: Sequence[Tuple[int, Any]], title: str = "An edge's wei
         axes.plot(gone, [0] * len(gone), "x", color=GRAY, ms=4, label="no such edge")
         axes.legend(frameon=False)
     _whole(axes.xaxis)
-    _whole(axes.yaxis)
+    _numbers(axes.yaxis, [it[1] for it in there])
     return figure
 
 
@@ -106,8 +114,8 @@ def side_by_side(first: Mapping[str, float], second: Mapping[str, float], labels
     names = sorted({*first, *second}, key=lambda it: (-abs(first.get(it, 0) - second.get(it, 0)), it))[:most][::-1]
     for shift, answer, label, color in ((0.2, first, labels[0], FIRST), (-0.2, second, labels[1], SECOND)):
         axes.barh([at + shift for at in range(len(names))], [answer.get(it, 0) for it in names], 0.4, label=label, color=color)
-    axes.set_yticks(range(len(names)), names)
+    axes.set_yticks(range(len(names)), list(map(shown, names)))
     axes.grid(axis="y", visible=False)
-    _whole(axes.xaxis)
+    _numbers(axes.xaxis, [*first.values(), *second.values()])
     axes.legend(frameon=False)
     return figure

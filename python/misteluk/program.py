@@ -1,46 +1,25 @@
-"""Which program is run, and the conversation with it through pipes."""
+"""The conversation with the program through pipes."""
 from __future__ import annotations
 
 import fcntl
 import os
-import pathlib
 import select
-import shutil
 import signal
 import subprocess
 import sys
+import weakref
 from collections import deque
-from typing import Callable, Deque, List, Optional, Sequence, Set, Tuple, Union
+from typing import Callable, Deque, List, Optional, Sequence, Set, Tuple
 
 from .errors import Misread, NoAnswer, OutOfMemory, ProgramEnded, ProgramNotFound, StoreError
 
-VARIABLE = "MISTELUK_PROGRAM"
 _HEARD: Set[str] = set()
 # How many bytes are written at once, which the pipe is given room for, and read: more would take a page of its own for each read.
 MOST_WRITTEN, MOST_READ = 1 << 20, 1 << 16
+# For how many milliseconds a caller itself waits for an answer; then the store's thread does.
+SOON = 50
 # What Linux calls the size of a pipe; Python 3.9 has no name for it.
 F_SETPIPE_SZ = 1031
-Path = Union[str, "os.PathLike[str]"]
-
-
-def find_program(program: Optional[Path] = None) -> str:
-    """The program that is run: the one that is named, else that of the variable MISTELUK_PROGRAM, else `./stinger` of the
-    repository or `bin/stinger` of the archive that this package stands in, else `stinger` on the path."""
-    named = program or os.environ.get(VARIABLE)
-    if named:
-        found = shutil.which(os.fspath(named)) or shutil.which(os.path.abspath(named))
-        if not found:
-            whose = "" if program else f" (named by {VARIABLE})"
-            raise ProgramNotFound(f"{os.fspath(named)}{whose} is no program that can be run")
-        return found
-    top = pathlib.Path(__file__).resolve().parents[2]
-    for it in (top / "stinger", top / "bin" / "stinger"):
-        if it.is_file() and os.access(it, os.X_OK):
-            return str(it)
-    found = shutil.which("stinger")
-    if not found:
-        raise ProgramNotFound(f"no program stinger is here or on the PATH: name it by program= or by the variable {VARIABLE}")
-    return found
 
 
 class Awaited:
@@ -55,6 +34,26 @@ class Awaited:
         self.missing = 0
         self.word: Optional[str] = None
         self.done = False
+
+
+class Exchange:
+    """A request of one line that its caller sends and whose answer it reads, as far as that came. What was written and read is
+    kept in the same step: the list takes it from the system's call, and no signal's handler runs in between."""
+
+    __slots__ = ("number", "record", "sent", "read", "head", "awaited")
+
+    def __init__(self, number: int, record: bytes) -> None:
+        self.number, self.record = number, record
+        self.sent: List[int] = []
+        self.read: List[bytes] = []
+        self.head: Optional[str] = None
+        self.awaited: Optional[Awaited] = None
+
+    def write(self, file: int) -> None:
+        self.sent.extend(map(os.write, (file,), (self.record,)))
+
+    def read_from(self, file: int) -> None:
+        self.read.extend(map(os.read, (file,), (MOST_READ,)))
 
 
 def _widen(pipe: int) -> None:
@@ -73,8 +72,9 @@ def one_line(_: str) -> int:
 
 class Conversation:
     """A run of the program. Records are written and lines read in one loop that waits for both, so that neither side can
-    block the other; what a time limit or an interrupt leaves undone the next call takes up. The program is in a session of its
-    own: an interrupt at a terminal or in a notebook would else end it, and the graph with it.
+    block the other; what a time limit leaves undone the next call takes up. It must not be interrupted between two steps, so its
+    calls are made in a thread (`calls`). The program is in a session of its own: an interrupt at a terminal or in a notebook
+    would else end it, and the graph with it. A fork closes its copies of the pipes: else the program would wait for them too.
 
     `timeout` is for how many seconds the program may neither read nor write while it is waited for.
     """
@@ -104,6 +104,9 @@ class Conversation:
         self._awaited: Deque[Awaited] = deque()
         self._refused: List[Tuple[int, str]] = []
         self._fault: Optional[StoreError] = None
+        self._now: Optional[Exchange] = None
+        self._owner = os.getpid()
+        _TALKS.add(self)
 
     def tell(self, records: bytes, count: int) -> None:
         """Sends operations, which print nothing unless they are refused."""
@@ -117,6 +120,38 @@ class Conversation:
         awaited = Awaited(self.records, rows_behind)
         self._awaited.append(awaited)
         return awaited
+
+    def ask_now(self, record: str) -> Optional[Exchange]:
+        """Sends a request in the caller's thread and reads its answer, where nothing else is on its way; the exchange has no
+        `head` where that isn't one line that came soon. May be broken off at any step: `take_up` then goes on."""
+        if self._now or self._awaited or self._unsent or self._rest or self._writes or self._fault:
+            return None
+        now = self._now = Exchange(self.records + 1, record.encode("ascii"))
+        try:
+            now.write(self._in)
+            if self._poll.poll(SOON) != [(self._out, select.POLLIN)]:
+                return now
+            now.read_from(self._out)
+        except OSError:
+            return now
+        line = now.read[0]
+        if line.endswith(b"\n") and line.count(b"\n") == 1 and not line.startswith(b"error "):
+            now.head = line[:-1].decode("ascii", "replace")
+            self.records = now.number
+            self._now = None
+        return now
+
+    def take_up(self) -> None:
+        """Makes of an exchange that isn't at its end a record whose answer is awaited, or nothing where it wasn't sent."""
+        now, self._now = self._now, None
+        if now is None or not now.sent:
+            return
+        self.records = now.number
+        self._unsent += now.record[now.sent[0]:]
+        now.awaited = Awaited(now.number, one_line)
+        self._awaited.append(now.awaited)
+        if now.read:
+            self._take(now.read[0])
 
     def settle(self, awaited: Awaited) -> Awaited:
         """Waits until the answer is there."""
@@ -191,10 +226,14 @@ class Conversation:
         if file == self._err:
             self._hear(data)
         elif data:
-            *whole, self._rest = (self._rest + data.decode("ascii", "replace")).split("\n")
-            self._lines.extend(whole)
-            self._sort()
+            self._take(data)
         return bool(data)
+
+    def _take(self, data: bytes) -> None:
+        """Takes what was read."""
+        *whole, self._rest = (self._rest + data.decode("ascii", "replace")).split("\n")
+        self._lines.extend(whole)
+        self._sort()
 
     def _hear(self, data: bytes) -> None:
         """Passes on what the program says on standard error, as that it is compiled first, or isn't proved; each line once, since
@@ -311,10 +350,20 @@ class Conversation:
         for line in text.splitlines():
             self._sort_error(line, None) if line.startswith("error ") else left.append(line)
 
-    def kill(self) -> None:
-        """Ends the program where it still runs, and what `./stinger` runs to compile it, and gives its pipes back."""
+    def stop(self) -> None:
+        """Tells the program to end, and what `./stinger` runs to compile it, and doesn't wait for that."""
         if self.process.poll() is None:
-            os.killpg(self.process.pid, signal.SIGTERM)
+            try:
+                os.killpg(self.process.pid, signal.SIGTERM)
+            except ProcessLookupError:
+                pass
+
+    def kill(self) -> None:
+        """Ends the program where it still runs, and gives its pipes back. In a fork it gives back the copies of the pipes."""
+        if os.getpid() != self._owner:
+            self.process.returncode = 0
+        elif self.process.poll() is None:
+            self.stop()
             if self._wait(2.0) is None:
                 self.process.kill()
                 self.process.wait()
@@ -322,3 +371,14 @@ class Conversation:
         for it in (self.process.stdout, self.process.stderr):
             if it is not None:
                 it.close()
+
+
+_TALKS: "weakref.WeakSet[Conversation]" = weakref.WeakSet()
+
+
+def _let_pipes_go() -> None:
+    for it in list(_TALKS):
+        it.kill()
+
+
+os.register_at_fork(after_in_child=_let_pipes_go)

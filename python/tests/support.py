@@ -12,6 +12,9 @@ from typing import Any, Dict, List
 
 HERE = pathlib.Path(__file__).resolve().parent
 TOP = HERE.parent.parent
+# Whether this is the repository, and no released archive.
+IS_REPOSITORY = (TOP / "tools").is_dir()
+NO_REPOSITORY = "this is no repository, but a released archive"
 sys.path.insert(0, str(HERE.parent))
 
 from misteluk import Store, find_program  # noqa: E402

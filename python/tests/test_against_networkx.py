@@ -59,7 +59,7 @@ def differences(session: Session, model: Model, kind, since, until, source) -> l
         "edges": [Edge(it["weight"], it["first"], it["recent"]) if it else None for it in told]}
     window = (kind, since, until)
     found = {"levels": session.levels(source, *window), "components": session.components(*window),
-             "cores": session.cores(*window), "degrees": session.degrees(*window), "edges": session.edges(edges)}
+             "cores": session.cores(*window), "degrees": session.degrees(*window), "edges": session.edges(edges, missing=None)}
     return [it for it in wanted if found[it] != wanted[it]]
 
 

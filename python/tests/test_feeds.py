@@ -13,6 +13,7 @@ from support import Case, optional
 
 import misteluk
 from misteluk import Columns, Edge, Feed, feeds, loading, records
+from misteluk.units import Units
 
 TRANSFERS = "from,to,amount,when\nana,funnel,980,1\nben,funnel,950,1\nana,funnel,20,5\n"
 OF_TRANSFERS = Columns("from", "to", None, "amount", "when", "transfer")
@@ -84,20 +85,20 @@ class Feeds(Case):
         path.write_bytes(gzip.compress(TRANSFERS.encode()))
         self.assertEqual(len(list(misteluk.open_feed(str(path), columns=OF_TRANSFERS).rows)), 3)
 
-    def test_amounts_dates_and_names(self):
-        feed = Feed("f", [(1, "k", "A b", "50%", "12.50", "2024-05-01T02:00:00+02:00"), (2, "k", "é", "*", "1e2", "1970-01-02")])
-        self.assertEqual(list(feeds.turned(feed, weight_scale=100, times="iso", names="escape").rows), [
-            (1, "k", "A%20b", "50%25", "1250", "1714521600"), (2, "k", "%C3%A9", "*", "10000", "86400")])
-        for wrong in ("12.505", "x", "", "nan", "Infinity"):
-            self.assertEqual(feeds.whole(100)(wrong), wrong)
-        self.assertEqual(feeds.seconds("yesterday"), "yesterday")
+    def test_names_with_escapes(self):
+        feed = Feed("f", [(1, "k", "A b", "50%", "1", "0"), (2, "k", "é", "*", "1", "0")])
+        self.assertEqual(list(feeds.turned(feed, names="escape").rows), [
+            (1, "k", "A%20b", "50%25", "1", "0"), (2, "k", "%C3%A9", "*", "1", "0")])
+        self.assertIs(feeds.turned(feed), feed)
+        with self.assertRaisesRegex(ValueError, "names is 'plain' or 'escape'"):
+            feeds.turned(feed, names="as they are")
 
     def test_a_date_without_a_zone_is_in_utc(self):
         self.addCleanup(time.tzset)
         with mock.patch.dict(os.environ, {"TZ": "EST5EDT"}):
             time.tzset()
-            self.assertEqual(feeds.seconds("1970-01-02"), "86400")
-            self.assertEqual(feeds.seconds("1970-01-02T00:00:00Z"), "86400")
+            for text in ("1970-01-02", "1970-01-02T00:00:00Z"):
+                self.assertEqual(Units(times="iso").time_to_program(text), "86400000000")
 
     def fault(self, told: str, name: str, text: str, **options) -> None:
         with self.assertRaises(misteluk.FeedFault) as fault:
@@ -189,14 +190,16 @@ class Loads(Case):
         self.assertEqual(told.exception.needed, found.needed)
 
     def test_bad_rows(self):
-        path = self.file("a.csv", "s,t,w\na,b,1\nc d,b,1\na,b,1.5\n,b,2\na,b,9999999999999\nb,c,2\nb\n")
+        path = self.file("a.csv", "s,t,w\na,b,1\n,b,1\na,b,1.5\n,b,2\na,b,9999999999999\nb,c,2\nb\n")
         columns = Columns("s", "t", weight="w")
         store = self.store()
         with self.assertRaises(misteluk.BadRows) as told:
             store.load(path, by="add", columns=columns)
         self.assertEqual((told.exception.count, told.exception.rows, store.stat().version), (5, 7, 0))
-        self.assertEqual([it.place.line for it in told.exception.faults], [3, 4, 5, 6, 8])
-        self.assertEqual([it.word for it in told.exception.faults], ["BadName", "BadWeight", "BadName", "BadWeight", "BadName"])
+        self.assertEqual([it.place.line for it in told.exception.faults], [3, 4, 5, 6, 8, 8])
+        self.assertEqual([it.word for it in told.exception.faults],
+                         ["BadName", "BadWeight", "BadName", "BadWeight", "BadName", "BadWeight"])
+        self.assertIn("\n  In all 2 BadName source, 3 BadWeight amount, 1 BadName target\n", str(told.exception))
         self.assertIn("a.csv:8: BadName: target '': a name has at least one byte", str(told.exception))
         self.assertIn("can be loaded without them: skip_bad=True", str(told.exception))
         self.assertIn("a.csv:4: BadWeight: amount '1.5': a weight is a whole number", str(told.exception))
@@ -335,38 +338,6 @@ class Loads(Case):
             bar.step(5)
             bar.end()
         self.assertRegex(told.getvalue(), r"reading f: 5 of 10 records, \d+ a second")
-
-
-@unittest.skipUnless(optional("networkx"), "networkx is not there")
-class Graphs(Case):
-    def test_networkx(self):
-        import networkx
-        graph = networkx.DiGraph(name="g")
-        graph.add_edge(1, "b", weight=7.0, time=9)
-        graph.add_edge("b", "c", kind="other")
-        self.assertEqual(list(misteluk.from_networkx(graph).rows),
-                         [(1, "link", "1", "b", "7", "9"), (2, "other", "b", "c", "1", "0")])
-        both = misteluk.from_networkx(networkx.Graph([(1, 2), (3, 3)]))
-        self.assertEqual([it[2:4] for it in both.rows], [("1", "2"), ("2", "1"), ("3", "3")])
-        one = misteluk.from_networkx(networkx.Graph([(1, 2)]), both_ways=False)
-        self.assertEqual(len(list(one.rows)), 1)
-        with self.assertRaisesRegex(misteluk.FeedFault, "two nodes of the graph have one name"):
-            misteluk.from_networkx(networkx.Graph([(1, "1")]))
-
-
-@unittest.skipUnless(optional("pandas"), "pandas is not there")
-class Frames(Case):
-    def test_pandas(self):
-        import pandas
-        frame = pandas.read_csv(io.StringIO("from,to,amount,when\nana,funnel,980.0,2024-05-01\n"), parse_dates=["when"])
-        store = self.store()
-        store.load(frame, by="add", columns=OF_TRANSFERS, times="iso")
-        session = store.open()
-        self.assertEqual(session.edge("transfer", "ana", "funnel"), Edge(980, 1714521600, 1714521600))
-        degrees = session.degrees().frame()
-        self.assertEqual(degrees.loc["funnel"].to_dict(), {"out": 0, "into": 1, "weight_out": 0})
-        self.assertEqual(session.levels("ana").frame()["level"].to_dict(), {"ana": 0, "funnel": 1})
-        self.assertEqual(self.store().open().cores().frame().shape, (0, 1))
 
 
 class Absent(Case):

@@ -13,7 +13,7 @@ from unittest import mock
 from support import HERE, Case
 
 import misteluk
-from misteluk import Store, program
+from misteluk import Store, finding, program
 from misteluk import store as store_module
 
 
@@ -85,7 +85,7 @@ class Programs(Case):
     def test_a_program_that_is_not_there(self):
         with self.assertRaisesRegex(misteluk.ProgramNotFound, "/no/such is no program"):
             Store(program="/no/such")
-        with mock.patch.dict(os.environ, {program.VARIABLE: "/no/such"}):
+        with mock.patch.dict(os.environ, {finding.VARIABLE: "/no/such"}):
             self.assertRaisesRegex(misteluk.ProgramNotFound, "named by MISTELUK_PROGRAM", Store)
 
     def test_a_stop_is_told_and_the_call_can_be_made_again(self):
@@ -186,7 +186,7 @@ class Programs(Case):
         self.assertRaises(misteluk.ProgramEnded, store.close)
 
     def test_more_refusals_than_a_pipe_holds(self):
-        talk = program.Conversation([program.find_program(), "run"], 30)
+        talk = program.Conversation([finding.find_program(), "run"], 30)
         talk.tell(b"x" * 10 + b"\n", 1)
         talk.tell(b"i,k,a b,c,1,1\n" * 50_000, 50_000)
         self.assertEqual(talk.settle(talk.ask("stat\n")).head, "stat v=0 names=0 edges=0 free=16384 retired=0 used=0")

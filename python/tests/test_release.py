@@ -10,8 +10,11 @@ import sys
 import tarfile
 import tempfile
 import unittest
+import venv
 
-from support import TOP, Case, find_program
+from support import IS_REPOSITORY, NO_REPOSITORY, TOP, Case, find_program, optional
+
+import misteluk
 
 
 def run(*words, **how):
@@ -19,6 +22,7 @@ def run(*words, **how):
     return subprocess.run([str(it) for it in words], **how)
 
 
+@unittest.skipUnless(IS_REPOSITORY, NO_REPOSITORY)
 class Pages(Case):
     def help_pages(self, *words):
         return run(sys.executable, TOP / "tools/help-pages", "--program", find_program(), *words)
@@ -47,10 +51,44 @@ class Pages(Case):
         self.assertEqual(missing, [])
         self.assertNotIn("warning", told)
 
-    def complete(self, wanted: str, *words: str) -> None:
+    def test_a_page_of_the_client_that_differs_is_told(self):
+        """An option of another name: each of the three pages has options."""
+        shutil.copytree(TOP / "python/misteluk", self.room / "python/misteluk")
+        shutil.copytree(TOP / "share", self.room / "share")
+        (self.room / "tools").mkdir()
+        for it in ("help-pages", "client_pages.py"):
+            shutil.copy(TOP / "tools" / it, self.room / "tools")
+        words = (sys.executable, self.room / "tools/help-pages", "--program", find_program(), "--check")
+        self.assertEqual(run(*words).stdout, "")
+        module = self.room / "python/misteluk/__main__.py"
+        module.write_text(module.read_text().replace('add_argument("--title"', 'add_argument("--heading"'))
+        told = [f"share/{it} isn't what the program says of itself: tools/help-pages writes it\n"
+                for it in ("man/man1/misteluk.1", "bash-completion/completions/misteluk", "zsh/site-functions/_misteluk")]
+        done = run(*words)
+        self.assertEqual((done.returncode, done.stdout), (1, "".join(told)))
+
+    def test_the_client_s_manual_has_each_option(self):
+        """With its help, as argparse prints them; both without regard to ends of lines."""
+        if not shutil.which("man"):
+            self.skipTest("man is not there")
+        env = {**os.environ, "MANWIDTH": "500", "COLUMNS": "500", "LC_ALL": "C", "PYTHONPATH": str(TOP / "python")}
+        told = run("man", "--warnings", "-E", "ascii", "-l", TOP / "share/man/man1/misteluk.1", env=env).stdout
+        plain = re.sub(r"\s+", " ", re.sub(".\b", "", told))
+        seen = 0
+        for command in ("load", "lint", "picture"):
+            said = run(sys.executable, "-B", "-m", "misteluk", command, "--help", env=env).stdout
+            for names, text in re.findall(r"(?m)^  (-.*?)(?:(?:  +|\n {20,})(\S.*))?$", said):
+                first = re.split(r"[ ,]", names)[0]
+                self.assertIn(f" {first}", plain)
+                self.assertIn(text, plain)
+                seen += bool(text)
+        self.assertGreater(seen, 50)
+        self.assertNotIn("warning", told)
+
+    def complete(self, wanted: str, *words: str, name: str = "stinger") -> None:
         """What bash offers behind these words."""
-        script = (f"source {TOP}/share/bash-completion/completions/stinger; COMP_WORDS=(stinger \"$@\"); COMP_CWORD=$#; "
-                  "_stinger; echo \"${COMPREPLY[*]}\"")
+        script = (f"source {TOP}/share/bash-completion/completions/{name}; COMP_WORDS=({name} \"$@\"); COMP_CWORD=$#; "
+                  f"_{name}; echo \"${{COMPREPLY[*]}}\"")
         self.assertEqual(run("bash", "-c", script, "bash", *words).stdout.strip(), wanted)
 
     def test_completion_for_bash(self):
@@ -61,12 +99,23 @@ class Pages(Case):
         self.complete("1 2 3 4 5 6 7 8", "run", "--seats", "4", "--workers", "")
         self.complete("run", "help", "r")
 
+    def test_completion_of_the_client_for_bash(self):
+        """Files are offered by bash itself, where there is no word."""
+        self.complete("load lint picture -h --help", "", name="misteluk")
+        self.complete("--dry-run", "load", "file.csv", "--dr", name="misteluk")
+        self.complete("degrees components cores", "load", "file.csv", "--ask", "", name="misteluk")
+        self.complete("components compare", "picture", "comp", name="misteluk")
+        self.complete("--seats", "lint", "--s", name="misteluk")
+        self.complete("", "load", "fi", name="misteluk")
+
     def test_completion_for_zsh(self):
         if not shutil.which("zsh"):
             self.skipTest("zsh is not there")
-        self.assertEqual(run("zsh", "-n", TOP / "share/zsh/site-functions/_stinger").stdout, "")
+        for it in ("_stinger", "_misteluk"):
+            self.assertEqual(run("zsh", "-n", TOP / "share/zsh/site-functions" / it).stdout, "")
 
 
+@unittest.skipUnless(IS_REPOSITORY, NO_REPOSITORY)
 class Releases(Case):
     """Over one copy of this repository without its crates, which is made as it was before each test."""
 
@@ -101,12 +150,13 @@ class Releases(Case):
     def test_an_archive_for_trying_it_out(self):
         done = self.release("--unproved", find_program())
         self.assertEqual(done.returncode, 0, done.stdout)
-        archive = pathlib.Path(done.stdout.strip())
+        archive, wheel = map(pathlib.Path, done.stdout.splitlines())
         self.assertIn("-UNPROVED-linux-x86_64.tar.gz", archive.name)
-        self.assertEqual(run("sha256sum", "-c", f"{archive.name}.sha256", cwd=archive.parent).returncode, 0)
-        first = archive.read_bytes()
+        first = {it: hashlib.sha256(it.read_bytes()).hexdigest() for it in (archive, wheel)}
+        for it in first:
+            self.assertEqual(run("sha256sum", "-c", f"{it.name}.sha256", cwd=it.parent).returncode, 0)
         self.release("--unproved", find_program())
-        self.assertEqual(hashlib.sha256(first).digest(), hashlib.sha256(archive.read_bytes()).digest())
+        self.assertEqual({it: hashlib.sha256(it.read_bytes()).hexdigest() for it in first}, first)
         with tarfile.open(archive) as tar:
             tar.extractall(self.room / "there")
         (there,) = (self.room / "there").iterdir()
@@ -121,7 +171,8 @@ class Releases(Case):
             told = run(there / "bin/stinger", "run", stdin=script).stdout
         self.assertEqual(told, (there / "examples/funnel.expected").read_text())
         self.from_the_archive(there)
-        for it in ("LICENSE-MIT", "LICENSE-APACHE", "share/man/man1/stinger.1", "docs/TUTORIAL.md", "python/pyproject.toml"):
+        for it in ("LICENSE-MIT", "LICENSE-APACHE",
+                   "share/man/man1/stinger.1", "share/man/man1/misteluk.1", "docs/TUTORIAL.md", "python/pyproject.toml"):
             self.assertTrue((there / it).is_file(), it)
         self.assertFalse((there / "crates").exists())
 
@@ -131,6 +182,39 @@ class Releases(Case):
         told = run(sys.executable, "-c", "import misteluk; print(misteluk.find_program()); print(misteluk.Store().stat().free)",
                    cwd=there, env=env, stderr=subprocess.DEVNULL).stdout
         self.assertEqual(told, f"{there}/bin/stinger\n16384\n")
+
+    @unittest.skipUnless(optional("pip"), "pip is not there")
+    def test_the_wheel(self):
+        """Installed where nothing else is, it has its own program: no path leads to one, nor does a variable."""
+        _, wheel = self.release("--unproved", find_program()).stdout.splitlines()
+        self.assertEqual(pathlib.Path(wheel).name, f"misteluk-{misteluk.__version__}+unproved-py3-none-linux_x86_64.whl")
+        home = self.room / "a home"
+        venv.create(home, symlinks=True)
+        done = run(sys.executable, "-m", "pip", "--python", home / "bin/python", "install", "--no-index", "--quiet",
+                   "--disable-pip-version-check", wheel, cwd="/")
+        self.assertEqual(done.returncode, 0, done.stdout)
+        env = {"PATH": "", "HOME": str(self.room), "MISTELUK_PROGRAM": ""}
+        told = run(home / "bin/misteluk", "--help", cwd="/", env=env)
+        self.assertEqual((told.returncode, told.stdout.split()[:2]), (0, ["usage:", "misteluk"]), told.stdout)
+        code = ("import misteluk; print(misteluk.find_program()); s = misteluk.Store(blocks=16); s.insert('k', 'a', 'b', 2); "
+                "print(s.commit().inserted, s.open().edge('k', 'a', 'b').weight)")
+        told = run(home / "bin/python", "-c", code, cwd="/", env=env).stdout.splitlines()
+        (program,) = home.glob("lib/python3.*/site-packages/misteluk/bin/stinger")
+        self.assertEqual(told, [str(program), "1 2"])
+        self.assertEqual(program.read_bytes(), pathlib.Path(find_program()).read_bytes())
+
+    def test_the_archive_tests_its_own_client(self):
+        """By its own python/check, which finds its program, and says what it passes over."""
+        archive = self.release("--unproved", find_program()).stdout.splitlines()[0]
+        with tarfile.open(archive) as tar:
+            tar.extractall(self.room / "there")
+        (there,) = (self.room / "there").iterdir()
+        env = {it: value for it, value in os.environ.items() if it != "MISTELUK_PROGRAM"} | {"PYTHON": sys.executable}
+        done = run(there / "python/check", "records", "release", "lint", env=env)
+        self.assertEqual(done.returncode, 0, done.stdout)
+        self.assertIn(f" runs {there}/bin/stinger\n", done.stdout)
+        self.assertRegex(done.stdout, r"(?m)^release: \d+ s, \d+ passed over: this is no repository, but a released archive$")
+        self.assertRegex(done.stdout, r"(?m)^[1-9]\d* passed, 0 failed$")
 
     def refused(self, told: str, *words):
         done = self.release(*words)
@@ -161,8 +245,9 @@ class Releases(Case):
         self.prove()
         (self.top / "out").mkdir()
         (self.top / "out/gate_passed").write_text(self.git("rev-parse", "HEAD") + "\nkit-1 logic 2\n")
-        archive = self.release().stdout.strip()
+        archive, wheel = self.release().stdout.splitlines()
         self.assertNotIn("UNPROVED", archive)
+        self.assertEqual(pathlib.Path(wheel).name, f"misteluk-{misteluk.__version__}-py3-none-linux_x86_64.whl")
         with tarfile.open(archive) as tar:
             (page,) = (tar.extractfile(it).read().decode() for it in tar if it.name.endswith("x86_64/PROVED.md"))
         self.assertNotIn("UNPROVED", page)

@@ -40,9 +40,20 @@ class Stores(Case):
         self.assertEqual(session.degrees(since=2, until=2)["funnel"], Degree(0, 2, 0))
         self.assertEqual(session.out_of("funnel", "transfer"), {"offshore": Edge(3850, 3, 3)})
         self.assertEqual(list(session.into("funnel", "transfer", since=2)), ["cyd", "dan"])
-        self.assertEqual(session.edges([("transfer", "ana", "funnel"), ("transfer", "zed", "ana"), ("x", "y", "z")]),
-                         [Edge(980, 1, 1), None, None])
-        self.assertEqual(session.degrees("transfer").most(1), [("funnel", Degree(1, 4, 3850))])
+        asked = [("transfer", "ana", "funnel"), ("transfer", "zed", "ana"), ("x", "ana", "zed"), ("owns", "ana", "z")]
+        self.assertEqual(session.edges(asked, missing=0), [Edge(980, 1, 1), None, 0, 0])
+        self.refused(misteluk.NoKind, "edge,0,x,ana,zed", lambda: session.edges(asked))
+        self.refused(misteluk.NoVertex, "edge,0,owns,ana,z", lambda: session.edges(asked[:2] + asked[3:]))
+
+    def test_the_greatest(self):
+        degrees = self.store(*FUNNEL).open().degrees("transfer")
+        funnel, ana, cyd = ("funnel", Degree(1, 4, 3850)), ("ana", Degree(1, 0, 980)), ("cyd", Degree(1, 0, 990))
+        self.assertEqual((degrees.most(2), degrees.most(2, by="out")), ([ana, funnel],) * 2)
+        self.assertEqual(degrees.most(2, by="weight"), [funnel, cyd])
+        self.assertEqual((degrees.most(1, by="incoming"), degrees.most(1, by="into")), ([funnel],) * 2)
+        self.refused(ValueError, "by is 'out', 'incoming' or 'weight'", lambda: degrees.most(1, by="name"))
+        self.assertEqual(misteluk.Answer(a=1, b=2).most(), [("b", 2), ("a", 1)])
+        self.assertEqual(misteluk.Answer().most(by="weight"), [])
 
     def test_what_a_notebook_shows(self):
         session = self.store("insert k a<b c 5 1").open()
@@ -177,8 +188,7 @@ class Stores(Case):
 
     def test_wrong_operations_are_told_at_once(self):
         store = self.store()
-        self.refused(misteluk.BadName, "source 'a b': a name has printable ASCII signs alone, from ! to ~, and this has a space",
-                     lambda: store.insert("k", "a b", "c"))
+        self.refused(misteluk.BadName, "source '': a name has at least one byte", lambda: store.insert("k", "", "c"))
         self.refused(misteluk.BadName, "a kind is not *", lambda: store.insert("*", "a", "c"))
         self.refused(misteluk.BadWeight, "amount '1099511627777': a weight is from",
                      lambda: store.add("k", "a", "b", 1 << 40 | 1))
@@ -205,8 +215,8 @@ class Stores(Case):
         self.refused(misteluk.NoKind, "no edge of this kind", lambda: session.degrees("other"))
         self.refused(misteluk.BadWindow, "bfs,0,a,*,3,2", lambda: session.levels("a", since=3, until=2))
         self.refused(misteluk.BadName, "source ''", lambda: session.levels(""))
-        self.refused(misteluk.BadName, "source 'a\\nb'", lambda: session.edge("k", "a\nb", "c"))
-        self.refused(misteluk.BadName, "target 'é'", lambda: session.edges([("k", "a", "é")]))
+        self.refused(misteluk.BadName, "target ''", lambda: session.edges([("k", "a", "b"), ("k", "a", "")]))
+        self.refused(misteluk.BadName, "kind '*'", lambda: session.edges([("*", "a", "b")], missing=None))
         self.refused(misteluk.BadSlot, "the slots are 0 to 1", lambda: store.open(2))
         self.refused(misteluk.AlreadyOpen, "open,0", lambda: store.open(0))
         self.refused(LookupError, "", lambda: session.into("z", "k"))
@@ -261,13 +271,13 @@ class Stores(Case):
 
     def test_operations_that_only_the_program_refuses(self):
         store = self.store()
-        with mock.patch.object(records, "faults_of", lambda *_: []):
-            for it in ("a", "a b", "c"):
+        with mock.patch.object(records, "is_plain_operation", lambda _: True):
+            for it in ("a", "", "c"):
                 store.insert("k", it, "t")
         with self.assertRaises(misteluk.OperationsRefused) as told:
             store.commit()
         self.assertEqual((told.exception.version, len(told.exception.refused)), (1, 1))
-        self.assertIn("BadName (record 3): i,k,a b,t,1,0", str(told.exception))
+        self.assertIn("BadName (record 3): i,k,,t,1,0", str(told.exception))
         self.assertEqual(store.pending, 0)
         self.assertEqual(list(store.open().degrees()), ["a", "t", "c"])
 

@@ -116,10 +116,12 @@ class Figures(unittest.TestCase):
             came[row["to"]] += cents
             went[row["from"]] += cents
             senders[row["to"]].add(row["from"])
+        def told(cents: int) -> str:
+            return f"{cents // 100}.{cents % 100:02}"
         for it in (it for it in senders if len(senders[it]) >= 3):
-            self.told(f"{it}: {len(senders[it])} senders, {came[it]} in, {went[it]} out, {went[it] / came[it]:.0%}")
-        self.told(f"version 1: {came['funnel']} in, {went['funnel']} out")
-        self.told(f"version 2: {came['funnel'] - 95_000} in, {went['funnel'] - 94_000} out")
+            self.told(f"{it}: {len(senders[it])} senders, {told(came[it])} in, {told(went[it])} out, {went[it] / came[it]:.0%}")
+        self.told(f"version 1: {told(came['funnel'])} in, {told(went['funnel'])} out")
+        self.told(f"version 2: {told(came['funnel'] - 95_000)} in, {told(went['funnel'] - 94_000)} out")
 
     def test_network(self):
         rows = read("debian.csv")

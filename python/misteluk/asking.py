@@ -1,0 +1,97 @@
+"""Requests of a store: what is sent for one, and what is made of its answer."""
+from __future__ import annotations
+
+import weakref
+from typing import TYPE_CHECKING, Callable, Dict, List, Sequence, Tuple
+
+from . import records
+from .answers import Stat, numbers
+from .calls import Calls, talks
+from .errors import RecordLimit, StoreError, refusal
+from .names import shown
+from .program import Awaited, Conversation, one_line
+from .terms import Terms
+
+if TYPE_CHECKING:
+    from .session import Session
+
+# How many requests are sent at once where many are asked.
+ASK_AT_ONCE = 4_096
+
+
+def within(name: str, value: int, least: int, most: int) -> int:
+    """The value; raises `ValueError` where it is less or more than may be."""
+    if not least <= value <= most:
+        raise ValueError(f"{name} is from {least} to {most}, and not {value}")
+    return value
+
+
+class Asking:
+    """What a store asks by: its program, the thread of its calls, its terms, and the sessions that are open."""
+
+    seats: int
+    _talk: Conversation
+    _calls: Calls
+    _terms: Terms
+    _closed: bool
+    _sessions: "Dict[int, weakref.ref[Session]]"
+    _orphans: List[Tuple[int, Awaited]]
+
+    @talks
+    def stat(self) -> Stat:
+        """The last version's number, names and edges, and the blocks."""
+        return Stat(*numbers(self._ask(("stat",)).head or "", "stat", 6))
+
+    def _let_orphans_go(self) -> None:
+        """Closes what was opened for a call that a time limit broke off, and sessions that nobody has."""
+        while self._orphans:
+            at, opened = self._orphans[-1]
+            self._talk.settle(opened)
+            self._orphans.pop()
+            if not opened.word:
+                self._ask(("close", str(at)))
+        for at in [at for at, it in self._sessions.items() if it() is None]:
+            self._make_room(1)
+            del self._sessions[at]
+            self._ask(("close", str(at)))
+
+    def _make_room(self, count: int) -> None:
+        """Raises where a run would be given more records than it takes."""
+        if self._closed:
+            raise StoreError("the store is closed")
+        if self._talk.records + count > records.MOST_RECORDS:
+            raise RecordLimit(f"a run takes {records.MOST_RECORDS} records; this one had {self._talk.records}, and {count} more "
+                              "were to be sent: begin a new store")
+
+    def _record(self, fields: Sequence[str]) -> str:
+        """The record of a request, whose fields are the user's. What wouldn't be one line of plain signs is refused here."""
+        turned, faults = self._terms.turned(fields, keep=False)
+        text = records.record(turned)
+        if faults or not records.is_plain(text):
+            faults = self._terms.faults_of(fields, self.seats)
+            if faults:
+                raise self._terms.refusal(faults[0])
+        return text
+
+    def _ask(self, fields: Sequence[str], rows_behind: Callable[[str], int] = one_line) -> Awaited:
+        """Asks, and waits for the answer; a refusal is raised."""
+        self._make_room(1)
+        return self._check(self._talk.settle(self._talk.ask(self._record(fields), rows_behind)), fields)
+
+    def _check(self, answer: Awaited, fields: Sequence[str]) -> Awaited:
+        if answer.word:
+            faults = [it for it in self._terms.faults_of(fields, self.seats) if it.word == answer.word]
+            text = "" if faults else ",".join(map(shown, fields))
+            raise refusal(answer.word, text, record=answer.number, fault=faults[0] if faults else None)
+        return answer
+
+    def _ask_all(self, texts: Sequence[str]) -> List[Awaited]:
+        """Asks many requests of one line each, thousands at once; what was refused the answers tell."""
+        self._make_room(len(texts))
+        answers: List[Awaited] = []
+        for at in range(0, len(texts), ASK_AT_ONCE):
+            if self._calls.is_left:
+                break
+            answers += [self._talk.ask(it) for it in texts[at:at + ASK_AT_ONCE]]
+            self._talk.settle(answers[-1])
+        return answers

@@ -1,0 +1,53 @@
+"""What is told on a terminal while a feed is read and loaded, and what rests meanwhile."""
+from __future__ import annotations
+
+import gc
+import sys
+import time
+from contextlib import contextmanager
+from typing import Any, Iterator, Optional
+
+
+class Progress:
+    """Tells on a terminal how far it is: by tqdm where that is there."""
+
+    def __init__(self, what: str, total: Optional[int], shown: Optional[bool]) -> None:
+        self.bar: Any = None
+        self.shown = sys.stderr.isatty() if shown is None else shown
+        self.what, self.total, self.count = what, total, 0
+        self.begun = self.told = time.monotonic()
+        if self.shown:
+            try:
+                import tqdm
+                self.bar = tqdm.tqdm(desc=what, total=total, unit=" records", file=sys.stderr)
+            except ImportError:
+                pass
+
+    def step(self, count: int) -> None:
+        self.count += count
+        if self.bar is not None:
+            self.bar.update(count)
+        elif self.shown and time.monotonic() - self.told > 0.2:
+            self.told = time.monotonic()
+            rate = self.count / (self.told - self.begun)
+            of = f" of {self.total}" if self.total else ""
+            print(f"\r\033[K{self.what}: {self.count}{of} records, {rate:.0f} a second", end="", file=sys.stderr, flush=True)
+
+    def end(self) -> None:
+        if self.bar is not None:
+            self.bar.close()
+        elif self.shown:
+            print("\r\033[K", end="", file=sys.stderr, flush=True)
+
+
+@contextmanager
+def no_collection() -> Iterator[None]:
+    """Python's collector of cycles rests meanwhile. Rows make none, and it would look through them again and again: a third of
+    the time that counting takes."""
+    was_on = gc.isenabled()
+    gc.disable()
+    try:
+        yield
+    finally:
+        if was_on:
+            gc.enable()

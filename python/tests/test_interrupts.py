@@ -1,0 +1,235 @@
+"""An interrupt ends a call and nothing else: no answer is taken for another's, no batch is applied twice, no seat stays taken.
+
+Each call is interrupted at each line that it runs in the calling thread, and while it waits; and calls are interrupted by a
+timer, beside a model of the store. Each test is made again with a fault that is planted, and has to find it.
+"""
+import ctypes
+import gc
+import multiprocessing
+import os
+import signal
+import subprocess
+import threading
+import time
+import unittest
+import warnings
+import weakref
+from unittest import mock
+
+from interrupting import (CALLS, KNOWN, Model, Scene, after, at_line, elsewhere, forget, handler, has_ended, interrupt_in_a_call,
+                          interrupt_now, made_at_once)
+from support import Case
+
+import misteluk
+from misteluk import Store, calls, program
+
+
+class Interrupts(Case):
+    def lines(self, name, step=1):
+        """How many lines the call runs, and at which of them, of each `step` one, an interrupt makes it go wrong."""
+        wrong, at = [], 1 - step
+        while True:
+            at += step
+            scene = Scene()
+            try:
+                if not at_line(at, lambda: CALLS[name](scene)):
+                    return at - 1, wrong
+                after(name, scene)
+            except Exception as fault:
+                wrong.append((at, repr(fault)[:100]))
+            finally:
+                scene.end()
+
+    def test_each_line(self):
+        for name in CALLS:
+            with self.subTest(name):
+                count, wrong = self.lines(name)
+                self.assertGreater(count, 3)
+                self.assertEqual(wrong, [])
+
+    def test_each_line_finds_a_fault(self):
+        with mock.patch.object(calls.Calls, "make", made_at_once):
+            self.assertGreater(len(self.lines("edges", 6)[1]), 2)
+        with mock.patch.object(weakref, "ref", lambda it: lambda: it):
+            self.assertGreater(len(self.lines("open")[1]), 0)
+        with mock.patch.object(program.Conversation, "take_up", forget):
+            self.assertGreater(len(self.lines("edge")[1]), 2)
+
+    def waiting(self, name, interrupt):
+        """A scene whose call is interrupted while it waits for the program, which stands still meanwhile."""
+        scene = Scene()
+        self.addCleanup(scene.end)
+        process = scene.store._talk.process
+        process.send_signal(signal.SIGSTOP)
+        try:
+            interrupt(lambda: CALLS[name](scene), lambda: process.send_signal(signal.SIGCONT))
+        finally:
+            process.send_signal(signal.SIGCONT)
+        self.assertTrue(after(name, scene))
+
+    def by_timer(self, call, _):
+        signal.setitimer(signal.ITIMER_REAL, 0.02)
+        with self.assertRaises(KeyboardInterrupt):
+            call()
+
+    def in_a_thread(self, call, go_on):
+        """An exception is set for a thread that waits; it comes when the answer is there."""
+        told = []
+
+        def run():
+            try:
+                call()
+            except KeyboardInterrupt:
+                told.append("interrupted")
+        thread = threading.Thread(target=run)
+        thread.start()
+        time.sleep(0.02)
+        ctypes.pythonapi.PyThreadState_SetAsyncExc(ctypes.c_ulong(thread.ident), ctypes.py_object(KeyboardInterrupt))
+        go_on()
+        thread.join()
+        self.assertEqual(told, ["interrupted"])
+
+    def test_while_it_waits(self):
+        with handler(interrupt_now):
+            for name in CALLS:
+                for how in (self.by_timer, self.in_a_thread):
+                    with self.subTest(name, how=how.__name__):
+                        self.waiting(name, how)
+
+    def test_operations_are_kept_once_or_not_at_all(self):
+        for word, given in (("insert", "kst"), ("add", "kst"), ("remove", "kst"), ("expire", (3,)), ("discard", ())):
+            at = 0
+            while True:
+                at += 1
+                scene = Scene()
+                self.addCleanup(scene.end)
+                interrupted = at_line(at, lambda: getattr(scene.store, word)(*given))
+                with self.subTest(word, at=at):
+                    self.assertIn(scene.store.pending, (0, 3) if word == "discard" else (3, 4))
+                if not interrupted:
+                    break
+
+    def test_the_end(self):
+        """A store that is closed, or left by a `with`, at whatever line it is interrupted: its program is ended."""
+        def leave(store):
+            store.__exit__(None, None, None)
+
+        for call in (Store.close, leave):
+            at, is_more = 0, True
+            while is_more:
+                at += 1
+                store = Store(timeout=5)
+                process = store._talk.process
+                is_more = at_line(at, lambda: call(store))
+                self.forget(store)
+                del store
+                self.assertTrue(has_ended(process), at)
+        self.assertGreater(at, 5)
+
+    def forget(self, store):
+        """Makes the call that was interrupted again, where it wasn't made."""
+        with warnings.catch_warnings():
+            warnings.simplefilter("ignore")
+            store.close()
+
+    def test_what_a_close_loses_is_told(self):
+        """Also by the second one, where the first was interrupted while it waited."""
+        scene = Scene()
+        scene.store._talk.process.send_signal(signal.SIGSTOP)
+        with handler(interrupt_now):
+            self.by_timer(scene.store.close, None)
+        scene.store._talk.process.send_signal(signal.SIGCONT)
+        with self.assertRaises(misteluk.Uncommitted) as told:
+            scene.store.close()
+        self.assertEqual(told.exception.operations, ["a,l,a,b,1,2\n"] * 3)
+        self.assertTrue(has_ended(scene.store._talk.process))
+
+    def test_the_beginning(self):
+        """A store whose making is interrupted has no program, and leaves no thread that waits for more than its end."""
+        started, real, at, is_more = [], subprocess.Popen, 0, True
+
+        def start(*given, **named):
+            started.append(real(*given, **named))
+            return started[-1]
+        with mock.patch.object(subprocess, "Popen", start), warnings.catch_warnings():
+            warnings.simplefilter("ignore")
+            while is_more:
+                at += 1
+                kept = []
+                is_more = at_line(at, lambda: kept.append(Store()))
+                for it in kept:
+                    it.close()
+                gc.collect()
+            with handler(interrupt_now), self.assertRaises(KeyboardInterrupt):
+                signal.setitimer(signal.ITIMER_REAL, 0.1)
+                Store(program=self.silent())
+            gc.collect()
+            for it in started:
+                self.assertTrue(has_ended(it))
+        self.assertGreater(at, 20)
+
+    def silent(self):
+        """A program that doesn't answer."""
+        path = self.room / "silent"
+        path.write_text("#!/bin/sh\nsleep 60\n")
+        path.chmod(0o755)
+        return path
+
+    def test_a_fork_leaves_the_program_alone(self):
+        store = self.store("insert l a b 5 1", timeout=5)
+        session = store.open()
+        KNOWN[:] = store, session
+        self.addCleanup(KNOWN.clear)
+        with multiprocessing.get_context("fork").Pool(2) as pool:
+            self.assertEqual(pool.map(abs, [-1, 2]), [1, 2])
+            self.assertEqual(pool.apply(elsewhere), ["another process's"] * 3 + ["closed", "closed"])
+            self.assertEqual((store.stat().edges, session.edge("l", "a", "b")), (1, (5, 1, 1)))
+            begun = time.monotonic()
+            store.close()
+            self.assertLess(time.monotonic() - begun, 3)
+
+    def test_a_fork_that_ends_ends_no_program(self):
+        store = self.store("insert l a b 5 1", timeout=5)
+        child = os.fork()
+        if child == 0:
+            del store
+            gc.collect()
+            os._exit(0)
+        os.waitpid(child, 0)
+        self.assertEqual(store.stat().edges, 1)
+
+    def test_three_hundred(self):
+        model = Model()
+        self.addCleanup(model.end)
+        with handler(interrupt_in_a_call):
+            model.run(300)
+        self.assertGreater(model.steps, 300)
+
+    def test_three_hundred_find_a_fault(self):
+        for where, name, fault in ((calls.Calls, "make", made_at_once), (program.Conversation, "take_up", forget)):
+            with mock.patch.object(where, name, fault), handler(interrupt_in_a_call), self.assertRaises(Exception):
+                model = Model()
+                self.addCleanup(model.end)
+                model.run(300)
+
+    def test_a_handler_that_calls(self):
+        """It has its answer, or is told that it interrupts another call; and the call that it interrupts has its own."""
+        store = self.store("insert l a b 5 1", timeout=5)
+        session, told = store.open(), []
+
+        def call(*_):
+            try:
+                told.append(f"{store.stat().edges} edges")
+            except misteluk.StoreError as fault:
+                told.append(str(fault))
+        with handler(call):
+            while len(told) < 50:
+                signal.setitimer(signal.ITIMER_REAL, 1e-4)
+                for _ in range(9):
+                    self.assertEqual(session.edge("l", "a", "b"), (5, 1, 1))
+        interrupts = "a signal's handler can't call a store while it interrupts another call of it"
+        self.assertLessEqual(set(told), {"1 edges", interrupts})
+
+
+if __name__ == "__main__":
+    unittest.main()

@@ -1,0 +1,146 @@
+"""How files write numbers, dates and text, standard input, and what advice is told where rows are refused."""
+import subprocess
+import sys
+import unittest
+
+from support import HERE, Case
+
+import misteluk
+from misteluk import Columns, Feed, notations
+
+ONE_TO_FOUR = Columns(1, 2, weight=3, time=4)
+
+
+class Notations(Case):
+    def test_a_decimal_comma(self):
+        right = {"12,50": "12.50", "-0,5": "-0.5", "1.234,50": "1234.50", "1.234.567": "1234567", "12 345 678,9": "12345678.9",
+                 "1'234,5": "1234.5", "\u00a07": "7", "+3": "+3", "1\u202f234,50": "1234.50"}
+        self.assertEqual({it: notations.with_point(it) for it in right}, right)
+        for doubtful in ("1.234", "12.50", "1,234.50", "1.23,4", "1,2,3", "1.234'567,0", "x", "1e3", ",5", "5,"):
+            told = notations.with_point(doubtful)
+            self.assertEqual(told, f"{doubtful} (where decimals stand behind a comma)")
+        self.assertEqual(notations.with_point(""), "")
+
+    def test_dates(self):
+        for form, written in (("dd.mm.yyyy", "5.3.2024"), ("dd.mm.yyyy", "05.03.2024"), ("dd/mm/yyyy", "05/03/2024"),
+                              ("mm/dd/yyyy", "03/05/2024"), ("dd.mm.yyyy", "2024-03-05")):
+            self.assertEqual(notations.Notation(dates=form).date_of(written), "2024-03-05")
+        self.assertEqual(notations.Notation(dates="dd.mm.yyyy").date_of("05.03.2024 12:30:05"), "2024-03-05 12:30:05")
+        for wrong in ("31.02.2024", "05.13.2024", "05/03/2024", "05.03.24", "5.3", "", "05.03.20245"):
+            self.assertEqual(notations.Notation(dates="dd.mm.yyyy").date_of(wrong), wrong)
+
+    def test_a_file_of_another_country(self):
+        """In cents and seconds: 5 March 2024 begins 1709596800 seconds behind 1970, noon of it 43,200 later."""
+        path = self.room / "bank.csv"
+        path.write_bytes("von;nach;Betrag;am\nM\u00fcller;b;1.234,50;05.03.2024\na;b;-0,05;05.03.2024 12:00\n".encode("cp1252"))
+        columns = Columns("von", "nach", weight="Betrag", time="am")
+        found = misteluk.survey(str(path), by="add", columns=columns, encoding="cp1252", decimal=",", dates="dd.mm.yyyy",
+                                weight_scale=100, names="escape")
+        lines = b"".join(it.text for it in found.parts).decode().splitlines()
+        self.assertEqual([it.split(",")[4] for it in lines], ["123450", "-5"])
+        seconds = [int(it.split(",")[5]) for it in lines]
+        self.assertEqual((seconds[0] % 1709596800, seconds[1] - seconds[0]), (0, 43_200 * (seconds[0] // 1709596800)))
+        self.assertIn("M%C3%BCller", lines[0])
+
+    def test_what_there_is_not(self):
+        for told, options in (("decimal is '.' or ','", {"decimal": ";"}), ("dates is 'dd.mm.yyyy'", {"dates": "d.m.y"}),
+                              ("there is no encoding 'utf-9'", {"encoding": "utf-9"})):
+            with self.assertRaisesRegex(ValueError, told):
+                misteluk.survey(self.file("a.csv", "a,b\n"), by="set", columns=Columns(1, 2), **options)
+        with self.assertRaisesRegex(ValueError, "decimal is for files"):
+            misteluk.survey([("a", "b", 1.5)], by="set", decimal=",")
+
+    def test_an_edge_list_in_utf_16(self):
+        (self.room / "a.txt").write_bytes("# x\na b\n".encode("utf-16"))
+        feed = misteluk.open_feed(str(self.room / "a.txt"), encoding="utf-16")
+        self.assertEqual(list(feed.rows), [(2, "link", "a", "b", "1", "0")])
+
+
+class Advice(Case):
+    def told(self, text: str, columns: Columns = ONE_TO_FOUR, **options) -> str:
+        (self.room / "a.csv").write_bytes(text.encode("latin-1"))
+        with self.assertRaises(misteluk.BadRows) as fault:
+            misteluk.load(self.store(), str(self.room / "a.csv"), by="add", columns=columns, delimiter=";", **options)
+        return str(fault.exception)
+
+    def test_it_is_by_what_stands_there(self):
+        self.assertIn("read by decimal=',' and weight_scale=100 (--decimal , --weight-scale 100)", self.told("a;b;12,50;1\n"))
+        self.assertIn("say its encoding, as encoding='cp1252'", self.told("M\u00fcller;b;1.5;1\n"))
+        told = self.told("a;b;1;05.03.2024\n", times="iso")
+        self.assertIn("dates='dd.mm.yyyy'", told)
+        self.assertNotIn("mm/dd/yyyy (", told)
+
+    def test_none_that_was_followed_or_can_not_help(self):
+        told = self.told(";b;1;1\na;b;;1\na;b;1;\n")
+        for it in ("weight_scale", "times=", "escape"):
+            self.assertNotIn(it, told)
+        self.assertNotIn("dates=", self.told("a;b;1;31.02.2024\n", dates="dd.mm.yyyy"))
+        told = self.told("a;b;1.234;1\n", decimal=",", weight_scale=100)
+        self.assertIn("'1.234 (where decimals stand behind a comma)'", told)
+        self.assertNotIn("decimal=", told)
+        self.assertNotIn("weight_scale", told)
+
+    def test_all_kinds_of_faults_in_one_run(self):
+        """Forty rows of one fault, and behind them one row of two others: each is told with its place."""
+        rows = [(it, "k", "a", "b", "x", "0") for it in range(1, 41)]
+        rows += [(41, "k", "a", "", "1", "y"), (42, "k", "a", "b", "1", "0")]
+        with self.assertRaises(misteluk.BadRows) as fault:
+            self.store().load(Feed("f", rows), by="set")
+        self.assertEqual([it.place.line for it in fault.exception.faults], [*range(1, 11), 41, 41])
+        self.assertEqual(fault.exception.fault_counts, {"BadWeight weight": 40, "BadName target": 1, "BadTime time": 1})
+        self.assertEqual((fault.exception.count, fault.exception.rows), (41, 42))
+        told = "\n  and 30 more rows\n  In all 40 BadWeight weight, 1 BadName target, 1 BadTime time\n"
+        self.assertIn(told, str(fault.exception))
+
+    def test_blocks(self):
+        """Twenty edges of twenty sources take a block each, and a batch of n asks for n more."""
+        rows = [("a%d" % it, "b") for it in range(20)]
+        with self.assertRaises(misteluk.PoolEmpty) as fault:
+            self.store(blocks=16).load(rows, by="set")
+        self.assertIn("Make the store with blocks=20 or more; smaller batches don't help", fault.exception.advice)
+        with self.assertRaises(misteluk.PoolEmpty) as fault:
+            self.store(blocks=22).load(rows * 2, by="set", batch=30)
+        self.assertIn("Make the store with blocks=30 or more; a batch", fault.exception.advice)
+        self.assertIn("batches of 2 fit (batch=2, --batch 2)", fault.exception.advice)
+        self.assertEqual(self.store(blocks=22).load(rows * 2, by="set", batch=2).commit.inserted, 20)
+
+    def test_blocks_that_no_store_has(self):
+        rows = [("a%d" % (it % 32_768), "b", 1, 0, "kl"[it // 32_768 % 2]) for it in range(65_536)]
+        with self.assertRaises(misteluk.OverLimit) as fault:
+            self.store().load([*rows, *rows[:5_000]], by="set")
+        self.assertIn("65536 blocks for its edges", str(fault.exception))
+        self.assertIn("smaller batches don't help", str(fault.exception))
+        with self.assertRaises(misteluk.OverLimit) as fault:
+            self.store().load([*rows[:65_000], *rows[:9_000]], by="set")
+        self.assertIn("batches of 536 fit (batch=536, --batch 536)", str(fault.exception))
+
+
+class StandardInput(Case):
+    def run_it(self, *words: str, given: bytes) -> "subprocess.CompletedProcess[bytes]":
+        return subprocess.run([sys.executable, "-m", "misteluk", *words], input=given, cwd=HERE.parent, stdout=subprocess.PIPE,
+                              stderr=subprocess.STDOUT, timeout=60)
+
+    def test_a_feed_from_a_pipe(self):
+        text = b"from,to,n\n" + b"".join(b"a%d,b,2\n" % it for it in range(3_000))
+        done = self.run_it("load", "-", "--add", "--source", "from", "--target", "to", "--weight", "n", given=text)
+        self.assertEqual(done.returncode, 0, done.stdout)
+        self.assertIn(b"standard input: 3000 rows, 3001 names, 1 kind, 3000 edges in 3000 blocks", done.stdout)
+        done = self.run_it("load", "-", "--set", "--format", "snap", "--dry-run", given=b"# x\n1 2\n1 3 4 5\n")
+        self.assertIn(b"misteluk: standard input:3: 4 fields, where an edge list has 2", done.stdout)
+
+    def test_faults_have_their_line(self):
+        done = self.run_it("load", "-", "--set", "--source", "1", "--target", "2", given=b"a,b\nc,\n")
+        self.assertIn(b"standard input:2: BadName: target ''", done.stdout)
+        done = self.run_it("load", "-", "--set", "--interactive", given=b"")
+        self.assertIn(b"misteluk: --interactive reads standard input, which is the file here", done.stdout)
+
+    def test_options_of_the_command(self):
+        given = "M\u00fcller;b;1,50;05.03.2024\n".encode("latin-1")
+        done = self.run_it("load", "-", "--add", "--source", "1", "--target", "2", "--weight", "3", "--time", "4", "--encoding",
+                           "latin-1", "--decimal", ",", "--dates", "dd.mm.yyyy", "--weight-scale", "100", "--names", "escape",
+                           "--levels", "M%C3%BCller", given=given)
+        self.assertIn(b"levels from M%C3%BCller: 2 reached", done.stdout)
+
+
+if __name__ == "__main__":
+    unittest.main()

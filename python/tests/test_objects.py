@@ -1,0 +1,153 @@
+"""Graphs, frames, columns and rows as feeds; what is missing in them is refused as an empty field of a file is."""
+import datetime
+import io
+import unittest
+from datetime import date
+from decimal import Decimal
+
+from support import Case, optional
+
+import misteluk
+from misteluk import Columns, Edge, objects
+
+OF_TRANSFERS = Columns("from", "to", None, "amount", "when", "transfer")
+
+
+class Missing(Case):
+    def test_what_stands_for_no_value(self):
+        class Neither:
+            """As pandas' NA: compared, it gives what is neither true nor false."""
+
+            def __ne__(self, other):
+                return self
+
+            def __bool__(self):
+                raise TypeError("boolean value of NA is ambiguous")
+
+        missing = [None, float("nan"), Decimal("NaN"), Decimal("sNaN"), Neither(), ""]
+        self.assertEqual([objects.text_of(it) for it in missing], [""] * 6)
+        self.assertEqual([objects.text_of(it) for it in ("nan", "None", 0, 0.0, 7.0, 7.5, False)],
+                         ["nan", "None", "0", "0", "7", "7.5", "False"])
+
+
+@unittest.skipUnless(optional("networkx"), "networkx is not there")
+class Graphs(Case):
+    def test_networkx(self):
+        import networkx
+        graph = networkx.DiGraph(name="g")
+        graph.add_edge(1, "b", weight=7.0, time=9)
+        graph.add_edge("b", "c", kind="other")
+        self.assertEqual(list(misteluk.from_networkx(graph).rows),
+                         [(1, "link", "1", "b", "7", "9"), (2, "other", "b", "c", "1", "0")])
+        both = misteluk.from_networkx(networkx.Graph([(1, 2), (3, 3)]))
+        self.assertEqual([it[2:4] for it in both.rows], [("1", "2"), ("2", "1"), ("3", "3")])
+        one = misteluk.from_networkx(networkx.Graph([(1, 2)]), both_ways=False)
+        self.assertEqual(len(list(one.rows)), 1)
+        with self.assertRaisesRegex(misteluk.FeedFault, "two nodes of the graph have one name"):
+            misteluk.from_networkx(networkx.Graph([(1, "1")]))
+
+    def test_missing_values_are_bad_rows(self):
+        """A node or attribute that stands for no value is refused as an empty field of a file is, by its row and field."""
+        import networkx
+        none = float("nan")
+        graph = networkx.DiGraph([("a", "b"), (none, "c"), ("d", float("nan"))], name="g")
+        graph.add_edge("e", "f", weight=None)
+        graph.add_edge("e", "g", time=none)
+        graph.add_edge("e", "h", kind=None)
+        with self.assertRaises(misteluk.BadRows) as told:
+            self.store().load(graph, by="set")
+        rows = [(it.place.line, it.word, it.field) for it in told.exception.faults]
+        self.assertEqual(rows, self.places_of(graph, {("c",): ("BadName", "source"), ("d",): ("BadName", "target"),
+                                                     ("f",): ("BadWeight", "weight"), ("g",): ("BadTime", "time"),
+                                                     ("h",): ("BadName", "kind")}))
+
+    def places_of(self, graph, wanted) -> list:
+        """The places of these edges, told by a name that each has: a graph's row is its place in networkx's own order."""
+        return [(at, *told) for at, edge in enumerate(graph.edges, 1) for names, told in wanted.items() if names[0] in edge]
+
+
+@unittest.skipUnless(optional("pandas"), "pandas is not there")
+class Frames(Case):
+    def test_pandas(self):
+        import pandas
+        frame = pandas.read_csv(io.StringIO("from,to,amount,when\nana,funnel,980.0,2024-05-01\n"), parse_dates=["when"])
+        store = self.store()
+        store.load(frame, by="add", columns=OF_TRANSFERS, times="iso")
+        session = store.open()
+        when = datetime.datetime(2024, 5, 1, tzinfo=datetime.timezone.utc)
+        self.assertEqual(session.edge("transfer", "ana", "funnel"), Edge(980, when, when))
+        degrees = session.degrees().frame()
+        self.assertEqual(degrees.loc["funnel"].to_dict(), {"out": 0, "into": 1, "weight_out": 0})
+        self.assertEqual(session.levels("ana").frame()["level"].to_dict(), {"ana": 0, "funnel": 1})
+        self.assertEqual(self.store().open().cores().frame().shape, (0, 1))
+
+    def test_missing_values_are_bad_rows(self):
+        """As the same rows written as CSV are: row 1 of a frame is line 2 of its file."""
+        import pandas
+        frame = pandas.DataFrame({"from": ["a", "b", None, "d", ""], "to": pandas.array(["x", pandas.NA, "y", "z", "w"]),
+                                  "amount": [1, 2, 3, float("nan"), 5], "when": pandas.to_datetime(["2024-05-01"] * 4 + [None])})
+        frame.loc[5] = ["e", "f", 6, pandas.NaT]
+        path = self.room / "frame.csv"
+        frame.to_csv(path, index=False)
+        for feed, before in ((frame, 0), (str(path), 1)):
+            with self.assertRaises(misteluk.BadRows) as told:
+                self.store().load(feed, by="add", columns=OF_TRANSFERS, times="iso", weight_scale=100)
+            found = [(it.place.line - before, it.field) for it in told.exception.faults]
+            self.assertEqual(found, [(2, "target"), (3, "source"), (4, "amount"), (5, "source"), (5, "time"), (6, "time")])
+
+
+class Rows(Case):
+    def rows(self, wanted: str, data, **options) -> None:
+        """Whether what is given has these rows: a line each, its fields parted by a space."""
+        feed = misteluk.open_feed(data, **options)
+        self.assertEqual("\n".join(" ".join(map(str, it)) for it in feed.rows), wanted)
+
+    def test_tuples(self):
+        self.rows("1 link a b 1 0\n2 link c d 1 0", [("a", "b"), ("c", "d")])
+        self.rows("1 link a b 5 0", [("a", "b", 5)])
+        self.rows("1 road a b 5 2024-05-01", iter([["a", "b", 5.0, date(2024, 5, 1)]]), columns=Columns(usual_kind="road"))
+        self.rows("1 road a b 5 7\n2 link 1 2 3 4", [("a", "b", 5, 7, "road"), (1, 2, 3, 4, "link")])
+        self.rows("1 link b a 1 9", [("a", 9, "b")], columns=Columns(3, 1, time=2))
+        self.rows("", [])
+
+    def test_dicts_and_columns(self):
+        columns = Columns("from", "to", weight="w")
+        self.rows("1 link a b 5 0\n2 link c d 6 0", [{"from": "a", "to": "b", "w": 5}, {"to": "d", "from": "c", "w": 6}],
+                  columns=columns)
+        self.rows("1 link a b 5 0\n2 link c d 6 0", {"w": [5, 6], "to": ["b", "d"], "from": ["a", "c"]}, columns=columns)
+
+    def test_a_load_of_tuples(self):
+        store = self.store()
+        store.load([("a", "b", 1), ("a", "b", 2)], by="add")
+        self.assertEqual(store.open().edge("link", "a", "b"), Edge(3, 0, 0))
+
+    def bad(self, wanted: list, data, **options) -> None:
+        with self.assertRaises(misteluk.BadRows) as told:
+            self.store().load(data, by="set", **options)
+        self.assertEqual([(it.place.line, it.field) for it in told.exception.faults], wanted)
+
+    def test_missing_values_are_bad_rows(self):
+        self.bad([(1, "source"), (3, "weight")], [(None, "b", 1), ("a", "b", 1), ("c", "d")])
+        self.bad([(2, "target")], [{"source": "a", "target": "b"}, {"source": "c"}])
+        self.bad([(2, "source")], {"source": ["a", float("nan")], "target": ["b", "c"]})
+
+    def fault(self, told: str, data, **options) -> None:
+        with self.assertRaises(misteluk.FeedFault) as fault:
+            self.store().load(data, by="set", **options)
+        self.assertIn(told, str(fault.exception))
+
+    def test_rows_of_another_form(self):
+        self.fault("rows:1: a row is a tuple or a dict, and not str", ["ab", "cd"])
+        self.fault("rows:2: str, where the first row is a tuple", [("a", "b"), "cd"])
+        self.fault("rows:2: tuple, where the first row is a dict", [{"source": "a", "target": "b"}, ("a", "b")])
+        self.fault("rows:2: 3 fields, where the first row has 2", [("a", "b"), ("c", "d", 5)])
+        self.fault("rows:1: 6 fields, where an edge has source, target", [tuple("abcdef")])
+        self.fault("rows:1: 1 fields, where the columns need 2", [("a",)])
+        self.fault("no column 'target'; the header has 'source'", [{"source": "a"}])
+        self.fault("the columns aren't equally long: source has 2, target has 1", {"source": "ab", "target": "c"})
+        with self.assertRaisesRegex(TypeError, "and not int"):
+            self.store().load(7, by="set")
+
+
+if __name__ == "__main__":
+    unittest.main()

@@ -1,0 +1,185 @@
+"""The package: what pip makes of it, what a wheel has, how the program is found, and what `help(misteluk)` shows."""
+import base64
+import csv
+import email
+import hashlib
+import importlib.util
+import inspect
+import os
+import pathlib
+import pydoc
+import re
+import shutil
+import subprocess
+import sys
+import unittest
+import zipfile
+
+from support import HERE, TOP, Case, find_program, optional
+
+import misteluk
+from misteluk import errors
+
+sys.path.insert(0, str(HERE.parent))
+sys.dont_write_bytecode = True
+import wheels  # noqa: E402
+
+HAS_PIP = importlib.util.find_spec("pip") is not None
+
+
+def run(*words, **how):
+    how = {"stdout": subprocess.PIPE, "stderr": subprocess.STDOUT, "text": True, "timeout": 120, **how}
+    return subprocess.run([str(it) for it in words], **how)
+
+
+class Wheels(Case):
+    def test_what_a_wheel_has(self):
+        """Each file's size and sum as RECORD says, as an installer checks them; the program can be run still."""
+        program = pathlib.Path(self.elf()).read_bytes()
+        made = wheels.write_wheel(self.room, {**wheels.package(), wheels.PROGRAM: (program, True)})
+        self.assertEqual(made.name, f"misteluk-{misteluk.__version__}-py3-none-linux_x86_64.whl")
+        with zipfile.ZipFile(made) as packed:
+            about = f"misteluk-{misteluk.__version__}.dist-info"
+            record = {name: (told, size) for name, told, size in csv.reader(packed.read(f"{about}/RECORD").decode().splitlines())}
+            self.assertEqual(sorted(record), sorted(packed.namelist()))
+            for name, (told, size) in record.items():
+                if not name.endswith("/RECORD"):
+                    data = packed.read(name)
+                    digest = base64.urlsafe_b64encode(hashlib.sha256(data).digest()).decode().rstrip("=")
+                    self.assertEqual((told, size), (f"sha256={digest}", str(len(data))))
+            modes = {it.filename: it.external_attr >> 16 for it in packed.infolist()}
+            self.assertEqual([name for name, mode in modes.items() if mode & 0o111], [wheels.PROGRAM])
+            self.assertIn("Root-Is-Purelib: false\nTag: py3-none-linux_x86_64\n", packed.read(f"{about}/WHEEL").decode())
+            own = {f"misteluk/{it.name}" for it in (HERE.parent / "misteluk").glob("*.py")} | {"misteluk/py.typed"}
+            self.assertEqual({it for it in record if it.startswith("misteluk/")}, own | {wheels.PROGRAM})
+
+    def elf(self) -> str:
+        """A program of this machine: Python's own, since only its kind is looked at."""
+        return os.path.realpath(sys.executable)
+
+    def test_the_same_bytes_each_time(self):
+        first = wheels.write_wheel(self.room / "a", wheels.package()).read_bytes()
+        self.assertEqual(first, wheels.write_wheel(self.room / "b", wheels.package()).read_bytes())
+
+    def test_metadata(self):
+        told = email.message_from_bytes(wheels.metadata("1.2"))
+        self.assertEqual((told["Name"], told["Version"], told["Requires-Python"]), ("misteluk", "1.2", ">=3.9"))
+        self.assertEqual(told.get_all("License-File"), ["LICENSE-APACHE", "LICENSE-MIT"])
+        self.assertEqual(told["License"], "MIT OR Apache-2.0")
+        self.assertIn("help(misteluk)", told.get_payload())
+        self.assertIn('networkx ; extra == "all"', told.get_all("Requires-Dist"))
+
+    @unittest.skipUnless(optional("tomllib"), "tomllib is not there")
+    def test_pyproject_is_read_as_python_reads_it(self):
+        import tomllib
+        with open(HERE.parent / "pyproject.toml", "rb") as file:
+            said = tomllib.load(file)["project"]
+        scripts = [f'{name} = "{place}"' for name, place in said["scripts"].items()]
+        self.assertEqual(wheels.project(), (said["name"], said["version"], said["description"], said["requires-python"],
+                                            said["license"]["text"], said["optional-dependencies"]["all"], scripts))
+
+    def test_one_version(self):
+        program = run(find_program(), "--version", stderr=subprocess.DEVNULL).stdout.split()[-1]
+        changes = re.search(r"(?m)^The version is (\S+)\.$", (TOP / "CHANGELOG.md").read_text())
+        self.assertEqual({misteluk.__version__, wheels.project().version, program, changes[1]}, {misteluk.__version__})
+
+
+@unittest.skipUnless(HAS_PIP, "pip is not there")
+class Installs(Case):
+    """Over a copy of the package, with a stand-in where the clone has its program."""
+
+    def setUp(self):
+        super().setUp()
+        self.top, self.there = self.room / "a top", self.room / "there"
+        shutil.copytree(HERE.parent, self.top / "python", ignore=shutil.ignore_patterns("tests", "__pycache__"))
+        for it in TOP.glob("LICENSE-*"):
+            shutil.copy(it, self.top)
+
+    def program(self, place: str) -> pathlib.Path:
+        """A script that runs this program, at that place of the copy."""
+        path = self.top / place
+        path.parent.mkdir(exist_ok=True)
+        path.write_text(f'#!/bin/sh\nexec {find_program()} "$@"\n')
+        path.chmod(0o755)
+        return path
+
+    def install(self, *words) -> None:
+        done = run(sys.executable, "-m", "pip", "install", "--no-index", "--no-build-isolation", "--no-deps", "--quiet",
+                   "--disable-pip-version-check", "--target", self.there, *words, cwd=self.room)
+        self.assertEqual(done.returncode, 0, done.stdout)
+
+    def ask(self, code: str) -> str:
+        """What Python says far from the clone, with what was installed alone."""
+        env = {it: value for it, value in os.environ.items() if it != "MISTELUK_PROGRAM"}
+        return run(sys.executable, "-B", "-c", code, cwd="/", env={**env, "PYTHONPATH": str(self.there)}).stdout
+
+    def listing(self) -> list:
+        return sorted(str(it) for it in self.top.rglob("*"))
+
+    def test_pip_leaves_the_clone_as_it_was(self):
+        self.program("stinger")
+        before = self.listing()
+        self.install(self.top / "python")
+        self.assertEqual(self.listing(), before)
+        told = self.ask("import misteluk; print(misteluk.find_program()); print(misteluk.Store().stat().free)")
+        self.assertIn(f"{self.there}/misteluk/bin/stinger\n", told)
+        self.assertTrue(told.endswith("16384\n"), told)
+
+    def test_the_command(self):
+        self.program("stinger")
+        self.install(self.top / "python")
+        env = {**os.environ, "PYTHONPATH": str(self.there)}
+        told = run(self.there / "bin/misteluk", "load", "-", "--set", "--source", "1", "--target", "2", cwd="/", env=env,
+                   input="a,b\n").stdout
+        self.assertIn("1 edges inserted", told)
+
+    def test_the_program_of_an_archive_goes_in(self):
+        program = self.program("bin/stinger")
+        self.install(self.top / "python")
+        self.assertEqual((self.there / "misteluk/bin/stinger").read_bytes(), program.read_bytes())
+        self.assertTrue(os.access(self.there / "misteluk/bin/stinger", os.X_OK))
+
+    def test_without_a_program(self):
+        self.install(self.top / "python")
+        told = self.ask("import os; os.environ['PATH'] = ''; import misteluk; misteluk.Store()")
+        self.assertIn("ProgramNotFound: no program stinger is here or on the PATH", told)
+
+    def test_an_editable_one(self):
+        name = wheels.build_editable(str(self.room))
+        with zipfile.ZipFile(self.room / name) as packed:
+            self.assertEqual(packed.read("misteluk.pth").decode(), f"{HERE.parent}\n")
+
+    def test_a_source_archive_can_be_installed(self):
+        name = wheels.build_sdist(str(self.room))
+        self.install(self.room / name)
+        self.assertEqual(self.ask("import misteluk; print(misteluk.__version__)").strip(), misteluk.__version__)
+        self.assertFalse((self.there / "misteluk/bin").exists())
+        about = next(self.there.glob("*.dist-info"))
+        self.assertTrue((about / "LICENSE-MIT").is_file())
+
+
+class Help(Case):
+    def test_what_there_is(self):
+        """Names of this package alone, each told of; every error that there is among them."""
+        for name in misteluk.__all__:
+            it = getattr(misteluk, name)
+            self.assertTrue(it.__module__.startswith("misteluk."), name)
+            self.assertTrue(inspect.getdoc(it) or issubclass(it, errors.Refused), name)
+        known = {name for name, it in vars(errors).items() if inspect.isclass(it) and it.__module__ == errors.__name__}
+        self.assertEqual(known - set(misteluk.__all__), set())
+        told = pydoc.plain(pydoc.render_doc(misteluk))
+        for wrong in ("TYPE_CHECKING", "NamedTuple(", "class Dict", "Optional ="):
+            self.assertNotIn(f"\n    {wrong}", told)
+        self.assertEqual(sorted(set(misteluk.__all__)), sorted(misteluk.__all__))
+
+    def test_options_have_names(self):
+        """A load's options, for completion: those that a feed is opened by, in each of the calls that take them."""
+        opened = set(inspect.signature(misteluk.open_feed).parameters)
+        for call in (misteluk.load, misteluk.survey, misteluk.Store.load):
+            told = inspect.signature(call).parameters
+            self.assertEqual(opened - set(told), {"data"} if call == misteluk.Store.load else set())
+            self.assertEqual([it for it in told.values() if it.kind == it.VAR_KEYWORD], [])
+
+
+if __name__ == "__main__":
+    unittest.main()

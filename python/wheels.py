@@ -1,0 +1,162 @@
+"""Makes the wheel of this package by Python's standard library alone, for `pip install ./python` (PEP 517). Nothing is written
+beside the package, so that a clone stays clean.
+
+A wheel that pip asks for has the program of where it stands: the archive's `bin/stinger`, or the clone's proved one. Where
+nothing is proved yet, it has a script that runs the clone's `./stinger`.
+"""
+from __future__ import annotations
+
+import base64
+import hashlib
+import io
+import os
+import pathlib
+import re
+import shlex
+import subprocess
+import tarfile
+import time
+import zipfile
+from typing import Any, Dict, List, NamedTuple, Optional, Tuple
+
+HERE = pathlib.Path(__file__).resolve().parent
+PROGRAM = "misteluk/bin/stinger"
+# A file of a wheel or archive: its bytes, and whether it can be run.
+Files = Dict[str, Tuple[bytes, bool]]
+
+
+class Project(NamedTuple):
+    """What pyproject.toml says of the package."""
+
+    name: str
+    version: str
+    description: str
+    python: str
+    licence: str
+    optional: List[str]
+    scripts: List[str]
+
+
+def project() -> Project:
+    """Reads pyproject.toml; Python has a reader for it from 3.11 on alone, and this file has a line for each value."""
+    text = (HERE / "pyproject.toml").read_text(encoding="utf-8")
+
+    def value(name: str) -> str:
+        found = re.search(rf'(?m)^{name} = (?:\{{ text = )?"(.*?)"', text)
+        if not found:
+            raise ValueError(f"pyproject.toml has no line {name} = \"..\"")
+        return found[1]
+
+    extras = re.search(r"(?m)^all = \[(.*)\]$", text)
+    scripts = re.search(r"(?m)^\[project\.scripts\]\n((?:\w.*\n)+)", text)
+    return Project(value("name"), value("version"), value("description"), value("requires-python"), value("license"),
+                   re.findall(r'"(.*?)"', extras[1] if extras else ""), (scripts[1] if scripts else "").splitlines())
+
+
+def licences() -> Files:
+    """The licences, beside the package or above it, by their names."""
+    found = sorted({it.name: it for folder in (HERE.parent, HERE) for it in folder.glob("LICENSE-*")}.items())
+    return {name: (path.read_bytes(), False) for name, path in found}
+
+
+def metadata(version: str) -> bytes:
+    """What an installer and an index know of the package."""
+    it = project()
+    lines = ["Metadata-Version: 2.1", f"Name: {it.name}", f"Version: {version}", f"Summary: {it.description}",
+             f"Requires-Python: {it.python}", f"License: {it.licence}", *(f"License-File: {name}" for name in licences()),
+             "Classifier: License :: OSI Approved :: MIT License",
+             "Classifier: License :: OSI Approved :: Apache Software License",
+             "Classifier: Operating System :: POSIX :: Linux", "Classifier: Typing :: Typed", "Provides-Extra: all",
+             *(f'Requires-Dist: {name} ; extra == "all"' for name in it.optional),
+             "Description-Content-Type: text/markdown", ""]
+    return "\n".join([*lines, (HERE / "README.md").read_text(encoding="utf-8")]).encode()
+
+
+def package() -> Files:
+    """The package's own files."""
+    found = sorted(it for it in (HERE / "misteluk").rglob("*") if it.suffix in (".py", ".typed"))
+    return {it.relative_to(HERE).as_posix(): (it.read_bytes(), False) for it in found}
+
+
+def write_wheel(folder: "str | os.PathLike[str]", files: Files, version: Optional[str] = None,
+                seconds: Optional[int] = None) -> pathlib.Path:
+    """Writes a wheel of these files and of what tells of them: with a program for its kind of machine, else for any."""
+    it = project()
+    version = version or it.version
+    program = files.get(PROGRAM, (b"", False))[0]
+    tag = "py3-none-linux_x86_64" if program.startswith(b"\x7fELF") else "py3-none-any"
+    about = f"{it.name}-{version}.dist-info"
+    pure = "false" if program.startswith(b"\x7fELF") else "true"
+    told: Files = {
+        f"{about}/METADATA": (metadata(version), False),
+        f"{about}/WHEEL": (f"Wheel-Version: 1.0\nGenerator: misteluk\nRoot-Is-Purelib: {pure}\nTag: {tag}\n".encode(), False),
+        f"{about}/entry_points.txt": (_entry_points(it).encode(), False),
+        **{f"{about}/{name}": file for name, file in licences().items()}}
+    everything = {**files, **told}
+    everything[f"{about}/RECORD"] = (_record(everything, f"{about}/RECORD").encode(), False)
+    made = pathlib.Path(folder) / f"{it.name}-{version}-{tag}.whl"
+    made.parent.mkdir(parents=True, exist_ok=True)
+    day = time.gmtime(_moment() if seconds is None else seconds)[:6]
+    with zipfile.ZipFile(made, "w", zipfile.ZIP_DEFLATED) as packed:
+        for name, (data, can_run) in everything.items():
+            entry = zipfile.ZipInfo(name, day)
+            entry.external_attr = (0o100755 if can_run else 0o100644) << 16
+            entry.compress_type = zipfile.ZIP_DEFLATED
+            packed.writestr(entry, data)
+    return made
+
+
+def _moment() -> int:
+    """The time of the files within, in seconds since 1970: 1980's first day unless one is told, so that wheels are the same."""
+    return int(os.environ.get("SOURCE_DATE_EPOCH", "315532800"))
+
+
+def _entry_points(it: Project) -> str:
+    lines = [line.replace('"', "") for line in it.scripts]
+    return "\n".join(["[console_scripts]", *lines, ""])
+
+
+def _record(files: Files, itself: str) -> str:
+    """A line for each file: its name, its SHA-256 and its size."""
+    lines = []
+    for name, (data, _) in files.items():
+        digest = base64.urlsafe_b64encode(hashlib.sha256(data).digest()).rstrip(b"=").decode()
+        lines.append(f"{name},sha256={digest},{len(data)}")
+    return "\n".join([*lines, f"{itself},,", ""])
+
+
+def program_here() -> Files:
+    """The program of the archive or clone that the package stands in, or a script that runs the clone's, or nothing."""
+    top = HERE.parent
+    if (top / "prove").is_file():
+        where = subprocess.run([top / "prove", "--where"], stdout=subprocess.PIPE, stderr=subprocess.DEVNULL, text=True)
+        if where.returncode == 0:
+            return {PROGRAM: (pathlib.Path(where.stdout.strip()).read_bytes(), True)}
+    if (top / "bin/stinger").is_file():
+        return {PROGRAM: ((top / "bin/stinger").read_bytes(), True)}
+    if (top / "stinger").is_file():
+        return {PROGRAM: (f'#!/bin/sh\nexec {shlex.quote(str(top / "stinger"))} "$@"\n'.encode(), True)}
+    return {}
+
+
+# What pip calls.
+
+def build_wheel(wheel_directory: str, config_settings: Any = None, metadata_directory: Optional[str] = None) -> str:
+    return write_wheel(wheel_directory, {**package(), **program_here()}).name
+
+
+def build_editable(wheel_directory: str, config_settings: Any = None, metadata_directory: Optional[str] = None) -> str:
+    return write_wheel(wheel_directory, {"misteluk.pth": (f"{HERE}\n".encode(), False)}).name
+
+
+def build_sdist(sdist_directory: str, config_settings: Any = None) -> str:
+    it = project()
+    folder = f"{it.name}-{it.version}"
+    own = {name: ((HERE / name).read_bytes(), False) for name in ("pyproject.toml", "README.md", "wheels.py")}
+    made = pathlib.Path(sdist_directory) / f"{folder}.tar.gz"
+    with tarfile.open(made, "w:gz", format=tarfile.PAX_FORMAT) as packed:
+        for name, (data, _) in {"PKG-INFO": (metadata(it.version), False), **own, **package(), **licences()}.items():
+            told = tarfile.TarInfo(f"{folder}/{name}")
+            told.size, told.mtime = len(data), _moment()
+            packed.addfile(told, io.BytesIO(data))
+    return made.name
