@@ -1,5 +1,7 @@
 // Readers and writers that fail, and what a run counts.
 
+ghost use Rattle.stinger_server.specs.Runs.{IsFresh};
+
 use super::{
     FIRST, FIRST_ENDS, FIRST_TEXT, FakeReader, FakeWriter, HELD, HELD_ENDS, HELD_TEXT, REFUSED,
     REFUSED_TEXT, count_of, is_cut_of, served,
@@ -110,7 +112,9 @@ fn runs_on(
     feed: &mut Feed<FakeReader<'_>>,
     answer: Result<Summary, ServeFault>,
     text: &str,
-) {
+)
+    requires { IsFresh feed.old }
+{
     let two_seats = Config::new(4, 16, 2).expect(rt, "within the limits");
     let mut writer = FakeWriter::new(usize::MAX);
     let told = run_script(rt, two_seats, feed, &mut Sink::over(&mut writer));
