@@ -1,6 +1,7 @@
 """A feed's batches on their way into a store: sent one by one, also while the rest of the feed is still counted."""
 from __future__ import annotations
 
+from functools import partial
 from typing import TYPE_CHECKING, Any, Callable, Dict, Iterator, List, Optional
 
 from .answers import Commit
@@ -30,15 +31,23 @@ class Ahead:
         """Takes what was answered, and sends the next batch where that may be."""
         if self.fault or count.bad and not self.skip_bad or self.store and not self.store._has_landed():
             return
-        if self.sent > len(self.receipts):
-            self._take(count.feed, count.parts)
+        self._take(count.feed, count.parts)
         if not self.fault and 2 * (self.sent + 1) <= len(count.parts):
             self.store = self.store or self.start()
-            launch(self.store, count.feed, count.parts[self.sent], True)
-            self.sent += 1
+            self.store._calls.make(partial(self._send, self.store, count.feed, count.parts[self.sent]))
+
+    def _send(self, store: "Store", feed: str, part: Part) -> None:
+        """Sends the next batch and counts it, in one call, so that no interrupt comes between the two."""
+        launch(store, feed, part, True)
+        self.sent += 1
 
     def _take(self, feed: str, parts: List[Part]) -> None:
-        """Takes the answer to the last batch that was sent. A fault is kept: what the rest of the feed has may be the reason."""
+        """Takes the answer to the last batch that was sent, where it isn't taken yet."""
+        if self.store and self.sent > len(self.receipts) and not self.fault:
+            self.store._calls.make(partial(self._take_here, feed, parts))
+
+    def _take_here(self, feed: str, parts: List[Part]) -> None:
+        """A fault is kept: what the rest of the feed has may be the reason."""
         assert self.store
         try:
             self.receipts.append(land(self.store, feed, parts, len(self.receipts)))
@@ -47,8 +56,7 @@ class Ahead:
 
     def rest(self, found: Survey) -> Iterator[Commit]:
         """What was done of the batches that were sent, when the feed was found to be right."""
-        if self.sent > len(self.receipts) and not self.fault:
-            self._take(found.feed, found.parts)
+        self._take(found.feed, found.parts)
         yield from self.receipts
         if self.fault:
             raise self.fault

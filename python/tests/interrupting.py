@@ -15,6 +15,8 @@ from misteluk import Store
 PACKAGE = os.path.dirname(misteluk.__file__) + os.sep
 EDGES = {("l", "a", "b"): (5, 1, 1), ("l", "b", "c"): (7, 1, 1)}
 DEGREES = {"a": (1, 0, 5), "b": (1, 1, 7), "c": (0, 1, 0)}
+# How many lines of a call are tried, and how many of them may go wrong before a test ends.
+MOST_LINES, MOST_WRONG = 3_000, 50
 
 
 def made_at_once(self, what, must=False, untaken=None):
@@ -49,6 +51,25 @@ def at_line(wanted, call):
     finally:
         sys.settrace(before)
     return count >= wanted
+
+
+def lines(make, call, is_right, step=1):
+    """How many lines a call runs, and at which of them, of each `step` one, an interrupt makes it go wrong, which
+    `is_right` tells. Where many go wrong, those behind them aren't tried."""
+    wrong = []
+    for at in range(1, MOST_LINES, step):
+        scene = make()
+        try:
+            if not at_line(at, lambda: call(scene)):
+                return at - 1, wrong
+            is_right(scene)
+        except Exception as fault:
+            wrong.append((at, repr(fault)[:100]))
+        finally:
+            scene.end()
+        if len(wrong) == MOST_WRONG:
+            return at, wrong
+    raise AssertionError(f"the call runs {MOST_LINES} lines or more")
 
 
 class Scene:

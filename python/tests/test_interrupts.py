@@ -17,7 +17,7 @@ import weakref
 from unittest import mock
 
 from interrupting import (CALLS, KNOWN, Model, Scene, after, at_line, elsewhere, forget, handler, has_ended, interrupt_in_a_call,
-                          interrupt_now, made_at_once)
+                          interrupt_now, lines, made_at_once)
 from support import Case
 
 import misteluk
@@ -26,19 +26,7 @@ from misteluk import Store, calls, program
 
 class Interrupts(Case):
     def lines(self, name, step=1):
-        """How many lines the call runs, and at which of them, of each `step` one, an interrupt makes it go wrong."""
-        wrong, at = [], 1 - step
-        while True:
-            at += step
-            scene = Scene()
-            try:
-                if not at_line(at, lambda: CALLS[name](scene)):
-                    return at - 1, wrong
-                after(name, scene)
-            except Exception as fault:
-                wrong.append((at, repr(fault)[:100]))
-            finally:
-                scene.end()
+        return lines(Scene, CALLS[name], lambda scene: after(name, scene), step)
 
     def test_each_line(self):
         for name in CALLS:

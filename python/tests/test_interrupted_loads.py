@@ -1,0 +1,126 @@
+"""A load that is interrupted, at each line that it runs, leaves whole batches in the store and none of them twice.
+
+Each test is made again with a fault that is planted, and has to find it.
+"""
+import itertools
+import signal
+import unittest
+from unittest import mock
+
+from interrupting import handler, interrupt_now, lines, made_at_once
+from support import Case
+
+from misteluk import Columns, Store, calls, load, load_in_steps, loading, survey
+
+# Rows of a feed, two a batch: an edge that is in each of three batches, and a name that goes as an id.
+ROWS = [("a", "b", 1, 1), ("b", "c", 2, 2), ("a", "b", 4, 3), ("c", "d e", 8, 4), ("a", "b", 16, 5)]
+ROWS_A_BATCH, BATCHES = 2, 3
+COLUMNS = Columns(1, 2, weight=3, time=4, usual_kind="l")
+BEFORE = {("l", "a", "b"): (5, 1, 1)}
+
+
+class Scene:
+    """A store with one edge and a session of it, into which a feed is loaded; and what was told of the feed's batches."""
+
+    def __init__(self, by):
+        self.by, self.told = by, []
+        self.store = Store(blocks=64, seats=2, timeout=0.5)
+        self.store.insert("l", "a", "b", 5, 1)
+        self.store.commit()
+        self.session = self.store.open()
+
+    def load(self):
+        return self.store.load(ROWS, by=self.by, batch=ROWS_A_BATCH, columns=COLUMNS)
+
+    def steps(self):
+        return load_in_steps(self.store, survey(ROWS, by=self.by, batch=ROWS_A_BATCH, columns=COLUMNS))
+
+    def in_steps(self):
+        for receipt in self.steps():
+            self.told.append(receipt)
+
+    def is_right(self):
+        """Whether a number of whole batches is in, those that were told of among them; and a second load comes behind them."""
+        count = self.store.stat().version - 1
+        assert len(self.told) <= count <= (len(self.told) + 1 if self.told else BATCHES), count
+        assert [it.version for it in self.told] == list(range(2, len(self.told) + 2))
+        there = ROWS[:count * ROWS_A_BATCH]
+        self.has(self.after(there))
+        assert self.load().commit.version == count + BATCHES + 1
+        self.has(self.after(there + ROWS))
+        assert self.session.edges(list(BEFORE)) == list(BEFORE.values()) and self.store.pending == 0
+
+    def after(self, rows):
+        """The edges behind such rows, by a plain loop."""
+        edges = dict(BEFORE)
+        for source, target, weight, time in rows:
+            before, first, _ = edges.get(("l", source, target), (0, time, 0))
+            edges["l", source, target] = (weight + (before if self.by == "add" else 0), first, time)
+        return edges
+
+    def has(self, edges):
+        """Whether the last version has these edges and no others, by their own names."""
+        with self.store.open() as session:
+            assert session.edges(list(edges)) == list(edges.values()), edges
+            assert set(session.degrees()) == {it for _, *ends in edges for it in ends}
+            assert self.store.stat().edges == len(edges)
+
+    def end(self):
+        self.store._talk.kill()
+        self.store._closed = True
+
+
+class Ahead(Scene):
+    """A feed of which a part is sent while the rest is counted. Where that was interrupted, the same calls go on."""
+
+    def __init__(self, by):
+        super().__init__(by)
+        self.ahead = loading.Ahead(lambda: self.store)
+
+    def count(self):
+        return survey(ROWS, by=self.by, batch=1, columns=COLUMNS, ahead=self.ahead)
+
+    def is_right(self):
+        load(self.store, self.count(), by=self.by, ahead=self.ahead)
+        self.has(self.after(ROWS))
+        assert self.store.stat().version == 1 + len(ROWS)
+
+
+class Loads(Case):
+    def lines(self, by, call=Scene.load, scene=Scene, step=1):
+        return lines(lambda: scene(by), call, scene.is_right, step)
+
+    def test_each_line(self):
+        for by, call in (("add", Scene.load), ("set", Scene.load), ("add", Scene.in_steps)):
+            with self.subTest(by, call=call.__name__):
+                count, wrong = self.lines(by, call)
+                self.assertGreater(count, 300)
+                self.assertEqual(wrong, [])
+
+    def test_each_line_of_one_that_is_sent_ahead(self):
+        count, wrong = self.lines("add", Ahead.count, Ahead)
+        self.assertGreater(count, 300)
+        self.assertEqual(wrong, [])
+
+    def test_while_it_waits(self):
+        """For a program that stands still behind so many batches."""
+        for batches in range(BATCHES):
+            scene = Scene("add")
+            self.addCleanup(scene.end)
+            steps, process = scene.steps(), scene.store._talk.process
+            scene.told += itertools.islice(steps, batches)
+            process.send_signal(signal.SIGSTOP)
+            with handler(interrupt_now), self.assertRaises(KeyboardInterrupt):
+                signal.setitimer(signal.ITIMER_REAL, 0.02)
+                next(steps)
+            process.send_signal(signal.SIGCONT)
+            scene.is_right()
+
+    def test_each_line_finds_a_fault(self):
+        with mock.patch.object(calls.Calls, "make", made_at_once):
+            self.assertGreater(len(self.lines("add", step=5)[1]), 5)
+            self.assertGreater(len(self.lines("add", Ahead.count, Ahead, step=5)[1]), 2)
+
+
+if __name__ == "__main__":
+    unittest.main()
