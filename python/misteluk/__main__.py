@@ -16,7 +16,7 @@ from .feeds import STANDARD_INPUT, Column, Columns
 from .lint import lint
 from .loading import Ahead, Survey, check, load, load_in_steps, survey
 from .names import shown
-from .notations import DATES, DECIMALS
+from .notations import DECIMALS, TIMES
 from .session import Session
 from .store import Store
 
@@ -41,8 +41,8 @@ def add_feed_options(parser: argparse.ArgumentParser) -> None:
     feed.add_argument("--header", action=argparse.BooleanOptionalAction, help="else there is one where columns are named")
     feed.add_argument("--encoding", default="utf-8", help="the file's, as cp1252, latin-1 or utf-16 (utf-8)")
     feed.add_argument("--decimal", choices=DECIMALS, default=".", help="the sign before decimals: , takes 12,50 and 1.234,50 (.)")
-    feed.add_argument("--dates", choices=tuple(DATES), help="times are dates of this form, which a time of day may follow; else "
-                      "--times iso takes 2024-03-05")
+    feed.add_argument("--dates", choices=TIMES, help="times are dates of this form, which a time of day may follow, or numbers "
+                      "since 1970; else --times iso takes 2024-03-05")
     feed.add_argument("--third", choices=("weight", "time"), help="what the third field of an edge list is")
     feed.add_argument("--weight-scale", type=int, metavar="N", help="weights are decimals of so many parts: 100 takes 12.50")
     feed.add_argument("--times", choices=("number", "iso"), help="iso: times are dates, here and in what is asked and told")

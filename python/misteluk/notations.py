@@ -6,6 +6,7 @@ from datetime import date
 from typing import Callable, Dict, Iterator, List, NamedTuple, Optional, Sequence
 
 from .feeds import Block, Feed, Table
+from .units import EPOCH, MICROSECOND
 
 DECIMALS = (".", ",")
 # For each form of a date its pattern; behind the date a time of day may stand, which is taken as it is.
@@ -14,6 +15,10 @@ DATES: Dict[str, "re.Pattern[str]"] = {
     "dd/mm/yyyy": re.compile(r"(?P<day>\d{1,2})/(?P<month>\d{1,2})/(?P<year>\d{4})(?P<rest>(?:[ T].*)?)", re.A),
     "mm/dd/yyyy": re.compile(r"(?P<month>\d{1,2})/(?P<day>\d{1,2})/(?P<year>\d{4})(?P<rest>(?:[ T].*)?)", re.A),
 }
+# Numbers since 1970: how many microseconds each of them is.
+SINCE_1970 = {"seconds": 1_000_000, "milliseconds": 1_000, "microseconds": 1}
+TIMES = (*DATES, *SINCE_1970)
+_SINCE = re.compile(r"(\d{1,17})(?:\.(\d{1,15}))?", re.A)
 _WHOLE = re.compile(r"[-+]?\d+", re.A)
 _FRACTION = re.compile(r"[-+]?\d+,\d+", re.A)
 # Thousands may be parted where there is no doubt of it: where a comma follows, or where there are two signs that part them.
@@ -22,7 +27,8 @@ _SIGNS_BETWEEN = re.compile(r"[.' \u00a0\u202f]")
 
 
 class Notation(NamedTuple):
-    """The sign before decimals, "." or ",", and the form of dates, as "dd.mm.yyyy", or `None` for those of ISO 8601."""
+    """The sign before decimals, "." or ",", and the form of dates, as "dd.mm.yyyy" or "milliseconds", or `None` for those of
+    ISO 8601."""
 
     decimal: str = "."
     dates: Optional[str] = None
@@ -31,8 +37,8 @@ class Notation(NamedTuple):
         """Itself; raises `ValueError` where there is no such notation."""
         if self.decimal not in DECIMALS:
             raise ValueError(f"decimal is '.' or ',', and not {self.decimal!r}")
-        if self.dates is not None and self.dates not in DATES:
-            raise ValueError(f"dates is {', '.join(map(repr, DATES))}, or None for ISO 8601, and not {self.dates!r}")
+        if self.dates is not None and self.dates not in TIMES:
+            raise ValueError(f"dates is {', '.join(map(repr, TIMES))}, or None for ISO 8601, and not {self.dates!r}")
         return self
 
     def turned(self, feed: Feed) -> Feed:
@@ -49,6 +55,8 @@ class Notation(NamedTuple):
 
     def date_of(self, text: str) -> str:
         """The date as 2024-03-05, with what stands behind it; a text of another form, or a day that no month has, as it is."""
+        if self.dates in SINCE_1970:
+            return date_since(text, self.dates)
         found = DATES[self.dates or ""].fullmatch(text.strip())
         if not found:
             return text
@@ -56,6 +64,21 @@ class Notation(NamedTuple):
             return date(*(int(found[it]) for it in ("year", "month", "day"))).isoformat() + found["rest"]
         except ValueError:
             return text
+
+
+def date_since(text: str, unit: str) -> str:
+    """The date of a number of seconds, milliseconds or microseconds since 1970, which may have decimals. What is finer than a
+    microsecond is given so that it is refused and says why; a text that is no such number, or is beyond 9999, as it is."""
+    found = _SINCE.fullmatch(text.strip())
+    if not found:
+        return text
+    count, rest = divmod(int(found[1] + (found[2] or "").ljust(15, "0")) * SINCE_1970[unit], 10 ** 15)
+    if rest:
+        return f"{text} (in {unit}; it has more than microseconds, which would be cut off)"
+    try:
+        return (EPOCH + MICROSECOND * count).isoformat()
+    except OverflowError:
+        return text
 
 
 def with_point(text: str) -> str:

@@ -24,7 +24,8 @@ def open_feed(data: Any, *, format: Optional[str] = None, columns: Columns = Col
     `columns` of frames and rows too, `third` of edge lists (see `snap`), `both_ways` of undirected graphs (see `from_networkx`).
 
     `encoding` is a file's, by Python's name. `decimal` is "," where a file has amounts as 12,50 or 1.234,50. `dates` is
-    "dd.mm.yyyy", "dd/mm/yyyy" or "mm/dd/yyyy" where times are such dates, which a time of day may follow.
+    "dd.mm.yyyy", "dd/mm/yyyy" or "mm/dd/yyyy" where times are such dates, which a time of day may follow; it is "seconds",
+    "milliseconds" or "microseconds" where they are numbers of them since 1970.
 
     Raises `ValueError` for options that there aren't, `FeedFault` where a file or graph is of another form, and `OSError`.
     """

@@ -2,6 +2,7 @@
 import subprocess
 import sys
 import unittest
+from datetime import datetime, timezone
 
 from support import HERE, Case
 
@@ -28,6 +29,34 @@ class Notations(Case):
         self.assertEqual(notations.Notation(dates="dd.mm.yyyy").date_of("05.03.2024 12:30:05"), "2024-03-05 12:30:05")
         for wrong in ("31.02.2024", "05.13.2024", "05/03/2024", "05.03.24", "5.3", "", "05.03.20245"):
             self.assertEqual(notations.Notation(dates="dd.mm.yyyy").date_of(wrong), wrong)
+
+    def test_numbers_since_1970(self):
+        """5 March 2024 begins 1709596800 seconds behind 1970: 19,787 days of 86,400."""
+        for unit, number, told in (("seconds", "1709596800", ""), ("milliseconds", "1709596800123", ".123000"),
+                                   ("microseconds", "1709596800000001", ".000001"), ("seconds", "1709596800.25", ".250000"),
+                                   ("milliseconds", "1709596800123.0040", ".123004"), ("seconds", " 1709596800.0", "")):
+            self.assertEqual(notations.date_since(number, unit), f"2024-03-05T00:00:00{told}+00:00")
+        self.assertEqual(notations.date_since("0", "milliseconds"), "1970-01-01T00:00:00+00:00")
+        for other in ("1709596800123", "-1", "1e9", "2024-03-05", "", "99999999999999999999"):  # (the first is beyond 9999)
+            self.assertEqual(notations.date_since(other, "seconds"), other)
+        for finer in ("1709596800.0000001", "0.000000000000001"):
+            self.assertIn("it has more than microseconds, which would be cut off", notations.date_since(finer, "seconds"))
+
+    def test_milliseconds_are_not_cut_off(self):
+        """As numbers, as numbers that are dates, and as dates: the last two give the same edges."""
+        rows = "a;b;1;{}\na;b;1;{}\n"
+        numbers, dates = (1709596800123, 1709596800999), ("2024-03-05T00:00:00.123", "2024-03-05T00:00:00.999Z")
+        first, last = (datetime(2024, 3, 5, 0, 0, 0, it, tzinfo=timezone.utc) for it in (123_000, 999_000))
+        for given, options, wanted, until in ((numbers, {}, numbers, 1709596800998), (
+                numbers, {"dates": "milliseconds"}, (first, last), "2024-03-05T00:00:00.998"),
+                (dates, {"times": "iso"}, (first, last), "2024-03-05T00:00:00.998")):
+            store = self.store()
+            store.load(self.file("ms.csv", rows.format(*given)), by="add", columns=ONE_TO_FOUR, delimiter=";", **options)
+            with store.open() as session:
+                self.assertEqual(session.edge("link", "a", "b")[1:], wanted)
+                self.assertEqual((session.degrees(until=until)["a"].out, session.degrees(since=wanted[1])["a"].out), (0, 1))
+        with self.assertRaisesRegex(misteluk.BadRows, "123.0004 .in milliseconds; it has more than microseconds"):
+            self.store().load([("a", "b", 1, "1709596800123.0004")], by="add", dates="milliseconds")
 
     def test_a_file_of_another_country(self):
         """In cents and seconds: 5 March 2024 begins 1709596800 seconds behind 1970, noon of it 43,200 later."""
