@@ -81,8 +81,9 @@ class Asking:
     def _check(self, answer: Awaited, fields: Sequence[str]) -> Awaited:
         if answer.word:
             faults = [it for it in self._terms.faults_of(fields, self.seats) if it.word == answer.word]
-            text = "" if faults else ",".join(map(shown, fields))
-            raise refusal(answer.word, text, record=answer.number, fault=faults[0] if faults else None)
+            if faults:
+                raise self._terms.refusal(faults[0], record=answer.number)
+            raise refusal(answer.word, ",".join(map(shown, fields)), record=answer.number)
         return answer
 
     def _ask_all(self, texts: Sequence[str]) -> List[Awaited]:

@@ -4,7 +4,7 @@ from __future__ import annotations
 from typing import Callable, Dict, List, NamedTuple, Optional, Sequence
 
 from . import records
-from .answers import Commit, committed
+from .answers import Commit, Stat, committed
 from .asking import Asking, within
 from .calls import talks
 from .errors import OperationsRefused, Place, PoolEmpty, Refused, refusal
@@ -44,6 +44,7 @@ class Batches(Asking):
     _kinds: Dict[str, None]
     _flight: Optional[Flight]
     _units_are_set: bool
+    blocks: int
 
     def insert(self, kind: str, source: str, target: str, weight: Amount = 1, time: Moment = 0) -> None:
         """Adds an edge, or sets the weight of the one that is there."""
@@ -217,6 +218,21 @@ class Batches(Asking):
         if flight.done.word == PoolEmpty.word:
             stat = self.stat()
             needed = flight.size + (stat.used if flight.expires else 0)
-            return PoolEmpty(needed=needed, free=stat.free, record=flight.done.number, place=place)
+            return PoolEmpty(needed=needed, free=stat.free, record=flight.done.number, place=place,
+                             advice=self._room_advice(flight.size, needed, stat))
         left = f"the batch of {flight.size} operations is pending still" if flight.from_pending else ""
         return refusal(flight.done.word or "", left, record=flight.done.number, place=place)
+
+    def _room_advice(self, size: int, needed: int, stat: Stat) -> str:
+        """What helps where a batch of so many operations needs more blocks than are free: only what wasn't done already."""
+        collect = "collect" + (", and before that close a session that holds an old version" if self._sessions else "")
+        smaller, room = "make batches smaller", stat.free + stat.retired
+        ways = [collect] if stat.retired and room >= needed else []
+        if size > 1 and stat.free > needed - size:
+            ways.append(smaller)
+        elif size > 1 and not ways and room > needed - size:
+            ways.append(f"{collect}, and {smaller}")
+        if self.blocks < records.MOST_BLOCKS:
+            ways.append(f"give the store more blocks ({records.MOST_BLOCKS:,} at most)")
+        told = "; or ".join(ways)
+        return told[:1].upper() + told[1:]

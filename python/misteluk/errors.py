@@ -65,17 +65,15 @@ class BadFields(Refused):
 
 class BadName(Refused):
     word = "BadName"
-    advice = "Any text is a name that isn't empty, and a kind too that isn't * alone"
 
 
 class BadWeight(Refused):
     word = "BadWeight"
-    advice = "Amounts with decimals are counted in cents by weight_scale=100 (--weight-scale 100)"
 
 
 class BadTime(Refused):
     word = "BadTime"
-    advice = "Dates are taken by times='iso' (--times iso)"
+    advice = "Dates are taken by a store with times='iso' (--times iso)"
 
 
 class BadSlot(Refused):
@@ -95,7 +93,7 @@ class AlreadyOpen(Refused):
 
 class BadWindow(Refused):
     word = "BadWindow"
-    advice = "A window's beginning comes before its end"
+    advice = "A window begins no later than it ends"
 
 
 class NoKind(Refused, LookupError):

@@ -1,37 +1,103 @@
-"""What helps against the faults of a feed's rows: by what stands there, and never what was done already."""
+"""What helps against faults: by what stands there, and never what was done already or can't help."""
 from __future__ import annotations
 
+import codecs
 import re
-from typing import Iterable, Optional
+from typing import Iterable, NamedTuple, Optional
 
-from .errors import BadName, BadTime, BadWeight, Refused
-from .notations import DATES
+from . import records
+from .errors import BadName, BadSlot, BadTime, BadWeight, Refused
+from .notations import DATES, TIMES, Notation, pointed
+from .units import ISO, PLAIN, Units
 
 _KEPT_BYTES = re.compile("[\udc80-\udcff]")
-_WITH_COMMA = re.compile(r"\s*[-+]?[\d.' \u00a0\u202f]*,\d+\s*", re.A)
-_DAY_AND_YEAR = re.compile(r"\s*\d{1,2}([./])\d{1,2}\1\d{4}\b.*", re.A)
+# The numbers of decimals that a scale is advised for: cents where fewer would do, and as many as a weight can have.
+_DECIMALS = range(2, 13)
 
 
-def advise(faults: Iterable[Refused], encoding: str, decimal: str, dates: Optional[str]) -> None:
-    """Gives each fault of a feed that was read so the advice that its value asks for, instead of its word's; none to an empty
-    field, which no option fills."""
-    for it in faults:
-        value = it.fault.value if it.fault else None
-        if value is not None:
-            told = _advice_for(it, value, encoding, decimal, dates)
-            it.advice = it.advice if told is None else told
+class Reading(NamedTuple):
+    """How a feed was read: a file's encoding and the sign before its decimals, which a feed that is none has not; the units."""
+
+    encoding: Optional[str]
+    decimal: Optional[str]
+    units: Units
 
 
-def _advice_for(fault: Refused, value: str, encoding: str, decimal: str, dates: Optional[str]) -> Optional[str]:
-    if not value.strip():
-        return ""
-    if isinstance(fault, BadName) and _KEPT_BYTES.search(value):
-        return f"The file isn't {encoding}: say its encoding, as encoding='cp1252' (--encoding cp1252)"
-    if isinstance(fault, BadWeight) and decimal == "," and "comma" in value:
-        return ""
-    if isinstance(fault, BadWeight) and _WITH_COMMA.fullmatch(value):
-        return "Amounts as 12,50 are read by decimal=',' and weight_scale=100 (--decimal , --weight-scale 100)"
-    if isinstance(fault, BadTime) and _DAY_AND_YEAR.fullmatch(value):
-        forms = ", ".join(f"dates={it!r}" for it in DATES if it != dates)
-        return f"Dates that begin with a day or month are read by what they are: {forms} (--dates)" if not dates else ""
+def _is_weight(text: str, units: Units) -> bool:
+    try:
+        return records.weight_reason(units.weight_to_program(text)) is None
+    except ValueError:
+        return False
+
+
+def _is_date(text: str) -> bool:
+    try:
+        return bool(Units(times=ISO).time_to_program(text))
+    except ValueError:
+        return False
+
+
+def _scale_for(text: str) -> int:
+    """The scale by which a number with decimals is a whole number of parts; 0 where it is none, or where none is enough."""
+    scales = (10 ** it for it in _DECIMALS)
+    return next((it for it in scales if _is_weight(text, Units(it))), 0) if "." in text else 0
+
+
+def advice_for(fault: records.Fault, units: Units = PLAIN) -> Optional[str]:
+    """What helps where a record has such a field; "" where nothing does, and `None` where its word's advice does."""
+    value = fault.value or ""
+    if fault.word == BadWeight.word:
+        return _by_scale(_scale_for(value) if units.weight_scale == 1 else 0)
+    if fault.word == BadTime.word:
+        return None if not units.has_dates and _is_date(value) else ""
+    if fault.word == BadSlot.word:
+        return None if value in map(str, range(records.MOST_SEATS)) else ""
     return None
+
+
+def _by_scale(scale: int) -> str:
+    return f"Amounts with decimals are taken by a store with weight_scale={scale} (--weight-scale {scale})" if scale else ""
+
+
+def advise(faults: Iterable[Refused], how: Reading) -> None:
+    """Gives each fault of a feed that was read so the advice that its value asks for, instead of its word's. Of weights that
+    need several scales all are told the greatest."""
+    told = [(it, it.fault.value) for it in faults if it.fault and it.fault.value is not None]
+    scale = max((_scale_for(pointed(value) or value) for it, value in told if isinstance(it, BadWeight)), default=0)
+    for it, value in told:
+        if isinstance(it, BadName):
+            it.advice = _of_name(value, how.encoding)
+        elif isinstance(it, BadWeight):
+            it.advice = _of_weight(value, how, scale)
+        elif isinstance(it, BadTime):
+            it.advice = _of_time(value, how.units.has_dates)
+
+
+def _of_name(value: str, encoding: Optional[str]) -> str:
+    if encoding is None or not _KEPT_BYTES.search(value):
+        return ""
+    other = "latin-1" if codecs.lookup(encoding).name == "cp1252" else "cp1252"
+    return f"The file isn't {encoding}: say its encoding, as encoding='{other}' (--encoding {other})"
+
+
+def _of_weight(value: str, how: Reading, scale: int) -> str:
+    number = pointed(value)
+    if "," not in value or number is None:
+        return _by_scale(scale if how.units.weight_scale == 1 and _scale_for(value) else 0)
+    if how.decimal != ".":
+        return ""
+    if _is_weight(number, how.units):
+        return "Amounts as 12,50 are read by decimal=',' (--decimal ,)"
+    if how.units.weight_scale != 1 or not _scale_for(number):
+        return ""
+    return f"Amounts as 12,50 are read by decimal=',' and weight_scale={scale} (--decimal , --weight-scale {scale})"
+
+
+def _of_time(value: str, has_dates: bool) -> str:
+    if _is_date(value):
+        return "" if has_dates else BadTime.advice
+    forms = [it for it in TIMES if _is_date(Notation(dates=it).date_of(value))]
+    told = ", ".join(f"dates={it!r}" for it in forms)
+    if any(it in DATES for it in forms):
+        return f"Dates that begin with a day or month are read by what they are: {told} (--dates)"
+    return f"Numbers since 1970 are read as dates by what they count: {told} (--dates)" if forms else ""

@@ -8,6 +8,7 @@ from typing import Dict, Iterator, List, NamedTuple, Optional, Tuple, Union
 
 from . import records
 from .errors import WORDS, NoAnswer
+from .faults import advice_for
 from .finding import Path, find_program
 
 # Which field a word is about where the record alone doesn't tell.
@@ -39,9 +40,11 @@ class Finding(NamedTuple):
     fault: records.Fault
 
     def __str__(self) -> str:
-        known = WORDS.get(self.fault.word)
-        advice = f". {known.advice}" if known and known.advice and self.fault.word in ADVISED else ""
-        return f"{self.script}:{self.line}: record {self.record}: {self.fault.word}: {self.fault}{advice}"
+        advice = advice_for(self.fault)
+        if advice is None and self.fault.word in ADVISED:
+            advice = WORDS[self.fault.word].advice
+        told = f"{self.script}:{self.line}: record {self.record}: {self.fault.word}: {self.fault}"
+        return told + (f". {advice}" if advice and self.fault.word in ADVISED else "")
 
 
 def read_records(data: bytes) -> Iterator[Tuple[int, List[str]]]:

@@ -1,6 +1,7 @@
 """A feed is read whole, counted and checked before its first record is sent: a run takes 999,999 records, so it fits."""
 from __future__ import annotations
 
+import os
 import time
 from array import array
 from collections import defaultdict, deque
@@ -12,7 +13,7 @@ from typing import TYPE_CHECKING, Any, Callable, DefaultDict, Dict, Iterator, Li
 from . import records
 from .answers import Commit
 from .errors import Place, Refused, Uncommitted
-from .faults import advise
+from .faults import Reading, advise
 from .feeds import Block, Columns, Row, of_columns, part_of, rows_of, turned
 from .limits import check as check, check_room
 from .opening import open_feed
@@ -276,7 +277,8 @@ def survey(data: Any, *, by: str, batch: int = records.MOST_OPERATIONS, progress
             if ahead:
                 ahead.go_on(counter)
     told.end()
-    advise(counter.faults, encoding, decimal, dates)
+    is_file = isinstance(data, (str, os.PathLike))
+    advise(counter.faults, Reading(encoding if is_file else None, decimal if is_file else None, terms.units))
     return counter.survey()
 
 

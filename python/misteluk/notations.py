@@ -81,15 +81,20 @@ def date_since(text: str, unit: str) -> str:
         return text
 
 
-def with_point(text: str) -> str:
-    """The number as 1234.50 that is written 1234,50 or 1.234,50. What has a point and isn't surely one of these, as 1.234, is
-    given so that it is refused and says why."""
+def pointed(text: str) -> Optional[str]:
+    """The number as 1234.50 that is written 1234,50 or 1.234,50; `None` for what isn't surely one of these, as 1.234."""
     number = text.strip()
     if _PARTED.fullmatch(number):
         number = _SIGNS_BETWEEN.sub("", number)
     elif not (_WHOLE.fullmatch(number) or _FRACTION.fullmatch(number)):
-        return f"{text} (where decimals stand behind a comma)" if text else text
+        return None
     return number.replace(",", ".")
+
+
+def with_point(text: str) -> str:
+    """The number as 1234.50 where it is surely one; else what is given so that it is refused and says why."""
+    number = pointed(text)
+    return number if number is not None else f"{text} (where decimals stand behind a comma)" if text else text
 
 
 def _each(turn: Callable[[str], str], texts: Sequence[str]) -> List[str]:

@@ -82,5 +82,5 @@ def land(store: "Store", feed: str, parts: List[Part], at: int) -> Commit:
         where: Dict[str, Any] = {"record": fault.record, "place": fault.place}
         if isinstance(fault, PoolEmpty):
             text += f". It needs {fault.needed} free blocks, and {fault.free} are free"
-            raise PoolEmpty(needed=fault.needed, free=fault.free, text=text, **where) from fault
+            raise PoolEmpty(needed=fault.needed, free=fault.free, text=text, advice=fault.advice, **where) from fault
         raise refusal(fault.word, text, **where) from fault

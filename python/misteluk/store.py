@@ -157,7 +157,8 @@ class Store(Batches):
         self._let_orphans_go()
         free = [it for it in range(self.seats) if it not in self._sessions]
         if slot is None and not free:
-            raise NoSeat(f"all {self.seats} seats hold sessions: close one, or make the store with more seats (16 at most)")
+            more = ", or make the store with more seats (16 at most)" if self.seats < records.MOST_SEATS else ""
+            raise NoSeat(f"all {self.seats} seats hold sessions: close one{more}")
         at = free[0] if slot is None else slot
         self._make_room(2)
         opened, stat = self._talk.ask(self._record(("open", str(at)))), self._talk.ask("stat\n")
@@ -177,7 +178,8 @@ class Store(Batches):
         the program tells of a fault."""
         lost = self._end()
         if lost:
-            raise Uncommitted(f"{len(lost)} operations were pending and are not applied: commit or discard them first", lost)
+            text = f"{len(lost)} operations were pending and are not applied; the error has them: commit or discard before a close"
+            raise Uncommitted(text, lost)
 
     def _end(self) -> List[str]:
         """Ends the program, also where the call is interrupted, and returns what was pending. A fork ends nothing."""

@@ -6,6 +6,7 @@ from typing import Callable, Dict, List, Optional, Sequence, Tuple
 from . import records
 from .answers import Edge
 from .errors import Refused, refusal
+from .faults import advice_for
 from .feeds import Block
 from .names import MARK, NameTable
 from .records import Fault
@@ -59,9 +60,8 @@ class Terms:
         return sorted(faults, key=lambda it: _ORDER.index(it.word))
 
     def refusal(self, fault: Fault, **where: "object") -> Refused:
-        """The exception for a fault. Units that are there already are no advice."""
-        has_units = fault.word == "BadWeight" and self.units.weight_scale != 1 or fault.word == "BadTime" and self.units.has_dates
-        return refusal(fault.word, fault=fault, advice="" if has_units else None, **where)  # type: ignore[arg-type]
+        """The exception for a fault, with what helps where such a value stands there."""
+        return refusal(fault.word, fault=fault, advice=advice_for(fault, self.units), **where)  # type: ignore[arg-type]
 
     def record(self, fields: Sequence[str]) -> str:
         """The program's record of an operation. Raises a `Refused` where a rule is broken."""

@@ -1,4 +1,5 @@
 """How files write numbers, dates and text, standard input, and what advice is told where rows are refused."""
+import re
 import subprocess
 import sys
 import unittest
@@ -96,10 +97,84 @@ class Advice(Case):
         self.assertIn("read by decimal=',' and weight_scale=100 (--decimal , --weight-scale 100)", self.told("a;b;12,50;1\n"))
         self.assertIn("say its encoding, as encoding='cp1252'", self.told("M\u00fcller;b;1.5;1\n"))
         told = self.told("a;b;1;05.03.2024\n", times="iso")
-        self.assertIn("dates='dd.mm.yyyy'", told)
-        self.assertNotIn("mm/dd/yyyy (", told)
+        self.assertIn("read by what they are: dates='dd.mm.yyyy' (--dates)", told)
+        self.assertIn("dates='dd/mm/yyyy', dates='mm/dd/yyyy' (--dates)", self.told("a;b;1;05/03/2024\n"))
+        self.assertIn("what they are: dates='mm/dd/yyyy' (--dates)", self.told("a;b;1;12/31/2024 10:30:00\n"))
+        self.assertIn("they count: dates='milliseconds', dates='microseconds' (--dates)", self.told("a;b;1;1709596800123\n",
+                                                                                                times="iso"))
+        self.assertIn("they count: dates='seconds', dates='milliseconds'", self.told("a;b;1;1709596800.25\n"))
+        self.assertIn("what they are: dates='mm/dd/yyyy' (--dates)", self.told("a;b;1;12/31/2024\n", dates="dd/mm/yyyy"))
+
+    def test_a_scale_is_one_that_helps(self):
+        """The least one with two decimals or more by which each weight is whole; none where there is none."""
+        for weights, scale in (("12.5", 100), ("12.50", 100), ("12.505", 1_000), ("1.5 0.0001 2", 10_000), ("0.1 seven", 100)):
+            told = self.told("".join(f"a;b;{it};1\n" for it in weights.split()))
+            self.assertEqual(re.findall(r"weight_scale=\d+", told), [f"weight_scale={scale}"])
+            self.assertNotIn("BadWeight amount", told.replace("BadWeight: amount", ""))
+            taken = "".join(f"a;b;{it};1\n" for it in weights.split() if it != "seven")
+            (self.room / "a.csv").write_text(taken)
+            self.store().load(self.room / "a.csv", by="add", columns=ONE_TO_FOUR, delimiter=";", weight_scale=scale)
+        told = self.told("a;b;1,5;1\na;b;1,505;1\n")
+        self.assertEqual(set(re.findall(r"weight_scale=\d+", told)), {"weight_scale=1000"})
+        self.assertIn("read by decimal=',' (--decimal ,)", self.told("a;b;1,5;1\n", weight_scale=100))
+        with self.assertRaisesRegex(misteluk.BadWeight, "weight_scale=1000 "):
+            self.store().insert("k", "a", "b", 0.125)
+
+    def none(self, word: str, *rows: str, **options) -> None:
+        """Whether each of the rows, alone in a file, is told of without such advice."""
+        for it in rows:
+            self.assertNotIn(word, self.told(f"{it}\n", **options), it)
 
     def test_none_that_was_followed_or_can_not_help(self):
+        self.none("weight_scale", "a;b;seven;1", "a;b;1e3;1", "a;b;nan;1", "a;b;1.2.3;1", "a;b;+5;1", "a;b;99999999999999;1",
+                  "a;b;0.1234567890123;1", "a;b;99999999999.5;1", "a;b;1,2,3;1", "a;b;0,1234567890123;1")
+        self.none("decimal=", "a;b;1,234;1", "a;b;1,2,3;1", weight_scale=100)
+        self.none("times=", "a;b;1;soon", "a;b;1;-5", "a;b;1;2024-02-30", "a;b;1;1969-12-31", "a;b;1;99999999999999999999")
+        self.none("dates=", "a;b;1;31.02.2024", "a;b;1;05.13.2024", "a;b;1;soon", "a;b;1;1e9", times="iso")
+        self.none("cp1252'", "M\u0081;b;1.5;1", encoding="windows-1252")
+        with self.assertRaises(misteluk.BadRows) as fault:
+            self.store().load([("a", "b", "1,5")], by="add")
+        self.assertNotIn("decimal", str(fault.exception))
+
+    def test_none_for_a_call_that_it_can_not_help(self):
+        store = self.store(seats=16)
+        for call, word in ((lambda: store.insert("k", "a", "b", "seven"), "weight_scale"), (lambda: store.expire(-1), "times="),
+                           (lambda: store.insert("k", "a", "b", 1, "soon"), "times="), (lambda: store.open(16), "seats="),
+                           (lambda: store.insert("k", "", "b"), "Any text"),
+                           (lambda: self.store(weight_scale=100).insert("k", "a", "b", "1.505"), "(--weight-scale")):
+            with self.assertRaises(misteluk.Refused) as fault:
+                call()
+            self.assertNotIn(word, str(fault.exception))
+        with self.assertRaisesRegex(misteluk.BadSlot, "seats=, 16 at most"):
+            self.store(seats=2).open(15)
+        held = [store.open() for _ in range(16)]
+        with self.assertRaises(misteluk.NoSeat) as told:
+            store.open()
+        self.assertEqual((str(told.exception), len(held)), ("all 16 seats hold sessions: close one", 16))
+
+    def test_room(self):
+        """Of 16 blocks 8 are used and 8 replaced: what helps then, each time another thing."""
+        store = self.store(*(f"insert k a{it} b 1 0" for it in range(8)), blocks=16)
+        session = store.open()
+        self.feed(store, *(f"insert k a{it} b 2 0" for it in range(8)))
+        store.insert("k", "n0", "b")
+        more = "ive the store more blocks (65,536 at most)"
+        self.advised(store, f"Collect, and before that close a session that holds an old version; or g{more}")
+        session.close()
+        self.advised(store, f"Collect; or g{more}")
+        for it in range(1, 9):
+            store.insert("k", f"n{it}", "b")
+        self.advised(store, f"Collect, and make batches smaller; or g{more}")
+        store.collect()
+        self.advised(store, f"Make batches smaller; or g{more}")
+        self.advised(store, f"G{more}", batch=8)
+
+    def advised(self, store, advice, **options) -> None:
+        with self.assertRaises(misteluk.PoolEmpty) as told:
+            store.commit(**options)
+        self.assertEqual(told.exception.advice, advice)
+
+    def test_none_of_a_feed_that_was_followed(self):
         told = self.told(";b;1;1\na;b;;1\na;b;1;\n")
         for it in ("weight_scale", "times=", "escape"):
             self.assertNotIn(it, told)
