@@ -178,7 +178,7 @@ class Store(Batches):
         the program tells of a fault."""
         lost = self._end()
         if lost:
-            text = f"{len(lost)} operations were pending and are not applied; the error has them: commit or discard before a close"
+            text = f"{len(lost)} operations were pending and are not applied (the error has them): commit or discard first"
             raise Uncommitted(text, lost)
 
     def _end(self) -> List[str]:

@@ -104,8 +104,9 @@ class Installs(Case):
         return path
 
     def install(self, *words) -> None:
-        done = run(sys.executable, "-m", "pip", "install", "--no-index", "--no-build-isolation", "--no-deps", "--quiet",
-                   "--disable-pip-version-check", "--target", self.there, *words, cwd=self.room)
+        """Without a network: no place of packages is asked."""
+        done = run(sys.executable, "-m", "pip", "install", "--no-index", "--quiet", "--disable-pip-version-check", "--target",
+                   self.there, *words, cwd=self.room)
         self.assertEqual(done.returncode, 0, done.stdout)
 
     def ask(self, code: str) -> str:
@@ -127,7 +128,7 @@ class Installs(Case):
 
     def test_the_command(self):
         self.program("stinger")
-        self.install(self.top / "python")
+        self.install("--no-build-isolation", self.top / "python")
         env = {**os.environ, "PYTHONPATH": str(self.there)}
         told = run(self.there / "bin/misteluk", "load", "-", "--set", "--source", "1", "--target", "2", cwd="/", env=env,
                    input="a,b\n").stdout
