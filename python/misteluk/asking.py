@@ -65,6 +65,9 @@ class Asking:
 
     def _record(self, fields: Sequence[str]) -> str:
         """The record of a request, whose fields are the user's. What wouldn't be one line of plain signs is refused here."""
+        text = ",".join(fields) + "\n"
+        if records.is_plain_edge(text) and self._terms.has_no_id(text):  # (nearly all that are asked one by one)
+            return text
         turned, faults = self._terms.turned(fields, keep=False)
         text = records.record(turned)
         if faults or not records.is_plain(text):

@@ -52,6 +52,8 @@ _ONE_LINE = re.compile(r"[!-~]+\n")
 # Insertions or additions that keep every rule, none of them with a quoted field; numbers a digit short of their limits, so that
 # what doesn't match is looked at one by one.
 _PLAIN = r"[ia],(?!\*,)[!#-+\--~]{1,64},[!#-+\--~]{1,64},[!#-+\--~]{1,64},-?[0-9]{1,12},[0-9]{1,18}\n"
+# A question for an edge, of names as an operation's.
+_PLAIN_EDGE = re.compile(r"edge,[0-9]{1,2},(?!\*,)[!#-+\--~]{1,64},[!#-+\--~]{1,64},[!#-+\--~]{1,64}\n")
 _PLAIN_LINE, _PLAIN_LINES = re.compile(_PLAIN), re.compile(rf"(?:{_PLAIN})*")
 
 
@@ -170,6 +172,11 @@ def is_plain(text: str) -> bool:
 def is_plain_operation(text: str) -> bool:
     """Whether this is an insertion or addition that keeps every rule, seen at once; another may keep them too."""
     return _PLAIN_LINE.fullmatch(text) is not None
+
+
+def is_plain_edge(text: str) -> bool:
+    """Whether this is a question for an edge whose names keep every rule and need no quotes, seen at once."""
+    return _PLAIN_EDGE.fullmatch(text) is not None
 
 
 def are_plain_operations(text: str) -> bool:

@@ -28,7 +28,12 @@ class Terms:
     def is_as_it_is(self, text: str) -> bool:
         """Whether records of plain signs are the program's as they stand: no unit turns them, and none has a name with an id's
         form."""
-        return self.units.are_plain and MARK not in text
+        return self.units.are_plain and self.has_no_id(text)
+
+    @staticmethod
+    def has_no_id(text: str) -> bool:
+        """Whether no name in a record has an id's form, or is one's id."""
+        return MARK not in text
 
     def turned(self, fields: Sequence[str], keep: bool = True) -> Tuple[List[str], List[Fault]]:
         """The program's fields, and what is wrong with those that have none, which are empty then. With `keep=False` no name is

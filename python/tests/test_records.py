@@ -6,6 +6,9 @@ from support import Case, words_of
 
 from misteluk import records
 from misteluk.lint import read_records
+from misteluk.names import id_of
+from misteluk.terms import Terms
+from misteluk.units import Units
 
 FROM_THE_RECORD_ALONE = {"BadCommand", "BadFields", "BadName", "BadWeight", "BadTime", "BadSlot"}
 NAMES = ["a", "", "*", "**", "~", "!", "a b", "é", '"', ",", 'a"b', "x" * 64, "x" * 65, "\x7f", "a\nb", "error", "0"]
@@ -63,6 +66,17 @@ class Records(Case):
         for it in ("i,*,a,b,1,2\n", "i,k,a,b,1\n", "i,k,a b,b,1,2\n", "i,k,,b,1,2\n", "i,k,a,b,1.5,2\n", "r,k,a,b\n",
                    "i,k,a,b,1,-2\n", 'i,k,",b,1,2\n', f"i,k,{'a' * 65},b,1,2\n", "i,k,a,\u00e9,1,2\n", "i,k,a,b,1,\u0661\n"):
             self.assertFalse(records.are_plain_operations(right + it), it)
+
+    def test_a_plain_question_is_the_record_that_it_would_be(self):
+        """Also through a store's terms, where ids stand for other names; and most of what is asked is seen to be plain."""
+        random_, terms, plain = random.Random(3), Terms(units=Units(100, "iso")), 0
+        for _ in range(20_000):
+            fields = ["edge", "15", *(random_.choice(["a"] * 20 + [*NAMES, "~~", id_of("é"), "a~~b"]) for _ in range(3))]
+            text = ",".join(fields) + "\n"
+            if records.is_plain_edge(text) and terms.has_no_id(text):
+                plain += 1
+                self.assertEqual((records.record(terms.turned(fields, keep=False)[0]), terms.faults_of(fields)), (text, []))
+        self.assertGreater(plain, 5_000)
 
 
 if __name__ == "__main__":
