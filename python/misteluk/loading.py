@@ -334,16 +334,22 @@ def load_in_steps(store: "Store", found: Survey, *, collect: bool = True, skip_b
         yield from ahead.rest(found)
     else:
         store._calls.make(lambda: _prepare(store, found, collect))
+    if sent == len(found.parts):
+        store._calls.make(lambda: _tell(store, found))
+    for at in range(sent, len(found.parts)):
+        yield store._calls.make(partial(_send, store, found, at, collect, at == sent))
+
+
+def _tell(store: "Store", found: Survey) -> None:
+    """Tells a store the names, units and kinds of a feed."""
     store._take_terms(found.terms)
     store._kinds.update(dict.fromkeys(found.kinds))
-    while sent < len(found.parts):
-        receipt = store._calls.make(partial(_send, store, found, sent, collect))
-        sent += 1
-        yield receipt
 
 
-def _send(store: "Store", found: Survey, at: int, collect: bool) -> Commit:
-    """Sends one batch of a feed, and waits for what it did."""
+def _send(store: "Store", found: Survey, at: int, collect: bool, is_first: bool) -> Commit:
+    """Sends one batch of a feed, and waits for what it did. The store has the feed's terms with the first one, or not at all."""
+    if is_first:
+        _tell(store, found)
     launch(store, found.feed, found.parts[at], collect)
     return land(store, found.feed, found.parts, at)
 

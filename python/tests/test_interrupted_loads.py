@@ -11,6 +11,7 @@ from interrupting import handler, interrupt_now, lines, made_at_once
 from support import Case
 
 from misteluk import Columns, Store, calls, load, load_in_steps, loading, survey
+from misteluk.units import Units
 
 # Rows of a feed, two a batch: an edge that is in each of three batches, and a name that goes as an id.
 ROWS = [("a", "b", 1, 1), ("b", "c", 2, 2), ("a", "b", 4, 3), ("c", "d e", 8, 4), ("a", "b", 16, 5)]
@@ -86,6 +87,30 @@ class Ahead(Scene):
         assert self.store.stat().version == 1 + len(ROWS)
 
 
+class Empty:
+    """A store that nothing was told of, and a feed in cents that says its units, and was counted before."""
+
+    def __init__(self, _):
+        self.store = Store(blocks=64, timeout=0.5)
+        self.found = survey(ROWS, by="add", batch=ROWS_A_BATCH, columns=COLUMNS, weight_scale=100)
+
+    def load(self):
+        self.store.load(self.found, by="add")
+
+    def is_right(self):
+        """Whether the units are the feed's where a part of it is in, and no one's where nothing is."""
+        wanted = Units(100) if self.store.stat().version else Units()
+        assert (self.store.units, self.store.kinds) == (wanted, ["l"] if self.store.stat().version else []), self.store.units
+        assert self.store.load([("x", "y", 7)], by="set", weight_scale=wanted.weight_scale).commit.inserted == 1
+        with self.store.open() as session:
+            assert session.edge("link", "x", "y").weight == 7
+            assert not self.store.kinds[1:] or session.edge("l", "b", "c").weight == 2
+
+    def end(self):
+        self.store._talk.kill()
+        self.store._closed = True
+
+
 class Loads(Case):
     def lines(self, by, call=Scene.load, scene=Scene, step=1):
         return lines(lambda: scene(by), call, scene.is_right, step)
@@ -96,6 +121,11 @@ class Loads(Case):
                 count, wrong = self.lines(by, call)
                 self.assertGreater(count, 300)
                 self.assertEqual(wrong, [])
+
+    def test_each_line_of_one_that_says_units(self):
+        count, wrong = self.lines("add", Empty.load, Empty)
+        self.assertGreater(count, 50)
+        self.assertEqual(wrong, [])
 
     def test_each_line_of_one_that_is_sent_ahead(self):
         count, wrong = self.lines("add", Ahead.count, Ahead)
