@@ -10,7 +10,7 @@ import time
 import support  # noqa: F401  (it finds the package)
 
 import misteluk
-from misteluk import Store
+from misteluk import Store, survey
 
 PACKAGE = os.path.dirname(misteluk.__file__) + os.sep
 EDGES = {("l", "a", "b"): (5, 1, 1), ("l", "b", "c"): (7, 1, 1)}
@@ -219,15 +219,18 @@ class Model:
     def run(self, interrupts):
         while self.interrupts < interrupts:
             self.steps += 1
-            self.random.choice((self.add, self.add, self.commit, self.open, self.close, self.ask, self.ask, self.ask, self.table,
-                                self.count))()
+            self.random.choice((self.add, self.add, self.commit, self.load, self.open, self.close, self.ask, self.ask, self.ask,
+                                self.table, self.count))()
         self.settle()
         for session, weights in self.held:
             assert session.edges(list(weights)) == [(it, 1, 1) for it in weights.values()]
 
+    def edge(self):
+        return "l", f"s{self.random.randrange(6)}", f"t{self.random.randrange(6)}"
+
     def add(self):
         for _ in range(self.random.randrange(1, 9)):
-            edge = "l", f"s{self.random.randrange(6)}", f"t{self.random.randrange(6)}"
+            edge = self.edge()
             before = self.store.pending
             self.call(lambda: self.store.add(*edge, 1, 1))
             assert self.store.pending - before in (0, 1)
@@ -244,6 +247,19 @@ class Model:
             self.weights[it] = self.weights.get(it, 0) + 1
         self.pending = []
         assert self.store.stat().version >= receipt.version and self.store.stat().edges == len(self.weights)
+
+    def load(self):
+        """Of an interrupted load the first batches are in, as many as the versions tell; of another one all."""
+        self.commit()
+        names = [self.edge() for _ in range(self.random.randrange(1, 12))]
+        found = survey([(*it[1:], 1, 1, "l") for it in names], by="add", batch=3)
+        before = self.store.stat().version
+        _, interrupted = self.call(lambda: self.store.load(found, by="add"))
+        batches = self.store.stat().version - before
+        assert batches == len(found.parts) or interrupted and 0 <= batches < len(found.parts)
+        for it in names[:3 * batches]:
+            self.weights[it] = self.weights.get(it, 0) + 1
+        assert self.store.stat().edges == len(self.weights)
 
     def settle(self):
         self.commit()
