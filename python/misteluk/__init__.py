@@ -14,10 +14,11 @@ from .answers import Answer, Collected, Commit, Degree, Edge, Rebased, Stat
 from .delimited import delimited
 from .errors import (AlreadyOpen, BadCommand, BadFields, BadName, BadRows, BadSlot, BadTime, BadWeight, BadWindow, BatchFull,
                      BatchLimit, FeedFault, KindsFull, Misread, Missing, NamesFull, NoAnswer, NoKind, NoSeat, NotOpen, NoVertex,
-                     OperationsRefused, OutOfMemory, OverLimit, Place, PoolEmpty, ProgramEnded, ProgramNotFound, RecordLimit,
-                     Refused, SessionClosed, StoreError, Uncommitted)
+                     OperationsRefused, OutOfMemory, OverLimit, PartsFailed, Place, PoolEmpty, ProgramEnded, ProgramNotFound,
+                     RecordLimit, Refused, SessionClosed, StoreError, Uncommitted)
 from .feeds import Columns, Feed, matrix_market, snap
 from .finding import find_program
+from .fleet import Fleet
 from .lint import lint
 from .loading import Loaded, Survey, load, load_in_steps, survey
 from .objects import from_columns, from_networkx, from_pandas, from_rows
@@ -27,13 +28,13 @@ from .store import Store
 
 # What there is, in the order in which a newcomer meets it.
 __all__ = [
-    "Store", "Session",
+    "Store", "Session", "Fleet",
     "load", "survey", "load_in_steps", "Loaded", "Survey", "Columns", "Feed", "open_feed", "delimited", "snap", "matrix_market",
     "from_networkx", "from_pandas", "from_columns", "from_rows",
     "Answer", "Collected", "Commit", "Degree", "Edge", "Rebased", "Stat", "lint", "find_program",
     "StoreError", "Refused", "Place", "AlreadyOpen", "BadCommand", "BadFields", "BadName", "BadRows", "BadSlot", "BadTime",
     "BadWeight", "BadWindow", "BatchFull", "BatchLimit", "FeedFault", "KindsFull", "Misread", "Missing", "NamesFull", "NoAnswer",
-    "NoKind", "NoSeat", "NoVertex", "NotOpen", "OperationsRefused", "OutOfMemory", "OverLimit", "PoolEmpty", "ProgramEnded",
-    "ProgramNotFound", "RecordLimit", "SessionClosed", "Uncommitted",
+    "NoKind", "NoSeat", "NoVertex", "NotOpen", "OperationsRefused", "OutOfMemory", "OverLimit", "PartsFailed", "PoolEmpty",
+    "ProgramEnded", "ProgramNotFound", "RecordLimit", "SessionClosed", "Uncommitted",
 ]
 __version__ = "0.1.0"

@@ -26,7 +26,7 @@ def _delimited_blocks(path: Path, columns: Columns, delimiter: Optional[str], he
         first = opened.readline()
         file = chain([first] if first else [], opened)
         sign = delimiter or max(",\t;|", key=first.count)
-        named = any(isinstance(it, str) for it in columns[:5])
+        named = any(isinstance(it, str) for it in columns.wanted)
         names, line = next(_csv_rows(feed, file, sign, 0), NO_ROW) if header or header is None and named else NO_ROW
         if named and not names:
             raise FeedFault(f"{feed}: columns are named, and there is no header: name them by number (from 1)")
@@ -84,10 +84,10 @@ class Picked:
     """The columns of a table that are wanted."""
 
     def __init__(self, feed: str, columns: Columns, names: Sequence[str]) -> None:
-        source, target, kind, weight, time = (_place(feed, it, names) for it in columns[:5])
+        source, target, kind, weight, time, key = (_place(feed, it, names) for it in columns.wanted)
         self.feed = feed
-        self.places = (kind, source, target, weight, time)
-        self.usual = (columns.usual_kind, "", "", "1", columns.usual_time)
+        self.places = (kind, source, target, weight, time, *([] if key is None else [key]))
+        self.usual = (columns.usual_kind, "", "", "1", columns.usual_time, "")
         self.least = max(it for it in self.places if it is not None) + 1
         self.is_first = True
 

@@ -1,16 +1,30 @@
 """What can go wrong, each with a name: which record, line and field, why, and what to do."""
 from __future__ import annotations
 
-from typing import TYPE_CHECKING, Dict, List, NamedTuple, Optional, Sequence, Tuple, Type
+from typing import TYPE_CHECKING, Any, Dict, List, Mapping, NamedTuple, Optional, Sequence, Tuple, Type
 
 from .records import Fault
 
 if TYPE_CHECKING:
     from .answers import Commit
 
+# How many parts of a fleet are told of that gave no answer.
+MOST_TOLD = 10
+
 
 class StoreError(Exception):
     """Everything that this package raises of its own, but `ValueError` and `TypeError` for wrong arguments."""
+
+    def __reduce__(self) -> Tuple[Any, ...]:
+        """What pickles it, as it stands: the errors of a part come from another process."""
+        return _as_it_stood, (type(self), self.args, self.__dict__)
+
+
+def _as_it_stood(kind: Type[StoreError], told: Tuple[Any, ...], state: Dict[str, Any]) -> StoreError:
+    error = kind.__new__(kind, *told)
+    error.args = told
+    error.__dict__.update(state)
+    return error
 
 
 class Place(NamedTuple):
@@ -241,6 +255,17 @@ class OutOfMemory(ProgramEnded):
 
 class Misread(StoreError):
     """The program wrote a line that answers no record that was sent: it isn't the program that this package knows."""
+
+
+class PartsFailed(StoreError):
+    """Parts of a fleet gave no answer: `faults` has what each of them raised, by its key. The others have answered."""
+
+    def __init__(self, parts: int, faults: Mapping[str, BaseException]) -> None:
+        self.faults = dict(faults)
+        told = [f"part {key!r}: {type(it).__name__}: {it}" for key, it in list(self.faults.items())[:MOST_TOLD]]
+        more = len(self.faults) - len(told)
+        told += [f"and {more} more"] if more else []
+        super().__init__("\n  ".join([f"{len(self.faults)} of {parts} parts gave no answer", *told]))
 
 
 class Missing(StoreError, ImportError):

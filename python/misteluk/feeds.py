@@ -32,15 +32,17 @@ class Block(NamedTuple):
     targets: Sequence[str]
     weights: Sequence[str]
     times: Sequence[str]
+    # By what each row is parted; none where nothing is.
+    keys: Sequence[str] = ()
 
 
 def rows_of(block: Block) -> Iterator[Row]:
     """The rows of a block."""
-    return cast("Iterator[Row]", zip(*block))
+    return cast("Iterator[Row]", zip(*block[:6]))
 
 
 def of_columns(columns: Sequence[Any]) -> Block:
-    """A block of lines, kinds, sources, targets, weights and times."""
+    """A block of lines, kinds, sources, targets, weights and times, and of keys where rows have some."""
     return Block(*columns)
 
 
@@ -74,7 +76,7 @@ class Feed(NamedTuple):
 
 class Columns(NamedTuple):
     """Which columns a table's edges are in: a name, or a number from 1. Where a column is `None`, `usual_kind`, a weight of 1
-    and a time of `usual_time` stand for it."""
+    and a time of `usual_time` stand for it. `key` is the column that a `Fleet` parts rows by, which says it itself."""
 
     source: Column = "source"
     target: Column = "target"
@@ -83,6 +85,12 @@ class Columns(NamedTuple):
     time: Optional[Column] = None
     usual_kind: str = USUAL_KIND
     usual_time: str = "0"
+    key: Optional[Column] = None
+
+    @property
+    def wanted(self) -> Tuple[Optional[Column], ...]:
+        """The columns themselves: of the source, the target, the kind, the weight, the time and the key."""
+        return (*self[:5], self.key)
 
 
 def parts_of(items: Iterable[T], size: int) -> Iterator[List[T]]:

@@ -209,7 +209,7 @@ class Count:
 
     def _lines(self, block: Block) -> Tuple[List[str], str]:
         """A line for each row, as if no field needed quotes; and all of them."""
-        lines = list(map(",".join, zip(repeat(self.command), *block[1:])))
+        lines = list(map(",".join, zip(repeat(self.command), *block[1:6])))
         return lines, "\n".join([*lines, ""])
 
     def _record(self, row: Row) -> str:

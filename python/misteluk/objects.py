@@ -94,9 +94,11 @@ def _form_of_rows(first: Any, columns: Columns) -> Tuple[List[str], Picked]:
     if isinstance(first, (str, bytes)) or not hasattr(first, "__len__"):
         raise FeedFault(f"rows:1: a row is a tuple or a dict, and not {type(first).__name__}")
     if isinstance(first, Mapping):
-        wanted = [str(it) for it in columns[:5] if it is not None]
+        wanted = [str(it) for it in columns.wanted if it is not None]
         return wanted, Picked("rows", columns, [it for it in wanted if it in first])
     if columns[:5] == Columns()[:5]:
+        if columns.key is not None:
+            raise FeedFault("rows:1: a tuple's columns are told by number where a key parts them, as Columns(1, 2, weight=3)")
         if len(first) > 5:
             raise FeedFault(f"rows:1: {len(first)} fields, where an edge has source, target, weight, time and kind: say which to "
                             "take by numbers from 1, Columns(1, 2, ..)")

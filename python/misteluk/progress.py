@@ -11,15 +11,15 @@ from typing import Any, Iterator, Optional
 class Progress:
     """Tells on a terminal how far it is: by tqdm where that is there."""
 
-    def __init__(self, what: str, total: Optional[int], shown: Optional[bool]) -> None:
+    def __init__(self, what: str, total: Optional[int], shown: Optional[bool], of: str = "records") -> None:
         self.bar: Any = None
         self.shown = sys.stderr.isatty() if shown is None else shown
-        self.what, self.total, self.count = what, total, 0
+        self.what, self.total, self.of, self.count = what, total, of, 0
         self.begun = self.told = time.monotonic()
         if self.shown:
             try:
                 import tqdm
-                self.bar = tqdm.tqdm(desc=what, total=total, unit=" records", file=sys.stderr)
+                self.bar = tqdm.tqdm(desc=what, total=total, unit=f" {of}", file=sys.stderr)
             except ImportError:
                 pass
 
@@ -31,7 +31,7 @@ class Progress:
             self.told = time.monotonic()
             rate = self.count / (self.told - self.begun)
             of = f" of {self.total}" if self.total else ""
-            print(f"\r\033[K{self.what}: {self.count}{of} records, {rate:.0f} a second", end="", file=sys.stderr, flush=True)
+            print(f"\r\033[K{self.what}: {self.count}{of} {self.of}, {rate:.0f} a second", end="", file=sys.stderr, flush=True)
 
     def end(self) -> None:
         if self.bar is not None:
