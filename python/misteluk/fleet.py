@@ -75,16 +75,16 @@ class Fleet:
 
     Nothing crosses parts: a name of two parts is a vertex in each, and a walk ends at its part. Each part has a store's limits.
 
-    `data` is a delimited file, a pandas frame, columns by name, or rows, and `key` the column that parts them: a name, or a number
-    from 1. Keys are texts, and `parts` has how many rows each has, in the order in which keys first appear. The feed is read once,
-    when the fleet is made, and kept parted in one file without a name in `folder` (else where Python has temporary files). A
-    row without a key is `BadRows`, or is passed over with `skip_bad`. Other bad rows are their part's fault, with their lines
-    in the feed. `bad` says how many were passed over, by key; those without a key stand under "".
+    `data` is a delimited file, a pandas frame, columns by name, or rows, and `key` the column that parts them: a name, or a
+    number from 1. Keys are texts, and `parts` has how many rows each has, in the order in which keys first appear. The feed is
+    read once, when the fleet is made, and kept parted in one file without a name in `folder` (else where Python has temporary
+    files). A row without a key is `BadRows`, or is passed over with `skip_bad`. Other bad rows are their part's fault, with
+    their lines in the feed. `bad` says how many were passed over, by key; those without a key stand under "".
 
-    A part is loaded when it is first asked, in a store of as many blocks as it needs. The first `alive` parts that were asked keep
-    their programs; another is made again for each question. So memory has at most `alive` stores, and `workers` more while
-    they are asked. `workers` is how many threads ask at once: each waits for a program, which works beside the others. Where a
-    program ends in the middle, its part is made again and asked again, once; `made_again` has the keys of such parts.
+    A part is loaded when it is first asked, in a store of as many blocks as it needs. The first `alive` parts that were asked
+    keep their programs (64); another is made again for each question. So memory has at most `alive` stores, and `workers` more
+    while they are asked. `workers` is how many threads ask at once: each waits for a program, which works beside the others.
+    Where a program ends in the middle, its part is made again and asked again, once; `made_again` has the keys of such parts.
 
     `client` is a client of dask.distributed. Then the parts are loaded and asked by its workers, anew for each question;
     `workers` and `alive` say nothing there. Where a worker is lost, its parts are made again on others. The package has to be
@@ -109,8 +109,8 @@ class Fleet:
         Units(decimals=decimals).checked()
         feed = open_feed(data, format=format, columns=columns._replace(key=key), delimiter=delimiter, header=header,
                          encoding=encoding, decimal=decimal, dates=dates)
-        self._recipe = Recipe(feed.name, by, batch, skip_bad, names, weight_scale, times, decimals, encoding, decimal, dates, program,
-                              timeout)
+        self._recipe = Recipe(feed.name, by, batch, skip_bad, names, weight_scale, times, decimals, encoding, decimal, dates,
+                              program, timeout)
         self._recipe.survey(())  # (raises where options are wrong)
         self.key = key
         self.made_again: List[str] = []
@@ -140,7 +140,7 @@ class Fleet:
 
     def ask(self, question: Union[str, Callable[..., Any]], /, *given: Any, keys: Optional[Iterable[str]] = None,
             unknown: Any = _NO_WORD, **named: Any) -> Iterator[Tuple[str, Any]]:
-        """Puts a question to all parts, or to those of some keys, and gives each key with its answer, in the order of the parts.
+        """Puts a question to all parts, or to those of some keys, and gives each key with its answer, in their order.
 
         A question is a function of a session, whose further arguments are the given ones, or the name of a session's call, as
         `fleet.ask("degrees", kind="transfer")`. With a `client` it's pickled, and so is its answer. The session holds the only
@@ -149,8 +149,8 @@ class Fleet:
         A part that fails doesn't hold others up: behind the last answer `PartsFailed` has what each such part raised, by key.
         `unknown` is given as the answer of a part that has no such name or kind; without it, such a part fails.
 
-        Answers are worked out as they are taken, a few parts ahead. An interrupt, or the end of the loop, leaves what was begun to
-        its end, and begins no more.
+        Answers are worked out as they are taken, a few parts ahead. An interrupt, or the end of the loop, leaves what was begun
+        to its end, and begins no more.
         """
         asked = Question(question, given, named, () if unknown is _NO_WORD else (unknown,)).checked()
         wanted = list(self.parts) if keys is None else list(keys)
@@ -212,12 +212,12 @@ class Fleet:
             raise StoreError("the fleet is closed")
 
     def close(self) -> None:
-        """Ends the programs, behind the questions that were begun, and lets the parted rows go."""
-        if not self._is_closed:
-            self._is_closed = True
-            for it in self._stores.values():
-                it.close()
-            self._parted.close()
+        """Ends the programs, behind the questions that were begun, and lets the parted rows go. Where an interrupt broke it off,
+        the next call goes on."""
+        self._is_closed = True
+        for it in self._stores.values():
+            it.close()
+        self._parted.close()
 
     def __enter__(self) -> "Fleet":
         return self
@@ -241,7 +241,7 @@ def _room(workers: Optional[int], alive: Optional[int], client: Any) -> Tuple[in
         if workers is not None or alive is not None:
             raise ValueError("workers and alive are said for this machine's own programs; the client has its workers")
         if getattr(client, "asynchronous", False):
-            raise ValueError("the client is an asynchronous one, whose answers can't be waited for: make it with asynchronous=False")
+            raise ValueError("the client is asynchronous, and its answers can't be waited for: asynchronous=False makes another")
         return 0, 0
     threads = within("workers", min(8, os.cpu_count() or 1) if workers is None else workers, 1, MOST_THREADS)
     kept = USUAL_ALIVE if alive is None else alive
@@ -249,6 +249,6 @@ def _room(workers: Optional[int], alive: Optional[int], client: Any) -> Tuple[in
         raise ValueError(f"alive is how many parts are kept, and not {kept}")
     most, needed = resource.getrlimit(resource.RLIMIT_NOFILE)[0], FILES_EACH * (kept + threads) + FILES_BESIDE
     if most != resource.RLIM_INFINITY and needed > most:
-        raise ValueError(f"alive={kept} and workers={threads} take {needed} open files, and this process may have {most}: fewer, or "
-                         "more files (ulimit -n)")
+        raise ValueError(f"alive={kept} and workers={threads} take {needed} open files, and this process may have {most}: "
+                         "say fewer, or raise the limit (ulimit -n)")
     return threads, kept

@@ -90,9 +90,9 @@ class Made:
 
 def kill(store: Store) -> None:
     """Ends a store's program, whatever it does: its part can be made again."""
+    store._talk.kill()
     store._closed = True
     store._forget_sessions()
-    store._talk.kill()
 
 
 class Recipe(NamedTuple):

@@ -19,8 +19,8 @@ from unittest import mock
 from support import Case, optional
 
 import misteluk
-from misteluk import (BadRows, BadWeight, Columns, FeedFault, Fleet, NoAnswer, NoVertex, OperationsRefused, OverLimit, PartsFailed,
-                      Place, PoolEmpty, ProgramEnded, Store, StoreError, parting)
+from misteluk import (BadRows, BadWeight, Columns, FeedFault, Fleet, NoAnswer, NoVertex, OperationsRefused, OverLimit,
+                      PartsFailed, Place, PoolEmpty, ProgramEnded, Store, StoreError, parting)
 from misteluk.errors import Missing, refusal
 from misteluk.parts import CALLS
 
@@ -48,8 +48,8 @@ def quoted(field):
 def tables(session):
     """All tables of a part, and levels from its first name."""
     degrees = session.degrees()
-    asked = [degrees, session.components(), session.cores(), session.levels(next(iter(degrees))), session.degrees(since="2024-03-15")]
-    return session.version, [list(it.items()) for it in asked]
+    asked = [degrees, session.components(), session.cores(), session.levels(next(iter(degrees)))]
+    return session.version, [list(it.items()) for it in [*asked, session.degrees(since="2024-03-15")]]
 
 
 def alone(rows):
@@ -127,14 +127,14 @@ class Three(Case):
         for key, answer in found:
             self.assertEqual(answer, self.wanted[key], key)
 
-    def test_the_degrees_are_those_of_plain_dicts(self):
-        for key, (_, (degrees, *_)) in self.fleet(workers=4).ask(tables):
-            self.assertEqual({name: tuple(it) for name, it in degrees}, model_of_degrees(self.rows[key]), key)
-
     def test_one_worker_that_keeps_nothing(self):
+        """Its degrees are those of plain dicts too."""
         fleet = self.fleet(workers=1, alive=0)
-        self.is_equal(fleet.ask(tables))
+        found = dict(fleet.ask(tables))
+        self.is_equal(found.items())
         self.assertEqual((fleet.alive, fleet.made_again, fleet.bad), (0, [], {}))
+        for key, (_, (degrees, *_)) in found.items():
+            self.assertEqual({name: tuple(it) for name, it in degrees}, model_of_degrees(self.rows[key]), key)
 
     def test_four_workers_that_keep_some_asked_again(self):
         fleet = self.fleet(workers=4, alive=40)
@@ -180,7 +180,6 @@ class Three(Case):
             struck = number_of(self.wanted[list(self.rows)[PARTS // 2]])
             self.is_equal(fleet.ask(kill_once, {struck}, self.room, worker=True))
             self.assertTrue((self.room / str(struck)).exists())
-            self.is_equal(fleet.ask(tables))
             after = set(client.run(os.getpid).values())
             self.assertEqual(len(before - after), 1)
             self.elsewhere(fleet)
@@ -209,7 +208,8 @@ class Few(Case):
     """Few parts: what is told, and what is not."""
 
     def fleet(self, data, **options):
-        fleet = Fleet(data, **{"key": 1, "by": "add", "columns": Columns(2, 3, weight=4), "progress": False, "workers": 2, **options})
+        usual = {"key": 1, "by": "add", "columns": Columns(2, 3, weight=4), "progress": False}
+        fleet = Fleet(data, **{**usual, **options})
         self.addCleanup(fleet.close)
         return fleet
 
@@ -240,11 +240,13 @@ class Few(Case):
             self.assertEqual({it: answers[it]["ana"] for it in answers}, {"x": (1, 0, 5), "y": (1, 0, 7), "z": (1, 0, 2)})
 
     def test_what_has_no_column_is_no_fleet(self):
-        for name, text in (("a.txt", "# an edge list\n1 2\n"), ("a.mtx", "%%MatrixMarket matrix coordinate pattern general\n1 1 1\n1 1\n")):
+        matrix = "%%MatrixMarket matrix coordinate pattern general\n1 1 1\n1 1\n"
+        for name, text in (("a.txt", "# an edge list\n1 2\n"), ("a.mtx", matrix)):
             self.assertRaisesRegex(FeedFault, "have none to part by", self.fleet, self.file(name, text))
         self.assertRaisesRegex(FeedFault, "told by number", self.fleet, [("x", "a", "b")], columns=Columns())
         self.assertRaisesRegex(FeedFault, "no column 'bank'", self.fleet, self.file("b.csv", "a,b,c,d\n"), key="bank")
-        self.assertRaisesRegex(FeedFault, "1: 4 fields, where the columns need 5", self.fleet, self.file("c.csv", self.LINES), key=5)
+        path = self.file("c.csv", self.LINES)
+        self.assertRaisesRegex(FeedFault, "1: 4 fields, where the columns need 5", self.fleet, path, key=5)
 
     def test_bad_rows_are_told_with_their_lines_of_the_whole_file(self):
         path = self.file("few.csv", self.LINES + "y,ana,cyd,5.5\nz,,ben,1\ny,ana,cyd,many\n")
@@ -312,13 +314,34 @@ class Few(Case):
             self.assertRaisesRegex(ValueError, words, fleet.ask, *wrong)
         self.assertRaises(TypeError, fleet.ask, 17)
         self.assertRaisesRegex(ValueError, "no part 'v', 'w'", fleet.ask, "degrees", keys=["x", "v", "w"])
-        for options, words in (({"by": "sum"}, "by is"), ({"times": "day"}, "times is"), ({"alive": -1}, "alive is"),
-                               ({"weight_scale": 7}, "weight_scale is"), ({"workers": 0}, "workers is"), ({"batch": 0}, "batch is"),
-                               ({"decimals": "text"}, "decimals is"), ({"client": object(), "workers": 3}, "the client has its"),
-                               ({"timeout": 0}, "timeout is"), ({"alive": 1 << 20}, "take 3145798 open files, and this process may")):
+        for options, words in (
+                ({"by": "sum"}, "by is"), ({"times": "day"}, "times is"), ({"alive": -1}, "alive is"),
+                ({"timeout": 0}, "timeout is"), ({"weight_scale": 7}, "weight_scale is"), ({"workers": 0}, "workers is"),
+                ({"batch": 0}, "batch is"), ({"decimals": "text"}, "decimals is"),
+                ({"client": object(), "workers": 3}, "the client has its"),
+                ({"alive": 1 << 20, "workers": 2}, "take 3145798 open files, and this process may")):
             self.assertRaisesRegex(ValueError, words, self.fleet, self.file("few.csv", self.LINES), **options)
         fleet.close()
         self.assertRaisesRegex(StoreError, "the fleet is closed", fleet.ask, "degrees")
+
+    def test_an_interrupt_ends_the_asking_alone(self):
+        """Wherever it comes: the next question has the same answers."""
+        fleet = self.fleet([(f"part{it % 12}", f"a{it % 5}", f"b{it % 7}", it) for it in range(400)], alive=4, workers=3)
+        wanted, struck = list(fleet.ask("degrees")), []
+
+        def strike(*_):
+            struck.append(True)
+            raise KeyboardInterrupt
+        self.addCleanup(signal.signal, signal.SIGALRM, signal.signal(signal.SIGALRM, strike))
+        for turn in range(1, 16):
+            try:
+                signal.setitimer(signal.ITIMER_REAL, turn * 0.003)
+                while len(struck) < turn:
+                    list(fleet.ask("degrees"))
+            except KeyboardInterrupt:
+                pass
+            self.assertEqual(list(fleet.ask("degrees")), wanted)
+        self.assertEqual((fleet.alive, fleet.made_again), (4, []))
 
     def test_nothing_is_left_behind(self):
         """Neither programs nor files, where the loop is left in the middle."""
@@ -380,19 +403,20 @@ class Parting(Case):
         limits = resource.getrlimit(resource.RLIMIT_FSIZE)
         self.addCleanup(resource.setrlimit, resource.RLIMIT_FSIZE, limits)
         resource.setrlimit(resource.RLIMIT_FSIZE, (50_000, limits[1]))
-        self.assertRaisesRegex(OSError, "File too large", Fleet, self.rows(20_000, 30), key=1, by="add", columns=Columns(2, 3), progress=False)
+        with self.assertRaisesRegex(OSError, "File too large"):
+            Fleet(self.rows(20_000, 30), key=1, by="add", columns=Columns(2, 3), progress=False)
 
 
 class Errors(unittest.TestCase):
     def test_each_comes_through_a_pickle(self):
         place = Place("a.csv", 3)
         bad = refusal("BadWeight", "text", record=3, place=place)
-        for it in (bad, PoolEmpty(needed=3, free=2, place=place), BadRows("a.csv", 1, 2, [bad], {"BadWeight amount": 1}),
-                   OverLimit("text", {"rows": 3}), OperationsRefused(3, [bad]), NoAnswer("text"), ProgramEnded("text", -9, "said"),
+        for it in (bad, PoolEmpty(needed=3, free=2, place=place), BadRows("a.csv", 1, 2, [bad], {"BadWeight sum": 1}),
+                   OverLimit("text", {"rows": 3}), OperationsRefused(3, [bad]), NoAnswer("text"), ProgramEnded("text", -9, "x"),
                    Missing("pandas", "a frame"), PartsFailed(3, {"x": NoVertex("text")}), refusal("New", "text")):
             again = pickle.loads(pickle.dumps(it))
             self.assertEqual((type(again), str(again), again.args), (type(it), str(it), it.args))
-            self.assertEqual({key: str(value) for key, value in vars(again).items()}, {key: str(value) for key, value in vars(it).items()})
+            self.assertEqual(*({key: str(value) for key, value in vars(one).items()} for one in (again, it)))
         self.assertIsInstance(pickle.loads(pickle.dumps(bad)), BadWeight)
 
 
