@@ -262,9 +262,12 @@ class PartsFailed(StoreError):
 
     def __init__(self, parts: int, faults: Mapping[str, BaseException]) -> None:
         self.faults = dict(faults)
-        told = [f"part {key!r}: {type(it).__name__}: {it}" for key, it in list(self.faults.items())[:MOST_TOLD]]
+        told = [f"part {key!r}: {'' if isinstance(it, Refused) else f'{type(it).__name__}: '}{it}"
+                for key, it in list(self.faults.items())[:MOST_TOLD]]
         more = len(self.faults) - len(told)
         told += [f"and {more} more"] if more else []
+        if any(isinstance(it, (NoVertex, NoKind)) for it in self.faults.values()):
+            told.append("A part without the name or kind answers what unknown= says, where that is said")
         super().__init__("\n  ".join([f"{len(self.faults)} of {parts} parts gave no answer", *told]))
 
 

@@ -1,5 +1,6 @@
 """A fleet: the answers of 300 parts beside those of single stores and a plain model, by one worker, four, and with programs and
 workers killed in the middle; what is told of parts that fail; and the examples of docs/FLEET.md."""
+import doctest
 import logging
 import os
 import pathlib
@@ -16,7 +17,7 @@ from concurrent.futures import ThreadPoolExecutor
 from decimal import Decimal
 from unittest import mock
 
-from support import Case, optional
+from support import TOP, Case, optional
 
 import misteluk
 from misteluk import (BadRows, BadWeight, Columns, FeedFault, Fleet, NoAnswer, NoVertex, OperationsRefused, OverLimit,
@@ -86,6 +87,27 @@ def kill_once(session, numbers, marks, worker=False):
     return tables(session)
 
 
+PAGE, OF_CLUSTERS, ADDRESS = TOP / "docs/FLEET.md", "## On a cluster", "tcp://scheduler:8786"
+
+
+def parts_of_page():
+    """The text of the page without the part of clusters, and that part."""
+    before, _, rest = PAGE.read_text(encoding="utf-8").partition(OF_CLUSTERS)
+    part, heading, behind = rest.partition("\n## ")
+    return before + heading + behind, part
+
+
+def run_examples(case, text):
+    """Runs what stands behind >>> in a text, at the top of the repository, and returns how many such lines there were."""
+    here, told = os.getcwd(), []
+    os.chdir(TOP)
+    case.addCleanup(os.chdir, here)
+    examples = doctest.DocTestParser().get_doctest(text, {"Columns": Columns, "Fleet": Fleet}, PAGE.name, str(PAGE), 0)
+    done = doctest.DocTestRunner(optionflags=doctest.IGNORE_EXCEPTION_DETAIL | doctest.ELLIPSIS).run(examples, out=told.append)
+    case.assertEqual(done.failed, 0, "".join(told))
+    return done.attempted
+
+
 def program_of(session):
     """The program's process."""
     return session.store._talk.process.pid
@@ -112,6 +134,10 @@ class Three(Case):
         cls.rows = defaultdict(list)
         for it in rows:
             cls.rows[it[0]].append(it)
+        # A part's rows are so in some pieces.
+        held = mock.patch.object(parting, "MOST_HELD", 1 << 20)
+        held.start()
+        cls.addClassCleanup(held.stop)
         with ThreadPoolExecutor(4) as pool:
             cls.wanted = dict(zip(cls.rows, pool.map(alone, cls.rows.values())))
 
@@ -183,6 +209,8 @@ class Three(Case):
             after = set(client.run(os.getpid).values())
             self.assertEqual(len(before - after), 1)
             self.elsewhere(fleet)
+            examples = parts_of_page()[1].replace(ADDRESS, cluster.scheduler_address)
+            self.assertEqual(run_examples(self, examples), 3)
 
     def elsewhere(self, fleet):
         """Errors of a cluster's worker come as they are, and a program that ended there is told of."""
@@ -298,7 +326,7 @@ class Few(Case):
         self.assertEqual(dict(fleet.ask("levels", "dan", unknown=None)), {"x": {"dan": 0}, "y": None, "z": None})
 
     def test_a_store_that_a_question_changed_is_made_again(self):
-        fleet = self.fleet(self.file("few.csv", self.LINES))
+        fleet = self.fleet(self.file("few.csv", self.LINES), alive=3)
         first = dict(fleet.ask("degrees"))
         self.assertEqual((set(dict(fleet.ask(change)).values()), fleet.alive), ({2}, 0))
         for spoil in (lambda session: session.close(), lambda session: session.store.rebase(session).version,
@@ -359,6 +387,16 @@ class Few(Case):
         self.assertTrue(21 <= len(seen) < 40, len(seen))
         self.assertEqual([it for it in seen if os.path.exists(f"/proc/{it}")], [])
         self.assertEqual(len(os.listdir("/proc/self/fd")), files)
+
+
+class Page(Case):
+    """What stands behind >>> in docs/FLEET.md, but for the part of clusters, which the test of one runs."""
+
+    def test_its_examples(self):
+        before, behind = parts_of_page()
+        self.assertGreater(run_examples(self, before), 9)
+        self.assertRaises(AssertionError, run_examples, self, before.replace("(8, 5)", "(8, 6)"))
+        self.assertIn(ADDRESS, behind)
 
 
 class Parting(Case):
