@@ -262,13 +262,20 @@ class PartsFailed(StoreError):
 
     def __init__(self, parts: int, faults: Mapping[str, BaseException]) -> None:
         self.faults = dict(faults)
-        told = [f"part {key!r}: {'' if isinstance(it, Refused) else f'{type(it).__name__}: '}{it}"
-                for key, it in list(self.faults.items())[:MOST_TOLD]]
+        told = [f"part {key!r}: {_told(it)}" for key, it in list(self.faults.items())[:MOST_TOLD]]
         more = len(self.faults) - len(told)
         told += [f"and {more} more"] if more else []
         if any(isinstance(it, (NoVertex, NoKind)) for it in self.faults.values()):
             told.append("A part without the name or kind answers what unknown= says, where that is said")
         super().__init__("\n  ".join([f"{len(self.faults)} of {parts} parts gave no answer", *told]))
+
+
+def _told(fault: BaseException) -> str:
+    """What a part raised: its name, where its text doesn't begin with it; of another package's error the first line."""
+    if isinstance(fault, Refused):
+        return str(fault)
+    text = str(fault) if isinstance(fault, StoreError) else str(fault).partition("\n")[0]
+    return f"{type(fault).__name__}: {text}"
 
 
 class Missing(StoreError, ImportError):

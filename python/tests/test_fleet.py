@@ -309,13 +309,17 @@ class Few(Case):
         self.assertEqual(([key for key, _ in found], type(told.exception.faults["big"])), (["small"], OverLimit))
 
     def test_a_question_that_fails_is_told_and_others_answer(self):
-        def divide(session):
-            return 6 // (session.degrees()["ana"].weight_out - 7)
+        def weigh(session):
+            weight = session.degrees()["ana"].weight_out
+            if weight == 7:
+                raise ArithmeticError("it is seven\nand that is that")
+            return weight
         found = []
         with self.assertRaises(PartsFailed) as told:
-            found += self.fleet(self.file("few.csv", self.LINES)).ask(divide)
-        self.assertEqual((found, list(told.exception.faults)), ([("x", -3), ("z", -2)], ["y"]))
-        self.assertIsInstance(told.exception.faults["y"], ZeroDivisionError)
+            found += self.fleet(self.file("few.csv", self.LINES)).ask(weigh)
+        self.assertEqual((found, list(told.exception.faults)), ([("x", 5), ("z", 2)], ["y"]))
+        self.assertEqual(str(told.exception), "1 of 3 parts gave no answer\n  part 'y': ArithmeticError: it is seven")
+        self.assertIsInstance(told.exception.faults["y"], ArithmeticError)
         self.assertIs(told.exception.__cause__, told.exception.faults["y"])
 
     def test_parts_that_have_no_such_name(self):
@@ -323,6 +327,7 @@ class Few(Case):
         with self.assertRaisesRegex(PartsFailed, "1 of 3 parts gave no answer\n  part 'y': NoVertex") as told:
             list(fleet.ask("levels", "ben"))
         self.assertEqual((list(told.exception.faults), fleet.alive), (["y"], 3))
+        self.assertTrue(str(told.exception).endswith("answers what unknown= says, where that is said"))
         self.assertEqual(dict(fleet.ask("levels", "dan", unknown=None)), {"x": {"dan": 0}, "y": None, "z": None})
 
     def test_a_store_that_a_question_changed_is_made_again(self):
