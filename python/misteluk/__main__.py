@@ -1,4 +1,4 @@
-"""python -m misteluk load | lint | picture"""
+"""python -m misteluk load | fleet | lint | picture"""
 from __future__ import annotations
 
 import argparse
@@ -7,12 +7,13 @@ import csv
 import io
 import sys
 from contextlib import ExitStack
-from typing import Any, Dict, List, Optional
+from typing import Any, Dict, Iterator, List, Optional
 
 from . import pictures, records
 from .answers import BY_COLUMN
-from .errors import StoreError
-from .feeds import STANDARD_INPUT, Column, Columns
+from .errors import NoKind, NoVertex, StoreError
+from .feeds import STANDARD_INPUT, Column, Columns, feed_name
+from .fleet import Fleet
 from .lint import lint
 from .loading import Ahead, Survey, check, load, load_in_steps, survey
 from .names import shown
@@ -26,7 +27,7 @@ def column(text: str) -> Column:
     return int(text) if text.isdigit() else text
 
 
-def add_feed_options(parser: argparse.ArgumentParser) -> None:
+def add_feed_options(parser: argparse.ArgumentParser, has_blocks: bool = True) -> None:
     parser.add_argument("file", help="a delimited file, an edge list (SNAP), or a Matrix Market file; .gz is unpacked; - is "
                         "standard input")
     way = parser.add_mutually_exclusive_group(required=True)
@@ -50,17 +51,37 @@ def add_feed_options(parser: argparse.ArgumentParser) -> None:
                       "space and so on, which a script has else as an id")
     feed.add_argument("--skip-bad", action="store_true", help="pass over rows that can't be taken, and count them")
     store = parser.add_argument_group("the store")
-    store.add_argument("--blocks", type=int, help="else as many as are needed, and no fewer than 16,384; where a file "
-                       "is loaded that has two full batches, 65,536")
+    if has_blocks:
+        store.add_argument("--blocks", type=int, help="else as many as are needed, and no fewer than 16,384; where a file "
+                           "is loaded that has two full batches, 65,536")
     store.add_argument("--batch", type=int, default=records.MOST_OPERATIONS, metavar="N", help="rows a batch (4,096 at most)")
     store.add_argument("--program", help="the program to run; else MISTELUK_PROGRAM, this repository's, or stinger on the path")
     store.add_argument("--timeout", type=float, default=60.0, metavar="SECONDS", help="how long the program may be silent")
+
+
+def add_questions(group: "argparse._ArgumentGroup") -> None:
+    group.add_argument("--ask", action="append", default=[], choices=("degrees", "components", "cores"), help="print a table")
+    group.add_argument("--levels", action="append", default=[], metavar="NAME", help="print the levels from a source")
+    group.add_argument("--top", type=int, default=10, metavar="N", help="how many rows of a table are printed (10)")
+    group.add_argument("--by", choices=tuple(BY_COLUMN), default="out", dest="column",
+                       help="by which column the greatest degrees are (out)")
 
 
 def add_window(parser: argparse.ArgumentParser) -> None:
     parser.add_argument("--of-kind", metavar="KIND", help="answer over edges of one kind; else of any")
     parser.add_argument("--since", default="0", metavar="TIME", help="answer over edges with a recent time from this on")
     parser.add_argument("--until", default=str(records.MOST_TIME), metavar="TIME", help="and up to this; to the end of a day")
+
+
+def add_fleet(commands: "argparse._SubParsersAction[argparse.ArgumentParser]") -> None:
+    fleet = commands.add_parser("fleet", help="part a file's rows by a column, load each part into its own store, and ask all")
+    add_feed_options(fleet, has_blocks=False)
+    parts = fleet.add_argument_group("parts, and what then")
+    parts.add_argument("--key", type=column, required=True, metavar="COLUMN", help="the column that parts the rows: a name, or a "
+                       "number from 1")
+    parts.add_argument("--workers", type=int, metavar="N", help="how many parts are asked at once; else one a processor, up to 8")
+    add_questions(parts)
+    add_window(fleet)
 
 
 def make_parser() -> argparse.ArgumentParser:
@@ -71,13 +92,10 @@ def make_parser() -> argparse.ArgumentParser:
     ask = load.add_argument_group("what then")
     ask.add_argument("--dry-run", action="store_true", help="count and check the file, and send nothing")
     ask.add_argument("--script", metavar="OUT", help="write the records as a script for `stinger run`, and send nothing")
-    ask.add_argument("--ask", action="append", default=[], choices=("degrees", "components", "cores"), help="print a table")
-    ask.add_argument("--levels", action="append", default=[], metavar="NAME", help="print the levels from a source")
-    ask.add_argument("--top", type=int, default=10, metavar="N", help="how many rows of a table are printed (10)")
-    ask.add_argument("--by", choices=tuple(BY_COLUMN), default="out", dest="column",
-                     help="by which column the greatest degrees are (out)")
+    add_questions(ask)
     ask.add_argument("--interactive", action="store_true", help="then a Python prompt with `store` and `session`")
     add_window(load)
+    add_fleet(commands)
     check = commands.add_parser("lint", help="tell each refused record of a script, with its line, field and reason")
     check.add_argument("script")
     check.add_argument("--seats", type=int, default=records.USUAL_SEATS)
@@ -95,11 +113,15 @@ def make_parser() -> argparse.ArgumentParser:
     return parser
 
 
+def columns_of(words: argparse.Namespace) -> Columns:
+    return Columns(words.source, words.target, words.kind_column, words.weight, words.time, words.kind)
+
+
 def read(words: argparse.Namespace, ahead: Optional[Ahead] = None) -> Survey:
-    columns = Columns(words.source, words.target, words.kind_column, words.weight, words.time, words.kind)
     found = survey(words.file, by=words.by, batch=words.batch, weight_scale=words.weight_scale, times=words.times,
-                   names=words.names, format=words.format, columns=columns, delimiter=words.delimiter, header=words.header,
-                   third=words.third, ahead=ahead, encoding=words.encoding, decimal=words.decimal, dates=words.dates)
+                   names=words.names, format=words.format, columns=columns_of(words), delimiter=words.delimiter,
+                   header=words.header, third=words.third, ahead=ahead, encoding=words.encoding, decimal=words.decimal,
+                   dates=words.dates)
     check(found, skip_bad=words.skip_bad)
     return found
 
@@ -131,7 +153,8 @@ def run_load(words: argparse.Namespace) -> int:
         store = ahead.store if ahead and ahead.store else start(words.blocks or found.fitting())
         print(load(store, found, by=words.by, skip_bad=words.skip_bad, ahead=ahead))
         with store.open() as session:
-            answer(words, session)
+            for line in answer(words, session):
+                print(line)
             if words.interactive:
                 code.interact(f"`session` holds version {session.version} of `store`. Ctrl-D ends.", local=locals())
     return 0
@@ -151,32 +174,55 @@ def tell(words: argparse.Namespace, found: Survey) -> None:
             print(f"  {len(found.terms.names)} names and kinds stand in it as ids, ~~ and 20 signs")
 
 
-def answer(words: argparse.Namespace, session: Session) -> None:
-    """Prints the tables that are asked for."""
+def answer(words: argparse.Namespace, session: Session, is_part: bool = False) -> Iterator[str]:
+    """The lines of the tables that are asked for. A part of a fleet needn't have the sources of levels."""
     for what in words.ask:
         if what == "components":
-            show_components(session.components(**window(words)), words.top)
+            yield from component_lines(session.components(**window(words)), words.top)
             continue
         table: Any = getattr(session, what)(**window(words))
         how = f"greatest {max(table.values(), default=0)}" if what == "cores" else f"greatest by {words.column}"
-        print(f"{what}: {len(table)} names, {how}")
+        yield f"{what}: {len(table)} names, {how}"
         for name, value in table.most(words.top, None if what == "cores" else words.column):
             told = value if what == "cores" else f"out {value.out} in {value.into} weight {value.weight_out}"
-            print(f"  {shown(name)} {told}")
+            yield f"  {shown(name)} {told}"
     for source in words.levels:
-        levels = session.levels(source, **window(words))
-        print(f"levels from {shown(source)}: {len(levels)} reached, the farthest at {max(levels.values())}")
-        for level in range(min(max(levels.values()) + 1, words.top)):
-            print(f"  {level}: {sum(it == level for it in levels.values())}")
+        try:
+            yield from level_lines(source, session.levels(source, **window(words)), words.top)
+        except (NoVertex, NoKind):
+            if not is_part:
+                raise
+            yield f"levels from {shown(source)}: no such name or kind"
 
 
-def show_components(labels: Dict[str, str], most: int) -> None:
+def component_lines(labels: Dict[str, str], most: int) -> Iterator[str]:
     sizes: Dict[str, int] = {}
     for label in labels.values():
         sizes[label] = sizes.get(label, 0) + 1
-    print(f"components: {len(sizes)} of {len(labels)} names")
+    yield f"components: {len(sizes)} of {len(labels)} names"
     for label, size in sorted(sizes.items(), key=lambda it: -it[1])[:most]:
-        print(f"  {shown(label)} {size}")
+        yield f"  {shown(label)} {size}"
+
+
+def level_lines(source: str, levels: Dict[str, int], most: int) -> Iterator[str]:
+    yield f"levels from {shown(source)}: {len(levels)} reached, the farthest at {max(levels.values())}"
+    for level in range(min(max(levels.values()) + 1, most)):
+        yield f"  {level}: {sum(it == level for it in levels.values())}"
+
+
+def run_fleet(words: argparse.Namespace) -> int:
+    """Parts a file's rows, and tells each part's answers below its key."""
+    with Fleet(words.file, key=words.key, by=words.by, columns=columns_of(words), workers=words.workers, alive=0,
+               skip_bad=words.skip_bad, batch=words.batch, weight_scale=words.weight_scale, times=words.times,
+               names=words.names, format=words.format, delimiter=words.delimiter, header=words.header, encoding=words.encoding,
+               decimal=words.decimal, dates=words.dates, program=words.program, timeout=words.timeout) as fleet:
+        print(f"{feed_name(words.file)}: {sum(fleet.parts.values())} rows in {len(fleet)} parts", flush=True)
+        for key, lines in fleet.ask(lambda session: list(answer(words, session, is_part=True))):
+            rows = fleet.parts[key]
+            print(f"{shown(key)}: {rows} row{'s' * (rows != 1)}", *(f"  {it}" for it in lines), sep="\n", flush=True)
+        for key, count in fleet.bad.items():
+            print(f"{count} bad rows passed over {f'of {shown(key)}' if key else 'that have no key'}")
+    return 0
 
 
 def run_lint(words: argparse.Namespace) -> int:
@@ -246,7 +292,7 @@ def main(words: Optional[List[str]] = None) -> int:
         if isinstance(it, io.TextIOWrapper):  # (a name that the terminal has no signs for)
             it.reconfigure(errors="backslashreplace")
     try:
-        return {"load": run_load, "lint": run_lint, "picture": run_picture}[parsed.command](parsed)
+        return {"load": run_load, "fleet": run_fleet, "lint": run_lint, "picture": run_picture}[parsed.command](parsed)
     except (StoreError, OSError, ValueError) as fault:
         print(f"misteluk: {fault}", file=sys.stderr)
         return 1

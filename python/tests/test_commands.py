@@ -1,4 +1,4 @@
-"""python -m misteluk: load, lint, picture. Values are worked out by hand."""
+"""python -m misteluk: load, fleet, lint, picture. Values are worked out by hand."""
 import io
 import os
 import shutil
@@ -89,6 +89,29 @@ class Commands(Case):
         self.assertIn("1 of 5001 rows can't be taken, and none is loaded\n", err)
         status, _, err = self.run_it("load", path, *OF_PAIRS, "--add", "--blocks", "16")
         self.assertIn("and the store was made with 16; nothing was sent", err)
+
+    def test_a_fleet(self):
+        path, asked = self.file("p.csv", PAIRS), ("--add", "--key", "from", "--ask", "degrees", "--top", "1", "--levels", "c")
+        status, out, err = self.run_it("fleet", path, *OF_PAIRS, *asked)
+        self.assertEqual((status, err, out.splitlines()), (0, "", [
+            f"{path}: 5 rows in 3 parts",
+            "a: 3 rows", "  degrees: 3 names, greatest by out", "    a out 2 in 0 weight 7",
+            "  levels from c: 1 reached, the farthest at 0", "    0: 1",
+            "c: 1 row", "  degrees: 2 names, greatest by out", "    c out 1 in 0 weight 3",
+            "  levels from c: 2 reached, the farthest at 1", "    0: 1",
+            "x: 1 row", "  degrees: 2 names, greatest by out", "    x out 1 in 0 weight 5",
+            "  levels from c: no such name or kind"]))
+        bad = self.file("bad.csv", PAIRS + "x,y,five,15\n,y,5,16\n")
+        status, out, err = self.run_it("fleet", bad, *OF_PAIRS, "--add", "--key", "from")
+        self.assertEqual((status, out), (1, ""))
+        self.assertIn("bad.csv:8: BadName: key ''", err)
+        status, out, err = self.run_it("fleet", bad, *OF_PAIRS, "--add", "--key", "from", "--skip-bad")
+        self.assertEqual((status, err, out.splitlines()[1:]), (0, "", [
+            "a: 3 rows", "c: 1 row", "x: 2 rows", "1 bad rows passed over that have no key", "1 bad rows passed over of x"]))
+        status, out, err = self.run_it("fleet", self.file("q.csv", PAIRS + "x,y,five,15\n"), *OF_PAIRS, "--add", "--key", "from")
+        self.assertEqual((status, out.splitlines()[1:]), (1, ["a: 3 rows", "c: 1 row"]))
+        self.assertIn("1 of 3 parts gave no answer\n  part 'x': BadRows: ", err)
+        self.assertIn("q.csv:7: BadWeight: amount 'five'", err)
 
     def test_lint(self):
         status, out, _ = self.run_it("lint", self.file("s.csv", "commit\nfly\n"))

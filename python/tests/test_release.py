@@ -75,7 +75,7 @@ class Pages(Case):
         told = run("man", "--warnings", "-E", "ascii", "-l", TOP / "share/man/man1/misteluk.1", env=env).stdout
         plain = re.sub(r"\s+", " ", re.sub(".\b", "", told))
         seen = 0
-        for command in ("load", "lint", "picture"):
+        for command in ("load", "fleet", "lint", "picture"):
             said = run(sys.executable, "-B", "-m", "misteluk", command, "--help", env=env).stdout
             for names, text in re.findall(r"(?m)^  (-.*?)(?:(?:  +|\n {20,})(\S.*))?$", said):
                 first = re.split(r"[ ,]", names)[0]
@@ -101,7 +101,7 @@ class Pages(Case):
 
     def test_completion_of_the_client_for_bash(self):
         """Files are offered by bash itself, where there is no word."""
-        self.complete("load lint picture -h --help", "", name="misteluk")
+        self.complete("load fleet lint picture -h --help", "", name="misteluk")
         self.complete("--dry-run", "load", "file.csv", "--dr", name="misteluk")
         self.complete("degrees components cores", "load", "file.csv", "--ask", "", name="misteluk")
         self.complete("components compare", "picture", "comp", name="misteluk")

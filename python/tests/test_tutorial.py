@@ -1,5 +1,5 @@
-"""Runs each command of docs/TUTORIAL.md, docs/PYTHON.md and README's part for Python, and compares what it prints; and works out
-the stories' figures once more, by plain loops over their files."""
+"""Runs each command of docs/TUTORIAL.md, docs/PYTHON.md, docs/FLEET.md and README's part for Python, and compares what it prints;
+and works out the stories' figures once more, by plain loops over their files. (What FLEET has as Python test_fleet.py runs.)"""
 import contextlib
 import csv
 import datetime
@@ -77,6 +77,7 @@ class Documents(Case):
 
     def test_the_commands_of_other_pages(self):
         self.assertGreater(self.run_commands(TOP / "docs/PYTHON.md"), 0)
+        self.assertGreater(self.run_commands(TOP / "docs/FLEET.md"), 0)
 
     def test_a_line_that_differs_is_found(self):
         page = pathlib.Path(self.file("page.md", "\n    $ echo misteluk; echo two\n    misteluk\n    three\n"))
