@@ -100,6 +100,7 @@ class Fleet:
                  header: Optional[bool] = None, encoding: str = "utf-8", decimal: str = ".", dates: Optional[str] = None,
                  program: Optional[Path] = None, timeout: float = 60.0, progress: Optional[bool] = None) -> None:
         self._is_closed = True
+        self._process = os.getpid()
         self._client, self._progress = client, progress
         self._workers, alive = _room(workers, alive, client)
         if client is None:
@@ -210,10 +211,14 @@ class Fleet:
     def _must_be_open(self) -> None:
         if self._is_closed:
             raise StoreError("the fleet is closed")
+        if os.getpid() != self._process:
+            raise StoreError("the fleet is another process's, of which this one is a fork: make a fleet here")
 
     def close(self) -> None:
         """Ends the programs, behind the questions that were begun, and lets the parted rows go. Where an interrupt broke it off,
-        the next call goes on."""
+        the next call goes on. A fork ends nothing."""
+        if os.getpid() != self._process:
+            return
         self._is_closed = True
         for it in self._stores.values():
             it.close()
@@ -227,7 +232,7 @@ class Fleet:
         self.close()
 
     def __del__(self) -> None:
-        if not getattr(self, "_is_closed", True):
+        if not getattr(self, "_is_closed", True) and os.getpid() == self._process:
             warnings.warn("a fleet was let go without close()", ResourceWarning, stacklevel=2)
 
     def __repr__(self) -> str:

@@ -8,13 +8,14 @@ import signal
 import tracemalloc
 import unittest
 from collections import defaultdict
+from concurrent.futures import ThreadPoolExecutor
 from unittest import mock
 
 from support import Case, optional
 
 import misteluk
 from misteluk import (BadRows, BadWeight, Columns, FeedFault, Fleet, NoAnswer, NoVertex, OperationsRefused, OverLimit,
-                      PartsFailed, Place, PoolEmpty, ProgramEnded, StoreError, parting)
+                      PartsFailed, Place, PoolEmpty, ProgramEnded, StoreError, parting, records)
 from misteluk.errors import Missing, refusal
 from misteluk.parts import CALLS
 
@@ -173,6 +174,49 @@ class Few(Case):
                 pass
             self.assertEqual(list(fleet.ask("degrees")), wanted)
         self.assertEqual((fleet.alive, fleet.made_again), (4, []))
+
+    def test_two_threads_may_ask_at_once(self):
+        fleet = self.fleet([(f"part{it % 40}", f"a{it % 5}", f"b{it % 7}", it) for it in range(400)], alive=20, workers=2)
+        with ThreadPoolExecutor(3) as pool:
+            found = list(pool.map(lambda _: list(fleet.ask("degrees")), range(3)))
+        self.assertEqual([len(found[0]), found[0], found[0]], [40, *found[1:]])
+        self.assertEqual((fleet.alive, fleet.made_again), (20, []))
+
+    def test_a_fork_can_t_use_it(self):
+        """And its end there is none here."""
+        fleet = self.fleet(self.file("few.csv", self.LINES))
+        first = list(fleet.ask("degrees"))
+        child = os.fork()
+        if not child:
+            try:
+                self.assertRaisesRegex(StoreError, "of which this one is a fork", fleet.ask, "degrees")
+                fleet.close()
+                os._exit(0)
+            finally:
+                os._exit(1)
+        self.assertEqual(os.waitpid(child, 0)[1], 0)
+        self.assertEqual((list(fleet.ask("degrees")), fleet.made_again), (first, []))
+
+    def test_a_run_that_has_had_its_records_is_made_again(self):
+        fleet = self.fleet(self.file("few.csv", "x,ana,ben,5\n"))
+        with mock.patch.object(records, "MOST_RECORDS", 20):
+            found = [dict(fleet.ask("degrees")) for _ in range(10)]
+            self.assertEqual(found, [{"x": {"ana": (1, 0, 5), "ben": (0, 1, 0)}}] * 10)
+            self.assertIn(len(fleet.made_again), range(2, 6))
+            with self.assertRaisesRegex(PartsFailed, "part 'x': RecordLimit"):
+                list(fleet.ask(lambda session: [session.degrees() for _ in range(20)]))
+
+    def test_a_program_that_is_silent_is_told_by_its_key(self):
+        """It is stopped, and doesn't answer."""
+        def stop(session):
+            if session.degrees()["ana"].weight_out == 7:
+                os.kill(program_of(session), signal.SIGSTOP)
+            return program_of(session), session.degrees()["ana"].weight_out
+        found = []
+        with self.assertRaisesRegex(PartsFailed, "1 of 3 parts gave no answer\n  part 'y': NoAnswer: ") as told:
+            found += self.fleet(self.file("few.csv", self.LINES), timeout=2.0, alive=1).ask(stop)
+        self.assertIsInstance(told.exception.faults["y"], NoAnswer)
+        self.assertEqual([(key, answer[1]) for key, answer in found], [("x", 5), ("z", 2)])
 
     def test_nothing_is_left_behind(self):
         """Neither programs nor files, where the loop is left in the middle."""
