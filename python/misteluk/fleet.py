@@ -110,7 +110,8 @@ class Fleet:
         Units(decimals=decimals).checked()
         feed = open_feed(data, format=format, columns=columns._replace(key=key), delimiter=delimiter, header=header,
                          encoding=encoding, decimal=decimal, dates=dates)
-        self._recipe = Recipe(feed.name, by, batch, skip_bad, names, weight_scale, times, decimals, encoding, decimal, dates,
+        read_by = (encoding, decimal) if isinstance(data, (str, os.PathLike)) else (None, None)
+        self._recipe = Recipe(feed.name, by, batch, skip_bad, names, weight_scale, "iso" if dates else times, decimals, *read_by,
                               program, timeout)
         self._recipe.survey(())  # (raises where options are wrong)
         self.key = key
@@ -118,7 +119,7 @@ class Fleet:
         self._parted = Parted(feed, folder)
         try:
             self._parted.read(feed, progress)
-            self._parted.check(skip_bad, encoding)
+            self._parted.check(skip_bad, read_by[0])
         except BaseException:
             self._parted.close()
             raise

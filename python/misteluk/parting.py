@@ -15,12 +15,13 @@ from itertools import chain
 from typing import DefaultDict, Dict, Iterable, Iterator, List, Optional
 
 from .errors import BadName, BadRows, FeedFault, Place, Refused
-from .faults import advise
+from .faults import Reading, advise
 from .feeds import Block, Feed, Path, Row, rows_of
 from .loading import MOST_FAULTS
 from .names import text_reason
 from .progress import Progress, no_collection
 from .records import Fault
+from .units import PLAIN
 
 # How much of the rows is held, by the length of their texts and what Python takes for a row's; and which pickles are written.
 MOST_HELD, A_ROW = 48 << 20, 450
@@ -83,10 +84,10 @@ class Parted:
             fault = Fault("BadName", "key", key, text_reason(key) or "")
             self.faults.append(BadName(place=Place(self.feed, line), fault=fault, advice=""))
 
-    def check(self, skip_bad: bool, encoding: str) -> None:
-        """Raises `BadRows` where rows have no key, unless they are passed over."""
+    def check(self, skip_bad: bool, encoding: Optional[str]) -> None:
+        """Raises `BadRows` where rows have no key, unless they are passed over. The encoding is that of a file."""
         if self.bad and not skip_bad:
-            advise(self.faults, encoding, ".", None)
+            advise(self.faults, Reading(encoding, None, PLAIN))
             raise BadRows(self.feed, self.bad, self.rows, self.faults, {"BadName key": self.bad})
 
     def _write(self) -> None:

@@ -6,7 +6,7 @@ from typing import Any, Callable, Dict, Iterable, List, NamedTuple, Optional, Se
 
 from . import records
 from .errors import NoKind, NoVertex, ProgramEnded, RecordLimit, StoreError
-from .faults import advise
+from .faults import Reading, advise
 from .feeds import Feed, Path, Row
 from .loading import Survey, survey
 from .parting import rows_in
@@ -96,7 +96,8 @@ def kill(store: Store) -> None:
 
 
 class Recipe(NamedTuple):
-    """How a part's rows become a store: all that a worker elsewhere needs to know."""
+    """How a part's rows become a store: all that a worker elsewhere needs to know. The encoding and the sign before decimals are
+    a file's, and were read by before; they say what advice helps."""
 
     feed: str
     by: str
@@ -106,18 +107,16 @@ class Recipe(NamedTuple):
     weight_scale: Optional[int]
     times: Optional[str]
     decimals: str
-    encoding: str
-    decimal: str
-    dates: Optional[str]
+    encoding: Optional[str]
+    decimal: Optional[str]
     program: Optional[Path]
     timeout: float
 
     def survey(self, rows: Iterable[Row]) -> Survey:
-        """Counts and checks rows; the notation of their numbers and dates was turned before."""
-        times = "iso" if self.dates else self.times
+        """Counts and checks rows."""
         found = survey(Feed(self.feed, rows), by=self.by, batch=self.batch, names=self.names, weight_scale=self.weight_scale,
-                       times=times, progress=False)
-        advise(found.faults, self.encoding, self.decimal, self.dates)
+                       times=self.times, progress=False)
+        advise(found.faults, Reading(self.encoding, self.decimal, found.terms.units))
         return found
 
     def make(self, rows: Iterable[Row]) -> Made:
