@@ -5,6 +5,8 @@ import pickle
 import random
 import resource
 import signal
+import threading
+import time
 import tracemalloc
 import unittest
 from collections import defaultdict
@@ -183,18 +185,20 @@ class Few(Case):
         self.assertEqual((fleet.alive, fleet.made_again), (20, []))
 
     def test_a_fork_can_t_use_it(self):
-        """And its end there is none here."""
+        """And its end there is none here; it doesn't wait for a question that goes on here either."""
         fleet = self.fleet(self.file("few.csv", self.LINES))
         first = list(fleet.ask("degrees"))
-        child = os.fork()
-        if not child:
-            try:
-                self.assertRaisesRegex(StoreError, "of which this one is a fork", fleet.ask, "degrees")
-                fleet.close()
-                os._exit(0)
-            finally:
-                os._exit(1)
-        self.assertEqual(os.waitpid(child, 0)[1], 0)
+        with fleet._stores["x"]._lock:
+            child = os.fork()
+            if not child:
+                try:
+                    signal.alarm(20)
+                    self.assertRaisesRegex(StoreError, "of which this one is a fork", fleet.ask, "degrees")
+                    fleet.close()
+                    os._exit(0)
+                finally:
+                    os._exit(1)
+            self.assertEqual(os.waitpid(child, 0)[1], 0)
         self.assertEqual((list(fleet.ask("degrees")), fleet.made_again), (first, []))
 
     def test_a_run_that_has_had_its_records_is_made_again(self):
@@ -217,6 +221,20 @@ class Few(Case):
             found += self.fleet(self.file("few.csv", self.LINES), timeout=2.0, alive=1).ask(stop)
         self.assertIsInstance(told.exception.faults["y"], NoAnswer)
         self.assertEqual([(key, answer[1]) for key, answer in found], [("x", 5), ("z", 2)])
+
+    def test_no_more_is_begun_where_the_loop_is_left(self):
+        """By one worker, which is in its fourth part then, and has others before it."""
+        seen, gate = [], threading.Event()
+
+        def look(session):
+            seen.append(program_of(session))
+            return len(seen) < 4 or gate.wait(20)
+        for key, _ in self.fleet([(f"part{it}", "a", "b", it) for it in range(30)], workers=1).ask(look):
+            if key == "part2":
+                break
+        gate.set()
+        time.sleep(0.5)
+        self.assertIn(len(seen), (3, 4))
 
     def test_nothing_is_left_behind(self):
         """Neither programs nor files, where the loop is left in the middle."""
