@@ -86,11 +86,12 @@ class Fleet:
     while they are asked. `workers` is how many threads ask at once: each waits for a program, which works beside the others.
     Where a program ends in the middle, its part is made again and asked again, once; `made_again` has the keys of such parts.
 
-    `client` is a client of dask.distributed. Then the parts are loaded and asked by its workers, anew for each question;
-    `workers` and `alive` say nothing there. Where a worker is lost, its parts are made again on others. The package has to be
+    `client` is a client of dask.distributed. Then the parts are loaded and asked by its workers, anew for each question, and
+    neither `workers` nor `alive` is said. Where a worker is lost, its parts are made again on others. The package has to be
     there, and the program, which is found there as `find_program` does.
 
-    Further options are those of `Store` and of `load`. Raises `FeedFault`, `OSError`, `ValueError` as a load does.
+    `by` is "set" or "add", and further options are those of `Store` and of `load`. Raises `FeedFault`, `OSError`, `ValueError` as
+    a load does.
     """
 
     def __init__(self, data: Any, *, key: Column, by: str, columns: Columns = Columns(), workers: Optional[int] = None,

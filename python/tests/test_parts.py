@@ -240,7 +240,8 @@ class Few(Case):
         """Neither programs nor files, where the loop is left in the middle."""
         rows = [(f"part{it}", "ana", "ben", it) for it in range(100)]
         files = len(os.listdir("/proc/self/fd"))
-        fleet, seen = self.fleet(rows, alive=10), set()
+        fleet, seen = self.fleet(rows, alive=10, folder=self.room), set()
+        self.assertEqual(os.listdir(self.room), [])  # (the file has no name)
 
         def look(session):
             seen.add(program_of(session))
