@@ -53,7 +53,7 @@ class Cluster:
 
     def __init__(self, client: Any, parted: Parted, recipe: Recipe) -> None:
         self._client, self._parted, self._recipe = client, parted, recipe
-        self.ahead = 2 * max(1, sum(client.ncores().values()))
+        self.ahead = 4 * max(1, sum(client.ncores().values()))
 
     def begin(self, key: str, question: Question) -> Any:
         pieces = list(self._parted.pieces(key))

@@ -72,12 +72,13 @@ def number_of(told):
 def kill_once(session, numbers, marks, worker=False):
     """The tables, in the middle of which the program of parts with these numbers is killed, or the process of the worker, at the
     first time; a file in a folder is the mark of it."""
-    number = number_of(tables(session))
-    mark = pathlib.Path(marks, str(number))
-    if number in numbers and not mark.exists():
+    told = tables(session)
+    mark = pathlib.Path(marks, str(number_of(told)))
+    if number_of(told) in numbers and not mark.exists():
         mark.touch()
         os.kill(os.getpid() if worker else session.store._talk.process.pid, signal.SIGKILL)
-    return tables(session)
+        return tables(session)
+    return told
 
 
 PAGE, OF_CLUSTERS, ADDRESS = TOP / "docs/FLEET.md", "## On a cluster", "tcp://scheduler:8786"
