@@ -184,6 +184,7 @@ class Batches(Asking):
         """Sends one batch. `place` tells where the operation of a number in the batch came from."""
         self._make_room(count + 1 + collect)
         before = self._talk.records
+        self._index.tell(operations, count)
         self._talk.tell(operations, count)
         done = self._talk.ask("commit\n")
         last = self._talk.ask("collect\n") if collect else done
@@ -203,12 +204,14 @@ class Batches(Asking):
         self._flight = None
         refused = self._talk.take_refused()
         if flight.done.word:
+            self._index.refused()
             raise self._refused_commit(flight)
         if flight.from_pending:
             del self._pending[:flight.size]
         else:
             self._untold.clear()  # (a load's version is behind it)
         receipt = committed(flight.done.head or "")
+        self._index.landed(receipt.version, {number - flight.before - 1 for number, _ in refused}, self._floor())
         if refused:
             raise OperationsRefused(receipt.version, [flight.refusal_of(number, word, self._terms) for number, word in refused])
         return receipt
