@@ -7,8 +7,9 @@ from typing import TYPE_CHECKING, Callable, Dict, List, Optional, Sequence, Tupl
 from . import records
 from .answers import Stat, numbers
 from .calls import Calls, talks
+from .candidates import Candidates
 from .errors import RecordLimit, StoreError, refusal
-from .index import Candidates, Index
+from .index import Index
 from .names import shown
 from .program import Awaited, Conversation, one_line
 from .terms import Terms

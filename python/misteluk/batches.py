@@ -8,6 +8,7 @@ from .answers import Commit, Stat, committed
 from .asking import Asking, within
 from .calls import talks
 from .errors import OperationsRefused, Place, PoolEmpty, Refused, refusal
+from .index import Rows
 from .program import Awaited
 from .terms import Terms
 from .units import Amount, Moment, Units
@@ -180,11 +181,12 @@ class Batches(Asking):
 
     @talks
     def _launch(self, operations: bytes, count: int, collect: bool, place: Optional[Callable[[int], Place]] = None,
-                from_pending: bool = False) -> None:
-        """Sends one batch. `place` tells where the operation of a number in the batch came from."""
+                from_pending: bool = False, rows: Optional[Rows] = None) -> None:
+        """Sends one batch. `place` tells where the operation of a number in the batch came from; `rows` has its edges by number,
+        where all its operations are insertions or additions."""
         self._make_room(count + 1 + collect)
         before = self._talk.records
-        self._index.tell(operations, count)
+        self._index.tell(operations, count, rows)
         self._talk.tell(operations, count)
         done = self._talk.ask("commit\n")
         last = self._talk.ask("collect\n") if collect else done

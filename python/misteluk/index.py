@@ -1,8 +1,8 @@
 """Which edges a store was told of. They are candidates: whether a version has one, the program is asked each time.
 
-Each batch that is sent is kept here first, so no version has an edge that is no candidate. Batches are kept as they were sent, and
-folded into sorted arrays of numbers when they are many, or when somebody asks: 8 bytes for a candidate's ends and kind, 8 for its
-latest time, and 8 more, once it was asked by targets. What is touched again and again is one candidate.
+Each batch that is sent is kept here first, so no version has an edge that is no candidate. A batch waits as it was sent, or in
+numbers where a load made them; those that wait are folded into sorted arrays when they are many, or when somebody asks. What is
+touched again and again is one candidate.
 
 A candidate is let go where no version has it that a session holds, or that one can be opened of. A removal in a version tells so,
 and an expiry of a version by a time later than that of all its operations, since an edge's recent time is that of one of them.
@@ -13,123 +13,59 @@ from __future__ import annotations
 
 from array import array
 from bisect import bisect_left
-from itertools import count, repeat
-from typing import Any, Collection, Dict, Iterable, Iterator, List, Optional, Sequence, Tuple
+from collections import defaultdict
+from itertools import chain, compress, count, repeat
+from typing import Collection, DefaultDict, Dict, List, NamedTuple, Optional, Sequence, Tuple, Union
 
 from . import records
+from .candidates import BITS, KIND, MASK, Candidates, Names, keys_of, place_of, turned, with_more, without
+from .feeds import Block
 
-# How many operations wait at most until they are folded; with many candidates a fourth of their number may.
-MOST_WAITING = 65_536
-# A candidate is one number: its kind's, its source's and its target's, of so many bits each but for the kind's.
-BITS = 24
-MASK = (1 << BITS) - 1
-HASH_BITS = 40
-
-
-class Names(Sequence[str]):
-    """Names by number, in one text. A name's number is found by its hash, among hashes that are sorted."""
-
-    def __init__(self, names: Iterable[str] = ()) -> None:
-        told = list(names)
-        self._text = "".join(told)
-        self._ends = array("I", [0])
-        end = 0
-        for it in told:
-            end += len(it)
-            self._ends.append(end)
-        self._hashes = array("Q", sorted(map(self._hash, told, count())))
-
-    @staticmethod
-    def _hash(name: str, number: int) -> int:
-        return (hash(name) & (1 << HASH_BITS) - 1) << BITS | number
-
-    def __len__(self) -> int:
-        return len(self._ends) - 1
-
-    def __getitem__(self, number: Any) -> Any:
-        return self._text[self._ends[number]:self._ends[number + 1]]
-
-    def number(self, name: str) -> Optional[int]:
-        """The name's number, or `None`."""
-        least = self._hash(name, 0)
-        at = bisect_left(self._hashes, least)
-        while at < len(self._hashes) and self._hashes[at] >> BITS == least >> BITS:
-            number = self._hashes[at] & MASK
-            if self[number] == name:
-                return number
-            at += 1
-        return None
+# How many bytes wait at most until they are folded.
+MOST_WAITING = 8 << 20
 
 
 class Numbering(Dict[str, int]):
-    """Numbers for names: a new one gets the next."""
+    """Numbers for names. A new one gets the next, behind those that have one already."""
+
+    def __init__(self, before: Names) -> None:
+        self.before = before
+        self.new: List[str] = []
 
     def __missing__(self, name: str) -> int:
-        number = self[name] = len(self)
+        number = self.before.number(name)
+        if number is None:
+            number = len(self.before) + len(self.new)
+            self.new.append(name)
+        self[name] = number
         return number
 
 
-class Candidates:
-    """The candidates at one time, in the program's names; they stay as they are. They are ordered by kind, source and target, each
-    in the order in which the store was told of it."""
+class Table:
+    """The kinds and names of a feed by number, which its batches share."""
 
-    def __init__(self, kinds: Sequence[str] = (), names: Optional[Names] = None, keys: "Optional[array[int]]" = None,
-                 latest: "Optional[array[int]]" = None, gone: "Optional[array[int]]" = None) -> None:
-        self.kinds, self.names = list(kinds), Names() if names is None else names
-        self.keys = array("Q") if keys is None else keys
-        # The latest time of an operation for each; and since which version no version has it, or 0. Empty where there is none.
-        self.latest = array("Q") if latest is None else latest
-        self.gone = array("I") if gone is None else gone
-        self.least_gone = min((it for it in self.gone if it), default=0)
-        self._by_target: "Optional[array[int]]" = None
+    def __init__(self) -> None:
+        self.kinds: DefaultDict[str, int] = defaultdict(count().__next__)
+        self.names: DefaultDict[str, int] = defaultdict(count().__next__)
 
-    def __len__(self) -> int:
-        return len(self.keys)
 
-    def __iter__(self) -> Iterator[Tuple[str, str, str]]:
-        return self.of_kinds(self.kinds)
+class Rows(NamedTuple):
+    """The edges that a batch of a feed tells of, by the numbers of a table, and their times as texts with commas between."""
 
-    def of_kinds(self, kinds: Collection[str]) -> Iterator[Tuple[str, str, str]]:
-        """The candidates of these kinds, each as kind, source and target."""
-        names = list(self.names)
-        for at, kind in enumerate(self.kinds):
-            if kind in kinds:
-                begin, end = self._range(self.keys, at << 2 * BITS, 2 * BITS)
-                for key in self.keys[begin:end]:
-                    yield kind, names[key >> BITS & MASK], names[key & MASK]
-
-    def count(self, kinds: Collection[str]) -> int:
-        """How many candidates these kinds have."""
-        ranges = (self._range(self.keys, at << 2 * BITS, 2 * BITS) for at, kind in enumerate(self.kinds) if kind in kinds)
-        return sum(end - begin for begin, end in ranges)
-
-    def out(self, kind: str, source: str) -> List[str]:
-        """The targets that the source may have an edge of the kind to."""
-        return self._others(self.keys, kind, source)
-
-    def into(self, kind: str, target: str) -> List[str]:
-        """The sources that may have an edge of the kind to the target."""
-        if self._by_target is None:
-            self._by_target = array("Q", sorted(map(_turned, self.keys)))
-        return self._others(self._by_target, kind, target)
-
-    def _others(self, keys: "array[int]", kind: str, name: str) -> List[str]:
-        number = self.names.number(name)
-        if number is None or kind not in self.kinds:
-            return []
-        begin, end = self._range(keys, self.kinds.index(kind) << 2 * BITS | number << BITS, BITS)
-        return [self.names[it & MASK] for it in keys[begin:end]]
+    table: Table
+    keys: "array[int]"
+    times: bytes
 
     @staticmethod
-    def _range(keys: "array[int]", least: int, bits: int) -> Tuple[int, int]:
-        """Where the keys are that begin as this one, all but so many bits."""
-        begin = bisect_left(keys, least)
-        return begin, bisect_left(keys, least + (1 << bits), begin)
+    def of(table: Table, blocks: Sequence[Block]) -> "Rows":
+        keys = array("Q")
+        for it in blocks:
+            keys.extend(array("Q", keys_of(table.kinds, table.names, (it.kinds, it.sources, it.targets))))
+        return Rows(table, keys, ",".join(chain(*(it.times for it in blocks))).encode("ascii"))
 
-
-def _turned(key: int) -> int:
-    """The key with its source and target exchanged."""
-    return key >> 2 * BITS << 2 * BITS | (key & MASK) << BITS | key >> BITS & MASK
+    @property
+    def bytes(self) -> int:
+        return len(self.times) + self.keys.itemsize * len(self.keys)
 
 
 class Told:
@@ -138,31 +74,47 @@ class Told:
 
     __slots__ = ("operations", "size", "version", "refused", "is_in")
 
-    def __init__(self, operations: bytes, size: int) -> None:
+    def __init__(self, operations: Union[bytes, Rows], size: int) -> None:
         self.operations, self.size = operations, size
         self.version = 0
         self.refused: Collection[int] = ()
         self.is_in = False
 
+    @property
+    def bytes(self) -> int:
+        """How much memory the batch takes while it waits."""
+        return len(self.operations) if isinstance(self.operations, bytes) else self.operations.bytes
+
 
 class Fold:
     """Candidates, and batches that are put to them in order."""
 
-    def __init__(self, base: Candidates) -> None:
+    def __init__(self, base: Candidates, size: int) -> None:
         self.base = base
-        self.kinds = Numbering(zip(base.kinds, count()))
-        self.names = Numbering(zip(base.names, count()))
-        self.latest: Dict[int, int] = dict(zip(base.keys, base.latest))
-        # What was told last of a candidate: how many expiries were before, or, below zero, the version that removed it.
-        self.last: Dict[int, int] = {}
+        self.kinds = defaultdict(count(len(base.kinds)).__next__, zip(base.kinds, count()))
+        self.names = Numbering(base.names)
+        if size > len(base.names) // 4:  # (one by one they would be found more slowly)
+            self.names.update(zip(base.names, count()))
+        # Of the candidates that were told of: the latest time; how many expiries were before, unless none were; and of those that
+        # were removed and not told of again, the version that has them no more.
+        self.latest: Dict[int, int] = {}
+        self.after: Dict[int, int] = {}
+        self.removed: Dict[int, int] = {}
+        # The expiries' times and versions.
         self.expiries: List[Tuple[int, int]] = []
+        # What the numbers of a feed's table are here.
+        self.tables: Dict[Table, Tuple[List[int], List[int]]] = {}
 
     def put(self, told: Told) -> None:
+        if isinstance(told.operations, Rows):
+            self._put_rows(told.operations, told.refused)
+            return
         text = told.operations.decode("ascii")
         fields = text[:-1].replace("\n", ",").split(",")
         # (where each sixth field is an insertion's or addition's command, each operation is one)
         if not told.refused and '"' not in text and len(fields) == 6 * told.size and set(fields[::6]) <= {"i", "a"}:
-            self._put_edges(fields[1::6], fields[2::6], fields[3::6], list(map(int, fields[5::6])))
+            keys = keys_of(self.kinds, self.names, (fields[1::6], fields[2::6], fields[3::6]))
+            self._put_edges(keys, list(map(int, fields[5::6])))
             return
         for at, line in enumerate(text.split("\n")[:-1]):
             if at not in told.refused:
@@ -170,47 +122,95 @@ class Fold:
 
     def _put_operation(self, version: int, command: str, *fields: str) -> None:
         if command in ("i", "a"):
-            self._put_edges(fields[:1], fields[1:2], fields[2:3], [int(fields[4])])
+            self._put_edges(keys_of(self.kinds, self.names, (fields[:1], fields[1:2], fields[2:3])), [int(fields[4])])
         elif command == "x" and version:
             self.expiries.append((int(fields[0]), version))
-        elif version and fields[0] in self.kinds and fields[1] in self.names and fields[2] in self.names:
-            self.last[self.kinds[fields[0]] << 2 * BITS | self.names[fields[1]] << BITS | self.names[fields[2]]] = -version
+        elif command == "r" and version and fields[0] in self.kinds:
+            source, target = map(self._known, fields[1:])
+            if source is not None and target is not None:
+                self.removed.setdefault(self.kinds[fields[0]] << KIND | source << BITS | target, version)
 
-    def _put_edges(self, kinds: Sequence[str], sources: Sequence[str], targets: Sequence[str], times: Sequence[int]) -> None:
-        numbers = zip(*(map(table.__getitem__, it) for table, it in
-                        ((self.kinds, kinds), (self.names, sources), (self.names, targets))))
-        keys = [kind << 2 * BITS | source << BITS | target for kind, source, target in numbers]
+    def _known(self, name: str) -> Optional[int]:
+        found = self.names.get(name)
+        return self.base.names.number(name) if found is None else found
+
+    def _put_rows(self, rows: Rows, refused: Collection[int]) -> None:
+        if rows.table not in self.tables:
+            # (lists: a feed that is counted still, in another thread, may get more of them)
+            self.tables[rows.table] = (list(map(self.kinds.__getitem__, list(rows.table.kinds))),
+                                       list(map(self.names.__getitem__, list(rows.table.names))))
+        kinds, names = self.tables[rows.table]
+        keys = [kinds[it >> KIND] << KIND | names[it >> BITS & MASK] << BITS | names[it & MASK] for it in rows.keys]
+        times = list(map(int, rows.times.split(b",")))
+        is_in = [at not in refused for at in range(len(keys))] if refused else repeat(True)
+        self._put_edges(list(compress(keys, is_in)), list(compress(times, is_in)))
+
+    def _put_edges(self, keys: Sequence[int], times: Sequence[int]) -> None:
         latest = self.latest
         for key, time in zip(keys, times):
             if latest.get(key, -1) < time:
                 latest[key] = time
-        self.last.update(zip(keys, repeat(len(self.expiries))))
+        if self.expiries:
+            self.after.update(zip(keys, repeat(len(self.expiries))))
+        if self.removed:
+            for key in keys:
+                self.removed.pop(key, None)
 
     def candidates(self, floor: Optional[int]) -> Candidates:
         """What the candidates are now. Those that are gone since a version that is at most `floor`, the least that a session
         holds, are let go; without one all that are gone."""
-        names = Names(self.names) if len(self.names) > len(self.base.names) else self.base.names
-        gone = self._gone()
-        keys = sorted(self.latest)
-        if gone:
-            keys = [it for it in keys if it not in gone or floor is not None and floor < gone[it]]
-        since = array("I", (gone.get(it, 0) for it in keys)) if any(it in gone for it in keys) else None
-        return Candidates(list(self.kinds), names, array("Q", keys), array("Q", map(self.latest.__getitem__, keys)), since)
+        base, times = self.base, self.base.latest[:]
+        new: List[int] = []
+        for key in sorted(self.latest):
+            at = place_of(base.keys, key)
+            if at is None:
+                new.append(key)
+            else:
+                times[at] = self.latest[key] = max(times[at], self.latest[key])
+        gone = self._gone(times)
+        lost = {key for key, version in gone.items() if floor is None or version <= floor}
+        lost_places = sorted(at for at in (place_of(base.keys, key) for key in lost) if at is not None)
+        new = [key for key in new if key not in lost]
+        kept = without(base.keys, lost_places)
+        places = [bisect_left(kept, key) for key in new]
+        keys = with_more(kept, places, new)
+        since = array("I", bytes(4 * len(keys) if len(gone) > len(lost) else 0))
+        for key in gone.keys() - lost:
+            since[bisect_left(keys, key)] = gone[key]
+        latest = with_more(without(times, lost_places), places, [self.latest[key] for key in new])
+        by_target = self._by_target(new, [base.keys[at] for at in lost_places])
+        return Candidates(list(self.kinds), base.names.and_more(self.names.new), keys, latest, since, by_target)
 
-    def _gone(self) -> Dict[int, int]:
-        """Which candidates no version has from some version on, and from which."""
-        before = {key: it for key, it in zip(self.base.keys, self.base.gone) if it and key not in self.last}
-        gone = {**before, **{key: -it for key, it in self.last.items() if it < 0}}
+    def _by_target(self, new: Sequence[int], lost: Sequence[int]) -> "Optional[array[int]]":
+        """The keys by target, where the base has them."""
+        old = self.base.by_target
+        if old is None:
+            return None
+        kept = without(old, [bisect_left(old, it) for it in sorted(map(turned, lost))])
+        more = sorted(map(turned, new))
+        return with_more(kept, [bisect_left(kept, it) for it in more], more)
+
+    def _gone(self, times: "array[int]") -> Dict[int, int]:
+        """Which candidates no version has from some version on, and from which. `times` are the latest ones of those of the
+        base."""
+        keys = self.base.keys
+        gone = {key: version for key, version in zip(keys, self.base.gone) if version and key not in self.latest}
+        for key, version in self.removed.items():
+            if key in self.latest or place_of(keys, key) is not None:
+                gone.setdefault(key, version)
         if self.expiries:
             # The greatest time of the expiries from each one on, and the first version with it.
             greatest = [(-1, 0)]
             for it in reversed(self.expiries):
                 greatest.append(it if it[0] >= greatest[-1][0] else greatest[-1])
             greatest.reverse()
-            for key, latest in self.latest.items():
-                time, version = greatest[max(0, self.last.get(key, 0))]
-                if latest < time and key not in gone:
-                    gone[key] = version
+            for key in (key for key, time in zip(keys, times) if time < greatest[0][0]):
+                if key not in self.latest:
+                    gone.setdefault(key, greatest[0][1])
+            for key, time in self.latest.items():
+                expiry = greatest[self.after.get(key, 0)]
+                if time < expiry[0]:
+                    gone.setdefault(key, expiry[1])
         return gone
 
 
@@ -218,30 +218,30 @@ class Index:
     """The candidates of a store, and the batches that aren't among them yet. It is used by the thread of the store alone."""
 
     def __init__(self) -> None:
-        self._folded = Candidates()
+        self._folded = Candidates.none()
         self._log: List[Told] = []
         self._flight: Optional[Told] = None
         self._waiting = 0
 
-    def tell(self, operations: bytes, size: int) -> None:
+    def tell(self, operations: bytes, size: int, rows: Optional[Rows] = None) -> None:
         """Keeps a batch that is about to be sent. It may be applied, though its answer never comes."""
-        self._flight = Told(operations, size)
+        self._flight = Told(rows or operations, size)
         self._log.append(self._flight)
-        self._waiting += size
+        self._waiting += self._flight.bytes
 
     def landed(self, version: int, refused: Collection[int], floor: Optional[int]) -> None:
         """The batch was applied as this version, but for the operations in these places."""
         if self._flight is not None:
             self._flight.version, self._flight.refused = version, refused
             self._flight = None
-        if self._waiting >= max(MOST_WAITING, len(self._folded) // 4):
-            self.candidates(floor)
+        if self._waiting >= MOST_WAITING:
+            self._fold(floor)
 
     def refused(self) -> None:
         """The batch was refused: it is in no version."""
         if self._flight is not None:
             self._log.remove(self._flight)
-            self._waiting -= self._flight.size
+            self._waiting -= self._flight.bytes
             self._flight = None
 
     def begun_anew(self, version: int) -> None:
@@ -250,7 +250,7 @@ class Index:
         self._flight = None
         self._fold(version)
         it = self._folded
-        self._folded = Candidates(it.kinds, it.names, it.keys, it.latest)
+        self._folded = Candidates(it.kinds, it.names, it.keys, it.latest, array("I"), it.by_target)
 
     def candidates(self, floor: Optional[int]) -> Candidates:
         """The candidates of every version that a session holds, of which `floor` is the least, and of those to come. Those of a
@@ -261,13 +261,11 @@ class Index:
         return self._folded
 
     def _fold(self, floor: Optional[int]) -> None:
-        fold = Fold(self._folded)
+        fold = Fold(self._folded, sum(it.size for it in self._log))
         for it in self._log:
             fold.put(it)
         self._folded = fold.candidates(floor)
         self._log = [it for it in self._log if it is self._flight]
-        self._waiting = sum(it.size for it in self._log)
+        self._waiting = sum(it.bytes for it in self._log)
         for it in self._log:
             it.is_in = True
-
-
