@@ -122,8 +122,8 @@ def _hashed(name: str, number: int) -> int:
 
 
 class Candidates:
-    """The candidates at one time, in the program's names; they stay as they are. They are ordered by kind, source and target, each
-    in the order in which the store was told of it."""
+    """The candidates at one time, in the program's names; they stay as they are. They are in order of their kinds, sources and
+    targets, of each of which the one comes first that the store was told of first."""
 
     def __init__(self, kinds: Sequence[str], names: Names, keys: "array[int]", latest: "array[int]", gone: "array[int]",
                  by_target: "Optional[array[int]]" = None) -> None:

@@ -243,6 +243,10 @@ class Misread(StoreError):
     """The program wrote a line that answers no record that was sent: it isn't the program that this package knows."""
 
 
+class Incomplete(StoreError):
+    """The client doesn't know all edges of a version: the program says that it has others than those that it was asked for."""
+
+
 class Missing(StoreError, ImportError):
     """An optional package isn't there."""
 
