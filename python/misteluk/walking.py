@@ -91,7 +91,7 @@ class Walking(Tables):
         for part in iter(lambda: list(islice(below, A_FEW)), []):
             for it, _ in self._found(part, view):
                 return names.to_user(it[1])
-        raise Incomplete(f"{target!r} has an edge from a vertex of level {level}, as the program says, and the client knows of none")
+        raise Incomplete(f"{target!r} has an edge from a vertex {level} steps off, by the levels, and the client knows of none")
 
     def within(self, vertex: str, hops: int, kind: Optional[str] = None, since: Moment = 0, until: Moment = records.MOST_TIME, *,
                directed: bool = True) -> "Answer[int]":

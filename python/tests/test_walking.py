@@ -1,5 +1,6 @@
-"""Neighbors, paths, reach and all edges, beside a model in plain dicts and beside networkx: random graphs with removals, expiries,
-windows, loads, held sessions and rebases. Each comparison is made again with a fault that is planted, and has to find it."""
+"""Neighbors, paths, reach and all edges, beside a model in plain dicts and beside networkx. Graphs are random, with removals,
+expiries, windows, loads, held sessions and rebases. Comparisons are made again with faults that are planted, and have to find
+them."""
 import csv
 import os
 import unittest
@@ -44,7 +45,8 @@ def steps_of(view, walk):
 def of_vertex(session, graph, name, window, hops):
     """Which of the session's answers to a vertex differ from the model's."""
     view = graph.view(*window)
-    out, into = both((it[2], edge) for it, edge in view if it[1] == name), both((it[1], edge) for it, edge in view if it[2] == name)
+    out = both((it[2], edge) for it, edge in view if it[1] == name)
+    into = both((it[1], edge) for it, edge in view if it[2] == name)
     levels, near = reached(view, name), reached(view, name, True)
     wanted = {
         "out_of": out, "into": into, "neighbors": {it: Neighbor(out.get(it), into.get(it)) for it in {*out, *into}},
@@ -140,7 +142,7 @@ class Walks(Case):
         """Whether an answer that is changed is found to differ."""
         right = getattr(where, name)
         with mock.patch.object(where, name, lambda *asked, **named: change(right(*asked, **named))):
-            self.assertIn(wanted, [it for seed in range(4) for it in self.play(seed, **more)])
+            self.assertTrue(any(wanted in self.play(seed, **more) for seed in range(4)), wanted)
 
     def test_a_planted_difference_is_found(self):
         def fewer(found):
@@ -167,7 +169,8 @@ class Walks(Case):
         store._index._folded = right.__class__(right.kinds, right.names, right.keys[:1], right.latest[:1], right.gone)
         edges = session.edges()
         self.assertEqual(next(edges), ("k", "a", "b", Edge(1, 1, 1)))
-        for call in (lambda: next(edges), session.weights_in, lambda: session.to_csv(self.room / "x"), lambda: session.path("a", "c")):
+        for call in (lambda: next(edges), session.weights_in, lambda: session.to_csv(self.room / "x"),
+                     lambda: session.path("a", "c")):
             with self.assertRaises(misteluk.Incomplete):
                 call()
         self.assertEqual(os.listdir(self.room), [])
@@ -178,14 +181,16 @@ class Calls(Case):
         """As many records as a vertex has edges, whatever else there is."""
         store = self.store(*(f"insert k s{it} t{it % 10} 1 1" for it in range(300)))
         session = store.open()
-        for call, count in ((lambda: session.into("t3"), 30), (lambda: session.out_of("s7"), 1), (lambda: session.neighbors("t3"), 30),
-                            (lambda: session.within("s3", 2, directed=False), 1 + 1 + 29), (lambda: session.path("s3", "t3"), 2)):
+        for call, count in ((lambda: session.into("t3"), 30), (lambda: session.out_of("s7"), 1),
+                            (lambda: session.neighbors("t3"), 30), (lambda: session.path("s3", "t3"), 2),
+                            (lambda: session.within("s3", 2, directed=False), 1 + 1 + 29)):
             before = store.records_sent
             call()
             self.assertEqual(store.records_sent - before, count)
 
     def test_one_vertex(self):
-        session = self.store("insert k a b 3 1", "insert l a b 4 5", "insert k b a 1 2", "insert k a a 9 3", "insert k c c 1 1").open()
+        session = self.store("insert k a b 3 1", "insert l a b 4 5", "insert k b a 1 2", "insert k a a 9 3",
+                             "insert k c c 1 1").open()
         self.assertEqual(session.out_of("a"), {"b": Edge(7, 1, 5), "a": Edge(9, 3, 3)})
         self.assertEqual(session.out_of("a", "k"), {"b": Edge(3, 1, 1), "a": Edge(9, 3, 3)})
         self.assertEqual(session.into("a", since=3), {"a": Edge(9, 3, 3)})
@@ -193,7 +198,8 @@ class Calls(Case):
         self.assertEqual(session.weights_in(), {"a": 10, "b": 7, "c": 1})
         self.assertEqual(session.weights_in("l"), {"a": 0, "b": 4, "c": 0})
         self.assertEqual((session.path("a", "b"), session.path("b", "c"), session.path("c", "c")), (["a", "b"], None, ["c"]))
-        self.assertEqual((len(session), bool(session), "a" in session, "z" in session, "" in session), (5, True, True, False, False))
+        self.assertEqual((len(session), bool(session), "a" in session, "z" in session, "" in session),
+                         (5, True, True, False, False))
         self.assertEqual([it in session for it in (("k", "a", "b"), ("l", "b", "a"), ("k", "z", "b"), ("", "a", "b"))],
                          [True, False, False, False])
         self.assertEqual(list(session.edges(kind="l")), [("l", "a", "b", Edge(4, 5, 5))])
@@ -215,8 +221,9 @@ class Calls(Case):
         store = self.store("insert k a b 1 1")
         session = store.open()
         self.feed(store, "insert l y z 1 1")
-        for call in (session.out_of, session.into, session.neighbors, lambda it: session.path("a", it), lambda it: session.path(it, "a"),
-                     lambda it: session.within(it, 1, directed=False), lambda it: session.within(it, 1)):
+        for call in (session.out_of, session.into, session.neighbors, lambda it: session.path("a", it),
+                     lambda it: session.path(it, "a"), lambda it: session.within(it, 1, directed=False),
+                     lambda it: session.within(it, 1)):
             self.refused(misteluk.NoVertex, "z", lambda: call("z"))
             self.refused(misteluk.BadName, "at least one byte", lambda: call(""))
         for call in (lambda **of: session.out_of("a", **of), lambda **of: session.path("a", "b", **of), session.weights_in,
@@ -229,7 +236,8 @@ class Calls(Case):
         self.refused(TypeError, "may be in a session", lambda: 3 in session)
         edges = session.edges()
         session.close()
-        for call in (session.edges, lambda: session.out_of("a"), lambda: list(edges), lambda: len(session), lambda: "a" in session):
+        for call in (session.edges, lambda: session.out_of("a"), lambda: list(edges), lambda: len(session),
+                     lambda: "a" in session):
             self.refused(misteluk.SessionClosed, "version 1 is closed", call)
 
     def test_more_than_a_run_takes_is_told_before_anything_is_sent(self):
@@ -237,8 +245,8 @@ class Calls(Case):
         session = store.open()
         sent = store.records_sent
         with mock.patch.object(records, "MOST_RECORDS", sent + 8):
-            for call in (session.edges, session.weights_in, session.edges_frame if pandas else session.edges, lambda: session.out_of("a"),
-                         lambda: session.to_csv(self.room / "x")):
+            for call in (session.edges, session.weights_in, session.edges_frame if pandas else session.edges,
+                         lambda: session.out_of("a"), lambda: session.to_csv(self.room / "x")):
                 self.refused(misteluk.RecordLimit, f"a run takes {sent + 8} records; this one had {sent}, and ", call)
         self.assertEqual((store.records_sent, os.listdir(self.room)), (sent, []))
 
@@ -250,7 +258,7 @@ class Calls(Case):
         store.commit()
         session = store.open()
         self.assertEqual(str(session.out_of("a")["b"].weight), "2.15")
-        self.assertEqual({it: str(weight) for it, weight in session.weights_in(until="2024-03-04").items()}, {"a": "0.00", "b": "0.10"})
+        self.assertEqual(list(map(str, session.weights_in(until="2024-03-04").values())), ["0.00", "0.10"])
         self.assertEqual(session.path("a", "b", since="2024-03-06"), None)
         session.to_csv(self.room / "edges.csv")
         self.assertEqual((self.room / "edges.csv").read_text().splitlines(), [
@@ -262,7 +270,8 @@ class Calls(Case):
         """Any name comes back; and a fault on the way leaves the file that was there."""
         store = Store()
         self.addCleanup(store.close)
-        wanted = [["k", source, target, str(at - 5), str(at), str(at)] for at, (source, target) in enumerate(zip(NAMES, NAMES[3:]))]
+        wanted = [["k", source, target, str(at - 5), str(at), str(at)]
+                  for at, (source, target) in enumerate(zip(NAMES, NAMES[3:]))]
         for kind, source, target, weight, time, _ in wanted:
             store.insert(kind, source, target, int(weight), int(time))
         store.commit()
