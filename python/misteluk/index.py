@@ -15,7 +15,7 @@ from array import array
 from bisect import bisect_left
 from collections import defaultdict
 from itertools import chain, compress, count, repeat
-from typing import Collection, DefaultDict, Dict, List, NamedTuple, Optional, Sequence, Tuple, Union
+from typing import Collection, DefaultDict, Dict, Iterator, List, NamedTuple, Optional, Sequence, Tuple, Union
 
 from . import records
 from .candidates import BITS, KIND, MASK, Candidates, Names, keys_of, place_of, turned, with_more, without
@@ -23,6 +23,8 @@ from .feeds import Block
 
 # How many bytes wait at most until they are folded.
 MOST_WAITING = 8 << 20
+# More than any version's number.
+MOST_VERSION = (1 << 32) - 1
 
 
 class Numbering(Dict[str, int]):
@@ -160,6 +162,8 @@ class Fold:
         """What the candidates are now. Those that are gone since a version that is at most `floor`, the least that a session
         holds, are let go; without one all that are gone."""
         base, times = self.base, self.base.latest[:]
+        has_gone = bool(base.gone or self.removed or self.expiries)
+        gone = base.gone[:] or array("I", bytes(4 * len(base) * has_gone))
         new: List[int] = []
         for key in sorted(self.latest):
             at = place_of(base.keys, key)
@@ -167,19 +171,19 @@ class Fold:
                 new.append(key)
             else:
                 times[at] = self.latest[key] = max(times[at], self.latest[key])
-        gone = self._gone(times)
-        lost = {key for key, version in gone.items() if floor is None or version <= floor}
-        lost_places = sorted(at for at in (place_of(base.keys, key) for key in lost) if at is not None)
-        new = [key for key in new if key not in lost]
-        kept = without(base.keys, lost_places)
+                if has_gone:
+                    gone[at] = 0
+        of_new = self._mark_gone(times, gone)
+        most = MOST_VERSION if floor is None else floor
+        lost = [at for at, version in enumerate(gone) if 0 < version <= most]
+        new = [key for key in new if not 0 < of_new.get(key, 0) <= most] if of_new else new
+        kept = without(base.keys, lost)
         places = [bisect_left(kept, key) for key in new]
-        keys = with_more(kept, places, new)
-        since = array("I", bytes(4 * len(keys) if len(gone) > len(lost) else 0))
-        for key in gone.keys() - lost:
-            since[bisect_left(keys, key)] = gone[key]
-        latest = with_more(without(times, lost_places), places, [self.latest[key] for key in new])
-        by_target = self._by_target(new, [base.keys[at] for at in lost_places])
-        return Candidates(list(self.kinds), base.names.and_more(self.names.new), keys, latest, since, by_target)
+        since = with_more(without(gone, lost), places, [of_new.get(key, 0) for key in new]) if has_gone else gone
+        return Candidates(
+            list(self.kinds), base.names.and_more(self.names.new), with_more(kept, places, new),
+            with_more(without(times, lost), places, [self.latest[key] for key in new]), since if any(since) else array("I"),
+            self._by_target(new, [base.keys[at] for at in lost]))
 
     def _by_target(self, new: Sequence[int], lost: Sequence[int]) -> "Optional[array[int]]":
         """The keys by target, where the base has them."""
@@ -190,28 +194,33 @@ class Fold:
         more = sorted(map(turned, new))
         return with_more(kept, [bisect_left(kept, it) for it in more], more)
 
-    def _gone(self, times: "array[int]") -> Dict[int, int]:
-        """Which candidates no version has from some version on, and from which. `times` are the latest ones of those of the
-        base."""
-        keys = self.base.keys
-        gone = {key: version for key, version in zip(keys, self.base.gone) if version and key not in self.latest}
-        for key, version in self.removed.items():
-            if key in self.latest or place_of(keys, key) is not None:
-                gone.setdefault(key, version)
+    def _mark_gone(self, times: "array[int]", gone: "array[int]") -> Dict[int, int]:
+        """Writes down since which version no version has a candidate of the base, whose latest times are these; and gives the
+        same for new ones."""
+        keys, of_new = self.base.keys, {}
+        for key, version in self._gone(times):
+            at = place_of(keys, key)
+            if at is not None:
+                gone[at] = gone[at] or version
+            elif key in self.latest:
+                of_new.setdefault(key, version)
+        return of_new
+
+    def _gone(self, times: "array[int]") -> Iterator[Tuple[int, int]]:
+        """What is gone, and since which version; what was removed once more, too."""
+        yield from self.removed.items()
         if self.expiries:
             # The greatest time of the expiries from each one on, and the first version with it.
             greatest = [(-1, 0)]
             for it in reversed(self.expiries):
                 greatest.append(it if it[0] >= greatest[-1][0] else greatest[-1])
             greatest.reverse()
-            for key in (key for key, time in zip(keys, times) if time < greatest[0][0]):
-                if key not in self.latest:
-                    gone.setdefault(key, greatest[0][1])
+            most, version = greatest[0]
+            yield from ((key, version) for key, time in zip(self.base.keys, times) if time < most and key not in self.latest)
             for key, time in self.latest.items():
-                expiry = greatest[self.after.get(key, 0)]
-                if time < expiry[0]:
-                    gone.setdefault(key, expiry[1])
-        return gone
+                most, version = greatest[self.after.get(key, 0)]
+                if time < most:
+                    yield key, version
 
 
 class Index:

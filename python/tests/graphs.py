@@ -96,6 +96,8 @@ class Play:
             session, graph = self.random.choice(self.held)
             self.store.rebase(session)
             self.now, self.held = graph.copy(), []
+            if self.random.random() < 0.5:  # (a session of version 0, which has edges now)
+                self.held.append((self.store.open(), self.now.copy()))
 
     def end(self):
         self.store.discard()

@@ -127,7 +127,10 @@ class Indexes(Case):
         self.assertEqual(len(told(store)), 3)
         store.rebase(session)
         self.assertLessEqual({("k", "a", "b"), ("k", "a", "c")}, set(told(store)))
+        begun = store.open()
         self.feed(store, "remove k a b", "remove k x y")
+        self.assertEqual(set(told(store)), {("k", "a", "b"), ("k", "a", "c"), ("k", "x", "y")})
+        begun.close()
         self.assertEqual(told(store), [("k", "a", "c")])
 
     def test_a_refused_batch_removes_nothing(self):
