@@ -21,8 +21,9 @@ from . import records
 from .candidates import BITS, KIND, MASK, Candidates, Names, keys_of, place_of, turned, with_more, without
 from .feeds import Block
 
-# How many bytes wait at most until they are folded.
-MOST_WAITING = 8 << 20
+# How many bytes of operations wait at most until they are folded. Rows of loads wait as numbers, some 20 bytes each, until somebody
+# asks, and are at most as many as a run takes: folding them costs more time than a load has to spare.
+MOST_WAITING = 4 << 20
 # More than any version's number.
 MOST_VERSION = (1 << 32) - 1
 
@@ -65,10 +66,6 @@ class Rows(NamedTuple):
             keys.extend(array("Q", keys_of(table.kinds, table.names, (it.kinds, it.sources, it.targets))))
         return Rows(table, keys, ",".join(chain(*(it.times for it in blocks))).encode("ascii"))
 
-    @property
-    def bytes(self) -> int:
-        return len(self.times) + self.keys.itemsize * len(self.keys)
-
 
 class Told:
     """A batch that was sent. `version` is the one it made, once its answer is there; `refused` are the places of its operations
@@ -84,8 +81,8 @@ class Told:
 
     @property
     def bytes(self) -> int:
-        """How much memory the batch takes while it waits."""
-        return len(self.operations) if isinstance(self.operations, bytes) else self.operations.bytes
+        """How many bytes of operations wait with it."""
+        return len(self.operations) if isinstance(self.operations, bytes) else 0
 
 
 class Fold:
