@@ -21,8 +21,8 @@ from . import records
 from .candidates import BITS, KIND, MASK, Candidates, Names, keys_of, place_of, turned, with_more, without
 from .feeds import Block
 
-# How many bytes of operations wait at most until they are folded. Rows of loads wait as numbers, some 20 bytes each, until somebody
-# asks, and are at most as many as a run takes: folding them costs more time than a load has to spare.
+# How many bytes of operations wait at most until they are folded. Rows of loads wait as numbers, some 20 bytes each, until
+# somebody asks, and are at most as many as a run takes: to fold them costs more time than a load has to spare.
 MOST_WAITING = 4 << 20
 # More than any version's number.
 MOST_VERSION = (1 << 32) - 1
@@ -194,7 +194,8 @@ class Fold:
     def _mark_gone(self, times: "array[int]", gone: "array[int]") -> Dict[int, int]:
         """Writes down since which version no version has a candidate of the base, whose latest times are these; and gives the
         same for new ones."""
-        keys, of_new = self.base.keys, {}
+        keys = self.base.keys
+        of_new: Dict[int, int] = {}
         for key, version in self._gone(times):
             at = place_of(keys, key)
             if at is not None:

@@ -210,23 +210,29 @@ class Memory(Case):
             part = lines[at:at + size]
             yield "".join(part).encode(), len(part)
 
-    def filled(self, edges):
+    def filled(self, edges, expired=False):
+        """An index of the edges, which are asked for by both ends, and gone but for a session where they are expired."""
         found = index.Index()
         for version, (operations, size) in enumerate(self.batches(edges), 1):
             found.tell(operations, size)
             found.landed(version, (), None)
         found.candidates(None).into("k", "x")
+        if expired:
+            found.tell(b"x,1000000\n", 1)
+            found.landed(version + 1, (), version)
+            found.candidates(version)
         return found
 
     def test_forty_bytes_a_candidate(self):
-        """Of 210,000 distinct edges of as many names as there can be, with 12 signs each; they are asked for by both ends."""
+        """Of 210,000 distinct edges of as many names as there can be, with 12 signs each, which a session holds alone."""
         names = [f"account{it:05d}" for it in range(65_536)]
         edges = [(names[at % 65_536], names[at * 7 % 65_521]) for at in range(210_000)]
         self.assertEqual(len(set(edges)), 210_000)
-        taken, found = self.memory(lambda: self.filled(edges))
-        self.assertEqual(len(found.candidates(None)), 210_000)
+        taken, found = self.memory(lambda: self.filled(edges, expired=True))
+        self.assertEqual(len(found.candidates(9)), 210_000)
         self.assertLess(taken / 210_000, 40)
-        self.assertGreater(taken / 210_000, 24)
+        self.assertGreater(taken / 210_000, 28)
+        self.assertEqual(len(found.candidates(None)), 0)
 
     def test_what_is_touched_again_takes_no_more(self):
         edges = [(f"s{it % 50}", f"t{it % 70}") for it in range(50_000)]
