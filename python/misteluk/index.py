@@ -7,10 +7,11 @@ touched again and again is one candidate.
 A candidate is let go where no version has it that a session holds, or that one can be opened of. A removal in a version tells so,
 and an expiry of a version by a time later than that of all its operations, since an edge's recent time is that of one of them.
 Both only where the batch's answer says that it was applied, where no later operation told of the edge again, and where no session
-is open that holds an earlier version.
+is open that holds an earlier version. Others stay, as those of edges that a rebase to an earlier version undid.
 """
 from __future__ import annotations
 
+import contextlib
 from array import array
 from bisect import bisect_left
 from collections import defaultdict
@@ -24,6 +25,8 @@ from .feeds import Block
 # How many bytes of operations wait at most until they are folded. Rows of loads wait as numbers, some 20 bytes each, until
 # somebody asks, and are at most as many as a run takes: to fold them costs more time than a load has to spare.
 MOST_WAITING = 4 << 20
+# What a batch that waits takes beside its operations.
+BATCH_BYTES = 200
 # More than any version's number.
 MOST_VERSION = (1 << 32) - 1
 
@@ -81,8 +84,8 @@ class Told:
 
     @property
     def bytes(self) -> int:
-        """How many bytes of operations wait with it."""
-        return len(self.operations) if isinstance(self.operations, bytes) else 0
+        """How many bytes wait with it that have a limit."""
+        return BATCH_BYTES + (len(self.operations) if isinstance(self.operations, bytes) else 0)
 
 
 class Fold:
@@ -242,7 +245,8 @@ class Index:
             self._flight.version, self._flight.refused = version, refused
             self._flight = None
         if self._waiting >= MOST_WAITING:
-            self._fold(floor)
+            with contextlib.suppress(MemoryError):  # (what waits is then folded by a later call: this one has a receipt to give)
+                self._fold(floor)
 
     def refused(self) -> None:
         """The batch was refused: it is in no version."""

@@ -39,10 +39,12 @@ class Graph(dict):
 
 
 class Play:
-    """A store, its last version, and sessions with what they hold."""
+    """A store, its last version, and sessions with what they hold. In an `orderly` one times go up, no weight is too great, and
+    the store isn't begun anew."""
 
-    def __init__(self, seed):
-        self.random = random.Random(seed)
+    def __init__(self, seed, orderly=False):
+        self.random, self.orderly = random.Random(seed), orderly
+        self.weights = [1, 7, -5, 0 if orderly else records.MOST_WEIGHT]
         self.store = Store(blocks=4096, seats=4)
         self.now, self.time, self.held = Graph(), 0, []
         self.kinds = KINDS[:self.random.randrange(1, 4)]
@@ -55,12 +57,12 @@ class Play:
     def some_time(self):
         """Mostly later than all before, and at times long ago."""
         self.time += 1
-        return self.time if self.random.random() < 0.8 else self.random.randrange(self.time + 1)
+        return self.time if self.orderly or self.random.random() < 0.8 else self.random.randrange(self.time + 1)
 
     def operation(self):
         chance = self.random.random()
         if chance < 0.6:
-            adds, time, weight = chance < 0.3, self.some_time(), self.random.choice([1, 7, -5, records.MOST_WEIGHT])
+            adds, time, weight = chance < 0.3, self.some_time(), self.random.choice(self.weights)
             ends = self.ends()
             (self.store.add if adds else self.store.insert)(*ends, weight, time)
             self.now.put(*ends, weight, time, adds)
@@ -92,7 +94,7 @@ class Play:
             self.held.append((self.store.open(), self.now.copy()))
         elif chance < 0.7 and self.held:
             self.held.pop(self.random.randrange(len(self.held)))[0].close()
-        elif chance < 0.75 and self.held:
+        elif chance < 0.75 and self.held and not self.orderly:
             session, graph = self.random.choice(self.held)
             self.store.rebase(session)
             self.now, self.held = graph.copy(), []

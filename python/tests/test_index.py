@@ -66,6 +66,29 @@ class Indexes(Case):
                 with self.subTest(seed=seed):
                     self.assertEqual(self.play(seed), [])
 
+    def test_no_more_than_the_edges_where_times_go_up(self):
+        """And no session is held: so what is removed or expires is let go."""
+        for seed in range(8):
+            play, most = Play(seed, orderly=True), 0
+            self.addCleanup(play.end)
+            for _ in range(25):
+                play.step()
+                most = max(most, len(told(play.store)))
+            for session, _ in play.held:
+                session.close()
+            self.assertEqual((sorted(told(play.store)), most > len(play.now)), (sorted(play.now), True))
+
+    def test_no_memory_to_fold(self):
+        """The commit has its receipt, and a later call folds."""
+        def no_memory(self, floor):
+            raise MemoryError
+        store = self.store("insert k a b 1 1")
+        with mock.patch.object(index, "MOST_WAITING", 1), mock.patch.object(index.Index, "_fold", no_memory):
+            store.insert("k", "b", "c")
+            self.assertEqual(store.commit().inserted, 1)
+            self.assertRaises(MemoryError, store._candidates)
+        self.assertEqual(told(store), [("k", "a", "b"), ("k", "b", "c")])
+
     def planted(self, where, name, fault):
         with mock.patch.object(where, name, fault), mock.patch.object(index, "MOST_WAITING", 200):
             self.assertTrue(any(self.play(seed) for seed in range(12)), (where, name))
