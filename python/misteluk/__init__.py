@@ -10,12 +10,12 @@
 
 Python's standard library is enough; pandas, networkx, matplotlib and tqdm are used where they are there.
 """
-from .answers import Answer, Collected, Commit, Degree, Edge, Rebased, Stat
+from .answers import Answer, Collected, Commit, Degree, Edge, Neighbor, Rebased, Stat
 from .delimited import delimited
 from .errors import (AlreadyOpen, BadCommand, BadFields, BadName, BadRows, BadSlot, BadTime, BadWeight, BadWindow, BatchFull,
-                     BatchLimit, FeedFault, KindsFull, Misread, Missing, NamesFull, NoAnswer, NoKind, NoSeat, NotOpen, NoVertex,
-                     OperationsRefused, OutOfMemory, OverLimit, PartsFailed, Place, PoolEmpty, ProgramEnded, ProgramNotFound,
-                     RecordLimit, Refused, SessionClosed, StoreError, Uncommitted)
+                     BatchLimit, FeedFault, Incomplete, KindsFull, Misread, Missing, NamesFull, NoAnswer, NoKind, NoSeat,
+                     NotOpen, NoVertex, OperationsRefused, OutOfMemory, OverLimit, PartsFailed, Place, PoolEmpty, ProgramEnded,
+                     ProgramNotFound, RecordLimit, Refused, SessionClosed, StoreError, Uncommitted)
 from .feeds import Columns, Feed, matrix_market, snap
 from .finding import find_program
 from .fleet import Fleet
@@ -31,10 +31,10 @@ __all__ = [
     "Store", "Session", "Fleet",
     "load", "survey", "load_in_steps", "Loaded", "Survey", "Columns", "Feed", "open_feed", "delimited", "snap", "matrix_market",
     "from_networkx", "from_pandas", "from_columns", "from_rows",
-    "Answer", "Collected", "Commit", "Degree", "Edge", "Rebased", "Stat", "lint", "find_program",
+    "Answer", "Collected", "Commit", "Degree", "Edge", "Neighbor", "Rebased", "Stat", "lint", "find_program",
     "StoreError", "Refused", "Place", "AlreadyOpen", "BadCommand", "BadFields", "BadName", "BadRows", "BadSlot", "BadTime",
-    "BadWeight", "BadWindow", "BatchFull", "BatchLimit", "FeedFault", "KindsFull", "Misread", "Missing", "NamesFull", "NoAnswer",
-    "NoKind", "NoSeat", "NoVertex", "NotOpen", "OperationsRefused", "OutOfMemory", "OverLimit", "PartsFailed", "PoolEmpty",
-    "ProgramEnded", "ProgramNotFound", "RecordLimit", "SessionClosed", "Uncommitted",
+    "BadWeight", "BadWindow", "BatchFull", "BatchLimit", "FeedFault", "Incomplete", "KindsFull", "Misread", "Missing",
+    "NamesFull", "NoAnswer", "NoKind", "NoSeat", "NoVertex", "NotOpen", "OperationsRefused", "OutOfMemory", "OverLimit",
+    "PartsFailed", "PoolEmpty", "ProgramEnded", "ProgramNotFound", "RecordLimit", "SessionClosed", "Uncommitted",
 ]
 __version__ = "0.1.0"

@@ -76,6 +76,13 @@ class Edge(NamedTuple):
     recent: Any
 
 
+class Neighbor(NamedTuple):
+    """A vertex's edge to a neighbor, and its edge from it; `None` where there is none."""
+
+    out: Optional[Edge]
+    into: Optional[Edge]
+
+
 # What the columns of a degree may be asked for by.
 BY_COLUMN = {"out": "out", "incoming": "into", "weight": "weight_out"}
 

@@ -2,12 +2,14 @@
 from __future__ import annotations
 
 import weakref
-from typing import TYPE_CHECKING, Callable, Dict, List, Sequence, Tuple
+from typing import TYPE_CHECKING, Callable, Dict, List, Optional, Sequence, Tuple
 
 from . import records
 from .answers import Stat, numbers
 from .calls import Calls, talks
+from .candidates import Candidates
 from .errors import RecordLimit, StoreError, refusal
+from .index import Index
 from .names import shown
 from .program import Awaited, Conversation, one_line
 from .terms import Terms
@@ -36,11 +38,22 @@ class Asking:
     _closed: bool
     _sessions: "Dict[int, weakref.ref[Session]]"
     _orphans: List[Tuple[int, Awaited]]
+    _index: Index
 
     @talks
     def stat(self) -> Stat:
         """The last version's number, names and edges, and the blocks."""
         return Stat(*numbers(self._ask(("stat",)).head or "", "stat", 6))
+
+    @talks
+    def _candidates(self) -> Candidates:
+        """Every edge that a version may have which a session holds, or which is opened later, in the program's names. Each is to
+        be asked for: the version may have it or not."""
+        return self._index.candidates(self._floor())
+
+    def _floor(self) -> Optional[int]:
+        """The least version that a session holds, if any does."""
+        return min((it.version for it in (held() for held in self._sessions.values()) if it is not None), default=None)
 
     def _let_orphans_go(self) -> None:
         """Closes what was opened for a call that a time limit broke off, and sessions that nobody has."""

@@ -8,6 +8,7 @@ from .answers import Commit, Stat, committed
 from .asking import Asking, within
 from .calls import talks
 from .errors import OperationsRefused, Place, PoolEmpty, Refused, refusal
+from .index import Rows
 from .program import Awaited
 from .terms import Terms
 from .units import Amount, Moment, Units
@@ -180,10 +181,12 @@ class Batches(Asking):
 
     @talks
     def _launch(self, operations: bytes, count: int, collect: bool, place: Optional[Callable[[int], Place]] = None,
-                from_pending: bool = False) -> None:
-        """Sends one batch. `place` tells where the operation of a number in the batch came from."""
+                from_pending: bool = False, rows: Optional[Rows] = None) -> None:
+        """Sends one batch. `place` tells where the operation of a number in the batch came from; `rows` has its edges by number,
+        where all its operations are insertions or additions."""
         self._make_room(count + 1 + collect)
         before = self._talk.records
+        self._index.tell(operations, count, rows)
         self._talk.tell(operations, count)
         done = self._talk.ask("commit\n")
         last = self._talk.ask("collect\n") if collect else done
@@ -203,12 +206,14 @@ class Batches(Asking):
         self._flight = None
         refused = self._talk.take_refused()
         if flight.done.word:
+            self._index.refused()
             raise self._refused_commit(flight)
         if flight.from_pending:
             del self._pending[:flight.size]
         else:
             self._untold.clear()  # (a load's version is behind it)
         receipt = committed(flight.done.head or "")
+        self._index.landed(receipt.version, {number - flight.before - 1 for number, _ in refused}, self._floor())
         if refused:
             raise OperationsRefused(receipt.version, [flight.refusal_of(number, word, self._terms) for number, word in refused])
         return receipt

@@ -257,6 +257,10 @@ class Misread(StoreError):
     """The program wrote a line that answers no record that was sent: it isn't the program that this package knows."""
 
 
+class Incomplete(StoreError):
+    """The client doesn't know all edges of a version: the program says that it has others than those that it was asked for."""
+
+
 class PartsFailed(StoreError):
     """Parts of a fleet gave no answer: `faults` has what each of them raised, by its key. The others have answered."""
 

@@ -4,17 +4,19 @@ from __future__ import annotations
 import os
 import time
 from array import array
-from collections import defaultdict, deque
+from collections import Counter
 from functools import partial
 from itertools import compress, repeat
-from operator import getitem
-from typing import TYPE_CHECKING, Any, Callable, DefaultDict, Dict, Iterator, List, NamedTuple, Optional, Set, Tuple
+from operator import rshift
+from typing import TYPE_CHECKING, Any, Dict, Iterable, Iterator, List, NamedTuple, Optional, Set, Tuple
 
 from . import records
 from .answers import Commit
+from .candidates import BITS
 from .errors import Place, Refused, Uncommitted
 from .faults import Reading, advise
 from .feeds import Block, Columns, Row, of_columns, part_of, rows_of, turned
+from .index import Rows, Table
 from .limits import check as check, check_room
 from .opening import open_feed
 from .progress import Progress, no_collection
@@ -30,16 +32,12 @@ COMMANDS = {"set": "i", "add": "a"}
 MOST_FAULTS = 10
 
 
-# Calls in C, as they are used here.
-_GET: Callable[[DefaultDict[str, Set[str]], str], Set[str]] = getitem
-_ADD: Callable[[Set[str], str], None] = set.add
-
-
 class Part(NamedTuple):
-    """A batch of a feed: its records, and where each came from."""
+    """A batch of a feed: its records, where each came from, and their edges by number."""
 
     text: bytes
     lines: "array[int]"
+    rows: Rows
 
     def __repr__(self) -> str:
         return f"<Part of {len(self.lines)} records>"
@@ -137,6 +135,23 @@ class Loaded(NamedTuple):
         return f"<Loaded {self}>"
 
 
+class Blocks:
+    """How many blocks edges take. Those of one kind and source share them."""
+
+    def __init__(self, edges: Set[int]) -> None:
+        self.edges = edges
+        self._counts = Counter(map(rshift, edges, repeat(BITS)))
+
+    @property
+    def count(self) -> int:
+        return sum(-(-it // records.BLOCK_EDGES) for it in self._counts.values())
+
+    def put(self, keys: Iterable[int]) -> None:
+        new = set(keys).difference(self.edges)
+        self._counts.update(map(rshift, new, repeat(BITS)))
+        self.edges |= new
+
+
 class Count:
     """Counts and checks rows, and makes batches of them. A loop over rows is one in C where it can be: there are many rows."""
 
@@ -151,10 +166,10 @@ class Count:
         self.filling: List[Block] = []
         # The last full batch, whose rows aren't among the edges yet. None before it needs as many blocks, since each has as many
         # operations and less before it.
-        self.full: List[Block] = []
-        # The targets of each source, by kind: the edges, as they share blocks.
-        self.edges: DefaultDict[str, DefaultDict[str, Set[str]]] = defaultdict(lambda: defaultdict(set))
-        self.targets: Set[str] = set()
+        self.full: Optional[Rows] = None
+        # The edges, by their numbers.
+        self.table = Table()
+        self.edges: Set[int] = set()
         self.bad = self.rows = 0
         self.faults: List[Refused] = []
         # How many rows break a rule, by its word and field.
@@ -175,22 +190,15 @@ class Count:
             self.texts.append(text)
             self.lines.extend(right.lines)
             self.filling.append(right)
-            self.targets.update(right.targets)
         if len(self.lines) == self.batch:
-            self._put(self.full)
-            self.full = self.filling
-            self._end_batch()
+            self.edges.update(self.full.keys if self.full else ())
+            self.full = self._end_batch()
 
-    def _end_batch(self) -> None:
-        self.parts.append(Part("".join(self.texts).encode("ascii"), self.lines))
+    def _end_batch(self) -> Rows:
+        rows = Rows.of(self.table, self.filling)
+        self.parts.append(Part("".join(self.texts).encode("ascii"), self.lines, rows))
         self.texts, self.lines, self.filling = [], array("q"), []
-
-    def _put(self, blocks: List[Block]) -> None:
-        """Puts rows among the edges."""
-        for it in blocks:
-            of_kinds: Iterator[DefaultDict[str, Set[str]]] = map(self.edges.__getitem__, it.kinds)
-            of_sources: Iterator[Set[str]] = map(_GET, of_kinds, it.sources)
-            deque(map(_ADD, of_sources, it.targets), maxlen=0)
+        return rows
 
     def _written(self, block: Block) -> Tuple[Block, str]:
         """The rows that can be taken, in the program's terms, and their records. Rows that keep every rule as they stand, nearly
@@ -226,23 +234,15 @@ class Count:
                 self.faults.append(self.terms.refusal(it, place=Place(self.feed, row[0])))
         return ""
 
-    def _blocks(self) -> int:
-        """How many blocks the edges take."""
-        return sum(-(-len(it) // records.BLOCK_EDGES) for of_kind in self.edges.values() for it in of_kind.values())
-
     def survey(self) -> Survey:
         """What was counted, when all rows were taken."""
-        needs = []
-        for last in (self.full, self.filling):
+        needs, blocks = [], Blocks(self.edges)
+        for last in (self.full, self._end_batch() if self.filling else None):
             if last:
-                needs.append(Need(self._blocks(), sum(len(it.lines) for it in last)))
-                self._put(last)
-        if self.filling:
-            self._end_batch()
-        edges = sum(len(it) for of_kind in self.edges.values() for it in of_kind.values())
-        names = self.targets.union(*self.edges.values())
-        kinds = list(map(self.terms.names.to_user, self.edges))
-        return Survey(self.feed, self.by, self.parts, self.rows, len(names), kinds, edges, self._blocks(), needs, self.bad,
+                needs.append(Need(blocks.count, len(last.keys)))
+                blocks.put(last.keys)
+        kinds, names = list(map(self.terms.names.to_user, self.table.kinds)), len(self.table.names)
+        return Survey(self.feed, self.by, self.parts, self.rows, names, kinds, len(self.edges), blocks.count, needs, self.bad,
                       self.fault_counts, self.faults, time.monotonic() - self.begun, self.terms)
 
 

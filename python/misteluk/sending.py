@@ -64,7 +64,7 @@ class Ahead:
 
 def launch(store: "Store", feed: str, part: Part, collect: bool) -> None:
     """Sends one batch of a feed."""
-    store._launch(part.text, len(part.lines), collect, lambda it: Place(feed, part.lines[it]))
+    store._launch(part.text, len(part.lines), collect, lambda it: Place(feed, part.lines[it]), rows=part.rows)
 
 
 def land(store: "Store", feed: str, parts: List[Part], at: int) -> Commit:

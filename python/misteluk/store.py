@@ -14,6 +14,7 @@ from .calls import Calls, talks
 from .errors import NoSeat, ProgramEnded, StoreError, Uncommitted
 from .feeds import Columns
 from .finding import Path, find_program
+from .index import Index
 from .program import Awaited, Conversation
 from .session import Session
 from .terms import Terms
@@ -74,6 +75,7 @@ class Store(Batches):
         self._flight: Optional[Flight] = None
         self._orphans: List[Tuple[int, Awaited]] = []
         self._rebasing: Optional[Tuple[Session, Awaited]] = None
+        self._index = Index()
         self._closed = False
         self._calls = Calls()
         try:
@@ -148,6 +150,7 @@ class Store(Batches):
         self._make_room(1)
         self._forget_sessions()
         self._untold.clear()
+        self._index.begun_anew(session.version)
         self._rebasing = session, self._talk.ask(self._record(("rebase", str(session.slot))))
 
     @talks

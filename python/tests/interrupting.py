@@ -265,6 +265,7 @@ class Model:
         self.commit()
         with self.store.open() as session:
             assert session.edges(list(self.weights)) == [(it, 1, 1) for it in self.weights.values()]
+            assert {it[:3]: it[3].weight for it in session.edges()} == self.weights
 
     def open(self):
         """There is a seat, as long as the held sessions don't take all."""
@@ -288,6 +289,9 @@ class Model:
             for it in edges[:1]:
                 found, interrupted = self.call(lambda: session.edge(*it))
                 assert interrupted or found == wanted[0], (found, wanted)
+                found, interrupted = self.call(lambda: session.out_of(it[1]))
+                assert interrupted or found == {target: (weight, 1, 1) for (_, source, target), weight in weights.items()
+                                                if source == it[1]}, (found, it)
 
     def table(self):
         if self.held:

@@ -220,7 +220,7 @@ class Stores(Case):
         self.refused(misteluk.BadSlot, "the slots are 0 to 1", lambda: store.open(2))
         self.refused(misteluk.AlreadyOpen, "open,0", lambda: store.open(0))
         self.refused(LookupError, "", lambda: session.into("z", "k"))
-        self.refused(ValueError, "say which kind", lambda: self.store("insert k a b 1 1", "insert l a b 1 1").open().into("a"))
+        self.refused(misteluk.BadWindow, "since 2 is after until 1", lambda: session.into("a", since=2, until=1))
         self.assertEqual(session.degrees()["a"], Degree(1, 0, 1))
 
     def test_seats(self):

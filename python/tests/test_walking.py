@@ -1,0 +1,325 @@
+"""Neighbors, paths, reach and all edges, beside a model in plain dicts and beside networkx. Graphs are random, with removals,
+expiries, windows, loads, held sessions and rebases. Comparisons are made again with faults that are planted, and have to find
+them."""
+import csv
+import os
+import unittest
+import warnings
+from unittest import mock
+
+from graphs import NAMES, Play
+from interrupting import at_line
+from support import Case, optional
+
+import misteluk
+from misteluk import Edge, Neighbor, Session, Store, records, walking
+
+networkx = optional("networkx")
+pandas = optional("pandas")
+
+
+def both(edges):
+    """Edges by a name, those of one name summed."""
+    found = {}
+    for name, it in edges:
+        before = found.get(name, Edge(0, it.first, it.recent))
+        found[name] = Edge(before.weight + it.weight, min(before.first, it.first), max(before.recent, it.recent))
+    return found
+
+
+def reached(view, name, either_way=False):
+    """How many steps off each vertex is that is reached."""
+    steps = {it[1:] for it, _ in view} | ({it[:0:-1] for it, _ in view} if either_way else set())
+    found, last = {name: 0}, {name}
+    while last:
+        last = {b for a, b in steps if a in last} - set(found)
+        found.update(dict.fromkeys(last, 1 + max(found.values())))
+    return found
+
+
+def steps_of(view, walk):
+    """Whether each step of a walk is an edge."""
+    return all(pair in {it[1:] for it, _ in view} for pair in zip(walk, walk[1:]))
+
+
+def of_vertex(session, graph, name, window, hops):
+    """Which of the session's answers to a vertex differ from the model's."""
+    view = graph.view(*window)
+    out = both((it[2], edge) for it, edge in view if it[1] == name)
+    into = both((it[1], edge) for it, edge in view if it[2] == name)
+    levels, near = reached(view, name), reached(view, name, True)
+    wanted = {
+        "out_of": out, "into": into, "neighbors": {it: Neighbor(out.get(it), into.get(it)) for it in {*out, *into}},
+        "within": {it: level for it, level in levels.items() if level <= hops},
+        "within either way": {it: level for it, level in near.items() if level <= hops}, "in": True}
+    found = {
+        "out_of": session.out_of(name, *window), "into": session.into(name, *window),
+        "neighbors": session.neighbors(name, *window), "within": session.within(name, hops, *window),
+        "within either way": session.within(name, hops, *window, directed=False), "in": name in session}
+    differ = [it for it in wanted if found[it] != wanted[it]]
+    for other in graph.names:
+        walk = session.path(name, other, *window)
+        is_right = walk is None if other not in levels else (
+            walk is not None and (walk[0], walk[-1], len(walk)) == (name, other, levels[other] + 1) and steps_of(view, walk))
+        differ += [] if is_right else ["path"]
+    return differ
+
+
+def of_all(session, graph, window):
+    """Which of the session's answers to all edges differ from the model's."""
+    view = graph.view(*window)
+    weights = dict.fromkeys(graph.names, 0)
+    for it, edge in view:
+        weights[it[2]] += edge.weight
+    found = list(session.edges(kind=window[0], since=window[1], until=window[2]))
+    differ = [] if sorted(found) == sorted((*it, edge) for it, edge in view) else ["edges"]
+    differ += [] if session.weights_in(*window) == weights else ["weights_in"]
+    differ += [] if len(session) == len(graph) else ["len"]
+    few = [(kind, a, b) for kind in ("k", "nix") for a in NAMES[:3] for b in ("v1", "nobody")]
+    return differ + ([] if [it in session for it in few] == [it in graph for it in few] else ["in"])
+
+
+def of_networkx(session, graph, name, window):
+    """Which answers differ from networkx's, over the graph that the session gives itself and over the model's."""
+    wanted = networkx.MultiDiGraph(version=session.version)
+    wanted.add_nodes_from(graph.names)
+    wanted.add_edges_from((it[1], it[2], it[0], {"kind": it[0], **edge._asdict()}) for it, edge in graph.view(*window))
+    given = session.to_networkx(*window)
+    differ = [] if networkx.utils.graphs_equal(given, wanted) and list(given) == list(graph.names) else ["to_networkx"]
+    lengths = dict(networkx.single_source_shortest_path_length(wanted, name))
+    for other in graph.names:
+        walk = session.path(name, other, *window)
+        is_right = walk is None if other not in lengths else (
+            walk is not None and networkx.is_path(wanted, walk) and len(walk) == lengths[other] + 1)
+        differ += [] if is_right else ["path"]
+    near = dict(networkx.single_source_shortest_path_length(wanted.to_undirected(), name, 2))
+    differ += [] if session.within(name, 2, *window, directed=False) == near else ["within"]
+    differ += [] if set(session.out_of(name, *window)) == set(wanted.successors(name)) else ["out_of"]
+    differ += [] if set(session.into(name, *window)) == set(wanted.predecessors(name)) else ["into"]
+    return differ + ([] if session.weights_in(*window) == dict(wanted.in_degree(weight="weight")) else ["weights_in"])
+
+
+class Walks(Case):
+    def play(self, seed, steps=12, beside=None):
+        """What differed in a play that asks all sessions that it holds, and one of the last version."""
+        play, differ = Play(seed), []
+        self.addCleanup(play.end)
+        for _ in range(steps):
+            play.step()
+            with play.store.open() as last:
+                for session, graph in [*play.held, (last, play.now)]:
+                    try:
+                        differ += (beside or self.beside_the_model)(play.random, session, graph) if graph.names else []
+                    except misteluk.Incomplete:
+                        differ.append("incomplete")
+        return differ
+
+    def some(self, random_, graph):
+        """A name, and a view."""
+        since, until = sorted(random_.choices(range(-20, 160), k=2))
+        window = random_.choice([(0, records.MOST_TIME), (max(0, since), max(0, until))])
+        return random_.choice(list(graph.names)), (random_.choice([None, *graph.kinds]), *window)
+
+    def beside_the_model(self, random_, session, graph):
+        name, window = self.some(random_, graph)
+        return of_vertex(session, graph, name, window, random_.randrange(4)) + of_all(session, graph, window)
+
+    def beside_networkx(self, random_, session, graph):
+        return of_networkx(session, graph, *self.some(random_, graph))
+
+    def test_answers_are_those_of_the_model(self):
+        for seed in range(10):
+            with self.subTest(seed=seed):
+                self.assertEqual(self.play(seed), [])
+
+    @unittest.skipUnless(networkx, "networkx is not there")
+    def test_answers_are_those_of_networkx(self):
+        for seed in range(30, 36):
+            with self.subTest(seed=seed):
+                self.assertEqual(self.play(seed, beside=self.beside_networkx), [])
+
+    def planted(self, wanted, where, name, change, **more):
+        """Whether an answer that is changed is found to differ."""
+        right = getattr(where, name)
+        with mock.patch.object(where, name, lambda *asked, **named: change(right(*asked, **named))):
+            self.assertTrue(any(wanted in self.play(seed, **more) for seed in range(4)), wanted)
+
+    def test_a_planted_difference_is_found(self):
+        def fewer(found):
+            return {it: value for it, value in list(found.items())[1:]}
+        for name in ("out_of", "into", "neighbors"):
+            self.planted(name, Session, name, fewer)
+        for name in ("within", "weights_in"):
+            self.planted(name, Session, name, lambda found: {it: value + 1 for it, value in found.items()})
+        self.planted("path", Session, "path", lambda walk: walk and [walk[0], *walk])
+        self.planted("path", Session, "path", lambda walk: None)
+        self.planted("edges", Session, "edges", lambda found: [(*ends, edge._replace(first=0)) for *ends, edge in found])
+        self.planted("in", Session, "__contains__", lambda found: True)
+        self.planted("within either way", walking.View, "out_of", lambda found: ())
+        self.planted("incomplete", walking.View, "into", lambda found: ())
+        self.planted("incomplete", walking.View, "has", lambda found: True)
+        if networkx:
+            self.planted("to_networkx", Session, "to_networkx", lambda it: it.reverse(), beside=self.beside_networkx)
+
+    def test_an_edge_that_the_client_does_not_know_is_told(self):
+        """Should a candidate be lost, calls that need all edges say so, and a path that would need it too."""
+        store = self.store("insert k a b 1 1", "insert k b c 1 1")
+        session = store.open()
+        right = store._index.candidates(None)
+        store._index._folded = right.__class__(right.kinds, right.names, right.keys[:1], right.latest[:1], right.gone)
+        edges = session.edges()
+        self.assertEqual(next(edges), ("k", "a", "b", Edge(1, 1, 1)))
+        for call in (lambda: next(edges), session.weights_in, lambda: session.to_csv(self.room / "x"),
+                     lambda: session.path("a", "c")):
+            with self.assertRaises(misteluk.Incomplete):
+                call()
+        self.assertEqual(os.listdir(self.room), [])
+
+
+class Calls(Case):
+    def test_records_by_degree(self):
+        """As many records as a vertex has edges, whatever else there is."""
+        store = self.store(*(f"insert k s{it} t{it % 10} 1 1" for it in range(300)))
+        session = store.open()
+        for call, count in ((lambda: session.into("t3"), 30), (lambda: session.out_of("s7"), 1),
+                            (lambda: session.neighbors("t3"), 30), (lambda: session.path("s3", "t3"), 2),
+                            (lambda: session.within("s3", 2, directed=False), 1 + 1 + 29)):
+            before = store.records_sent
+            call()
+            self.assertEqual(store.records_sent - before, count)
+
+    def test_one_vertex(self):
+        session = self.store("insert k a b 3 1", "insert l a b 4 5", "insert k b a 1 2", "insert k a a 9 3",
+                             "insert k c c 1 1").open()
+        self.assertEqual(session.out_of("a"), {"b": Edge(7, 1, 5), "a": Edge(9, 3, 3)})
+        self.assertEqual(session.out_of("a", "k"), {"b": Edge(3, 1, 1), "a": Edge(9, 3, 3)})
+        self.assertEqual(session.into("a", since=3), {"a": Edge(9, 3, 3)})
+        self.assertEqual(session.neighbors("a", "k", until=2), {"b": Neighbor(Edge(3, 1, 1), Edge(1, 2, 2))})
+        self.assertEqual(session.weights_in(), {"a": 10, "b": 7, "c": 1})
+        self.assertEqual(session.weights_in("l"), {"a": 0, "b": 4, "c": 0})
+        self.assertEqual((session.path("a", "b"), session.path("b", "c"), session.path("c", "c")), (["a", "b"], None, ["c"]))
+        self.assertEqual((len(session), bool(session), "a" in session, "z" in session, "" in session),
+                         (5, True, True, False, False))
+        self.assertEqual([it in session for it in (("k", "a", "b"), ("l", "b", "a"), ("k", "z", "b"), ("", "a", "b"))],
+                         [True, False, False, False])
+        self.assertEqual(list(session.edges(kind="l")), [("l", "a", "b", Edge(4, 5, 5))])
+        self.assertEqual(session.out_of("b", "l"), {})
+
+    def test_an_empty_session(self):
+        session = self.store().open()
+        self.assertEqual((len(session), bool(session), list(session.edges()), session.weights_in()), (0, True, [], {}))
+        self.assertNotIn("a", session)
+        with self.assertRaises(misteluk.NoVertex):
+            session.neighbors("a")
+
+    def refused(self, word, text, call):
+        with self.assertRaises(word) as told:
+            call()
+        self.assertIn(text, str(told.exception))
+
+    def test_what_is_refused(self):
+        store = self.store("insert k a b 1 1")
+        session = store.open()
+        self.feed(store, "insert l y z 1 1")
+        for call in (session.out_of, session.into, session.neighbors, lambda it: session.path("a", it),
+                     lambda it: session.path(it, "a"), lambda it: session.within(it, 1, directed=False),
+                     lambda it: session.within(it, 1)):
+            self.refused(misteluk.NoVertex, "z", lambda: call("z"))
+            self.refused(misteluk.BadName, "at least one byte", lambda: call(""))
+        for call in (lambda **of: session.out_of("a", **of), lambda **of: session.path("a", "b", **of), session.weights_in,
+                     lambda **of: session.within("a", 1, directed=False, **of), session.edges):
+            self.refused(misteluk.NoKind, "l", lambda: call(kind="l"))
+            self.refused(misteluk.BadWindow, "", lambda: call(since=2, until=1))
+            self.refused(misteluk.BadTime, "", lambda: call(since=-1))
+        self.refused(ValueError, "hops is 0 or more", lambda: session.within("a", -1))
+        self.refused(ValueError, "for all edges", lambda: session.edges([("k", "a", "b")], kind="k"))
+        self.refused(TypeError, "may be in a session", lambda: 3 in session)
+        edges = session.edges()
+        session.close()
+        for call in (session.edges, lambda: session.out_of("a"), lambda: list(edges), lambda: len(session),
+                     lambda: "a" in session):
+            self.refused(misteluk.SessionClosed, "version 1 is closed", call)
+
+    def test_more_than_a_run_takes_is_told_before_anything_is_sent(self):
+        store = self.store(*(f"insert k a t{it} 1 1" for it in range(9)))
+        session = store.open()
+        sent = store.records_sent
+        with mock.patch.object(records, "MOST_RECORDS", sent + 8):
+            for call in (session.edges, session.weights_in, session.edges_frame if pandas else session.edges,
+                         lambda: session.out_of("a"), lambda: session.to_csv(self.room / "x")):
+                self.refused(misteluk.RecordLimit, f"a run takes {sent + 8} records; this one had {sent}, and ", call)
+        self.assertEqual((store.records_sent, os.listdir(self.room)), (sent, []))
+
+    def test_units(self):
+        store = Store(weight_scale=100, times="iso")
+        self.addCleanup(store.close)
+        store.add("k", "a", "b", "0.10", "2024-03-04T12:00:00")
+        store.add("l", "a", "b", "2.05", "2024-03-05")
+        store.commit()
+        session = store.open()
+        self.assertEqual(str(session.out_of("a")["b"].weight), "2.15")
+        self.assertEqual(list(map(str, session.weights_in(until="2024-03-04").values())), ["0.00", "0.10"])
+        self.assertEqual(session.path("a", "b", since="2024-03-06"), None)
+        session.to_csv(self.room / "edges.csv")
+        self.assertEqual((self.room / "edges.csv").read_text().splitlines(), [
+            "kind,source,target,weight,first,recent",
+            "k,a,b,0.10,2024-03-04T12:00:00+00:00,2024-03-04T12:00:00+00:00",
+            "l,a,b,2.05,2024-03-05T00:00:00+00:00,2024-03-05T00:00:00+00:00"])
+
+    def test_a_file(self):
+        """Any name comes back; and a fault on the way leaves the file that was there."""
+        store = Store()
+        self.addCleanup(store.close)
+        wanted = [["k", source, target, str(at - 5), str(at), str(at)]
+                  for at, (source, target) in enumerate(zip(NAMES, NAMES[3:]))]
+        for kind, source, target, weight, time, _ in wanted:
+            store.insert(kind, source, target, int(weight), int(time))
+        store.commit()
+        session, path = store.open(), self.room / "edges.csv"
+        self.assertEqual(session.to_csv(path), len(wanted))
+        with open(path, encoding="utf-8", newline="") as file:
+            header, *found = csv.reader(file)
+        self.assertEqual((header, sorted(found)), (["kind", "source", "target", "weight", "first", "recent"], sorted(wanted)))
+        with Store() as copy:
+            copy.load(str(path), by="set", columns=misteluk.Columns("source", "target", "kind", "weight", "recent"))
+            with copy.open() as there:
+                self.assertEqual(sorted(there.edges()), sorted(session.edges()))
+        before = path.read_bytes()
+        at = 1
+        with warnings.catch_warnings():
+            warnings.simplefilter("ignore")  # (an interrupt as the file is closed leaves that to Python)
+            while at_line(at, lambda: session.to_csv(path)):
+                self.assertTrue(path.read_bytes() == before and os.listdir(self.room) == ["edges.csv"], at)
+                at += 7
+        self.assertGreater(at, 30)
+        with self.assertRaises(OSError):
+            session.to_csv(self.room / "nowhere" / "x")
+
+    @unittest.skipUnless(pandas, "pandas is not there")
+    def test_a_frame(self):
+        frame = self.store("insert k a b 3 1", "add k a b 4 5").open().edges_frame()
+        self.assertEqual(list(frame.columns), ["kind", "source", "target", "weight", "first", "recent"])
+        self.assertEqual(frame.values.tolist(), [["k", "a", "b", 7, 1, 5]])
+        self.assertEqual(len(self.store("insert k a b 1 1").open().edges_frame(since=2)), 0)
+
+    def test_each_line_interrupted(self):
+        """A call that only asks, interrupted at each few lines: the same call then answers, and so do others."""
+        store = self.store("insert k a b 5 1", "insert k b c 7 1", "insert l a c 1 2")
+        session = store.open()
+        edges = list(session.edges())
+        calls = {
+            "neighbors": lambda: session.neighbors("b"), "out_of": lambda: session.out_of("a"), "into": lambda: session.into("c"),
+            "weights_in": session.weights_in, "path": lambda: session.path("a", "c", "k"), "edges": lambda: list(session.edges()),
+            "within": lambda: session.within("b", 2, directed=False), "in": lambda: "a" in session, "len": lambda: len(session)}
+        for name, call in calls.items():
+            right, at = call(), 1
+            while at_line(at, call):
+                self.assertEqual((call(), list(session.edges())), (right, edges), (name, at))
+                at += 3
+            self.assertGreater(at, 5, name)
+        self.assertEqual(session.path("a", "c", "k"), ["a", "b", "c"])
+        self.assertEqual(store.stat().edges, 3)
+
+
+if __name__ == "__main__":
+    unittest.main()
