@@ -2,7 +2,7 @@
 (() => {
     const all = (query, root = document) => [...root.querySelectorAll(query)];
     const search = document.getElementById("search"), told = document.getElementById("told");
-    const vertices = all(".vertex"), edges = all(".picture .edge");
+    const vertices = all(".picture .vertex"), edges = all(".picture .edge");
     const vertexRows = all("#vertices tbody tr"), edgeRows = all("#edges tbody tr");
     const names = vertexRows.map((row) => row.cells[0].textContent.toLowerCase());
     let pinned = null, pointed = null;
@@ -77,14 +77,14 @@
             const head = button.closest("th"), body = button.closest("table").tBodies[0], at = Number(button.dataset.column);
             const isDown = head.getAttribute("aria-sort") !== "descending";
             const value = (row) => row.cells[at].dataset.value ?? row.cells[at].textContent;
+            const number = (text) => (text === "" ? -Infinity : Number(text));
             const order = (a, b) => {
-                const [x, y] = [value(a), value(b)], difference = Number(x) - Number(y);
-                return Number.isNaN(difference) ? x.localeCompare(y) : difference;
+                const [x, y] = [value(a), value(b)], difference = number(x) - number(y);
+                return (isDown ? -1 : 1) * (Number.isNaN(difference) ? x.localeCompare(y) : difference);
             };
             all("th", button.closest("table")).forEach((it) => it.removeAttribute("aria-sort"));
             head.setAttribute("aria-sort", isDown ? "descending" : "ascending");
-            const rows = [...body.rows].sort(order);
-            body.append(...(isDown ? rows.reverse() : rows));
+            body.append(...[...body.rows].sort(order));
         });
     }
     show();
