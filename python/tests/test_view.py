@@ -1,4 +1,4 @@
-"""Views of one and of two held versions: what they say, beside a plain model and values worked out by hand; and the page in Chromium."""
+"""Views of one held version and of two: what they say beside a plain model and by hand, and the page in Chromium."""
 import html
 import json
 import os
