@@ -2,7 +2,6 @@
 from __future__ import annotations
 
 import argparse
-from array import array
 from itertools import accumulate
 from typing import Any, Dict, List, Optional, Tuple
 
@@ -70,10 +69,8 @@ def _cut(found: Survey, rows: int) -> Tuple[Survey, int]:
     parts: List[Part] = []
     done = 0
     for part in found.parts:
-        room = rows - done
-        done += len(part.lines)
-        texts = part.text.splitlines(keepends=True)
-        cut = [slice(None, room), slice(room, None)] if 0 < room < len(texts) else [slice(None)]
-        parts += [Part(b"".join(texts[it]), array("q", part.lines[it])) for it in cut]
-    ends = list(accumulate(len(part.lines) for part in parts))
+        room, size = rows - done, len(part.lines)
+        done += size
+        parts += [part.some(slice(room)), part.some(slice(room, None))] if 0 < room < size else [part]
+    ends = accumulate(len(part.lines) for part in parts)
     return found._replace(parts=parts), sum(it <= rows for it in ends)
