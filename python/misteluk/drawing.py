@@ -18,7 +18,7 @@ MOST_WEIGHTS, MOST_KEPT_OFF = 40, 90
 # Where there are more edges, those that are kept are drawn paler.
 MOST_PLAIN = 120
 # Where an edge's weight may stand, as parts of its line, and where names keep off it.
-PARTS = (0.5, 0.42, 0.58, 0.34, 0.66, 0.26, 0.74, 0.18, 0.82, 0.1, 0.9)
+PARTS = (0.5, 0.42, 0.58, 0.34, 0.66, 0.26, 0.74, 0.18, 0.82, 0.1, 0.9, 0.38, 0.62, 0.46, 0.54)
 
 
 def text_of(value: Any) -> str:
@@ -142,7 +142,8 @@ class Drawing:
         for key, state in self.states.items():
             points = self.curves[key].points
             widest = max((text_of(side.edges[key].weight) for side in self.it.sides if key in side.edges), key=len)
-            found[key] = free_place(points[1:7] if state == CHANGED else points[:7], widest, taken)
+            others = [point for other, it in self.curves.items() if other != key for point in it.points]
+            found[key] = free_place(points[1:7] if state == CHANGED else points[:7], widest, taken, others)
         return found
 
     def picture(self, side: Side) -> str:

@@ -200,13 +200,12 @@ def labels(at: Sequence[Point], radii: Sequence[float], texts: Sequence[str],
     taken = [Box(x - it, y - it, x + it, y + it) for (x, y), it in zip(at, radii)]
     found: List[Optional[Label]] = []
     for it, text in enumerate(texts):
-        width = width_of(text)
+        width = width_of(text) * (1 if it else 1.15)  # (the first one's is bold)
         best: Tuple[float, Optional[Label]] = (width * LINE * MOST_COVERED + 6.0 * len(lines) if it else 1e9, None)
         for rank, choice in enumerate(_choices(at[it], radii[it])):
             box = _box(choice, width)
             is_out = box.left < 2 or box.right > WIDTH - 2 or box.top < 2 or box.bottom > HEIGHT - 2
-            crossed = sum(box.left < x < box.right and box.top < y < box.bottom for x, y in lines)
-            cost = 2.0 * rank + 1e6 * is_out + sum(map(box.shared, taken)) + 6.0 * crossed
+            cost = 2.0 * rank + 1e6 * is_out + sum(map(box.shared, taken)) + 6.0 * _covered(box, lines)
             best = min(best, (cost, choice), key=lambda it: it[0])
         if best[1] is not None:
             taken.append(_box(best[1], width))
@@ -214,11 +213,16 @@ def labels(at: Sequence[Point], radii: Sequence[float], texts: Sequence[str],
     return found, taken
 
 
-def free_place(choices: Sequence[Point], text: str, taken: List[Box]) -> Point:
-    """The point for a small text's middle that covers least of what is taken; its room is taken then."""
+def free_place(choices: Sequence[Point], text: str, taken: List[Box], lines: Sequence[Point] = ()) -> Point:
+    """The point for a small text's middle that covers least of what is taken, and few of the points of lines; its room is taken
+    then."""
     half = width_of(text) * 0.42
     boxes = [Box(x - half, y - 9, x + half, y + 3) for x, y in choices]
-    costs = [sum(map(box.shared, taken)) + 2.0 * rank for rank, box in enumerate(boxes)]
+    costs = [sum(map(box.shared, taken)) + 6.0 * _covered(box, lines) + 2.0 * rank for rank, box in enumerate(boxes)]
     best = costs.index(min(costs))
     taken.append(boxes[best])
     return choices[best]
+
+
+def _covered(box: Box, points: Sequence[Point]) -> int:
+    return sum(box.left < x < box.right and box.top < y < box.bottom for x, y in points)

@@ -7,6 +7,7 @@ import sys
 import unittest
 from contextlib import redirect_stderr, redirect_stdout
 
+from pages import CHROMIUM
 from support import HERE, IS_REPOSITORY, NO_REPOSITORY, TOP, Case, find_program, optional, words_of
 
 from misteluk import pictures
@@ -202,7 +203,7 @@ class Pictures(Case):
 
     @unittest.skipUnless(IS_REPOSITORY, NO_REPOSITORY)
     def test_the_pictures_of_the_documents_are_drawn_by_their_script(self):
-        """In a copy; the same bytes where matplotlib is the version that drew them."""
+        """In a copy; the same bytes where matplotlib is the version that drew them, and a browser's picture of the same size."""
         for it in ("examples", "python"):
             (self.room / it).symlink_to(TOP / it)
         for it in ("tools", "bin", "docs/pictures"):
@@ -211,12 +212,18 @@ class Pictures(Case):
         (self.room / "bin/python3").symlink_to(sys.executable)
         env = {**os.environ, "PATH": f"{self.room}/bin:{os.environ['PATH']}", "MISTELUK_PROGRAM": find_program()}
         subprocess.run([self.room / "tools/draw-pictures"], stdout=subprocess.DEVNULL, env=env, check=True)
-        for it in (self.room / "docs/pictures").iterdir():
+        for it in (self.room / "docs/pictures").glob("*.svg"):
             drawn, told = it.read_text(), (TOP / "docs/pictures" / it.name).read_text()
             self.assertTrue(drawn.rstrip().endswith("</svg>") and len(told) < 30_000)
             if f"Matplotlib v{optional('matplotlib').__version__}," in told:
                 self.assertEqual(drawn, told)
-        self.assertEqual({it.name for it in (self.room / "docs/pictures").iterdir()}, {"debian-degrees.svg", "shipments.svg"})
+        pages = {"funnel.png"} if CHROMIUM else set()
+        for it in pages:  # (another browser has other letters)
+            drawn, told = ((folder / "docs/pictures" / it).read_bytes() for folder in (self.room, TOP))
+            self.assertEqual(drawn[:24], told[:24])
+            self.assertLess(len(told), 150_000)
+        self.assertEqual({it.name for it in (self.room / "docs/pictures").iterdir()},
+                         {"debian-degrees.svg", "shipments.svg", *pages})
 
 
 if __name__ == "__main__":

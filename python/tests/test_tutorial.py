@@ -179,6 +179,27 @@ class Figures(unittest.TestCase):
         self.assertEqual(self.text.count("    kassel 0\n"), 1)
         self.assertEqual(rows[139][0], datetime.date(2024, 4, 15))
 
+    def test_the_pages(self):
+        """What the two pages count, by dicts of edges before and after; weights tell what changed."""
+        before, after = Counter(), Counter()
+        for it in read("shipments.csv"):
+            for graph in [before, after] if it["day"] <= "2024-04-15" else [after]:
+                graph[it["from"], it["to"]] += int(it["pallets"])
+        near = {"kassel", *(it for ends in after for it in ends if "kassel" in ends)}
+        states = Counter("new" if ends not in before else "kept" if before[ends] == weight else "changed"
+                         for ends, weight in after.items() if near.issuperset(ends))
+        self.told(f"beside the whole file: {len(near)} vertices; 0 gone, {states['new']} new, {states['changed']} changed, "
+                  f"{states['kept']} kept edges")
+        self.assertEqual({ends for ends in after if near.issuperset(ends) and ends not in before},
+                         {("hamburg", "hannover"), ("hannover", "leipzig"), ("leipzig", "frankfurt")})
+        self.assertEqual(sum("kassel" in ends for ends in after), states["kept"])
+        edges = {(it["from"], it["to"]) for it in read("transfers.csv")}
+        near = {"funnel"}
+        for _ in range(2):
+            near |= {it for ends in edges if near & set(ends) for it in ends}
+        kept = sum(near.issuperset(ends) for ends in edges) - 2
+        self.told(f"version 1 beside version 2: {len(near)} vertices; 1 gone, 0 new, 1 changed, {kept} kept edges>")
+
     def test_the_made_data_are_what_their_script_makes(self):
         made = subprocess.run([sys.executable, TOP / "examples/stories/shipments.py"], stdout=subprocess.PIPE, text=True).stdout
         self.assertEqual(made, (TOP / "examples/stories/shipments.csv").read_text())
