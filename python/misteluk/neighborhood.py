@@ -1,11 +1,12 @@
 """The neighborhood of a vertex in one version or in two, as a page shows it; and how it is asked of sessions."""
 from __future__ import annotations
 
-from typing import TYPE_CHECKING, Any, Dict, Iterable, Iterator, List, NamedTuple, Optional, Sequence, Set, Tuple
+from collections import Counter
+from typing import TYPE_CHECKING, Any, Dict, Iterable, List, NamedTuple, Optional, Sequence, Tuple
 
 from . import records
 from .answers import Degree, Edge
-from .errors import NoKind, NoVertex
+from .errors import Incomplete, NoKind, NoVertex
 from .units import Moment
 
 if TYPE_CHECKING:
@@ -95,20 +96,20 @@ class Looking:
     and times, the held version is asked for each."""
 
     def __init__(self, session: "Session", window: Window) -> None:
-        self.session, self.window = session, window
-        self.degrees = self._degrees()
-        self._candidates = session.store._candidates()
+        self.session, self.view, self.terms = session, session._view(None, *window), session.store._terms
+        self.has_kind = True
+        self.degrees = self._degrees(window)
         self.edges: Dict[Key, Edge] = {}
         self.hops: Dict[str, int] = {}
         self.is_whole = True
-        to_program = session.store.units.time_to_program
-        self._times = int(to_program(str(window.since))), int(to_program(str(window.until), is_end=True))
-        self._looked: Set[str] = set()
+        # The vertices of which all edges were asked for, in the program's names.
+        self._looked: Dict[str, None] = {}
 
-    def _degrees(self) -> Dict[str, Degree]:
+    def _degrees(self, window: Window) -> Dict[str, Degree]:
         try:
-            return self.session.degrees(*self.window)
+            return self.session.degrees(*window)
         except NoKind:  # (the version has the vertices, and no edge of the kind)
+            self.has_kind = False
             return {name: Degree(0, 0, it.weight_out - it.weight_out) for name, it in self.session.degrees().items()}
 
     def reach(self, around: str, hops: int) -> None:
@@ -120,34 +121,34 @@ class Looking:
             if sum(self.degrees[it].out + self.degrees[it].into for it in front) > MOST_ASKED:
                 self.is_whole = False
                 return
-            self.ask(front)
+            self._look(front)
             ends = [name for key in self.edges for name in key[1:]]
             front = [name for name in dict.fromkeys(ends) if name not in self.hops]
             self.hops.update(dict.fromkeys(front, hop))
 
-    def ask(self, names: Iterable[str], within: Optional[Set[str]] = None) -> None:
-        """Asks for all edges of the vertices; `within` leaves out those that go to others."""
-        wanted = [name for name in names if name in self.degrees and name not in self._looked]
-        keys = dict.fromkeys(key for name in wanted for key in self._may_be(name))
-        if within is None:
-            self._looked.update(wanted)
-        else:
-            keys = dict.fromkeys(key for key in keys if within.issuperset(key[1:]))
-        asked = [key for key in keys if key not in self.edges]
-        for key, edge in zip(asked, self.session._edges(asked, missing=None)):
-            if edge is not None and self._times[0] <= edge.recent <= self._times[1]:
-                self.edges[key] = self.session.store._terms.told_edge(edge)
+    def _look(self, names: Sequence[str]) -> None:
+        """Finds all edges of the vertices."""
+        mine = [self.terms.names.to_program(name, keep=False) for name in names]
+        self._ask(ends for name in mine for ends in (*self.view.out_of(name), *self.view.into(name)))
+        self._looked.update(dict.fromkeys(mine))
+        self._must_be_all(names)
 
-    def _may_be(self, name: str) -> Iterator[Key]:
-        """The edges that may be at a vertex."""
-        names = self.session.store._terms.names
-        mine = names.to_program(name, keep=False)
-        wanted = names.to_program(self.window.kind, keep=False) if self.window.kind else None
-        for kind in self._candidates.kinds:
-            if wanted in (None, kind):
-                told = names.to_user(kind)
-                yield from ((told, name, names.to_user(it)) for it in self._candidates.out(kind, mine))
-                yield from ((told, names.to_user(it), name) for it in self._candidates.into(kind, mine))
+    def _ask(self, ends: Iterable[Key]) -> None:
+        """Asks for edges, as the program names them, but for those that were asked for, and keeps those that are there."""
+        asked = list(dict.fromkeys(it for it in ends if it[1] not in self._looked and it[2] not in self._looked))
+        self.session.store._make_room(len(asked))
+        to_user = self.terms.names.to_user
+        for (kind, source, target), edge in self.session._found(asked, self.view):
+            self.edges[to_user(kind), to_user(source), to_user(target)] = self.terms.told_edge(edge)
+
+    def _must_be_all(self, names: Iterable[str]) -> None:
+        """Raises where a vertex has other edges than those that were found, by the program's own count."""
+        out, into = (Counter(key[end] for key in self.edges) for end in (1, 2))
+        for name in names:
+            degree = self.degrees[name]
+            if (out[name], into[name]) != (degree.out, degree.into):
+                raise Incomplete(f"{name!r} has {degree.out} edges out and {degree.into} in, as the program says, and the client "
+                                 f"knows of {out[name]} and {into[name]}")
 
     def weights(self) -> Dict[str, Any]:
         """For each vertex the weight of the edges that join it to nearer ones."""
@@ -159,9 +160,10 @@ class Looking:
         return found
 
     def side(self, label: str, names: Sequence[str]) -> Side:
-        """What is shown of this version: the edges among the names."""
+        """What is shown of this version: the edges among the names. Those of the farthest are asked for here."""
         shown = set(names)
-        self.ask(names, within=shown)
+        mine = dict.fromkeys(self.terms.names.to_program(name, keep=False) for name in names if name in self.degrees)
+        self._ask(ends for name in mine if name not in self._looked for ends in self.view.out_of(name) if ends[2] in mine)
         edges = {key: edge for key, edge in self.edges.items() if shown.issuperset(key[1:])}
         return Side(label, {name: self.hops[name] for name in names if name in self.hops},
                     {name: self.degrees[name] for name in names if name in self.degrees}, edges)
@@ -169,12 +171,15 @@ class Looking:
 
 def gather(sessions: Sequence["Session"], labels: Sequence[str], around: str, hops: int, window: Window,
            most: int) -> Neighborhood:
-    """The neighborhood in each session's version. Raises `NoVertex` where none has such a vertex."""
+    """The neighborhood in each session's version. Raises `NoVertex` where none has such a vertex, and `NoKind` where none has the
+    kind."""
     looking = [Looking(session, window) for session in sessions]
+    if not any(it.has_kind for it in looking):
+        raise NoKind(f"no version here has edges of kind {window.kind!r}")
     for it in looking:
         it.reach(around, hops)
     if not any(it.hops for it in looking):
-        raise NoVertex(around)
+        raise NoVertex(f"no version here has a vertex {around!r}", advice="")
     weights = [it.weights() for it in looking]
     order = {name: at for at, name in enumerate(dict.fromkeys(name for it in looking for name in it.degrees))}
     found = dict.fromkeys(name for it in looking for name in it.hops)

@@ -129,7 +129,7 @@ class Commands(Case):
                                   ("has all its rows up to line 6", PAIRS, ("--around", "a", "--at-line", "6")),
                                   ("p.csv:6: a row up to 12 stands behind line 5", PAIRS.replace("14", "9"),
                                    ("--around", "a", "--at", "12")),
-                                  ("NoVertex: z", PAIRS, ("--around", "z")),
+                                  ("has a vertex 'z'", PAIRS, ("--around", "z")),
                                   ("hops is from 1", PAIRS, ("--around", "a", "--hops", "0"))):
             status, _, err = self.run_it("picture", "around", self.file("p.csv", rows), *OF_PAIRS, "--add", "-o",
                                          self.room / "a.html", *words)

@@ -202,6 +202,8 @@ class Views(Case):
     def test_what_is_refused(self):
         first, last = self.pair(BEFORE, AFTER)
         self.assertRaises(misteluk.NoVertex, view, first, "zed")
+        self.assertRaises(misteluk.NoKind, view, first, "funnel", kind="transfers")
+        self.assertRaises(misteluk.BadWindow, view, first, "funnel", since=2, until=1)
         self.assertEqual(view(first, "zed", 1, beside=last).counts, {GONE: 0, NEW: 1, CHANGED: 0, KEPT: 0})
         for wrong in ({"hops": 0}, {"most": 0}, {"most": 301}):
             self.assertRaises(ValueError, view, first, "funnel", **wrong)
@@ -211,6 +213,22 @@ class Views(Case):
             self.assertRaisesRegex(ValueError, "other units", view, first, "funnel", beside=other.open())
         last.close()
         self.assertRaises(misteluk.SessionClosed, view, first, "funnel", beside=last)
+
+    def test_an_edge_that_the_client_doesnt_know(self):
+        """The program's degrees tell it, and no page is made without it."""
+        first, _ = self.pair(BEFORE, AFTER)
+        with mock.patch("misteluk.candidates.Candidates.into", lambda *_: ["ana"]):
+            self.assertRaisesRegex(misteluk.Incomplete, "'funnel' has 1 edges out and 2 in, .* knows of 1 and 1", view, first,
+                                   "funnel")
+
+    def test_each_edge_is_asked_once(self):
+        first, last = self.pair(BEFORE, AFTER)
+        before = first.store.records_sent
+        view(first, "funnel", 2)  # (the degrees, the edges that funnel has in a version, and the boss's)
+        self.assertEqual(first.store.records_sent - before, 1 + 4 + 1)
+        before = first.store.records_sent
+        view(first, "boss", 1, beside=last)
+        self.assertEqual(first.store.records_sent - before, 4)
 
     def test_two_stores(self):
         """The first session's stands before the other's, whatever their versions are."""
