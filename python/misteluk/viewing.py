@@ -1,13 +1,13 @@
 """A view: the neighborhood of a vertex in one held version, or in two beside each other, as a page of its own."""
 from __future__ import annotations
 
-import os
-import tempfile
 from html import escape
-from typing import TYPE_CHECKING, Dict, Optional, Tuple, Union
+from typing import TYPE_CHECKING, Dict, Optional, Tuple
 
 from . import records
 from .asking import within
+from .exporting import _whole
+from .finding import Path
 from .names import shown
 from .neighborhood import Neighborhood, Window, gather
 from .page import Page, counted
@@ -22,24 +22,6 @@ USUAL_DRAWN, MOST_DRAWN, MOST_HOPS = 150, 300, 16
 FRAME_HEIGHT = 820
 
 
-def write_whole(path: Union[str, "os.PathLike[str]"], text: str) -> None:
-    """Writes a file beside the one of this name, and renames it: who reads the name finds the old text or the new one."""
-    name = os.fspath(path)
-    number, beside = tempfile.mkstemp(prefix=f".{os.path.basename(name)}.", dir=os.path.dirname(name) or ".")
-    try:
-        with open(number, "w", encoding="utf-8") as file:
-            file.write(text)
-            file.flush()
-            os.fsync(number)
-        mask = os.umask(0)
-        os.umask(mask)
-        os.chmod(beside, 0o666 & ~mask)
-        os.replace(beside, name)
-    except BaseException:
-        os.unlink(beside)
-        raise
-
-
 class View:
     """A page that shows a neighborhood. A notebook shows it, `html` is its text, and `save` writes it. `neighborhood` has what
     the versions said, and `counts` how many edges are gone, new, changed and the same."""
@@ -52,9 +34,10 @@ class View:
     def counts(self) -> Dict[str, int]:
         return self.neighborhood.counts()
 
-    def save(self, path: Union[str, "os.PathLike[str]"]) -> None:
+    def save(self, path: Path) -> None:
         """Writes the page to a file, as a whole or not at all."""
-        write_whole(path, self.html)
+        with _whole(path) as file:
+            file.write(self.html)
 
     def _repr_html_(self) -> str:
         """What a notebook shows: the page in a frame of its own, so that neither's styles and scripts reach the other."""
