@@ -94,10 +94,9 @@ class Drawing:
         self.names = it.names[:it.drawn]
         self.number = {name: at for at, name in enumerate(it.names)}
         self.hop = it.hop
-        states = it.edges()
-        self.edge_number = {key: at for at, key in enumerate(states)}
+        self.edge_number = {key: at for at, key in enumerate(it.states)}
         drawn = set(self.names)
-        self.states = {key: state for key, state in states.items() if drawn.issuperset(key[1:])}
+        self.states = {key: state for key, state in it.states.items() if drawn.issuperset(key[1:])}
         pairs = sorted({(self.number[source], self.number[target]) for _, source, target in self.states})
         self.at = place([self.hop[name] for name in self.names], pairs)
         self.radii = [self._radius(name) for name in self.names]

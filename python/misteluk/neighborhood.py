@@ -2,6 +2,7 @@
 from __future__ import annotations
 
 from collections import Counter
+from itertools import islice
 from typing import TYPE_CHECKING, Any, Dict, Iterable, List, NamedTuple, Optional, Sequence, Tuple
 
 from . import records
@@ -18,8 +19,9 @@ Key = Tuple[str, str, str]
 GONE, NEW, CHANGED, KEPT = STATES = ("gone", "new", "changed", "kept")
 # How many vertices and edges the tables have at most.
 MOST_VERTICES, MOST_EDGES = 1_000, 2_000
-# How many edges of one hop's vertices are asked for at most, to find those of the next hop: a run has 999,999 records in all.
-MOST_ASKED = 50_000
+# How many edges of one hop's vertices are asked for at most, to find those of the next hop, and how many among the farthest. A
+# run has 999,999 records in all.
+MOST_ASKED = 20_000
 
 
 class Window(NamedTuple):
@@ -47,48 +49,51 @@ class Side(NamedTuple):
 
 
 class Neighborhood(NamedTuple):
-    """The vertices within `hops` of the one in the middle, in one version or another, direction ignored: those of the tables,
-    the nearest first and then the heaviest, of which the first `drawn` are drawn. `found` counts all, and `is_whole` says
-    whether all were looked for."""
+    """The vertices within `hops` of the one in the middle, in one version or another, direction ignored, and the edges among
+    them.
+
+    `names` are in order: the nearest first; of these in turn one with an edge that is gone, one with a new one, one with one that
+    changed and one without; and the heaviest of each, by the edges that join them to nearer ones. The first `drawn` are drawn.
+    `hop` has the least hops of each vertex, and `states` what became of each edge: those that aren't kept first, then the
+    nearest, then the heaviest.
+
+    `found` counts the vertices; `names` are fewer where there were too many edges to ask for. `is_whole` says whether all were
+    looked for.
+    """
 
     around: str
     hops: int
     window: Window
     sides: Tuple[Side, ...]
     names: List[str]
+    hop: Dict[str, int]
+    states: Dict[Key, str]
     found: int
     drawn: int
     is_whole: bool
 
-    @property
-    def hop(self) -> Dict[str, int]:
-        """The least hops of each vertex in a version."""
-        return {name: min(side.hops[name] for side in self.sides if name in side.hops) for name in self.names}
-
-    def state(self, key: Key) -> str:
-        """What became of an edge: an edge is changed where its weight or one of its times is another."""
-        first, last = self.sides[0].edges.get(key), self.sides[-1].edges.get(key)
-        if first is None or last is None:
-            return GONE if last is None else NEW
-        return KEPT if first == last else CHANGED
-
-    def edges(self) -> Dict[Key, str]:
-        """Each edge of a version with what became of it: those that aren't the same first, then the nearest to the middle, then
-        the heaviest."""
-        hop = self.hop
-
-        def rank(key: Key) -> Any:
-            state = self.state(key)
-            nearest = sorted((hop[key[1]], hop[key[2]]))
-            heaviest = max(abs(side.edges[key].weight) for side in self.sides if key in side.edges)
-            return STATES.index(state), nearest, -heaviest, key
-        keys = sorted({key for side in self.sides for key in side.edges}, key=rank)
-        return {key: self.state(key) for key in keys}
-
     def counts(self) -> Dict[str, int]:
-        """How many edges are gone, new, changed and the same."""
-        states = list(self.edges().values())
-        return {it: states.count(it) for it in STATES}
+        """How many edges are gone, new, changed and kept."""
+        found = Counter(self.states.values())
+        return {it: found[it] for it in STATES}
+
+
+def state_of(before: Optional[Edge], after: Optional[Edge]) -> str:
+    """What became of an edge: it is changed where its weight or one of its times is another."""
+    if before is None or after is None:
+        return GONE if after is None else NEW
+    return KEPT if before == after else CHANGED
+
+
+def states_of(sides: Sequence[Side], hop: Dict[str, int]) -> Dict[Key, str]:
+    """What became of each edge, in order."""
+    pairs = {key: [side.edges.get(key) for side in (sides[0], sides[-1])] for side in sides for key in side.edges}
+    states = {key: state_of(*pair) for key, pair in pairs.items()}
+
+    def rank(key: Key) -> Any:
+        nearest = sorted((hop[key[1]], hop[key[2]]))
+        return STATES.index(states[key]), nearest, -max(abs(it.weight) for it in pairs[key] if it is not None), key
+    return {key: states[key] for key in sorted(states, key=rank)}
 
 
 class Looking:
@@ -159,11 +164,17 @@ class Looking:
                 found[far] = found.get(far, 0) + abs(edge.weight)
         return found
 
-    def side(self, label: str, names: Sequence[str]) -> Side:
-        """What is shown of this version: the edges among the names. Those of the farthest are asked for here."""
-        shown = set(names)
+    def unasked(self, names: Sequence[str]) -> List[Key]:
+        """The edges among the vertices that weren't asked for, in the program's names; one more than can be asked for where there
+        are more."""
         mine = dict.fromkeys(self.terms.names.to_program(name, keep=False) for name in names if name in self.degrees)
-        self._ask(ends for name in mine if name not in self._looked for ends in self.view.out_of(name) if ends[2] in mine)
+        left = (ends for name in mine if name not in self._looked for ends in self.view.out_of(name))
+        return list(islice((it for it in left if it[2] in mine and it[2] not in self._looked), MOST_ASKED + 1))
+
+    def side(self, label: str, names: Sequence[str]) -> Side:
+        """What is shown of this version: the edges among the names."""
+        self._ask(self.unasked(names))
+        shown = set(names)
         edges = {key: edge for key, edge in self.edges.items() if shown.issuperset(key[1:])}
         return Side(label, {name: self.hops[name] for name in names if name in self.hops},
                     {name: self.degrees[name] for name in names if name in self.degrees}, edges)
@@ -180,13 +191,37 @@ def gather(sessions: Sequence["Session"], labels: Sequence[str], around: str, ho
         it.reach(around, hops)
     if not any(it.hops for it in looking):
         raise NoVertex(f"no version here has a vertex {around!r}", advice="")
+    found = _ordered(looking)
+    is_much = any(len(it.unasked(found)) > MOST_ASKED for it in looking)
+    near = found[:MOST_VERTICES] if is_much else found
+    sides = tuple(it.side(label, near) for it, label in zip(looking, labels))
+    hop = {name: min(side.hops[name] for side in sides if name in side.hops) for name in near}
+    states = states_of(sides, hop)
+    return Neighborhood(around, hops, window, sides, _in_turn(near, hop, states), hop, states, len(found), min(most, len(near)),
+                        all(it.is_whole for it in looking))
+
+
+def _ordered(looking: Sequence[Looking]) -> List[str]:
+    """All vertices that were found, the nearest first and then the heaviest."""
     weights = [it.weights() for it in looking]
     order = {name: at for at, name in enumerate(dict.fromkeys(name for it in looking for name in it.degrees))}
-    found = dict.fromkeys(name for it in looking for name in it.hops)
 
     def rank(name: str) -> Any:
         hop = min(it.hops[name] for it in looking if name in it.hops)
         return hop, -max(it.get(name, 0) for it in weights), order[name]
-    names = sorted(found, key=rank)[:MOST_VERTICES]
-    sides = tuple(it.side(label, names) for it, label in zip(looking, labels))
-    return Neighborhood(around, hops, window, sides, names, len(found), min(most, len(names)), all(it.is_whole for it in looking))
+    return sorted(dict.fromkeys(name for it in looking for name in it.hops), key=rank)
+
+
+def _in_turn(names: Sequence[str], hop: Dict[str, int], states: Dict[Key, str]) -> List[str]:
+    """The vertices of each hop in turn by what became of their edges, so that a few of them show something of each."""
+    marks: Dict[str, int] = {}
+    for key, state in states.items():  # (in the order of states, so that the first one that a vertex has is kept)
+        for name in key[1:]:
+            marks.setdefault(name, STATES.index(state))
+    places: Dict[str, Tuple[int, int, int]] = {}
+    before: Counter[Tuple[int, int]] = Counter()
+    for name in names:
+        mark = marks.get(name, len(STATES))
+        places[name] = hop[name], before[hop[name], mark], mark
+        before[hop[name], mark] += 1
+    return sorted(names, key=places.__getitem__)

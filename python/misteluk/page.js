@@ -67,6 +67,10 @@
     }
     for (const it of all(".picture")) it.addEventListener("click", () => pin(null));
     search.addEventListener("input", show);
+    document.getElementById("large")?.addEventListener("click", (event) => {
+        const isLarge = document.body.classList.toggle("large");
+        event.currentTarget.setAttribute("aria-pressed", String(isLarge));
+    });
     document.addEventListener("keydown", (event) => {
         if (event.key === "Escape") { search.value = ""; pinned = null; point(null); }
     });

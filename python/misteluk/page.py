@@ -5,14 +5,13 @@ Names stand in it as text alone, never in its script, and it may load nothing (i
 from __future__ import annotations
 
 import pkgutil
-from collections import Counter
 from html import escape
 from typing import Any, Iterator, List, NamedTuple, Optional, Sequence, Tuple
 
 from .answers import Degree
 from .drawing import Drawing, sample, text_of, time_text
 from .names import shown
-from .neighborhood import CHANGED, GONE, KEPT, MOST_ASKED, MOST_EDGES, NEW, STATES, Key, Neighborhood
+from .neighborhood import CHANGED, GONE, KEPT, MOST_ASKED, MOST_EDGES, MOST_VERTICES, NEW, STATES, Key, Neighborhood
 
 # What the legend says of a state.
 TOLD = {GONE: "gone", NEW: "new", CHANGED: "changed (weight or time)", KEPT: "kept"}
@@ -94,7 +93,7 @@ class Page:
         self.it, self.drawing = it, Drawing(it)
         self.title = title or f"Around {shown(it.around)}"
         self.is_two = len(it.sides) == 2
-        self.states = it.edges()
+        self.states = it.states
         self.below = BEFORE_AND_AFTER if self.is_two else ()
 
     def text(self) -> str:
@@ -111,19 +110,22 @@ class Page:
         sides = " beside ".join(side.label for side in self.it.sides)
         within = f"within {counted(self.it.hops, 'hop')} of {shown(self.it.around)}, direction ignored"
         about = f"{_begun(sides)}. {counted(self.it.found, 'vertex')} {within}; {self.it.window}."
+        large = '<button id="large" type="button" aria-pressed="false">Larger</button>' if self.is_two else ""
         return (f'<header>\n<div><h1>{escape(self.title)}</h1><p class="about">{escape(about)}</p></div>\n'
-                '<label class="search"><output id="told"></output><input id="search" type="search" autocomplete="off" '
-                'placeholder="Find a name" aria-label="Find a name"></label>\n</header>\n')
+                '<div class="search"><output id="told"></output><input id="search" type="search" autocomplete="off" '
+                f'placeholder="Find a name" aria-label="Find a name">{large}</div>\n</header>\n')
 
     def _legend(self) -> str:
         """What marks mean, with how many edges have each."""
-        counts = Counter(self.states.values())
+        counts = self.it.counts()
         items = [f'<li id="{state}">{sample(state)}<b>{counts[state]:,}</b> {told}</li>' for state, told in TOLD.items()
                  if self.is_two]
         hops = ["in the middle", "1 hop", "2 hops", "3 hops or more"][:self.it.hops + 1]
         rings = [(f"hop{at}", text) for at, text in enumerate(hops)]
         if self.is_two and any(set(side.hops) < set(self.it.names) for side in self.it.sides):
             rings.append(("hop3 away", "not so near in this version"))
+        if len(self.it.names) < self.it.found:
+            items.append(f'<li class="is">among the nearest {len(self.it.names):,} of {counted(self.it.found, "vertex")}</li>')
         items += [f'<li class="is"><svg class="sample" style="width:14px" viewBox="0 0 14 12" aria-hidden="true">'
                   f'<g class="vertex {kind}"><circle cx="7" cy="6" r="5.5"/></g></svg>{text}</li>' for kind, text in rings]
         return f'<ul class="legend">\n{"".join(items)}\n</ul>\n'
@@ -138,13 +140,12 @@ class Page:
         return f'<div class="pictures">\n{"".join(cards)}</div>\n'
 
     def _vertices(self) -> str:
-        hop = self.it.hop
         columns = [Column("name", is_text=True), Column("hops"), *(Column(it, self.below) for it in ("out", "in", "weight out"))]
         rows = []
-        for at, name in enumerate(self.it.names):
+        for at, name in enumerate(self.it.names[:MOST_VERTICES]):
             degrees = [side.degrees.get(name) for side in self.it.sides]
             counts = [_both([None if it is None else it[field] for it in degrees]) for field in range(len(Degree._fields))]
-            rows.append(f'<tr data-vertex="{at}" tabindex="-1">{_name(name)}{_number(hop[name])}{"".join(counts)}</tr>\n')
+            rows.append(f'<tr data-vertex="{at}" tabindex="-1">{_name(name)}{_number(self.it.hop[name])}{"".join(counts)}</tr>\n')
         return _table("vertices", "Vertices", f"degrees in the whole version; {self.it.window}", columns, rows)
 
     def _edges(self) -> str:
@@ -174,10 +175,11 @@ class Page:
     def _notes(self) -> str:
         it, told = self.it, []
         if it.drawn < it.found:
-            told.append(f"Drawn are {it.drawn:,} of {counted(it.found, 'vertex')}: the nearest, and of those the heaviest, by "
-                        "the weight of the edges that join them to nearer ones.")
-        if len(it.names) < it.found:
-            told.append(f"The tables and the counts of edges are of the first {len(it.names):,} of {it.found:,} vertices.")
+            turns = "in turn those with an edge gone, with a new one, with one that changed and without, and "
+            told.append(f"Drawn are {it.drawn:,} of {counted(it.found, 'vertex')}: the nearest, {turns if self.is_two else ''}of "
+                        "these the heaviest, by the edges that join them to nearer ones.")
+        if len(it.names) > MOST_VERTICES:
+            told.append(f"The table has {MOST_VERTICES:,} of {counted(len(it.names), 'vertex')}.")
         if len(self.states) > MOST_EDGES:
             told.append(f"The table has {MOST_EDGES:,} of {counted(len(self.states), 'edge')}.")
         if not it.is_whole:

@@ -66,6 +66,13 @@ def hops_of(edges, middle, most):
     return hops
 
 
+def reached(looking):
+    """Looks as where the limit for a hop were another than that among the farthest."""
+    looking.hops = {"hub": 0, **{f"v{it}": 1 for it in range(1, 21)}}
+    with mock.patch("misteluk.neighborhood.MOST_ASKED", 99):
+        looking._look(["hub"])
+
+
 def state_of(before, after):
     if before is None or after is None:
         return NEW if before is None else GONE
@@ -245,16 +252,44 @@ class Views(Case):
         drawn = [found.neighborhood.names[int(it["data-vertex"])] for it in reader.groups(0, "vertex")]
         self.assertEqual(sorted(drawn), sorted(["hub", *(f"v{it}" for it in range(32, 41))]))
         self.assertEqual((len(rows_of(reader, "vertices")), len(rows_of(reader, "edges"))), (42, 41))
-        self.assertIn("Drawn are 10 of 42 vertices: the nearest, and of those the heaviest", reader.texts["notes"])
-        with mock.patch("misteluk.neighborhood.MOST_VERTICES", 12), mock.patch("misteluk.page.MOST_EDGES", 5):
+        self.assertIn("Drawn are 10 of 42 vertices: the nearest, of these the heaviest", reader.texts["notes"])
+        with mock.patch("misteluk.page.MOST_VERTICES", 12), mock.patch("misteluk.page.MOST_EDGES", 5):
             reader = Reader(view(session, "hub", most=10).html)
         self.assertEqual((len(rows_of(reader, "vertices")), len(rows_of(reader, "edges"))), (12, 5))
-        self.assertIn("the first 12 of 42 vertices. The table has 5 of 11 edges.", reader.texts["notes"])
-        with mock.patch("misteluk.neighborhood.MOST_ASKED", 40):
+        self.assertIn("The table has 12 of 42 vertices. The table has 5 of 41 edges.", reader.texts["notes"])
+        with mock.patch("misteluk.neighborhood.MOST_ASKED", 39):
             found = view(session, "hub")
-        self.assertEqual((found.neighborhood.found, found.neighborhood.is_whole), (41, False))
+        self.assertEqual((found.neighborhood.found, found.neighborhood.is_whole), (1, False))
         self.assertIn("Vertices farther away weren't looked for", Reader(found.html).texts["notes"])
         self.assertNotIn("weren't looked for", view(session, "hub").html)
+
+    def test_too_many_edges_among_the_farthest(self):
+        """The counts are then those among the nearest, and that is said beside them."""
+        ring = [f"insert k v{it} v{it % 20 + 1} 1 1" for it in range(1, 21)]
+        session = self.store(*(f"insert k hub v{it} {it} 1" for it in range(1, 21)), *ring, blocks=64).open()
+        self.assertEqual(view(session, "hub", 1).neighborhood.counts()[KEPT], 40)
+        with mock.patch("misteluk.neighborhood.MOST_ASKED", 20):
+            self.assertEqual(view(session, "hub", 1).neighborhood.counts()[KEPT], 40)
+        # The first ten are the hub and v20 to v12, with eight edges of the ring.
+        with mock.patch("misteluk.neighborhood.MOST_ASKED", 19), mock.patch("misteluk.neighborhood.MOST_VERTICES", 10), \
+                mock.patch("misteluk.neighborhood.Looking.reach", lambda it, *_: reached(it)):
+            found = view(session, "hub", 1)
+        self.assertEqual(str(found), "hub, 1 hop, version 1: 21 vertices; 17 edges among the nearest 10")
+        self.assertIn("among the nearest 10 of 21 vertices", found.html)
+
+    def test_something_of_each_is_drawn(self):
+        """In turn the heaviest vertex with an edge gone, with a new one, with one that changed, and with none of these."""
+        store = self.store(*(f"insert k hub v{it} {it} 1" for it in range(1, 41)))
+        first = store.open()
+        self.feed(store, *(f"remove k hub v{it}" for it in (3, 4, 5)), "insert k v6 v7 1 1", "insert k hub v40 40 2",
+                  "insert k new hub 1 1")
+        drawn = []
+        for most in range(2, 11):
+            reader = Reader(view(first, "hub", 1, beside=store.open(), most=most).html)
+            seen = {it["aria-label"] for it in reader.groups(0, "vertex")} - {"hub"}
+            drawn.append((seen - set(drawn)).pop())
+        self.assertEqual(drawn, ["v5", "v7", "v40", "v39", "v4", "v6", "v38", "v3", "new"])
+        self.assertIn("in turn those with an edge gone, with a new one, with one that changed", reader.texts["notes"])
 
     def test_texts_stay_texts(self):
         """Names with markup, quotes and other letters are seen as they are, in texts alone; signs that aren't seen as escapes."""
@@ -327,6 +362,7 @@ class Layouts(unittest.TestCase):
             self.assertEqual(len(set(at)), count)
 
 
+WIDE = "--window-size=1300,900"
 # What is done to a page by a reader, and what is seen then: names of vertices and edges by their classes, and rows that are left.
 DEEDS = """<script>
     const names = (query) => [...new Set(all(query).map((it) => it.getAttribute("aria-label") ?? it.dataset.edge))].sort();
@@ -343,6 +379,8 @@ DEEDS = """<script>
     type("AN"); look("search"); type(""); vertex("funnel", "click"); look("click");
     document.dispatchEvent(new KeyboardEvent("keydown", {key: "Escape"})); look("escape");
     all("#edges tbody tr")[0].dispatchEvent(new Event("mouseenter")); look("row");
+    const wide = () => all(".pictures section")[0].getBoundingClientRect().width;
+    const before = wide(); document.getElementById("large").click(); seen.larger = wide() / before;
     all("#vertices th button")[2].click(); seen.order = all("#vertices tbody tr").map((it) => it.cells[2].textContent);
     document.body.innerHTML = ""; document.body.textContent = JSON.stringify(seen);
 </script>"""
@@ -371,7 +409,7 @@ class Browsers(Case):
         first, last = self.pair(BEFORE, AFTER)
         page = view(first, "funnel", beside=last).html
         path = self.file("deeds.html", page.replace("</body>", DEEDS + "</body>"))
-        seen = json.loads(html.unescape(re.search(r"<body[^>]*>(.*)</body>", browse(path, "--dump-dom"), re.S)[1]))
+        seen = json.loads(html.unescape(re.search(r"<body[^>]*>(.*)</body>", browse(path, "--dump-dom", WIDE), re.S)[1]))
         every = sorted(["ana", "ben", "boss", "funnel", "offshore", "zed"])
         self.assertEqual((seen["nothing"]["focused"], seen["nothing"]["rows"], seen["nothing"]["told"]), (False, every, ""))
         self.assertEqual((seen["point"]["core"], seen["point"]["lit"], seen["point"]["edges"]), (["ben"], ["ben", "funnel"], 1))
@@ -382,6 +420,7 @@ class Browsers(Case):
         self.assertEqual(seen["click"]["edgeRows"], ["ana", "ben", "funnel", "zed"])
         self.assertEqual(len(seen["escape"]["edgeRows"]), 5)
         self.assertEqual((seen["row"]["lit"], seen["row"]["edges"]), (["ben", "funnel"], 1))
+        self.assertTrue(1.8 < seen["larger"] < 2.2, seen["larger"])
         self.assertEqual(seen["order"], ["1", "1", "1", "1", "0", "–"])
 
     def test_colors(self):
