@@ -4,7 +4,7 @@ from __future__ import annotations
 from datetime import datetime
 from html import escape
 from math import sqrt
-from typing import Any, Dict, List, NamedTuple, Optional, Tuple
+from typing import Any, Dict, List, NamedTuple, Optional, Sequence, Tuple
 
 from .answers import Edge
 from .layout import HEIGHT, WIDTH, Box, Label, Point, free_place, labels, place, short
@@ -13,12 +13,16 @@ from .neighborhood import CHANGED, Key, Neighborhood, Side
 
 # How far apart edges between the same two vertices bend, and how long an arrow's head is.
 BEND, HEAD = 26.0, 8.0
+# How far an edge's middle goes aside to keep off other vertices, as it is tried.
+SHIFTS = (0.0, 14.0, -14.0, 26.0, -26.0, 40.0, -40.0)
+# Up to so many edges are bent around vertices.
+MOST_BENT = 300
 # Up to so many edges are drawn with their weights, and names keep off the lines.
 MOST_WEIGHTS, MOST_KEPT_OFF = 40, 90
 # Where there are more edges, those that are kept are drawn paler.
 MOST_PLAIN = 120
 # Where an edge's weight may stand, as parts of its line, and where names keep off it.
-PARTS = (0.5, 0.42, 0.58, 0.34, 0.66, 0.26, 0.74, 0.18, 0.82, 0.1, 0.9, 0.38, 0.62, 0.46, 0.54)
+PARTS = (0.5, 0.42, 0.58, 0.34, 0.66, 0.26, 0.74, *(it / 22 for it in range(1, 22)))
 
 
 def text_of(value: Any) -> str:
@@ -121,19 +125,40 @@ class Drawing:
         return round(min(13.0, 4.5 + 1.1 * sqrt(most)) + (2 if self.hop[name] == 0 else 0), 1)
 
     def _curves(self) -> Dict[Key, Curve]:
-        """A curve for each edge of a version: it is the same in both pictures. Edges between the same two bend apart."""
+        """A curve for each edge of a version: it is the same in both pictures."""
         groups: Dict[Tuple[int, ...], List[Key]] = {}
         for key in sorted(self.states):
             groups.setdefault(tuple(sorted(self.number[it] for it in key[1:])), []).append(key)
         found: Dict[Key, Curve] = {}
         for (low, high), keys in groups.items():
-            for turn, key in enumerate(keys):
-                bend = BEND * (turn - (len(keys) - 1) / 2) / 2
-                begin, end = self.number[key[1]], self.number[key[2]]
-                found[key] = (loop(self.at[low], self.radii[low], turn) if low == high else
-                              curve(self.at[begin], self.at[end], (self.radii[begin], self.radii[end]),
-                                    bend if begin == low else -bend))
+            found.update(zip(keys, self._between(keys, low, high) if low != high else
+                             [loop(self.at[low], self.radii[low], turn) for turn in range(len(keys))]))
         return found
+
+    def _between(self, keys: Sequence[Key], low: int, high: int) -> List[Curve]:
+        """The curves of edges between the same two vertices. They bend apart, and, where that can be, around other vertices: an
+        edge through a third one would seem to end there."""
+        others = self._beside(low, high) if len(self.states) <= MOST_BENT else []
+        best: Tuple[int, List[Curve]] = (len(others) * len(keys) * len(PARTS) + 1, [])
+        for shift in SHIFTS:
+            bends = [shift + BEND * (turn - (len(keys) - 1) / 2) / 2 for turn in range(len(keys))]
+            curves = [self._curve(key, bend if self.number[key[1]] == low else -bend) for key, bend in zip(keys, bends)]
+            through = sum(abs(x - a) < near and abs(y - b) < near for it in curves for x, y in it.points for a, b, near in others)
+            best = min(best, (through, curves), key=lambda it: it[0])
+            if not through:
+                break
+        return best[1]
+
+    def _beside(self, low: int, high: int) -> List[Tuple[float, float, float]]:
+        """The vertices that an edge between two others may go through, each with how near it may come."""
+        (left, right), (top, foot) = (sorted(ends) for ends in zip(self.at[low], self.at[high]))
+        far = SHIFTS[-2] + 18
+        return [(x, y, radius + 5) for it, ((x, y), radius) in enumerate(zip(self.at, self.radii))
+                if it not in (low, high) and left - far < x < right + far and top - far < y < foot + far]
+
+    def _curve(self, key: Key, bend: float) -> Curve:
+        begin, end = self.number[key[1]], self.number[key[2]]
+        return curve(self.at[begin], self.at[end], (self.radii[begin], self.radii[end]), bend)
 
     def _weights(self, taken: List[Box]) -> Dict[Key, Point]:
         """Where each edge's weight stands: on its line, beside what is there already."""

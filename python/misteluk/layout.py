@@ -146,7 +146,7 @@ def _hold_to_ring(point: Sequence[float], push: List[float], hop: int) -> None:
 
 
 def _fitted(at: Sequence[Sequence[float]]) -> List[Point]:
-    """The places in the picture's own measure. The first vertex stays in the middle of a picture that has many."""
+    """The places in the picture's own measure, as far apart as there is room."""
     if len(at) == 1:
         return [(WIDTH / 2, HEIGHT / 2)]
     found: List[Tuple[float, ...]] = []

@@ -15,6 +15,7 @@ from support import HERE, Case
 
 import misteluk
 from misteluk import Edge, Store, view
+from misteluk.drawing import Drawing, curve
 from misteluk.layout import HEIGHT, WIDTH, labels, place
 from misteluk.neighborhood import CHANGED, GONE, KEPT, NEW
 
@@ -290,6 +291,19 @@ class Views(Case):
             drawn.append((seen - set(drawn)).pop())
         self.assertEqual(drawn, ["v5", "v7", "v40", "v39", "v4", "v6", "v38", "v3", "new"])
         self.assertIn("in turn those with an edge gone, with a new one, with one that changed", reader.texts["notes"])
+
+    def test_an_edge_goes_around_other_vertices(self):
+        """Three vertices in a row: an edge from the first to the last would seem to be two."""
+        session = self.store("insert k a b 1 1", "insert k a c 1 1", "insert k c a 2 1").open()
+        with mock.patch("misteluk.drawing.place", return_value=[(340.0, 270.0), (100.0, 270.0), (580.0, 270.0)]):
+            drawing = Drawing(view(session, "b", 2).neighborhood)
+        self.assertEqual(drawing.names, ["b", "a", "c"])
+        curves = [drawing.curves[("k", *ends)] for ends in (("a", "c"), ("c", "a"))]
+        for it in curves:
+            self.assertGreater(min((x - 340) ** 2 + (y - 270) ** 2 for x, y in it.points), drawing.radii[0] ** 2)
+        self.assertNotEqual(curves[0].points, curves[1].points[::-1])
+        straight = curve((100.0, 270.0), (580.0, 270.0), (6.0, 6.0), 0.0)
+        self.assertEqual({round(y, 6) for _, y in straight.points}, {270.0})
 
     def test_texts_stay_texts(self):
         """Names with markup, quotes and other letters are seen as they are, in texts alone; signs that aren't seen as escapes."""
