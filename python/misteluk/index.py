@@ -69,6 +69,7 @@ class Rows(NamedTuple):
     def some(self, rows: slice) -> "Rows":
         return Rows(self.table, self.keys[rows], b",".join(self.times.split(b",")[rows]))
 
+
 class Told:
     """A batch that was sent. `version` is the one it made, once its answer is there; `refused` are the places of its operations
     that were refused. `is_in` tells whether its edges are candidates already."""
