@@ -76,6 +76,7 @@ def _both(values: Sequence[Any]) -> str:
         return cells
     before, after = (0 if it is None else it for it in values)
     more = after - before
+    more = round(more, 9) if isinstance(more, float) else more
     way, sign = ("less", "") if more < 0 else ("more", "+") if more > 0 else ("none", "")
     return f'{cells}<td class="{way}" data-value="{more}">{sign}{text_of(more)}</td>'
 

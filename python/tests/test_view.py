@@ -207,6 +207,17 @@ class Views(Case):
             self.assertIn(it, found.html)
         self.assertEqual(found.counts[CHANGED], 1)
 
+    def test_floats(self):
+        store = self.store(weight_scale=100, decimals="float")
+        store.add("pays", "a", "b", 0.3)
+        store.commit()
+        first = store.open()
+        store.add("pays", "a", "b", 0.3, 1)
+        store.add("pays", "a", "b", -0.5, 1)
+        store.commit()
+        self.assertEqual(rows_of(Reader(view(first, "a", beside=store.open()).html), "edges"),
+                         [["changed", "a", "b", "0.3", "0.1", "−0.2", "0", "1"]])
+
     def test_what_is_refused(self):
         first, last = self.pair(BEFORE, AFTER)
         self.assertRaises(misteluk.NoVertex, view, first, "zed")
