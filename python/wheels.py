@@ -74,7 +74,7 @@ def metadata(version: str) -> bytes:
 
 def package() -> Files:
     """The package's own files."""
-    found = sorted(it for it in (HERE / "misteluk").rglob("*") if it.suffix in (".py", ".typed"))
+    found = sorted(it for it in (HERE / "misteluk").rglob("*") if it.suffix in (".py", ".typed", ".css", ".js"))
     return {it.relative_to(HERE).as_posix(): (it.read_bytes(), False) for it in found}
 
 

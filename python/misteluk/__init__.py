@@ -25,13 +25,15 @@ from .objects import from_columns, from_networkx, from_pandas, from_rows
 from .opening import open_feed
 from .session import Session
 from .store import Store
+from .viewing import View, view
 
 # What there is, in the order in which a newcomer meets it.
 __all__ = [
     "Store", "Session", "Fleet",
     "load", "survey", "load_in_steps", "Loaded", "Survey", "Columns", "Feed", "open_feed", "delimited", "snap", "matrix_market",
     "from_networkx", "from_pandas", "from_columns", "from_rows",
-    "Answer", "Collected", "Commit", "Degree", "Edge", "Neighbor", "Rebased", "Stat", "lint", "find_program",
+    "Answer", "Collected", "Commit", "Degree", "Edge", "Neighbor", "Rebased", "Stat", "view", "View", "lint",
+    "find_program",
     "StoreError", "Refused", "Place", "AlreadyOpen", "BadCommand", "BadFields", "BadName", "BadRows", "BadSlot", "BadTime",
     "BadWeight", "BadWindow", "BatchFull", "BatchLimit", "FeedFault", "Incomplete", "KindsFull", "Misread", "Missing",
     "NamesFull", "NoAnswer", "NoKind", "NoSeat", "NoVertex", "NotOpen", "OperationsRefused", "OutOfMemory", "OverLimit",

@@ -9,7 +9,7 @@ import sys
 from contextlib import ExitStack
 from typing import Any, Dict, Iterator, List, Optional
 
-from . import pictures, records
+from . import around, pictures, records
 from .answers import BY_COLUMN
 from .errors import NoKind, NoVertex, StoreError
 from .feeds import STANDARD_INPUT, Column, Columns, feed_name
@@ -101,14 +101,17 @@ def make_parser() -> argparse.ArgumentParser:
     check.add_argument("--seats", type=int, default=records.USUAL_SEATS)
     check.add_argument("--blocks", type=int, default=records.USUAL_BLOCKS)
     check.add_argument("--program")
-    picture = commands.add_parser("picture", help="draw a picture of a file's graph (needs matplotlib)")
-    picture.add_argument("what", choices=("degrees", "components", "cores", "edge", "compare"),
-                         help="edge: a weight over versions, one a batch; compare: two sessions' weights going out")
+    picture = commands.add_parser("picture", help="draw a picture of a file's graph (needs matplotlib, but for around)")
+    picture.add_argument("what", choices=("degrees", "components", "cores", "edge", "compare", "around"),
+                         help="edge: a weight over versions, one a batch; compare: two sessions' weights going out; around: a "
+                         "page of a vertex's neighborhood")
     add_feed_options(picture)
-    picture.add_argument("-o", "--output", required=True, metavar="PICTURE", help="a name that ends in .svg or .png")
+    picture.add_argument("-o", "--output", required=True, metavar="PICTURE", help="a name that ends in .svg or .png; that of a "
+                         "page in .html")
     picture.add_argument("--title")
     picture.add_argument("--edge", metavar="KIND,SOURCE,TARGET", help="the edge, for the picture of that name")
     picture.add_argument("--first", type=int, metavar="N", help="compare: open the first session behind N batches (else half)")
+    around.add_options(picture)
     add_window(picture)
     return parser
 
@@ -234,12 +237,24 @@ def run_lint(words: argparse.Namespace) -> int:
 
 
 def run_picture(words: argparse.Namespace) -> int:
+    if words.what == "around":
+        return run_around(words)
     found = read(words)
     draw = draw_versions if words.what in ("edge", "compare") else draw_last
     with make_store(words, found, words.what == "compare") as store:
         figure = draw(words, store, found)
     pictures.save(figure, words.output)
     print(f"{words.output}: {words.what} of {found}")
+    return 0
+
+
+def run_around(words: argparse.Namespace) -> int:
+    around.check(words)
+    found = read(words)
+    with make_store(words, found, holds=True) as store:
+        page = around.draw(words, store, found, window(words))
+    page.save(words.output)
+    print(f"{words.output}: {page}")
     return 0
 
 

@@ -69,6 +69,9 @@ class Rows(NamedTuple):
             keys.extend(array("Q", keys_of(table.kinds, table.names, (it.kinds, it.sources, it.targets))))
         return Rows(table, keys, ",".join(chain(*(it.times for it in blocks))).encode("ascii"))
 
+    def some(self, rows: slice) -> "Rows":
+        return Rows(self.table, self.keys[rows], b",".join(self.times.split(b",")[rows]))
+
 
 class Told:
     """A batch that was sent. `version` is the one it made, once its answer is there; `refused` are the places of its operations

@@ -39,6 +39,10 @@ class Part(NamedTuple):
     lines: "array[int]"
     rows: Rows
 
+    def some(self, rows: slice) -> "Part":
+        """A batch of some of the records."""
+        return Part(b"".join(self.text.splitlines(keepends=True)[rows]), self.lines[rows], self.rows.some(rows))
+
     def __repr__(self) -> str:
         return f"<Part of {len(self.lines)} records>"
 

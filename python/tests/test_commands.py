@@ -7,6 +7,7 @@ import sys
 import unittest
 from contextlib import redirect_stderr, redirect_stdout
 
+from pages import CHROMIUM
 from support import HERE, IS_REPOSITORY, NO_REPOSITORY, TOP, Case, find_program, optional, words_of
 
 from misteluk import pictures
@@ -124,6 +125,40 @@ class Commands(Case):
                               input="print(session.edge('link', 'a', 'b').weight)\n", text=True, cwd=HERE.parent, timeout=60)
         self.assertEqual((done.returncode, "5\n" in done.stdout), (0, True), done.stderr)
 
+    def around(self, told: str, *words: str, rows: str = PAIRS) -> str:
+        """The page around `a` of these rows; what is printed of it is as told."""
+        path, page = self.file("p.csv", rows), self.room / "a.html"
+        status, out, err = self.run_it("picture", "around", path, *OF_PAIRS, "--add", "--around", "a", "-o", page, *words)
+        self.assertEqual((status, err, out), (0, "", f"{page}: a, {told}\n"))
+        return page.read_text()
+
+    def test_a_page_around_a_vertex(self):
+        self.around("1 hop, the whole file: 3 vertices; 2 edges", "--hops", "1")
+        self.around("2 hops, the whole file: 2 vertices; 1 edge", "--since", "13")
+        for batch in ("4096", "3", "2", "1"):
+            page = self.around("2 hops, up to 12 beside the whole file: 4 vertices; 0 gone, 0 new, 1 changed, 2 kept edges",
+                               "--at", "12", "--batch", batch)
+            self.assertIn("<h2>Before: up to 12</h2>", page)
+            self.around("2 hops, up to line 3 beside the whole file: 4 vertices; 0 gone, 1 new, 1 changed, 1 kept edges",
+                        "--at-line", "3", "--batch", batch)
+        page = self.around("2 hops, up to 12 beside the whole file: 4 vertices; 0 gone, 0 new, 1 changed, 2 kept edges", "--at",
+                           "12", "--most", "2", "--title", "T", rows=PAIRS.replace("12", "9"))
+        self.assertIn("<h1>T</h1>", page)
+        self.assertIn("Drawn are 2 of 4 vertices", page)
+
+    def test_pages_that_cant_be_made(self):
+        for told, rows, words in (("wants --around", PAIRS, ()), ("ends in .html", PAIRS, ("--around", "a", "-o", "a.svg")),
+                                  ("has no row up to 9", PAIRS, ("--around", "a", "--at", "9")),
+                                  ("has all its rows up to line 6", PAIRS, ("--around", "a", "--at-line", "6")),
+                                  ("p.csv:6: a row up to 12 stands behind line 5", PAIRS.replace("14", "9"),
+                                   ("--around", "a", "--at", "12")),
+                                  ("has a vertex 'z'", PAIRS, ("--around", "z")),
+                                  ("hops is from 1", PAIRS, ("--around", "a", "--hops", "0"))):
+            status, _, err = self.run_it("picture", "around", self.file("p.csv", rows), *OF_PAIRS, "--add", "-o",
+                                         self.room / "a.html", *words)
+            self.assertEqual((status, told in err), (1, True), err)
+        self.assertFalse((self.room / "a.html").exists())
+
     @unittest.skipUnless(optional("matplotlib"), "matplotlib is not there")
     def test_pictures(self):
         __import__("matplotlib.font_manager")  # (which says on a new machine that it looks for fonts)
@@ -191,7 +226,7 @@ class Pictures(Case):
 
     @unittest.skipUnless(IS_REPOSITORY, NO_REPOSITORY)
     def test_the_pictures_of_the_documents_are_drawn_by_their_script(self):
-        """In a copy; the same bytes where matplotlib is the version that drew them."""
+        """In a copy; the same bytes where matplotlib is the version that drew them, and a browser's picture of the same size."""
         for it in ("examples", "python"):
             (self.room / it).symlink_to(TOP / it)
         for it in ("tools", "bin", "docs/pictures"):
@@ -200,12 +235,18 @@ class Pictures(Case):
         (self.room / "bin/python3").symlink_to(sys.executable)
         env = {**os.environ, "PATH": f"{self.room}/bin:{os.environ['PATH']}", "MISTELUK_PROGRAM": find_program()}
         subprocess.run([self.room / "tools/draw-pictures"], stdout=subprocess.DEVNULL, env=env, check=True)
-        for it in (self.room / "docs/pictures").iterdir():
+        for it in (self.room / "docs/pictures").glob("*.svg"):
             drawn, told = it.read_text(), (TOP / "docs/pictures" / it.name).read_text()
             self.assertTrue(drawn.rstrip().endswith("</svg>") and len(told) < 30_000)
             if f"Matplotlib v{optional('matplotlib').__version__}," in told:
                 self.assertEqual(drawn, told)
-        self.assertEqual({it.name for it in (self.room / "docs/pictures").iterdir()}, {"debian-degrees.svg", "shipments.svg"})
+        pages = {"funnel.png"} if CHROMIUM else set()
+        for it in pages:  # (another browser has other letters)
+            drawn, told = ((folder / "docs/pictures" / it).read_bytes() for folder in (self.room, TOP))
+            self.assertEqual(drawn[:24], told[:24])
+            self.assertLess(len(told), 150_000)
+        self.assertEqual({it.name for it in (self.room / "docs/pictures").iterdir()},
+                         {"debian-degrees.svg", "shipments.svg", *pages})
 
 
 if __name__ == "__main__":

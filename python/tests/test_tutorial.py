@@ -1,5 +1,6 @@
 """Runs each command of docs/TUTORIAL.md, docs/PYTHON.md, docs/FLEET.md and README's part for Python, and compares what it prints;
 and works out the stories' figures once more, by plain loops over their files. (What FLEET has as Python test_fleet.py runs.)"""
+import ast
 import contextlib
 import csv
 import datetime
@@ -13,6 +14,7 @@ import sys
 import tempfile
 import unittest
 from collections import Counter, defaultdict
+from decimal import Decimal
 
 from support import HERE, TOP, Case, find_program, optional
 
@@ -179,6 +181,49 @@ class Figures(unittest.TestCase):
         self.told(*(f"    {it} {count}\n" for it, count in left.items()))
         self.assertEqual(self.text.count("    kassel 0\n"), 1)
         self.assertEqual(rows[139][0], datetime.date(2024, 4, 15))
+
+    def test_the_recipes(self):
+        """A day's flow is the sum of its rows; what depends on a package is reached against what it needs."""
+        rows = [(it["day"], it["from"], it["to"], Decimal(it["amount"])) for it in read("transfers.csv")]
+
+        def flow(name, end, *days):
+            return sum(it[3] for it in rows if it[end] == name and it[0] in days)
+        self.told(str((flow("funnel", 2, "2024-05-07"), flow("grocer", 2, "2024-05-09"))),
+                  repr(sum(it[3] for it in rows if it[1:3] == ("ana", "grocer"))))
+        days = [f"2024-05-0{it}" for it in range(5, 9)]
+        found = []
+        for name in dict.fromkeys(it[2] for it in rows):
+            senders = {it[1] for it in rows if it[2] == name and it[0] in days[1:]}
+            came, went = flow(name, 2, *days), flow(name, 1, *days)
+            if len(senders) >= 3 and went >= came * 9 / 10:
+                found.append(f"{name}: {len(senders)} senders, {came} in, {went} out")
+        self.told(*found)
+        self.assertEqual(len(found), 1)
+        needed = [(it["needs"], it["package"]) for it in read("debian.csv") if it["kind"] == "depends"]
+        told = re.search(r"levels\(\"libsemanage2\".*\n    (\{.*\})\n", self.text)[1]
+        self.assertEqual(ast.literal_eval(told), reached(needed, "libsemanage2"))
+        self.told(str(sorted({b for a, b in needed if a == "adduser"})))
+
+    def test_the_pages(self):
+        """What the two pages count, by dicts of edges before and after; weights tell what changed."""
+        before, after = Counter(), Counter()
+        for it in read("shipments.csv"):
+            for graph in [before, after] if it["day"] <= "2024-04-15" else [after]:
+                graph[it["from"], it["to"]] += int(it["pallets"])
+        near = {"kassel", *(it for ends in after for it in ends if "kassel" in ends)}
+        states = Counter("new" if ends not in before else "kept" if before[ends] == weight else "changed"
+                         for ends, weight in after.items() if near.issuperset(ends))
+        self.told(f"beside the whole file: {len(near)} vertices; 0 gone, {states['new']} new, {states['changed']} changed, "
+                  f"{states['kept']} kept edges")
+        self.assertEqual({ends for ends in after if near.issuperset(ends) and ends not in before},
+                         {("hamburg", "hannover"), ("hannover", "leipzig"), ("leipzig", "frankfurt")})
+        self.assertEqual(sum("kassel" in ends for ends in after), states["kept"])
+        edges = {(it["from"], it["to"]) for it in read("transfers.csv")}
+        near = {"funnel"}
+        for _ in range(2):
+            near |= {it for ends in edges if near & set(ends) for it in ends}
+        kept = sum(near.issuperset(ends) for ends in edges) - 2
+        self.told(f"version 1 beside version 2: {len(near)} vertices; 1 gone, 0 new, 1 changed, {kept} kept edges>")
 
     def test_the_made_data_are_what_their_script_makes(self):
         made = subprocess.run([sys.executable, TOP / "examples/stories/shipments.py"], stdout=subprocess.PIPE, text=True).stdout
