@@ -10,10 +10,11 @@ use Rattle.stream_store.specs.Seats.{SeatView, SessionView, held_graph, held_ver
 use Rattle.version_answers.specs.{Numbered.IsNumberedAnswer, Numbered.named, declared.numbered.NumberedReply.NumberedReply}
 use Rattle.script_lines.specs.{Lines.shown_lines, declared.words.Word.Word}
 use Rattle.feed_csv.specs.declared.command.Command.TheVariants.{Rebase}
-use Rattle.script_commands.specs.{Servers.IsServer, Servers.ReopensIn, Servers.ShowsServer, Slots.IsEarlier, Slots.IsSlot}
+use Rattle.script_commands.specs.{Servers.EndsAt, Servers.IsServer, Servers.LacksReader, Servers.ReopensIn, Servers.ShowsServer}
+use Rattle.script_commands.specs.{Slots.IsEarlier, Slots.IsSlot}
 use Rattle.script_commands.specs.Slots.{held_of}
 use Rattle.script_commands.specs.States.{IsReplied, ServerState, ask_word, version, version_in}
-use Rattle.script_commands.specs.declared.server.{Server.Server, Stop.Stop, Stop.TheVariants.Start}
+use Rattle.script_commands.specs.declared.server.{Server.Server, Stop.Stop}
 use Rattle.script_commands.proofs.{Commands.held_there, NamesApart.AreApart}
 use Rattle.script_commands.proofs.Replies.{IsAsked, asked_version, replied_err, replied_ok}
 
@@ -86,9 +87,9 @@ reopens_in : (server : Server) (slot : ℕ) (s : SessionView) → slice_get serv
 reopens_in server slot s there = λ state shows.
     (slot, held_of (held_version s), refl, version_there server state slot s shows there)
 
--- a rebase to what a slot holds may end a run
+-- a rebase to what a slot holds may end a run, for want of a reader's place
 pub stops_reopening : {T : Type 0} (server : Server) (slot : ℕ) (s : SessionView) (result : Result T Stop)
-    → slice_get server.slots.sessions.items slot ≡ Some (Some s)
-    → IfErr result (λ stop. stop ≡ Start → ReopensIn (Rebase slot) server)
-stops_reopening server slot s (Ok value) there = tt
-stops_reopening server slot s (Err stop) there = λ start. reopens_in server slot s there
+    → slice_get server.slots.sessions.items slot ≡ Some (Some s) → IfErr result LacksReader
+    → IfErr result (EndsAt (Rebase slot) server)
+stops_reopening server slot s (Ok value) there lacks = tt
+stops_reopening server slot s (Err stop) there lacks = λ error start. (lacks error start, reopens_in server slot s there)

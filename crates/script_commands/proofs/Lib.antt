@@ -9,3 +9,5 @@ pub mod Asking
 pub mod HeldBlocks
 pub mod Rebasing
 pub mod OneText
+pub mod ContentsKept
+pub mod SomeText

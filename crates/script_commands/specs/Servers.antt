@@ -63,4 +63,14 @@ ReopensIn command server = (s : ServerState) → ShowsServer server s → Reopen
 -- what ends a run at a rebase whose store was not opened: want of memory has a word of its own
 abbrev pub stop_of : OpenError → Stop
 stop_of opening.OutOfMemory = Memory
-stop_of _ = Start
+stop_of opening.NoReader = Start opening.NoReader
+stop_of (opening.PoolEmpty needed free) = Start (opening.PoolEmpty needed free)
+
+-- a store that was not opened lacked a reader's place; want of memory is never told so
+abbrev pub LacksReader : Stop → Type 0
+LacksReader stop = (error : OpenError) → stop ≡ Start error → error ≡ opening.NoReader
+
+-- what ends a run at this command: a store is not opened only at a rebase to a version that a slot holds, where a reader's
+-- place was lacking
+abbrev pub EndsAt : Command → Server → Stop → Type 0
+EndsAt command server stop = (error : OpenError) → stop ≡ Start error → (error ≡ opening.NoReader) × ReopensIn command server

@@ -6,5 +6,5 @@ mod laws;
 mod server;
 mod slots;
 
-pub use laws::{law_examples, law_one_text};
+pub use laws::{law_examples, law_one_text, law_some_text};
 pub use server::{Response, Server, Stop};

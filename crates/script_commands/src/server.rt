@@ -11,7 +11,7 @@ ghost use Rattle.graph_model.specs.Valid.{IsValid};
 ghost use Rattle.feed_csv.specs.Commands.{HasValidOp};
 ghost use Rattle.stream_store.specs.Refusals.{block_count};
 ghost use Rattle.stream_store.specs.Seats.{SeatView, held_version};
-ghost use Rattle.script_commands.specs.Servers.{IsServer, Obeys, ReopensIn, ShowsServer, pending_of};
+ghost use Rattle.script_commands.specs.Servers.{EndsAt, IsServer, LacksReader, Obeys, ShowsServer, pending_of};
 ghost use Rattle.script_commands.specs.Servers as servers;
 ghost use Rattle.script_commands.specs.States as states;
 
@@ -42,8 +42,8 @@ pub enum Response {
 #[derive(Clone, Copy)]
 pub enum Stop {
     Memory,
-    /// A store was not opened.
-    Start,
+    /// A store was not opened, for this reason.
+    Start(OpenError),
 }
 
 impl From<AllocError> for Stop {
@@ -81,13 +81,15 @@ impl Drop for Server {
 }
 
 impl Server {
-    /// The state before the first record, over a store of that configuration. `Start` where none was opened.
+    /// The state before the first record, over a store of that configuration. `Start` where none was opened, also for want of
+    /// memory.
     pub fn begin<A: AllocGlobal + Wait>(rt: &A, config: Config) -> Result<Server, Stop>
         ensures server { IfOk result IsServer }
         ensures beginning { IfOk result (λ server. ShowsServer server (states.beginning (states.set_up config)).state) }
     {
-        let Ok((desk, board, seats)) = open_parts(rt, rt.alloc(), config) else {
-            return Err(Stop::Start);
+        let (desk, board, seats) = match open_parts(rt, rt.alloc(), config) {
+            Ok(parts) => parts,
+            Err(error) => return Err(Stop::Start(error)),
         };
         let server = Server::new(rt.alloc(), config, desk, board, seats)?;
         Ok(server)
@@ -127,7 +129,7 @@ impl Server {
     }
 
     /// Does a command. Its lines replace those in the buffer; where it was refused, these mean nothing. `Start` at a rebase alone,
-    /// and only where its slot holds a version.
+    /// only where its slot holds a version, and with no other reason than `NoReader`.
     pub fn obey<R: Threads + Wait + Sync>(
         &mut self,
         rt: &R,
@@ -138,7 +140,7 @@ impl Server {
         requires valid { HasValidOp command }
         ensures kept { IsServer self.new }
         ensures obeys { IfOk result (λ response. Obeys command self.old response (string_bytes lines.new) self.new) }
-        ensures stops { IfErr result (λ stop. stop ≡ Stop.Start → ReopensIn command self.old) }
+        ensures stops { IfErr result (EndsAt command self.old) }
     {
         lines.clear();
         match command {
@@ -279,7 +281,7 @@ impl Server {
         ensures obeys { IfOk result (λ response. Obeys (Command.Rebase slot) self.old response
             (string_bytes lines.new) self.new) }
         ensures unchanged { OnErr result (self.new ≡ self.old) }
-        ensures stops { IfErr result (λ stop. stop ≡ Stop.Start → ReopensIn (Command.Rebase slot) self.old) }
+        ensures stops { IfErr result (EndsAt (Command.Rebase slot) self.old) }
     {
         let session = match self.slots.session(slot) {
             Ok(session) => session,
@@ -320,6 +322,7 @@ fn parts_from<R: Wait>(
     ensures board { IfOk result (λ r. r.1 ≡ no_pins) }
     ensures seats { IfOk result (λ r. length r.2.items ≡ config.seats) }
     ensures numbers { IfOk result (λ r. map (λ (s : SeatView). s.number) r.2.items ≡ range_with_len 0 (length r.2.items)) }
+    ensures stops { IfErr result LacksReader }
 {
     match open_parts_from(rt, alloc, config, session.version()) {
         Ok(parts) => Ok(parts),
@@ -328,13 +331,13 @@ fn parts_from<R: Wait>(
     }
 }
 
-/// What ends a run at a rebase whose store was not opened.
+/// What ends a run at a rebase whose store was not opened: want of memory has a word of its own.
 fn stop_of(error: OpenError) -> Stop
     ensures { result ≡ servers.stop_of error }
 {
     match error {
         OpenError::OutOfMemory => Stop::Memory,
-        OpenError::NoReader | OpenError::PoolEmpty { .. } => Stop::Start,
+        OpenError::NoReader | OpenError::PoolEmpty { .. } => Stop::Start(error),
     }
 }
 

@@ -8,6 +8,6 @@ mod sink;
 
 pub use output::write_text;
 pub use script::{ServeFault, Summary, run_script, serve};
-pub use script_commands::{law_examples, law_one_text};
+pub use script_commands::{law_examples, law_one_text, law_some_text};
 pub use sink::{Sink, Unwritten};
 pub use stream_store::{BadConfig, Config};

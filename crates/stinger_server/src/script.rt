@@ -134,7 +134,7 @@ fn start<A: AllocGlobal + Wait, W: Write>(
 {
     match Server::begin(rt, config) {
         Ok(server) => Ok(Run::over(rt.alloc(), server)),
-        Err(Stop::Start) => Err(ServeFault::Start),
+        Err(Stop::Start(_)) => Err(ServeFault::Start),
         Err(Stop::Memory) => {
             output::last_line(sink, 1, Word::Feed(FeedWord::Memory))?;
             Err(ServeFault::Memory)
@@ -185,7 +185,7 @@ impl Run {
                 self.break_off(Word::Feed(FeedWord::Memory), sink)?;
                 Err(ServeFault::Memory)
             }
-            Err(Stop::Start) => {
+            Err(Stop::Start(_)) => {
                 self.break_off(Word::Start, sink)?;
                 Err(ServeFault::Start)
             }

@@ -43,6 +43,7 @@ use version_shelf::{ShelfWriter, Told};
 /// let (mut desk, board, seats) = open_parts(rt, alloc, Config::new(4, 1_024, 2)?)?;
 /// let receipt = desk.apply(rt, &PassAll, batch)?;
 /// assert_eq!(rt; desk.stat().number, receipt.number);
+/// let last = desk.close(rt);
 /// ```
 pub struct Desk {
     alloc: Global,

@@ -4,12 +4,15 @@
 ghost use Rattle.std.specs.Prelude.{◌≡◌, ℕ, IfOk, IfErr, OnOk, OnErr, count_by, length};
 ghost use Rattle.std.specs.Arc.{arc_value};
 ghost use Rattle.std.specs.Coded.{codes};
+ghost use Rattle.std.specs.Sync.Mutex.{mutex_guard_value};
+ghost use mathlib.Core.List.{IsPrefix};
 ghost use Rattle.graph_model.specs.Coded.{graph_code};
 ghost use Rattle.graph_model.specs.Step.{empty_graph};
 ghost use Rattle.graph_version.specs.declared.versions.Version.{Version};
 ghost use Rattle.graph_version.specs.Versions.{content};
 ghost use Rattle.graph_version.specs.Kept.{edge_total};
 ghost use Rattle.block_pool.specs.Pools.{is_free, is_used, is_retired, is_past};
+ghost use Rattle.pin_copy.specs.Copies.{floor_of};
 ghost use Rattle.seat_board.specs.Board.{IsLeast};
 ghost use Rattle.store_steps.specs.Desks.{IsCollected, births_in};
 ghost use Rattle.store_steps.specs.Steps.{Accepts, TakesAt, recycling};
@@ -22,10 +25,13 @@ use crate::receipts::{ApplyError, Receipt};
 use batch_apply::Gate;
 use graph_model::Batch;
 use graph_version::Version;
+use pin_copy::PinCopy;
 use seat_board::{Board, SeatNo};
+use std::alloc::AllocError;
 use std::marker::{Brand, Model, PhantomData};
 use std::sync::{Arc, Mutex, MutexGuard, Wait};
 use std::thread::Threads;
+use version_shelf::Told;
 
 /// Which opening a store and its seats are of. It exists in the proofs alone: whoever opens a store names its opening, and
 /// so what comes out of a lock is known to be of that opening.
@@ -76,20 +82,54 @@ impl<J: Naming> NamedDesk<J> {
         self.desk.apply(rt, gate, batch)
     }
 
-    /// Collects by the copy of the last version's number and the board's pins, to whose least the board's floor is raised first.
-    fn collect(&mut self, board: &mut Board) -> Collected
-        ensures least { IsLeast (length self.old.desk.desk.last.batches) board.old.pins result.floor }
-        ensures raised { board.new ≡ record board.old { floor = result.floor } }
-        ensures collected { IsCollected self.old.desk.desk (copied self.old.desk.desk board.old) self.new.desk.desk }
+    /// Collects by the copy of the last version's number and the pins of the board under this guard, to whose least the board's
+    /// floor is raised first. Only that waits for the board: its lock is given up before a block is recycled.
+    fn collect(&mut self, board: MutexGuard<'_, Board>) -> Collected
+        ensures least { IsLeast (length self.old.desk.desk.last.batches) (mutex_guard_value board.entry).pins result.floor }
+        ensures collected { let copy = copied self.old.desk.desk (mutex_guard_value board.entry) in
+            IsCollected self.old.desk.desk copy self.new.desk.desk }
         ensures births { (source : ℕ) → births_in self.new.desk.desk source ≡ births_in self.old.desk.desk source }
-        ensures steps { let copy = copied self.old.desk.desk board.old in
+        ensures steps { let copy = copied self.old.desk.desk (mutex_guard_value board.entry) in
             TakesAt copy self.old.desk.desk (recycling copy self.old.desk.desk.pool) self.new.desk.desk }
         ensures workers { self.new.desk.workers ≡ self.old.desk.workers }
-        ensures recycled { result.recycled ≡ count_by (is_past (copied self.old.desk.desk board.old)) self.old.desk.desk.pool }
+        ensures recycled { result.recycled
+            ≡ count_by (is_past (copied self.old.desk.desk (mutex_guard_value board.entry))) self.old.desk.desk.pool }
         ensures retired { result.retired ≡ count_by is_retired self.new.desk.desk.pool }
     {
-        let copy = board.raise(self.desk.last().number());
+        let copy = self.copy_of(board);
         self.desk.collect(&copy)
+    }
+
+    /// The copy of the last version's number and the pins of the board under this guard, which is given up once the board's
+    /// floor is raised.
+    fn copy_of(&self, mut board: MutexGuard<'_, Board>) -> PinCopy
+        ensures copied { result ≡ copied self.now.desk.desk (mutex_guard_value board.entry) }
+        ensures least { IsLeast (length self.now.desk.desk.last.batches) (mutex_guard_value board.entry).pins (floor_of result) }
+    {
+        self.raise(&mut board)
+    }
+
+    /// Raises the board's floor to the least of the last version's number and the board's pins, and answers the copy of them.
+    fn raise(&self, board: &mut Board) -> PinCopy
+        ensures copied { result ≡ copied self.now.desk.desk board.old }
+        ensures least { IsLeast (length self.now.desk.desk.last.batches) board.old.pins (floor_of result) }
+        ensures raised { board.new ≡ record board.old { floor = floor_of result } }
+    {
+        board.raise(self.desk.last().number())
+    }
+
+    /// Confirms what was told or seen of a version of this opening, as the desk does, and answers the desk's last version, whose
+    /// batches begin with that version's.
+    fn confirm(&mut self, seen: &Told) -> Result<Arc<Version>, AllocError>
+        requires { seen.now.book ≡ J.book }
+        ensures published { IsPrefix seen.now.version.batches self.old.desk.desk.last.batches }
+        ensures last { IfOk result (λ last. arc_value {X = Version} last ≡ self.old.desk.desk.last) }
+        ensures begins { IfOk result (λ last. IsPrefix seen.now.version.batches (arc_value {X = Version} last).batches) }
+        ensures opening { IfOk result (λ last. (arc_value {X = Version} last).opening ≡ J.opening) }
+        ensures same { self.new.desk ≡ self.old.desk }
+    {
+        self.desk.confirm(seen);
+        Arc::try_clone(self.desk.last())
     }
 
     /// The counts, as the desk tells them.
@@ -106,11 +146,13 @@ impl<J: Naming> NamedDesk<J> {
 }
 
 /// A store that threads share: a desk and a board, each behind a lock. Where both locks are held, the desk's was taken first.
+/// `close` ends it: a store that is dropped without that keeps what its shelf showed last.
 ///
 /// ```
 /// let receipt = store.apply(rt, &PassAll, batch)?;
 /// seat.learn(&receipt)?;
 /// let collected = store.collect(rt);
+/// let last = store.close(rt);
 /// ```
 #[derive(Drop)]
 pub struct Store<J: Naming> {
@@ -147,11 +189,27 @@ impl<J: Naming> Store<J> {
         self.desk.lock(rt).apply(rt, gate, batch)
     }
 
-    /// Collects under the desk's lock, by the copy of the pins that the board gives under its own. It takes no memory.
+    /// Collects under the desk's lock, by the copy of the pins that the board gives under its own, which is given up before a
+    /// block is recycled. It takes no memory.
     pub fn collect<R: Wait>(&self, rt: &R) -> Collected {
         let mut desk = self.desk.lock(rt);
-        let mut board = self.board.lock(rt);
-        desk.collect(&mut board)
+        desk.collect(self.board.lock(rt))
+    }
+
+    /// The desk's last version, under its lock: its batches begin with those of the version that was told or seen, which is of
+    /// this opening. So whoever learnt of a version or entered it finds it confirmed. `AllocError` where no shared copy of the
+    /// last version is to be had; the store is as it was, either way.
+    ///
+    /// ```
+    /// let last = store.confirm(rt, session.seen())?;
+    /// assert!(rt; session.version().number() <= last.number());
+    /// ```
+    pub fn confirm<R: Wait>(&self, rt: &R, seen: &Told) -> Result<Arc<Version>, AllocError>
+        requires { seen.now.book ≡ J.book }
+        ensures published { IfOk result (λ last. IsPrefix seen.now.version.batches (arc_value {X = Version} last).batches) }
+        ensures opening { IfOk result (λ last. (arc_value {X = Version} last).opening ≡ J.opening) }
+    {
+        self.desk.lock(rt).confirm(seen)
     }
 
     /// The counts of the desk, under its lock.

@@ -13,8 +13,8 @@ use std::process::Abort;
 use std::sync::Wait;
 use std::thread::Threads;
 use stinger_server::{
-    Config, ServeFault, Sink, Summary, Unwritten, law_examples, law_one_text, run_script,
-    write_text,
+    Config, ServeFault, Sink, Summary, Unwritten, law_examples, law_one_text, law_some_text,
+    run_script, write_text,
 };
 
 // A run of the script into the writer comes to this, and leaves the writer holding the text.
@@ -103,6 +103,7 @@ fn counts_records_errors_and_pending_operations(rt: HostRuntime) {
     runs_so(&rt, script, &mut writer, Ok(REFUSED_COUNTED), REFUSED_TEXT);
     assert!(rt; writer.writes == 3 && writer.flushed, "one write a line");
     law_one_text();
+    law_some_text();
     law_examples();
 }
 

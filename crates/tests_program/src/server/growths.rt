@@ -22,11 +22,11 @@ fn is_cut_by_memory(text: &str, ends: &[usize], output: &str) -> bool {
     false
 }
 
-// Whether such a run was ended so: at a record, where there was no memory; or before the first one, or at a rebase behind so many
-// records, where no store was opened.
-fn is_cut(text: &str, ends: &[usize], rebase: usize, output: &str, fault: ServeFault) -> bool {
+// Whether such a run was ended so: at a record, where there was no memory; or before the first one, where no store was opened. A
+// store that is not opened at a rebase for want of memory is told as that.
+fn is_cut(text: &str, ends: &[usize], output: &str, fault: ServeFault) -> bool {
     match fault {
-        ServeFault::Start => output.is_empty() || is_cut_of(text, ends, output, rebase, "Start"),
+        ServeFault::Start => output.is_empty(),
         ServeFault::Memory => is_cut_by_memory(text, ends, output),
         ServeFault::Read | ServeFault::Write => false,
     }
@@ -38,30 +38,26 @@ fn runs_or_is_cut(
     script: &str,
     text: &str,
     ends: &[usize],
-    rebase: usize,
 ) {
     let mut writer = FakeWriter::new(1_024);
     match served(rt, FakeReader::whole(script), &mut writer) {
         Ok(_) => check_text(rt, writer.text(), text),
         Err(fault) => {
-            let is_so = is_cut(text, ends, rebase, writer.text(), fault);
+            let is_so = is_cut(text, ends, writer.text(), fault);
             check_so(rt, is_so, writer.text());
             tell_refused(rt);
         }
     }
 }
 
-// The place of a rebase in a script that has none.
-const NOWHERE: usize = usize::MAX;
-
 #[test]
 fn refused_growth_ends_a_run_at_its_record(rt: HostRuntime) {
-    runs_or_is_cut(&rt, FIRST, FIRST_TEXT, FIRST_ENDS.as_slice(), NOWHERE);
+    runs_or_is_cut(&rt, FIRST, FIRST_TEXT, FIRST_ENDS.as_slice());
 }
 
 #[test]
 fn refused_growth_leaves_no_line_of_an_analysis(rt: HostRuntime) {
-    runs_or_is_cut(&rt, TABLES, TABLES_TEXT, TABLES_ENDS.as_slice(), NOWHERE);
+    runs_or_is_cut(&rt, TABLES, TABLES_TEXT, TABLES_ENDS.as_slice());
 }
 
 // A store that begins anew, and what is printed.
@@ -87,7 +83,7 @@ const REBASED_ENDS: [usize; 7] = [0, 0, 41, 52, 86, 97, 112];
 
 #[test]
 fn refused_growth_of_a_rebase_leaves_the_lines_before(rt: HostRuntime) {
-    runs_or_is_cut(&rt, REBASED, REBASED_TEXT, REBASED_ENDS.as_slice(), 3);
+    runs_or_is_cut(&rt, REBASED, REBASED_TEXT, REBASED_ENDS.as_slice());
 }
 
 // Both end the run: the writer is told, which was full at the first line or at the error line for want of memory.

@@ -18,6 +18,7 @@ use std::process::Abort;
 use std::sync::Wait;
 use std::thread::Threads;
 use stream_store::{Desk, Naming, Receipt, Seat, Session, Store};
+use version_shelf::Told;
 
 /// Applies a batch, and the seat learns of it.
 fn learns_of<R: Threads + Wait + Sync>(
@@ -151,4 +152,76 @@ fn over_a_new_store<R: Threads + Wait + Sync + Abort + Print>(rt: &R, alloc: Glo
 #[test]
 fn refused_receipts_are_learnt_later(rt: HostRuntime) {
     over_a_new_store(&rt, rt.alloc());
+}
+
+/// Whether the store confirms what was told or seen, and answers the version of this number as its last.
+fn confirms<J: Naming, R: Wait>(rt: &R, store: &Store<J>, seen: &Told, number: u64) -> bool
+    requires { seen.now.book ≡ J.book }
+{
+    match store.confirm(rt, seen) {
+        Ok(last) => last.number() == number,
+        Err(_) => false,
+    }
+}
+
+/// Whether, behind a batch of which the seat didn't learn, the store confirms what the seat has seen and what the receipt tells.
+fn confirms_a_batch<J: Naming, R: Threads + Wait + Sync>(
+    rt: &R,
+    alloc: Global,
+    store: &Store<J>,
+    seat: &Seat,
+) -> bool
+    requires { IsOfOpening J.book J.opening seat.now.seen }
+{
+    match apply_to(rt, store, &PassAll, batch_named(alloc, "to b")) {
+        Ok(receipt) => {
+            confirms(rt, store, seat.seen(), 1) && confirms(rt, store, &receipt.told, 1)
+        }
+        Err(_) => false,
+    }
+}
+
+/// Whether the seat enters the version of that batch, and the store confirms it.
+fn confirms_an_entry<J: Naming, R: Wait>(rt: &R, store: &Store<J>, seat: Seat) -> bool
+    requires { IsOfOpening J.book J.opening seat.seen }
+{
+    let session = seat.pin(rt, store).enter(rt, store);
+    let is_confirmed = confirms(rt, store, session.seen(), 1);
+    let is_first = session.version().number() == 1;
+    let _seat = session.release(rt, store);
+    is_confirmed && is_first
+}
+
+/// Whether the store confirms what the seat has seen at the opening, behind a batch and at its entry.
+fn confirms_all<J: Naming, R: Threads + Wait + Sync>(
+    rt: &R,
+    alloc: Global,
+    desk: Desk,
+    board: Board,
+    seat: Seat,
+) -> bool
+    requires book { desk.book ≡ J.book }
+    requires opening { desk.desk.last.opening ≡ J.opening }
+    requires seat { IsOfOpening J.book J.opening seat.seen }
+{
+    let store = Store::<J>::over(desk, board);
+    let at_opening = confirms(rt, &store, seat.seen(), 0);
+    let behind_a_batch = confirms_a_batch(rt, alloc, &store, &seat);
+    let at_entry = confirms_an_entry(rt, &store, seat);
+    let _last = store.close(rt);
+    at_opening && behind_a_batch && at_entry
+}
+
+fn confirms_over_a_new_store<R: Threads + Wait + Sync>(rt: &R, alloc: Global) -> bool {
+    match new_store(rt, alloc, 1, 16) {
+        Some(Opened { desk, board, seat }) => {
+            confirms_all::<Brand, R>(rt, alloc, desk, board, seat)
+        }
+        None => false,
+    }
+}
+
+#[test]
+fn a_store_confirms_what_its_seats_have_seen(rt: HostRuntime) {
+    assert!(rt; confirms_over_a_new_store(&rt, rt.alloc()));
 }

@@ -1,12 +1,12 @@
-use Rattle.std.proofs.Common.{◌≡◌, ◌∙◌, ap, length, replicate, subst, sym}
-use Rattle.std.specs.Prelude.{None, Ok, slice_get}
+use Rattle.std.proofs.Common.{◌≡◌, ◌∙◌, ap, length, replicate, rules, subst, sym}
+use Rattle.std.specs.Prelude.{IfErr, None, Ok, slice_get}
 use Rattle.std.proofs.lemmas.List.{length-replicate}
 use Rattle.graph_model.specs.Graph.{Graph}
 use Rattle.stream_store.specs.Seats.{held_graph, held_version}
 use Rattle.script_commands.proofs.{Asking.asked_there, Asking.graph_there, Asking.stops_reopening, Asking.version_there}
 use Rattle.script_commands.proofs.NamesApart.{AreApart}
 use Rattle.script_commands.proofs.Rebasing.{length_opened, rebase_done, shows_rebased}
-use Rattle.script_commands.specs.{Slots.held_of, States.version, States.version_in}
+use Rattle.script_commands.specs.{Servers.LacksReader, Slots.held_of, States.version, States.version_in}
 use Rattle.script_commands.proofs.server.Server.rebase.Goals as goal
 
 pub returns-clause-kept : goal.returns-clause-kept
@@ -44,4 +44,5 @@ returns-clause-obeys g c = λ s shows.
 
 pub returns-in_err-desk-clause-stops : goal.returns-in_err-desk-clause-stops
 returns-in_err-desk-clause-stops g c =
-    stops_reopening c.args.self.now c.args.slot c.in-Ok.session.now c.from_residual.result c.in-Ok.ensures.session
+    let lacks : IfErr c.from_residual.result LacksReader = search rules in
+    stops_reopening c.args.self.now c.args.slot c.in-Ok.session.now c.from_residual.result c.in-Ok.ensures.session lacks
