@@ -2,7 +2,8 @@
 from __future__ import annotations
 
 import threading
-from typing import Any, Callable, Dict, Iterable, List, NamedTuple, Optional, Sequence, Tuple, Union
+from functools import partial
+from typing import Any, Callable, Dict, Iterable, Iterator, List, NamedTuple, Optional, Sequence, Tuple, Union
 
 from . import records
 from .errors import NoKind, NoVertex, ProgramEnded, RecordLimit, StoreError
@@ -13,8 +14,10 @@ from .parting import rows_in
 from .session import Session
 from .store import Store
 
-# What a question may be by name: a session's calls.
-CALLS = tuple(it for it in vars(Session) if not it.startswith("_") and it != "close" and callable(getattr(Session, it)))
+# What a question may be by name: a session's calls that answer, those that it has from others first.
+_WRITING = ("close", "save", "to_csv")
+CALLS = tuple(dict.fromkeys(name for base in reversed(Session.__mro__) for name, it in vars(base).items()
+                            if callable(it) and not name.startswith("_") and name not in _WRITING))
 
 
 class Question(NamedTuple):
@@ -36,9 +39,10 @@ class Question(NamedTuple):
 
     def put_to(self, session: Session) -> Any:
         try:
-            if isinstance(self.what, str):
-                return getattr(session, self.what)(*self.given, **self.named)
-            return self.what(session, *self.given, **self.named)
+            what = getattr(session, self.what) if isinstance(self.what, str) else partial(self.what, session)
+            answer = what(*self.given, **self.named)
+            # (an iterator, as of all edges, asks while it is passed over, and the session won't be there then)
+            return list(answer) if isinstance(answer, Iterator) else answer
         except (NoVertex, NoKind):
             if not self.unknown:
                 raise

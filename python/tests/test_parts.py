@@ -51,6 +51,8 @@ class Few(Case):
                          "y": {"ana": 0, "cyd": 1}, "z": {"ana": 0, "ben": 1}})
         self.assertEqual(list(fleet.ask(lambda session, name, plus: session.degrees()[name].weight_out + plus, "ana", plus=100)),
                          [("x", 105), ("y", 107), ("z", 102)])
+        self.assertEqual({key: [it[1:3] for it in rows] for key, rows in fleet.ask("edges")},
+                         {"x": [("ana", "ben"), ("ben", "dan")], "y": [("ana", "cyd")], "z": [("ana", "ben")]})
         self.assertEqual(list(fleet.ask("edge", "link", "ana", "ben", keys=["z"]))[0][1].weight, 2)
         self.assertEqual({"degrees", "levels", "components", "cores", "edge", "edges", "into", "out_of"} - set(CALLS), set())
         self.assertNotIn("close", CALLS)
@@ -144,8 +146,8 @@ class Few(Case):
 
     def test_what_can_t_be_asked_or_made_is_told_at_once(self):
         fleet = self.fleet(self.file("few.csv", self.LINES))
-        for wrong, words in ((("degree",), "no call 'degree'"), (("close",), "no call 'close'"), (("_edge",), "no call '_edge'")):
-            self.assertRaisesRegex(ValueError, words, fleet.ask, *wrong)
+        for wrong in ("degree", "close", "to_csv", "_edge"):
+            self.assertRaisesRegex(ValueError, f"no call '{wrong}'", fleet.ask, wrong)
         self.assertRaises(TypeError, fleet.ask, 17)
         self.assertRaisesRegex(ValueError, "no part 'v', 'w'", fleet.ask, "degrees", keys=["x", "v", "w"])
         for options, words in (
