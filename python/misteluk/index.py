@@ -15,7 +15,7 @@ import contextlib
 from array import array
 from bisect import bisect_left
 from collections import defaultdict
-from itertools import chain, compress, count, repeat
+from itertools import chain, count, repeat
 from typing import Collection, DefaultDict, Dict, Iterator, List, NamedTuple, Optional, Sequence, Tuple, Union
 
 from . import records
@@ -144,8 +144,9 @@ class Fold:
         kinds, names = self.tables[rows.table]
         keys = [kinds[it >> KIND] << KIND | names[it >> BITS & MASK] << BITS | names[it & MASK] for it in rows.keys]
         times = list(map(int, rows.times.split(b",")))
-        is_in = [at not in refused for at in range(len(keys))] if refused else repeat(True)
-        self._put_edges(list(compress(keys, is_in)), list(compress(times, is_in)))
+        if refused:
+            keys, times = ([it for at, it in enumerate(all_) if at not in refused] for all_ in (keys, times))
+        self._put_edges(keys, times)
 
     def _put_edges(self, keys: Sequence[int], times: Sequence[int]) -> None:
         latest = self.latest
