@@ -204,6 +204,8 @@ class Calls(Case):
                          [True, False, False, False])
         self.assertEqual(list(session.edges(kind="l")), [("l", "a", "b", Edge(4, 5, 5))])
         self.assertEqual(session.out_of("b", "l"), {})
+        self.assertEqual(session.within("b", 10 ** 18, directed=False), {"b": 0, "a": 1})
+        self.assertEqual(session.within("b", 0, directed=False), {"b": 0})
 
     def test_an_empty_session(self):
         session = self.store().open()
