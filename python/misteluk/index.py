@@ -199,30 +199,30 @@ class Fold:
         """Writes down since which version no version has a candidate of the base, whose latest times are these; and gives the
         same for new ones."""
         keys = self.base.keys
+        # The greatest time of the expiries from each one on, and the first version with it.
+        greatest = [(-1, 0)]
+        for it in reversed(self.expiries):
+            greatest.append(it if it[0] >= greatest[-1][0] else greatest[-1])
+        greatest.reverse()
         of_new: Dict[int, int] = {}
-        for key, version in self._gone(times):
+        for key, version in chain(self.removed.items(), self._expired(greatest) if self.expiries else ()):
             at = place_of(keys, key)
             if at is not None:
                 gone[at] = gone[at] or version
             elif key in self.latest:
                 of_new.setdefault(key, version)
+        most, version = greatest[0]
+        for at, time in enumerate(times if self.expiries else ()):
+            if time < most and not gone[at] and keys[at] not in self.latest:
+                gone[at] = version
         return of_new
 
-    def _gone(self, times: "array[int]") -> Iterator[Tuple[int, int]]:
-        """What is gone, and since which version; what was removed once more, too."""
-        yield from self.removed.items()
-        if self.expiries:
-            # The greatest time of the expiries from each one on, and the first version with it.
-            greatest = [(-1, 0)]
-            for it in reversed(self.expiries):
-                greatest.append(it if it[0] >= greatest[-1][0] else greatest[-1])
-            greatest.reverse()
-            most, version = greatest[0]
-            yield from ((key, version) for key, time in zip(self.base.keys, times) if time < most and key not in self.latest)
-            for key, time in self.latest.items():
-                most, version = greatest[self.after.get(key, 0)]
-                if time < most:
-                    yield key, version
+    def _expired(self, greatest: Sequence[Tuple[int, int]]) -> Iterator[Tuple[int, int]]:
+        """What expired after it was told of, and in which version."""
+        for key, time in self.latest.items():
+            most, version = greatest[self.after.get(key, 0)]
+            if time < most:
+                yield key, version
 
 
 class Index:
