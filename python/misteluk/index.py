@@ -176,7 +176,8 @@ class Fold:
                     gone[at] = 0
         of_new = self._mark_gone(times, gone)
         most = MOST_VERSION if floor is None else floor
-        lost = [at for at, version in enumerate(gone) if 0 < version <= most]
+        is_lost = 0 < min(filter(None, gone), default=0) <= most
+        lost = [at for at, version in enumerate(gone) if 0 < version <= most] if is_lost else []
         new = [key for key in new if not 0 < of_new.get(key, 0) <= most] if of_new else new
         kept = without(base.keys, lost)
         places = [bisect_left(kept, key) for key in new]
