@@ -15,7 +15,7 @@ import contextlib
 from array import array
 from bisect import bisect_left
 from collections import defaultdict
-from itertools import chain, compress, count, repeat
+from itertools import chain, count, repeat
 from typing import Collection, DefaultDict, Dict, Iterator, List, NamedTuple, Optional, Sequence, Tuple, Union
 
 from . import records
@@ -147,8 +147,9 @@ class Fold:
         kinds, names = self.tables[rows.table]
         keys = [kinds[it >> KIND] << KIND | names[it >> BITS & MASK] << BITS | names[it & MASK] for it in rows.keys]
         times = list(map(int, rows.times.split(b",")))
-        is_in = [at not in refused for at in range(len(keys))] if refused else repeat(True)
-        self._put_edges(list(compress(keys, is_in)), list(compress(times, is_in)))
+        if refused:
+            keys, times = ([it for at, it in enumerate(all_) if at not in refused] for all_ in (keys, times))
+        self._put_edges(keys, times)
 
     def _put_edges(self, keys: Sequence[int], times: Sequence[int]) -> None:
         latest = self.latest
@@ -178,7 +179,8 @@ class Fold:
                     gone[at] = 0
         of_new = self._mark_gone(times, gone)
         most = MOST_VERSION if floor is None else floor
-        lost = [at for at, version in enumerate(gone) if 0 < version <= most]
+        is_lost = 0 < min(filter(None, gone), default=0) <= most
+        lost = [at for at, version in enumerate(gone) if 0 < version <= most] if is_lost else []
         new = [key for key in new if not 0 < of_new.get(key, 0) <= most] if of_new else new
         kept = without(base.keys, lost)
         places = [bisect_left(kept, key) for key in new]
@@ -201,30 +203,30 @@ class Fold:
         """Writes down since which version no version has a candidate of the base, whose latest times are these; and gives the
         same for new ones."""
         keys = self.base.keys
+        # The greatest time of the expiries from each one on, and the first version with it.
+        greatest = [(-1, 0)]
+        for it in reversed(self.expiries):
+            greatest.append(it if it[0] >= greatest[-1][0] else greatest[-1])
+        greatest.reverse()
         of_new: Dict[int, int] = {}
-        for key, version in self._gone(times):
+        for key, version in chain(self.removed.items(), self._expired(greatest) if self.expiries else ()):
             at = place_of(keys, key)
             if at is not None:
                 gone[at] = gone[at] or version
             elif key in self.latest:
                 of_new.setdefault(key, version)
+        most, version = greatest[0]
+        for at, time in enumerate(times if self.expiries else ()):
+            if time < most and not gone[at] and keys[at] not in self.latest:
+                gone[at] = version
         return of_new
 
-    def _gone(self, times: "array[int]") -> Iterator[Tuple[int, int]]:
-        """What is gone, and since which version; what was removed once more, too."""
-        yield from self.removed.items()
-        if self.expiries:
-            # The greatest time of the expiries from each one on, and the first version with it.
-            greatest = [(-1, 0)]
-            for it in reversed(self.expiries):
-                greatest.append(it if it[0] >= greatest[-1][0] else greatest[-1])
-            greatest.reverse()
-            most, version = greatest[0]
-            yield from ((key, version) for key, time in zip(self.base.keys, times) if time < most and key not in self.latest)
-            for key, time in self.latest.items():
-                most, version = greatest[self.after.get(key, 0)]
-                if time < most:
-                    yield key, version
+    def _expired(self, greatest: Sequence[Tuple[int, int]]) -> Iterator[Tuple[int, int]]:
+        """What expired after it was told of, and in which version."""
+        for key, time in self.latest.items():
+            most, version = greatest[self.after.get(key, 0)]
+            if time < most:
+                yield key, version
 
 
 class Index:

@@ -112,7 +112,9 @@ class Walking(Tables):
         last = [self.store._terms.names.to_program(vertex, keep=False)]
         reached = set(last)
         yield last[0], 0
-        for hop in range(1, hops + 1):
+        hop = 0
+        while last and hop < hops:
+            hop += 1
             asked = [it for name in last for it in (*view.out_of(name), *view.into(name)) if not reached.issuperset(it[1:])]
             self.store._make_room(len(asked))
             found = dict.fromkeys(name for it, _ in self._found(asked, view) for name in it[1:])

@@ -10,7 +10,7 @@ from interrupting import CALLS, Scene, at_line
 from support import Case
 
 import misteluk
-from misteluk import candidates, index
+from misteluk import candidates, feeds, index, loading, records
 from misteluk.candidates import Names
 
 
@@ -210,6 +210,10 @@ class Indexes(Case):
         found.tell(b"r,k,a,b\nr,k,a,c\nx,9\ni,k,a,d,1,1\n", 4)
         found.landed(2, {0, 2}, None)
         self.assertEqual(list(found.candidates(None)), [("k", "a", "b"), ("k", "a", "d")])
+        rows = misteluk.survey([("x", "y", 1, 7, "k"), ("x", "z", 1, 8, "k")], by="set").parts[0].rows
+        found.tell(b"", 2, rows)
+        found.landed(3, {0}, None)
+        self.assertEqual(list(found.candidates(None))[2:], [("k", "x", "z")])
 
     def test_two_feeds_with_numbers_of_their_own(self):
         """Each load counts its names anew; and what it tells is one with what others told."""
@@ -217,6 +221,21 @@ class Indexes(Case):
         store.load([("a", "b", 1, 1, "k"), ("b", "c", 1, 1, "l")], by="set", batch=1)
         store.load([("c", "b", 1, 1, "l"), ("b", "c", 1, 1, "l"), ("a", "z", 1, 1, "m")], by="set")
         self.assertEqual(told(store), [("l", "z", "a"), ("l", "b", "c"), ("l", "c", "b"), ("k", "a", "b"), ("m", "a", "z")])
+
+    def test_a_feed_that_is_sent_while_it_is_counted(self):
+        """Questions between rows find what was sent, by numbers of a table that grows still."""
+        store, seen = self.store(blocks=records.MOST_BLOCKS), []
+
+        def rows():
+            for it in range(400):
+                yield f"s{it % 40}", f"t{it}", 1, it, f"k{it // 150}"
+                seen.append(len(store._candidates()) if it % 90 == 0 else 0)
+        ahead = loading.Ahead(lambda: store)
+        with mock.patch.object(feeds, "ROWS_AT_ONCE", 20):
+            found = misteluk.survey(rows(), by="set", batch=10, ahead=ahead)
+        loading.load(store, found, by="set", ahead=ahead)
+        self.assertTrue(ahead.sent and any(0 < it < 200 for it in seen), (ahead.sent, seen))
+        self.assertEqual(sorted(told(store)), sorted((f"k{it // 150}", f"s{it % 40}", f"t{it}") for it in range(400)))
 
     def test_after_an_interrupt(self):
         """At each few lines of calls that change the store; the last version and that of the session have candidates alone."""

@@ -8,11 +8,11 @@ import warnings
 from unittest import mock
 
 from graphs import NAMES, Play
-from interrupting import at_line
+from interrupting import Scene, at_line, made_at_once
 from support import Case, optional
 
 import misteluk
-from misteluk import Edge, Neighbor, Session, Store, records, walking
+from misteluk import Edge, Neighbor, Session, Store, calls, records, walking
 
 networkx = optional("networkx")
 pandas = optional("pandas")
@@ -204,6 +204,8 @@ class Calls(Case):
                          [True, False, False, False])
         self.assertEqual(list(session.edges(kind="l")), [("l", "a", "b", Edge(4, 5, 5))])
         self.assertEqual(session.out_of("b", "l"), {})
+        self.assertEqual(session.within("b", 10 ** 18, directed=False), {"b": 0, "a": 1})
+        self.assertEqual(session.within("b", 0, directed=False), {"b": 0})
 
     def test_an_empty_session(self):
         session = self.store().open()
@@ -302,23 +304,42 @@ class Calls(Case):
         self.assertEqual(frame.values.tolist(), [["k", "a", "b", 7, 1, 5]])
         self.assertEqual(len(self.store("insert k a b 1 1").open().edges_frame(since=2)), 0)
 
+    def wrong_lines(self, session, call, step=3):
+        """At which of every so many lines an interrupt of the call makes it, or all edges, go wrong afterwards, three of them at
+        most; and how many lines it runs."""
+        right, edges, wrong, at = call(), list(session.edges()), [], 1
+        while len(wrong) < 3:
+            try:
+                if not at_line(at, call):
+                    break
+                if (call(), list(session.edges())) != (right, edges):
+                    wrong.append(at)
+            except misteluk.StoreError:
+                wrong.append(at)
+            at += step
+        return wrong, at
+
     def test_each_line_interrupted(self):
         """A call that only asks, interrupted at each few lines: the same call then answers, and so do others."""
         store = self.store("insert k a b 5 1", "insert k b c 7 1", "insert l a c 1 2")
         session = store.open()
-        edges = list(session.edges())
-        calls = {
+        calls_ = {
             "neighbors": lambda: session.neighbors("b"), "out_of": lambda: session.out_of("a"), "into": lambda: session.into("c"),
             "weights_in": session.weights_in, "path": lambda: session.path("a", "c", "k"), "edges": lambda: list(session.edges()),
             "within": lambda: session.within("b", 2, directed=False), "in": lambda: "a" in session, "len": lambda: len(session)}
-        for name, call in calls.items():
-            right, at = call(), 1
-            while at_line(at, call):
-                self.assertEqual((call(), list(session.edges())), (right, edges), (name, at))
-                at += 3
-            self.assertGreater(at, 5, name)
+        for name, call in calls_.items():
+            with self.subTest(name):
+                wrong, count = self.wrong_lines(session, call)
+                self.assertEqual(wrong, [])
+                self.assertGreater(count, 5)
         self.assertEqual(session.path("a", "c", "k"), ["a", "b", "c"])
         self.assertEqual(store.stat().edges, 3)
+
+    def test_each_line_interrupted_finds_a_fault(self):
+        scene = Scene()
+        self.addCleanup(scene.end)
+        with mock.patch.object(calls.Calls, "make", made_at_once):
+            self.assertGreater(len(self.wrong_lines(scene.session, lambda: scene.session.neighbors("b"), 17)[0]), 2)
 
 
 if __name__ == "__main__":
