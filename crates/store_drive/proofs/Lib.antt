@@ -1,3 +1,5 @@
 mod Agreeing
 mod Empty
 mod Places
+mod Pushed
+mod Right

@@ -1,2 +1,4 @@
+pub mod Counts
+pub mod Feeds
 pub mod Load
 pub mod Reports

@@ -2,6 +2,7 @@
 use Rattle.std.specs.Prelude.{◌≡◌, ℕ, ◌*◌, ◌≤◌, List, codes}
 use Rattle.stream_store.specs.declared.receipts.ApplyError.{ApplyError}
 use Rattle.stream_store.specs.declared.receipts.ApplyError.TheVariants as errors
+use Rattle.store_drive.specs.declared.reports.DriveCounts.{DriveCounts}
 use Rattle.store_drive.specs.declared.reports.DriveReport.{DriveReport}
 use Rattle.store_drive.specs.declared.reports.DriveWord.{DriveWord}
 use Rattle.store_drive.specs.declared.reports.DriveWord.TheVariants.{Start, Memory, BatchLimit, NamesFull, KindsFull, PoolEmpty}
@@ -35,3 +36,8 @@ pub record IsReport (readers : ℕ) (r : DriveReport) : Type 0 where
   pub batches_are : r.batches ≡ 64
   pub checked_are : r.checked ≡ 80 * readers
   pub none_wrong : r.wrong ≡ 0
+
+-- of the answers that a report counts, no more than all are of versions between the first and the last
+pub record AreCounts (readers : ℕ) (c : DriveCounts) : Type 0 where
+  pub report_is : IsReport readers c.report
+  pub between_few : c.between ≤ c.report.checked

@@ -7,10 +7,11 @@ mod contents;
 mod driving;
 mod feeder;
 mod load;
+mod pace;
 mod readers;
 mod reports;
 mod sames;
 mod tally;
 
-pub use driving::drive;
-pub use reports::{DriveFault, DriveReport, DriveWord};
+pub use driving::{drive, drive_counted};
+pub use reports::{DriveCounts, DriveFault, DriveReport, DriveWord};

@@ -2,14 +2,17 @@
 
 ghost use Rattle.std.specs.Prelude.{◌≡◌, ◌≢◌, ◌+◌, ◌≤◌, length, IfOk, OnOk, Err};
 ghost use Rattle.std.specs.Coded.{codes};
+ghost use Rattle.graph_model.specs.Answer.{IsAnswer};
 ghost use Rattle.graph_model.specs.Coded.{graph_code};
 ghost use Rattle.graph_model.specs.Graph.{graph_of, IsContent};
 ghost use Rattle.graph_model.specs.Step.{empty_graph};
 ghost use Rattle.stream_store.specs.Seats.{held_graph, held_version};
 ghost use Rattle.stream_store.specs.Stores.{IsOfOpening};
+ghost use Rattle.store_drive.specs.Counts.{between_of};
 
 use crate::contents::content_of;
 use crate::load::requests;
+use crate::pace::Pace;
 use crate::reports::DriveWord;
 use crate::sames::Answer;
 use crate::tally::Tally;
@@ -46,6 +49,29 @@ fn with_memory(answer: Answer) -> Result<Answer, AllocError>
     }
 }
 
+/// Counts what was told, and that it is wrong where it isn't the answer over the content. Of what was told nothing is known.
+fn check_told(
+    alloc: Global,
+    told: Answer,
+    content: &Content,
+    request: &Request,
+    tally: &mut Tally,
+) -> Result<(), DriveWord>
+    requires content { IsContent content.now }
+    requires room { tally.old.checked ≤ 1000 }
+    ensures memory { OnOk result (told ≢ Err AskError.OutOfMemory) }
+    ensures checked { OnOk result (tally.new.checked ≡ tally.old.checked + 1) }
+    ensures right { OnOk result (IsAnswer request.now (graph_of content.now) told → tally.new.wrong ≡ tally.old.wrong) }
+    ensures wrong { OnOk result ((IsAnswer request.now (graph_of content.now) told → ⊥)
+        → tally.new.wrong ≡ tally.old.wrong + 1) }
+    ensures between { OnOk result (tally.new.between ≡ tally.old.between) }
+{
+    let told = with_memory(told)?;
+    let wanted = with_memory(plain_reply(alloc, content, request))?;
+    tally.count(&told, &wanted);
+    Ok(())
+}
+
 /// Counts whether the session answers what the plain function does over the content of its version: it does.
 fn check(
     alloc: Global,
@@ -59,14 +85,12 @@ fn check(
     requires room { tally.old.checked ≤ 1000 }
     ensures checked { OnOk result (tally.new.checked ≡ tally.old.checked + 1) }
     ensures wrong { OnOk result (tally.new.wrong ≡ tally.old.wrong) }
+    ensures between { OnOk result (tally.new.between ≡ tally.old.between) }
 {
-    let told = with_memory(session.ask(request))?;
-    let wanted = with_memory(plain_reply(alloc, content, request))?;
-    tally.count(&told, &wanted);
-    Ok(())
+    check_told(alloc, session.ask(request), content, request, tally)
 }
 
-/// Does so for each of the requests.
+/// Does so for each of the requests, and counts whether the session's version lies between the first and the last.
 fn check_each(
     alloc: Global,
     session: &Session,
@@ -77,11 +101,14 @@ fn check_each(
     requires room { tally.old.checked + length requests.now ≤ 1000 }
     ensures checked { OnOk result (tally.new.checked ≡ tally.old.checked + length requests.now) }
     ensures wrong { OnOk result (tally.new.wrong ≡ tally.old.wrong) }
+    ensures between { OnOk result (tally.new.between ≡ tally.old.between
+        + between_of (length (held_version session.now).batches) (length requests.now)) }
 {
     let content = content_of(alloc, session.version())?;
     for request in requests {
         check(alloc, session, &content, request, tally)?;
     }
+    tally.place(session.version().number(), requests.len() as u32);
     Ok(())
 }
 
@@ -106,25 +133,45 @@ fn round<J: Naming, R: Wait>(
     (session.release(rt, store), checked)
 }
 
-/// What a reader finds in all its rounds.
-pub(crate) fn read<J: Naming, R: Wait>(
+/// What a reader finds in all its rounds, each of which begins once the batches of the rounds before were posted.
+fn read_each<J: Naming, R: Wait>(
     rt: &R,
     alloc: Global,
     store: &Store<J>,
+    pace: &Pace,
+    place: usize,
     mut seat: Seat,
 ) -> Result<Reading<J>, DriveWord>
     requires { IsOfOpening J.book empty_graph seat.seen }
 {
     let requests = requests(alloc)?;
     let mut tally = Tally::none();
-    for _round in 0..ROUNDS {
+    for rounds in 0..ROUNDS {
+        pace.await_batches(rt, rounds);
         let (next, checked) = round(rt, alloc, store, seat, requests.as_slice(), &mut tally);
         seat = next;
         checked?;
+        pace.note_rounds(rt, place, rounds + 1);
     }
     Ok(Reading {
         seat,
         tally,
         of: PhantomData,
     })
+}
+
+/// The same, with word to the feeder when the reader begins and when it ends.
+pub(crate) fn read<J: Naming, R: Wait>(
+    rt: &R,
+    alloc: Global,
+    store: &Store<J>,
+    pace: &Pace,
+    seat: Seat,
+) -> Result<Reading<J>, DriveWord>
+    requires { IsOfOpening J.book empty_graph seat.seen }
+{
+    let place = pace.begin(rt);
+    let reading = read_each(rt, alloc, store, pace, place, seat);
+    pace.end(rt, place);
+    reading
 }

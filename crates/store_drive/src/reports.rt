@@ -23,6 +23,16 @@ pub struct DriveReport {
     pub last: u64,
 }
 
+/// What a drive that came to its end tells, and how much of the feed it saw.
+#[derive(Clone, Copy, Debug, PartialEq, Eq)]
+pub struct DriveCounts {
+    pub report: DriveReport,
+    /// How many of the compared answers were of versions behind the first batch and before the last.
+    pub between: u32,
+    /// How many blocks the collections freed.
+    pub recycled: u32,
+}
+
 /// Why a drive broke off: the store was not opened, a growth was refused, or a batch was refused for this reason.
 #[derive(Clone, Copy, Debug, PartialEq, Eq, Error)]
 pub enum DriveWord {

@@ -2,6 +2,7 @@
 //! `examples/`.
 
 mod arguments;
+mod drives;
 mod faults;
 mod feeds;
 mod growths;
