@@ -16,6 +16,8 @@ use Rattle.stinger_server.specs.declared.script.ServeFault.TheVariants.{Read, Me
 use Rattle.stinger_server.specs.declared.script.Summary.{Summary}
 use Rattle.script_commands.specs.declared.server.Response.{Response}
 use Rattle.script_commands.specs.declared.server.Response.TheVariants.{Lines, Refused}
+use Rattle.script_commands.specs.declared.server.Stop.{Stop}
+use Rattle.script_commands.specs.declared.server.Stop.TheVariants as stopped
 use Rattle.script_lines.specs.declared.words.Word.TheVariants.{Feed}
 use Rattle.script_lines.specs.declared.words.Word.TheVariants as told
 use Rattle.script_lines.specs.Lines.{error_line}
@@ -52,6 +54,12 @@ IsStartup setup before (Err Read) after = ⊥
 IsStartup setup before (Err Memory) after = Appends before after (error_line 1 (Feed word.Memory))
 IsStartup setup before (Err Start) after = after ≡ before
 IsStartup setup before (Err Write) after = AppendsPart before after (error_line 1 (Feed word.Memory))
+
+-- what is told of a server that did not begin: that no store was opened; or that memory was wanting behind the opening, or that
+-- a write failed where this is told
+abbrev pub TellsStop : {T : Type 0} → Stop → Result T ServeFault → Type 0
+TellsStop (stopped.Start error) result = result ≡ Err Start
+TellsStop stopped.Memory result = (result ≡ Err Memory) ⊎ (result ≡ Err Write)
 
 abbrev pub refusals : Response → ℕ
 refusals Lines = 0

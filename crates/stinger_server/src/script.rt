@@ -10,7 +10,7 @@ ghost use Rattle.script_commands.specs.States.{Setup, beginning, printed, set_up
 ghost use Rattle.script_commands.specs.Servers.{IsServer, ShowsServer, pending_of, result_of};
 ghost use Rattle.stinger_server.specs.Texts.{IsText};
 ghost use Rattle.stinger_server.specs.Runs.{CountsRecord, ExecutesRecord, HasCause, IsFresh, IsReady, IsStartup, IsTurn};
-ghost use Rattle.stinger_server.specs.Runs.{ShowsRun, is_start, is_write, records_done};
+ghost use Rattle.stinger_server.specs.Runs.{ShowsRun, TellsStop, is_start, is_write, records_done};
 ghost use Rattle.stinger_server.specs.Writes.{AppendsPart, AppendsSome, held};
 
 use crate::output;
@@ -132,8 +132,28 @@ fn start<A: AllocGlobal + Wait, W: Write>(
     ensures unflushed { is_start result ≡ true → sink.new.flushed ≡ sink.old.flushed }
     ensures starts { IsStartup (set_up config) (held W.contents sink.old) result (held W.contents sink.new) }
 {
-    match Server::begin(rt, config) {
-        Ok(server) => Ok(Run::over(rt.alloc(), server)),
+    begun(rt.alloc(), Server::begin(rt, config), sink)
+}
+
+/// The run of a server that has begun; or the end of one that hasn't, with an error line where memory was wanting behind the
+/// opening.
+fn begun<W: Write>(
+    alloc: Global,
+    server: Result<Server, Stop>,
+    sink: &mut Sink<'_, W>,
+) -> Result<Run, ServeFault>
+    requires server { IfOk server IsServer }
+    requires working { sink.old.failed ≡ false }
+    ensures same_writer { sink.new.writer.ghost_name ≡ sink.old.writer.ghost_name }
+    ensures failed { sink.new.failed ≡ is_write result }
+    ensures flushed { OnErr result (is_start result ≡ false → sink.new.failed ≡ false → sink.new.flushed ≡ true) }
+    ensures unflushed { is_start result ≡ true → sink.new.flushed ≡ sink.old.flushed }
+    ensures starts { (setup : Setup) → IfOk server (λ server. ShowsServer server (beginning setup).state)
+        → IsStartup setup (held W.contents sink.old) result (held W.contents sink.new) }
+    ensures told { IfErr server (λ stop. TellsStop stop result) }
+{
+    match server {
+        Ok(server) => Ok(Run::over(alloc, server)),
         Err(Stop::Start(_)) => Err(ServeFault::Start),
         Err(Stop::Memory) => {
             output::last_line(sink, 1, Word::Feed(FeedWord::Memory))?;
