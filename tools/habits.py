@@ -6,6 +6,7 @@
 - A sentence of README.md, CONTRIBUTING.md and docs/ has at most 30 words. A span of code is one word, a link's target none.
 - A link of a page leads to a file of the repository, and to a heading of it where it names one.
 - Each crate of crates.txt is named in docs/ARCHITECTURE.md, and stands on crates that crates.txt lists or the kit has.
+- docs/LIBRARY.md shows each program that stands on `misteluk`: its row of crates.txt, and each of its files as it is.
 - A wrong body names a file of its crate, and has pairs of an old line, which stands in that file once, and a new one.
 - A commit's subject has at most 72 characters.
 
@@ -15,6 +16,7 @@ import pathlib
 import re
 import subprocess
 import sys
+import textwrap
 
 TOP = pathlib.Path(__file__).resolve().parent.parent
 WIDTH = 130
@@ -83,9 +85,13 @@ def dead_links(page):
             yield f"{page.relative_to(TOP)}: no heading for {target}"
 
 
+def rows():
+    lines = (line.partition("#")[0] for line in (TOP / "crates.txt").read_text(encoding="utf-8").splitlines())
+    return [line for line in lines if line.strip()]
+
+
 def crates():
-    rows = (line.partition("#")[0] for line in (TOP / "crates.txt").read_text().splitlines())
-    return [row.partition(":")[0].split()[0] for row in rows if row.strip()]
+    return [row.partition(":")[0].split()[0] for row in rows()]
 
 
 def unnamed_crates():
@@ -97,6 +103,25 @@ def unnamed_crates():
     for folder in sorted((TOP / "crates").iterdir()):
         if folder.name not in listed and any(folder.glob("src/*.rt")):
             yield f"crates.txt doesn't list {folder.name}"
+
+
+def programs():
+    """Returns each program over the library that others learn from: its row of crates.txt, and its files."""
+    found = [row for row in rows() if "misteluk" in row.partition(":")[2].split()]
+    return {row: [TOP / it for it in git("ls-files", f"crates/{row.partition(':')[0].split()[0]}")] for row in found}
+
+
+def unshown_programs():
+    page = (TOP / "docs/LIBRARY.md").read_text(encoding="utf-8")
+    if not programs():
+        yield "crates.txt has no program over misteluk"
+    for row, paths in programs().items():
+        if f"\n    {row}\n" not in page:
+            yield f"docs/LIBRARY.md doesn't show the row {row}"
+        for path in paths:
+            shown = textwrap.indent(path.read_text(encoding="utf-8"), "    ")
+            if f"\n\n{shown}\n" not in page:
+                yield f"docs/LIBRARY.md doesn't show {path.relative_to(TOP)} as it is"
 
 
 def lost_edits(path):
@@ -135,6 +160,7 @@ def main():
         "length of sentences": [it for page in told for it in long_sentences(page)],
         "links": [it for page in pages for it in dead_links(page)],
         "crates": list(unnamed_crates()),
+        "programs over the library": list(unshown_programs()),
         "wrong bodies": [it for path in edits for it in lost_edits(path)],
         "subjects": list(long_subjects()),
     }

@@ -1,0 +1,18 @@
+//! The store as a library: one crate to name.
+#![tactic(auto)]
+
+pub use batch_apply::{Gate, PassAll};
+pub use edge_block::EdgeRef;
+pub use graph_model::{
+    AskError, Batch, Content, Degree, Edge, Filter, KindId, List, Name, NamedFilter, NamedOp,
+    Outcome, PinCopy, PushError, Reply, Request, VertexId,
+};
+pub use graph_version::Version;
+pub use seat_board::{Board, Pin, SeatNo};
+pub use stream_store::{
+    ApplyError, BadConfig, Collected, Config, Desk, JournalEntry, Naming, OpenError, PinnedSeat,
+    Receipt, Seat, Session, Stat, Store, open_parts, open_parts_from,
+};
+pub use version_answers::NumberedReply;
+pub use version_shelf::Told;
+pub use vertex_names::NameBook;
