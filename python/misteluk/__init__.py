@@ -18,6 +18,7 @@ from .errors import (AlreadyOpen, BadCommand, BadFields, BadName, BadRows, BadSl
                      ProgramNotFound, RecordLimit, Refused, SessionClosed, StoreError, Uncommitted)
 from .feeds import Columns, Feed, matrix_market, snap
 from .finding import find_program
+from .following import Followed, Following, follow
 from .lint import lint
 from .loading import Loaded, Survey, load, load_in_steps, survey
 from .objects import from_columns, from_networkx, from_pandas, from_rows
@@ -28,7 +29,8 @@ from .store import Store
 # What there is, in the order in which a newcomer meets it.
 __all__ = [
     "Store", "Session",
-    "load", "survey", "load_in_steps", "Loaded", "Survey", "Columns", "Feed", "open_feed", "delimited", "snap", "matrix_market",
+    "load", "survey", "load_in_steps", "Loaded", "Survey", "follow", "Following", "Followed",
+    "Columns", "Feed", "open_feed", "delimited", "snap", "matrix_market",
     "from_networkx", "from_pandas", "from_columns", "from_rows",
     "Answer", "Collected", "Commit", "Degree", "Edge", "Neighbor", "Rebased", "Stat", "lint", "find_program",
     "StoreError", "Refused", "Place", "AlreadyOpen", "BadCommand", "BadFields", "BadName", "BadRows", "BadSlot", "BadTime",

@@ -1,4 +1,4 @@
-"""python -m misteluk load | lint | picture"""
+"""python -m misteluk load | follow | lint | picture"""
 from __future__ import annotations
 
 import argparse
@@ -9,7 +9,7 @@ import sys
 from contextlib import ExitStack
 from typing import Any, Dict, List, Optional
 
-from . import pictures, records
+from . import pictures, records, telling
 from .answers import BY_COLUMN
 from .errors import StoreError
 from .feeds import STANDARD_INPUT, Column, Columns
@@ -17,6 +17,7 @@ from .lint import lint
 from .loading import Ahead, Survey, check, load, load_in_steps, survey
 from .names import shown
 from .notations import DECIMALS, TIMES
+from .questions import Question, all_lines, question
 from .session import Session
 from .store import Store
 
@@ -26,7 +27,18 @@ def column(text: str) -> Column:
     return int(text) if text.isdigit() else text
 
 
-def add_feed_options(parser: argparse.ArgumentParser) -> None:
+def asked(text: str) -> Question:
+    """A question, whose fault argparse tells."""
+    try:
+        return question(text)
+    except ValueError as fault:
+        raise argparse.ArgumentTypeError(str(fault)) from None
+
+
+BLOCKS = "as many as are needed, and no fewer than 16,384; where a file is loaded that has two full batches, 65,536"
+
+
+def add_feed_options(parser: argparse.ArgumentParser, blocks: str = BLOCKS) -> None:
     parser.add_argument("file", help="a delimited file, an edge list (SNAP), or a Matrix Market file; .gz is unpacked; - is "
                         "standard input")
     way = parser.add_mutually_exclusive_group(required=True)
@@ -50,8 +62,7 @@ def add_feed_options(parser: argparse.ArgumentParser) -> None:
                       "space and so on, which a script has else as an id")
     feed.add_argument("--skip-bad", action="store_true", help="pass over rows that can't be taken, and count them")
     store = parser.add_argument_group("the store")
-    store.add_argument("--blocks", type=int, help="else as many as are needed, and no fewer than 16,384; where a file "
-                       "is loaded that has two full batches, 65,536")
+    store.add_argument("--blocks", type=int, help=f"else {blocks}")
     store.add_argument("--batch", type=int, default=records.MOST_OPERATIONS, metavar="N", help="rows a batch (4,096 at most)")
     store.add_argument("--program", help="the program to run; else MISTELUK_PROGRAM, this repository's, or stinger on the path")
     store.add_argument("--timeout", type=float, default=60.0, metavar="SECONDS", help="how long the program may be silent")
@@ -61,6 +72,28 @@ def add_window(parser: argparse.ArgumentParser) -> None:
     parser.add_argument("--of-kind", metavar="KIND", help="answer over edges of one kind; else of any")
     parser.add_argument("--since", default="0", metavar="TIME", help="answer over edges with a recent time from this on")
     parser.add_argument("--until", default=str(records.MOST_TIME), metavar="TIME", help="and up to this; to the end of a day")
+
+
+def add_table_options(group: Any) -> None:
+    group.add_argument("--top", type=int, default=10, metavar="N", help="how many rows of a table are printed (10)")
+    group.add_argument("--by", choices=tuple(BY_COLUMN), default="out", dest="column",
+                       help="by which column the greatest degrees are (out)")
+
+
+def add_follow(follow: argparse.ArgumentParser) -> None:
+    add_feed_options(follow, blocks=f"{records.MOST_BLOCKS:,}")
+    live = follow.add_argument_group("what goes in and out, and when")
+    live.add_argument("--every", default="1s", metavar="TIME", help="commit when a row has waited so long, as 500ms, 1s or 5m, "
+                      "and when a batch is full (1s)")
+    live.add_argument("--keep", metavar="TIME", help="let edges go that weren't touched for so long by the feed's own times: as "
+                      "12h or 14d where they are dates, else a whole number")
+    live.add_argument("--until-end", action="store_true", help="end at the file's end, and don't wait for what it grows by")
+    told = follow.add_argument_group("what is told behind each commit")
+    told.add_argument("--ask", action="append", default=[], type=asked, metavar="QUESTION", help="degrees, components or cores, "
+                      "with a kind behind them or none; 'levels NAME', 'into NAME', 'out_of NAME' or 'edge KIND SOURCE TARGET'")
+    told.add_argument("--within", metavar="TIME", help="answer over edges that were touched within so long of the newest time")
+    told.add_argument("--json", action="store_true", help="tell each commit and each answer as a line of JSON")
+    add_table_options(told)
 
 
 def make_parser() -> argparse.ArgumentParser:
@@ -73,11 +106,10 @@ def make_parser() -> argparse.ArgumentParser:
     ask.add_argument("--script", metavar="OUT", help="write the records as a script for `stinger run`, and send nothing")
     ask.add_argument("--ask", action="append", default=[], choices=("degrees", "components", "cores"), help="print a table")
     ask.add_argument("--levels", action="append", default=[], metavar="NAME", help="print the levels from a source")
-    ask.add_argument("--top", type=int, default=10, metavar="N", help="how many rows of a table are printed (10)")
-    ask.add_argument("--by", choices=tuple(BY_COLUMN), default="out", dest="column",
-                     help="by which column the greatest degrees are (out)")
+    add_table_options(ask)
     ask.add_argument("--interactive", action="store_true", help="then a Python prompt with `store` and `session`")
     add_window(load)
+    add_follow(commands.add_parser("follow", help="load a file that grows, or standard input, as it comes; Ctrl-C ends it"))
     check = commands.add_parser("lint", help="tell each refused record of a script, with its line, field and reason")
     check.add_argument("script")
     check.add_argument("--seats", type=int, default=records.USUAL_SEATS)
@@ -95,11 +127,16 @@ def make_parser() -> argparse.ArgumentParser:
     return parser
 
 
-def read(words: argparse.Namespace, ahead: Optional[Ahead] = None) -> Survey:
+def form_of_feed(words: argparse.Namespace) -> Dict[str, Any]:
+    """What is said of the feed."""
     columns = Columns(words.source, words.target, words.kind_column, words.weight, words.time, words.kind)
-    found = survey(words.file, by=words.by, batch=words.batch, weight_scale=words.weight_scale, times=words.times,
-                   names=words.names, format=words.format, columns=columns, delimiter=words.delimiter, header=words.header,
-                   third=words.third, ahead=ahead, encoding=words.encoding, decimal=words.decimal, dates=words.dates)
+    return {"by": words.by, "weight_scale": words.weight_scale, "times": words.times, "names": words.names,
+            "format": words.format, "columns": columns, "delimiter": words.delimiter, "header": words.header,
+            "third": words.third, "encoding": words.encoding, "decimal": words.decimal, "dates": words.dates}
+
+
+def read(words: argparse.Namespace, ahead: Optional[Ahead] = None) -> Survey:
+    found = survey(words.file, batch=words.batch, ahead=ahead, **form_of_feed(words))
     check(found, skip_bad=words.skip_bad)
     return found
 
@@ -153,30 +190,15 @@ def tell(words: argparse.Namespace, found: Survey) -> None:
 
 def answer(words: argparse.Namespace, session: Session) -> None:
     """Prints the tables that are asked for."""
-    for what in words.ask:
-        if what == "components":
-            show_components(session.components(**window(words)), words.top)
-            continue
-        table: Any = getattr(session, what)(**window(words))
-        how = f"greatest {max(table.values(), default=0)}" if what == "cores" else f"greatest by {words.column}"
-        print(f"{what}: {len(table)} names, {how}")
-        for name, value in table.most(words.top, None if what == "cores" else words.column):
-            told = value if what == "cores" else f"out {value.out} in {value.into} weight {value.weight_out}"
-            print(f"  {shown(name)} {told}")
-    for source in words.levels:
-        levels = session.levels(source, **window(words))
-        print(f"levels from {shown(source)}: {len(levels)} reached, the farthest at {max(levels.values())}")
-        for level in range(min(max(levels.values()) + 1, words.top)):
-            print(f"  {level}: {sum(it == level for it in levels.values())}")
+    questions = [Question(it, it) for it in words.ask]
+    questions += [Question(f"levels from {shown(it)}", "levels", (it,)) for it in words.levels]
+    for it in questions:
+        print(*all_lines(it, session, words.top, words.column, window(words)), sep="\n")
 
 
-def show_components(labels: Dict[str, str], most: int) -> None:
-    sizes: Dict[str, int] = {}
-    for label in labels.values():
-        sizes[label] = sizes.get(label, 0) + 1
-    print(f"components: {len(sizes)} of {len(labels)} names")
-    for label, size in sorted(sizes.items(), key=lambda it: -it[1])[:most]:
-        print(f"  {shown(label)} {size}")
+def run_follow(words: argparse.Namespace) -> int:
+    with Store(blocks=words.blocks or records.MOST_BLOCKS, program=words.program, timeout=words.timeout) as store:
+        return telling.follow(words, store, form_of_feed(words))
 
 
 def run_lint(words: argparse.Namespace) -> int:
@@ -246,7 +268,7 @@ def main(words: Optional[List[str]] = None) -> int:
         if isinstance(it, io.TextIOWrapper):  # (a name that the terminal has no signs for)
             it.reconfigure(errors="backslashreplace")
     try:
-        return {"load": run_load, "lint": run_lint, "picture": run_picture}[parsed.command](parsed)
+        return {"load": run_load, "follow": run_follow, "lint": run_lint, "picture": run_picture}[parsed.command](parsed)
     except (StoreError, OSError, ValueError) as fault:
         print(f"misteluk: {fault}", file=sys.stderr)
         return 1

@@ -169,11 +169,12 @@ class OperationsRefused(StoreError):
 
 
 class BadRows(StoreError):
-    """Rows of a feed are no operations; nothing of the feed is loaded. `count` says how many they are, `faults` has the first
-    faults and the first of each rule, and `fault_counts` how many rows break each rule, by its word and field."""
+    """Rows of a feed are no operations; nothing of the feed is loaded, or what `stands` says of one that is followed. `count`
+    says how many they are, `faults` has the first faults and the first of each rule, and `fault_counts` how many rows break each
+    rule, by its word and field."""
 
     def __init__(self, feed: str, count: int, rows: int, faults: Sequence[Refused],
-                 fault_counts: Optional[Dict[str, int]] = None) -> None:
+                 fault_counts: Optional[Dict[str, int]] = None, stands: str = "none is loaded") -> None:
         self.feed, self.count, self.rows, self.faults = feed, count, rows, list(faults)
         self.fault_counts = dict(fault_counts or {})
         lines = [it.told for it in self.faults]
@@ -183,7 +184,7 @@ class BadRows(StoreError):
             lines.append("In all " + ", ".join(f"{times} {rule}" for rule, times in self.fault_counts.items()))
         lines += dict.fromkeys(it.advice for it in self.faults if it.advice)
         lines += ["The others can be loaded without them: skip_bad=True (--skip-bad)"] if count < rows else []
-        super().__init__("\n  ".join([f"{feed}: {count} of {rows} rows can't be taken, and none is loaded", *lines]))
+        super().__init__("\n  ".join([f"{feed}: {count} of {rows} rows can't be taken, and {stands}", *lines]))
 
 
 class OverLimit(StoreError):

@@ -21,6 +21,7 @@ from .terms import Terms
 from .units import Units
 
 if TYPE_CHECKING:
+    from .following import Following, Span
     from .loading import Loaded
 
 # How long the program may take to be there: `./stinger` compiles it at its first call.
@@ -110,6 +111,18 @@ class Store(Batches):
         return load(self, feed, by=by, batch=batch, collect=collect, skip_bad=skip_bad, progress=progress, format=format,
                     weight_scale=weight_scale, times=times, names=names, columns=columns, delimiter=delimiter, header=header,
                     third=third, both_ways=both_ways, encoding=encoding, decimal=decimal, dates=dates)
+
+    def follow(self, feed: Any, *, by: str, every: "Span" = 1.0, keep: "Optional[Span]" = None,
+               batch: int = records.MOST_OPERATIONS, until_end: bool = False, skip_bad: bool = False,
+               progress: Optional[bool] = None, weight_scale: Optional[int] = None, times: Optional[str] = None,
+               names: str = "plain", format: Optional[str] = None, columns: Columns = Columns(), delimiter: Optional[str] = None,
+               header: Optional[bool] = None, third: Optional[str] = None, encoding: str = "utf-8", decimal: str = ".",
+               dates: Optional[str] = None) -> "Following":
+        """Follows a file that grows, a pipe, or standard input: gives a step for each commit. See `misteluk.follow`."""
+        from .following import follow
+        return follow(self, feed, by=by, every=every, keep=keep, batch=batch, until_end=until_end, skip_bad=skip_bad,
+                      progress=progress, weight_scale=weight_scale, times=times, names=names, format=format, columns=columns,
+                      delimiter=delimiter, header=header, third=third, encoding=encoding, decimal=decimal, dates=dates)
 
     # Requests.
 
