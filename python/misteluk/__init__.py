@@ -13,9 +13,9 @@ Python's standard library is enough; pandas, networkx, matplotlib and tqdm are u
 from .answers import Answer, Collected, Commit, Degree, Edge, Neighbor, Rebased, Stat
 from .delimited import delimited
 from .errors import (AlreadyOpen, BadCommand, BadFields, BadName, BadRows, BadSlot, BadTime, BadWeight, BadWindow, BatchFull,
-                     BatchLimit, FeedFault, Incomplete, KindsFull, Misread, Missing, NamesFull, NoAnswer, NoKind, NoSeat,
-                     NotOpen, NoVertex, OperationsRefused, OutOfMemory, OverLimit, Place, PoolEmpty, ProgramEnded,
-                     ProgramNotFound, RecordLimit, Refused, SessionClosed, StoreError, Uncommitted)
+                     BatchLimit, FeedFault, Incomplete, KindsFull, Misread, Missing, NamesFull, NearLimit, NoAnswer, NoKind,
+                     NoSeat, NotOpen, NotRenewed, NoVertex, OperationsRefused, OutOfMemory, OverLimit, Place, PoolEmpty,
+                     ProgramEnded, ProgramNotFound, RecordLimit, Refused, SessionClosed, StoreError, Uncommitted)
 from .feeds import Columns, Feed, matrix_market, snap
 from .finding import find_program
 from .following import Followed, Following, follow
@@ -23,6 +23,7 @@ from .lint import lint
 from .loading import Loaded, Survey, load, load_in_steps, survey
 from .objects import from_columns, from_networkx, from_pandas, from_rows
 from .opening import open_feed
+from .renewing import Renewed
 from .session import Session
 from .store import Store
 
@@ -32,10 +33,10 @@ __all__ = [
     "load", "survey", "load_in_steps", "Loaded", "Survey", "follow", "Following", "Followed",
     "Columns", "Feed", "open_feed", "delimited", "snap", "matrix_market",
     "from_networkx", "from_pandas", "from_columns", "from_rows",
-    "Answer", "Collected", "Commit", "Degree", "Edge", "Neighbor", "Rebased", "Stat", "lint", "find_program",
+    "Answer", "Collected", "Commit", "Degree", "Edge", "Neighbor", "Rebased", "Renewed", "Stat", "lint", "find_program",
     "StoreError", "Refused", "Place", "AlreadyOpen", "BadCommand", "BadFields", "BadName", "BadRows", "BadSlot", "BadTime",
     "BadWeight", "BadWindow", "BatchFull", "BatchLimit", "FeedFault", "Incomplete", "KindsFull", "Misread", "Missing",
-    "NamesFull", "NoAnswer", "NoKind", "NoSeat", "NoVertex", "NotOpen", "OperationsRefused", "OutOfMemory", "OverLimit",
-    "PoolEmpty", "ProgramEnded", "ProgramNotFound", "RecordLimit", "SessionClosed", "Uncommitted",
+    "NamesFull", "NearLimit", "NoAnswer", "NoKind", "NoSeat", "NoVertex", "NotOpen", "NotRenewed", "OperationsRefused",
+    "OutOfMemory", "OverLimit", "PoolEmpty", "ProgramEnded", "ProgramNotFound", "RecordLimit", "SessionClosed", "Uncommitted",
 ]
 __version__ = "0.1.0"

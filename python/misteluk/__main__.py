@@ -197,7 +197,7 @@ def answer(words: argparse.Namespace, session: Session) -> None:
 
 
 def run_follow(words: argparse.Namespace) -> int:
-    with Store(blocks=words.blocks or records.MOST_BLOCKS, program=words.program, timeout=words.timeout) as store:
+    with Store(blocks=words.blocks or records.MOST_BLOCKS, program=words.program, timeout=words.timeout, endless=True) as store:
         return telling.follow(words, store, form_of_feed(words))
 
 

@@ -207,6 +207,15 @@ class RecordLimit(StoreError):
     """A run takes 999,999 records: this one would be one more, and was not sent."""
 
 
+class NotRenewed(StoreError):
+    """An endless store couldn't go on in a new program. The one in use stays so, and nothing that is pending was sent; the next
+    commit tries again."""
+
+
+class NearLimit(UserWarning):
+    """An endless store has nearly as many edges as can go into a new program, or more."""
+
+
 class Uncommitted(StoreError):
     """The store was closed while operations were pending, or a feed was to be loaded; `operations` has them as records."""
 

@@ -101,8 +101,8 @@ class Pace(NamedTuple):
 class Following(Iterator[Followed]):
     """A feed that is followed: each step is a commit. See `Store.follow`, which makes it.
 
-    What is read and sent happens in the store's thread, so that an interrupt loses no row and sends none twice: the next step goes
-    on behind it. `stop` may be called by any thread and a signal's handler: what was read goes in, and the steps end.
+    What is read and sent happens in the store's thread, so that an interrupt loses no row and sends none twice: the next step
+    goes on behind it. `stop` may be called by any thread and a signal's handler: what was read goes in, and the steps end.
     """
 
     def __init__(self, store: "Store", incoming: Incoming, count: Count, pace: Pace, progress: Optional[bool]) -> None:

@@ -28,8 +28,8 @@ class Opened(Protocol):
 class Growing:
     """The whole lines of a file, a pipe, or standard input (`-`), as they come.
 
-    A file is followed when it was read to its end, unless `until_end`; anything else ends where its writers do. A line that has no
-    end yet is none, but at the end of all. A file that is cut short while it is followed raises `FeedFault`.
+    A file is followed when it was read to its end, unless `until_end`; anything else ends where its writers do. A line that has
+    no end yet is none, but at the end of all. A file that is cut short while it is followed raises `FeedFault`.
     """
 
     def __init__(self, source: Union[Path, Opened], encoding: str = "utf-8", until_end: bool = False) -> None:

@@ -16,7 +16,7 @@ NAMES = {"degrees": 0, "components": 0, "cores": 0, "levels": 1, "into": 1, "out
 
 
 class Question(NamedTuple):
-    """What is asked: a table, levels from a name, an edge, or those beside a name; of a kind, or of any; and how it is told of."""
+    """What is asked, and how it's told of: a table, levels from a name, an edge, or those beside a name; of a kind, or of any."""
 
     text: str
     what: str

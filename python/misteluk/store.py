@@ -3,19 +3,21 @@ from __future__ import annotations
 
 import warnings
 import weakref
+from functools import partial
 from types import TracebackType
 from typing import TYPE_CHECKING, Any, Dict, List, Optional, Sequence, Tuple, Type
 
 from . import records
 from .answers import Collected, Commit, Rebased, Stat, numbers
 from .asking import within
-from .batches import Batches, Flight
+from .batches import Flight
 from .calls import Calls, talks
 from .errors import NoSeat, ProgramEnded, StoreError, Uncommitted
 from .feeds import Columns
 from .finding import Path, find_program
 from .index import Index
 from .program import Awaited, Conversation
+from .renewing import Former, Renewed, Renewing, take_up_all
 from .session import Session
 from .terms import Terms
 from .units import Units
@@ -28,7 +30,7 @@ if TYPE_CHECKING:
 START_SECONDS = 900.0
 
 
-class Store(Batches):
+class Store(Renewing):
     """A graph that changes by batches, in a program of its own; sessions hold versions of it.
 
         with Store() as store:
@@ -48,6 +50,8 @@ class Store(Batches):
     `times`: "iso" where times are dates, with microseconds at most, from 1970 to 9999; else whole numbers. A date is a
     `datetime`, a `date` or a text, in UTC where it has no zone. `decimals`: answers have weights as "decimal" (`Decimal`) or
     "float". Where neither of the first two is said, the first load says both, unless an operation came before it.
+    `endless`: whether the store goes on in a new program, with a copy of the last version, before it is at the limits of one: its
+    records, batches, names and kinds. One seat is kept for that, and 15 are the most. See `docs/PYTHON.md`, "Feeds without end".
     `program`: the program to run (see `find_program`). `timeout`: for how many seconds the program may neither read nor write
     while it is waited for; then `NoAnswer` is raised, and the call may be made again.
 
@@ -58,16 +62,21 @@ class Store(Batches):
 
     def __init__(self, *, blocks: int = records.USUAL_BLOCKS, seats: int = records.USUAL_SEATS,
                  workers: int = records.USUAL_WORKERS, program: Optional[Path] = None, timeout: float = 60.0,
-                 weight_scale: Optional[int] = None, times: Optional[str] = None, decimals: str = "decimal") -> None:
+                 weight_scale: Optional[int] = None, times: Optional[str] = None, decimals: str = "decimal",
+                 endless: bool = False) -> None:
         self.blocks = within("blocks", blocks, records.LEAST_BLOCKS, records.MOST_BLOCKS)
-        self.seats = within("seats", seats, 1, records.MOST_SEATS)
+        self.seats = within("seats", seats, 1, records.MOST_SEATS - endless)
         within("workers", workers, 1, records.MOST_WORKERS)
         if not timeout > 0:
             raise ValueError(f"timeout is a number of seconds above 0, and not {timeout}")
         self._terms = Terms(units=Units(weight_scale or 1, times or "number", decimals))
         self._units_are_set = weight_scale is not None or times is not None
         self.program = find_program(program)
-        options = ["--blocks", str(blocks), "--seats", str(seats), "--workers", str(workers)]
+        options = ["--blocks", str(blocks), "--seats", str(seats + endless), "--workers", str(workers)]
+        self._command = [self.program, "run", *options]
+        self._endless, self._formers = endless, []
+        self._talks: List[Conversation] = []
+        self._renewals: List[Renewed] = []
         self._pending: List[str] = []
         self._untold: List[Commit] = []
         self._unsaid: List[str] = []
@@ -75,12 +84,11 @@ class Store(Batches):
         self._kinds: Dict[str, None] = {}
         self._flight: Optional[Flight] = None
         self._orphans: List[Tuple[int, Awaited]] = []
-        self._rebasing: Optional[Tuple[Session, Awaited]] = None
         self._index = Index()
         self._closed = False
         self._calls = Calls()
         try:
-            self._calls.make(lambda: self._start([self.program, "run", *options], timeout), untaken=Conversation.kill)
+            self._calls.make(lambda: self._start(self._command, timeout), untaken=Conversation.kill)
         except BaseException:
             self._closed = True
             if "_talk" in self.__dict__:
@@ -90,7 +98,8 @@ class Store(Batches):
     def _start(self, command: Sequence[str], timeout: float) -> Conversation:
         """Starts the program, and waits until it answers."""
         self._talk = Conversation(command, START_SECONDS)
-        self._calls.turn.take_up = self._talk.take_up
+        self._talks.append(self._talk)
+        self._calls.turn.take_up = partial(take_up_all, self._talks)
         try:
             if not self._calls.is_left:
                 self.stat()
@@ -130,7 +139,8 @@ class Store(Batches):
     def collect(self) -> Collected:
         """Frees each replaced block that no open session's version has."""
         self._let_orphans_go()
-        return Collected(*numbers(self._ask(("collect",)).head or "", "collect", 3))
+        found = Collected(*numbers(self._ask(("collect",)).head or "", "collect", 3))
+        return found._replace(floor=found.floor + self._made_before())
 
     def rebase(self, session: "Session") -> Rebased:
         """Begins the store anew with the graph of the version that the session holds, which is version 0 from then on.
@@ -150,12 +160,15 @@ class Store(Batches):
             self._send_rebase(session)
         assert self._rebasing
         answers.append(self._talk.settle(self._rebasing[1]))
+        self._count_rebase()
         self._rebasing = None
         self._check(answers[0], ("rebase", str(session.slot)))
         return Rebased(*numbers(answers[0].head or "", "rebase", 4))
 
     def _send_rebase(self, session: "Session") -> None:
         """Sends a rebase, which closes all sessions: none is asked behind it."""
+        if isinstance(session.store, Former) and session.store.store is self:
+            raise StoreError(f"{session!r} is held by a program that was in use before: the one in use can't begin anew with it")
         if session.store is not self:
             raise ValueError(f"{session!r} is another store's")
         session._must_be_open()
@@ -165,12 +178,17 @@ class Store(Batches):
         self._untold.clear()
         self._index.begun_anew(session.version)
         self._rebasing = session, self._talk.ask(self._record(("rebase", str(session.slot))))
+        self._is_rebase_counted = False
 
     @talks
     def open(self, slot: Optional[int] = None) -> "Session":
         """A session that holds the last version, in the first free slot or in that one. One that nobody has any more, as where
         an interrupt came before it was given, is closed by the next `open`, `commit` or `collect`."""
         self._let_orphans_go()
+        self._go_on(2, 0)
+        faults = records.faults_of(("open", str(slot or 0)), self.seats)
+        if faults:
+            raise self._terms.refusal(faults[0])
         free = [it for it in range(self.seats) if it not in self._sessions]
         if slot is None and not free:
             more = ", or make the store with more seats (16 at most)" if self.seats < records.MOST_SEATS else ""
@@ -183,7 +201,7 @@ class Store(Batches):
         self._orphans.pop()
         self._check(opened, ("open", str(at)))
         names = Stat(*numbers(stat.head or "", "stat", 6)).names
-        session = Session(self, at, numbers(opened.head or "", "open", 1)[0], names)
+        session = Session(self, at, numbers(opened.head or "", "open", 1)[0] + self._made_before(), names)
         self._sessions[at] = weakref.ref(session)
         return session
 
@@ -207,6 +225,8 @@ class Store(Batches):
             return lost
         self._closed = True
         self._forget_sessions()
+        for it in list(self._formers):
+            it.end()
         status, left = self._talk.end()
         flight = self._flight
         if flight and flight.from_pending and flight.done.head is not None:
@@ -241,7 +261,8 @@ class Store(Batches):
         talk = getattr(self, "_talk", None)
         if talk is not None and not self._closed and not self._calls.are_elsewhere:
             warnings.warn("a store was let go without close()", ResourceWarning, stacklevel=2)
-            talk.kill()
+            for it in list(self._talks):
+                it.kill()
 
     def __repr__(self) -> str:
         state = "closed" if self._closed else f"{len(self._sessions)} of {self.seats} seats open, {self.pending} pending"

@@ -48,8 +48,8 @@ class FollowCommand(Case):
 
     def run_it(self, text, *words):
         """The status, the lines and what is told on standard error, of a feed that ends."""
-        done = subprocess.run([sys.executable, "-m", "misteluk", "follow", "-", *OF_ROWS, *words], input=text, timeout=60, text=True,
-                              stdout=subprocess.PIPE, stderr=subprocess.PIPE, cwd=HERE.parent)
+        done = subprocess.run([sys.executable, "-m", "misteluk", "follow", "-", *OF_ROWS, *words], input=text, timeout=60,
+                              text=True, stdout=subprocess.PIPE, stderr=subprocess.PIPE, cwd=HERE.parent)
         return done.returncode, done.stdout.splitlines(), done.stderr
 
     def test_lines(self):
@@ -107,8 +107,8 @@ class FollowCommand(Case):
         process.send_signal(number)
         told = [first, *map(json.loads, process.stdout.read().splitlines())]
         self.assertEqual(process.wait(60), 0)
-        self.assertEqual(process.stderr.read().decode(), "misteluk: standard input: 700 rows to line 700 are in; the last line isn't "
-                                                         "whole yet, and not in\n")
+        self.assertEqual(process.stderr.read().decode(), "misteluk: standard input: 700 rows to line 700 are in; the last line "
+                                                         "isn't whole yet, and not in\n")
         self.assertEqual([it["rows"] for it in told if "rows" in it], [256, 512, 700])
         model = Model(rows, "add", keep).go_to(256).go_to(512).go_to(700)
         found = {it["name"]: it["weight_out"] for it in told[-1]["most"]}
@@ -157,14 +157,14 @@ class FollowCommand(Case):
         text = text_of([(f"s{it}", f"t{it}", 1, it) for it in range(30)])
         status, out, err = self.run_it(text, "--blocks", "16")
         self.assertEqual((status, out), (1, []))
-        self.assertIn("misteluk: PoolEmpty (record 32): 30 rows of standard input, lines 1 to 30, are not in, and pending still; 0 "
-                      "rows before them are in. The batch needs 30 free blocks, and 16 are free. ", err)
+        self.assertIn("misteluk: PoolEmpty (record 32): 30 rows of standard input, lines 1 to 30, are not in, and pending still; "
+                      "0 rows before them are in. The batch needs 30 free blocks, and 16 are free. ", err)
         status, out, err = self.run_it("a,b,1,1\nb,c,x,2\n")
         self.assertEqual((status, len(out)), (1, 1))
         self.assertIn("misteluk: standard input: 1 of 2 rows can't be taken, and those before line 2 are in, and none behind it\n"
                       "  standard input:2: BadWeight", err)
-        for words, told in ((("--keep", "14d"), "keep is a whole number"), (("--ask", "degres"), "a question is one of"),
-                            (("--ask", "levels"), "is asked as `levels NAME [KIND]`"), (("--every", "soon"), "not 'soon'")):
+        for words, told in ((("--keep", "14d"), "keep is a whole number"), (("--every", "soon"), "not 'soon'"),
+                            (("--ask", "degres"), "a question is one of"), (("--ask", "levels"), "as `levels NAME [KIND]`")):
             status, _, err = self.run_it("", *words)
             self.assertIn(told, err)
             self.assertIn(status, (1, 2))

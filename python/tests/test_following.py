@@ -1,5 +1,5 @@
-"""Feeds that are followed: files that grow, pipes, signals, expiry, bad rows. What is in is compared with a plain model, and tests
-that could miss a fault are made again with one that is planted."""
+"""Feeds that are followed: files that grow, pipes, expiry, bad rows, interrupts. What is in is compared with a plain model, and
+tests that could miss a fault are made again with one that is planted."""
 import contextlib
 import os
 import random
