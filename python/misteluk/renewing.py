@@ -59,6 +59,7 @@ class Former(Asking):
         self.seats, self._terms, self._calls, self._closed = store.seats, store._terms, store._calls, False
         self._talk, self._sessions, self._orphans, self._index = store._talk, store._sessions, store._orphans, store._index
         self._fewer_records, self._versions_before = store._fewer_records, store._versions_before
+        self._talk.most_at_once = self._most_records
 
     def _made_before(self) -> int:
         return self._versions_before
@@ -144,6 +145,8 @@ class Renewing(Batches):
         most. Gives what was in use before."""
         if not self._endless:
             return self
+        if more and self._flight is None:
+            self._warn_of_many()
         before: Asking = self
         can_be_asked = more > 0 or self._talk.records + count <= self._most_records
         if self._flight is None and can_be_asked and self._is_due(count + more):
@@ -176,17 +179,19 @@ class Renewing(Batches):
         return self
 
     def _counted(self, receipt: Commit) -> Commit:
-        """Counts edges and batches, and warns once where there are more edges than may well be copied."""
+        """Counts edges and batches."""
         self._count_rebase()
         self._batches = receipt.version
         self._edges += receipt.inserted - receipt.removed - receipt.expired
-        near = self._edges > self._most_records // 4
-        if self._endless and near and not self._is_warned:
+        return super()._counted(receipt)
+
+    def _warn_of_many(self) -> None:
+        """Warns once where there are more edges than may well be copied. Nothing is on its way then, also where that raises."""
+        before, self._is_warned = self._is_warned, self._edges > self._most_records // 4
+        if self._is_warned and not before:
             warnings.warn(NearLimit(f"the store has {self._edges} edges: a copy of them takes up to {2 * self._edges} records, "
                                     f"and {self._edges} more to be read, where a program takes {self._most_records}. With many "
                                     "more it can't go on in a new program"), stacklevel=2)
-        self._is_warned = near
-        return super()._counted(receipt)
 
     def _limit_reached(self, count: int) -> RecordLimit:
         if not self._endless:

@@ -212,6 +212,24 @@ class Endless(Case):
             session.close()
         self.assertEqual(feed.store._formers, [])
 
+    def test_neighbors_and_all_edges(self):
+        """What is found by candidates, of a session that is held across several programs, and of the last version."""
+        feed = Feed(self, records=30_000)
+        for _ in range(9):
+            feed.step()
+        held, graph = feed.store.open(), Graph(feed.graph.names, feed.graph.edges)
+        for _ in range(3):
+            feed.store.renew()
+            feed.step()
+        for session, model in ((held, graph), (feed.store.open(), feed.graph)):
+            feed.take_renewals()
+            self.assertEqual({tuple(ends): edge for *ends, edge in session.edges()}, model.edges)
+            for it in model.names[::11]:
+                into = {source: edge for (kind, source, target), edge in model.edges.items() if (kind, target) == ("rail", it)}
+                self.assertEqual(session.into(it, "rail"), into)
+                reached = dict(model.levels(model.view(None, 0, 1 << 40), it))
+                self.assertEqual({other: len(session.path(it, other)) - 1 for other in reached}, reached)
+
     def test_a_fault_is_found(self):
         """Records of a copy that are lost, and sessions that are left with the store."""
         real = renewing.Renewing._change_to
@@ -292,6 +310,21 @@ class Endless(Case):
 
     def test_interrupts(self):
         self.interrupted(12)
+
+    def test_each_line(self):
+        """Of the calling thread: the change is made or it isn't, and what is pending is sent once."""
+        at, is_more, feed = 0, True, Feed(self)
+        feed.step()
+        while is_more:
+            at += 1
+            operations, time = feed.put(5)
+            is_more = interrupting.at_line(at, feed.store.renew)
+            self.assertEqual(feed.store.pending, 6)
+            feed.store.commit(collect=True)
+            feed.apply(operations, time)
+            feed.is_right(self)
+        self.assertGreater(at, 10)
+        self.assertEqual((len(feed.store._talks), feed.store._formers), (1, []))
 
     def test_interrupts_find_a_fault(self):
         with mock.patch.object(calls.Calls, "make", made_at_once), warnings.catch_warnings():
