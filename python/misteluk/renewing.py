@@ -115,7 +115,9 @@ class Renewing(Batches):
     # A rebase that was sent, and whether what it did is counted.
     _rebasing: "Optional[Tuple[Session, Awaited]]" = None
     _is_rebase_counted = False
-    _is_sent_anew = _is_too_large = _has_failed = _is_warned = False
+    # How many edges were too many to go on in a new program, or 0.
+    _too_many = 0
+    _is_sent_anew = _has_failed = _is_warned = False
 
     @property
     def renewals(self) -> List[Renewed]:
@@ -155,7 +157,10 @@ class Renewing(Batches):
         return before
 
     def _is_due(self, count: int) -> bool:
-        """Whether the records that are left, without those that a copy takes to be read, are fewer than that."""
+        """Whether the records that are left, without those that a copy takes to be read, are fewer than that. Where the edges
+        were too many they have to be a tenth fewer first."""
+        if self._too_many and self._edges > self._too_many * 9 // 10:
+            return False
         if self._batches >= self._most_batches:
             return True
         left = self._most_records - self._spared - self._talk.records - count
@@ -164,12 +169,12 @@ class Renewing(Batches):
     def _renewed_or_not(self, must: bool) -> Asking:
         """Begins a new program, unless the last version is too large: then this one goes on to its end, and that is told. What
         else speaks against it is told where it must be, by a commit."""
-        if self._is_too_large or self._has_failed and not must:
+        if self._has_failed and not must:
             return self
         try:
             return self._renew()
         except OverLimit as fault:
-            self._is_too_large = True
+            self._too_many = max(self._edges, 1)
             warnings.warn(NearLimit(f"{fault}. The store goes on in this program, which takes "
                                     f"{self._most_records - self._talk.records} records more"), stacklevel=2)
         except NotRenewed:
@@ -196,7 +201,7 @@ class Renewing(Batches):
     def _limit_reached(self, count: int) -> RecordLimit:
         if not self._endless:
             return super()._limit_reached(count)
-        why = (f"its {self._edges} edges were too many to go on in a new one" if self._is_too_large else
+        why = (f"its {self._edges} edges were too many to go on in a new one" if self._too_many else
                "Store.renew() begins a new one, for sessions that are opened then")
         return RecordLimit(f"the program has had {self._talk.records} records of {self._most_records}, and {count} more were to "
                            f"be sent; {why}")
@@ -217,7 +222,11 @@ class Renewing(Batches):
     def _read_last(self) -> Tuple[int, Content, List[Row]]:
         """The last version's number, what it has but for idle names, and its degrees. It is held by a seat that no user has."""
         super()._let_orphans_go()
-        at, talk = self.seats, self._talk
+        at, talk, candidates = self.seats, self._talk, self._candidates()
+        if talk.records + len(candidates) + FOR_A_COPY > self._most_records:
+            raise OverLimit(f"the last version's {self._edges} edges can't go into a new program: this one takes "
+                            f"{self._most_records - talk.records} records more, and its {len(candidates)} candidates one each",
+                            {"edges": self._edges, "candidates": len(candidates), "records": talk.records})
         opened, stat = talk.ask(f"open,{at}\n"), talk.ask("stat\n")
         self._orphans.append((at, opened))
         try:
@@ -225,7 +234,6 @@ class Renewing(Batches):
             if opened.word:
                 raise refusal(opened.word, "its seat for copies isn't free")
             table = talk.settle(talk.ask(f"deg,{at},{WHOLE}\n", lambda _: found.names)).rows
-            candidates = self._candidates()
             content = content_of(at, table, candidates.kinds, candidates, partial(ask_all, talk))
             talk.settle(talk.ask(f"close,{at}\n"))
         except (NoAnswer, ProgramEnded, Misread):
@@ -281,7 +289,7 @@ class Renewing(Batches):
         self._talks.append(talk)
         self._formers.append(former)
         self.__dict__.update(_talk=talk, _sessions={}, _orphans=[], _index=index, _versions_before=version - batches,
-                             _batches=batches, _edges=edges, _is_too_large=False, _has_failed=False)
+                             _batches=batches, _edges=edges, _too_many=0, _has_failed=False)
         former.let_go()
         return former
 
@@ -316,7 +324,10 @@ class Renewing(Batches):
         """Sends a batch that was refused once more, to a new program."""
         self._is_sent_anew = True
         try:
-            self._renew()
+            try:
+                self._renew()
+            except OverLimit as fault:
+                raise self._refused_commit(flight) from fault
             self._launch(flight.operations, flight.size, flight.last is not flight.done, flight.place, flight.from_pending)
             return self._land()
         finally:

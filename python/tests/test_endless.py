@@ -442,12 +442,16 @@ class Endless(Case):
         self.assertRegex(told[1], r"the last version's \d+ edges can't go into a new program: their copy takes \d+ records")
         self.assertIn("edges were too many to go on in a new one", str(end.exception))
         self.assertEqual((store.pending, store.renewals), (100, []))
-        store.discard()
-        store._fewer_records = 8_000
-        store.expire(at - 600)
-        store.commit(collect=True)
-        store.renew()
-        self.assertEqual((store.stat().edges, store.renewals[-1].edges), (500, 500))
+        self.assertRaisesRegex(misteluk.OverLimit, "can't go into a new program: this one takes", store.renew)
+        store._fewer_records = 12_000
+        for _ in range(40):
+            for _ in range(100):
+                store.insert("l", f"a{at % 90}", f"b{at}", 1, at)
+                at += 1
+            store.expire(at - 600)
+            store.commit(collect=True)
+        self.assertGreater(len(store.renewals), 0)
+        self.assertEqual((store.stat().edges, store.renewals[-1].edges), (600, 600))
 
     def test_requests_begin_a_new_program_too(self):
         """A session that asks much stays where it is, to that program's end; the store goes on."""
@@ -498,6 +502,7 @@ class Endless(Case):
 
     def test_what_is_endless(self):
         self.assertRaises(ValueError, Store, seats=16, endless=True)
+        self.assertEqual(self.store(seats=15, endless=True).renew()[:4], (0, 0, 0, 4))
         store = self.store("insert l a b 1 1", seats=2)
         self.assertRaisesRegex(misteluk.StoreError, "isn't endless", store.renew)
         store = self.store("insert l a b 1 1", seats=2, endless=True)
