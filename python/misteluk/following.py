@@ -158,9 +158,9 @@ class Following(Iterator[Followed]):
         while True:
             if self._is_done:
                 raise StopIteration
+            self._progress.step(self._in - self._progress.count)
             made: Optional[Followed] = self.store._calls.make(self._go_on, untaken=self._keep_untaken)
             if made is not None:
-                self._progress.step(made.rows - self._progress.count)
                 return made
             if not self._is_done and self._source.wait(self._patience(), output):
                 raise BrokenPipeError
