@@ -76,7 +76,7 @@ class Growing:
         if output is not None:
             poll.register(output, 0)
         ready = dict(poll.poll(None if seconds is None else max(seconds, 0.0) * 1000))
-        return bool(output is not None and ready.get(output, 0) & select.POLLERR)
+        return bool(output is not None and ready.get(output, 0) & (select.POLLERR | select.POLLHUP))
 
     def lines(self) -> List[str]:
         """The lines that are there and weren't given before, of some 64 KB at most."""

@@ -36,10 +36,10 @@ def ended_by_signals(stop: Callable[[], None]) -> Iterator[None]:
 
 
 def descriptor_of(file: Any) -> Optional[int]:
-    """The file's descriptor, or `None` where it's a text in memory."""
+    """The file's descriptor, or `None` where it's a text in memory, or closed."""
     try:
         return int(file.fileno())
-    except OSError:
+    except (OSError, AttributeError):
         return None
 
 
@@ -65,7 +65,8 @@ class Teller:
             self.tell_renewals()
             self.following.clear_progress()
             self.tell(step)
-            sys.stdout.flush()
+            if sys.stdout:
+                sys.stdout.flush()
 
     def tell(self, step: Followed) -> None:
         told = {**step.commit._asdict(), "rows": step.rows, "bad": step.bad, "line": step.line, "newest": step.newest}

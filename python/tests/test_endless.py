@@ -374,6 +374,34 @@ class Endless(Case):
         feed.store.renew()
         feed.is_right(self)
 
+    def test_programs_that_are_silent(self):
+        """The one in use is waited for by the next commit; a new one is let go."""
+        feed, read, fill = Feed(self, timeout=0.5), renewing.content_of, renewing.fill
+        feed.step()
+
+        def read_of_the_silent(*given):
+            feed.store._talk.process.send_signal(signal.SIGSTOP)
+            return read(*given)
+
+        def fill_the_silent(talk, operations):
+            talk.process.send_signal(signal.SIGSTOP)
+            return fill(talk, operations)
+        feed.store._most_batches = 2
+        feed.step()
+        operations, time = feed.put()
+        with mock.patch.object(renewing, "content_of", read_of_the_silent):
+            self.assertRaises(misteluk.NoAnswer, feed.store.commit)
+        feed.store._talk.process.send_signal(signal.SIGCONT)
+        with mock.patch.object(renewing, "fill", fill_the_silent), mock.patch.object(renewing, "LEAST_TIMEOUT", 0.5):
+            self.assertRaisesRegex(misteluk.NotRenewed, "neither read nor wrote for 0.5 s", feed.store.commit)
+        self.assertEqual((feed.store.pending, feed.store.stat().version, len(feed.store._talks)), (151, 2, 1))
+        feed.store._most_batches = 1_000
+        feed.store.renew()
+        feed.take_renewals()
+        self.assertEqual(feed.store.commit(collect=True).version, 3)
+        feed.apply(operations, time)
+        feed.is_right(self)
+
     def test_the_program_in_use_ends(self):
         """In the middle of the reading: that is told as it is of any program, and no new one is left."""
         feed, real = Feed(self), renewing.content_of

@@ -1,5 +1,6 @@
 """misteluk follow: what it tells, signals, pipes that break. What is in is compared with a plain model."""
 import fcntl
+import io
 import json
 import os
 import signal
@@ -9,10 +10,14 @@ import sys
 import termios
 import time
 import unittest
+from contextlib import redirect_stderr, redirect_stdout
+from unittest import mock
 
 from support import HERE, Case
 from test_following import Model, some_rows, text_of
 
+from misteluk.__main__ import main
+from misteluk.asking import Asking
 from misteluk.questions import question
 
 OF_ROWS = ("--add", "--source", "1", "--target", "2", "--weight", "3", "--time", "4")
@@ -168,6 +173,25 @@ class FollowCommand(Case):
             status, _, err = self.run_it("", *words)
             self.assertIn(told, err)
             self.assertIn(status, (1, 2))
+
+    def test_it_goes_on_in_a_new_program(self):
+        """That is told on standard error, and nothing else differs."""
+        rows = some_rows(9_000)
+        words = ("follow", self.file("long.csv", text_of(rows)), *OF_ROWS, "--until-end", "--json", "--batch", "500",
+                 "--keep", "900", "--ask", "degrees", "--top", "5000")
+        out, err = io.StringIO(), io.StringIO()
+        with mock.patch.object(Asking, "_fewer_records", 6_000), redirect_stdout(out), redirect_stderr(err):
+            self.assertEqual(main(words), 0)
+        told = err.getvalue().splitlines()
+        self.assertGreater(len(told), 2)
+        self.assertRegex(told[0], r"^misteluk: went on in a new program at version \d+: \d+ edges and \d+ names went along, by \d+ "
+                                  r"records, in \d+\.\d s$")
+        model, answers = Model(rows, "add", 900), [json.loads(it) for it in out.getvalue().splitlines()]
+        for commit, degrees in zip(answers[0::2], answers[1::2]):
+            model.go_to(commit["rows"])
+            found = {it["name"]: it["weight_out"] for it in degrees["most"]}
+            self.assertEqual({**dict.fromkeys(found, 0), **model.weights()}, found)
+        self.assertEqual((commit["rows"], commit["version"]), (9_000, 19))
 
     def test_questions(self):
         for text in ("degrees", "levels ana", "edge link ana 'bob b'", "into ana link"):
