@@ -9,16 +9,17 @@ from __future__ import annotations
 import time
 import warnings
 from functools import partial
-from typing import TYPE_CHECKING, Any, Callable, List, NamedTuple, Optional, Sequence, Tuple
+from typing import TYPE_CHECKING, Callable, List, NamedTuple, Optional, Sequence, Tuple
 
 from . import records
 from .answers import Commit, Rebased, Stat, numbers
-from .asking import ASK_AT_ONCE, Asking
+from .asking import Asking
 from .batches import Batches, Flight
 from .calls import talks
 from .copying import WHOLE, Content, Row, content_of, operations_of, rows_of
-from .errors import (BatchLimit, KindsFull, Misread, NamesFull, NearLimit, NoAnswer, NotRenewed, OverLimit, PoolEmpty,
-                     ProgramEnded, RecordLimit, StoreError, refusal)
+from .errors import (BatchLimit, KindsFull, Misread, NamesFull, NearLimit, NoAnswer, NotRenewed, OverLimit, ProgramEnded,
+                     RecordLimit, StoreError, refusal)
+from .former import Former, ask_all, fill
 from .index import Index
 from .program import Awaited, Conversation, one_line
 
@@ -51,54 +52,6 @@ class Renewed(NamedTuple):
                 f"{self.records} records, in {self.seconds:.1f} s")
 
 
-class Former(Asking):
-    """A program that was in use before, for the sessions that are held there. What it isn't asked the store is."""
-
-    def __init__(self, store: "Renewing") -> None:
-        self.store = store
-        self.seats, self._terms, self._calls, self._closed = store.seats, store._terms, store._calls, False
-        self._talk, self._sessions, self._orphans, self._index = store._talk, store._sessions, store._orphans, store._index
-        self._fewer_records, self._versions_before = store._fewer_records, store._versions_before
-        self._talk.most_at_once = self._most_records
-
-    def _made_before(self) -> int:
-        return self._versions_before
-
-    def __getattr__(self, name: str) -> Any:
-        return getattr(self.__dict__["store"], name)
-
-    def _limit_reached(self, count: int) -> RecordLimit:
-        return RecordLimit(f"the program that holds this session has had {self._talk.records} records of {self._most_records}, "
-                           f"and {count} more were to be sent: open a new session, which the program in use now holds")
-
-    def _ask(self, fields: Sequence[str], rows_behind: Callable[[str], int] = one_line) -> Awaited:
-        """Asks; closing the last session ends the program in place of that."""
-        if fields[0] == "close" and not self._sessions and not self._orphans:
-            self.end()
-            return Awaited(0, one_line)
-        return super()._ask(fields, rows_behind)
-
-    def let_go(self) -> None:
-        """Closes sessions that nobody has, and ends the program where none is left. One that came to its end is left to those who
-        ask it."""
-        try:
-            self._let_orphans_go()
-        except StoreError:
-            pass
-        if not self._sessions:
-            self.end()
-
-    def end(self) -> None:
-        """Ends the program, of which nothing is wanted any more."""
-        if not self._closed:
-            self._closed = True
-            for session in (it() for it in self._sessions.values()):
-                if session is not None:
-                    session._is_open = False
-            self.store._forget_former(self)
-            self._talk.kill()
-
-
 class Renewing(Batches):
     """A store that goes on in a new program before the one in use is at its limits, where it is endless."""
 
@@ -115,6 +68,8 @@ class Renewing(Batches):
     # A rebase that was sent, and whether what it did is counted.
     _rebasing: "Optional[Tuple[Session, Awaited]]" = None
     _is_rebase_counted = False
+    # What began anew with a session of a former program, and wasn't told.
+    _begun: "Optional[Tuple[Session, Rebased]]" = None
     # How many edges were too many to go on in a new program, or 0.
     _too_many = 0
     _is_sent_anew = _has_failed = _is_warned = False
@@ -281,7 +236,7 @@ class Renewing(Batches):
         index = Index()
         if operations:
             index.tell("".join(operations).encode("ascii"), len(operations))
-            index.landed(version, (), None)
+            index.landed(max(version, 1), (), None)  # (0 would say that there is no answer yet)
         former = Former(self)
         for session in (it() for it in self._sessions.values()):
             if session is not None:
@@ -292,6 +247,31 @@ class Renewing(Batches):
                              _batches=batches, _edges=edges, _too_many=0, _has_failed=False)
         former.let_go()
         return former
+
+    def _begin_anew_with(self, session: "Session") -> Rebased:
+        """Begins anew, in a new program, with all that a session of a former one holds, as version 0. Closes all sessions. What
+        was not told, since an interrupt came, the same call tells the next time."""
+        if self._begun is not None and self._begun[0] is session:
+            told, self._begun = self._begun[1], None
+            return told
+        session._must_be_open()
+        self._untold += self._land_what_was_sent()
+        former, slot = session.store, session.slot
+        candidates = former._candidates()
+        former._make_room(len(candidates) + FOR_A_COPY)
+        table = former._talk.settle(former._talk.ask(f"deg,{slot},{WHOLE}\n", lambda _: session.names)).rows
+        content = content_of(slot, table, candidates.kinds, candidates, partial(ask_all, former._talk))
+        operations = list(operations_of(content))
+        self._must_fit(len(operations), len(content.edges))
+        talk, batches = self._begin(operations, rows_of(table))
+        self._change_to(talk, 0, batches, operations, len(content.edges))
+        self._end_formers()
+        self._untold.clear()
+        return Rebased(0, len(content.names), len(content.edges), self.stat().used)
+
+    def _end_formers(self) -> None:
+        for it in list(self._formers):
+            it.end()
 
     def _forget_former(self, former: Former) -> None:
         self._formers = [it for it in self._formers if it is not former]
@@ -342,37 +322,3 @@ class Renewing(Batches):
     def _ask_all(self, texts: Sequence[str]) -> List[Awaited]:
         """Asks a session's requests where it is held."""
         return Asking._ask_all(self._go_on(len(texts), 0), texts)
-
-
-def ask_all(talk: Conversation, texts: Sequence[str]) -> List[Awaited]:
-    """Asks many requests of one line each, and waits for all answers, whoever waits for these."""
-    answers: List[Awaited] = []
-    for at in range(0, len(texts), ASK_AT_ONCE):
-        answers += map(talk.ask, texts[at:at + ASK_AT_ONCE])
-        talk.settle(answers[-1])
-    return answers
-
-
-def fill(talk: Conversation, operations: Sequence[str]) -> int:
-    """Has an empty program apply the operations, and gives in how many batches. Where blocks are few these are small."""
-    at, size, batches = 0, records.MOST_OPERATIONS, 0
-    while at < len(operations):
-        part = operations[at:at + size]
-        talk.tell("".join(part).encode("ascii"), len(part))
-        done, collected = talk.ask("commit\n"), talk.ask("collect\n")
-        talk.settle(collected)
-        if talk.take_refused():
-            raise StoreError("the program refused operations of the copy")
-        if done.word == PoolEmpty.word and size > 1:
-            size //= 2
-        elif done.word:
-            raise refusal(done.word, "a batch of the copy was refused")
-        else:
-            at, batches = at + len(part), batches + 1
-    return batches
-
-
-def take_up_all(talks: Sequence[Conversation]) -> None:
-    """What is done where the thread takes the turn: see `calls`."""
-    for it in list(talks):
-        it.take_up()

@@ -15,9 +15,10 @@ from .calls import Calls, talks
 from .errors import NoSeat, ProgramEnded, StoreError, Uncommitted
 from .feeds import Columns
 from .finding import Path, find_program
+from .former import Former, take_up_all
 from .index import Index
 from .program import Awaited, Conversation
-from .renewing import Former, Renewed, Renewing, take_up_all
+from .renewing import Renewed, Renewing
 from .session import Session
 from .terms import Terms
 from .units import Units
@@ -149,6 +150,10 @@ class Store(Renewing):
         pending stays pending. The program has both stores while it works, and so needs room for twice the blocks. Records are
         counted on. Where `NoAnswer` or an interrupt broke the call off, the same one waits for the answer and sends nothing.
         """
+        if isinstance(session.store, Former) and session.store.store is self:
+            def keep_begun(told: Rebased) -> None:
+                self._begun = session, told
+            return self._calls.make(lambda: self._begin_anew_with(session), untaken=keep_begun)
         answers: List[Awaited] = []
 
         def keep(_: Rebased) -> None:
@@ -167,14 +172,13 @@ class Store(Renewing):
 
     def _send_rebase(self, session: "Session") -> None:
         """Sends a rebase, which closes all sessions: none is asked behind it."""
-        if isinstance(session.store, Former) and session.store.store is self:
-            raise StoreError(f"{session!r} is held by a program that was in use before: the one in use can't begin anew with it")
         if session.store is not self:
             raise ValueError(f"{session!r} is another store's")
         session._must_be_open()
         self._let_orphans_go()
         self._make_room(1)
         self._forget_sessions()
+        self._end_formers()
         self._untold.clear()
         self._index.begun_anew(session.version)
         self._rebasing = session, self._talk.ask(self._record(("rebase", str(session.slot))))
@@ -191,7 +195,8 @@ class Store(Renewing):
             raise self._terms.refusal(faults[0])
         free = [it for it in range(self.seats) if it not in self._sessions]
         if slot is None and not free:
-            more = ", or make the store with more seats (16 at most)" if self.seats < records.MOST_SEATS else ""
+            most = records.MOST_SEATS - self._endless
+            more = f", or make the store with more seats ({most} at most)" if self.seats < most else ""
             raise NoSeat(f"all {self.seats} seats hold sessions: close one{more}")
         at = free[0] if slot is None else slot
         self._make_room(2)
@@ -225,8 +230,7 @@ class Store(Renewing):
             return lost
         self._closed = True
         self._forget_sessions()
-        for it in list(self._formers):
-            it.end()
+        self._end_formers()
         status, left = self._talk.end()
         flight = self._flight
         if flight and flight.from_pending and flight.done.head is not None:

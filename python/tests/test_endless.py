@@ -524,9 +524,34 @@ class Endless(Case):
             feed.step()
         feed.is_right(self)
         self.assertGreater(feed.store.renewals[-1].version, 20)
-        session = feed.store.open()
-        feed.store.renew()
-        self.assertRaisesRegex(misteluk.StoreError, "held by a program that was in use before", feed.store.rebase, session)
+
+    def test_beginning_anew_with_a_version_of_before(self):
+        """Each line of the call is interrupted, and the call made again: it says the same, and what was held is version 0, also
+        with its idle names. What is pending stays so."""
+        at, is_more = 0, True
+        while is_more:
+            at += 1
+            feed = Feed(self)
+            for _ in range(5):
+                feed.step()
+            held, other, graph = feed.store.open(), feed.store.open(), Graph(feed.graph.names, feed.graph.edges)
+            self.assertGreater(len(graph.names), len({it for edge in graph.edges for it in edge[1:]}))
+            feed.store.renew()
+            feed.step()
+            operations, time = feed.put()
+            told = []
+            is_more = interrupting.at_line(at, lambda: told.append(feed.store.rebase(held)))
+            told = told[0] if told else feed.store.rebase(held)
+            self.assertEqual(told[:3], (0, len(graph.names), len(graph.edges)))
+            self.assertRaises(misteluk.SessionClosed, other.degrees)
+            self.assertRaises(misteluk.SessionClosed, feed.store.rebase, held)
+            self.assertEqual((feed.store.pending, feed.store._formers, len(feed.store._talks)), (151, [], 1))
+            feed.graph, feed.version, feed.renewals = graph, 0, len(feed.store.renewals)
+            feed.is_right(self)
+            self.assertEqual(feed.store.commit(collect=True).version, 1)
+            feed.apply(operations, time)
+            feed.is_right(self)
+        self.assertGreater(at, 10)
 
     def test_what_is_endless(self):
         self.assertRaises(ValueError, Store, seats=16, endless=True)

@@ -184,8 +184,8 @@ class FollowCommand(Case):
             self.assertEqual(main(words), 0)
         told = err.getvalue().splitlines()
         self.assertGreater(len(told), 2)
-        self.assertRegex(told[0], r"^misteluk: went on in a new program at version \d+: \d+ edges and \d+ names went along, by \d+ "
-                                  r"records, in \d+\.\d s$")
+        self.assertRegex(told[0], r"^misteluk: went on in a new program at version \d+: \d+ edges and \d+ names went along, "
+                                  r"by \d+ records, in \d+\.\d s$")
         model, answers = Model(rows, "add", 900), [json.loads(it) for it in out.getvalue().splitlines()]
         for commit, degrees in zip(answers[0::2], answers[1::2]):
             model.go_to(commit["rows"])
