@@ -188,7 +188,8 @@ class BadRows(StoreError):
 
 
 class OverLimit(StoreError):
-    """A feed is more than a run of the program can take; nothing of it is loaded. `counts` says what was counted."""
+    """A feed, or a copy of a version, is more than a run of the program can take; nothing of it is loaded or written. `counts`
+    says what was counted."""
 
     def __init__(self, text: str, counts: Dict[str, int]) -> None:
         self.counts = counts
@@ -226,6 +227,10 @@ class Uncommitted(StoreError):
 
 class FeedFault(StoreError):
     """A file or graph isn't of the form that was said."""
+
+
+class SaveFault(StoreError):
+    """A file is no saved version, or isn't as it was written. Nothing of it is restored."""
 
 
 class ProgramNotFound(StoreError):
