@@ -15,7 +15,7 @@ from .delimited import delimited
 from .errors import (AlreadyOpen, BadCommand, BadFields, BadName, BadRows, BadSlot, BadTime, BadWeight, BadWindow, BatchFull,
                      BatchLimit, FeedFault, Incomplete, KindsFull, Misread, Missing, NamesFull, NearLimit, NoAnswer, NoKind,
                      NoSeat, NotOpen, NotRenewed, NoVertex, OperationsRefused, OutOfMemory, OverLimit, Place, PoolEmpty,
-                     ProgramEnded, ProgramNotFound, RecordLimit, Refused, SessionClosed, StoreError, Uncommitted)
+                     ProgramEnded, ProgramNotFound, RecordLimit, Refused, SaveFault, SessionClosed, StoreError, Uncommitted)
 from .feeds import Columns, Feed, matrix_market, snap
 from .finding import find_program
 from .following import Followed, Following, follow
@@ -24,6 +24,7 @@ from .loading import Loaded, Survey, load, load_in_steps, survey
 from .objects import from_columns, from_networkx, from_pandas, from_rows
 from .opening import open_feed
 from .renewing import Renewed
+from .saving import Saved
 from .session import Session
 from .store import Store
 
@@ -33,10 +34,12 @@ __all__ = [
     "load", "survey", "load_in_steps", "Loaded", "Survey", "follow", "Following", "Followed",
     "Columns", "Feed", "open_feed", "delimited", "snap", "matrix_market",
     "from_networkx", "from_pandas", "from_columns", "from_rows",
-    "Answer", "Collected", "Commit", "Degree", "Edge", "Neighbor", "Rebased", "Renewed", "Stat", "lint", "find_program",
+    "Answer", "Collected", "Commit", "Degree", "Edge", "Neighbor", "Rebased", "Renewed", "Saved", "Stat", "lint",
+    "find_program",
     "StoreError", "Refused", "Place", "AlreadyOpen", "BadCommand", "BadFields", "BadName", "BadRows", "BadSlot", "BadTime",
     "BadWeight", "BadWindow", "BatchFull", "BatchLimit", "FeedFault", "Incomplete", "KindsFull", "Misread", "Missing",
     "NamesFull", "NearLimit", "NoAnswer", "NoKind", "NoSeat", "NoVertex", "NotOpen", "NotRenewed", "OperationsRefused",
-    "OutOfMemory", "OverLimit", "PoolEmpty", "ProgramEnded", "ProgramNotFound", "RecordLimit", "SessionClosed", "Uncommitted",
+    "OutOfMemory", "OverLimit", "PoolEmpty", "ProgramEnded", "ProgramNotFound", "RecordLimit", "SaveFault", "SessionClosed",
+    "Uncommitted",
 ]
 __version__ = "0.1.0"

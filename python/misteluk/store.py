@@ -134,6 +134,23 @@ class Store(Renewing):
                       progress=progress, weight_scale=weight_scale, times=times, names=names, format=format, columns=columns,
                       delimiter=delimiter, header=header, third=third, encoding=encoding, decimal=decimal, dates=dates)
 
+    @classmethod
+    def restore(cls, path: Path, *, blocks: Optional[int] = None, seats: int = records.USUAL_SEATS,
+                workers: int = records.USUAL_WORKERS, program: Optional[Path] = None, timeout: float = 60.0,
+                decimals: str = "decimal", endless: bool = False, progress: Optional[bool] = None) -> "Store":
+        """A store with the version that `Session.save` wrote into the file. Every request of it is answered as that version's
+        were; its own versions count anew. It has the units and names of the store that was saved, and as many blocks, or more
+        where the copy needs them, unless `blocks` says how many. The other options are those of `Store`.
+
+        Raises `SaveFault` where the file is no saved version, or is damaged or cut, and `PoolEmpty` where so many blocks can't
+        be enough: no program was started then. `progress` shows or hides a bar; without it a terminal has one."""
+        from .saving import restore
+
+        def make(found: int, weight_scale: Optional[int], times: Optional[str]) -> "Store":
+            return cls(blocks=found, seats=seats, workers=workers, program=program, timeout=timeout, weight_scale=weight_scale,
+                       times=times, decimals=decimals, endless=endless)
+        return restore(path, make, blocks, progress)
+
     # Requests.
 
     @talks
