@@ -1,4 +1,4 @@
-"""python -m misteluk load | follow | lint | picture"""
+"""python -m misteluk load | restore | follow | lint | picture"""
 from __future__ import annotations
 
 import argparse
@@ -64,8 +64,7 @@ def add_feed_options(parser: argparse.ArgumentParser, blocks: str = BLOCKS) -> N
     store = parser.add_argument_group("the store")
     store.add_argument("--blocks", type=int, help=f"else {blocks}")
     store.add_argument("--batch", type=int, default=records.MOST_OPERATIONS, metavar="N", help="rows a batch (4,096 at most)")
-    store.add_argument("--program", help="the program to run; else MISTELUK_PROGRAM, this repository's, or stinger on the path")
-    store.add_argument("--timeout", type=float, default=60.0, metavar="SECONDS", help="how long the program may be silent")
+    add_program(store)
 
 
 def add_window(parser: argparse.ArgumentParser) -> None:
@@ -78,6 +77,29 @@ def add_table_options(group: Any) -> None:
     group.add_argument("--top", type=int, default=10, metavar="N", help="how many rows of a table are printed (10)")
     group.add_argument("--by", choices=tuple(BY_COLUMN), default="out", dest="column",
                        help="by which column the greatest degrees are (out)")
+
+
+def add_what_then(parser: argparse.ArgumentParser, ask: Any) -> None:
+    ask.add_argument("--save", metavar="PATH", help="save the graph as one file, which `misteluk restore` takes; packed where its "
+                     "name ends in .gz, .xz or .bz2")
+    ask.add_argument("--ask", action="append", default=[], choices=("degrees", "components", "cores"), help="print a table")
+    ask.add_argument("--levels", action="append", default=[], metavar="NAME", help="print the levels from a source")
+    add_table_options(ask)
+    ask.add_argument("--interactive", action="store_true", help="then a Python prompt with `store` and `session`")
+    add_window(parser)
+
+
+def add_program(store: Any) -> None:
+    store.add_argument("--program", help="the program to run; else MISTELUK_PROGRAM, this repository's, or stinger on the path")
+    store.add_argument("--timeout", type=float, default=60.0, metavar="SECONDS", help="how long the program may be silent")
+
+
+def add_restore(restore: argparse.ArgumentParser) -> None:
+    restore.add_argument("file", help="a file that --save or a session's save wrote, packed or not")
+    add_what_then(restore, restore.add_argument_group("what then"))
+    store = restore.add_argument_group("the store")
+    store.add_argument("--blocks", type=int, help="else as many as the saved store had, or more where the graph needs them")
+    add_program(store)
 
 
 def add_follow(follow: argparse.ArgumentParser) -> None:
@@ -104,11 +126,8 @@ def make_parser() -> argparse.ArgumentParser:
     ask = load.add_argument_group("what then")
     ask.add_argument("--dry-run", action="store_true", help="count and check the file, and send nothing")
     ask.add_argument("--script", metavar="OUT", help="write the records as a script for `stinger run`, and send nothing")
-    ask.add_argument("--ask", action="append", default=[], choices=("degrees", "components", "cores"), help="print a table")
-    ask.add_argument("--levels", action="append", default=[], metavar="NAME", help="print the levels from a source")
-    add_table_options(ask)
-    ask.add_argument("--interactive", action="store_true", help="then a Python prompt with `store` and `session`")
-    add_window(load)
+    add_what_then(load, ask)
+    add_restore(commands.add_parser("restore", help="make a store of a saved file, and ask"))
     add_follow(commands.add_parser("follow", help="load a file that grows, or standard input, as it comes; Ctrl-C ends it"))
     check = commands.add_parser("lint", help="tell each refused record of a script, with its line, field and reason")
     check.add_argument("script")
@@ -167,11 +186,28 @@ def run_load(words: argparse.Namespace) -> int:
             return 0
         store = ahead.store if ahead and ahead.store else start(words.blocks or found.fitting())
         print(load(store, found, by=words.by, skip_bad=words.skip_bad, ahead=ahead))
-        with store.open() as session:
-            answer(words, session)
-            if words.interactive:
-                code.interact(f"`session` holds version {session.version} of `store`. Ctrl-D ends.", local=locals())
+        do_then(words, store)
     return 0
+
+
+def run_restore(words: argparse.Namespace) -> int:
+    with Store.restore(words.file, blocks=words.blocks, program=words.program, timeout=words.timeout) as store:
+        stat = store.stat()
+        print(f"{words.file}: {stat.names} names and {stat.edges} edges restored in {stat.used} of {store.blocks} blocks",
+              flush=True)
+        do_then(words, store)
+    return 0
+
+
+def do_then(words: argparse.Namespace, store: Store) -> None:
+    """Saves and asks what is to be saved and asked of the last version, and gives a prompt where one is wanted."""
+    with store.open() as session:
+        if words.save:
+            print(session.save(words.save), flush=True)
+        answer(words, session)
+        if words.interactive:
+            code.interact(f"`session` holds version {session.version} of `store`. Ctrl-D ends.",
+                          local={"store": store, "session": session})
 
 
 def tell(words: argparse.Namespace, found: Survey) -> None:
@@ -268,7 +304,8 @@ def main(words: Optional[List[str]] = None) -> int:
         if isinstance(it, io.TextIOWrapper):  # (a name that the terminal has no signs for)
             it.reconfigure(errors="backslashreplace")
     try:
-        return {"load": run_load, "follow": run_follow, "lint": run_lint, "picture": run_picture}[parsed.command](parsed)
+        run = {"load": run_load, "restore": run_restore, "follow": run_follow, "lint": run_lint, "picture": run_picture}
+        return run[parsed.command](parsed)
     except (StoreError, OSError, ValueError) as fault:
         print(f"misteluk: {fault}", file=sys.stderr)
         return 1
