@@ -80,8 +80,8 @@ def add_table_options(group: Any) -> None:
 
 
 def add_what_then(parser: argparse.ArgumentParser, ask: Any) -> None:
-    ask.add_argument("--save", metavar="PATH", help="save the graph as one file, which `misteluk restore` takes; packed where its "
-                     "name ends in .gz, .xz or .bz2")
+    ask.add_argument("--save", metavar="PATH", help="save the graph as one file, which `misteluk restore` takes; packed where "
+                     "its name ends in .gz, .xz or .bz2")
     ask.add_argument("--ask", action="append", default=[], choices=("degrees", "components", "cores"), help="print a table")
     ask.add_argument("--levels", action="append", default=[], metavar="NAME", help="print the levels from a source")
     add_table_options(ask)

@@ -50,8 +50,10 @@ class Saved(NamedTuple):
     blocks: int
 
     def __str__(self) -> str:
-        return (f"{self.path}: version {self.version} with {self.names} names and {self.edges} edges, in {self.records} records "
-                f"for `stinger run --blocks {self.blocks}`")
+        edges = f"{self.edges} edge{'s' * (self.edges != 1)}"
+        names = f"{self.names} name{'s' * (self.names != 1)}"
+        return (f"{self.path}: version {self.version} with {names} and {edges}, in {self.records} records for `stinger run "
+                f"--blocks {self.blocks}`")
 
 
 class Found(NamedTuple):
@@ -128,8 +130,8 @@ def _must_have_room(session: "Session") -> None:
     needed = 1 + len(candidates) + len(candidates.kinds)
     sent, most = store._talk.records, store._most_records
     if sent + needed > most:
-        raise RecordLimit(f"a save asks for each edge that the store was told of, in {needed} records, and this run has had {sent} "
-                          f"of {most}. Nothing was asked or written")
+        raise RecordLimit(f"a save asks for each edge that the store was told of, in {needed} records, and this run has had "
+                          f"{sent} of {most}. Nothing was asked or written")
 
 
 def _must_fit(done: Saved, room: Room) -> None:
@@ -176,10 +178,14 @@ def _pieces(text: str) -> List[str]:
 # What is read.
 
 def read(path: Path) -> Found:
-    """What a saved file has. Raises `SaveFault` where the file is none, or isn't as it was written."""
-    name = os.fspath(path)
+    """What a saved file has."""
     with open(path, "rb") as file:
-        data = files.unpacked(file.read(), name)
+        return found_in(file.read(), os.fspath(path))
+
+
+def found_in(data: bytes, name: str) -> Found:
+    """What a saved file has, whose bytes these are. Raises `SaveFault` where it is none, or isn't as it was written."""
+    data = files.unpacked(data, name)
     found = _BEGINNING.match(data)
     if not found:
         raise SaveFault(f"{name} is no saved version: it doesn't begin as those that Session.save writes. Nothing is restored")
@@ -209,7 +215,8 @@ def restore(path: Path, make: "Callable[[int, Optional[int], Optional[str]], Sto
     `Store.restore`."""
     found = read(path)
     room = Room(found.operations)
-    blocks = max(found.count("blocks"), room.fitting()) if blocks is None else blocks
+    if blocks is None:
+        blocks = found.count("blocks") if room.batch(found.count("blocks")) else room.fitting()
     size = _batch(os.fspath(path), found, room, blocks)
     scale = int(found.facts["weight_scale"]) if "weight_scale" in found.facts else None
     with ExitStack() as stack:
@@ -244,6 +251,6 @@ def _batch(name: str, found: Found, room: Room, blocks: int) -> int:
                         "are said. Nothing is restored", advice="")
     count = len(found.operations) + 2 * -(-len(found.operations) // (size or 1)) + 2
     if count > records.MOST_RECORDS:
-        raise OverLimit(f"{name} takes {count} records in batches of {size}, for which {blocks} blocks have room, where a run takes "
-                        f"{records.MOST_RECORDS}: more blocks take fewer. Nothing is restored", {"records": count})
+        raise OverLimit(f"{name} takes {count} records in batches of {size}, for which {blocks} blocks have room, where a run "
+                        f"takes {records.MOST_RECORDS}: with more blocks they are fewer. Nothing is restored", {"records": count})
     return size

@@ -140,7 +140,7 @@ class Store(Renewing):
                 decimals: str = "decimal", endless: bool = False, progress: Optional[bool] = None) -> "Store":
         """A store with the version that `Session.save` wrote into the file. Every request of it is answered as that version's
         were; its own versions count anew. It has the units and names of the store that was saved, and as many blocks, or more
-        where the copy needs them, unless `blocks` says how many. The other options are those of `Store`.
+        where the copy finds no room in them, unless `blocks` says how many. The other options are those of `Store`.
 
         Raises `SaveFault` where the file is no saved version, or is damaged or cut, and `PoolEmpty` where so many blocks can't
         be enough: no program was started then. `progress` shows or hides a bar; without it a terminal has one."""
