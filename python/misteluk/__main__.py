@@ -121,7 +121,7 @@ def add_follow(follow: argparse.ArgumentParser) -> None:
 def make_parser() -> argparse.ArgumentParser:
     parser = argparse.ArgumentParser(prog="misteluk", description="Loads data into Misteluk, and asks.")
     commands = parser.add_subparsers(dest="command", required=True)
-    load = commands.add_parser("load", help="load a file, and ask; nothing is kept when it ends")
+    load = commands.add_parser("load", help="load a file, and ask; nothing is kept unless it is saved")
     add_feed_options(load)
     ask = load.add_argument_group("what then")
     ask.add_argument("--dry-run", action="store_true", help="count and check the file, and send nothing")

@@ -10,7 +10,6 @@ import hashlib
 import os
 import re
 from array import array
-from contextlib import ExitStack
 from typing import TYPE_CHECKING, Callable, Dict, List, NamedTuple, Optional, Sequence, Set, Tuple
 from urllib.parse import unquote
 
@@ -219,14 +218,18 @@ def restore(path: Path, make: "Callable[[int, Optional[int], Optional[str]], Sto
         blocks = found.count("blocks") if room.batch(found.count("blocks")) else room.fitting()
     size = _batch(os.fspath(path), found, room, blocks)
     scale = int(found.facts["weight_scale"]) if "weight_scale" in found.facts else None
-    with ExitStack() as stack:
-        store = stack.enter_context(make(blocks, scale, found.facts.get("times")))
+    store: Optional[Store] = None
+    try:
+        store = make(blocks, scale, found.facts.get("times"))
         _fill(store, found, size, Progress(f"restoring {os.fspath(path)}", len(found.operations), progress))
         stat, wanted = store.stat(), (found.count("names"), found.count("edges"))
         if (stat.names, stat.edges) != wanted:
             raise StoreError(f"{stat.names} names and {stat.edges} edges came of {os.fspath(path)}, and not {wanted}")
-        stack.pop_all()
-    return store
+        return store
+    except BaseException as fault:
+        if store is not None:
+            store.__exit__(type(fault), fault, None)
+        raise
 
 
 def _fill(store: "Store", found: Found, size: int, told: Progress) -> None:

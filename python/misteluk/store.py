@@ -41,7 +41,7 @@ class Store(Renewing):
                 print(session.degrees("transfer"))
 
     `insert`, `add` and `remove` are collected here and checked at once; `commit` sends them. Where a commit is refused, what
-    it would have applied is pending still. Nothing is written to disk: the graph lives as long as the store.
+    it would have applied is pending still. The graph lives as long as the store, but for versions that sessions save as files.
 
     `blocks`: how many blocks hold edges, 16 to 65,536; each has room for 32 edges of one kind and source, and takes 1 KB.
     `seats`: how many sessions may be open at once, 1 to 16. `workers`: how many threads apply a batch, 1 to 8.

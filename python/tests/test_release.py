@@ -101,7 +101,7 @@ class Pages(Case):
 
     def test_completion_of_the_client_for_bash(self):
         """Files are offered by bash itself, where there is no word."""
-        self.complete("load follow lint picture -h --help", "", name="misteluk")
+        self.complete("load restore follow lint picture -h --help", "", name="misteluk")
         self.complete("--dry-run", "load", "file.csv", "--dr", name="misteluk")
         self.complete("degrees components cores", "load", "file.csv", "--ask", "", name="misteluk")
         self.complete("components compare", "picture", "comp", name="misteluk")

@@ -198,7 +198,8 @@ class Limits(Case):
         store = self.store("insert k a b 1 1", "insert k b c 2 2", "insert l b c 2 2")
         session, before = store.open(), store.records_sent
         store._fewer_records = before + 5
-        with self.assertRaisesRegex(misteluk.RecordLimit, f"in 6 records, and this run has had {before} of {before + 5}. Nothing"):
+        wanted = f"in 6 records, and this run has had {before} of {before + 5}. Nothing"
+        with self.assertRaisesRegex(misteluk.RecordLimit, wanted):
             session.save(self.room / "s.csv")
         self.assertEqual((store.records_sent, os.listdir(self.room)), (before, []))
         store._fewer_records = before + 6
@@ -212,8 +213,9 @@ class Limits(Case):
         self.assertGreater(count, 40)
         with mock.patch.object(records, "MOST_RECORDS", count - 1):
             store._fewer_records = 999_999
-            with self.assertRaisesRegex(misteluk.OverLimit, f"with 21 names and 20 edges, takes {count} records, where a run takes "
-                                        f"{count - 1}: .* two records. Nothing was written") as told:
+            wanted = (f"with 21 names and 20 edges, takes {count} records, where a run takes {count - 1}: .* two records. "
+                      "Nothing was written")
+            with self.assertRaisesRegex(misteluk.OverLimit, wanted) as told:
                 session.save(self.room / "t.csv")
             self.assertEqual((told.exception.counts["records"], os.listdir(self.room)), (count, ["s.csv"]))
         with mock.patch.object(records, "MOST_RECORDS", 40), self.assertRaisesRegex(misteluk.OverLimit, "takes 44 records"):
@@ -221,8 +223,9 @@ class Limits(Case):
 
     def test_blocks(self):
         """Batches are as small as the blocks want it; where even one operation finds no room, nothing is begun."""
-        store = self.store(*(f"insert k s{it % 50} t{it} 1 {it}" for it in range(60)), *(f"add k s{it} t{it} 1 99" for it in range(9)),
-                           "insert k lone lone", "remove k lone lone")
+        touched = (f"add k s{it} t{it} 1 99" for it in range(9))
+        store = self.store(*(f"insert k s{it % 50} t{it} 1 {it}" for it in range(60)), *touched, "insert k lone lone",
+                           "remove k lone lone")
         session = store.open()
         session.save(self.room / "s.csv")
         wanted = sorted(session.edges())

@@ -1,6 +1,5 @@
-"""What goes wrong while a version is saved leaves the old file whole: an interrupt, a full disk. A damaged file is refused, and an
-interrupted restore leaves no program. Each is tried again with a fault that is planted, and has to find it.
-"""
+"""What goes wrong while a version is saved, as an interrupt or a full disk, leaves the old file whole. A damaged file is refused,
+and an interrupted restore leaves no program. Tests are made again with faults that are planted, and have to find them."""
 import contextlib
 import errno
 import os
@@ -8,6 +7,7 @@ import resource
 import stat
 import subprocess
 import unittest
+import warnings
 from unittest import mock
 
 from interrupting import at_line, has_ended
@@ -37,6 +37,14 @@ def in_place(path):
         yield file
 
 
+def end(process):
+    """Ends a program that a planted fault left."""
+    process.kill()
+    process.wait()
+    for it in (process.stdin, process.stdout, process.stderr):
+        it.close()
+
+
 class Faults(Case):
     """What goes wrong while a version is saved or restored."""
 
@@ -53,6 +61,12 @@ class Faults(Case):
 
     def is_old(self):
         return self.path.read_bytes() == self.old and sorted(os.listdir(self.room)) == ["new.csv.gz", "s.csv.gz"]
+
+    def run(self, result=None):
+        """Python closes a file late where an interrupt comes at the end of its `with`, and warns of that."""
+        with warnings.catch_warnings():
+            warnings.simplefilter("ignore", ResourceWarning)
+            return super().run(result)
 
     def lines(self, step=1):
         """How many lines a save runs, and at which of them an interrupt makes it go wrong."""
@@ -79,21 +93,29 @@ class Faults(Case):
         with mock.patch.object(files, "whole", in_place):
             self.assertGreater(len(self.lines(3)[1]), 0)
 
-    def test_an_interrupted_restore_leaves_no_program(self):
-        processes, real, at, is_more = [], subprocess.Popen, -10, True
+    def left(self, step):
+        """How many programs were begun by restores that were interrupted, at each line of so many, and how many don't end."""
+        processes, real, at, is_more = [], subprocess.Popen, 1 - step, True
 
         def start(*given, **named):
             processes.append(real(*given, **named))
+            self.addCleanup(end, processes[-1])
             return processes[-1]
         with mock.patch.object(subprocess, "Popen", start):
             while is_more:
-                at += 11
+                at += step
                 stores = []
                 is_more = at_line(at, lambda: stores.append(Store.restore(self.path, blocks=64)))
                 for it in stores:
                     it.close()
-        self.assertGreater(len(processes), 10)
-        self.assertEqual([it for it in processes if not has_ended(it)], [])
+        return len(processes), sum(not has_ended(it, 1 if step > 9 else 5) for it in processes)
+
+    def test_an_interrupted_restore_leaves_no_program(self):
+        count, left = self.left(2)
+        self.assertGreater(count, 30)
+        self.assertEqual(left, 0)
+        with mock.patch.object(Store, "__exit__", lambda *_: None), mock.patch.object(Store, "__del__", lambda _: None):
+            self.assertGreater(self.left(20)[1], 0)
 
     def full(self):
         """After how many bytes a disk is full that makes a save leave another file than the old one."""
