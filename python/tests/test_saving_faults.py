@@ -6,12 +6,13 @@ import os
 import resource
 import stat
 import subprocess
+import sys
 import unittest
 import warnings
 from unittest import mock
 
 from interrupting import at_line, has_ended
-from support import Case
+from support import HERE, Case
 
 import misteluk
 from misteluk import Store, files, saving
@@ -137,6 +138,23 @@ class Faults(Case):
                 with self.assertRaises(OSError):
                     self.session.save(self.path)
             self.assertTrue(self.is_old(), name)
+
+    def test_what_is_killed(self):
+        """The program while it is asked; and the process that saves, before the file has its name."""
+        code = ("import os, sys, misteluk; os.replace = lambda *_: os.kill(os.getpid(), 9); store = misteluk.Store(blocks=64); "
+                "store.open().save(sys.argv[1])")
+        done = subprocess.run([sys.executable, "-c", code, self.path], cwd=HERE.parent, timeout=60)
+        self.assertEqual((done.returncode, self.path.read_bytes() == self.old), (-9, True))
+        (part,) = (it for it in os.listdir(self.room) if it.endswith(".part"))
+        os.remove(self.room / part)
+        store = self.store("insert k a b 1 1", blocks=64)
+        session = store.open()
+        store._talk.process.kill()
+        with self.assertRaises(misteluk.ProgramEnded):
+            session.save(self.path)
+        self.assertTrue(self.is_old())
+        with self.assertRaises(misteluk.ProgramEnded):
+            store.close()
 
     def test_places_that_can_t_be_written(self):
         before = self.saver.records_sent
