@@ -1,4 +1,4 @@
-"""python -m misteluk load | fleet | lint | picture"""
+"""python -m misteluk load | fleet | restore | follow | lint | picture"""
 from __future__ import annotations
 
 import argparse
@@ -9,122 +9,28 @@ import sys
 from contextlib import ExitStack
 from typing import Any, Dict, Iterator, List, Optional
 
-from . import around, pictures, records
-from .answers import BY_COLUMN
+from . import around, pictures, records, telling
 from .errors import NoKind, NoVertex, StoreError
-from .feeds import STANDARD_INPUT, Column, Columns, feed_name
+from .feeds import STANDARD_INPUT, feed_name
 from .fleet import Fleet
 from .lint import lint
 from .loading import Ahead, Survey, check, load, load_in_steps, survey
 from .names import shown
-from .notations import DECIMALS, TIMES
+from .options import columns_of, make_parser
+from .questions import Question, all_lines
 from .session import Session
 from .store import Store
 
 
-def column(text: str) -> Column:
-    """A column: its number from 1, or its name."""
-    return int(text) if text.isdigit() else text
-
-
-def add_feed_options(parser: argparse.ArgumentParser, has_blocks: bool = True) -> None:
-    parser.add_argument("file", help="a delimited file, an edge list (SNAP), or a Matrix Market file; .gz is unpacked; - is "
-                        "standard input")
-    way = parser.add_mutually_exclusive_group(required=True)
-    way.add_argument("--set", dest="by", action="store_const", const="set", help="a later row sets the weight of its edge anew")
-    way.add_argument("--add", dest="by", action="store_const", const="add", help="a later row adds to the weight of its edge")
-    feed = parser.add_argument_group("what the file is")
-    feed.add_argument("--format", choices=("delimited", "snap", "matrix"), help="else the file's name says")
-    for name, usual in (("source", "source"), ("target", "target"), ("kind-column", None), ("weight", None), ("time", None)):
-        feed.add_argument(f"--{name}", type=column, default=usual, metavar="COLUMN", help="a column's name, or its number from 1")
-    feed.add_argument("--kind", default="link", help="the kind of all edges, where no column has it (else link)")
-    feed.add_argument("--delimiter", help="else the comma, tab, semicolon or bar of which the first line has most")
-    feed.add_argument("--header", action=argparse.BooleanOptionalAction, help="else there is one where columns are named")
-    feed.add_argument("--encoding", default="utf-8", help="the file's, as cp1252, latin-1 or utf-16 (utf-8)")
-    feed.add_argument("--decimal", choices=DECIMALS, default=".", help="the sign before decimals: , takes 12,50 and 1.234,50 (.)")
-    feed.add_argument("--dates", choices=TIMES, help="times are dates of this form, which a time of day may follow, or numbers "
-                      "since 1970; else --times iso takes 2024-03-05")
-    feed.add_argument("--third", choices=("weight", "time"), help="what the third field of an edge list is")
-    feed.add_argument("--weight-scale", type=int, metavar="N", help="weights are decimals of so many parts: 100 takes 12.50")
-    feed.add_argument("--times", choices=("number", "iso"), help="iso: times are dates, here and in what is asked and told")
-    feed.add_argument("--names", choices=("plain", "escape"), default="plain", help="any text is a name; escape: with %%20 for a "
-                      "space and so on, which a script has else as an id")
-    feed.add_argument("--skip-bad", action="store_true", help="pass over rows that can't be taken, and count them")
-    store = parser.add_argument_group("the store")
-    if has_blocks:
-        store.add_argument("--blocks", type=int, help="else as many as are needed, and no fewer than 16,384; where a file "
-                           "is loaded that has two full batches, 65,536")
-    store.add_argument("--batch", type=int, default=records.MOST_OPERATIONS, metavar="N", help="rows a batch (4,096 at most)")
-    store.add_argument("--program", help="the program to run; else MISTELUK_PROGRAM, this repository's, or stinger on the path")
-    store.add_argument("--timeout", type=float, default=60.0, metavar="SECONDS", help="how long the program may be silent")
-
-
-def add_questions(group: "argparse._ArgumentGroup") -> None:
-    group.add_argument("--ask", action="append", default=[], choices=("degrees", "components", "cores"), help="print a table")
-    group.add_argument("--levels", action="append", default=[], metavar="NAME", help="print the levels from a source")
-    group.add_argument("--top", type=int, default=10, metavar="N", help="how many rows of a table are printed (10)")
-    group.add_argument("--by", choices=tuple(BY_COLUMN), default="out", dest="column",
-                       help="by which column the greatest degrees are (out)")
-
-
-def add_window(parser: argparse.ArgumentParser) -> None:
-    parser.add_argument("--of-kind", metavar="KIND", help="answer over edges of one kind; else of any")
-    parser.add_argument("--since", default="0", metavar="TIME", help="answer over edges with a recent time from this on")
-    parser.add_argument("--until", default=str(records.MOST_TIME), metavar="TIME", help="and up to this; to the end of a day")
-
-
-def add_fleet(commands: "argparse._SubParsersAction[argparse.ArgumentParser]") -> None:
-    fleet = commands.add_parser("fleet", help="part a file's rows by a column, load each part into its own store, and ask all")
-    add_feed_options(fleet, has_blocks=False)
-    parts = fleet.add_argument_group("parts, and what then")
-    parts.add_argument("--key", type=column, required=True, metavar="COLUMN", help="the column that parts the rows: a name, or a "
-                       "number from 1")
-    parts.add_argument("--workers", type=int, metavar="N", help="how many parts are asked at once; else one a processor, up to 8")
-    add_questions(parts)
-    add_window(fleet)
-
-
-def make_parser() -> argparse.ArgumentParser:
-    parser = argparse.ArgumentParser(prog="misteluk", description="Loads data into Misteluk, and asks.")
-    commands = parser.add_subparsers(dest="command", required=True)
-    load = commands.add_parser("load", help="load a file, and ask; nothing is kept when it ends")
-    add_feed_options(load)
-    ask = load.add_argument_group("what then")
-    ask.add_argument("--dry-run", action="store_true", help="count and check the file, and send nothing")
-    ask.add_argument("--script", metavar="OUT", help="write the records as a script for `stinger run`, and send nothing")
-    add_questions(ask)
-    ask.add_argument("--interactive", action="store_true", help="then a Python prompt with `store` and `session`")
-    add_window(load)
-    add_fleet(commands)
-    check = commands.add_parser("lint", help="tell each refused record of a script, with its line, field and reason")
-    check.add_argument("script")
-    check.add_argument("--seats", type=int, default=records.USUAL_SEATS)
-    check.add_argument("--blocks", type=int, default=records.USUAL_BLOCKS)
-    check.add_argument("--program")
-    picture = commands.add_parser("picture", help="draw a picture of a file's graph (needs matplotlib, but for around)")
-    picture.add_argument("what", choices=("degrees", "components", "cores", "edge", "compare", "around"),
-                         help="edge: a weight over versions, one a batch; compare: two sessions' weights going out; around: a "
-                         "page of a vertex's neighborhood")
-    add_feed_options(picture)
-    picture.add_argument("-o", "--output", required=True, metavar="PICTURE", help="a name that ends in .svg or .png; that of a "
-                         "page in .html")
-    picture.add_argument("--title")
-    picture.add_argument("--edge", metavar="KIND,SOURCE,TARGET", help="the edge, for the picture of that name")
-    picture.add_argument("--first", type=int, metavar="N", help="compare: open the first session behind N batches (else half)")
-    around.add_options(picture)
-    add_window(picture)
-    return parser
-
-
-def columns_of(words: argparse.Namespace) -> Columns:
-    return Columns(words.source, words.target, words.kind_column, words.weight, words.time, words.kind)
+def form_of_feed(words: argparse.Namespace) -> Dict[str, Any]:
+    """What is said of the feed."""
+    return {"by": words.by, "weight_scale": words.weight_scale, "times": words.times, "names": words.names,
+            "format": words.format, "columns": columns_of(words), "delimiter": words.delimiter, "header": words.header,
+            "third": words.third, "encoding": words.encoding, "decimal": words.decimal, "dates": words.dates}
 
 
 def read(words: argparse.Namespace, ahead: Optional[Ahead] = None) -> Survey:
-    found = survey(words.file, by=words.by, batch=words.batch, weight_scale=words.weight_scale, times=words.times,
-                   names=words.names, format=words.format, columns=columns_of(words), delimiter=words.delimiter,
-                   header=words.header, third=words.third, ahead=ahead, encoding=words.encoding, decimal=words.decimal,
-                   dates=words.dates)
+    found = survey(words.file, batch=words.batch, ahead=ahead, **form_of_feed(words))
     check(found, skip_bad=words.skip_bad)
     return found
 
@@ -155,12 +61,29 @@ def run_load(words: argparse.Namespace) -> int:
             return 0
         store = ahead.store if ahead and ahead.store else start(words.blocks or found.fitting())
         print(load(store, found, by=words.by, skip_bad=words.skip_bad, ahead=ahead))
-        with store.open() as session:
-            for line in answer(words, session):
-                print(line)
-            if words.interactive:
-                code.interact(f"`session` holds version {session.version} of `store`. Ctrl-D ends.", local=locals())
+        do_then(words, store)
     return 0
+
+
+def run_restore(words: argparse.Namespace) -> int:
+    with Store.restore(words.file, blocks=words.blocks, program=words.program, timeout=words.timeout) as store:
+        stat = store.stat()
+        print(f"{words.file}: {stat.names} names and {stat.edges} edges restored in {stat.used} of {store.blocks} blocks",
+              flush=True)
+        do_then(words, store)
+    return 0
+
+
+def do_then(words: argparse.Namespace, store: Store) -> None:
+    """Saves and asks what is to be saved and asked of the last version, and gives a prompt where one is wanted."""
+    with store.open() as session:
+        if words.save:
+            print(session.save(words.save), flush=True)
+        for line in answer(words, session):
+            print(line)
+        if words.interactive:
+            code.interact(f"`session` holds version {session.version} of `store`. Ctrl-D ends.",
+                          local={"store": store, "session": session})
 
 
 def tell(words: argparse.Namespace, found: Survey) -> None:
@@ -179,46 +102,23 @@ def tell(words: argparse.Namespace, found: Survey) -> None:
 
 def answer(words: argparse.Namespace, session: Session, is_part: bool = False) -> Iterator[str]:
     """The lines of the tables that are asked for. A part of a fleet needn't have the sources of levels."""
-    for what in words.ask:
-        if what == "components":
-            yield from component_lines(session.components(**window(words)), words.top)
-            continue
-        table: Any = getattr(session, what)(**window(words))
-        how = f"greatest {max(table.values(), default=0)}" if what == "cores" else f"greatest by {words.column}"
-        yield f"{what}: {len(table)} names, {how}"
-        for name, value in table.most(words.top, None if what == "cores" else words.column):
-            told = value if what == "cores" else f"out {value.out} in {value.into} weight {value.weight_out}"
-            yield f"  {shown(name)} {told}"
-    for source in words.levels:
+    questions = [Question(it, it) for it in words.ask]
+    questions += [Question(f"levels from {shown(it)}", "levels", (it,)) for it in words.levels]
+    for it in questions:
         try:
-            yield from level_lines(source, session.levels(source, **window(words)), words.top)
+            yield from all_lines(it, session, words.top, words.column, window(words))
         except (NoVertex, NoKind):
-            if not is_part:
+            if not is_part or it.what != "levels":
                 raise
-            yield f"levels from {shown(source)}: no such name or kind"
-
-
-def component_lines(labels: Dict[str, str], most: int) -> Iterator[str]:
-    sizes: Dict[str, int] = {}
-    for label in labels.values():
-        sizes[label] = sizes.get(label, 0) + 1
-    yield f"components: {len(sizes)} of {len(labels)} names"
-    for label, size in sorted(sizes.items(), key=lambda it: -it[1])[:most]:
-        yield f"  {shown(label)} {size}"
-
-
-def level_lines(source: str, levels: Dict[str, int], most: int) -> Iterator[str]:
-    yield f"levels from {shown(source)}: {len(levels)} reached, the farthest at {max(levels.values())}"
-    for level in range(min(max(levels.values()) + 1, most)):
-        yield f"  {level}: {sum(it == level for it in levels.values())}"
+            yield f"{it.text}: no such name or kind"
 
 
 def run_fleet(words: argparse.Namespace) -> int:
     """Parts a file's rows, and tells each part's answers below its key."""
-    with Fleet(words.file, key=words.key, by=words.by, columns=columns_of(words), workers=words.workers, alive=0,
-               skip_bad=words.skip_bad, batch=words.batch, weight_scale=words.weight_scale, times=words.times,
-               names=words.names, format=words.format, delimiter=words.delimiter, header=words.header, encoding=words.encoding,
-               decimal=words.decimal, dates=words.dates, program=words.program, timeout=words.timeout) as fleet:
+    form = form_of_feed(words)
+    del form["third"]
+    with Fleet(words.file, key=words.key, workers=words.workers, alive=0, skip_bad=words.skip_bad, batch=words.batch,
+               program=words.program, timeout=words.timeout, **form) as fleet:
         print(f"{feed_name(words.file)}: {sum(fleet.parts.values())} rows in {len(fleet)} parts", flush=True)
         for key, lines in fleet.ask(lambda session: list(answer(words, session, is_part=True))):
             rows = fleet.parts[key]
@@ -226,6 +126,11 @@ def run_fleet(words: argparse.Namespace) -> int:
         for key, count in fleet.bad.items():
             print(f"{count} bad rows passed over {f'of {shown(key)}' if key else 'that have no key'}")
     return 0
+
+
+def run_follow(words: argparse.Namespace) -> int:
+    with Store(blocks=words.blocks or records.MOST_BLOCKS, program=words.program, timeout=words.timeout, endless=True) as store:
+        return telling.follow(words, store, form_of_feed(words))
 
 
 def run_lint(words: argparse.Namespace) -> int:
@@ -307,7 +212,9 @@ def main(words: Optional[List[str]] = None) -> int:
         if isinstance(it, io.TextIOWrapper):  # (a name that the terminal has no signs for)
             it.reconfigure(errors="backslashreplace")
     try:
-        return {"load": run_load, "fleet": run_fleet, "lint": run_lint, "picture": run_picture}[parsed.command](parsed)
+        run = {"load": run_load, "fleet": run_fleet, "restore": run_restore, "follow": run_follow, "lint": run_lint,
+               "picture": run_picture}
+        return run[parsed.command](parsed)
     except (StoreError, OSError, ValueError) as fault:
         print(f"misteluk: {fault}", file=sys.stderr)
         return 1

@@ -39,11 +39,18 @@ class Asking:
     _sessions: "Dict[int, weakref.ref[Session]]"
     _orphans: List[Tuple[int, Awaited]]
     _index: Index
+    # How many records a run is given at most, where that is fewer than it takes.
+    _fewer_records: Optional[int] = None
 
     @talks
     def stat(self) -> Stat:
         """The last version's number, names and edges, and the blocks."""
-        return Stat(*numbers(self._ask(("stat",)).head or "", "stat", 6))
+        found = Stat(*numbers(self._ask(("stat",)).head or "", "stat", 6))
+        return found._replace(version=found.version + self._made_before())
+
+    def _made_before(self) -> int:
+        """How many versions were made in programs before this one: the program counts from 0."""
+        return 0
 
     @talks
     def _candidates(self) -> Candidates:
@@ -68,13 +75,20 @@ class Asking:
             del self._sessions[at]
             self._ask(("close", str(at)))
 
+    @property
+    def _most_records(self) -> int:
+        return self._fewer_records or records.MOST_RECORDS
+
     def _make_room(self, count: int) -> None:
         """Raises where a run would be given more records than it takes."""
         if self._closed:
             raise StoreError("the store is closed")
-        if self._talk.records + count > records.MOST_RECORDS:
-            raise RecordLimit(f"a run takes {records.MOST_RECORDS} records; this one had {self._talk.records}, and {count} more "
-                              "were to be sent: begin a new store")
+        if self._talk.records + count > self._most_records:
+            raise self._limit_reached(count)
+
+    def _limit_reached(self, count: int) -> RecordLimit:
+        return RecordLimit(f"a run takes {self._most_records} records; this one had {self._talk.records}, and {count} more were "
+                           "to be sent: begin a new store, or make it endless (Store(endless=True))")
 
     def _record(self, fields: Sequence[str]) -> str:
         """The record of a request, whose fields are the user's. What wouldn't be one line of plain signs is refused here."""

@@ -184,6 +184,7 @@ class Batches(Asking):
                 from_pending: bool = False, rows: Optional[Rows] = None) -> None:
         """Sends one batch. `place` tells where the operation of a number in the batch came from; `rows` has its edges by number,
         where all its operations are insertions or additions."""
+        self._go_on(count + 1 + collect, count)
         self._make_room(count + 1 + collect)
         before = self._talk.records
         self._index.tell(operations, count, rows)
@@ -191,6 +192,23 @@ class Batches(Asking):
         done = self._talk.ask("commit\n")
         last = self._talk.ask("collect\n") if collect else done
         self._flight = Flight(operations, count, before, done, last, place, from_pending)
+
+    # What a store does otherwise that is endless (see `renewing`).
+
+    def _go_on(self, count: int, more: int) -> Asking:
+        """Is called before so many records are sent, by which there are so many more edges at most."""
+        return self
+
+    def _helps_against(self, word: str) -> bool:
+        """Whether a refused batch is sent once more, to a new program."""
+        return False
+
+    def _land_anew(self, flight: Flight) -> Commit:
+        raise NotImplementedError
+
+    def _counted(self, receipt: Commit) -> Commit:
+        """What a batch did, with the store's own number for its version."""
+        return receipt._replace(version=receipt.version + self._made_before())
 
     @talks
     def _has_landed(self) -> bool:
@@ -207,12 +225,14 @@ class Batches(Asking):
         refused = self._talk.take_refused()
         if flight.done.word:
             self._index.refused()
+            if self._helps_against(flight.done.word):
+                return self._land_anew(flight)
             raise self._refused_commit(flight)
         if flight.from_pending:
             del self._pending[:flight.size]
         else:
             self._untold.clear()  # (a load's version is behind it)
-        receipt = committed(flight.done.head or "")
+        receipt = self._counted(committed(flight.done.head or ""))
         self._index.landed(receipt.version, {number - flight.before - 1 for number, _ in refused}, self._floor())
         if refused:
             raise OperationsRefused(receipt.version, [flight.refusal_of(number, word, self._terms) for number, word in refused])

@@ -32,7 +32,7 @@ def _delimited_blocks(path: Path, columns: Columns, delimiter: Optional[str], he
             raise FeedFault(f"{feed}: columns are named, and there is no header: name them by number (from 1)")
         picked = Picked(feed, columns, names)
         for lines in parts_of(file, feeds.ROWS_AT_ONCE):
-            even = _even_columns(lines, sign)
+            even = even_columns(lines, sign)
             if len(even) >= picked.least:
                 yield picked.of_columns(range(line + 1, line + 1 + len(lines)), even)
                 line += len(lines)
@@ -42,7 +42,7 @@ def _delimited_blocks(path: Path, columns: Columns, delimiter: Optional[str], he
             yield from picked.of_rows([it for it in rows if it[0]])  # (a blank line is no row)
 
 
-def _even_columns(lines: Sequence[str], sign: str) -> List[List[str]]:
+def even_columns(lines: Sequence[str], sign: str) -> List[List[str]]:
     """The columns of lines that have no quotes and as many fields each: nearly all files are such, and are split at once. Of
     other lines none."""
     text = "".join(lines)
@@ -67,6 +67,21 @@ def _csv_rows(feed: str, lines: Iterable[str], sign: str, before: int) -> Iterat
             yield row, before + reader.line_num
     except csv.Error as fault:
         raise FeedFault(f"{feed}:{before + reader.line_num}: {fault}") from fault
+
+
+def whole_rows(feed: str, lines: Sequence[str], sign: str, before: int, is_end: bool) -> List[Tuple[Sequence[str], int]]:
+    """The rows of lines, without a last one that goes on behind them, unless nothing comes there any more."""
+    ended: List[bool] = []
+
+    def until_the_end() -> Iterator[str]:
+        yield from lines
+        ended.append(True)
+    rows = []
+    for it in _csv_rows(feed, until_the_end(), sign, before):
+        if ended and not is_end:
+            break
+        rows.append(it)
+    return rows
 
 
 def _rows_begun(feed: str, lines: Sequence[str], file: Iterable[str], sign: str,

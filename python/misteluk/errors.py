@@ -183,11 +183,12 @@ class OperationsRefused(StoreError):
 
 
 class BadRows(StoreError):
-    """Rows of a feed are no operations; nothing of the feed is loaded. `count` says how many they are, `faults` has the first
-    faults and the first of each rule, and `fault_counts` how many rows break each rule, by its word and field."""
+    """Rows of a feed are no operations; nothing of the feed is loaded, or what `stands` says of one that is followed. `count`
+    says how many they are, `faults` has the first faults and the first of each rule, and `fault_counts` how many rows break each
+    rule, by its word and field."""
 
     def __init__(self, feed: str, count: int, rows: int, faults: Sequence[Refused],
-                 fault_counts: Optional[Dict[str, int]] = None) -> None:
+                 fault_counts: Optional[Dict[str, int]] = None, stands: str = "none is loaded") -> None:
         self.feed, self.count, self.rows, self.faults = feed, count, rows, list(faults)
         self.fault_counts = dict(fault_counts or {})
         lines = [it.told for it in self.faults]
@@ -197,11 +198,12 @@ class BadRows(StoreError):
             lines.append("In all " + ", ".join(f"{times} {rule}" for rule, times in self.fault_counts.items()))
         lines += dict.fromkeys(it.advice for it in self.faults if it.advice)
         lines += ["The others can be loaded without them: skip_bad=True (--skip-bad)"] if count < rows else []
-        super().__init__("\n  ".join([f"{feed}: {count} of {rows} rows can't be taken, and none is loaded", *lines]))
+        super().__init__("\n  ".join([f"{feed}: {count} of {rows} rows can't be taken, and {stands}", *lines]))
 
 
 class OverLimit(StoreError):
-    """A feed is more than a run of the program can take; nothing of it is loaded. `counts` says what was counted."""
+    """A feed, or a copy of a version, is more than a run of the program can take; nothing of it is loaded or written. `counts`
+    says what was counted."""
 
     def __init__(self, text: str, counts: Dict[str, int]) -> None:
         self.counts = counts
@@ -220,6 +222,15 @@ class RecordLimit(StoreError):
     """A run takes 999,999 records: this one would be one more, and was not sent."""
 
 
+class NotRenewed(StoreError):
+    """An endless store couldn't go on in a new program. The one in use stays so, and nothing that is pending was sent; the next
+    commit tries again."""
+
+
+class NearLimit(UserWarning):
+    """An endless store has nearly as many edges as can go into a new program, or more."""
+
+
 class Uncommitted(StoreError):
     """The store was closed while operations were pending, or a feed was to be loaded; `operations` has them as records."""
 
@@ -230,6 +241,10 @@ class Uncommitted(StoreError):
 
 class FeedFault(StoreError):
     """A file or graph isn't of the form that was said."""
+
+
+class SaveFault(StoreError):
+    """A file is no saved version, or isn't as it was written. Nothing of it is restored."""
 
 
 class ProgramNotFound(StoreError):

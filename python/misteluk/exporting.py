@@ -1,15 +1,14 @@
 """The edges of a version, one after another, and as a frame, a graph or a file."""
 from __future__ import annotations
 
-import contextlib
 import csv
-import os
 from datetime import datetime
-from typing import IO, TYPE_CHECKING, Any, Iterable, Iterator, List, Optional, Tuple, Union, overload
+from typing import TYPE_CHECKING, Any, Iterable, Iterator, List, Optional, Tuple, Union, overload
 
 from . import records
 from .answers import Edge
 from .errors import BadName, Missing
+from .files import whole_text
 from .finding import Path
 from .tables import RAISE
 from .units import Moment
@@ -87,7 +86,7 @@ class Exporting(Walking):
         """Writes all edges as CSV with a header, kind, source, target, weight, first and recent, and gives how many they are. The
         file is written beside and renamed when it is whole: a fault or an interrupt leaves what was there. See `edges`."""
         edges, count = self.edges(kind=kind, since=since, until=until), 0
-        with _whole(path) as file:
+        with whole_text(path) as file:
             write = csv.writer(file, lineterminator="\n").writerow
             write(HEADER)
             for *ends, edge in edges:
@@ -117,19 +116,3 @@ class Exporting(Walking):
 
 def _time_text(time: Any) -> str:
     return time.isoformat() if isinstance(time, datetime) else str(time)
-
-
-@contextlib.contextmanager
-def _whole(path: Path) -> "Iterator[IO[str]]":
-    """A file that takes the place of the one of this path when it is whole and on the disk, or never."""
-    beside = f"{os.fspath(path)}.{os.getpid()}.part"
-    try:
-        with open(beside, "w", encoding="utf-8", newline="") as file:
-            yield file
-            file.flush()
-            os.fsync(file.fileno())
-        os.replace(beside, path)
-    except BaseException:
-        with contextlib.suppress(OSError):
-            os.remove(beside)
-        raise

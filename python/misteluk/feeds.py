@@ -129,40 +129,55 @@ def feed_name(path: Path) -> str:
     return ITS_NAME if path == STANDARD_INPUT else os.fspath(path)
 
 
-def open_text(path: Path, encoding: str = "utf-8") -> IO[str]:
-    """The file as text, unpacked where its name ends in .gz; `-` is standard input. Bytes that aren't of the encoding are
-    kept, so that the names they stand in are refused."""
+def codec_of(encoding: str) -> str:
+    """Python's name of an encoding; that of UTF-8 passes over a mark of the order of bytes. `ValueError` where there is none."""
     try:
         name = codecs.lookup(encoding).name
     except LookupError:
         raise ValueError(f"there is no encoding {encoding!r}: utf-8, cp1252, latin-1 and utf-16 are some") from None
+    return "utf-8-sig" if name == "utf-8" else name
+
+
+def open_text(path: Path, encoding: str = "utf-8") -> IO[str]:
+    """The file as text, unpacked where its name ends in .gz; `-` is standard input. Bytes that aren't of the encoding are
+    kept, so that the names they stand in are refused."""
+    codec = codec_of(encoding)
     raw: Any
     if path == STANDARD_INPUT:
         raw = open(0, "rb", closefd=False)
     else:
         raw = gzip.open(path, "rb") if os.fspath(path).endswith(".gz") else open(path, "rb")
-    return io.TextIOWrapper(raw, encoding="utf-8-sig" if name == "utf-8" else name, errors="surrogateescape", newline="")
+    return io.TextIOWrapper(raw, encoding=codec, errors="surrogateescape", newline="")
 
 
 def snap(path: Path, *, kind: str = USUAL_KIND, third: Optional[str] = None, encoding: str = "utf-8") -> Feed:
     """An edge list as the Stanford Network Analysis Project has them: comments behind #, and source and target parted by
     white space; `third` says what a third field is, "weight" or "time"."""
+    wanted = snap_fields(third)
+
+    def rows() -> Iterator[Row]:
+        with open_text(path, encoding) as file:
+            yield from snap_rows(feed_name(path), enumerate(file, 1), kind, third, wanted)
+    return Feed(feed_name(path), rows())
+
+
+def snap_fields(third: Optional[str]) -> int:
+    """How many fields a line of an edge list has."""
     if third not in (None, "weight", "time"):
         raise ValueError(f"third is 'weight' or 'time', and not {third!r}")
-    return Feed(feed_name(path), _snap_rows(path, kind, third, encoding))
+    return 2 if third is None else 3
 
 
-def _snap_rows(path: Path, kind: str, third: Optional[str], encoding: str) -> Iterator[Row]:
-    wanted = 2 if third is None else 3
-    with open_text(path, encoding) as file:
-        for line, text in enumerate(file, 1):
-            fields = text.split()
-            if not fields or text.startswith("#"):
-                continue
-            if len(fields) < wanted or len(fields) > 3:
-                raise FeedFault(f"{feed_name(path)}:{line}: {len(fields)} fields, where an edge list has {wanted}")
-            weight = fields[2] if third == "weight" else "1"
-            yield line, kind, fields[0], fields[1], weight, fields[2] if third == "time" else "0"
+def snap_rows(feed: str, lines: Iterable[Tuple[int, str]], kind: str, third: Optional[str], wanted: int) -> Iterator[Row]:
+    """The rows of an edge list's lines, each with its number."""
+    for line, text in lines:
+        fields = text.split()
+        if not fields or text.startswith("#"):
+            continue
+        if len(fields) < wanted or len(fields) > 3:
+            raise FeedFault(f"{feed}:{line}: {len(fields)} fields, where an edge list has {wanted}")
+        weight = fields[2] if third == "weight" else "1"
+        yield line, kind, fields[0], fields[1], weight, fields[2] if third == "time" else "0"
 
 
 def matrix_market(path: Path, *, kind: str = USUAL_KIND, encoding: str = "utf-8") -> Feed:

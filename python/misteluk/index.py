@@ -236,13 +236,19 @@ class Index:
         self._folded = Candidates.none()
         self._log: List[Told] = []
         self._flight: Optional[Told] = None
-        self._waiting = 0
+        self._waiting = self._count = 0
+
+    @property
+    def most(self) -> int:
+        """How many candidates there are at most."""
+        return len(self._folded) + self._count
 
     def tell(self, operations: bytes, size: int, rows: Optional[Rows] = None) -> None:
         """Keeps a batch that is about to be sent. It may be applied, though its answer never comes."""
         self._flight = Told(rows or operations, size)
         self._log.append(self._flight)
         self._waiting += self._flight.bytes
+        self._count += size
 
     def landed(self, version: int, refused: Collection[int], floor: Optional[int]) -> None:
         """The batch was applied as this version, but for the operations in these places."""
@@ -258,6 +264,7 @@ class Index:
         if self._flight is not None:
             self._log.remove(self._flight)
             self._waiting -= self._flight.bytes
+            self._count -= self._flight.size
             self._flight = None
 
     def begun_anew(self, version: int) -> None:
@@ -283,5 +290,6 @@ class Index:
         self._folded = fold.candidates(floor)
         self._log = [it for it in self._log if it is self._flight]
         self._waiting = sum(it.bytes for it in self._log)
+        self._count = sum(it.size for it in self._log)
         for it in self._log:
             it.is_in = True

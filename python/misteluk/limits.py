@@ -44,7 +44,7 @@ def check_room(store: "Store", found: "Survey", used: int, count: int) -> None:
         text = (f"{found.feed} needs at least {needed} blocks in batches of {max(len(it.lines) for it in found.parts)}, and the "
                 f"store was made with {store.blocks}; nothing was sent")
         raise PoolEmpty(needed=needed, free=store.blocks - used, text=text, advice=_room_advice(store, found, used))
-    if store.records_sent + count > records.MOST_RECORDS:
+    if not store._endless and store.records_sent + count > records.MOST_RECORDS:
         raise OverLimit(f"{found.feed} takes {count} records, and this run has had {store.records_sent} of "
                         f"{records.MOST_RECORDS}. Nothing was sent", found.counts())
 

@@ -255,6 +255,14 @@ def _are_right(lines: List[str], text: str) -> bool:
     return records.are_plain_operations(text) and text.count("\n") == len(lines)
 
 
+def must_be_way(by: str, batch: int) -> None:
+    """Raises `ValueError` where rows can't be taken so, or batches not be so large."""
+    if by not in COMMANDS:
+        raise ValueError(f"by is 'set' (a later weight replaces an earlier one) or 'add' (amounts are summed), and not {by!r}")
+    if not 1 <= batch <= records.MOST_OPERATIONS:
+        raise ValueError(f"batch is from 1 to {records.MOST_OPERATIONS}, and not {batch}")
+
+
 def survey(data: Any, *, by: str, batch: int = records.MOST_OPERATIONS, progress: Optional[bool] = None,
            weight_scale: Optional[int] = None, times: Optional[str] = None, names: str = "plain",
            ahead: "Optional[Ahead]" = None, terms: Optional[Terms] = None, format: Optional[str] = None,
@@ -264,10 +272,7 @@ def survey(data: Any, *, by: str, batch: int = records.MOST_OPERATIONS, progress
     """Reads a feed whole, counts and checks it: what it holds, how many blocks it needs, which rows are bad. Nothing is sent,
     unless something is to be sent ahead. The options are those of `load`; a store that is loaded with it takes its units.
     `terms` are those of a store that is to take it, and stand for its units."""
-    if by not in COMMANDS:
-        raise ValueError(f"by is 'set' (a later weight replaces an earlier one) or 'add' (amounts are summed), and not {by!r}")
-    if not 1 <= batch <= records.MOST_OPERATIONS:
-        raise ValueError(f"batch is from 1 to {records.MOST_OPERATIONS}, and not {batch}")
+    must_be_way(by, batch)
     opened = open_feed(data, format=format, columns=columns, delimiter=delimiter, header=header, third=third, both_ways=both_ways,
                        encoding=encoding, decimal=decimal, dates=dates)
     feed = turned(opened, names=names)

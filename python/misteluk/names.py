@@ -10,7 +10,7 @@ import base64
 import hashlib
 import re
 import threading
-from typing import Dict, List, Optional, Sequence, Union
+from typing import Dict, List, Mapping, Optional, Sequence, Union
 
 from . import records
 
@@ -85,6 +85,12 @@ class NameTable:
         """What stands for each of many texts; nothing, "", for one that is no name."""
         told = {it: "" if text_reason(it) else self.to_program(it) for it in set(texts)}
         return list(map(told.__getitem__, texts))
+
+    def put(self, texts: Mapping[str, str]) -> None:
+        """Takes texts by their ids, as a saved file has them, into a table that is empty yet."""
+        with self._lock:
+            self._texts.update(texts)
+            self._ids.update((text, name) for name, text in texts.items())
 
     def take(self, other: "NameTable") -> None:
         """Takes the texts of another table, as of a feed that was counted before there was a store. Raises `ValueError` where

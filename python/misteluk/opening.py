@@ -33,7 +33,7 @@ def open_feed(data: Any, *, format: Optional[str] = None, columns: Columns = Col
     if isinstance(data, Feed):
         return notation.turned(data)
     if isinstance(data, (str, os.PathLike)):
-        form = format or _form_of(data, encoding)
+        form = format or form_of(data, encoding)
         if form not in FORMATS:
             raise ValueError(f"format is 'delimited', 'snap' or 'matrix', and not {form!r}")
         return notation.turned(_of_file(data, form, {"encoding": encoding}, columns, delimiter, header, third))
@@ -63,7 +63,8 @@ def _of_object(data: Any, columns: Columns, both_ways: bool) -> Feed:
     raise TypeError(f"a feed is a file's path, a graph, a frame, columns by name or rows, and not {type(data).__name__}")
 
 
-def _form_of(path: Path, encoding: str) -> str:
+def form_of(path: Path, encoding: str) -> str:
+    """The format that a file's name says, and of one that ends in .txt its first sign."""
     if path == STANDARD_INPUT:
         return "delimited"
     name = os.fspath(path)

@@ -12,6 +12,7 @@ from collections import deque
 from typing import Callable, Deque, List, Optional, Sequence, Set, Tuple
 
 from .errors import Misread, NoAnswer, OutOfMemory, ProgramEnded, ProgramNotFound, StoreError
+from .records import MOST_RECORDS
 
 _HEARD: Set[str] = set()
 # How many bytes are written at once, which the pipe is given room for, and read: more would take a page of its own for each read.
@@ -92,6 +93,8 @@ class Conversation:
         _widen(self._in)
         self.timeout = timeout
         self.records = self.refusals = 0
+        # Up to how many records a caller itself asks: behind them the store's thread looks first what is to be done.
+        self.most_at_once = MOST_RECORDS
         self._unsent = bytearray()
         self._lines: Deque[str] = deque()
         self._rest = ""
@@ -124,7 +127,8 @@ class Conversation:
     def ask_now(self, record: str) -> Optional[Exchange]:
         """Sends a request in the caller's thread and reads its answer, where nothing else is on its way; the exchange has no
         `head` where that isn't one line that came soon. May be broken off at any step: `take_up` then goes on."""
-        if self._now or self._awaited or self._unsent or self._rest or self._writes or self._fault:
+        is_busy = self._now or self._awaited or self._unsent or self._rest or self._writes or self._fault
+        if is_busy or self.records >= self.most_at_once:
             return None
         now = self._now = Exchange(self.records + 1, record.encode("ascii"))
         try:

@@ -33,6 +33,13 @@ class Progress:
             of = f" of {self.total}" if self.total else ""
             print(f"\r\033[K{self.what}: {self.count}{of} {self.of}, {rate:.0f} a second", end="", file=sys.stderr, flush=True)
 
+    def clear(self) -> None:
+        """Takes the line from the terminal until the next step."""
+        if self.bar is not None:
+            self.bar.clear()
+        elif self.shown:
+            print("\r\033[K", end="", file=sys.stderr, flush=True)
+
     def end(self) -> None:
         if self.bar is not None:
             self.bar.close()

@@ -5,8 +5,10 @@ from typing import TYPE_CHECKING
 
 from .calls import talks
 from .exporting import Exporting
+from .finding import Path
 
 if TYPE_CHECKING:
+    from .saving import Saved
     from .store import Store
 
 
@@ -22,6 +24,21 @@ class Session(Exporting):
     def __init__(self, store: "Store", slot: int, version: int, names: int) -> None:
         self.store, self.slot, self.version, self.names = store, slot, version, names
         self._is_open = True
+
+    def save(self, path: Path) -> "Saved":
+        """Writes the version as one file, of which `Store.restore` makes a store again, and which `stinger run` takes as a
+        script. It is packed where its name ends in .gz, .xz or .bz2, or .zst where the package zstandard is there.
+
+        The file is written beside and renamed when it is whole and on the disk: a fault, an interrupt or a crash leaves what
+        was there. It has all that answers depend on, and the store's units and names. Pending operations and other versions
+        aren't in it.
+
+        Each edge that the store was told of is asked for, one record each. A copy takes two records for an edge whose times
+        differ, and for a name that has no edge in its place. `RecordLimit` says before anything is asked that this run has no
+        room for that, and `OverLimit` before anything is written that the copy is more than a run takes. Raises `OSError`
+        where the file can't be written, and `Missing` where nothing here packs it."""
+        from .saving import save
+        return save(self, path)
 
     def close(self) -> None:
         """Lets the version go."""

@@ -3,31 +3,35 @@ from __future__ import annotations
 
 import warnings
 import weakref
+from functools import partial
 from types import TracebackType
 from typing import TYPE_CHECKING, Any, Dict, List, Optional, Sequence, Tuple, Type
 
 from . import records
 from .answers import Collected, Commit, Rebased, Stat, numbers
 from .asking import within
-from .batches import Batches, Flight
+from .batches import Flight
 from .calls import Calls, talks
 from .errors import NoSeat, ProgramEnded, StoreError, Uncommitted
 from .feeds import Columns
 from .finding import Path, find_program
+from .former import Former, take_up_all
 from .index import Index
 from .program import Awaited, Conversation
+from .renewing import Renewed, Renewing
 from .session import Session
 from .terms import Terms
 from .units import Units
 
 if TYPE_CHECKING:
+    from .following import Following, Span
     from .loading import Loaded
 
 # How long the program may take to be there: `./stinger` compiles it at its first call.
 START_SECONDS = 900.0
 
 
-class Store(Batches):
+class Store(Renewing):
     """A graph that changes by batches, in a program of its own; sessions hold versions of it.
 
         with Store() as store:
@@ -37,7 +41,7 @@ class Store(Batches):
                 print(session.degrees("transfer"))
 
     `insert`, `add` and `remove` are collected here and checked at once; `commit` sends them. Where a commit is refused, what
-    it would have applied is pending still. Nothing is written to disk: the graph lives as long as the store.
+    it would have applied is pending still. The graph lives as long as the store, but for versions that sessions save as files.
 
     `blocks`: how many blocks hold edges, 16 to 65,536; each has room for 32 edges of one kind and source, and takes 1 KB.
     `seats`: how many sessions may be open at once, 1 to 16. `workers`: how many threads apply a batch, 1 to 8.
@@ -47,6 +51,8 @@ class Store(Batches):
     `times`: "iso" where times are dates, with microseconds at most, from 1970 to 9999; else whole numbers. A date is a
     `datetime`, a `date` or a text, in UTC where it has no zone. `decimals`: answers have weights as "decimal" (`Decimal`) or
     "float". Where neither of the first two is said, the first load says both, unless an operation came before it.
+    `endless`: whether the store goes on in a new program, with a copy of the last version, before it is at the limits of one: its
+    records, batches, names and kinds. One seat is kept for that, and 15 are the most. See `docs/PYTHON.md`, "Feeds without end".
     `program`: the program to run (see `find_program`). `timeout`: for how many seconds the program may neither read nor write
     while it is waited for; then `NoAnswer` is raised, and the call may be made again.
 
@@ -57,16 +63,21 @@ class Store(Batches):
 
     def __init__(self, *, blocks: int = records.USUAL_BLOCKS, seats: int = records.USUAL_SEATS,
                  workers: int = records.USUAL_WORKERS, program: Optional[Path] = None, timeout: float = 60.0,
-                 weight_scale: Optional[int] = None, times: Optional[str] = None, decimals: str = "decimal") -> None:
+                 weight_scale: Optional[int] = None, times: Optional[str] = None, decimals: str = "decimal",
+                 endless: bool = False) -> None:
         self.blocks = within("blocks", blocks, records.LEAST_BLOCKS, records.MOST_BLOCKS)
-        self.seats = within("seats", seats, 1, records.MOST_SEATS)
+        self.seats = within("seats", seats, 1, records.MOST_SEATS - endless)
         within("workers", workers, 1, records.MOST_WORKERS)
         if not timeout > 0:
             raise ValueError(f"timeout is a number of seconds above 0, and not {timeout}")
         self._terms = Terms(units=Units(weight_scale or 1, times or "number", decimals))
         self._units_are_set = weight_scale is not None or times is not None
         self.program = find_program(program)
-        options = ["--blocks", str(blocks), "--seats", str(seats), "--workers", str(workers)]
+        options = ["--blocks", str(blocks), "--seats", str(seats + endless), "--workers", str(workers)]
+        self._command = [self.program, "run", *options]
+        self._endless, self._formers = endless, []
+        self._talks: List[Conversation] = []
+        self._renewals: List[Renewed] = []
         self._pending: List[str] = []
         self._untold: List[Commit] = []
         self._unsaid: List[str] = []
@@ -74,12 +85,11 @@ class Store(Batches):
         self._kinds: Dict[str, None] = {}
         self._flight: Optional[Flight] = None
         self._orphans: List[Tuple[int, Awaited]] = []
-        self._rebasing: Optional[Tuple[Session, Awaited]] = None
         self._index = Index()
         self._closed = False
         self._calls = Calls()
         try:
-            self._calls.make(lambda: self._start([self.program, "run", *options], timeout), untaken=Conversation.kill)
+            self._calls.make(lambda: self._start(self._command, timeout), untaken=Conversation.kill)
         except BaseException:
             self._closed = True
             if "_talk" in self.__dict__:
@@ -89,7 +99,8 @@ class Store(Batches):
     def _start(self, command: Sequence[str], timeout: float) -> Conversation:
         """Starts the program, and waits until it answers."""
         self._talk = Conversation(command, START_SECONDS)
-        self._calls.turn.take_up = self._talk.take_up
+        self._talks.append(self._talk)
+        self._calls.turn.take_up = partial(take_up_all, self._talks)
         try:
             if not self._calls.is_left:
                 self.stat()
@@ -111,13 +122,43 @@ class Store(Batches):
                     weight_scale=weight_scale, times=times, names=names, columns=columns, delimiter=delimiter, header=header,
                     third=third, both_ways=both_ways, encoding=encoding, decimal=decimal, dates=dates)
 
+    def follow(self, feed: Any, *, by: str, every: "Span" = 1.0, keep: "Optional[Span]" = None,
+               batch: int = records.MOST_OPERATIONS, until_end: bool = False, skip_bad: bool = False,
+               progress: Optional[bool] = None, weight_scale: Optional[int] = None, times: Optional[str] = None,
+               names: str = "plain", format: Optional[str] = None, columns: Columns = Columns(), delimiter: Optional[str] = None,
+               header: Optional[bool] = None, third: Optional[str] = None, encoding: str = "utf-8", decimal: str = ".",
+               dates: Optional[str] = None) -> "Following":
+        """Follows a file that grows, a pipe, or standard input: gives a step for each commit. See `misteluk.follow`."""
+        from .following import follow
+        return follow(self, feed, by=by, every=every, keep=keep, batch=batch, until_end=until_end, skip_bad=skip_bad,
+                      progress=progress, weight_scale=weight_scale, times=times, names=names, format=format, columns=columns,
+                      delimiter=delimiter, header=header, third=third, encoding=encoding, decimal=decimal, dates=dates)
+
+    @classmethod
+    def restore(cls, path: Path, *, blocks: Optional[int] = None, seats: int = records.USUAL_SEATS,
+                workers: int = records.USUAL_WORKERS, program: Optional[Path] = None, timeout: float = 60.0,
+                decimals: str = "decimal", endless: bool = False, progress: Optional[bool] = None) -> "Store":
+        """A store with the version that `Session.save` wrote into the file. Every request of it is answered as that version's
+        were; its own versions count anew. It has the units and names of the store that was saved, and as many blocks, or more
+        where the copy finds no room in them, unless `blocks` says how many. The other options are those of `Store`.
+
+        Raises `SaveFault` where the file is no saved version, or is damaged or cut, and `PoolEmpty` where so many blocks can't
+        be enough: no program was started then. `progress` shows or hides a bar; without it a terminal has one."""
+        from .saving import restore
+
+        def make(found: int, weight_scale: Optional[int], times: Optional[str]) -> "Store":
+            return cls(blocks=found, seats=seats, workers=workers, program=program, timeout=timeout, weight_scale=weight_scale,
+                       times=times, decimals=decimals, endless=endless)
+        return restore(path, make, blocks, progress)
+
     # Requests.
 
     @talks
     def collect(self) -> Collected:
         """Frees each replaced block that no open session's version has."""
         self._let_orphans_go()
-        return Collected(*numbers(self._ask(("collect",)).head or "", "collect", 3))
+        found = Collected(*numbers(self._ask(("collect",)).head or "", "collect", 3))
+        return found._replace(floor=found.floor + self._made_before())
 
     def rebase(self, session: "Session") -> Rebased:
         """Begins the store anew with the graph of the version that the session holds, which is version 0 from then on.
@@ -126,6 +167,10 @@ class Store(Batches):
         pending stays pending. The program has both stores while it works, and so needs room for twice the blocks. Records are
         counted on. Where `NoAnswer` or an interrupt broke the call off, the same one waits for the answer and sends nothing.
         """
+        if isinstance(session.store, Former) and session.store.store is self:
+            def keep_begun(told: Rebased) -> None:
+                self._begun = session, told
+            return self._calls.make(lambda: self._begin_anew_with(session), untaken=keep_begun)
         answers: List[Awaited] = []
 
         def keep(_: Rebased) -> None:
@@ -137,6 +182,7 @@ class Store(Batches):
             self._send_rebase(session)
         assert self._rebasing
         answers.append(self._talk.settle(self._rebasing[1]))
+        self._count_rebase()
         self._rebasing = None
         self._check(answers[0], ("rebase", str(session.slot)))
         return Rebased(*numbers(answers[0].head or "", "rebase", 4))
@@ -149,18 +195,25 @@ class Store(Batches):
         self._let_orphans_go()
         self._make_room(1)
         self._forget_sessions()
+        self._end_formers()
         self._untold.clear()
         self._index.begun_anew(session.version)
         self._rebasing = session, self._talk.ask(self._record(("rebase", str(session.slot))))
+        self._is_rebase_counted = False
 
     @talks
     def open(self, slot: Optional[int] = None) -> "Session":
         """A session that holds the last version, in the first free slot or in that one. One that nobody has any more, as where
         an interrupt came before it was given, is closed by the next `open`, `commit` or `collect`."""
         self._let_orphans_go()
+        self._go_on(2, 0)
+        faults = records.faults_of(("open", str(slot or 0)), self.seats)
+        if faults:
+            raise self._terms.refusal(faults[0])
         free = [it for it in range(self.seats) if it not in self._sessions]
         if slot is None and not free:
-            more = ", or make the store with more seats (16 at most)" if self.seats < records.MOST_SEATS else ""
+            most = records.MOST_SEATS - self._endless
+            more = f", or make the store with more seats ({most} at most)" if self.seats < most else ""
             raise NoSeat(f"all {self.seats} seats hold sessions: close one{more}")
         at = free[0] if slot is None else slot
         self._make_room(2)
@@ -170,7 +223,7 @@ class Store(Batches):
         self._orphans.pop()
         self._check(opened, ("open", str(at)))
         names = Stat(*numbers(stat.head or "", "stat", 6)).names
-        session = Session(self, at, numbers(opened.head or "", "open", 1)[0], names)
+        session = Session(self, at, numbers(opened.head or "", "open", 1)[0] + self._made_before(), names)
         self._sessions[at] = weakref.ref(session)
         return session
 
@@ -194,6 +247,7 @@ class Store(Batches):
             return lost
         self._closed = True
         self._forget_sessions()
+        self._end_formers()
         status, left = self._talk.end()
         flight = self._flight
         if flight and flight.from_pending and flight.done.head is not None:
@@ -228,7 +282,8 @@ class Store(Batches):
         talk = getattr(self, "_talk", None)
         if talk is not None and not self._closed and not self._calls.are_elsewhere:
             warnings.warn("a store was let go without close()", ResourceWarning, stacklevel=2)
-            talk.kill()
+            for it in list(self._talks):
+                it.kill()
 
     def __repr__(self) -> str:
         state = "closed" if self._closed else f"{len(self._sessions)} of {self.seats} seats open, {self.pending} pending"

@@ -6,7 +6,7 @@ from typing import TYPE_CHECKING, Dict, Optional, Tuple
 
 from . import records
 from .asking import within
-from .exporting import _whole
+from .files import whole_text
 from .finding import Path
 from .names import shown
 from .neighborhood import Neighborhood, Window, gather
@@ -36,7 +36,7 @@ class View:
 
     def save(self, path: Path) -> None:
         """Writes the page to a file, as a whole or not at all."""
-        with _whole(path) as file:
+        with whole_text(path) as file:
             file.write(self.html)
 
     def _repr_html_(self) -> str:

@@ -59,6 +59,19 @@ class Commands(Case):
         self.assertEqual(words_of(script.read_bytes()), {})
         self.assertIn("9 records written to", out)
 
+    def test_save_and_restore(self):
+        """What is saved is asked again; a file that is none is told of, and nothing is begun."""
+        path = str(self.room / "g.csv.bz2")
+        saved = f"{path}: version 1 with 6 names and 4 edges, in 19 records for `stinger run --blocks 16384`"
+        degrees = "degrees: 6 names, greatest by out\n  a out 2 in 0 weight 7"
+        self.load(f"{saved}\n{degrees}", "--add", "--save", path, "--ask", "degrees", "--top", "1")
+        status, out, err = self.run_it("restore", path, "--ask", "degrees", "--top", "1", "--blocks", "64", "--levels", "x")
+        levels = "levels from x: 2 reached, the farthest at 1\n  0: 1\n"
+        wanted = f"{path}: 6 names and 4 edges restored in 3 of 64 blocks\n{degrees}\n{levels}"
+        self.assertEqual((status, err, out), (0, "", wanted))
+        status, out, err = self.run_it("restore", self.file("p.csv", PAIRS), "--program", "/no/such")
+        self.assertEqual((status, out, "p.csv is no saved version" in err), (1, "", True), err)
+
     def test_faults(self):
         path = self.file("p.csv", PAIRS)
         for told, words in (("no column 'source'", ("load", path, "--add")),

@@ -60,7 +60,7 @@ class Pages(Case):
             shutil.copy(TOP / "tools" / it, self.room / "tools")
         words = (sys.executable, self.room / "tools/help-pages", "--program", find_program(), "--check")
         self.assertEqual(run(*words).stdout, "")
-        module = self.room / "python/misteluk/__main__.py"
+        module = self.room / "python/misteluk/options.py"
         module.write_text(module.read_text().replace('add_argument("--title"', 'add_argument("--heading"'))
         told = [f"share/{it} isn't what the program says of itself: tools/help-pages writes it\n"
                 for it in ("man/man1/misteluk.1", "bash-completion/completions/misteluk", "zsh/site-functions/_misteluk")]
@@ -101,7 +101,7 @@ class Pages(Case):
 
     def test_completion_of_the_client_for_bash(self):
         """Files are offered by bash itself, where there is no word."""
-        self.complete("load fleet lint picture -h --help", "", name="misteluk")
+        self.complete("load fleet restore follow lint picture -h --help", "", name="misteluk")
         self.complete("--dry-run", "load", "file.csv", "--dr", name="misteluk")
         self.complete("degrees components cores", "load", "file.csv", "--ask", "", name="misteluk")
         self.complete("components compare", "picture", "comp", name="misteluk")

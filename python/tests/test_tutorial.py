@@ -225,6 +225,32 @@ class Figures(unittest.TestCase):
         kept = sum(near.issuperset(ends) for ends in edges) - 2
         self.told(f"version 1 beside version 2: {len(near)} vertices; 1 gone, 0 new, 1 changed, {kept} kept edges>")
 
+    def test_a_feed(self):
+        """Batches of 99 rows; behind each, the lanes that weren't used for 14 days go."""
+        rows = [(datetime.date.fromisoformat(it["day"]), it["from"], it["to"], int(it["pallets"]))
+                for it in read("shipments.csv")]
+        lanes = {}
+        for version, end in enumerate((99, 198, 282), 1):
+            batch, inserted = rows[end - 99 if end < 282 else 198:end], 0
+            for day, source, target, pallets in batch:
+                inserted += (source, target) not in lanes
+                weight, first, _ = lanes.get((source, target), (0, day, day))
+                lanes[source, target] = weight + pallets, first, day
+            newest = max(it[0] for it in rows[:end])
+            old = [it for it, lane in lanes.items() if lane[2] < newest - datetime.timedelta(14)]
+            for it in old:
+                del lanes[it]
+            counts = ((inserted, "inserted"), (len(batch) - inserted, "updated"), (len(old), "expired"))
+            done = "".join(f", {count} {word}" for count, word in counts if count)
+            out = Counter()
+            for (source, _), lane in lanes.items():
+                out[source] += lane[0]
+            (name, weight), (second, less) = out.most_common(2)
+            self.told(f"version {version}: {end} rows to line {end + 1}{done}; newest {newest} 00:00:00+00:00\n",
+                      f"weight {weight}\n      {second} out", f" weight {less}\n    edge truck hamburg kassel: " + (
+                          "none" if version > 1 else "weight {} first {} 00:00:00+00:00 recent {} 00:00:00+00:00".format(
+                              *lanes["hamburg", "kassel"])))
+
     def test_the_made_data_are_what_their_script_makes(self):
         made = subprocess.run([sys.executable, TOP / "examples/stories/shipments.py"], stdout=subprocess.PIPE, text=True).stdout
         self.assertEqual(made, (TOP / "examples/stories/shipments.csv").read_text())

@@ -1,0 +1,125 @@
+"""Files that are written whole or not at all, and packed as the ends of their names say."""
+from __future__ import annotations
+
+import contextlib
+import errno
+import gzip
+import importlib
+import io
+import os
+import secrets
+import zlib
+from typing import IO, Any, BinaryIO, Iterator, NoReturn, TextIO, Tuple, Type, cast
+
+from .errors import Missing, SaveFault
+from .finding import Path
+
+# How packed files begin, by the end of their names.
+_BEGINNINGS = {".gz": b"\x1f\x8b", ".xz": b"\xfd7zXZ\0", ".bz2": b"BZh", ".zst": b"\x28\xb5\x2f\xfd"}
+_MODULES = {".xz": "lzma", ".bz2": "bz2", ".zst": "zstandard"}
+
+
+def _module(ending: str) -> Any:
+    """What packs files with this ending. (Python may have been built without some of it.)"""
+    try:
+        return importlib.import_module(_MODULES[ending])
+    except ImportError:
+        raise Missing(_MODULES[ending], f"a file that ends in {ending}") from None
+
+
+def ending_of(path: Path) -> str:
+    """How the file is packed: ".gz", ".xz", ".bz2", ".zst", or "" where its name ends otherwise. Raises `Missing` where nothing
+    here packs such a file."""
+    ending = next((it for it in _BEGINNINGS if os.fspath(path).endswith(it)), "")
+    if ending in _MODULES:
+        _module(ending)
+    return ending
+
+
+def packer(file: BinaryIO, ending: str) -> "contextlib.AbstractContextManager[IO[bytes]]":
+    """A file that packs what is written to it into this one, and leaves this one open."""
+    if not ending:
+        return contextlib.nullcontext(file)
+    made: Any
+    if ending == ".gz":
+        made = gzip.GzipFile("", "wb", 6, file, mtime=0)
+    elif ending == ".zst":
+        made = _module(ending).ZstdCompressor().stream_writer(file, closefd=False)
+    else:
+        made = _module(ending).open(file, "wb")
+    return cast("contextlib.AbstractContextManager[IO[bytes]]", made)
+
+
+def unpacked(data: bytes, name: str) -> bytes:
+    """What a packed file has, by how it begins. Raises `SaveFault` where it is damaged."""
+    ending = next((it for it, begin in _BEGINNINGS.items() if data.startswith(begin)), "")
+    if not ending:
+        return data
+    module = gzip if ending == ".gz" else _module(ending)
+    faults = {".xz": "LZMAError", ".zst": "ZstdError"}
+    known: Tuple[Type[Exception], ...] = (OSError, EOFError, ValueError, zlib.error,
+                                          getattr(module, faults.get(ending, ""), EOFError))
+    try:
+        return cast(bytes, module.ZstdDecompressor().decompressobj().decompress(data) if ending == ".zst" else
+                    module.decompress(data))
+    except known as fault:
+        raise SaveFault(f"{name} can't be unpacked: it is damaged or cut ({fault}). Nothing is restored") from fault
+
+
+def place_of(path: Path) -> str:
+    """The file that this path leads to, also by links, whether it is there or not. Raises `OSError` where it can't be one that
+    is written: what is there is no file, or its folder isn't there."""
+    place = os.path.realpath(path)
+    if os.path.isdir(place):
+        _refuse(errno.EISDIR, path)
+    if os.path.exists(place) and not os.path.isfile(place):
+        raise OSError(errno.EINVAL, "This is no file that can be replaced", os.fspath(path))
+    folder = os.path.dirname(place)
+    if not os.path.isdir(folder):
+        _refuse(errno.ENOENT, folder)
+    if not os.access(folder, os.W_OK | os.X_OK):
+        _refuse(errno.EACCES, folder)
+    return place
+
+
+def _refuse(number: int, path: Path) -> NoReturn:
+    raise OSError(number, os.strerror(number), os.fspath(path))
+
+
+@contextlib.contextmanager
+def whole(path: Path) -> "Iterator[BinaryIO]":
+    """A file that takes the place of the one of this path when it is whole and on the disk, or never. It has the rights of the
+    one that was there."""
+    place = place_of(path)
+    beside = f"{place}.{secrets.token_hex(4)}.part"
+    try:
+        with open(beside, "xb") as file:
+            with contextlib.suppress(FileNotFoundError):
+                os.fchmod(file.fileno(), os.stat(place).st_mode & 0o7777)
+            yield file
+            file.flush()
+            os.fsync(file.fileno())
+        os.replace(beside, place)
+        _keep_folder(os.path.dirname(place))
+    except BaseException:
+        with contextlib.suppress(OSError):
+            os.remove(beside)
+        raise
+
+
+@contextlib.contextmanager
+def whole_text(path: Path) -> "Iterator[TextIO]":
+    """The same for a file of text, in UTF-8; ends of lines are written as they are."""
+    with whole(path) as raw:
+        file = io.TextIOWrapper(raw, encoding="utf-8", newline="")
+        yield file
+        file.detach()
+
+
+def _keep_folder(folder: str) -> None:
+    """Puts on the disk which files a folder has: else the old one may be there again behind a crash."""
+    opened = os.open(folder, os.O_RDONLY | os.O_DIRECTORY)
+    try:
+        os.fsync(opened)
+    finally:
+        os.close(opened)

@@ -1,0 +1,259 @@
+"""A version in one file, and a store that is made of it again.
+
+The file is a script that `stinger run` takes: behind its records the graph is the version's. Its head tells what the program
+doesn't know: a digest, the units, and the texts of names that go as ids. It does so in insertions before a `rebase` to the empty
+store that a run begins with, so nothing of them is in the graph, nor among its names and kinds.
+"""
+from __future__ import annotations
+
+import hashlib
+import os
+import re
+from array import array
+from typing import TYPE_CHECKING, Callable, Dict, List, NamedTuple, Optional, Sequence, Set, Tuple
+from urllib.parse import unquote
+
+from . import files, records
+from .copying import Content, content_of_session, operations_of
+from .errors import OverLimit, PoolEmpty, RecordLimit, SaveFault, StoreError
+from .feeds import escaped, parts_of
+from .finding import Path
+from .names import MARK
+from .progress import Progress
+from .units import Units
+
+if TYPE_CHECKING:
+    from .session import Session
+    from .store import Store
+
+# Of a later form this package knows nothing.
+FORM = 1
+# The kind that the head's insertions are of.
+KIND = "misteluk"
+_OPENING, _REBASE = "open,0\n", "commit\nrebase,0\n"
+_BEGINNING = re.compile(rb"open,0\ni,misteluk,form:(\d{1,9}),([0-9a-f]{64}),0,0\n")
+# The head's last insertion, and what comes behind it.
+_END = f"i,{KIND},end,of-head,0,0\n{_REBASE}"
+_WRITTEN_AT_ONCE = 1 << 20
+
+
+class Saved(NamedTuple):
+    """What a save wrote: the file, the version, its names and edges; how many records a run is given by the file, and how many
+    blocks it needs for them."""
+
+    path: str
+    version: int
+    names: int
+    edges: int
+    records: int
+    blocks: int
+
+    def __str__(self) -> str:
+        edges = f"{self.edges} edge{'s' * (self.edges != 1)}"
+        names = f"{self.names} name{'s' * (self.names != 1)}"
+        return (f"{self.path}: version {self.version} with {names} and {edges}, in {self.records} records for `stinger run "
+                f"--blocks {self.blocks}`")
+
+
+class Found(NamedTuple):
+    """What a saved file has: what its head tells, the texts of ids, and the operations of the graph."""
+
+    facts: Dict[str, str]
+    texts: Dict[str, str]
+    operations: List[str]
+
+    def count(self, fact: str) -> int:
+        return int(self.facts[fact])
+
+
+class Room:
+    """How many blocks the edges take behind each operation of a copy, in a store that is collected behind each batch."""
+
+    def __init__(self, operations: Sequence[str]) -> None:
+        self.behind = array("I", [0])
+        edges: Set[Tuple[str, ...]] = set()
+        degrees: Dict[Tuple[str, ...], int] = {}
+        used = 0
+        for fields in map(records.split_record, operations):
+            edge, source = tuple(fields[1:4]), tuple(fields[1:3])
+            degree = degrees.get(source, 0)
+            if fields[0] == "r":
+                edges.remove(edge)
+                degrees[source] = degree - 1
+                used -= (degree - 1) % records.BLOCK_EDGES == 0
+            elif edge not in edges:
+                edges.add(edge)
+                degrees[source] = degree + 1
+                used += degree % records.BLOCK_EDGES == 0
+            self.behind.append(used)
+
+    def needed(self, batch: int) -> int:
+        """How many blocks batches of this size need: each as many free ones as it has operations."""
+        count = len(self.behind) - 1
+        return max((self.behind[at] + min(batch, count - at) for at in range(0, count, batch)), default=0)
+
+    def fitting(self) -> int:
+        """How many blocks a store needs, the usual number or more; batches are smaller where it would be more than there are."""
+        return min(max(records.USUAL_BLOCKS, self.needed(records.MOST_OPERATIONS)), records.MOST_BLOCKS)
+
+    def batch(self, blocks: int) -> int:
+        """The size of batches for which so many blocks are enough, or 0."""
+        size = records.MOST_OPERATIONS
+        while size and self.needed(size) > blocks:
+            size //= 2
+        return size
+
+
+def save(session: "Session", path: Path) -> Saved:
+    """Writes the version that the session holds as one file. See `Session.save`."""
+    ending = files.ending_of(path)
+    files.place_of(path)
+    _must_have_room(session)
+    content = content_of_session(session)
+    operations = list(operations_of(content))
+    room = Room(operations)
+    blocks = room.fitting()
+    script = _script(_head(session, content, blocks), operations, room.batch(blocks))
+    done = Saved(os.fspath(path), session.version, len(content.names), len(content.edges), script.count(b"\n"), blocks)
+    _must_fit(done, room)
+    with files.whole(path) as file, files.packer(file, ending) as packed:
+        for at in range(0, len(script), _WRITTEN_AT_ONCE):
+            packed.write(script[at:at + _WRITTEN_AT_ONCE])
+    return done
+
+
+def _must_have_room(session: "Session") -> None:
+    """Raises where the run can't take a record for each edge and kind that is to be asked for."""
+    session._must_be_open()
+    store, candidates = session.store, session.store._candidates()
+    needed = 1 + len(candidates) + len(candidates.kinds)
+    sent, most = store._talk.records, store._most_records
+    if sent + needed > most:
+        raise RecordLimit(f"a save asks for each edge that the store was told of, in {needed} records, and this run has had "
+                          f"{sent} of {most}. Nothing was asked or written")
+
+
+def _must_fit(done: Saved, room: Room) -> None:
+    """Raises where a copy is more than a run takes."""
+    counts = {"records": done.records, "names": done.names, "edges": done.edges, "blocks": room.needed(1)}
+    over = [f"{counts[what]} {what}, where a run takes {most}"
+            for what, most in (("records", records.MOST_RECORDS), ("blocks", records.MOST_BLOCKS)) if counts[what] > most]
+    if over:
+        raise OverLimit(f"a copy of version {done.version}, with {done.names} names and {done.edges} edges, takes "
+                        f"{' and '.join(over)}: an edge whose two times differ takes two records. Nothing was written", counts)
+
+
+# What is written.
+
+def _script(head: str, operations: Sequence[str], size: int) -> bytes:
+    """The whole file; the operations in batches of this size."""
+    batches = ("".join([*it, "commit\ncollect\n"]) for it in parts_of(operations, size or 1))
+    told = "".join([head, *batches]).encode("ascii")
+    return f"{_OPENING}i,{KIND},form:{FORM},{hashlib.sha256(told).hexdigest()},0,0\n".encode("ascii") + told
+
+
+def _head(session: "Session", content: Content, needed: int) -> str:
+    """What is told of the file behind its digest. It goes in batches, of which each is let go before the next one, so that few
+    names and blocks are enough."""
+    store, units = session.store, session.store.units
+    facts = {"version": session.version, "names": len(content.names), "edges": len(content.edges), "blocks": store.blocks,
+             "needed": needed}
+    told = [(it, str(value)) for it, value in facts.items()]
+    if store._units_are_set:
+        told += [("weight_scale", str(units.weight_scale)), ("times", units.times)]
+    to_user = store._terms.names.to_user
+    texts = ((it, to_user(it)) for it in dict.fromkeys([*content.kinds, *content.names]))
+    told += [(it, piece) for it, text in texts if text != it for piece in _pieces(escaped(text))]
+    lines = (records.record(("i", KIND, it, piece, "0", "0")) for it, piece in told)
+    batches = map("".join, parts_of(lines, records.MOST_OPERATIONS - 2))
+    return f"{_REBASE}{_OPENING}".join(batches) + _END
+
+
+def _pieces(text: str) -> List[str]:
+    """The text in names."""
+    return [text[at:at + records.MOST_NAME] for at in range(0, len(text), records.MOST_NAME)]
+
+
+# What is read.
+
+def read(path: Path) -> Found:
+    """What a saved file has."""
+    with open(path, "rb") as file:
+        return found_in(file.read(), os.fspath(path))
+
+
+def found_in(data: bytes, name: str) -> Found:
+    """What a saved file has, whose bytes these are. Raises `SaveFault` where it is none, or isn't as it was written."""
+    data = files.unpacked(data, name)
+    found = _BEGINNING.match(data)
+    if not found:
+        raise SaveFault(f"{name} is no saved version: it doesn't begin as those that Session.save writes. Nothing is restored")
+    if int(found[1]) != FORM:
+        raise SaveFault(f"{name} is of form {int(found[1])}, and this package knows form {FORM}. Nothing is restored")
+    told = data[found.end():]
+    if hashlib.sha256(told).hexdigest().encode("ascii") != found[2]:
+        raise SaveFault(f"{name} is damaged or cut: its digest is another than that of what it has. Nothing is restored")
+    head, _, body = told.decode("ascii").partition(_END)
+    facts, texts = _told(head)
+    return Found(facts, texts, [it for it in body.splitlines(True) if it[1] == ","])
+
+
+def _told(head: str) -> Tuple[Dict[str, str], Dict[str, str]]:
+    """The facts of a head, and the texts of ids."""
+    pieces: Dict[str, str] = {}
+    for fields in map(records.split_record, head.splitlines()):
+        if fields[0] == "i":
+            pieces[fields[2]] = pieces.get(fields[2], "") + fields[3]
+    facts = {it: value for it, value in pieces.items() if not it.startswith(MARK)}
+    return facts, {it: unquote(text) for it, text in pieces.items() if it.startswith(MARK)}
+
+
+def restore(path: Path, make: "Callable[[int, Optional[int], Optional[str]], Store]", blocks: Optional[int],
+            progress: Optional[bool]) -> "Store":
+    """A store of a saved file. `make` makes it, with so many blocks, and a weight scale and times where those are said. See
+    `Store.restore`."""
+    found = read(path)
+    room = Room(found.operations)
+    if blocks is None:
+        blocks = found.count("blocks") if room.batch(found.count("blocks")) else room.fitting()
+    size = _batch(os.fspath(path), found, room, blocks)
+    scale = int(found.facts["weight_scale"]) if "weight_scale" in found.facts else None
+    store: Optional[Store] = None
+    try:
+        store = make(blocks, scale, found.facts.get("times"))
+        _fill(store, found, size, Progress(f"restoring {os.fspath(path)}", len(found.operations), progress))
+        stat, wanted = store.stat(), (found.count("names"), found.count("edges"))
+        if (stat.names, stat.edges) != wanted:
+            raise StoreError(f"{stat.names} names and {stat.edges} edges came of {os.fspath(path)}, and not {wanted}")
+        return store
+    except BaseException as fault:
+        if store is not None:
+            store.__exit__(type(fault), fault, None)
+        raise
+
+
+def _fill(store: "Store", found: Found, size: int, told: Progress) -> None:
+    """Applies a file's operations, in batches of this size, to an empty store, and takes its names and kinds."""
+    store._terms.names.put(found.texts)
+    # (an endless store would go on in a new program without names that have no edge yet)
+    store._endless, is_endless = False, store._endless
+    for part in parts_of(found.operations, size or 1):
+        store._apply("".join(part).encode("ascii"), len(part), True)
+        told.step(len(part))
+    store._endless = is_endless
+    told.end()
+    kinds = dict.fromkeys(records.split_record(it)[1] for it in found.operations)
+    store._kinds.update(dict.fromkeys(map(store._terms.names.to_user, kinds)))
+
+
+def _batch(name: str, found: Found, room: Room, blocks: int) -> int:
+    """The size of batches for so many blocks. Raises where there is none, or the run has no room for them."""
+    size = room.batch(blocks)
+    if found.operations and not size:
+        raise PoolEmpty(needed=room.needed(1), free=blocks, text=f"{name} needs at least {room.needed(1)} blocks, and {blocks} "
+                        "are said. Nothing is restored", advice="")
+    count = len(found.operations) + 2 * -(-len(found.operations) // (size or 1)) + 2
+    if count > records.MOST_RECORDS:
+        raise OverLimit(f"{name} takes {count} records in batches of {size}, for which {blocks} blocks have room, where a run "
+                        f"takes {records.MOST_RECORDS}: with more blocks they are fewer. Nothing is restored", {"records": count})
+    return size

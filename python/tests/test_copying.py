@@ -1,0 +1,117 @@
+"""A copy of a version answers every request as the version does: names and kinds in their order, both times of each edge."""
+import random
+import unittest
+from unittest import mock
+
+from support import Case
+
+import misteluk
+from misteluk import copying
+from misteluk.copying import content_of_session, operations_of
+from misteluk.renewing import fill
+
+KINDS = ("road", 'a,"kind"', "rail")
+WINDOWS = ({}, {"since": 30}, {"until": 40}, {"since": 20, "until": 50}, {"since": 61, "until": 61})
+
+
+def answers_of(session, sources):
+    """What a session says to every request, and in which order."""
+    told = []
+    for kind in (None, *KINDS, "no kind"):
+        for window in WINDOWS:
+            for ask in (session.degrees, session.components, session.cores, *(lambda it=it, **how: session.levels(it, **how)
+                                                                            for it in sources)):
+                try:
+                    told.append(list(ask(kind=kind, **window).items()))
+                except (misteluk.NoKind, misteluk.NoVertex) as fault:
+                    told.append(fault.word)
+    edges = [(kind, source, target) for kind in (*KINDS, "no kind") for source in sources for target in sources]
+    return told + session.edges(edges, missing="no such name")
+
+
+class Copies(Case):
+    def grown(self, seed, operations=160):
+        """A store that was fed at random, with removals, expiries and times that go back; a session of some version is held."""
+        made, store = random.Random(seed), self.store(blocks=2048, seats=2)
+        names = [made.choice((f"n{it}", f'q"{it}', f"c,{it}", f"Ж {it}")) for it in range(made.choice((2, 9, 25)))]
+        kinds, held = KINDS[:made.choice((1, 2, 3))], None
+        for at in range(operations):
+            edge = made.choice(kinds), made.choice(names), made.choice(names)
+            word = made.choice(("insert", "insert", "add", "remove"))
+            getattr(store, word)(*edge, *(() if word == "remove" else (made.randrange(-9, 9), made.randrange(60))))
+            if made.random() < 0.1:
+                store.expire(made.randrange(30))
+                store.commit(collect=True)
+                if held is None and made.random() < 0.2:
+                    held = store.open()
+        store.commit()
+        return [it for it in (held, store.open()) if it], names
+
+    def copied(self, content, blocks=2048):
+        store = self.store(blocks=blocks)
+        store._terms.names.take(self.names)
+        fill(store._talk, list(operations_of(content)))
+        return store.open()
+
+    def differ(self, seed):
+        """Of how many versions the copy says anything else."""
+        sessions, names = self.grown(seed)
+        count = 0
+        for it in sessions:
+            self.names = it.store._terms.names
+            content = content_of_session(it)
+            copy = self.copied(content)
+            count += answers_of(it, [*names, "nobody"]) != answers_of(copy, [*names, "nobody"])
+            self.assertLessEqual(len(list(operations_of(content))),
+                                 2 * (len(content.edges) + len(content.names) + len(content.kinds)))
+        return count
+
+    def test_copies(self):
+        self.assertEqual(sum(map(self.differ, range(15))), 0)
+
+    def test_faults_are_found(self):
+        """A copy without first times, with names out of order, and without the loops that make names known."""
+        def recent_alone(edge, quoted):
+            yield f"i,{quoted[edge[0]]},{quoted[edge[1]]},{quoted[edge[2]]},{edge[3]},{edge[5]}\n"
+
+        def out_of_order(content):
+            return [list(content.edges), *([] for _ in content.names)]
+        for name, fault in (("_edge", recent_alone), ("_by_later_end", out_of_order), ("_loop", lambda *_: iter(()))):
+            with self.subTest(name), mock.patch.object(copying, name, fault):
+                self.assertGreater(sum(map(self.differ, range(4))), 0)
+
+    def test_names_without_edges_fall_away(self):
+        store = self.store("insert road a b 1 1", "insert rail c d 2 2", "insert road d b 3 3", "remove rail c d")
+        content = content_of_session(store.open())
+        edges = [("road", "a", "b", 1, 1, 1), ("road", "d", "b", 3, 3, 3)]
+        self.assertEqual(content, (["road", "rail"], ["a", "b", "c", "d"], edges))
+        active = content.without_idle_names()
+        self.assertEqual((active.kinds, active.names), (["road"], ["a", "b", "d"]))
+        self.assertEqual(list(operations_of(active)), ["i,road,a,b,1,1\n", "i,road,d,b,3,3\n"])
+        self.assertEqual(list(operations_of(copying.Content([], [], []))), [])
+
+    def test_an_edge_that_wasn_t_told_of(self):
+        """What the program counts, and isn't among the candidates, is no copy."""
+        store = self.store("insert road a b 1 1")
+        session = store.open()
+        store._talk.tell(b"i,road,a,c,5,5\n", 1)
+        store._talk.settle(store._talk.ask("commit\n"))
+        self.assertEqual(len(content_of_session(session).edges), 1)
+        with self.assertRaisesRegex(misteluk.StoreError, "the edges of 2 vertices, as a, are others"):
+            content_of_session(store.open())
+
+    def test_few_blocks(self):
+        """Batches of a copy are as small as the blocks want it."""
+        store = self.store(blocks=64)
+        for it in range(40):
+            store.insert("road", f"s{it % 20}", f"t{it}", it, it)
+            if it % 8 == 7:
+                store.commit(collect=True)
+        self.names = store._terms.names
+        session = store.open()
+        copy = self.copied(content_of_session(session), blocks=32)
+        self.assertEqual((copy.degrees(), copy.store.stat().edges), (session.degrees(), 40))
+
+
+if __name__ == "__main__":
+    unittest.main()

@@ -1,0 +1,205 @@
+"""misteluk follow: what it tells, signals, pipes that break. What is in is compared with a plain model."""
+import fcntl
+import io
+import json
+import os
+import signal
+import struct
+import subprocess
+import sys
+import termios
+import time
+import unittest
+from contextlib import redirect_stderr, redirect_stdout
+from unittest import mock
+
+from support import HERE, Case
+from test_following import Model, some_rows, text_of
+
+from misteluk.__main__ import main
+from misteluk.asking import Asking
+from misteluk.questions import question
+
+OF_ROWS = ("--add", "--source", "1", "--target", "2", "--weight", "3", "--time", "4")
+
+
+def is_read(pipe):
+    """Whether all that was written into the pipe was read."""
+    return struct.unpack("i", fcntl.ioctl(pipe, termios.FIONREAD, b"\0" * 4))[0] == 0
+
+
+class FollowCommand(Case):
+    def start(self, file, *words, **options):
+        """The command, which reads what it follows from a pipe."""
+        command = [sys.executable, "-m", "misteluk", "follow", str(file), *OF_ROWS, *words]
+        pipe = subprocess.PIPE
+        process = subprocess.Popen(command, **{"stdin": pipe, "stdout": pipe, "stderr": pipe, "cwd": HERE.parent, **options})
+        self.addCleanup(self.end, process)
+        return process
+
+    def end(self, process):
+        if process.poll() is None:
+            process.kill()
+        process.wait()
+        for it in (process.stdin, process.stdout, process.stderr):
+            if it and not it.closed:
+                it.close()
+
+    def wait(self, is_so, what):
+        end = time.monotonic() + 60
+        while not is_so():
+            self.assertLess(time.monotonic(), end, what)
+            time.sleep(0.01)
+
+    def run_it(self, text, *words):
+        """The status, the lines and what is told on standard error, of a feed that ends."""
+        done = subprocess.run([sys.executable, "-m", "misteluk", "follow", "-", *OF_ROWS, *words], input=text, timeout=60,
+                              text=True, stdout=subprocess.PIPE, stderr=subprocess.PIPE, cwd=HERE.parent)
+        return done.returncode, done.stdout.splitlines(), done.stderr
+
+    def test_lines(self):
+        text = "a,b,1,10\na,c,2,11\nc,d,3,12\nx,y,5,bad\na,b,4,13\n"
+        status, out, err = self.run_it(text, "--skip-bad", "--keep", "1", "--ask", "degrees", "--ask", "levels a", "--ask",
+                                       "edge link a b", "--ask", "into b", "--ask", "components link", "--ask", "cores", "--ask",
+                                       "levels 'no one'", "--top", "1")
+        self.assertEqual((status, out), (0, [
+            "version 1: 4 rows to line 5, 3 inserted, 1 updated, 1 expired, 1 bad rows passed over; newest 13",
+            "degrees: 4 names, greatest by out", "  a out 1 in 0 weight 5",
+            "levels a: 2 reached, the farthest at 1", "  0: 1",
+            "edge link a b: weight 5 first 10 recent 13",
+            "into b: 1 edge", "  a weight 5 first 10 recent 13",
+            "components link: 2 of 4 names", "  a 2",
+            "cores: 4 names, greatest 1", "  a 1",
+            "levels 'no one': there is no such name in this version"]))
+        self.assertEqual(err, "misteluk: passed over: standard input:4: BadTime: time 'bad': a time is a whole number that isn't "
+                              "negative, of at most 19 digits\n"
+                              "misteluk: standard input: 4 rows to line 5 are in; 1 bad rows passed over\n")
+
+    def test_lines_of_json(self):
+        rows = some_rows(900)
+        asks = ("--ask", "degrees", "--ask", "edge link s1 t1", "--within", "200", "--top", "5000", "--json", "--batch", "300")
+        status, out, err = self.run_it(text_of(rows), *asks)
+        told = [json.loads(it) for it in out]
+        self.assertEqual((status, len(told), [it["rows"] for it in told if "rows" in it]), (0, 9, [300, 600, 900]))
+        model = Model(rows)
+        for commit, degrees, edge in zip(told[0::3], told[1::3], told[2::3]):
+            model.go_to(commit["rows"])
+            recent = Model([])
+            recent.edges = {it: edge for it, edge in model.edges.items() if edge[2] >= model.newest - 200}
+            found = {it["name"]: it["weight_out"] for it in degrees["most"]}
+            self.assertEqual({**dict.fromkeys(found, 0), **recent.weights()}, found)
+            self.assertEqual((commit["newest"], edge["asked"]), (model.newest, "edge link s1 t1"))
+            wanted = model.edges.get(("s1", "t1"))
+            self.assertEqual(edge["edge"] and tuple(edge["edge"].values()), wanted)
+
+    def test_decimals_and_dates_as_json(self):
+        text = "a,b,1.50,2024-03-04T12:00:00\n"
+        asks = ("--json", "--weight-scale", "100", "--times", "iso", "--keep", "14d", "--within", "1h", "--ask", "into b")
+        status, out, _ = self.run_it(text, *asks)
+        commit, answer = map(json.loads, out)
+        time_of = "2024-03-04T12:00:00+00:00"
+        self.assertEqual((status, commit["newest"], answer["most"]),
+                         (0, time_of, [{"name": "a", "weight": "1.50", "first": time_of, "recent": time_of}]))
+
+    def stopped(self, number):
+        """A feed that is ended by a signal: all that was read is in, in the last batch, and it is told how far that is."""
+        rows, keep = some_rows(700), 500
+        words = ("--json", "--every", "1h", "--keep", str(keep), "--batch", "257", "--ask", "degrees", "--top", "5000")
+        process = self.start("-", *words)
+        os.write(process.stdin.fileno(), text_of(rows).encode() + b"half,a,li")
+        first = json.loads(process.stdout.readline())
+        self.wait(lambda: is_read(process.stdin.fileno()), "it reads all")
+        process.send_signal(number)
+        told = [first, *map(json.loads, process.stdout.read().splitlines())]
+        self.assertEqual(process.wait(60), 0)
+        self.assertEqual(process.stderr.read().decode(), "misteluk: standard input: 700 rows to line 700 are in; the last line "
+                                                         "isn't whole yet, and not in\n")
+        self.assertEqual([it["rows"] for it in told if "rows" in it], [256, 512, 700])
+        model = Model(rows, "add", keep).go_to(256).go_to(512).go_to(700)
+        found = {it["name"]: it["weight_out"] for it in told[-1]["most"]}
+        self.assertEqual({**dict.fromkeys(found, 0), **model.weights()}, found)
+
+    def test_ctrl_c_and_sigterm(self):
+        for number in (signal.SIGINT, signal.SIGTERM):
+            with self.subTest(number):
+                self.stopped(number)
+
+    def test_a_file_that_grows_until_sigterm(self):
+        path = self.file("grows.csv", "a,b,1,1\n")
+        process = self.start(path, "--json", "--every", "10ms")
+        self.assertEqual(json.loads(process.stdout.readline())["rows"], 1)
+        with open(path, "a") as file:
+            file.write("b,c,2,2\n")
+        self.assertEqual(json.loads(process.stdout.readline())["rows"], 2)
+        process.send_signal(signal.SIGTERM)
+        self.assertEqual((process.wait(60), process.stdout.read()), (0, b""))
+
+    def test_a_second_signal_ends_it_at_once(self):
+        """Also where the program doesn't answer."""
+        program = self.stand_in("time.sleep(60)")
+        for number in (signal.SIGINT, signal.SIGTERM):
+            process = self.start("-", "--every", "0", "--program", program)
+            os.write(process.stdin.fileno(), b"a,b,1,1\n")
+            self.wait(lambda: is_read(process.stdin.fileno()), "it reads")
+            process.send_signal(number)
+            time.sleep(0.3)
+            self.assertIsNone(process.poll())
+            process.send_signal(number)
+            self.assertEqual(process.wait(5), -number)
+
+    def test_a_broken_pipe(self):
+        """It ends quietly, where it has something to tell and where it hasn't."""
+        for more in (b"", b"b,c,1,1\n" * 5):
+            process = self.start("-", "--every", "0", "--ask", "degrees")
+            os.write(process.stdin.fileno(), b"a,b,1,1\n")
+            process.stdout.readline()
+            process.stdout.close()
+            if more:
+                os.write(process.stdin.fileno(), more)
+            self.assertEqual((process.wait(60), process.stderr.read()), (0, b""))
+
+    def test_what_is_refused(self):
+        text = text_of([(f"s{it}", f"t{it}", 1, it) for it in range(30)])
+        status, out, err = self.run_it(text, "--blocks", "16")
+        self.assertEqual((status, out), (1, []))
+        self.assertIn("misteluk: PoolEmpty (record 32): 30 rows of standard input, lines 1 to 30, are not in, and pending still; "
+                      "0 rows before them are in. The batch needs 30 free blocks, and 16 are free. ", err)
+        status, out, err = self.run_it("a,b,1,1\nb,c,x,2\n")
+        self.assertEqual((status, len(out)), (1, 1))
+        self.assertIn("misteluk: standard input: 1 of 2 rows can't be taken, and those before line 2 are in, and none behind it\n"
+                      "  standard input:2: BadWeight", err)
+        for words, told in ((("--keep", "14d"), "keep is a whole number"), (("--every", "soon"), "not 'soon'"),
+                            (("--ask", "degres"), "a question is one of"), (("--ask", "levels"), "as `levels NAME [KIND]`")):
+            status, _, err = self.run_it("", *words)
+            self.assertIn(told, err)
+            self.assertIn(status, (1, 2))
+
+    def test_it_goes_on_in_a_new_program(self):
+        """That is told on standard error, and nothing else differs."""
+        rows = some_rows(9_000)
+        words = ("follow", self.file("long.csv", text_of(rows)), *OF_ROWS, "--until-end", "--json", "--batch", "500",
+                 "--keep", "900", "--ask", "degrees", "--top", "5000")
+        out, err = io.StringIO(), io.StringIO()
+        with mock.patch.object(Asking, "_fewer_records", 6_000), redirect_stdout(out), redirect_stderr(err):
+            self.assertEqual(main(words), 0)
+        told = err.getvalue().splitlines()
+        self.assertGreater(len(told), 2)
+        self.assertRegex(told[0], r"^misteluk: went on in a new program at version \d+: \d+ edges and \d+ names went along, "
+                                  r"by \d+ records, in \d+\.\d s$")
+        model, answers = Model(rows, "add", 900), [json.loads(it) for it in out.getvalue().splitlines()]
+        for commit, degrees in zip(answers[0::2], answers[1::2]):
+            model.go_to(commit["rows"])
+            found = {it["name"]: it["weight_out"] for it in degrees["most"]}
+            self.assertEqual({**dict.fromkeys(found, 0), **model.weights()}, found)
+        self.assertEqual((commit["rows"], commit["version"]), (9_000, 19))
+
+    def test_questions(self):
+        for text in ("degrees", "levels ana", "edge link ana 'bob b'", "into ana link"):
+            question(text)
+        self.assertEqual(question("levels 'a b' \"k k\"")[1:], ("levels", ("a b",), "k k"))
+        for text in ("", "levels", "degrees a b", "edge a b", "edge a b c d", "levels a b c", "'"):
+            self.assertRaises(ValueError, question, text)
+
+
+if __name__ == "__main__":
+    unittest.main()

@@ -1,0 +1,354 @@
+"""Feeds that are followed: files that grow, pipes, expiry, bad rows, interrupts. What is in is compared with a plain model, and
+tests that could miss a fault are made again with one that is planted."""
+import contextlib
+import os
+import random
+import signal
+import threading
+import time
+import unittest
+from unittest import mock
+
+import interrupting
+from interrupting import handler, interrupt_in_a_call, made_at_once
+from support import Case
+
+import misteluk
+from misteluk import Columns, calls, delimited, following, growing
+
+COLUMNS = Columns(1, 2, weight=3, time=4)
+KIND = "link"
+
+
+class Model:
+    """What edges are after rows of source, target, weight and time, and expiries; by plain loops."""
+
+    def __init__(self, rows, by="add", keep=None):
+        self.rows, self.by, self.keep = rows, by, keep
+        self.edges, self.done, self.newest, self.expired = {}, 0, -1, 0
+
+    def go_to(self, count):
+        """Takes the rows up to so many, as one batch."""
+        if count == self.done:
+            return self
+        for source, target, weight, at in self.rows[self.done:count]:
+            before = self.edges.get((source, target))
+            sum_of = weight + (before[0] if before and self.by == "add" else 0)
+            self.edges[source, target] = (sum_of, before[1] if before else at, at)
+            self.newest = max(self.newest, at)
+        self.done = count
+        if self.keep is not None:
+            old = [it for it, edge in self.edges.items() if edge[2] < self.newest - self.keep]
+            self.expired = len(old)
+            for it in old:
+                del self.edges[it]
+        return self
+
+    def weights(self):
+        """The weight that goes out of each vertex that has an edge."""
+        sums = {}
+        for (source, target), edge in self.edges.items():
+            sums[source] = sums.get(source, 0) + edge[0]
+            sums.setdefault(target, 0)
+        return sums
+
+
+def some_rows(count, seed=3, names=40):
+    """Rows whose times go on, and now and then back."""
+    made = random.Random(seed)
+    return [(f"s{made.randrange(names)}", f"t{made.randrange(names)}", made.randrange(-5, 30), 1000 + 3 * it + made.randrange(40))
+            for it in range(count)]
+
+
+def text_of(rows):
+    return "".join(f"{','.join(map(str, it))}\n" for it in rows)
+
+
+class Following(Case):
+    def follow(self, feed, store=None, **options):
+        """A store that follows the feed."""
+        found = (store or self.store(blocks=8192, seats=2)).follow(
+            feed, **{"by": "add", "columns": COLUMNS, "progress": False, **options})
+        self.addCleanup(found.close)
+        return found
+
+    def enter(self, file):
+        """The file, which is closed at the end."""
+        self.addCleanup(file.close)
+        return file
+
+    def check(self, step, followed, model):
+        """Whether the store has what the model has."""
+        model.go_to(step.rows)
+        with followed.store.open() as session:
+            self.assertEqual(step.commit.version, session.version)
+            self.assertEqual(session.edges([(KIND, *it) for it in model.edges]), list(model.edges.values()))
+        self.assertEqual((followed.store.stat().edges, step.newest), (len(model.edges), model.newest))
+        self.assertEqual(step.commit.expired, model.expired)
+
+    def test_a_file_that_grows(self):
+        rows = some_rows(600)
+        text, path = text_of(rows), self.file("grows.csv", "")
+        followed, model, written = self.follow(path, every=0.02), Model(rows), []
+
+        def write():
+            made = random.Random(1)
+            with open(path, "a", newline="") as file:
+                while sum(written) < len(text):
+                    at = sum(written)
+                    written.append(made.randrange(1, 400))
+                    file.write(text[at:at + written[-1]])
+                    file.flush()
+                    time.sleep(0.005)
+        thread = threading.Thread(target=write)
+        thread.start()
+        steps = [next(followed)]
+        while steps[-1].rows < len(rows):
+            self.check(steps[-1], followed, model)
+            steps.append(next(followed))
+        thread.join()
+        self.check(steps[-1], followed, model)
+        self.assertEqual((steps[-1].line, steps[-1].bad, steps[-1].rows), (600, 0, 600))
+        self.assertGreater(len(steps), 3)
+        followed.stop()
+        self.assertEqual(list(followed), [])
+
+    def test_a_file_s_last_line_is_one_when_it_ends(self):
+        path = self.file("half.csv", "a,b,1,1\nb,c,12")
+        followed = self.follow(path, every=0.01, columns=Columns(1, 2, weight=3))
+        self.assertEqual((next(followed).rows, followed.half_line), (1, True))
+        with open(path, "a") as file:
+            file.write("34\n")
+        self.assertEqual((next(followed).rows, followed.half_line), (2, False))
+        with followed.store.open() as session:
+            self.assertEqual(session.edge(KIND, "b", "c").weight, 1234)
+        (step,) = self.follow(self.file("end.csv", "a,b,1,1\nb,c,12,3"), until_end=True)
+        self.assertEqual((step.rows, step.line), (2, 2))
+
+    def test_expiry(self):
+        rows = some_rows(5000)
+        for by, keep, batch in (("add", 300, 200), ("set", 900, 333), ("add", 0, 500)):
+            followed = self.follow(self.file("old.csv", text_of(rows)), by=by, keep=keep, batch=batch, until_end=True)
+            model, expired = Model(rows, by, keep), 0
+            for step in followed:
+                self.check(step, followed, model)
+                expired += step.commit.expired
+            self.assertEqual(step.rows, len(rows))
+            self.assertGreater(expired, 1000)
+
+    def test_expiry_finds_a_fault(self):
+        """A bound that is one too late."""
+        real = following.Following._commit
+
+        def late(self):
+            self._newest += 1
+            try:
+                return real(self)
+            finally:
+                self._newest -= 1
+        with mock.patch.object(following.Following, "_commit", late), self.assertRaises(AssertionError):
+            self.test_expiry()
+
+    def test_batches_are_full(self):
+        path = self.file("full.csv", text_of(some_rows(10_000)))
+        counts = [it.rows for it in self.follow(path, until_end=True, every="1h")]
+        self.assertEqual(counts, [4096, 8192, 10_000])
+        counts = [it.rows for it in self.follow(path, until_end=True, every="1h", keep="9000", batch=3000)]
+        self.assertEqual(counts, [2999, 5998, 8997, 10_000])
+
+    def test_dates(self):
+        path = self.file("dates.csv", "a;b;1,50;01.03.2024\na;c;2,00;02.03.2024 12:00:00\nc;d;1;16.03.2024\n")
+        (step,) = self.follow(path, until_end=True, keep="14d", weight_scale=100, dates="dd.mm.yyyy", decimal=",", delimiter=";")
+        self.assertEqual((step.commit.expired, str(step.newest)), (1, "2024-03-16 00:00:00+00:00"))
+
+    def test_a_slow_feed(self):
+        """No commit comes before a row has waited so long; none at all where there is no row."""
+        read, write = os.pipe()
+        file = self.enter(os.fdopen(read, "rb"))
+        followed, every, told, at = self.follow(file, every=0.3), 0.3, [], []
+
+        def run():
+            for step in followed:
+                told.append(step)
+                at.append(time.monotonic())
+        thread = threading.Thread(target=run)
+        thread.start()
+        begun = time.monotonic()
+        for it in range(40):
+            os.write(write, f"a,b{it},1,{it}\n".encode())
+            time.sleep(0.02)
+        while not told or told[-1].rows < 40:
+            self.assertLess(time.monotonic() - begun, 30)
+            time.sleep(0.01)
+        count = len(told)
+        time.sleep(2 * every)
+        self.assertEqual(len(told), count)
+        os.close(write)
+        thread.join(30)
+        self.assertGreaterEqual(at[0] - begun, every)
+        self.assertTrue(all(after - before >= every for before, after in zip(at, at[1:])), at)
+        self.assertTrue(1 < count < 5, count)
+
+    def test_bad_rows(self):
+        text = "a,b,1,1\nb,c,2,2\nb,,3,3\nc,d,x,4\nd,e,5,5\n"
+        followed = self.follow(self.file("bad.csv", text), until_end=True)
+        self.assertEqual(next(followed).rows, 2)
+        with self.assertRaises(misteluk.BadRows) as told:
+            next(followed)
+        self.assertIn("can't be taken, and those before line 3 are in, and none behind it\n", str(told.exception))
+        self.assertIn("bad.csv:3: BadName: target '': a name has at least one byte", str(told.exception))
+        self.assertEqual(followed.store.stat().edges, 2)
+        followed = self.follow(self.file("bad.csv", text), until_end=True, skip_bad=True)
+        (step,) = followed
+        self.assertEqual((step.rows, step.bad, step.line), (3, 2, 5))
+        self.assertEqual([(it.place.line, it.word, it.field) for it in followed.faults],
+                         [(3, "BadName", "target"), (4, "BadWeight", "amount")])
+
+    def test_what_is_refused(self):
+        """The error says which rows aren't in; they are pending, and the next step goes on."""
+        store = self.store(blocks=16)
+        rows = [(f"s{it}", f"t{it}", 1, it) for it in range(30)]
+        followed = self.follow(self.file("pool.csv", text_of(rows)), store, until_end=True, batch=20)
+        with self.assertRaises(misteluk.PoolEmpty) as told:
+            next(followed)
+        self.assertIn("PoolEmpty (record 22): 20 rows of", str(told.exception))
+        self.assertIn("lines 1 to 20, are not in, and pending still; 0 rows before them are in. The batch needs 20 free blocks, "
+                      "and 16 are free", str(told.exception))
+        self.assertEqual((store.pending, told.exception.needed, told.exception.free), (20, 20, 16))
+        self.assertRaises(misteluk.PoolEmpty, next, followed)
+        for _ in range(8):
+            store.remove(KIND, "no", "such")
+        self.assertRaises(misteluk.PoolEmpty, store.commit, batch=14)  # (two batches: one is in, the other is not)
+        self.assertEqual((store.pending, store.stat().edges), (14, 14))
+        with self.assertRaisesRegex(misteluk.PoolEmpty, "20 rows of .* are not in, and pending still"):
+            next(followed)
+
+    def test_a_program_that_ends(self):
+        store = self.store(blocks=64)
+        followed = self.follow(self.file("ends.csv", text_of(some_rows(30))), store, batch=10)
+        next(followed)
+        store._talk.process.kill()
+        with self.assertRaises(misteluk.ProgramEnded) as told:
+            list(followed)
+        self.assertIn("10 rows of", str(told.exception))
+        self.assertIn("lines 11 to 20, were not answered, and the graph is gone with the program", str(told.exception))
+        store.discard()
+        with contextlib.suppress(misteluk.StoreError):
+            store.close()
+
+    def test_what_can_t_be_followed(self):
+        store, path = self.store(blocks=64), self.file("p.csv", "a,b,1,1\n")
+        for fault, options in (("times are no dates|no dates here", {"keep": "14d"}), ("not 'x'", {"every": "x"}),
+                               ("keep is a length of time", {"keep": 3, "times": "iso"}), ("not 'matrix'", {"format": "matrix"}),
+                               ("by is 'set'", {"by": "x"}), ("batch is from", {"batch": 0}), ("names is", {"names": "x"}),
+                               ("no encoding", {"encoding": "x"}), ("third is", {"format": "snap", "third": "x"})):
+            with self.assertRaisesRegex(ValueError, fault):
+                self.follow(path, store, **options)
+        self.assertRaisesRegex(ValueError, "packed", self.follow, "p.csv.gz", store)
+        self.assertRaises(OSError, self.follow, str(self.room / "none.csv"), store)
+        store.insert("l", "a", "b")
+        self.assertRaisesRegex(misteluk.Uncommitted, "before a feed is followed", self.follow, path, store)
+
+    def test_a_file_that_is_cut(self):
+        path = self.file("cut.csv", "a,b,1,1\nb,c,2,2\n")
+        followed = self.follow(path, every=0)
+        next(followed)
+        self.file("cut.csv", "x,y,1,1\n")
+        self.assertRaisesRegex(misteluk.FeedFault, "was cut to 8 bytes, and 16 were read", next, followed)
+        self.assertEqual(followed.store.stat().edges, 2)
+
+    def interrupted(self, count):
+        """Follows a file while its steps are interrupted, and compares all that is in."""
+        rows = some_rows(6000)
+        followed = self.follow(self.file("i.csv", text_of(rows)), until_end=True, batch=41, keep=900)
+        model, steps, interrupts = Model(rows, "add", 900), [], 0
+        with handler(interrupt_in_a_call):
+            while model.done < len(rows):
+                try:
+                    signal.setitimer(signal.ITIMER_REAL, random.uniform(1e-6, 8e-4) if interrupts < count else 0)
+                    interrupting.IN_A_CALL[0] = True
+                    step = next(followed)
+                    interrupting.IN_A_CALL[0] = False
+                except KeyboardInterrupt:
+                    interrupts += 1
+                    continue
+                finally:
+                    signal.setitimer(signal.ITIMER_REAL, 0)
+                steps.append(step.commit.version)
+                self.assertEqual(step.rows, min(40 * steps[-1], len(rows)))
+                while model.done < step.rows:
+                    model.go_to(min(model.done + 40, len(rows)))
+                self.check(step, followed, model)
+        self.assertEqual(list(followed), [])
+        self.assertGreaterEqual(interrupts, count)
+        # (an interrupt that comes when a step was given and isn't taken yet loses that one: it is told by the next one's rows)
+        self.assertGreaterEqual(len(steps), steps[-1] - 5)
+        self.assertEqual(sorted(set(steps)), steps)
+
+    def test_interrupts(self):
+        self.interrupted(40)
+
+    def test_interrupts_find_a_fault(self):
+        for where, name, fault in ((calls.Calls, "make", made_at_once), (following.Following, "_keep_untaken", lambda *_: None)):
+            with mock.patch.object(where, name, fault), self.assertRaises(Exception):
+                self.interrupted(60)
+
+    def test_an_edge_list(self):
+        path = self.file("list.txt", "# edges\n1 2 7\n2\t3\t8\n")
+        (step,) = self.follow(path, until_end=True, columns=Columns(), third="time")
+        self.assertEqual((step.rows, step.line, step.newest), (2, 3, 8))
+        followed = self.follow(self.file("list.txt", "# edges\n1 2 7\n2 3\n4 5 9\n"), until_end=True, third="time")
+        self.assertRaisesRegex(misteluk.FeedFault, "list.txt:3: 2 fields", list, followed)
+
+
+class Rows(Case):
+    """Rows that come in pieces are those of the file."""
+
+    def pieces(self, text, seed):
+        """The rows of a text that comes through a pipe in pieces."""
+        made = random.Random(seed)
+        read, write = os.pipe()
+        with os.fdopen(read, "rb") as file:
+            source, found = growing.Growing(file), []
+            rows = growing.DelimitedRows("pieces", COLUMNS, ",", False)
+            data = text.encode()
+            while not source.is_at_end:
+                more = made.randrange(1, 30)
+                if data:
+                    os.write(write, data[:more])
+                elif write:
+                    os.close(write)
+                    write = 0
+                data = data[more:]
+                for block in rows.take(source.lines(), source.is_at_end):
+                    found += [tuple(it) for it in zip(*block)]
+            source.close()
+            return found
+
+    def differ(self):
+        """Of how many random texts the rows that come in pieces aren't those of the file."""
+        made, count = random.Random(2), 0
+        fields = ("a", "Ж", 'b"c', '"x\ny"', '"p,q"', '"say ""no"""', "", " d ", '"r\r\ns"')
+        for seed in range(200):
+            ends = made.choice(("\n", "\r\n"))
+            text = ends.join(",".join(made.choices(fields, k=made.choice((4, 4, 4, 5)))) if made.random() < 0.9 else ""
+                             for _ in range(made.randrange(1, 12)))
+            text = f"a,b,1,2{ends}{text}" + made.choice((ends, ""))
+            path = self.room / "whole.csv"
+            path.write_bytes(text.encode())
+            count += self.pieces(text, seed) != list(delimited(path, COLUMNS, delimiter=",", header=False).rows)
+        return count
+
+    def test_rows_in_pieces(self):
+        self.assertEqual(self.differ(), 0)
+
+    def test_rows_in_pieces_find_a_fault(self):
+        def of_any(feed, lines, sign, before, is_end):
+            return delimited_rows(feed, lines, sign, before, True)
+        delimited_rows = growing.whole_rows
+        with mock.patch.object(growing, "whole_rows", of_any):
+            self.assertGreater(self.differ(), 20)
+
+
+if __name__ == "__main__":
+    unittest.main()

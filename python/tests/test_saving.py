@@ -1,0 +1,262 @@
+"""A saved version is restored exactly, by the client and by the program alone, and what is more than a run takes is told before.
+
+Graphs are random, with removals, expiries, windows, loads and held sessions, beside a model in plain dicts. Comparisons are made
+again with faults that are planted, and have to find them.
+"""
+import gzip
+import hashlib
+import os
+import subprocess
+import unittest
+from unittest import mock
+
+from graphs import NAMES, Play
+from support import Case, find_program
+
+import misteluk
+from misteluk import Edge, Store, copying, names, records, saving
+
+WINDOWS = ((0, records.MOST_TIME), (30, records.MOST_TIME), (10, 40))
+ENDINGS = ("", ".gz", ".xz", ".bz2")
+
+
+def answers_of(session, of_names):
+    """What a session says to every request, and in which order."""
+    told, store = [session.store.kinds, session.store.units, len(session)], session.store
+    for kind in (None, *store.kinds, "no kind"):
+        for since, until in WINDOWS:
+            for ask, *given in ((session.degrees,), (session.components,), (session.cores,), (session.weights_in,),
+                                *((ask, it) for it in of_names for ask in (session.levels, session.neighbors))):
+                try:
+                    told.append(list(ask(*given, kind=kind, since=since, until=until).items()))
+                except (misteluk.NoKind, misteluk.NoVertex) as fault:
+                    told.append(fault.word)
+    return told + sorted(session.edges()) + [of_names[0] in session, session.path(*session.degrees().most(2)[0][:1] * 2)
+                                             if session.degrees() else None]
+
+
+def rows_of(session):
+    """The rows of every table of a session, in the program's names."""
+    asked = [(it, str(session.slot), "*", "0", str(records.MOST_TIME)) for it in ("deg", "comp", "core")]
+    return [row for it in asked for row in session._table(it)]
+
+
+def run_alone(script, *requests):
+    """What the program writes for a saved script and requests behind it, and its status."""
+    text = script + "".join(f"{it}\n" for it in requests).encode("ascii")
+    done = subprocess.run([find_program(), "run"], input=text, stdout=subprocess.PIPE, stderr=subprocess.DEVNULL, timeout=60)
+    return done.stdout.decode("ascii").splitlines(), done.returncode
+
+
+class Saving(Case):
+    def played(self, seed, steps=10):
+        """The sessions of a random store, each with what it holds; the last version's is the last."""
+        play = Play(seed)
+        self.addCleanup(play.end)
+        for _ in range(steps):
+            play.step()
+        return [*play.held, (play.store.open(), play.now)]
+
+    def restored(self, path, **options):
+        store = Store.restore(path, **options)
+        self.addCleanup(store.close)
+        return store
+
+    def differ(self, seed, ending=""):
+        """In how many versions of a random store the restored one is another than the model's, or says anything else."""
+        count = 0
+        for at, (session, graph) in enumerate(self.played(seed)):
+            path = self.room / f"{seed}.{at}.csv{ending}"
+            session.save(path)
+            with Store.restore(path, blocks=2048) as store, store.open() as copy:
+                is_model = (sorted(copy.edges()) == sorted((*it, edge) for it, edge in graph.items())
+                            and list(copy.degrees()) == list(graph.names) and store.kinds == list(graph.kinds))
+                with mock.patch.object(Store, "kinds", list(graph.kinds)):
+                    count += not is_model or answers_of(copy, NAMES[::3]) != answers_of(session, NAMES[::3])
+        return count
+
+    def test_random_graphs(self):
+        self.assertEqual([self.differ(seed, ENDINGS[seed % 4]) for seed in range(6)], [0] * 6)
+
+    def test_faults_are_found(self):
+        def recent_alone(edge, quoted):
+            yield f"i,{quoted[edge[0]]},{quoted[edge[1]]},{quoted[edge[2]]},{edge[3]},{edge[5]}\n"
+        for where, name, fault in ((copying, "_edge", recent_alone), (copying, "_loop", lambda *_: iter(())),
+                                   (names.NameTable, "put", lambda *_: None)):
+            with self.subTest(name), mock.patch.object(where, name, fault):
+                try:
+                    found = sum(map(self.differ, range(2)))
+                except misteluk.StoreError as refused:  # (there are fewer names than the head tells)
+                    found = "came of" in str(refused)
+                self.assertGreater(found, 0)
+
+    def test_the_program_alone(self):
+        for seed in range(4):
+            session, graph = self.played(seed)[-1]
+            done = session.save(self.room / "s.csv.gz")
+            script = gzip.open(self.room / "s.csv.gz").read()
+            self.assertEqual((done.records, done.edges, done.names), (script.count(b"\n"), len(graph), len(graph.names)))
+            to_program = session.store._terms.names.to_program
+            whole = f"*,0,{records.MOST_TIME}"
+            edges = [records.record(("edge", "0", *map(to_program, it))).strip() for it in graph]
+            told, status = run_alone(script, "open,0", *(f"{it},0,{whole}" for it in ("deg", "comp", "core")), *edges, "stat")
+            self.assertEqual((status, [it for it in told if it.startswith("error")]), (0, []))
+            opened = max(at for at, it in enumerate(told) if it.startswith("open 0 v="))
+            rows = [it for it in told[opened + 1:len(told) - 1 - len(edges)]
+                    if not it.startswith(("deg 0 ", "comp 0 ", "core 0 "))]
+            self.assertEqual(rows, rows_of(session))
+            wanted = [f"edge 0 {it.weight} {it.first} {it.recent}" for it in graph.values()]
+            self.assertEqual(told[len(told) - 1 - len(edges):-1], wanted)
+            self.assertIn(f" names={len(graph.names)} edges={len(graph)} ", told[-1])
+
+    def test_a_file_by_hand(self):
+        """What is written of a small store: units, a text and its id, an edge of two times, a kind and names without edges."""
+        store = self.store(blocks=64, weight_scale=100, times="iso")
+        store.insert("owes", "ann", "bob smith", "1.50", "1970-01-01T00:00:01")
+        store.insert("owes", "ann", "bob smith", "2.50", "1970-01-01T00:00:02")
+        store.insert("knows", "cat", "cat")
+        store.remove("knows", "cat", "cat")
+        store.commit()
+        done = store.open().save(self.room / "s.csv")
+        bob = names.id_of("bob smith")
+        behind = ["i,misteluk,version,1,0,0", "i,misteluk,names,3,0,0", "i,misteluk,edges,1,0,0", "i,misteluk,blocks,64,0,0",
+                  "i,misteluk,needed,16384,0,0", "i,misteluk,weight_scale,100,0,0", "i,misteluk,times,iso,0,0",
+                  f"i,misteluk,{bob},bob%20smith,0,0", "i,misteluk,end,of-head,0,0", "commit", "rebase,0",
+                  "i,owes,ann,ann,0,0", "r,owes,ann,ann", "i,knows,ann,ann,0,0", "r,knows,ann,ann",
+                  f"i,owes,ann,{bob},250,1000000", f"i,owes,ann,{bob},250,2000000", "i,owes,cat,cat,0,0", "r,owes,cat,cat",
+                  "commit", "collect", ""]
+        digest = hashlib.sha256("\n".join(behind).encode()).hexdigest()
+        wanted = ["open,0", f"i,misteluk,form:1,{digest},0,0", *behind]
+        self.assertEqual((self.room / "s.csv").read_text().split("\n"), wanted)
+        self.assertEqual(done[1:], (1, 3, 1, len(wanted) - 1, 16384))
+        self.assertEqual(str(done), f"{self.room}/s.csv: version 1 with 3 names and 1 edge, in {len(wanted) - 1} records for "
+                         "`stinger run --blocks 16384`")
+        copy = self.restored(self.room / "s.csv", decimals="float")
+        self.assertEqual((copy.blocks, copy.units), (64, store.units._replace(decimals="float")))
+        self.assertEqual((copy.open().edge("owes", "ann", "bob smith").weight, copy.kinds), (2.5, ["owes", "knows"]))
+
+    def test_empty_stores(self):
+        for options in ({}, {"weight_scale": 10}):
+            store = self.store(**options)
+            store.open().save(self.room / "s.csv")
+            copy = self.restored(self.room / "s.csv")
+            self.assertEqual((copy.stat()[:3], copy.units), ((0, 0, 0), store.units))
+            copy._must_agree(copy.units._replace(times="iso")) if not options else self.assertTrue(copy._units_are_set)
+
+    def test_it_goes_on(self):
+        """A restored store takes operations, loads and expiries as the saved one does, and can be saved again."""
+        *held, (session, _) = self.played(5)
+        session.save(self.room / "s.csv")
+        for it, _ in held:
+            it.close()
+        copy = self.restored(self.room / "s.csv", seats=3)
+        for store in (copy, session.store):
+            store.insert("k", "new one", "v1", 3, 9)
+            store.expire(20)
+            store.commit(collect=True)
+            store.load([("v1", "v2", 2, 8, "l,m")], by="add")
+        last = session.store.open()
+        with mock.patch.object(Store, "kinds", session.store.kinds):
+            self.assertEqual(answers_of(copy.open(), NAMES[:3]), answers_of(last, NAMES[:3]))
+        copy.open().save(self.room / "t.csv")
+        last.save(self.room / "u.csv")
+        again = (self.restored(self.room / it).open() for it in ("t.csv", "u.csv"))
+        self.assertEqual(*(list(sorted(it.edges())) for it in again))
+
+    def test_many_texts(self):
+        """More texts than a batch of the head has, one of many signs."""
+        texts = [f"name {it}" for it in range(6_000)] + ["Ы" * 5_000, "~~" + "A" * 20, "a\nb", "100%25"]
+        store = self.store(blocks=16_384)
+        for it in texts:
+            store.insert("link", it, texts[0], 1, 1)
+        store.commit(collect=True)
+        store.open().save(self.room / "s.csv.gz")
+        told, status = run_alone(gzip.open(self.room / "s.csv.gz").read(), "stat")
+        self.assertEqual((status, told[-1].split()[2:4]), (0, ["names=6004", "edges=6004"]))
+        self.assertEqual(list(self.restored(self.room / "s.csv.gz").open().degrees()), texts)
+
+    def test_endless_stores(self):
+        """Of a session in a program that isn't in use any more; and a restored store goes on in a new program."""
+        store = self.store("insert k a b 1 1", "remove k a b", "insert k b c 2 2", endless=True)
+        session = store.open()
+        store.renew()
+        store.insert("k", "c", "d", 1, 3)
+        store.commit()
+        session.save(self.room / "s.csv")
+        copy = self.restored(self.room / "s.csv", endless=True)
+        self.assertEqual(list(copy.open().degrees()), ["a", "b", "c"])
+        copy.insert("k", "c", "d", 1, 3)
+        copy.commit()
+        self.assertEqual((copy.renew().edges, list(copy.open().degrees())), (2, ["b", "c", "d"]))
+        self.assertEqual(sorted(copy.open().edges()), [("k", "b", "c", Edge(2, 2, 2)), ("k", "c", "d", Edge(1, 3, 3))])
+
+
+class Limits(Case):
+    """What is more than a run takes is told before anything is asked, written or begun."""
+
+    def test_records_of_the_run(self):
+        store = self.store("insert k a b 1 1", "insert k b c 2 2", "insert l b c 2 2")
+        session, before = store.open(), store.records_sent
+        store._fewer_records = before + 5
+        wanted = f"in 6 records, and this run has had {before} of {before + 5}. Nothing"
+        with self.assertRaisesRegex(misteluk.RecordLimit, wanted):
+            session.save(self.room / "s.csv")
+        self.assertEqual((store.records_sent, os.listdir(self.room)), (before, []))
+        store._fewer_records = before + 6
+        session.save(self.room / "s.csv")
+        self.assertEqual(store.records_sent, before + 6)
+
+    def test_records_of_a_copy(self):
+        store = self.store(*(f"insert k a t{it} 1 {it}" for it in range(20)), *(f"add k a t{it} 1 99" for it in range(20)))
+        session = store.open()
+        count = session.save(self.room / "s.csv").records
+        self.assertGreater(count, 40)
+        with mock.patch.object(records, "MOST_RECORDS", count - 1):
+            store._fewer_records = 999_999
+            wanted = (f"with 21 names and 20 edges, takes {count} records, where a run takes {count - 1}: .* two records. "
+                      "Nothing was written")
+            with self.assertRaisesRegex(misteluk.OverLimit, wanted) as told:
+                session.save(self.room / "t.csv")
+            self.assertEqual((told.exception.counts["records"], os.listdir(self.room)), (count, ["s.csv"]))
+        with mock.patch.object(records, "MOST_RECORDS", 40), self.assertRaisesRegex(misteluk.OverLimit, "takes 44 records"):
+            Store.restore(self.room / "s.csv", program="/no/program")
+
+    def test_blocks(self):
+        """Batches are as small as the blocks want it; where even one operation finds no room, nothing is begun."""
+        touched = (f"add k s{it} t{it} 1 99" for it in range(9))
+        store = self.store(*(f"insert k s{it % 50} t{it} 1 {it}" for it in range(60)), *touched, "insert k lone lone",
+                           "remove k lone lone")
+        session = store.open()
+        session.save(self.room / "s.csv")
+        wanted = sorted(session.edges())
+        for blocks in (52, 53, 60, 130, 16_384):
+            with Store.restore(self.room / "s.csv", blocks=blocks) as copy, copy.open() as session:
+                self.assertEqual((copy.stat().used, sorted(session.edges())), (50, wanted))
+        with self.assertRaisesRegex(misteluk.PoolEmpty, "needs at least 52 blocks, and 51 are said"):
+            Store.restore(self.room / "s.csv", blocks=51, program="/no/program")
+
+    def test_room_is_what_the_program_uses(self):
+        for seed in range(3):
+            play = Play(seed)
+            self.addCleanup(play.end)
+            for _ in range(14):
+                play.step()
+            operations = list(copying.operations_of(copying.content_of_session(play.store.open())))
+            room, store = saving.Room(operations), self.store(blocks=64)
+            for at in range(0, len(operations), 5):
+                part = operations[at:at + 5]
+                store._apply("".join(part).encode("ascii"), len(part), True)
+                self.assertEqual(store.stat().used, room.behind[at + len(part)])
+
+    def test_a_graph_of_all_blocks(self):
+        """Where batches of the usual size need more blocks than there are, they are smaller."""
+        operations = [f"i,k,s{it},t,1,1\n" for it in range(records.MOST_BLOCKS - 10)]
+        room = saving.Room(operations)
+        self.assertEqual((room.fitting(), room.batch(records.MOST_BLOCKS), room.batch(room.needed(1) - 1)), (65_526, 4096, 0))
+        self.assertEqual(saving.Room([*operations, operations[0]]).batch(records.MOST_BLOCKS), 4096)
+        full = saving.Room([*operations, *[operations[0]] * 4_000])
+        self.assertEqual((full.batch(records.MOST_BLOCKS), full.batch(records.MOST_BLOCKS - 9)), (8, 1))
+
+
+if __name__ == "__main__":
+    unittest.main()

@@ -1,0 +1,231 @@
+"""What goes wrong while a version is saved, as an interrupt or a full disk, leaves the old file whole. A damaged file is refused,
+and an interrupted restore leaves no program. Tests are made again with faults that are planted, and have to find them."""
+import contextlib
+import errno
+import os
+import resource
+import stat
+import subprocess
+import sys
+import unittest
+import warnings
+from unittest import mock
+
+from interrupting import at_line, has_ended
+from support import HERE, Case
+
+import misteluk
+from misteluk import Store, files, saving
+
+ENDINGS = ("", ".gz", ".xz", ".bz2")
+
+
+@contextlib.contextmanager
+def files_of_at_most(size):
+    """Files can't grow beyond so many bytes, as on a full disk."""
+    before = resource.getrlimit(resource.RLIMIT_FSIZE)
+    resource.setrlimit(resource.RLIMIT_FSIZE, (size, before[1]))
+    try:
+        yield
+    finally:
+        resource.setrlimit(resource.RLIMIT_FSIZE, before)
+
+
+@contextlib.contextmanager
+def in_place(path):
+    """A fault to plant: a file is written where the old one is."""
+    with open(path, "wb") as file:
+        yield file
+
+
+def end(process):
+    """Ends a program that a planted fault left."""
+    process.kill()
+    process.wait()
+    for it in (process.stdin, process.stdout, process.stderr):
+        it.close()
+
+
+class Faults(Case):
+    """What goes wrong while a version is saved or restored."""
+
+    def setUp(self):
+        super().setUp()
+        self.saver = self.store("insert k a b 1 1", "insert k b Ж 2 2", blocks=64)
+        self.path = self.room / "s.csv.gz"
+        self.saver.open(0).save(self.path)
+        self.old = self.path.read_bytes()
+        self.feed(self.saver, "insert l c a 3 3")
+        self.session = self.saver.open(1)
+        self.session.save(self.room / "new.csv.gz")
+        self.new = (self.room / "new.csv.gz").read_bytes()
+
+    def is_old(self):
+        return self.path.read_bytes() == self.old and sorted(os.listdir(self.room)) == ["new.csv.gz", "s.csv.gz"]
+
+    def run(self, result=None):
+        """Python closes a file late where an interrupt comes at the end of its `with`, and warns of that."""
+        with warnings.catch_warnings():
+            warnings.simplefilter("ignore", ResourceWarning)
+            return super().run(result)
+
+    def lines(self, step=1):
+        """How many lines a save runs, and at which of them an interrupt makes it go wrong."""
+        wrong, at = [], 1 - step
+        while True:
+            at += step
+            self.path.write_bytes(self.old)
+            interrupted = at_line(at, lambda: self.session.save(self.path))
+            left = self.path.read_bytes(), sorted(os.listdir(self.room))
+            if left not in ((self.old, ["new.csv.gz", "s.csv.gz"]), (self.new, ["new.csv.gz", "s.csv.gz"])):
+                wrong.append(at)
+                for it in os.listdir(self.room):
+                    if it.endswith(".part"):
+                        os.remove(self.room / it)
+            if not interrupted:
+                self.assertEqual(left[0], self.new)
+                return at - 1, wrong
+
+    def test_an_interrupt_at_each_line(self):
+        count, wrong = self.lines()
+        self.assertGreater(count, 300)
+        self.assertEqual(wrong, [])
+        self.assertEqual(len(self.session), 3)
+        with mock.patch.object(files, "whole", in_place):
+            self.assertGreater(len(self.lines(3)[1]), 0)
+
+    def left(self, step):
+        """How many programs were begun by restores that were interrupted, at each line of so many, and how many don't end."""
+        processes, real, at, is_more = [], subprocess.Popen, 1 - step, True
+
+        def start(*given, **named):
+            processes.append(real(*given, **named))
+            self.addCleanup(end, processes[-1])
+            return processes[-1]
+        with mock.patch.object(subprocess, "Popen", start):
+            while is_more:
+                at += step
+                stores = []
+                is_more = at_line(at, lambda: stores.append(Store.restore(self.path, blocks=64)))
+                for it in stores:
+                    it.close()
+        return len(processes), sum(not has_ended(it, 1 if step > 9 else 5) for it in processes)
+
+    def test_an_interrupted_restore_leaves_no_program(self):
+        count, left = self.left(2)
+        self.assertGreater(count, 30)
+        self.assertEqual(left, 0)
+        with mock.patch.object(Store, "__exit__", lambda *_: None), mock.patch.object(Store, "__del__", lambda _: None):
+            self.assertGreater(self.left(20)[1], 0)
+
+    def full(self):
+        """After how many bytes a disk is full that makes a save leave another file than the old one."""
+        wrong = []
+        for size in (0, 1, 20, len(self.new) - 1):
+            with files_of_at_most(size), self.assertRaises(OSError) as told:
+                self.session.save(self.path)
+            self.assertEqual(told.exception.errno, errno.EFBIG)
+            wrong += [] if self.is_old() else [size]
+        return wrong
+
+    def test_a_full_disk(self):
+        self.assertEqual(self.full(), [])
+        with mock.patch.object(files, "whole", in_place):
+            self.assertEqual(len(self.full()), 4)
+        self.path.write_bytes(self.old)
+        for name in ("fsync", "replace", "fchmod"):
+            with mock.patch.object(os, name, side_effect=OSError(errno.ENOSPC, "No space left on device")):
+                with self.assertRaises(OSError):
+                    self.session.save(self.path)
+            self.assertTrue(self.is_old(), name)
+
+    def test_what_is_killed(self):
+        """The program while it is asked; and the process that saves, before the file has its name."""
+        code = ("import os, sys, misteluk; os.replace = lambda *_: os.kill(os.getpid(), 9); store = misteluk.Store(blocks=64); "
+                "store.open().save(sys.argv[1])")
+        done = subprocess.run([sys.executable, "-c", code, self.path], cwd=HERE.parent, timeout=60)
+        self.assertEqual((done.returncode, self.path.read_bytes() == self.old), (-9, True))
+        (part,) = (it for it in os.listdir(self.room) if it.endswith(".part"))
+        os.remove(self.room / part)
+        store = self.store("insert k a b 1 1", blocks=64)
+        session = store.open()
+        store._talk.process.kill()
+        with self.assertRaises(misteluk.ProgramEnded):
+            session.save(self.path)
+        self.assertTrue(self.is_old())
+        with self.assertRaises(misteluk.ProgramEnded):
+            store.close()
+
+    def test_places_that_can_t_be_written(self):
+        before = self.saver.records_sent
+        os.symlink("/dev/full", self.room / "full")
+        for fault, place in ((FileNotFoundError, "no/s.csv"), (IsADirectoryError, "."), (OSError, "full")):
+            with self.assertRaises(fault):
+                self.session.save(self.room / place)
+        self.assertEqual(self.saver.records_sent, before)
+        with mock.patch.dict("sys.modules", {"zstandard": None}), self.assertRaises(misteluk.Missing):
+            self.session.save(self.room / "s.zst")
+
+    def test_links_and_rights_stay(self):
+        os.symlink(self.path, self.room / "link.gz")
+        os.chmod(self.path, 0o640)
+        self.session.save(self.room / "link.gz")
+        self.assertTrue(os.path.islink(self.room / "link.gz"))
+        self.assertEqual((self.path.read_bytes(), stat.S_IMODE(os.stat(self.path).st_mode)), (self.new, 0o640))
+
+    def damaged(self, ending):
+        """How many files, cut at each place, or with a byte changed or left out at each, are taken for something else."""
+        path, count = self.room / f"d.csv{ending}", 0
+        self.session.save(path)
+        data, whole = path.read_bytes(), saving.read(path)
+        for at in range(len(data)):
+            for it in (data[:at], data[:at] + bytes([data[at] ^ 1]) + data[at + 1:], data[:at] + data[at + 1:]):
+                try:
+                    count += saving.found_in(it, "damaged") != whole
+                except misteluk.SaveFault:
+                    pass
+                except Exception:
+                    count += 1
+        return count
+
+    def test_damage_is_refused(self):
+        for ending in ENDINGS:
+            self.assertEqual(self.damaged(ending), 0, ending)
+        (self.room / "e.csv").write_bytes((self.room / "d.csv").read_bytes())
+        self.session.save(self.room / "e.csv")
+        (self.room / "f.csv").write_bytes((self.room / "e.csv").read_bytes() + b"i,k,x,y,1,1\ncommit\n")
+        with self.assertRaisesRegex(misteluk.SaveFault, "f.csv is damaged or cut"):
+            Store.restore(self.room / "f.csv")
+
+    def test_without_the_digest_damage_is_taken(self):
+        class Whatever:
+            """A digest that is equal to any other."""
+
+            def hexdigest(self):
+                return self
+
+            def encode(self, _):
+                return mock.ANY
+        self.session.save(self.room / "d.csv")
+        with mock.patch.object(saving, "hashlib", mock.Mock(sha256=lambda _: Whatever())):
+            with mock.patch.object(type(self.session), "save", lambda *_: None):
+                self.assertGreater(self.damaged(""), 100)
+
+    def test_other_files_are_refused(self):
+        for text, told in (("", "is no saved version"), ("a,b\n", "is no saved version"), ("open,0\n", "is no saved version"),
+                           ("i,k,a,b,1,1\ncommit\n", "is no saved version"),
+                           (f"open,0\ni,misteluk,form:2,{'0' * 64},0,0\n", "is of form 2, and this package knows form 1")):
+            with self.assertRaisesRegex(misteluk.SaveFault, told):
+                Store.restore(self.file("o.csv", text))
+        self.assertRaises(FileNotFoundError, Store.restore, self.room / "none.csv")
+        self.assertRaises(IsADirectoryError, Store.restore, self.room)
+
+    def test_packed_by_another_name(self):
+        """How a file is packed its beginning says."""
+        os.rename(self.path, self.room / "s")
+        with Store.restore(self.room / "s") as store:
+            self.assertEqual(store.stat().edges, 2)
+
+
+if __name__ == "__main__":
+    unittest.main()
