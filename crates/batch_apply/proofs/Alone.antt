@@ -1,6 +1,6 @@
 -- The work of a batch that has one shard.
 use Rattle.std.proofs.Common.{◌≡◌, ℕ, ◌+◌}
-use Rattle.std.proofs.Common.{List, [], ◌∷◌, ◌++◌, length, length-append, zip, get_or, refl, ap, sym, ◌∙◌, arith, count_by, Bool}
+use Rattle.std.proofs.Common.{List, [], ◌∷◌, ◌++◌, length, length-append, zip, get_or, ap, ◌∙◌, arith, count_by, Bool}
 use Rattle.std.{proofs.lemmas.List.append-nil, specs.List.sum_by, proofs.lemmas.List.Sums.sum_by-cons}
 
 -- the last of one is the only one, with its need

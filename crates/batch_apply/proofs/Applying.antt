@@ -1,5 +1,5 @@
 -- What all shards leave is what the batch leaves of the version.
-use Rattle.std.proofs.Common.{◌≡◌, ◌≢◌, ℕ, suc, ◌+◌, ◌<◌, ◌≤◌, ◌==◌, Bool, true, false, List, [], ◌∷◌, ◌++◌, length}
+use Rattle.std.proofs.Common.{◌≡◌, ◌≢◌, ℕ, ◌+◌, ◌<◌, ◌≤◌, ◌==◌, Bool, true, false, List, [], ◌∷◌, ◌++◌, length}
 use Rattle.std.proofs.Common.{length-append, map, flat_map, zip, count_by, replicate, refl, sym, ap, ◌∙◌, arith, subst, All}
 use Rattle.std.{proofs.Common.AllPairs, proofs.Common.ltb, specs.List.range_with_len, specs.List.AllZip, specs.FinMap.len}
 use Rattle.std.proofs.lemmas.{Bool.ltb-true, Bool.ltb-false, List.length-map}

@@ -1,6 +1,6 @@
 -- What shards leave, one after another.
 use Rattle.std.proofs.Common.{◌≡◌, ℕ, zero, suc, ◌+◌, Bool, true, List, [], ◌∷◌}
-use Rattle.std.proofs.Common.{◌++◌, subst, All, length, length-append, map, flat_map, count_by, refl, sym, ap, ap₂, ◌∙◌, arith}
+use Rattle.std.proofs.Common.{◌++◌, subst, All, map, flat_map, count_by, refl, sym, ap, ap₂, ◌∙◌, arith}
 use Rattle.std.{specs.List.sum_by, specs.List.range_with_len, specs.List.AllZip, proofs.lemmas.List.map-append}
 use Rattle.std.proofs.lemmas.{List.Sums.sum_by-cons, List.Elements.All-nil, List.Elements.All-append, Grind.flat_map-append}
 use Rattle.graph_model.specs.{Graph.Graph, declared.batches.NamedOp.NamedOp, declared.batches.Outcome.Outcome}

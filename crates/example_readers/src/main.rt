@@ -77,7 +77,7 @@ fn read_both<J: Naming + Send + Sync, R: Threads + Wait + Sync>(
     )
 }
 
-/// The whole over a new store, which is let go at the end; nothing where a growth was refused.
+/// The whole over a new store, which is closed at the end; nothing where a growth was refused.
 fn report_over<J: Naming + Send + Sync, R: Threads + Wait + Sync>(
     rt: &R,
     alloc: Global,
@@ -90,7 +90,9 @@ fn report_over<J: Naming + Send + Sync, R: Threads + Wait + Sync>(
     requires seats { All (IsSeatOf J.book J.opening) seats.items }
 {
     let store = Store::<J>::over(desk, board);
-    report_by_seats(rt, alloc, &store, seats)
+    let report = report_by_seats(rt, alloc, &store, seats);
+    let _last = store.close(rt);
+    report
 }
 
 /// What two of the seats saw and what was collected, where there are two.

@@ -1,18 +1,16 @@
 // Lines of batches: each is planned and applied by workers, and applied plainly.
 
-ghost use Rattle.std.specs.Prelude.{◌≡◌, ◌≢◌, ◌<◌, ◌≤◌, length, false, IfOk, OnOk, IfSome, All, AllPairs};
+ghost use Rattle.std.specs.Prelude.{◌≡◌, ◌≢◌, ◌<◌, ◌≤◌, length, false, IfSome, All, AllPairs};
 ghost use Rattle.std.specs.List.{sum_by};
-ghost use Rattle.row_pages.specs.Rows.{row_of};
 ghost use Rattle.row_pages.specs.Rows as rows;
 ghost use Rattle.batch_shards.specs.RowBlocks.{numbers_of};
 ghost use Rattle.graph_version.specs.Versions.{content, is_in};
-ghost use Rattle.batch_plan.specs.Planned.{IsPlan, MeetsNeitherLimit};
 ghost use Rattle.graph_model.specs.Graph.{IsContent};
 
 use super::ops::batch_of;
 use super::sames::check_same;
-use batch_apply::{Applied, Gate, PassAll, apply};
-use batch_plan::{Plan, PlanError, old_rows, plan};
+use batch_apply::{Applied, Gate, PassAll, apply, plan};
+use batch_plan::{Plan, PlanError};
 use edge_block::Block;
 use graph_model::{Batch, Content, List, Outcome};
 use graph_version::Version;
@@ -35,21 +33,6 @@ pub(super) fn empty(alloc: Global) -> Content
     }
 }
 
-// The plan of a batch over a version for so many workers.
-fn plan_of(
-    alloc: Global,
-    version: &Version,
-    batch: &Batch,
-    workers: usize,
-) -> Result<Plan, PlanError>
-    requires workers { 0 < workers }
-    ensures plan { IfOk result (IsPlan workers batch.now (content version.now) (row_of version.now.rows)) }
-    ensures limits { OnOk result (MeetsNeitherLimit batch.now (content version.now)) }
-{
-    let old = old_rows(alloc, version, batch)?;
-    plan(alloc, version, batch, &old, workers)
-}
-
 /// The plan of operations over a version for so many workers.
 pub(super) fn planned(
     alloc: Global,
@@ -60,7 +43,7 @@ pub(super) fn planned(
     requires workers { 0 < workers }
 {
     match batch_of(alloc, ops) {
-        Some(batch) => plan_of(alloc, version, &batch, workers),
+        Some(batch) => plan(alloc, version, &batch, workers),
         None => Err(PlanError::OutOfMemory),
     }
 }
@@ -91,7 +74,7 @@ fn applied_batch<R: Threads + Sync, G: Gate + Sync>(
     requires workers { 0 < workers }
     requires few { length version.now.batches < 65536 }
 {
-    let plan = plan_of(alloc, version, &batch, workers).ok()?;
+    let plan = plan(alloc, version, &batch, workers).ok()?;
     let blocks = blocks_for(alloc, version, &plan)?;
     let Ok(batch) = Arc::new(alloc, batch) else {
         return None;

@@ -11,6 +11,7 @@ use Rattle.graph_version.specs.Drafts.{DraftView, IsWhole}
 use Rattle.batch_apply.specs.{Counts.is_inserted, Counts.taken_away, declared.applied.Applied.Applied}
 use Rattle.batch_apply.specs.Applied.{IsApplied, ReplacesRows, written_from}
 use Rattle.batch_apply.proofs.{EdgeCounts.len_after_all, Dealt.needs_of, Dealt.dealt_ready, Left.rows_left}
+use Rattle.batch_plan.{specs.Planned.MeetsNeitherLimit, proofs.Leaving.neither_limit}
 use Rattle.batch_apply.proofs.Applying.{next_made, draft_is, draft_among, draft_whole, edges_left}
 use Rattle.batch_apply.proofs.applied.apply.{Given.Over, Goals.In_ok-draft}
 use Rattle.batch_apply.proofs.applied.apply.Goals as goal
@@ -51,9 +52,12 @@ made g c =
     let among = draft_among v ops c.args.plan.names c.args.plan.kinds (rows_left a.dones) d0 d1 d2 d3 e0 e1 e2 e3 in
     let short = subst (λ ops. length ops ≤ operation_limit) c.deref.ensures c.len.ensures.batch.few in
     let told = a.outcomes_are ∙ ap (λ n. written_from a.dones (replicate n Absent)) (c.len.ensures.count ∙ ap length c.deref.ensures) in
+    let limits : MeetsNeitherLimit ops (content v) =
+    neither_limit ops (content v) c.args.plan.names c.args.plan.kinds p.names p.kinds
+    c.len-2.ensures.book.few c.len-3.ensures.book.few in
     let done = next_made v ops c.requires.plan.0 c.args.plan.shards.items c.args.plan.needs.items a.jobs a.dones
     (numbers_of c.args.blocks.items) a.rest c.requires.plan.1 c.facts.ensures p.shards p.needs a.dealt a.done a.shared_out
-    c.requires.distinct c.requires.unlisted c.requires.limits c.requires.few short d2.version.rows among in (
+    c.requires.distinct c.requires.unlisted limits c.requires.few short d2.version.rows among in (
       draft_whole v ops c.args.plan.names c.args.plan.kinds (rows_left a.dones) d0 d1 d2 d3 e0 e1 e2 e3 p.names p.kinds done.0,
       told ∙ done.1,
       edges_left v ops c.args.plan.names c.args.plan.kinds (rows_left a.dones) d0 d1 d2 d3 e0 e1 e2 e3,

@@ -1,4 +1,4 @@
-use Rattle.std.proofs.Common.{List, zip, subst}
+use Rattle.std.proofs.Common.{zip, subst}
 use Rattle.std.specs.List.{AllZip}
 use Rattle.batch_shards.specs.RowBlocks.{numbers_of}
 use Rattle.batch_apply.specs.Jobs.{IsDealt}

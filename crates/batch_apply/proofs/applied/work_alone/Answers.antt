@@ -1,6 +1,5 @@
-use Rattle.std.proofs.Common.{◌≡◌, ◌+◌, ◌++◌, [], ◌∷◌, zip, refl, sym, ap, ◌∙◌, subst, arith}
+use Rattle.std.proofs.Common.{◌++◌, [], ◌∷◌, zip, refl, sym, ap, ◌∙◌, subst, arith}
 use Rattle.std.{specs.List.AllZip, proofs.lemmas.List.append-nil, proofs.lemmas.List.get_or_read}
-use Rattle.graph_model.specs.declared.batches.Outcome.TheVariants.{Absent}
 use Rattle.batch_shards.specs.{RowBlocks.blocks_of, RowBlocks.numbers_of, Closing.row_values, declared.shard.Shard.Shard}
 use Rattle.batch_apply.specs.{Jobs.IsDealt, Plans.written, declared.workers.Job.Job}
 use Rattle.batch_apply.proofs.{Alone.only, Alone.paired, Alone.numbers_one}

@@ -1,0 +1,37 @@
+//! The plan of a batch by version, batch and workers.
+
+ghost use Rattle.std.specs.Prelude.{◌<◌, IfOk, IfErr, OnOk};
+ghost use Rattle.graph_version.specs.Versions.{content};
+ghost use Rattle.row_pages.specs.Rows.{row_of};
+ghost use Rattle.batch_plan.specs.Planned.{IsPlan, MeetsNeitherLimit, IsPlanRefusal};
+
+use batch_plan::{Plan, PlanError, old_rows};
+use graph_model::Batch;
+use graph_version::Version;
+use std::alloc::Global;
+
+/// Plans a batch over a version for so many workers: finds the version's old rows for the batch, and plans with them, as
+/// `batch_plan::plan` does for who has found them before.
+///
+/// `NamesFull` where the batch would leave more than 65,536 vertex names, else `KindsFull` where it would leave more than 64
+/// kinds, and `OutOfMemory` where a growth was refused.
+///
+/// ```
+/// let plan = plan(alloc, &version, &batch, 4)?;
+/// let blocks = fresh_blocks(plan.blocks_needed())?;
+/// let applied = apply(rt, alloc, &PassAll, &version, plan, batch, blocks)?;
+/// ```
+pub fn plan(
+    alloc: Global,
+    version: &Version,
+    batch: &Batch,
+    workers: usize,
+) -> Result<Plan, PlanError>
+    requires workers { 0 < workers }
+    ensures plan { IfOk result (IsPlan workers batch.now (content version.now) (row_of version.now.rows)) }
+    ensures limits { OnOk result (MeetsNeitherLimit batch.now (content version.now)) }
+    ensures refused { IfErr result (λ error. IsPlanRefusal error batch.now (content version.now)) }
+{
+    let old = old_rows(alloc, version, batch)?;
+    batch_plan::plan(alloc, version, batch, &old, workers)
+}
