@@ -18,6 +18,7 @@ from .loading import Ahead, Survey, check, load, load_in_steps, survey
 from .names import shown
 from .options import columns_of, make_parser
 from .questions import Question, all_lines
+from .saving import size_of
 from .session import Session
 from .store import Store
 
@@ -49,6 +50,8 @@ def run_load(words: argparse.Namespace) -> int:
     """Loads a file and asks. The program works while the file is still counted, where none says how many blocks it is to have."""
     if words.interactive and words.file == STANDARD_INPUT:
         raise ValueError("--interactive reads standard input, which is the file here")
+    if words.save and (words.script or words.dry_run):
+        raise ValueError("--save is for what was loaded, and --script and --dry-run load nothing")
     with ExitStack() as stack:
         def start(blocks: int = records.MOST_BLOCKS) -> Store:
             return stack.enter_context(Store(blocks=blocks, program=words.program, timeout=words.timeout))
@@ -68,8 +71,7 @@ def run_load(words: argparse.Namespace) -> int:
 def run_restore(words: argparse.Namespace) -> int:
     with Store.restore(words.file, blocks=words.blocks, program=words.program, timeout=words.timeout) as store:
         stat = store.stat()
-        print(f"{words.file}: {stat.names} names and {stat.edges} edges restored in {stat.used} of {store.blocks} blocks",
-              flush=True)
+        print(f"{words.file}: {size_of(stat.names, stat.edges)} restored in {stat.used} of {store.blocks} blocks", flush=True)
         do_then(words, store)
     return 0
 

@@ -49,10 +49,13 @@ class Saved(NamedTuple):
     blocks: int
 
     def __str__(self) -> str:
-        edges = f"{self.edges} edge{'s' * (self.edges != 1)}"
-        names = f"{self.names} name{'s' * (self.names != 1)}"
-        return (f"{self.path}: version {self.version} with {names} and {edges}, in {self.records} records for `stinger run "
-                f"--blocks {self.blocks}`")
+        return (f"{self.path}: version {self.version} with {size_of(self.names, self.edges)}, in {self.records} records for "
+                f"`stinger run --blocks {self.blocks}`")
+
+
+def size_of(names: int, edges: int) -> str:
+    """How many names and edges there are, in words."""
+    return f"{names} name{'s' * (names != 1)} and {edges} edge{'s' * (edges != 1)}"
 
 
 class Found(NamedTuple):

@@ -79,6 +79,9 @@ class Commands(Case):
                             ("is no program", ("load", path, *OF_PAIRS, "--add", "--program", "/no/such")),
                             ("blocks is from 16", ("load", path, *OF_PAIRS, "--add", "--blocks", "7")),
                             ("NoVertex (record", ("load", path, *OF_PAIRS, "--add", "--levels", "z")),
+                            ("--save is for what was loaded", ("load", path, *OF_PAIRS, "--add", "--dry-run", "--save", "x")),
+                            ("No such file", ("load", path, *OF_PAIRS, "--add", "--save", "/no/such/x")),
+                            ("No such file", ("restore", "/no/such")),
                             ("wants --edge", ("picture", "edge", path, *OF_PAIRS, "--add", "-o", "x.svg"))):
             status, _, err = self.run_it(*words)
             self.assertEqual((status, told in err), (1, True), err)
