@@ -1,12 +1,12 @@
 //! A store that threads share: one feeds it, and beside it two others read.
 #![tactic(auto)]
 
-ghost use Rattle.std.specs.Prelude.{◌≡◌, All};
+ghost use Rattle.misteluk.specs.Opened.{IsOpeningOf};
 ghost use Rattle.misteluk.specs.Stores.{IsSeatOf};
 
 use misteluk::{
-    Batch, Board, Config, Desk, Name, NamedFilter, NamedOp, Naming, PassAll, Reply, Request, Seat,
-    Session, Store, open_parts,
+    Batch, Config, Name, NamedFilter, NamedOp, Naming, Opened, PassAll, Reply, Request, Seat,
+    Session, Store,
 };
 use std::alloc::Global;
 use std::marker::Brand;
@@ -57,16 +57,6 @@ fn read<J: Naming, R: Wait>(rt: &R, store: &Store<J>, seat: Seat) -> bool {
     matches!((once, again), (Some(once), Some(again)) if once >= 2 && once == again)
 }
 
-/// What two readers tell, each in a thread of its own.
-fn read_both<J: Naming + Send + Sync, R: Threads + Wait + Sync>(
-    rt: &R,
-    store: &Store<J>,
-    one: Seat,
-    two: Seat,
-) -> (bool, bool) {
-    join(rt, || read(rt, store, one), || read(rt, store, two))
-}
-
 /// Builds a road, of which the seat learns.
 fn learnt<J: Naming, R: Threads + Wait + Sync>(
     rt: &R,
@@ -82,49 +72,30 @@ fn learnt<J: Naming, R: Threads + Wait + Sync>(
     Some(seat)
 }
 
-/// What the feeder and the readers tell, whose seats learn of a road each.
-fn beside<J: Naming + Send + Sync, R: Threads + Wait + Sync>(
-    rt: &R,
-    alloc: Global,
-    store: &Store<J>,
-    mut seats: Vec<Seat>,
-) -> Option<(Option<u64>, (bool, bool))>
-    requires { All (IsSeatOf J.book J.opening) seats.items }
-{
-    let one = learnt(rt, alloc, store, seats.pop()?, "kiel")?;
-    let two = learnt(rt, alloc, store, seats.pop()?, "trier")?;
-    Some(join(
-        rt,
-        || feed(rt, alloc, store),
-        || read_both(rt, store, one, two),
-    ))
-}
-
-/// The same over a new store of these parts, which is closed at the end.
+/// What a feeder and two readers tell, whose seats learn of a road each.
 fn over<J: Naming + Send + Sync, R: Threads + Wait + Sync>(
     rt: &R,
     alloc: Global,
-    parts: (Desk, Board, Vec<Seat>),
-) -> Option<(Option<u64>, (bool, bool))>
-    requires book { parts.0.book ≡ J.book }
-    requires opening { parts.0.desk.last.opening ≡ J.opening }
-    requires seats { All (IsSeatOf J.book J.opening) parts.2.items }
+    opened: Opened,
+) -> Option<(u64, (bool, bool))>
+    requires { IsOpeningOf J.book J.opening opened }
 {
-    let (desk, board, seats) = parts;
-    let store = Store::<J>::over(desk, board);
-    let told = beside(rt, alloc, &store, seats);
+    let (store, mut seats) = opened.named::<J>();
+    let one = learnt(rt, alloc, &store, seats.pop()?, "kiel")?;
+    let two = learnt(rt, alloc, &store, seats.pop()?, "trier")?;
+    let (fed, held) = join(
+        rt,
+        || feed(rt, alloc, &store),
+        || join(rt, || read(rt, &store, one), || read(rt, &store, two)),
+    );
     let _last = store.close(rt);
-    told
+    Some((fed?, held))
 }
 
 fn run<R: Threads + Wait + Sync + Print>(rt: &R, alloc: Global) -> Option<()> {
-    let parts = open_parts(rt, alloc, Config::new(2, 16, 2).ok()?).ok()?;
-    let (fed, (one, two)) = over::<Brand, R>(rt, alloc, parts)?;
-    println!(rt;
-        "version {}, and each session as it was: {one}, {two}",
-        fed?
-    )
-    .ok()
+    let opened = Store::open(rt, alloc, Config::new(2, 16, 2).ok()?).ok()?;
+    let (fed, (one, two)) = over::<Brand, R>(rt, alloc, opened)?;
+    println!(rt; "version {fed}, and each session as it was: {one}, {two}").ok()
 }
 
 fn main(rt: HostRuntime) -> Result<(), &'static str> {

@@ -10,6 +10,7 @@ pub use Rattle.version_shelf.specs.Shelves
 pub use Rattle.stream_store.specs.Applying
 pub use Rattle.stream_store.specs.Configs
 pub use Rattle.stream_store.specs.Kept
+pub use Rattle.stream_store.specs.Opened
 pub use Rattle.stream_store.specs.Openings
 pub use Rattle.stream_store.specs.Refusals
 pub use Rattle.stream_store.specs.Seats

@@ -10,8 +10,8 @@ pub use graph_model::{
 pub use graph_version::Version;
 pub use seat_board::{Board, Pin, SeatNo};
 pub use stream_store::{
-    ApplyError, BadConfig, Collected, Config, Desk, JournalEntry, Naming, OpenError, PinnedSeat,
-    Receipt, Seat, Session, Stat, Store, open_parts, open_parts_from,
+    ApplyError, BadConfig, Collected, Config, Desk, JournalEntry, Naming, OpenError, Opened,
+    PinnedSeat, Receipt, Seat, Session, Stat, Store, open_parts, open_parts_from,
 };
 pub use version_answers::NumberedReply;
 pub use version_shelf::Told;

@@ -7,3 +7,4 @@ pub mod Refusals
 pub mod Seats
 pub mod Stores
 pub mod Openings
+pub mod Opened

@@ -8,6 +8,7 @@ mod gates;
 mod handed;
 mod learnt;
 mod limits;
+mod named;
 mod opened;
 mod places;
 mod players;

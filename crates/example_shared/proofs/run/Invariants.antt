@@ -1,6 +1,5 @@
-use Rattle.misteluk.specs.Step.{empty_graph}
 use Rattle.example_shared.proofs.run.Given as goal
 
--- the store is of the opening that was just made, which began with nothing
+-- the store is of the opening that was just made
 abbrev pub ghosts-over : goal.ghosts-over
-ghosts-over g a = record { book = a.parts.0.book; opening = empty_graph }
+ghosts-over g a = record { book = a.opened.desk.book; opening = a.opened.desk.desk.last.opening }
