@@ -16,7 +16,14 @@ def delimited(path: Path, columns: Columns = Columns(), *, delimiter: Optional[s
               encoding: str = "utf-8") -> Feed:
     """A delimited file. Where a column is named the file has a header; `header` says so else. Without `delimiter` it is the
     comma, tab, semicolon or bar of which the first line has most."""
+    must_be_sign(delimiter)
     return Feed(feed_name(path), Table(lambda: _delimited_blocks(path, columns, delimiter, header, encoding)))
+
+
+def must_be_sign(delimiter: Optional[str]) -> None:
+    """Raises `ValueError` where a delimiter is said that can't part fields."""
+    if delimiter and (len(delimiter) > 1 or delimiter in '"\r\n'):
+        raise ValueError(f"delimiter is one sign, as ; or a tab (in a shell $'\\t'), and not {delimiter!r}")
 
 
 def _delimited_blocks(path: Path, columns: Columns, delimiter: Optional[str], header: Optional[bool],
