@@ -199,6 +199,10 @@ class FollowCommand(Case):
         self.assertEqual(question("levels 'a b' \"k k\"")[1:], ("levels", ("a b",), "k k"))
         for text in ("", "levels", "degrees a b", "edge a b", "edge a b c d", "levels a b c", "'"):
             self.assertRaises(ValueError, question, text)
+        for text in ("into NL91 ABNA 0417", "edge link ana bob b"):
+            self.assertRaisesRegex(ValueError, r"and not as .*'\. A name with spaces stands within quotes", question, text)
+        self.assertRaisesRegex(ValueError, "a quote isn't closed in \"into O'Neill\"", question, "into O'Neill")
+        self.assertEqual(question("into \"O'Neill\"").names, ("O'Neill",))
 
 
 if __name__ == "__main__":
