@@ -36,7 +36,8 @@ def _delimited_blocks(path: Path, columns: Columns, delimiter: Optional[str], he
         named = any(isinstance(it, str) for it in columns.wanted)
         names, line = next(_csv_rows(feed, file, sign, 0), NO_ROW) if header or header is None and named else NO_ROW
         if named and not names:
-            raise FeedFault(f"{feed}: columns are named, and there is no header: name them by number (from 1)")
+            how = "name them by number (from 1)" if first else "the file is empty"
+            raise FeedFault(f"{feed}: columns are named, and there is no header: {how}")
         picked = Picked(feed, columns, names)
         for lines in parts_of(file, feeds.ROWS_AT_ONCE):
             even = even_columns(lines, sign)

@@ -16,6 +16,13 @@ def column(text: str) -> Column:
     return int(text) if text.isdigit() else text
 
 
+def rows(text: str) -> int:
+    """How many rows are printed, whose fault argparse tells."""
+    if not text.isdecimal():
+        raise argparse.ArgumentTypeError(f"a number of rows is 0 or more, and not {text}")
+    return int(text)
+
+
 def asked(text: str) -> Question:
     """A question, whose fault argparse tells."""
     try:
@@ -64,7 +71,7 @@ def add_window(parser: argparse.ArgumentParser) -> None:
 
 
 def add_table_options(group: Any) -> None:
-    group.add_argument("--top", type=int, default=10, metavar="N", help="how many rows of a table are printed (10)")
+    group.add_argument("--top", type=rows, default=10, metavar="N", help="how many rows of a table are printed (10)")
     group.add_argument("--by", choices=tuple(BY_COLUMN), default="out", dest="column",
                        help="by which column the greatest degrees are (out)")
 

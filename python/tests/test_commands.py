@@ -77,6 +77,8 @@ class Commands(Case):
         for told, words in (("no column 'source'", ("load", path, "--add")),
                             ("No such file", ("load", "/no/such", "--add")),
                             ("is no program", ("load", path, *OF_PAIRS, "--add", "--program", "/no/such")),
+                            ("a.csv: columns are named, and there is no header: the file is empty", (
+                                "load", self.file("a.csv", ""), "--add")),
                             ("blocks is from 16", ("load", path, *OF_PAIRS, "--add", "--blocks", "7")),
                             ("NoVertex (record", ("load", path, *OF_PAIRS, "--add", "--levels", "z")),
                             ("--save is for what was loaded", ("load", path, *OF_PAIRS, "--add", "--dry-run", "--save", "x")),
@@ -85,6 +87,14 @@ class Commands(Case):
                             ("wants --edge", ("picture", "edge", path, *OF_PAIRS, "--add", "-o", "x.svg"))):
             status, _, err = self.run_it(*words)
             self.assertEqual((status, told in err), (1, True), err)
+
+    def test_a_number_of_rows(self):
+        self.load("degrees: 6 names, greatest by out", "--add", "--ask", "degrees", "--top", "0")
+        for it in ("-1", "x", "1.5"):
+            err = io.StringIO()
+            with self.assertRaises(SystemExit), redirect_stderr(err):
+                main(["load", self.file("p.csv", PAIRS), *OF_PAIRS, "--add", "--ask", "degrees", f"--top={it}"])
+            self.assertIn(f"argument --top: a number of rows is 0 or more, and not {it}\n", err.getvalue())
 
     def test_bad_rows_are_passed_over_where_that_is_said(self):
         path = self.file("p.csv", PAIRS + "e,,1,1\n")
