@@ -156,6 +156,8 @@ class Fleet:
         to its end, and begins no more.
         """
         asked = Question(question, given, named, () if unknown is _NO_WORD else (unknown,)).checked()
+        if isinstance(keys, str):
+            raise TypeError(f"keys is a list of keys, as [{keys!r}], and not a text")
         wanted = list(self.parts) if keys is None else list(keys)
         missing = [it for it in wanted if it not in self.parts]
         if missing:

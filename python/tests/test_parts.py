@@ -150,6 +150,7 @@ class Few(Case):
             self.assertRaisesRegex(ValueError, f"no call '{wrong}'", fleet.ask, wrong)
         self.assertRaises(TypeError, fleet.ask, 17)
         self.assertRaisesRegex(ValueError, "no part 'v', 'w'", fleet.ask, "degrees", keys=["x", "v", "w"])
+        self.assertRaisesRegex(TypeError, r"keys is a list of keys, as \['x'\]", fleet.ask, "degrees", keys="x")
         for options, words in (
                 ({"by": "sum"}, "by is"), ({"times": "day"}, "times is"), ({"alive": -1}, "alive is"),
                 ({"timeout": 0}, "timeout is"), ({"weight_scale": 7}, "weight_scale is"), ({"workers": 0}, "workers is"),
