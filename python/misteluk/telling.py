@@ -43,6 +43,11 @@ def descriptor_of(file: Any) -> Optional[int]:
         return None
 
 
+def leave_output() -> None:
+    """Lets go what is still to be written to standard output, whose reader has gone."""
+    os.dup2(os.open(os.devnull, os.O_WRONLY), sys.stdout.fileno())
+
+
 class Teller:
     """Tells of the steps of a feed that is followed, and asks behind each."""
 
@@ -115,7 +120,7 @@ def follow(words: argparse.Namespace, store: Store, how: Dict[str, Any]) -> int:
             with ended_by_signals(following.stop):
                 Teller(words, store, following).run()
         except BrokenPipeError:
-            os.dup2(os.open(os.devnull, os.O_WRONLY), sys.stdout.fileno())  # (what is still to be written has no reader)
+            leave_output()
             store.discard()
             return 0
         except StoreError:

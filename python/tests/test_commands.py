@@ -139,6 +139,23 @@ class Commands(Case):
         self.assertEqual((status, out.splitlines()[1:]), (1, ["a: 3 rows", "c: 1 row"]))
         self.assertIn("1 of 3 parts gave no answer\n  part 'x': BadRows: ", err)
         self.assertIn("q.csv:7: BadWeight: amount 'five'", err)
+        status, out, err = self.run_it("fleet", self.file("one.csv", "from,to\na,b\n"), *OF_PAIRS[:4], "--add", "--key", "from")
+        self.assertEqual((status, err, out), (0, "", f"{self.room / 'one.csv'}: 1 row in 1 part\na: 1 row\n"))
+
+    def test_an_output_whose_reader_has_gone(self):
+        """It ends quietly, with the status that a shell tells of such an end."""
+        path, saved = self.file("p.csv", PAIRS), str(self.room / "s.csv")
+        self.run_it("load", path, *OF_PAIRS, "--add", "--save", saved)
+        for words in (("load", path, *OF_PAIRS, "--add", "--ask", "degrees"), ("restore", saved, "--ask", "cores"),
+                      ("fleet", path, *OF_PAIRS, "--add", "--key", "from"), ("lint", saved)):
+            reader, writer = os.pipe()
+            process = subprocess.Popen([sys.executable, "-m", "misteluk", *words], stdout=writer, stderr=subprocess.PIPE,
+                                       cwd=HERE.parent)
+            os.close(writer)
+            if words[0] == "load":  # (one that reads a part, as `head` does)
+                os.read(reader, 1)
+            os.close(reader)
+            self.assertEqual((process.communicate(timeout=60)[1], process.returncode), (b"", 141), words)
 
     def test_lint(self):
         status, out, _ = self.run_it("lint", self.file("s.csv", "commit\nfly\n"))
