@@ -15,6 +15,7 @@ from support import Case
 
 import misteluk
 from misteluk import Columns, calls, delimited, following, growing
+from misteluk.feeds import rows_of
 
 COLUMNS = Columns(1, 2, weight=3, time=4)
 KIND = "link"
@@ -321,7 +322,7 @@ class Rows(Case):
                     write = 0
                 data = data[more:]
                 for block in rows.take(source.lines(), source.is_at_end):
-                    found += [tuple(it) for it in zip(*block)]
+                    found += rows_of(block)
             source.close()
             return found
 
