@@ -16,11 +16,13 @@ _DECIMALS = range(2, 13)
 
 
 class Reading(NamedTuple):
-    """How a feed was read: a file's encoding and the sign before its decimals, which a feed that is none has not; the units."""
+    """How a feed was read: a file's encoding and the sign before its decimals, which a feed that is none has not; the units; the
+    form of dates, where one was said."""
 
     encoding: Optional[str]
     decimal: Optional[str]
     units: Units
+    dates: Optional[str] = None
 
 
 def _is_weight(text: str, units: Units) -> bool:
@@ -70,7 +72,7 @@ def advise(faults: Iterable[Refused], how: Reading) -> None:
         elif isinstance(it, BadWeight):
             it.advice = _of_weight(value, how, scale)
         elif isinstance(it, BadTime):
-            it.advice = _of_time(value, how.units.has_dates)
+            it.advice = _of_time(value, how)
 
 
 def _of_name(value: str, encoding: Optional[str]) -> str:
@@ -93,11 +95,13 @@ def _of_weight(value: str, how: Reading, scale: int) -> str:
     return f"Amounts as 12,50 are read by decimal=',' and weight_scale={scale} (--decimal , --weight-scale {scale})"
 
 
-def _of_time(value: str, has_dates: bool) -> str:
+def _of_time(value: str, how: Reading) -> str:
     if _is_date(value):
-        return "" if has_dates else BadTime.advice
+        return "" if how.units.has_dates else BadTime.advice
     forms = [it for it in TIMES if _is_date(Notation(dates=it).date_of(value))]
     told = ", ".join(f"dates={it!r}" for it in forms)
     if any(it in DATES for it in forms):
         return f"Dates that begin with a day or month are read by what they are: {told} (--dates)"
-    return f"Numbers since 1970 are read as dates by what they count: {told} (--dates)" if forms else ""
+    if forms:
+        return f"Numbers since 1970 are read as dates by what they count: {told} (--dates)"
+    return f"A time is read as {how.dates} here, a day that there is, or as 2024-05-01" if how.dates in DATES else ""

@@ -111,7 +111,7 @@ class Fleet:
         Units(decimals=decimals).checked()
         feed = open_feed(data, format=format, columns=columns._replace(key=key), delimiter=delimiter, header=header,
                          encoding=encoding, decimal=decimal, dates=dates)
-        read_by = (encoding, decimal) if isinstance(data, (str, os.PathLike)) else (None, None)
+        read_by = (*((encoding, decimal) if isinstance(data, (str, os.PathLike)) else (None, None)), dates)
         self._recipe = Recipe(feed.name, by, batch, skip_bad, names, weight_scale, "iso" if dates else times, decimals, *read_by,
                               program, timeout)
         self._recipe.survey(())  # (raises where options are wrong)

@@ -96,6 +96,7 @@ class Pace(NamedTuple):
     skip_bad: bool
     encoding: str
     decimal: str
+    dates: Optional[str]
 
 
 class Following(Iterator[Followed]):
@@ -235,7 +236,7 @@ class Following(Iterator[Followed]):
     def _before_the_first_bad(self, right: Block, operations: List[str]) -> Tuple[Block, List[str]]:
         """The rows before the first one that is bad; the feed ends there."""
         count = self._count
-        advise(count.faults, Reading(self._pace.encoding, self._pace.decimal, count.terms.units))
+        advise(count.faults, Reading(self._pace.encoding, self._pace.decimal, count.terms.units, self._pace.dates))
         place = count.faults[0].place
         first = place.line if place else 0
         keep = sum(it < first for it in right.lines)
@@ -316,7 +317,7 @@ def follow(store: "Store", feed: Union[Path, Opened], *, by: str, every: Span = 
     notation = Notation(decimal, dates).checked()
     terms = store._terms_for(weight_scale, "iso" if dates else times)
     kept = kept_time(keep, terms.units)
-    pace = Pace(seconds_of(every), max(batch - (kept is not None), 1), kept, skip_bad, encoding, decimal)
+    pace = Pace(seconds_of(every), max(batch - (kept is not None), 1), kept, skip_bad, encoding, decimal, dates)
     form = format or (form_of(feed, encoding) if isinstance(feed, (str, os.PathLike)) else "delimited")
     if form not in ("delimited", "snap"):
         raise ValueError(f"format is 'delimited' or 'snap' where a feed is followed, and not {form!r}")

@@ -287,7 +287,7 @@ def survey(data: Any, *, by: str, batch: int = records.MOST_OPERATIONS, progress
                 ahead.go_on(counter)
     told.end()
     is_file = isinstance(data, (str, os.PathLike))
-    advise(counter.faults, Reading(encoding if is_file else None, decimal if is_file else None, terms.units))
+    advise(counter.faults, Reading(encoding if is_file else None, decimal if is_file else None, terms.units, dates))
     return counter.survey()
 
 

@@ -113,6 +113,7 @@ class Recipe(NamedTuple):
     decimals: str
     encoding: Optional[str]
     decimal: Optional[str]
+    dates: Optional[str]
     program: Optional[Path]
     timeout: float
 
@@ -120,7 +121,7 @@ class Recipe(NamedTuple):
         """Counts and checks rows."""
         found = survey(Feed(self.feed, rows), by=self.by, batch=self.batch, names=self.names, weight_scale=self.weight_scale,
                        times=self.times, progress=False)
-        advise(found.faults, Reading(self.encoding, self.decimal, found.terms.units))
+        advise(found.faults, Reading(self.encoding, self.decimal, found.terms.units, self.dates))
         return found
 
     def make(self, rows: Iterable[Row]) -> Made:

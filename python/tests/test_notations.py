@@ -136,6 +136,23 @@ class Advice(Case):
             self.store().load([("a", "b", "1,5")], by="add")
         self.assertNotIn("decimal", str(fault.exception))
 
+    def test_a_day_that_there_is_not(self):
+        """A file of such dates is told of their form, and not of that of ISO 8601 alone."""
+        told = "\n  A time is read as dd.mm.yyyy here, a day that there is, or as 2024-05-01"
+        for it in ("31.02.2024", "1.1.24", "soon"):
+            self.assertIn(told, self.told(f"a;b;1;{it}\n", dates="dd.mm.yyyy"))
+        self.none("is read as", "a;b;1;31.02.2024", times="iso")
+        self.none("is read as", "a;b;1;soon", dates="seconds")
+        self.none("is read as", "a;b;seven;1.1.2024", "a;b;1;31/01/2024", dates="dd.mm.yyyy")
+        path = self.file("a.csv", "a;b;1;31.02.2024\n")
+        with self.assertRaises(misteluk.BadRows) as fault:
+            list(self.store().follow(path, by="add", columns=ONE_TO_FOUR, dates="dd.mm.yyyy", until_end=True))
+        self.assertIn(told, str(fault.exception))
+        with misteluk.Fleet(path, key=1, by="add", columns=ONE_TO_FOUR, dates="dd.mm.yyyy") as fleet:
+            with self.assertRaises(misteluk.PartsFailed) as failed:
+                list(fleet.ask("degrees"))
+        self.assertIn(told, str(failed.exception.faults["a"]))
+
     def test_none_for_a_call_that_it_can_not_help(self):
         store = self.store(seats=16)
         for call, word in ((lambda: store.insert("k", "a", "b", "seven"), "weight_scale"), (lambda: store.expire(-1), "times="),
