@@ -131,6 +131,11 @@ class Following(Iterator[Followed]):
         return self._incoming.is_half
 
     @property
+    def has_unread(self) -> bool:
+        """Whether it's a file that has more than was read of it, as where it was ended before."""
+        return self._source.has_unread
+
+    @property
     def told(self) -> str:
         """How far it is."""
         bad = f"; {self._count.bad} bad rows passed over" if self._count.bad and self._pace.skip_bad else ""

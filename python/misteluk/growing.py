@@ -107,6 +107,11 @@ class Growing:
         if size < at:
             raise FeedFault(f"{self.name} was cut to {size} bytes, and {at} were read of it: what it has now isn't known")
 
+    @property
+    def has_unread(self) -> bool:
+        """Whether a file has more than was read of it."""
+        return self._is_file and os.lseek(self._file, 0, os.SEEK_CUR) < os.fstat(self._file).st_size
+
     def close(self) -> None:
         """Gives the file back."""
         self._raw.close()

@@ -3,6 +3,7 @@ import fcntl
 import io
 import json
 import os
+import re
 import signal
 import struct
 import subprocess
@@ -133,6 +134,18 @@ class FollowCommand(Case):
         self.assertEqual(json.loads(process.stdout.readline())["rows"], 2)
         process.send_signal(signal.SIGTERM)
         self.assertEqual((process.wait(60), process.stdout.read()), (0, b""))
+
+    def test_a_file_that_is_not_read_whole(self):
+        """Ctrl-C in the middle of a large file tells that it has more, and not that its last line isn't whole."""
+        path = self.file("large.csv", text_of(some_rows(100_000)))
+        process = self.start(path)
+        process.stdout.readline()
+        process.send_signal(signal.SIGINT)
+        out, err = process.communicate(timeout=60)
+        rows = sum(int(it) for it in re.findall(rb"(?m)^version \d+: (\d+) rows", out)[-1:])
+        self.assertEqual((process.returncode, err.decode()), (
+            0, f"misteluk: {path}: {rows} rows to line {rows} are in; the file has more, which isn't in\n"))
+        self.assertLess(rows, 100_000)
 
     def test_a_second_signal_ends_it_at_once(self):
         """Also where the program doesn't answer."""
