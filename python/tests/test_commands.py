@@ -1,4 +1,5 @@
 """python -m misteluk: load, fleet, lint, picture. Values are worked out by hand."""
+import argparse
 import io
 import os
 import shutil
@@ -13,6 +14,7 @@ from support import HERE, IS_REPOSITORY, NO_REPOSITORY, TOP, Case, find_program,
 from misteluk import pictures
 from misteluk.__main__ import main
 from misteluk.answers import Degree
+from misteluk.options import make_parser
 
 PAIRS = "from,to,n,t\na,b,1,10\na,c,2,11\nc,d,3,12\na,b,4,13\nx,y,5,14\n"
 OF_PAIRS = ("--source", "from", "--target", "to", "--weight", "n", "--time", "t")
@@ -87,6 +89,11 @@ class Commands(Case):
                             ("wants --edge", ("picture", "edge", path, *OF_PAIRS, "--add", "-o", "x.svg"))):
             status, _, err = self.run_it(*words)
             self.assertEqual((status, told in err), (1, True), err)
+
+    def test_each_option_has_a_help(self):
+        (commands,) = (it for it in make_parser()._actions if isinstance(it, argparse._SubParsersAction))
+        self.assertEqual([(name, it.dest) for name, parser in commands.choices.items() for it in parser._actions
+                          if not it.help], [])
 
     def test_a_number_of_rows(self):
         self.load("degrees: 6 names, greatest by out", "--add", "--ask", "degrees", "--top", "0")
