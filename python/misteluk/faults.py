@@ -10,6 +10,8 @@ from .errors import BadName, BadSlot, BadTime, BadWeight, Refused
 from .notations import DATES, TIMES, Notation, pointed
 from .units import ISO, PLAIN, Units
 
+# What is left of a float that was worked out: more digits than any scale takes.
+_A_FLOAT = re.compile(r"-?[0-9]+\.[0-9]{9,}")
 _KEPT_BYTES = re.compile("[\udc80-\udcff]")
 # The numbers of decimals that a scale is advised for: cents where fewer would do, and as many as a weight can have.
 _DECIMALS = range(2, 13)
@@ -84,6 +86,8 @@ def _of_name(value: str, encoding: Optional[str]) -> str:
 
 def _of_weight(value: str, how: Reading, scale: int) -> str:
     number = pointed(value)
+    if how.encoding is None and how.units.weight_scale != 1 and _A_FLOAT.fullmatch(value) and not _scale_for(value):
+        return "Sums of floats have more digits than were added: round them before, as by frame.round(2)"
     if "," not in value or number is None:
         return _by_scale(scale if how.units.weight_scale == 1 and _scale_for(value) else 0)
     if how.decimal != ".":

@@ -136,6 +136,15 @@ class Advice(Case):
             self.store().load([("a", "b", "1,5")], by="add")
         self.assertNotIn("decimal", str(fault.exception))
 
+    def test_floats_that_were_worked_out(self):
+        """Amounts of a frame that aren't round any more; those of a file, and a third decimal, aren't of that sort."""
+        for amount, is_told in ((1.1 + 2.2, True), (69_215.979_999_999_98, True), (1.505, False), ("seven", False)):
+            with self.assertRaises(misteluk.BadRows) as fault:
+                self.store().load([("a", "b", amount)], by="add", weight_scale=100)
+            self.assertEqual("round them before, as by frame.round(2)" in str(fault.exception), is_told, amount)
+        self.none("round them", "a;b;3.3000000000000003;1", weight_scale=100)
+        self.store().load([("a", "b", round(1.1 + 2.2, 2))], by="add", weight_scale=100)
+
     def test_a_day_that_there_is_not(self):
         """A file of such dates is told of their form, and not of that of ISO 8601 alone."""
         told = "\n  A time is read as dd.mm.yyyy here, a day that there is, or as 2024-05-01"
