@@ -12,6 +12,8 @@ from .units import ISO, PLAIN, Units
 
 # What is left of a float that was worked out: more digits than any scale takes.
 _A_FLOAT = re.compile(r"-?[0-9]+\.[0-9]{9,}")
+# Letters and no digit, as the name of a column.
+_A_WORD = re.compile(r"\D*[^\W\d]\D*")
 _KEPT_BYTES = re.compile("[\udc80-\udcff]")
 # The numbers of decimals that a scale is advised for: cents where fewer would do, and as many as a weight can have.
 _DECIMALS = range(2, 13)
@@ -19,12 +21,13 @@ _DECIMALS = range(2, 13)
 
 class Reading(NamedTuple):
     """How a feed was read: a file's encoding and the sign before its decimals, which a feed that is none has not; the units; the
-    form of dates, where one was said."""
+    form of dates, where one was said; whether line 1 was read as a row, since its columns are numbers and nobody said more."""
 
     encoding: Optional[str]
     decimal: Optional[str]
     units: Units
     dates: Optional[str] = None
+    is_headless: bool = False
 
 
 def _is_weight(text: str, units: Units) -> bool:
@@ -69,7 +72,10 @@ def advise(faults: Iterable[Refused], how: Reading) -> None:
     told = [(it, it.fault.value) for it in faults if it.fault and it.fault.value is not None]
     scale = max((_scale_for(pointed(value) or value) for it, value in told if isinstance(it, BadWeight)), default=0)
     for it, value in told:
-        if isinstance(it, BadName):
+        is_line_1 = it.place is not None and it.place.line == 1
+        if how.is_headless and is_line_1 and isinstance(it, (BadWeight, BadTime)) and _A_WORD.fullmatch(value):
+            it.advice = "Line 1 may be a header, which is no row: header=True (--header)"
+        elif isinstance(it, BadName):
             it.advice = _of_name(value, how.encoding)
         elif isinstance(it, BadWeight):
             it.advice = _of_weight(value, how, scale)

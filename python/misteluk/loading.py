@@ -287,7 +287,8 @@ def survey(data: Any, *, by: str, batch: int = records.MOST_OPERATIONS, progress
                 ahead.go_on(counter)
     told.end()
     is_file = isinstance(data, (str, os.PathLike))
-    advise(counter.faults, Reading(encoding if is_file else None, decimal if is_file else None, terms.units, dates))
+    is_headless = is_file and header is None and not any(isinstance(it, str) for it in columns.wanted)
+    advise(counter.faults, Reading(encoding if is_file else None, decimal if is_file else None, terms.units, dates, is_headless))
     return counter.survey()
 
 

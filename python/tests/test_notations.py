@@ -145,11 +145,21 @@ class Advice(Case):
         self.none("round them", "a;b;3.3000000000000003;1", weight_scale=100)
         self.store().load([("a", "b", round(1.1 + 2.2, 2))], by="add", weight_scale=100)
 
+    def test_a_header_where_columns_are_numbers(self):
+        told = "\n  Line 1 may be a header, which is no row: header=True (--header)"
+        for options in ({}, {"weight_scale": 100, "decimal": ","}, {"times": "iso"}):
+            self.assertEqual(self.told("from;to;amount;time of day\na;b;1;2024-05-01\n", **options).count(told), 1)
+        self.none("header", "a;b;1.5x;1", "a;b;-;1", "a;b;;1")
+        self.assertNotIn("header", self.told("a;b;1;1\na;b;seven;1\n"))
+        self.none("header", "a;b;seven;1", header=False)
+        rows = misteluk.survey(self.file("h.csv", "from;to;amount;day\na;b;1;1\n"), by="add", columns=ONE_TO_FOUR, header=True)
+        self.assertEqual((rows.rows, rows.bad), (1, 0))
+
     def test_a_day_that_there_is_not(self):
         """A file of such dates is told of their form, and not of that of ISO 8601 alone."""
         told = "\n  A time is read as dd.mm.yyyy here, a day that there is, or as 2024-05-01"
         for it in ("31.02.2024", "1.1.24", "soon"):
-            self.assertIn(told, self.told(f"a;b;1;{it}\n", dates="dd.mm.yyyy"))
+            self.assertIn(told, self.told(f"a;b;1;{it}\n", dates="dd.mm.yyyy", header=False))
         self.none("is read as", "a;b;1;31.02.2024", times="iso")
         self.none("is read as", "a;b;1;soon", dates="seconds")
         self.none("is read as", "a;b;seven;1.1.2024", "a;b;1;31/01/2024", dates="dd.mm.yyyy")
