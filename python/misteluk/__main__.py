@@ -9,7 +9,7 @@ import sys
 from contextlib import ExitStack
 from typing import Any, Dict, Iterator, List, Optional
 
-from . import around, pictures, records, telling
+from . import around, files, pictures, records, telling
 from .errors import NoKind, NoVertex, StoreError
 from .feeds import STANDARD_INPUT, feed_name
 from .fleet import Fleet
@@ -57,6 +57,7 @@ def run_load(words: argparse.Namespace) -> int:
         raise ValueError("--interactive reads standard input, which is the file here")
     if words.save and (words.script or words.dry_run):
         raise ValueError("--save is for what was loaded, and --script and --dry-run load nothing")
+    must_be_place(words.save)
     with ExitStack() as stack:
         def start(blocks: int = records.MOST_BLOCKS) -> Store:
             return stack.enter_context(Store(blocks=blocks, program=words.program, timeout=words.timeout))
@@ -74,11 +75,19 @@ def run_load(words: argparse.Namespace) -> int:
 
 
 def run_restore(words: argparse.Namespace) -> int:
+    must_be_place(words.save)
     with Store.restore(words.file, blocks=words.blocks, program=words.program, timeout=words.timeout) as store:
         stat = store.stat()
         print(f"{words.file}: {size_of(stat.names, stat.edges)} restored in {stat.used} of {store.blocks} blocks", flush=True)
         do_then(words, store)
     return 0
+
+
+def must_be_place(path: Optional[str]) -> None:
+    """Raises where nothing can be saved there, before anything is loaded for it."""
+    if path:
+        files.ending_of(path)
+        files.place_of(path)
 
 
 def do_then(words: argparse.Namespace, store: Store) -> None:

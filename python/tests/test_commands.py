@@ -103,6 +103,14 @@ class Commands(Case):
                 main(["load", self.file("p.csv", PAIRS), *OF_PAIRS, "--add", "--ask", "degrees", f"--top={it}"])
             self.assertIn(f"argument --top: a number of rows is 0 or more, and not {it}\n", err.getvalue())
 
+    def test_a_place_where_nothing_can_be_saved_is_told_first(self):
+        path, saved = self.file("p.csv", PAIRS), str(self.room / "s.csv")
+        self.run_it("load", path, *OF_PAIRS, "--add", "--save", saved)
+        for words in (("load", path, *OF_PAIRS, "--add"), ("restore", saved)):
+            for place, told in (("/no/such/x", "'/no/such'"), (str(self.room), "Is a directory")):
+                status, out, err = self.run_it(*words, "--save", place, "--program", "/no/such/program")
+                self.assertEqual((status, out, told in err), (1, "", True), err)
+
     def test_bad_rows_are_passed_over_where_that_is_said(self):
         path = self.file("p.csv", PAIRS + "e,,1,1\n")
         status, out, err = self.run_it("load", path, *OF_PAIRS, "--add", "--skip-bad")
