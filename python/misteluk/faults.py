@@ -14,6 +14,7 @@ from .units import ISO, PLAIN, Units
 _A_FLOAT = re.compile(r"-?[0-9]+\.[0-9]{9,}")
 # Letters and no digit, as the name of a column.
 _A_WORD = re.compile(r"\D*[^\W\d]\D*")
+_A_NUMBER = re.compile(r"[-+]?[0-9]+\.[0-9]+")
 _KEPT_BYTES = re.compile("[\udc80-\udcff]")
 # The numbers of decimals that a scale is advised for: cents where fewer would do, and as many as a weight can have.
 _DECIMALS = range(2, 13)
@@ -28,6 +29,13 @@ class Reading(NamedTuple):
     units: Units
     dates: Optional[str] = None
     is_headless: bool = False
+
+
+def as_written(fault: records.Fault, decimal: str) -> records.Fault:
+    """The fault with an amount as its file writes it, by the sign before decimals."""
+    if decimal != "," or fault.word != BadWeight.word or not _A_NUMBER.fullmatch(fault.value or ""):
+        return fault
+    return fault._replace(value=(fault.value or "").replace(".", ","))
 
 
 def _is_weight(text: str, units: Units) -> bool:
@@ -92,6 +100,7 @@ def _of_name(value: str, encoding: Optional[str]) -> str:
 
 def _of_weight(value: str, how: Reading, scale: int) -> str:
     number = pointed(value)
+    value = number if how.decimal == "," and number is not None else value
     if how.encoding is None and how.units.weight_scale != 1 and _A_FLOAT.fullmatch(value) and not _scale_for(value):
         return "Sums of floats have more digits than were added: round them before, as by frame.round(2)"
     if "," not in value or number is None:

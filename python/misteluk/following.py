@@ -334,4 +334,5 @@ def follow(store: "Store", feed: Union[Path, Opened], *, by: str, every: Span = 
     rows: Rows = (SnapRows(source.name, columns.usual_kind, third) if form == "snap" else
                   DelimitedRows(source.name, columns, delimiter, header))
     store._take_terms(terms)
-    return Following(store, Incoming(source, rows, notation, names), Count(source.name, by, batch, terms), pace, progress)
+    count = Count(source.name, by, batch, terms, decimal)
+    return Following(store, Incoming(source, rows, notation, names), count, pace, progress)

@@ -136,6 +136,19 @@ class Advice(Case):
             self.store().load([("a", "b", "1,5")], by="add")
         self.assertNotIn("decimal", str(fault.exception))
 
+    def test_an_amount_stands_as_its_file_has_it(self):
+        """A comma stays one: 5.005 would be another number there."""
+        for amount, told in (("5,005", "5,005"), ("-1.234,505", "-1234,505")):
+            self.assertIn(f"amount '{told}': a weight is a whole number of parts",
+                          self.told(f"a;b;{amount};1\n", decimal=",", weight_scale=100))
+        self.assertIn("amount '5.005': a weight is", self.told("a;b;5.005;1\n", weight_scale=100))
+        told = self.told("a;b;5,5;1\n", decimal=",")
+        self.assertIn("amount '5,5': a weight is a whole number, of", told)
+        self.assertIn("weight_scale=100 (--weight-scale 100)", told)
+        path = self.file("a.csv", "a;b;5,005;1\n")
+        with self.assertRaisesRegex(misteluk.BadRows, "amount '5,005'"):
+            list(self.store().follow(path, by="add", columns=ONE_TO_FOUR, decimal=",", weight_scale=100, until_end=True))
+
     def test_floats_that_were_worked_out(self):
         """Amounts of a frame that aren't round any more; those of a file, and a third decimal, aren't of that sort."""
         for amount, is_told in ((1.1 + 2.2, True), (69_215.979_999_999_98, True), (1.505, False), ("seven", False)):
