@@ -9,7 +9,7 @@ import sys
 from contextlib import ExitStack
 from typing import Any, Dict, Iterator, List, Optional
 
-from . import around, pictures, records, telling
+from . import around, files, pictures, records, telling
 from .errors import NoKind, NoVertex, StoreError
 from .feeds import STANDARD_INPUT, feed_name
 from .fleet import Fleet
@@ -21,6 +21,11 @@ from .questions import Question, all_lines
 from .saving import size_of
 from .session import Session
 from .store import Store
+from .telling import leave_output
+
+
+# The status that a shell tells of a command whose output lost its reader.
+ITS_READER_WENT = 128 + 13
 
 
 def form_of_feed(words: argparse.Namespace) -> Dict[str, Any]:
@@ -52,6 +57,7 @@ def run_load(words: argparse.Namespace) -> int:
         raise ValueError("--interactive reads standard input, which is the file here")
     if words.save and (words.script or words.dry_run):
         raise ValueError("--save is for what was loaded, and --script and --dry-run load nothing")
+    must_be_place(words.save)
     with ExitStack() as stack:
         def start(blocks: int = records.MOST_BLOCKS) -> Store:
             return stack.enter_context(Store(blocks=blocks, program=words.program, timeout=words.timeout))
@@ -69,11 +75,19 @@ def run_load(words: argparse.Namespace) -> int:
 
 
 def run_restore(words: argparse.Namespace) -> int:
+    must_be_place(words.save)
     with Store.restore(words.file, blocks=words.blocks, program=words.program, timeout=words.timeout) as store:
         stat = store.stat()
         print(f"{words.file}: {size_of(stat.names, stat.edges)} restored in {stat.used} of {store.blocks} blocks", flush=True)
         do_then(words, store)
     return 0
+
+
+def must_be_place(path: Optional[str]) -> None:
+    """Raises where nothing can be saved there, before anything is loaded for it."""
+    if path:
+        files.ending_of(path)
+        files.place_of(path)
 
 
 def do_then(words: argparse.Namespace, store: Store) -> None:
@@ -115,16 +129,20 @@ def answer(words: argparse.Namespace, session: Session, is_part: bool = False) -
             yield f"{it.text}: no such name or kind"
 
 
+def rows_told(count: int) -> str:
+    return f"{count} row{'s' * (count != 1)}"
+
+
 def run_fleet(words: argparse.Namespace) -> int:
     """Parts a file's rows, and tells each part's answers below its key."""
     form = form_of_feed(words)
     del form["third"]
     with Fleet(words.file, key=words.key, workers=words.workers, alive=0, skip_bad=words.skip_bad, batch=words.batch,
                program=words.program, timeout=words.timeout, **form) as fleet:
-        print(f"{feed_name(words.file)}: {sum(fleet.parts.values())} rows in {len(fleet)} parts", flush=True)
+        print(f"{feed_name(words.file)}: {rows_told(sum(fleet.parts.values()))} in {len(fleet)} part{'s' * (len(fleet) != 1)}",
+              flush=True)
         for key, lines in fleet.ask(lambda session: list(answer(words, session, is_part=True))):
-            rows = fleet.parts[key]
-            print(f"{shown(key)}: {rows} row{'s' * (rows != 1)}", *(f"  {it}" for it in lines), sep="\n", flush=True)
+            print(f"{shown(key)}: {rows_told(fleet.parts[key])}", *(f"  {it}" for it in lines), sep="\n", flush=True)
         for key, count in fleet.bad.items():
             print(f"{count} bad rows passed over {f'of {shown(key)}' if key else 'that have no key'}")
     return 0
@@ -216,7 +234,13 @@ def main(words: Optional[List[str]] = None) -> int:
     try:
         run = {"load": run_load, "fleet": run_fleet, "restore": run_restore, "follow": run_follow, "lint": run_lint,
                "picture": run_picture}
-        return run[parsed.command](parsed)
+        status = run[parsed.command](parsed)
+        if sys.stdout:
+            sys.stdout.flush()
+        return status
+    except BrokenPipeError:
+        leave_output()
+        return ITS_READER_WENT
     except (StoreError, OSError, ValueError) as fault:
         print(f"misteluk: {fault}", file=sys.stderr)
         return 1

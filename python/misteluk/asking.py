@@ -10,7 +10,7 @@ from .calls import Calls, talks
 from .candidates import Candidates
 from .errors import RecordLimit, StoreError, refusal
 from .index import Index
-from .names import shown
+from .names import must_be_texts, shown
 from .program import Awaited, Conversation, one_line
 from .terms import Terms
 
@@ -92,7 +92,11 @@ class Asking:
 
     def _record(self, fields: Sequence[str]) -> str:
         """The record of a request, whose fields are the user's. What wouldn't be one line of plain signs is refused here."""
-        text = ",".join(fields) + "\n"
+        try:
+            text = ",".join(fields) + "\n"
+        except TypeError:
+            must_be_texts(fields)
+            raise
         if records.is_plain_edge(text) and self._terms.has_no_id(text):  # (nearly all that are asked one by one)
             return text
         turned, faults = self._terms.turned(fields, keep=False)

@@ -9,6 +9,7 @@ from .asking import Asking, within
 from .calls import talks
 from .errors import OperationsRefused, Place, PoolEmpty, Refused, refusal
 from .index import Rows
+from .names import must_be_texts
 from .program import Awaited
 from .terms import Terms
 from .units import Amount, Moment, Units
@@ -70,9 +71,7 @@ class Batches(Asking):
 
     def _keep(self, fields: Sequence[object], plain: str) -> None:
         """Keeps an operation. `plain` is its record, where that needs no quotes; most are seen to be right so."""
-        for it in fields[1:4]:
-            if not isinstance(it, str):
-                raise TypeError(f"a kind and a name are texts, and not {it!r}")
+        must_be_texts(fields[1:4])
         if not (records.is_plain_operation(plain) and self._terms.is_as_it_is(plain)):
             plain = self._terms.record([str(it) for it in fields])
         self._units_are_set = True

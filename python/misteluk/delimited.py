@@ -16,7 +16,14 @@ def delimited(path: Path, columns: Columns = Columns(), *, delimiter: Optional[s
               encoding: str = "utf-8") -> Feed:
     """A delimited file. Where a column is named the file has a header; `header` says so else. Without `delimiter` it is the
     comma, tab, semicolon or bar of which the first line has most."""
+    must_be_sign(delimiter)
     return Feed(feed_name(path), Table(lambda: _delimited_blocks(path, columns, delimiter, header, encoding)))
+
+
+def must_be_sign(delimiter: Optional[str]) -> None:
+    """Raises `ValueError` where a delimiter is said that can't part fields."""
+    if delimiter and (len(delimiter) > 1 or delimiter in '"\r\n'):
+        raise ValueError(f"delimiter is one sign, as ; or a tab (in a shell $'\\t'), and not {delimiter!r}")
 
 
 def _delimited_blocks(path: Path, columns: Columns, delimiter: Optional[str], header: Optional[bool],
@@ -29,7 +36,8 @@ def _delimited_blocks(path: Path, columns: Columns, delimiter: Optional[str], he
         named = any(isinstance(it, str) for it in columns.wanted)
         names, line = next(_csv_rows(feed, file, sign, 0), NO_ROW) if header or header is None and named else NO_ROW
         if named and not names:
-            raise FeedFault(f"{feed}: columns are named, and there is no header: name them by number (from 1)")
+            how = "name them by number (from 1)" if first else "the file is empty"
+            raise FeedFault(f"{feed}: columns are named, and there is no header: {how}")
         picked = Picked(feed, columns, names)
         for lines in parts_of(file, feeds.ROWS_AT_ONCE):
             even = even_columns(lines, sign)

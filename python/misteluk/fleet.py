@@ -111,7 +111,7 @@ class Fleet:
         Units(decimals=decimals).checked()
         feed = open_feed(data, format=format, columns=columns._replace(key=key), delimiter=delimiter, header=header,
                          encoding=encoding, decimal=decimal, dates=dates)
-        read_by = (encoding, decimal) if isinstance(data, (str, os.PathLike)) else (None, None)
+        read_by = (*((encoding, decimal) if isinstance(data, (str, os.PathLike)) else (None, None)), dates)
         self._recipe = Recipe(feed.name, by, batch, skip_bad, names, weight_scale, "iso" if dates else times, decimals, *read_by,
                               program, timeout)
         self._recipe.survey(())  # (raises where options are wrong)
@@ -156,6 +156,8 @@ class Fleet:
         to its end, and begins no more.
         """
         asked = Question(question, given, named, () if unknown is _NO_WORD else (unknown,)).checked()
+        if isinstance(keys, str):
+            raise TypeError(f"keys is a list of keys, as [{keys!r}], and not a text")
         wanted = list(self.parts) if keys is None else list(keys)
         missing = [it for it in wanted if it not in self.parts]
         if missing:

@@ -96,6 +96,7 @@ class Pace(NamedTuple):
     skip_bad: bool
     encoding: str
     decimal: str
+    dates: Optional[str]
 
 
 class Following(Iterator[Followed]):
@@ -128,6 +129,11 @@ class Following(Iterator[Followed]):
     def half_line(self) -> bool:
         """Whether there is a last line that isn't whole yet, and so isn't in."""
         return self._incoming.is_half
+
+    @property
+    def has_unread(self) -> bool:
+        """Whether it's a file that has more than was read of it, as where it was ended before."""
+        return self._source.has_unread
 
     @property
     def told(self) -> str:
@@ -235,7 +241,7 @@ class Following(Iterator[Followed]):
     def _before_the_first_bad(self, right: Block, operations: List[str]) -> Tuple[Block, List[str]]:
         """The rows before the first one that is bad; the feed ends there."""
         count = self._count
-        advise(count.faults, Reading(self._pace.encoding, self._pace.decimal, count.terms.units))
+        advise(count.faults, Reading(self._pace.encoding, self._pace.decimal, count.terms.units, self._pace.dates))
         place = count.faults[0].place
         first = place.line if place else 0
         keep = sum(it < first for it in right.lines)
@@ -316,7 +322,7 @@ def follow(store: "Store", feed: Union[Path, Opened], *, by: str, every: Span = 
     notation = Notation(decimal, dates).checked()
     terms = store._terms_for(weight_scale, "iso" if dates else times)
     kept = kept_time(keep, terms.units)
-    pace = Pace(seconds_of(every), max(batch - (kept is not None), 1), kept, skip_bad, encoding, decimal)
+    pace = Pace(seconds_of(every), max(batch - (kept is not None), 1), kept, skip_bad, encoding, decimal, dates)
     form = format or (form_of(feed, encoding) if isinstance(feed, (str, os.PathLike)) else "delimited")
     if form not in ("delimited", "snap"):
         raise ValueError(f"format is 'delimited' or 'snap' where a feed is followed, and not {form!r}")
@@ -328,4 +334,5 @@ def follow(store: "Store", feed: Union[Path, Opened], *, by: str, every: Span = 
     rows: Rows = (SnapRows(source.name, columns.usual_kind, third) if form == "snap" else
                   DelimitedRows(source.name, columns, delimiter, header))
     store._take_terms(terms)
-    return Following(store, Incoming(source, rows, notation, names), Count(source.name, by, batch, terms), pace, progress)
+    count = Count(source.name, by, batch, terms, decimal)
+    return Following(store, Incoming(source, rows, notation, names), count, pace, progress)

@@ -8,7 +8,7 @@ import select
 import stat
 from typing import Iterator, List, Optional, Protocol, Sequence, Union
 
-from .delimited import Picked, even_columns, whole_rows
+from .delimited import Picked, even_columns, must_be_sign, whole_rows
 from .errors import FeedFault
 from .feeds import STANDARD_INPUT, Block, Columns, Feed, Path, Table, codec_of, feed_name, snap_fields, snap_rows, turned
 from .notations import Notation
@@ -107,6 +107,11 @@ class Growing:
         if size < at:
             raise FeedFault(f"{self.name} was cut to {size} bytes, and {at} were read of it: what it has now isn't known")
 
+    @property
+    def has_unread(self) -> bool:
+        """Whether a file has more than was read of it."""
+        return self._is_file and os.lseek(self._file, 0, os.SEEK_CUR) < os.fstat(self._file).st_size
+
     def close(self) -> None:
         """Gives the file back."""
         self._raw.close()
@@ -135,6 +140,7 @@ class DelimitedRows(Rows):
     """The rows of a delimited file's lines, as they come; see `delimited`. A row that goes on in the next line is kept."""
 
     def __init__(self, feed: str, columns: Columns, delimiter: Optional[str], header: Optional[bool]) -> None:
+        must_be_sign(delimiter)
         self.feed, self.columns, self.sign = feed, columns, delimiter
         self.is_named = any(isinstance(it, str) for it in columns[:5])
         self.has_header = self.is_named if header is None else header

@@ -14,7 +14,7 @@ from . import records
 from .answers import Commit
 from .candidates import BITS
 from .errors import Place, Refused, Uncommitted
-from .faults import Reading, advise
+from .faults import Reading, advise, as_written
 from .feeds import Block, Columns, Row, of_columns, part_of, rows_of, turned
 from .index import Rows, Table
 from .limits import check as check, check_room
@@ -159,9 +159,9 @@ class Blocks:
 class Count:
     """Counts and checks rows, and makes batches of them. A loop over rows is one in C where it can be: there are many rows."""
 
-    def __init__(self, feed: str, by: str, batch: int, terms: Terms) -> None:
+    def __init__(self, feed: str, by: str, batch: int, terms: Terms, decimal: str = ".") -> None:
         self.begun = time.monotonic()
-        self.terms = terms
+        self.terms, self.decimal = terms, decimal
         self.feed, self.by, self.command, self.batch = feed, by, COMMANDS[by], batch
         self.parts: List[Part] = []
         # Of the batch that is being filled: its records, where they came from, and its rows.
@@ -235,7 +235,7 @@ class Count:
             rule = f"{it.word} {it.field}"
             self.fault_counts[rule] = self.fault_counts.get(rule, 0) + 1
             if len(self.faults) < MOST_FAULTS or self.fault_counts[rule] == 1:
-                self.faults.append(self.terms.refusal(it, place=Place(self.feed, row[0])))
+                self.faults.append(self.terms.refusal(as_written(it, self.decimal), place=Place(self.feed, row[0])))
         return ""
 
     def survey(self) -> Survey:
@@ -278,7 +278,7 @@ def survey(data: Any, *, by: str, batch: int = records.MOST_OPERATIONS, progress
     feed = turned(opened, names=names)
     times = "iso" if dates else times
     terms = terms or Terms(units=Units(1 if weight_scale is None else weight_scale, times or "number"))
-    counter, told = Count(feed.name, by, batch, terms), Progress(f"reading {feed.name}", None, progress)
+    counter, told = Count(feed.name, by, batch, terms, decimal), Progress(f"reading {feed.name}", None, progress)
     with no_collection():
         for block in feed.blocks():
             counter.take(block)
@@ -287,7 +287,8 @@ def survey(data: Any, *, by: str, batch: int = records.MOST_OPERATIONS, progress
                 ahead.go_on(counter)
     told.end()
     is_file = isinstance(data, (str, os.PathLike))
-    advise(counter.faults, Reading(encoding if is_file else None, decimal if is_file else None, terms.units))
+    is_headless = is_file and header is None and not any(isinstance(it, str) for it in columns.wanted)
+    advise(counter.faults, Reading(encoding if is_file else None, decimal if is_file else None, terms.units, dates, is_headless))
     return counter.survey()
 
 

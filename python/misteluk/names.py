@@ -10,7 +10,7 @@ import base64
 import hashlib
 import re
 import threading
-from typing import Dict, List, Mapping, Optional, Sequence, Union
+from typing import Dict, Iterable, List, Mapping, Optional, Sequence, Union
 
 from . import records
 
@@ -37,6 +37,13 @@ def id_of(text: str, turn: int = 0) -> str:
 def is_plain(text: str) -> bool:
     """Whether the text goes as it is: it is a name of the program, and no id."""
     return records.name_reason(text) is None and not _AN_ID.fullmatch(text)
+
+
+def must_be_texts(names: Iterable[object]) -> None:
+    """Raises `TypeError` where one of the names or kinds is no text, as a number of a frame: its text is the name."""
+    for it in names:
+        if not isinstance(it, str):
+            raise TypeError(f"a kind and a name are texts, and not {it!r}")
 
 
 class NameTable:

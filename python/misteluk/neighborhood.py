@@ -8,6 +8,7 @@ from typing import TYPE_CHECKING, Any, Dict, Iterable, List, NamedTuple, Optiona
 from . import records
 from .answers import Degree, Edge
 from .errors import Incomplete, NoKind, NoVertex
+from .names import must_be_texts
 from .units import Moment
 
 if TYPE_CHECKING:
@@ -184,6 +185,7 @@ def gather(sessions: Sequence["Session"], labels: Sequence[str], around: str, ho
            most: int) -> Neighborhood:
     """The neighborhood in each session's version. Raises `NoVertex` where none has such a vertex, and `NoKind` where none has the
     kind."""
+    must_be_texts((around,))
     looking = [Looking(session, window) for session in sessions]
     if not any(it.has_kind for it in looking):
         raise NoKind(f"no version here has edges of kind {window.kind!r}")

@@ -16,6 +16,13 @@ def column(text: str) -> Column:
     return int(text) if text.isdigit() else text
 
 
+def rows(text: str) -> int:
+    """How many rows are printed, whose fault argparse tells."""
+    if not text.isdecimal():
+        raise argparse.ArgumentTypeError(f"a number of rows is 0 or more, and not {text}")
+    return int(text)
+
+
 def asked(text: str) -> Question:
     """A question, whose fault argparse tells."""
     try:
@@ -35,8 +42,11 @@ def add_feed_options(parser: argparse.ArgumentParser, blocks: Optional[str] = BL
     way.add_argument("--add", dest="by", action="store_const", const="add", help="a later row adds to the weight of its edge")
     feed = parser.add_argument_group("what the file is")
     feed.add_argument("--format", choices=("delimited", "snap", "matrix"), help="else the file's name says")
-    for name, usual in (("source", "source"), ("target", "target"), ("kind-column", None), ("weight", None), ("time", None)):
-        feed.add_argument(f"--{name}", type=column, default=usual, metavar="COLUMN", help="a column's name, or its number from 1")
+    for name, usual, told in (("source", "source", "source"), ("target", "target", "target"),
+                              ("kind-column", None, "else --kind"), ("weight", None, "else weights are 1"),
+                              ("time", None, "else times are 0")):
+        feed.add_argument(f"--{name}", type=column, default=usual, metavar="COLUMN",
+                          help=f"a column's name, or its number from 1 ({told})")
     feed.add_argument("--kind", default="link", help="the kind of all edges, where no column has it (else link)")
     feed.add_argument("--delimiter", help="else the comma, tab, semicolon or bar of which the first line has most")
     feed.add_argument("--header", action=argparse.BooleanOptionalAction, help="else there is one where columns are named")
@@ -64,13 +74,14 @@ def add_window(parser: argparse.ArgumentParser) -> None:
 
 
 def add_table_options(group: Any) -> None:
-    group.add_argument("--top", type=int, default=10, metavar="N", help="how many rows of a table are printed (10)")
+    group.add_argument("--top", type=rows, default=10, metavar="N", help="how many rows of a table are printed (10)")
     group.add_argument("--by", choices=tuple(BY_COLUMN), default="out", dest="column",
                        help="by which column the greatest degrees are (out)")
 
 
 def add_questions(group: Any) -> None:
-    group.add_argument("--ask", action="append", default=[], choices=("degrees", "components", "cores"), help="print a table")
+    group.add_argument("--ask", action="append", default=[], choices=("degrees", "components", "cores"), help="print a table; "
+                       "--ask and --levels may be said several times")
     group.add_argument("--levels", action="append", default=[], metavar="NAME", help="print the levels from a source")
     add_table_options(group)
 
@@ -83,8 +94,12 @@ def add_what_then(parser: argparse.ArgumentParser, ask: Any) -> None:
     add_window(parser)
 
 
-def add_program(store: Any) -> None:
+def add_program_alone(store: Any) -> None:
     store.add_argument("--program", help="the program to run; else MISTELUK_PROGRAM, this repository's, or stinger on the path")
+
+
+def add_program(store: Any) -> None:
+    add_program_alone(store)
     store.add_argument("--timeout", type=float, default=60.0, metavar="SECONDS", help="how long the program may be silent")
 
 
@@ -123,10 +138,11 @@ def add_follow(follow: argparse.ArgumentParser) -> None:
 
 
 def add_lint(check: argparse.ArgumentParser) -> None:
-    check.add_argument("script")
-    check.add_argument("--seats", type=int, default=records.USUAL_SEATS)
-    check.add_argument("--blocks", type=int, default=records.USUAL_BLOCKS)
-    check.add_argument("--program")
+    check.add_argument("script", help="records, as `stinger run` reads them")
+    check.add_argument("--seats", type=int, default=records.USUAL_SEATS, metavar="N",
+                       help=f"how many sessions the run may have open at once ({records.USUAL_SEATS})")
+    check.add_argument("--blocks", type=int, default=records.USUAL_BLOCKS, help=f"the run's blocks ({records.USUAL_BLOCKS:,})")
+    add_program_alone(check)
 
 
 def add_picture(picture: argparse.ArgumentParser) -> None:
@@ -136,7 +152,7 @@ def add_picture(picture: argparse.ArgumentParser) -> None:
     add_feed_options(picture)
     picture.add_argument("-o", "--output", required=True, metavar="PICTURE", help="a name that ends in .svg or .png; that of a "
                          "page in .html")
-    picture.add_argument("--title")
+    picture.add_argument("--title", help="what stands above the picture (else what it shows)")
     picture.add_argument("--edge", metavar="KIND,SOURCE,TARGET", help="the edge, for the picture of that name")
     picture.add_argument("--first", type=int, metavar="N", help="compare: open the first session behind N batches (else half)")
     around.add_options(picture)

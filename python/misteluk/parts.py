@@ -3,6 +3,7 @@ from __future__ import annotations
 
 import threading
 from functools import partial
+from inspect import signature
 from typing import Any, Callable, Dict, Iterable, Iterator, List, NamedTuple, Optional, Sequence, Tuple, Union
 
 from . import records
@@ -35,6 +36,11 @@ class Question(NamedTuple):
             raise ValueError(f"a session has no call {self.what!r} to be asked by; it has {', '.join(CALLS)}")
         if not isinstance(self.what, str) and not callable(self.what):
             raise TypeError(f"a question is a function of a session, or the name of a session's call, and not {self.what!r}")
+        if isinstance(self.what, str):
+            try:
+                signature(getattr(Session, self.what)).bind(None, *self.given, **self.named)
+            except TypeError as fault:
+                raise TypeError(f"{self.what} can't be asked so: {fault}") from None
         return self
 
     def put_to(self, session: Session) -> Any:
@@ -113,6 +119,7 @@ class Recipe(NamedTuple):
     decimals: str
     encoding: Optional[str]
     decimal: Optional[str]
+    dates: Optional[str]
     program: Optional[Path]
     timeout: float
 
@@ -120,7 +127,7 @@ class Recipe(NamedTuple):
         """Counts and checks rows."""
         found = survey(Feed(self.feed, rows), by=self.by, batch=self.batch, names=self.names, weight_scale=self.weight_scale,
                        times=self.times, progress=False)
-        advise(found.faults, Reading(self.encoding, self.decimal, found.terms.units))
+        advise(found.faults, Reading(self.encoding, self.decimal, found.terms.units, self.dates))
         return found
 
     def make(self, rows: Iterable[Row]) -> Made:

@@ -34,13 +34,17 @@ class Question(NamedTuple):
 def question(text: str) -> Question:
     """A question as it is typed: `degrees`, `degrees transfer`, `levels ana`, `edge transfer ana bob`; what has spaces stands
     within quotes. Raises `ValueError` for another text."""
-    what, *words = shlex.split(text) or [""]
+    try:
+        what, *words = shlex.split(text) or [""]
+    except ValueError:
+        raise ValueError(f"a quote isn't closed in {text!r}: a name with one stands within quotes of another sort") from None
     if what not in NAMES:
         raise ValueError(f"a question is one of {', '.join(NAMES)}, and not {what!r}")
     count = NAMES[what]
     if not count <= len(words) <= count + (what != "edge"):
         form = "KIND SOURCE TARGET" if what == "edge" else "[KIND]" if not count else "NAME [KIND]"
-        raise ValueError(f"{what} is asked as `{what} {form}`, and not as {text!r}")
+        spaces = ". A name with spaces stands within quotes" if len(words) > count > 0 else ""
+        raise ValueError(f"{what} is asked as `{what} {form}`, and not as {text!r}{spaces}")
     kind = words[count] if len(words) > count else None
     return Question(text, what, tuple(words[:count]), kind)
 

@@ -43,6 +43,11 @@ def descriptor_of(file: Any) -> Optional[int]:
         return None
 
 
+def leave_output() -> None:
+    """Lets go what is still to be written to standard output, whose reader has gone."""
+    os.dup2(os.open(os.devnull, os.O_WRONLY), sys.stdout.fileno())
+
+
 class Teller:
     """Tells of the steps of a feed that is followed, and asks behind each."""
 
@@ -115,13 +120,14 @@ def follow(words: argparse.Namespace, store: Store, how: Dict[str, Any]) -> int:
             with ended_by_signals(following.stop):
                 Teller(words, store, following).run()
         except BrokenPipeError:
-            os.dup2(os.open(os.devnull, os.O_WRONLY), sys.stdout.fileno())  # (what is still to be written has no reader)
+            leave_output()
             store.discard()
             return 0
         except StoreError:
             store.discard()  # (the fault says which rows aren't in)
             raise
         following.clear_progress()
-        half = "; the last line isn't whole yet, and not in" if following.half_line else ""
-        print(f"misteluk: {following.told}{half}", file=sys.stderr)
+        rest = ("; the file has more, which isn't in" if following.has_unread else
+                "; the last line isn't whole yet, and not in" if following.half_line else "")
+        print(f"misteluk: {following.told}{rest}", file=sys.stderr)
     return 0

@@ -14,6 +14,8 @@ from .units import PLAIN, Units
 
 _WORDS: Dict[str, str] = {**dict.fromkeys(records.NAME_FIELDS, "BadName"), **dict.fromkeys(records.WEIGHT_FIELDS, "BadWeight"),
                           **dict.fromkeys(records.TIME_FIELDS, "BadTime")}
+# What a user says for fields of requests.
+_SAID = {"lo": "since", "hi": "until"}
 _ORDER = ("BadCommand", "BadFields", "BadName", "BadWeight", "BadTime", "BadSlot")
 
 
@@ -66,6 +68,7 @@ class Terms:
 
     def refusal(self, fault: Fault, **where: "object") -> Refused:
         """The exception for a fault, with what helps where such a value stands there."""
+        fault = fault._replace(field=_SAID.get(fault.field or "", fault.field))
         return refusal(fault.word, fault=fault, advice=advice_for(fault, self.units), **where)  # type: ignore[arg-type]
 
     def record(self, fields: Sequence[str]) -> str:

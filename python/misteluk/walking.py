@@ -10,6 +10,7 @@ from .asking import ASK_AT_ONCE
 from .calls import talks
 from .candidates import Candidates
 from .errors import Incomplete, NoKind, NoVertex, refusal
+from .names import must_be_texts
 from .tables import Tables, edge_of
 from .units import Moment
 
@@ -128,6 +129,7 @@ class Walking(Tables):
     def _view(self, vertex: Optional[str], kind: Optional[str], since: Moment, until: Moment) -> View:
         """What edges are asked for. Raises where the vertex is no name, the kind none, or the window no window."""
         self._must_be_open()
+        must_be_texts(it for it in (vertex, kind) if it is not None)
         kind = kind if kind != records.ANY else None
         window, terms = (kind or records.ANY, str(since), str(until)), self.store._terms
         asked = ("deg", str(self.slot), *window) if vertex is None else ("bfs", str(self.slot), vertex, *window)

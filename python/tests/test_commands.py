@@ -1,4 +1,5 @@
 """python -m misteluk: load, fleet, lint, picture. Values are worked out by hand."""
+import argparse
 import io
 import os
 import shutil
@@ -13,6 +14,7 @@ from support import HERE, IS_REPOSITORY, NO_REPOSITORY, TOP, Case, find_program,
 from misteluk import pictures
 from misteluk.__main__ import main
 from misteluk.answers import Degree
+from misteluk.options import make_parser
 
 PAIRS = "from,to,n,t\na,b,1,10\na,c,2,11\nc,d,3,12\na,b,4,13\nx,y,5,14\n"
 OF_PAIRS = ("--source", "from", "--target", "to", "--weight", "n", "--time", "t")
@@ -77,6 +79,8 @@ class Commands(Case):
         for told, words in (("no column 'source'", ("load", path, "--add")),
                             ("No such file", ("load", "/no/such", "--add")),
                             ("is no program", ("load", path, *OF_PAIRS, "--add", "--program", "/no/such")),
+                            ("a.csv: columns are named, and there is no header: the file is empty", (
+                                "load", self.file("a.csv", ""), "--add")),
                             ("blocks is from 16", ("load", path, *OF_PAIRS, "--add", "--blocks", "7")),
                             ("NoVertex (record", ("load", path, *OF_PAIRS, "--add", "--levels", "z")),
                             ("--save is for what was loaded", ("load", path, *OF_PAIRS, "--add", "--dry-run", "--save", "x")),
@@ -85,6 +89,27 @@ class Commands(Case):
                             ("wants --edge", ("picture", "edge", path, *OF_PAIRS, "--add", "-o", "x.svg"))):
             status, _, err = self.run_it(*words)
             self.assertEqual((status, told in err), (1, True), err)
+
+    def test_each_option_has_a_help(self):
+        (commands,) = (it for it in make_parser()._actions if isinstance(it, argparse._SubParsersAction))
+        self.assertEqual([(name, it.dest) for name, parser in commands.choices.items() for it in parser._actions
+                          if not it.help], [])
+
+    def test_a_number_of_rows(self):
+        self.load("degrees: 6 names, greatest by out", "--add", "--ask", "degrees", "--top", "0")
+        for it in ("-1", "x", "1.5"):
+            err = io.StringIO()
+            with self.assertRaises(SystemExit), redirect_stderr(err):
+                main(["load", self.file("p.csv", PAIRS), *OF_PAIRS, "--add", "--ask", "degrees", f"--top={it}"])
+            self.assertIn(f"argument --top: a number of rows is 0 or more, and not {it}\n", err.getvalue())
+
+    def test_a_place_where_nothing_can_be_saved_is_told_first(self):
+        path, saved = self.file("p.csv", PAIRS), str(self.room / "s.csv")
+        self.run_it("load", path, *OF_PAIRS, "--add", "--save", saved)
+        for words in (("load", path, *OF_PAIRS, "--add"), ("restore", saved)):
+            for place, told in (("/no/such/x", "'/no/such'"), (str(self.room), "Is a directory")):
+                status, out, err = self.run_it(*words, "--save", place, "--program", "/no/such/program")
+                self.assertEqual((status, out, told in err), (1, "", True), err)
 
     def test_bad_rows_are_passed_over_where_that_is_said(self):
         path = self.file("p.csv", PAIRS + "e,,1,1\n")
@@ -129,6 +154,23 @@ class Commands(Case):
         self.assertEqual((status, out.splitlines()[1:]), (1, ["a: 3 rows", "c: 1 row"]))
         self.assertIn("1 of 3 parts gave no answer\n  part 'x': BadRows: ", err)
         self.assertIn("q.csv:7: BadWeight: amount 'five'", err)
+        status, out, err = self.run_it("fleet", self.file("one.csv", "from,to\na,b\n"), *OF_PAIRS[:4], "--add", "--key", "from")
+        self.assertEqual((status, err, out), (0, "", f"{self.room / 'one.csv'}: 1 row in 1 part\na: 1 row\n"))
+
+    def test_an_output_whose_reader_has_gone(self):
+        """It ends quietly, with the status that a shell tells of such an end."""
+        path, saved = self.file("p.csv", PAIRS), str(self.room / "s.csv")
+        self.run_it("load", path, *OF_PAIRS, "--add", "--save", saved)
+        for words in (("load", path, *OF_PAIRS, "--add", "--ask", "degrees"), ("restore", saved, "--ask", "cores"),
+                      ("fleet", path, *OF_PAIRS, "--add", "--key", "from"), ("lint", saved)):
+            reader, writer = os.pipe()
+            process = subprocess.Popen([sys.executable, "-m", "misteluk", *words], stdout=writer, stderr=subprocess.PIPE,
+                                       cwd=HERE.parent)
+            os.close(writer)
+            if words[0] == "load":  # (one that reads a part, as `head` does)
+                os.read(reader, 1)
+            os.close(reader)
+            self.assertEqual((process.communicate(timeout=60)[1], process.returncode), (b"", 141), words)
 
     def test_lint(self):
         status, out, _ = self.run_it("lint", self.file("s.csv", "commit\nfly\n"))

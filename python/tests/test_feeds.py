@@ -116,6 +116,15 @@ class Feeds(Case):
         self.fault("is complex and hermitian", "a.mtx", "%%MatrixMarket matrix coordinate complex hermitian\n1 1 0\n")
         self.fault("1 entries, where its sizes say 2", "a.mtx", "%%MatrixMarket matrix coordinate pattern general\n2 2 2\n1 2\n")
 
+    def test_a_delimiter_is_one_sign(self):
+        path = self.file("a.csv", "a;b\n")
+        for it in ("xx", "\\t", "\n", '"'):
+            for call in (lambda: misteluk.open_feed(path, columns=Columns(1, 2), delimiter=it),
+                         lambda: self.store().follow(path, by="set", columns=Columns(1, 2), delimiter=it, until_end=True)):
+                with self.assertRaisesRegex(ValueError, "delimiter is one sign, as ; or a tab") as fault:
+                    call()
+                self.assertIn(f"and not {it!r}", str(fault.exception))
+
     def test_bytes_that_are_no_text(self):
         (self.room / "a.csv").write_bytes(b"a,b\n\xffx,?\n")
         found = misteluk.survey(str(self.room / "a.csv"), by="set", columns=Columns(1, 2))

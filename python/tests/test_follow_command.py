@@ -3,6 +3,7 @@ import fcntl
 import io
 import json
 import os
+import re
 import signal
 import struct
 import subprocess
@@ -134,6 +135,18 @@ class FollowCommand(Case):
         process.send_signal(signal.SIGTERM)
         self.assertEqual((process.wait(60), process.stdout.read()), (0, b""))
 
+    def test_a_file_that_is_not_read_whole(self):
+        """Ctrl-C in the middle of a large file tells that it has more, and not that its last line isn't whole."""
+        path = self.file("large.csv", text_of(some_rows(100_000)))
+        process = self.start(path)
+        process.stdout.readline()
+        process.send_signal(signal.SIGINT)
+        out, err = process.communicate(timeout=60)
+        rows = sum(int(it) for it in re.findall(rb"(?m)^version \d+: (\d+) rows", out)[-1:])
+        self.assertEqual((process.returncode, err.decode()), (
+            0, f"misteluk: {path}: {rows} rows to line {rows} are in; the file has more, which isn't in\n"))
+        self.assertLess(rows, 100_000)
+
     def test_a_second_signal_ends_it_at_once(self):
         """Also where the program doesn't answer."""
         program = self.stand_in("time.sleep(60)")
@@ -199,6 +212,10 @@ class FollowCommand(Case):
         self.assertEqual(question("levels 'a b' \"k k\"")[1:], ("levels", ("a b",), "k k"))
         for text in ("", "levels", "degrees a b", "edge a b", "edge a b c d", "levels a b c", "'"):
             self.assertRaises(ValueError, question, text)
+        for text in ("into NL91 ABNA 0417", "edge link ana bob b"):
+            self.assertRaisesRegex(ValueError, r"and not as .*'\. A name with spaces stands within quotes", question, text)
+        self.assertRaisesRegex(ValueError, "a quote isn't closed in \"into O'Neill\"", question, "into O'Neill")
+        self.assertEqual(question("into \"O'Neill\"").names, ("O'Neill",))
 
 
 if __name__ == "__main__":

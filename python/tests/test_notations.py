@@ -136,6 +136,55 @@ class Advice(Case):
             self.store().load([("a", "b", "1,5")], by="add")
         self.assertNotIn("decimal", str(fault.exception))
 
+    def test_an_amount_stands_as_its_file_has_it(self):
+        """A comma stays one: 5.005 would be another number there."""
+        for amount, told in (("5,005", "5,005"), ("-1.234,505", "-1234,505")):
+            self.assertIn(f"amount '{told}': a weight is a whole number of parts",
+                          self.told(f"a;b;{amount};1\n", decimal=",", weight_scale=100))
+        self.assertIn("amount '5.005': a weight is", self.told("a;b;5.005;1\n", weight_scale=100))
+        told = self.told("a;b;5,5;1\n", decimal=",")
+        self.assertIn("amount '5,5': a weight is a whole number, of", told)
+        self.assertIn("weight_scale=100 (--weight-scale 100)", told)
+        path = self.file("a.csv", "a;b;5,005;1\n")
+        with self.assertRaisesRegex(misteluk.BadRows, "amount '5,005'"):
+            list(self.store().follow(path, by="add", columns=ONE_TO_FOUR, decimal=",", weight_scale=100, until_end=True))
+
+    def test_floats_that_were_worked_out(self):
+        """Amounts of a frame that aren't round any more; those of a file, and a third decimal, aren't of that sort."""
+        for amount, is_told in ((1.1 + 2.2, True), (69_215.979_999_999_98, True), (1.505, False), ("seven", False)):
+            with self.assertRaises(misteluk.BadRows) as fault:
+                self.store().load([("a", "b", amount)], by="add", weight_scale=100)
+            self.assertEqual("round them before, as by frame.round(2)" in str(fault.exception), is_told, amount)
+        self.none("round them", "a;b;3.3000000000000003;1", weight_scale=100)
+        self.store().load([("a", "b", round(1.1 + 2.2, 2))], by="add", weight_scale=100)
+
+    def test_a_header_where_columns_are_numbers(self):
+        told = "\n  Line 1 may be a header, which is no row: header=True (--header)"
+        for options in ({}, {"weight_scale": 100, "decimal": ","}, {"times": "iso"}):
+            self.assertEqual(self.told("from;to;amount;time of day\na;b;1;2024-05-01\n", **options).count(told), 1)
+        self.none("header", "a;b;1.5x;1", "a;b;-;1", "a;b;;1")
+        self.assertNotIn("header", self.told("a;b;1;1\na;b;seven;1\n"))
+        self.none("header", "a;b;seven;1", header=False)
+        rows = misteluk.survey(self.file("h.csv", "from;to;amount;day\na;b;1;1\n"), by="add", columns=ONE_TO_FOUR, header=True)
+        self.assertEqual((rows.rows, rows.bad), (1, 0))
+
+    def test_a_day_that_there_is_not(self):
+        """A file of such dates is told of their form, and not of that of ISO 8601 alone."""
+        told = "\n  A time is read as dd.mm.yyyy here, a day that there is, or as 2024-05-01"
+        for it in ("31.02.2024", "1.1.24", "soon"):
+            self.assertIn(told, self.told(f"a;b;1;{it}\n", dates="dd.mm.yyyy", header=False))
+        self.none("is read as", "a;b;1;31.02.2024", times="iso")
+        self.none("is read as", "a;b;1;soon", dates="seconds")
+        self.none("is read as", "a;b;seven;1.1.2024", "a;b;1;31/01/2024", dates="dd.mm.yyyy")
+        path = self.file("a.csv", "a;b;1;31.02.2024\n")
+        with self.assertRaises(misteluk.BadRows) as fault:
+            list(self.store().follow(path, by="add", columns=ONE_TO_FOUR, dates="dd.mm.yyyy", until_end=True))
+        self.assertIn(told, str(fault.exception))
+        with misteluk.Fleet(path, key=1, by="add", columns=ONE_TO_FOUR, dates="dd.mm.yyyy") as fleet:
+            with self.assertRaises(misteluk.PartsFailed) as failed:
+                list(fleet.ask("degrees"))
+        self.assertIn(told, str(failed.exception.faults["a"]))
+
     def test_none_for_a_call_that_it_can_not_help(self):
         store = self.store(seats=16)
         for call, word in ((lambda: store.insert("k", "a", "b", "seven"), "weight_scale"), (lambda: store.expire(-1), "times="),

@@ -149,7 +149,12 @@ class Few(Case):
         for wrong in ("degree", "close", "to_csv", "_edge"):
             self.assertRaisesRegex(ValueError, f"no call '{wrong}'", fleet.ask, wrong)
         self.assertRaises(TypeError, fleet.ask, 17)
+        self.assertRaisesRegex(TypeError, "into can't be asked so: missing a required argument: 'target'", fleet.ask, "into")
+        for given, named in (((), {"kinds": "link"}), (("link", 0, 1, 2), {})):
+            with self.assertRaisesRegex(TypeError, "degrees can't be asked so: "):
+                fleet.ask("degrees", *given, **named)
         self.assertRaisesRegex(ValueError, "no part 'v', 'w'", fleet.ask, "degrees", keys=["x", "v", "w"])
+        self.assertRaisesRegex(TypeError, r"keys is a list of keys, as \['x'\]", fleet.ask, "degrees", keys="x")
         for options, words in (
                 ({"by": "sum"}, "by is"), ({"times": "day"}, "times is"), ({"alive": -1}, "alive is"),
                 ({"timeout": 0}, "timeout is"), ({"weight_scale": 7}, "weight_scale is"), ({"workers": 0}, "workers is"),

@@ -144,8 +144,8 @@ class Stores(Case):
                 (lambda: store.insert("k", "a", "b", 1, 5), misteluk.BadTime, "time '5': a time is a date here"),
                 (lambda: store.insert("k", "a", "b", 1, "2024-03-04T00:00:00.0000001"), misteluk.BadTime, "would be cut off"),
                 (lambda: store.expire("soon"), misteluk.BadTime, "time 'soon'"),
-                (lambda: store.open().degrees(since="soon"), misteluk.BadTime, "lo 'soon'"),
-                (lambda: store.open(1).levels("a", until=7), misteluk.BadTime, "hi '7'")):
+                (lambda: store.open().degrees(since="soon"), misteluk.BadTime, "since 'soon'"),
+                (lambda: store.open(1).levels("a", until=7), misteluk.BadTime, "until '7'")):
             with self.assertRaises(word) as fault:
                 call()
             self.assertIn(told, str(fault.exception))
@@ -281,7 +281,7 @@ class Commands(Case):
             "degrees: 3 names, greatest by weight", "  c out 1 in 1 weight 2.00", "  a out 1 in 1 weight 0.05",
             "  b out 0 in 0 weight 0.00"]))
         self.assertEqual(self.run_it(*cents, "--ask", "degrees", "--since", "soon")[::2][0], 1)
-        self.assertIn("lo 'soon': a time is a date here", self.run_it(*cents, "--ask", "degrees", "--since", "soon")[2])
+        self.assertIn("since 'soon': a time is a date here", self.run_it(*cents, "--ask", "degrees", "--since", "soon")[2])
         script = self.room / "s.csv"
         self.run_it(*cents, "--script", script)
         self.assertEqual(script.read_text().splitlines()[0], f"a,link,a,b,1250,{FOURTH}")

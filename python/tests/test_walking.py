@@ -242,6 +242,20 @@ class Calls(Case):
                      lambda: "a" in session):
             self.refused(misteluk.SessionClosed, "version 1 is closed", call)
 
+    def test_a_name_is_a_text(self):
+        """A frame's numbers are loaded as texts, so they are asked for as texts."""
+        store = self.store()
+        store.load({"source": [1, 2], "target": [2, 3]}, by="set")
+        session = store.open()
+        self.assertEqual(session.path("1", "3"), ["1", "2", "3"])
+        for call in (lambda: session.levels(1), lambda: session.into(1), lambda: session.neighbors(1),
+                     lambda: session.path(1, "3"), lambda: session.path("3", 1), lambda: session.within(1, 2),
+                     lambda: session.within(1, 2, directed=False), lambda: session.edge("link", "2", 1),
+                     lambda: session.edges([("link", 1, "2")]), lambda: session.degrees(1),
+                     lambda: session.into("2", kind=1), lambda: list(session.edges(kind=1)),
+                     lambda: misteluk.view(session, 1)):
+            self.refused(TypeError, "a kind and a name are texts, and not 1", call)
+
     def test_more_than_a_run_takes_is_told_before_anything_is_sent(self):
         store = self.store(*(f"insert k a t{it} 1 1" for it in range(9)))
         session = store.open()
