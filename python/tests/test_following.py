@@ -14,7 +14,7 @@ from interrupting import handler, interrupt_in_a_call, made_at_once
 from support import Case
 
 import misteluk
-from misteluk import Columns, calls, delimited, following, growing
+from misteluk import Columns, calls, delimited, feeds, following, growing
 
 COLUMNS = Columns(1, 2, weight=3, time=4)
 KIND = "link"
@@ -321,7 +321,7 @@ class Rows(Case):
                     write = 0
                 data = data[more:]
                 for block in rows.take(source.lines(), source.is_at_end):
-                    found += [tuple(it) for it in zip(*block)]
+                    found += feeds.rows_of(block)
             source.close()
             return found
 
