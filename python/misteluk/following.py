@@ -113,7 +113,8 @@ class Following(Iterator[Followed]):
         self._lines: List[int] = []
         self._since = 0.0
         self._in = self._line = 0
-        self._newest, self._expired = -1, 0
+        # The times of all rows: the newest, up to where edges were let go, and the oldest that came since then.
+        self._newest, self._expired, self._oldest = -1, 0, records.MOST_TIME
         self._untaken: Deque[Followed] = deque()
         self._ending: Optional[Exception] = None
         self._is_stopped = self._is_done = False
@@ -230,7 +231,8 @@ class Following(Iterator[Followed]):
         self.store._kinds.update(dict.fromkeys(map(count.terms.names.to_user, dict.fromkeys(right.kinds))))
         self.store._pending.extend(operations)
         self._lines.extend(right.lines)
-        self._newest = max(self._newest, *map(int, right.times))
+        times = list(map(int, right.times))
+        self._newest, self._oldest = max(self._newest, *times), min(self._oldest, *times)
 
     def _before_the_first_bad(self, right: Block, operations: List[str]) -> Tuple[Block, List[str]]:
         """The rows before the first one that is bad; the feed ends there."""
@@ -247,8 +249,8 @@ class Following(Iterator[Followed]):
     def _commit(self) -> Followed:
         """Commits what is pending. Where that is refused or not answered all of it is pending still."""
         bound = self._newest - (self._pace.keep or 0)
-        if self._pace.keep is not None and bound > self._expired:
-            self._expired = bound
+        if self._pace.keep is not None and bound > min(self._expired, self._oldest):
+            self._expired = self._oldest = bound  # (a batch that is sent again has its expiry)
             self.store._pending.append(f"x,{bound}\n")
         pending = self.store.pending
         try:

@@ -149,6 +149,24 @@ class Following(Case):
         with mock.patch.object(following.Following, "_commit", late), self.assertRaises(AssertionError):
             self.test_expiry()
 
+    def test_expiry_of_late_rows(self):
+        """A row that comes too late goes with its own commit, though the newest time is what it was."""
+        rows = [("a", "b", 1, 100), ("c", "d", 1, 50), ("a", "b", 1, 95), ("e", "f", 1, 89), ("a", "b", 1, 20), ("g", "h", 1, 90)]
+        followed = self.follow(self.file("late.csv", text_of(rows)), keep=10, batch=2, until_end=True)
+        model, steps = Model(rows, "add", 10), []
+        for step in followed:
+            self.check(step, followed, model)
+            steps.append(step.commit.expired)
+        self.assertEqual(steps, [0, 1, 0, 1, 1, 0])
+
+    def test_a_late_row_s_expiry_is_sent_once(self):
+        """Where a batch with an expiry is refused the next step sends the same one."""
+        store, rows = self.store(blocks=16), [("a", "b", 1, 100), *((f"s{it}", f"t{it}", 1, 5) for it in range(16))]
+        followed = self.follow(self.file("late.csv", text_of(rows)), store, keep=10, batch=20, until_end=True)
+        for _ in range(2):
+            self.assertRaises(misteluk.PoolEmpty, next, followed)
+            self.assertEqual((store.pending, store._pending.count("x,90\n")), (18, 1))
+
     def test_batches_are_full(self):
         path = self.file("full.csv", text_of(some_rows(10_000)))
         counts = [it.rows for it in self.follow(path, until_end=True, every="1h")]
