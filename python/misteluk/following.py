@@ -262,7 +262,8 @@ class Following(Iterator[Followed]):
             raise self._with_rows(fault, self.store.pending < pending) from fault
         self._take_in()
         newest = self._count.terms.units.time_to_user(self._newest)
-        return Followed(receipt, self._in, self._count.bad, self._line, newest)
+        bad = self._count.bad if self._pace.skip_bad else 0  # (else it ends the feed, which is told then)
+        return Followed(receipt, self._in, bad, self._line, newest)
 
     def _take_in(self) -> None:
         self._in, self._line, self._lines = self._in + len(self._lines), self._lines[-1], []

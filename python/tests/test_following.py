@@ -210,7 +210,8 @@ class Following(Case):
     def test_bad_rows(self):
         text = "a,b,1,1\nb,c,2,2\nb,,3,3\nc,d,x,4\nd,e,5,5\n"
         followed = self.follow(self.file("bad.csv", text), until_end=True)
-        self.assertEqual(next(followed).rows, 2)
+        step = next(followed)
+        self.assertEqual((step.rows, step.bad, "passed over" in str(step)), (2, 0, False))
         with self.assertRaises(misteluk.BadRows) as told:
             next(followed)
         self.assertIn("can't be taken, and those before line 3 are in, and none behind it\n", str(told.exception))
