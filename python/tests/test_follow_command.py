@@ -147,6 +147,17 @@ class FollowCommand(Case):
             process.send_signal(number)
             self.assertEqual(process.wait(5), -number)
 
+    def test_two_signals_at_once_are_one(self):
+        """As those of `timeout` are."""
+        process = self.start("-", "--every", "1h")
+        os.write(process.stdin.fileno(), b"a,b,1,1\n")
+        self.wait(lambda: is_read(process.stdin.fileno()), "it reads")
+        for _ in range(4):
+            process.send_signal(signal.SIGTERM)
+            time.sleep(0.002)
+        self.assertEqual((process.wait(60), process.stdout.read().count(b"1 rows to line 1")), (0, 1))
+        self.assertEqual(process.stderr.read(), b"misteluk: standard input: 1 rows to line 1 are in\n")
+
     def test_a_broken_pipe(self):
         """It ends quietly, where it has something to tell and where it hasn't."""
         for more in (b"", b"b,c,1,1\n" * 5):
