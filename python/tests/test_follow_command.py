@@ -134,6 +134,27 @@ class FollowCommand(Case):
         process.send_signal(signal.SIGTERM)
         self.assertEqual((process.wait(60), process.stdout.read()), (0, b""))
 
+    def test_a_file_that_is_replaced(self):
+        """The pipe of the page: all rows of both files come, and no header."""
+        path = self.file("now.csv", "from,to,tons,day\n" + text_of((f"s{it}", "t", 1, it) for it in range(30)))
+        tail = subprocess.Popen(["tail", "-n", "+1", "-F", path], stdout=subprocess.PIPE, stderr=subprocess.DEVNULL)
+        grep = subprocess.Popen(["grep", "--line-buffered", "-v", "^from,to"], stdin=tail.stdout, stdout=subprocess.PIPE)
+        self.addCleanup(self.end, grep)
+        self.addCleanup(self.end, tail)
+        process = self.start("-", "--json", "--every", "10ms", stdin=grep.stdout)
+
+        def read_to(count):
+            while True:
+                told = json.loads(process.stdout.readline())
+                if told["rows"] >= count:
+                    return told["rows"], told["newest"]
+        self.assertEqual(read_to(30), (30, 29))
+        os.rename(path, f"{path}.1")
+        self.file("now.csv", "from,to,tons,day\ns1,t,2,30\n")
+        self.assertEqual(read_to(31), (31, 30))
+        tail.terminate()
+        self.assertEqual((process.wait(60), process.stdout.read()), (0, b""))
+
     def test_a_second_signal_ends_it_at_once(self):
         """Also where the program doesn't answer."""
         program = self.stand_in("time.sleep(60)")
