@@ -128,7 +128,12 @@ class Following(Iterator[Followed]):
     @property
     def half_line(self) -> bool:
         """Whether there is a last line that isn't whole yet, and so isn't in."""
-        return self._incoming.is_half
+        return self._incoming.is_half and not self.has_unread
+
+    @property
+    def has_unread(self) -> bool:
+        """Whether more is there than was read, as where it was stopped amid a long file."""
+        return self._source.has_unread
 
     @property
     def told(self) -> str:

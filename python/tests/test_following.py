@@ -125,6 +125,25 @@ class Following(Case):
         (step,) = self.follow(self.file("end.csv", "a,b,1,1\nb,c,12,3"), until_end=True)
         self.assertEqual((step.rows, step.line), (2, 2))
 
+    def test_what_wasn_t_read(self):
+        """It is told where it was stopped amid a file or pipe: the line that was cut by the reading is no half one."""
+        text = text_of(some_rows(9_000)).encode()
+        read, write = os.pipe()
+        followed = self.follow(self.enter(os.fdopen(read, "rb")), batch=100)
+        few = mock.patch.object(growing, "MOST_READ", 2_001)
+        few.start()
+        self.addCleanup(few.stop)
+        (self.room / "long.csv").write_bytes(text)
+        os.write(write, text[:10_000])
+        for it in (followed, self.follow(str(self.room / "long.csv"), batch=100)):
+            next(it)
+            it.stop()
+            rows = [step.rows for step in it][-1:] or [100]
+            self.assertEqual((it.half_line, it.has_unread, rows[0]), (False, True, text[:2_001].count(b"\n")))
+            it.close()
+            self.assertEqual(it.has_unread, False)
+        os.close(write)
+
     def test_expiry(self):
         rows = some_rows(5000)
         for by, keep, batch in (("add", 300, 200), ("set", 900, 333), ("add", 0, 500)):
