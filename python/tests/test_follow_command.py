@@ -3,6 +3,7 @@ import fcntl
 import io
 import json
 import os
+import pathlib
 import signal
 import struct
 import subprocess
@@ -13,7 +14,7 @@ import unittest
 from contextlib import redirect_stderr, redirect_stdout
 from unittest import mock
 
-from support import HERE, Case
+from support import HERE, Case, find_program
 from test_following import Model, some_rows, text_of
 
 from misteluk.__main__ import main
@@ -178,6 +179,24 @@ class FollowCommand(Case):
             time.sleep(0.002)
         self.assertEqual((process.wait(60), process.stdout.read().count(b"1 rows to line 1")), (0, 1))
         self.assertEqual(process.stderr.read(), b"misteluk: standard input: 1 rows to line 1 are in\n")
+
+    def test_a_program_that_ends(self):
+        """That is told once, and by no line of the client's sources; also where no row comes behind it."""
+        script = f"#!/bin/sh\necho $$ > {self.room}/number\nexec \"{find_program()}\" \"$@\"\n"
+        program = pathlib.Path(self.file("program", script))
+        program.chmod(0o755)
+        ended = r"misteluk: the program was ended by signal 9"
+        lost = r" before record \d+ was answered; 1 rows of standard input, lines 2 to 2, were not answered, and the graph is "
+        for more, told in ((b"b,c,1,1\n", ended + lost + r"gone with the program\n"),
+                           (b"", r"misteluk: standard input: 1 rows to line 1 are in\n" + ended + r"\n")):
+            process = self.start("-", "--every", "0", "--program", str(program))
+            os.write(process.stdin.fileno(), b"a,b,1,1\n")
+            process.stdout.readline()
+            os.kill(int((self.room / "number").read_text()), signal.SIGKILL)
+            process.stdin.write(more)
+            process.stdin.close()
+            self.assertEqual(process.wait(60), 1)
+            self.assertRegex(process.stderr.read().decode(), f"^{told}$")
 
     def test_a_broken_pipe(self):
         """It ends quietly, where it has something to tell and where it hasn't."""
