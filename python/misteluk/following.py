@@ -118,7 +118,7 @@ class Following(Iterator[Followed]):
         self._untaken: Deque[Followed] = deque()
         self._ending: Optional[Exception] = None
         self._is_stopped = self._is_done = False
-        self._progress = Progress(f"following {self.name}", None, progress)
+        self._progress = Progress(f"following {self.name}", None, progress, "rows")
 
     @property
     def faults(self) -> List[Refused]:

@@ -130,8 +130,8 @@ def follow(words: argparse.Namespace, store: Store, how: Dict[str, Any]) -> int:
         except StoreError:
             store.discard()  # (the fault says which rows aren't in)
             raise
-        following.clear_progress()
         left = ("; more is there that wasn't read" if following.has_unread else
                 "; the last line isn't whole yet, and not in" if following.half_line else "")
+        following.close()
         print(f"misteluk: {following.told}{left}", file=sys.stderr)
     return 0

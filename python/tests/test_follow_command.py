@@ -244,6 +244,21 @@ class FollowCommand(Case):
             self.assertEqual({**dict.fromkeys(found, 0), **model.weights()}, found)
         self.assertEqual((commit["rows"], commit["version"]), (9_000, 19))
 
+    def test_progress_ends_before_the_last_line(self):
+        """On a terminal, where tqdm is and where it isn't."""
+        class Terminal(io.StringIO):
+            def isatty(self):
+                return True
+        words = ("follow", self.file("p.csv", text_of(some_rows(30))), *OF_ROWS, "--until-end")
+        for there in ({}, {"tqdm": None}):
+            err = Terminal()
+            with mock.patch.dict("sys.modules", there), redirect_stdout(io.StringIO()), redirect_stderr(err):
+                self.assertEqual(main(words), 0)
+            *_, last = err.getvalue().splitlines()
+            self.assertTrue(last.endswith("p.csv: 30 rows to line 30 are in"), last)
+            self.assertTrue(err.getvalue().endswith(f"{last}\n"))
+            self.assertNotIn("records", err.getvalue())
+
     def test_questions(self):
         for text in ("degrees", "levels ana", "edge link ana 'bob b'", "into ana link"):
             question(text)
