@@ -113,8 +113,7 @@ class Following(Iterator[Followed]):
         self._lines: List[int] = []
         self._since = 0.0
         self._in = self._line = 0
-        # The times of all rows: the newest, up to where edges were let go, and the oldest that came since then.
-        self._newest, self._expired, self._oldest = -1, 0, records.MOST_TIME
+        self._newest, self._has_expiry = -1, False
         self._untaken: Deque[Followed] = deque()
         self._ending: Optional[Exception] = None
         self._is_stopped = self._is_done = False
@@ -236,8 +235,7 @@ class Following(Iterator[Followed]):
         self.store._kinds.update(dict.fromkeys(map(count.terms.names.to_user, dict.fromkeys(right.kinds))))
         self.store._pending.extend(operations)
         self._lines.extend(right.lines)
-        times = list(map(int, right.times))
-        self._newest, self._oldest = max(self._newest, *times), min(self._oldest, *times)
+        self._newest = max(self._newest, *map(int, right.times))
 
     def _before_the_first_bad(self, right: Block, operations: List[str]) -> Tuple[Block, List[str]]:
         """The rows before the first one that is bad; the feed ends there."""
@@ -254,8 +252,8 @@ class Following(Iterator[Followed]):
     def _commit(self) -> Followed:
         """Commits what is pending. Where that is refused or not answered all of it is pending still."""
         bound = self._newest - (self._pace.keep or 0)
-        if self._pace.keep is not None and bound > min(self._expired, self._oldest):
-            self._expired = self._oldest = bound  # (a batch that is sent again has its expiry)
+        if self._pace.keep is not None and bound > 0 and not self._has_expiry:
+            self._has_expiry = True  # (a batch that is sent again has its own)
             self.store._pending.append(f"x,{bound}\n")
         pending = self.store.pending
         try:
@@ -272,6 +270,7 @@ class Following(Iterator[Followed]):
 
     def _take_in(self) -> None:
         self._in, self._line, self._lines = self._in + len(self._lines), self._lines[-1], []
+        self._has_expiry = False
 
     def _with_rows(self, fault: StoreError, applied: bool) -> StoreError:
         """The fault, with the rows that aren't in; not all of them are where something was applied, as a caller's own batch."""

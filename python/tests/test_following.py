@@ -178,6 +178,16 @@ class Following(Case):
             steps.append(step.commit.expired)
         self.assertEqual(steps, [0, 1, 0, 1, 1, 0])
 
+    def test_expiry_of_what_a_caller_commits(self):
+        """The next commit lets it go, also where the newest time is what it was."""
+        rows = [("a", "b", 1, 100), ("c", "d", 1, 100), ("e", "f", 1, 100)]
+        followed, steps = self.follow(self.file("late.csv", text_of(rows)), keep=10, batch=2, until_end=True), []
+        for step in followed:
+            steps.append((step.commit.expired, followed.store.stat().edges))
+            followed.store.insert(KIND, "x", f"y{step.rows}", 1, 89)
+            followed.store.commit()
+        self.assertEqual(steps, [(0, 1), (1, 2), (1, 3)])
+
     def test_a_late_row_s_expiry_is_sent_once(self):
         """Where a batch with an expiry is refused the next step sends the same one."""
         store, rows = self.store(blocks=16), [("a", "b", 1, 100), *((f"s{it}", f"t{it}", 1, 5) for it in range(16))]
