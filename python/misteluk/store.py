@@ -206,7 +206,7 @@ class Store(Renewing):
         """A session that holds the last version, in the first free slot or in that one. One that nobody has any more, as where
         an interrupt came before it was given, is closed by the next `open`, `commit` or `collect`."""
         self._let_orphans_go()
-        self._go_on(2, 0)
+        self._go_on(2, 0, is_opening=True)
         faults = records.faults_of(("open", str(slot or 0)), self.seats)
         if faults:
             raise self._terms.refusal(faults[0])
