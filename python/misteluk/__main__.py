@@ -6,7 +6,8 @@ import code
 import csv
 import io
 import sys
-from contextlib import ExitStack
+import warnings
+from contextlib import ExitStack, contextmanager
 from typing import Any, Dict, Iterator, List, Optional
 
 from . import around, files, pictures, records, telling
@@ -226,6 +227,17 @@ def draw_versions(words: argparse.Namespace, store: Store, found: Survey) -> Any
                                  words.title or "Weight that goes out, in two sessions", "weight out")
 
 
+@contextmanager
+def plain_warnings() -> Iterator[None]:
+    """What is warned of is told as a fault is, without a line of the client's sources."""
+    before, warnings.formatwarning = warnings.formatwarning, lambda text, *_, **__: f"misteluk: {text}\n"
+    try:
+        yield
+    finally:
+        warnings.formatwarning = before
+
+
+@plain_warnings()
 def main(words: Optional[List[str]] = None) -> int:
     parsed = make_parser().parse_args(words)
     for it in (sys.stdout, sys.stderr):

@@ -101,9 +101,11 @@ def whole(path: Path) -> "Iterator[BinaryIO]":
             os.fsync(file.fileno())
         os.replace(beside, place)
         _keep_folder(os.path.dirname(place))
-    except BaseException:
+    except BaseException as fault:
         with contextlib.suppress(OSError):
             os.remove(beside)
+        if isinstance(fault, OSError) and fault.errno and fault.filename in (None, beside):
+            fault.filename = os.fspath(path)  # (a write names no file, and the other one is gone)
         raise
 
 

@@ -114,11 +114,11 @@ class Following(Iterator[Followed]):
         self._lines: List[int] = []
         self._since = 0.0
         self._in = self._line = 0
-        self._newest, self._expired = -1, 0
+        self._newest, self._has_expiry = -1, False
         self._untaken: Deque[Followed] = deque()
         self._ending: Optional[Exception] = None
         self._is_stopped = self._is_done = False
-        self._progress = Progress(f"following {self.name}", None, progress)
+        self._progress = Progress(f"following {self.name}", None, progress, "rows")
 
     @property
     def faults(self) -> List[Refused]:
@@ -128,11 +128,11 @@ class Following(Iterator[Followed]):
     @property
     def half_line(self) -> bool:
         """Whether there is a last line that isn't whole yet, and so isn't in."""
-        return self._incoming.is_half
+        return self._incoming.is_half and not self.has_unread
 
     @property
     def has_unread(self) -> bool:
-        """Whether it's a file that has more than was read of it, as where it was ended before."""
+        """Whether more is there than was read, as where it was stopped amid a long file."""
         return self._source.has_unread
 
     @property
@@ -253,8 +253,8 @@ class Following(Iterator[Followed]):
     def _commit(self) -> Followed:
         """Commits what is pending. Where that is refused or not answered all of it is pending still."""
         bound = self._newest - (self._pace.keep or 0)
-        if self._pace.keep is not None and bound > self._expired:
-            self._expired = bound
+        if self._pace.keep is not None and bound > 0 and not self._has_expiry:
+            self._has_expiry = True  # (a batch that is sent again has its own)
             self.store._pending.append(f"x,{bound}\n")
         pending = self.store.pending
         try:
@@ -266,10 +266,12 @@ class Following(Iterator[Followed]):
             raise self._with_rows(fault, self.store.pending < pending) from fault
         self._take_in()
         newest = self._count.terms.units.time_to_user(self._newest)
-        return Followed(receipt, self._in, self._count.bad, self._line, newest)
+        bad = self._count.bad if self._pace.skip_bad else 0  # (else it ends the feed, which is told then)
+        return Followed(receipt, self._in, bad, self._line, newest)
 
     def _take_in(self) -> None:
         self._in, self._line, self._lines = self._in + len(self._lines), self._lines[-1], []
+        self._has_expiry = False
 
     def _with_rows(self, fault: StoreError, applied: bool) -> StoreError:
         """The fault, with the rows that aren't in; not all of them are where something was applied, as a caller's own batch."""

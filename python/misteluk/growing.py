@@ -102,15 +102,21 @@ class Growing:
         poll.register(self._file, select.POLLIN)
         return bool(poll.poll(0))
 
+    @property
+    def has_unread(self) -> bool:
+        """Whether more is there than was read."""
+        if self.is_at_end or self._raw.closed:
+            return False
+        if self._is_file:
+            return os.lseek(self._file, 0, os.SEEK_CUR) < os.fstat(self._file).st_size
+        poll = select.poll()
+        poll.register(self._file, select.POLLIN)
+        return any(it & select.POLLIN for _, it in poll.poll(0))
+
     def _must_be_whole(self) -> None:
         at, size = os.lseek(self._file, 0, os.SEEK_CUR), os.fstat(self._file).st_size
         if size < at:
             raise FeedFault(f"{self.name} was cut to {size} bytes, and {at} were read of it: what it has now isn't known")
-
-    @property
-    def has_unread(self) -> bool:
-        """Whether a file has more than was read of it."""
-        return self._is_file and os.lseek(self._file, 0, os.SEEK_CUR) < os.fstat(self._file).st_size
 
     def close(self) -> None:
         """Gives the file back."""

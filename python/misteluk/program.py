@@ -71,6 +71,11 @@ def one_line(_: str) -> int:
     return 0
 
 
+def how_ended(status: int) -> str:
+    """How a program came to its end, by the status that Python gives it."""
+    return f"was ended by signal {-status}" if status < 0 else f"ended with status {status}"
+
+
 class Conversation:
     """A run of the program. Records are written and lines read in one loop that waits for both, so that neither side can
     block the other; what a time limit leaves undone the next call takes up. It must not be interrupted between two steps, so its
@@ -301,8 +306,7 @@ class Conversation:
         """Why the program came to its end."""
         if self._fault is None:
             status = self._wait(5.0)
-            how = "goes on without its output" if status is None else (
-                f"was ended by signal {-status}" if status < 0 else f"ended with status {status}")
+            how = "goes on without its output" if status is None else how_ended(status)
             self._drain()
             text = f"the program {how} before record {self._waits_for()} was answered"
             self._fault = ProgramEnded(text, status, self._said.decode(errors="replace").strip())

@@ -45,6 +45,7 @@ class Progress:
             self.bar.close()
         elif self.shown:
             print("\r\033[K", end="", file=sys.stderr, flush=True)
+        self.bar, self.shown = None, False
 
 
 @contextmanager

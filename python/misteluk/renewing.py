@@ -63,8 +63,9 @@ class Renewing(Batches):
     # How many batches the program in use has had; and how many may be before another is begun.
     _batches = 0
     _most_batches = records.MOST_BATCHES
-    # How many edges the last version has, and how many versions were made in programs before the one in use.
-    _edges = _versions_before = 0
+    # How many edges the last version has, how many versions were made in programs before the one in use, and how many records its
+    # copy took.
+    _edges = _versions_before = _copied = 0
     # A rebase that was sent, and whether what it did is counted.
     _rebasing: "Optional[Tuple[Session, Awaited]]" = None
     _is_rebase_counted = False
@@ -97,16 +98,17 @@ class Renewing(Batches):
         """How many records are spared, beside one for each edge that a copy asks for."""
         return FOR_A_COPY + self._most_records // FOR_SESSIONS
 
-    def _go_on(self, count: int, more: int) -> Asking:
+    def _go_on(self, count: int, more: int, is_opening: bool = False) -> Asking:
         """Where it is time, begins a new program before so many records are sent, by which there are so many more candidates at
-        most. Gives what was in use before."""
+        most. A session that is opened then can be asked for all edges once. Gives what was in use before."""
         if not self._endless:
             return self
         if more and self._flight is None:
             self._warn_of_many()
         before: Asking = self
         can_be_asked = more > 0 or self._talk.records + count <= self._most_records
-        if self._flight is None and can_be_asked and self._is_due(count + more):
+        is_due = self._is_due(count + more) or is_opening and self._is_short(count)
+        if self._flight is None and can_be_asked and is_due:
             before = self._renewed_or_not(must=more > 0)
         self._talk.most_at_once = self._most_records - self._index.most - more - self._spared
         return before
@@ -120,6 +122,16 @@ class Renewing(Batches):
             return True
         left = self._most_records - self._spared - self._talk.records - count
         return left < self._index.most and left < len(self._candidates())
+
+    def _is_short(self, count: int) -> bool:
+        """Whether a session's reading of all edges would leave too few records for a copy. The new program would then be begun
+        amid it, and the rest be too many. A program that has had little but its copy is no shorter than a new one."""
+        since = self._talk.records - self._copied
+        left = self._most_records - self._spared - self._talk.records - count
+        if self._too_many or left >= 2 * self._index.most or since <= self._edges:
+            return False
+        edges = len(self._candidates())
+        return left < 2 * edges and since > edges
 
     def _renewed_or_not(self, must: bool) -> Asking:
         """Begins a new program, unless the last version is too large: then this one goes on to its end, and that is told. What
@@ -244,7 +256,7 @@ class Renewing(Batches):
         self._talks.append(talk)
         self._formers.append(former)
         self.__dict__.update(_talk=talk, _sessions={}, _orphans=[], _index=index, _versions_before=version - batches,
-                             _batches=batches, _edges=edges, _too_many=0, _has_failed=False)
+                             _batches=batches, _edges=edges, _copied=talk.records, _too_many=0, _has_failed=False)
         former.let_go()
         return former
 

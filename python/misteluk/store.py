@@ -17,7 +17,7 @@ from .feeds import Columns
 from .finding import Path, find_program
 from .former import Former, take_up_all
 from .index import Index
-from .program import Awaited, Conversation
+from .program import Awaited, Conversation, how_ended
 from .renewing import Renewed, Renewing
 from .session import Session
 from .terms import Terms
@@ -206,7 +206,7 @@ class Store(Renewing):
         """A session that holds the last version, in the first free slot or in that one. One that nobody has any more, as where
         an interrupt came before it was given, is closed by the next `open`, `commit` or `collect`."""
         self._let_orphans_go()
-        self._go_on(2, 0)
+        self._go_on(2, 0, is_opening=True)
         faults = records.faults_of(("open", str(slot or 0)), self.seats)
         if faults:
             raise self._terms.refusal(faults[0])
@@ -253,7 +253,7 @@ class Store(Renewing):
         if flight and flight.from_pending and flight.done.head is not None:
             del self._pending[:flight.size]
         if status != (1 if self._talk.refusals else 0) or left:
-            raise ProgramEnded(f"the program ended with status {status}" + "".join(f"; {it}" for it in left), status)
+            raise ProgramEnded(f"the program {how_ended(status)}" + "".join(f"; {it}" for it in left), status)
         return [f"{self._terms.told(it)}\n" for it in self._pending]
 
     def _forget_sessions(self) -> None:
@@ -273,7 +273,8 @@ class Store(Renewing):
         try:
             lost = len(self._end())
         except StoreError as second:
-            warnings.warn(f"closing the store: {second}", stacklevel=2)
+            if str(second) not in str(fault):
+                warnings.warn(f"closing the store: {second}", stacklevel=2)
         else:
             if lost:
                 warnings.warn(f"{lost} operations were pending and are not applied", stacklevel=2)

@@ -6,8 +6,9 @@ import json
 import os
 import signal
 import sys
+import time
 from contextlib import contextmanager
-from typing import Any, Callable, Dict, Iterator, Optional
+from typing import Any, Callable, Dict, Iterator, List, Optional
 
 from .errors import StoreError
 from .following import Followed, Following, kept_time
@@ -15,22 +16,30 @@ from .questions import for_json, lines
 from .store import Store
 
 SIGNALS = (signal.SIGINT, signal.SIGTERM)
+# Signals within so many seconds are one: `timeout` sends its own to the process and to the group that it is in.
+AT_ONCE = 0.2
 
 
 @contextmanager
 def ended_by_signals(stop: Callable[[], None]) -> Iterator[None]:
-    """Ctrl-C and SIGTERM call `stop` meanwhile; the second of them ends the process at once."""
+    """Ctrl-C and SIGTERM call `stop` meanwhile; another of them that comes behind it ends the process at once."""
     before = {it: signal.getsignal(it) for it in SIGNALS}
+    heard: List[float] = []
 
-    def hear(*_: Any) -> None:
-        for it in SIGNALS:
-            signal.signal(it, signal.SIG_DFL)
-        stop()
+    def hear(number: int, _: Any) -> None:
+        heard.append(time.monotonic())
+        if len(heard) == 1:
+            stop()
+        elif heard[-1] - heard[0] > AT_ONCE:
+            signal.signal(number, signal.SIG_DFL)
+            os.kill(os.getpid(), number)
     for it in SIGNALS:
         signal.signal(it, hear)
     try:
         yield
     finally:
+        if heard:
+            time.sleep(max(0.0, heard[0] + AT_ONCE - time.monotonic()))
         for it, how in before.items():
             signal.signal(it, how)
 
@@ -126,8 +135,8 @@ def follow(words: argparse.Namespace, store: Store, how: Dict[str, Any]) -> int:
         except StoreError:
             store.discard()  # (the fault says which rows aren't in)
             raise
-        following.clear_progress()
-        rest = ("; the file has more, which isn't in" if following.has_unread else
+        left = ("; more is there that wasn't read" if following.has_unread else
                 "; the last line isn't whole yet, and not in" if following.half_line else "")
-        print(f"misteluk: {following.told}{rest}", file=sys.stderr)
+        following.close()
+        print(f"misteluk: {following.told}{left}", file=sys.stderr)
     return 0

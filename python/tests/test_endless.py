@@ -500,6 +500,28 @@ class Endless(Case):
         feed.step()
         feed.is_right(self)
 
+    def test_all_edges_of_each_session(self):
+        """Who opens a session and asks it for all edges at once never meets a program's end, nor a new program at each."""
+        share = mock.patch.object(renewing, "FOR_SESSIONS", 10)  # (fewer than a reading takes)
+        share.start()
+        self.addCleanup(share.stop)
+        for count, most in ((1_400, 20), (1_700, 25), (100, 2)):
+            store, graph = self.store(blocks=8192, endless=True), Graph()
+            store._fewer_records = 9_000
+            for at in range(40):
+                for it in range(count if at == 0 else 5):
+                    edge = "truck", f"s{it % 300}", f"t{it if at == 0 else at}"
+                    store.add(*edge, 1, at)
+                    graph.add(*edge, 1, at)
+                store.commit()
+                with store.open() as session:
+                    self.assertEqual({edge[:3]: edge[3] for edge in session.edges()}, graph.edges)
+            self.assertLess(len(store.renewals), most)
+
+    def test_the_end_of_a_session_s_program_is_found(self):
+        with mock.patch.object(renewing.Renewing, "_is_short", lambda *_: False), self.assertRaises(misteluk.RecordLimit):
+            self.test_all_edges_of_each_session()
+
     def test_a_load(self):
         """One that this program has no records for any more goes into the next."""
         store = self.store(blocks=8192, seats=2, endless=True)

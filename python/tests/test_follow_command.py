@@ -3,6 +3,7 @@ import fcntl
 import io
 import json
 import os
+import pathlib
 import re
 import signal
 import struct
@@ -14,7 +15,7 @@ import unittest
 from contextlib import redirect_stderr, redirect_stdout
 from unittest import mock
 
-from support import HERE, Case
+from support import HERE, Case, find_program
 from test_following import Model, some_rows, text_of
 
 from misteluk.__main__ import main
@@ -144,8 +145,29 @@ class FollowCommand(Case):
         out, err = process.communicate(timeout=60)
         rows = sum(int(it) for it in re.findall(rb"(?m)^version \d+: (\d+) rows", out)[-1:])
         self.assertEqual((process.returncode, err.decode()), (
-            0, f"misteluk: {path}: {rows} rows to line {rows} are in; the file has more, which isn't in\n"))
+            0, f"misteluk: {path}: {rows} rows to line {rows} are in; more is there that wasn't read\n"))
         self.assertLess(rows, 100_000)
+
+    def test_a_file_that_is_replaced(self):
+        """The pipe of the page: all rows of both files come, and no header."""
+        path = self.file("now.csv", "from,to,tons,day\n" + text_of((f"s{it}", "t", 1, it) for it in range(30)))
+        tail = subprocess.Popen(["tail", "-n", "+1", "-F", path], stdout=subprocess.PIPE, stderr=subprocess.DEVNULL)
+        grep = subprocess.Popen(["grep", "--line-buffered", "-v", "^from,to"], stdin=tail.stdout, stdout=subprocess.PIPE)
+        self.addCleanup(self.end, grep)
+        self.addCleanup(self.end, tail)
+        process = self.start("-", "--json", "--every", "10ms", stdin=grep.stdout)
+
+        def read_to(count):
+            while True:
+                told = json.loads(process.stdout.readline())
+                if told["rows"] >= count:
+                    return told["rows"], told["newest"]
+        self.assertEqual(read_to(30), (30, 29))
+        os.rename(path, f"{path}.1")
+        self.file("now.csv", "from,to,tons,day\ns1,t,2,30\n")
+        self.assertEqual(read_to(31), (31, 30))
+        tail.terminate()
+        self.assertEqual((process.wait(60), process.stdout.read()), (0, b""))
 
     def test_a_second_signal_ends_it_at_once(self):
         """Also where the program doesn't answer."""
@@ -159,6 +181,35 @@ class FollowCommand(Case):
             self.assertIsNone(process.poll())
             process.send_signal(number)
             self.assertEqual(process.wait(5), -number)
+
+    def test_two_signals_at_once_are_one(self):
+        """As those of `timeout` are."""
+        process = self.start("-", "--every", "1h")
+        os.write(process.stdin.fileno(), b"a,b,1,1\n")
+        self.wait(lambda: is_read(process.stdin.fileno()), "it reads")
+        for _ in range(4):
+            process.send_signal(signal.SIGTERM)
+            time.sleep(0.002)
+        self.assertEqual((process.wait(60), process.stdout.read().count(b"1 rows to line 1")), (0, 1))
+        self.assertEqual(process.stderr.read(), b"misteluk: standard input: 1 rows to line 1 are in\n")
+
+    def test_a_program_that_ends(self):
+        """That is told once, and by no line of the client's sources; also where no row comes behind it."""
+        script = f"#!/bin/sh\necho $$ > {self.room}/number\nexec \"{find_program()}\" \"$@\"\n"
+        program = pathlib.Path(self.file("program", script))
+        program.chmod(0o755)
+        ended = r"misteluk: the program was ended by signal 9"
+        lost = r" before record \d+ was answered; 1 rows of standard input, lines 2 to 2, were not answered, and the graph is "
+        for more, told in ((b"b,c,1,1\n", ended + lost + r"gone with the program\n"),
+                           (b"", r"misteluk: standard input: 1 rows to line 1 are in\n" + ended + r"\n")):
+            process = self.start("-", "--every", "0", "--program", str(program))
+            os.write(process.stdin.fileno(), b"a,b,1,1\n")
+            process.stdout.readline()
+            os.kill(int((self.room / "number").read_text()), signal.SIGKILL)
+            process.stdin.write(more)
+            process.stdin.close()
+            self.assertEqual(process.wait(60), 1)
+            self.assertRegex(process.stderr.read().decode(), f"^{told}$")
 
     def test_a_broken_pipe(self):
         """It ends quietly, where it has something to tell and where it hasn't."""
@@ -205,6 +256,21 @@ class FollowCommand(Case):
             found = {it["name"]: it["weight_out"] for it in degrees["most"]}
             self.assertEqual({**dict.fromkeys(found, 0), **model.weights()}, found)
         self.assertEqual((commit["rows"], commit["version"]), (9_000, 19))
+
+    def test_progress_ends_before_the_last_line(self):
+        """On a terminal, where tqdm is and where it isn't."""
+        class Terminal(io.StringIO):
+            def isatty(self):
+                return True
+        words = ("follow", self.file("p.csv", text_of(some_rows(30))), *OF_ROWS, "--until-end")
+        for there in ({}, {"tqdm": None}):
+            err = Terminal()
+            with mock.patch.dict("sys.modules", there), redirect_stdout(io.StringIO()), redirect_stderr(err):
+                self.assertEqual(main(words), 0)
+            *_, last = err.getvalue().splitlines()
+            self.assertTrue(last.endswith("p.csv: 30 rows to line 30 are in"), last)
+            self.assertTrue(err.getvalue().endswith(f"{last}\n"))
+            self.assertNotIn("records", err.getvalue())
 
     def test_questions(self):
         for text in ("degrees", "levels ana", "edge link ana 'bob b'", "into ana link"):

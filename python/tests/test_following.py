@@ -14,8 +14,7 @@ from interrupting import handler, interrupt_in_a_call, made_at_once
 from support import Case
 
 import misteluk
-from misteluk import Columns, calls, delimited, following, growing
-from misteluk.feeds import rows_of
+from misteluk import Columns, calls, delimited, feeds, following, growing
 
 COLUMNS = Columns(1, 2, weight=3, time=4)
 KIND = "link"
@@ -126,6 +125,25 @@ class Following(Case):
         (step,) = self.follow(self.file("end.csv", "a,b,1,1\nb,c,12,3"), until_end=True)
         self.assertEqual((step.rows, step.line), (2, 2))
 
+    def test_what_wasn_t_read(self):
+        """It is told where it was stopped amid a file or pipe: the line that was cut by the reading is no half one."""
+        text = text_of(some_rows(9_000)).encode()
+        read, write = os.pipe()
+        followed = self.follow(self.enter(os.fdopen(read, "rb")), batch=100)
+        few = mock.patch.object(growing, "MOST_READ", 2_001)
+        few.start()
+        self.addCleanup(few.stop)
+        (self.room / "long.csv").write_bytes(text)
+        os.write(write, text[:10_000])
+        for it in (followed, self.follow(str(self.room / "long.csv"), batch=100)):
+            next(it)
+            it.stop()
+            rows = [step.rows for step in it][-1:] or [100]
+            self.assertEqual((it.half_line, it.has_unread, rows[0]), (False, True, text[:2_001].count(b"\n")))
+            it.close()
+            self.assertEqual(it.has_unread, False)
+        os.close(write)
+
     def test_expiry(self):
         rows = some_rows(5000)
         for by, keep, batch in (("add", 300, 200), ("set", 900, 333), ("add", 0, 500)):
@@ -149,6 +167,34 @@ class Following(Case):
                 self._newest -= 1
         with mock.patch.object(following.Following, "_commit", late), self.assertRaises(AssertionError):
             self.test_expiry()
+
+    def test_expiry_of_late_rows(self):
+        """A row that comes too late goes with its own commit, though the newest time is what it was."""
+        rows = [("a", "b", 1, 100), ("c", "d", 1, 50), ("a", "b", 1, 95), ("e", "f", 1, 89), ("a", "b", 1, 20), ("g", "h", 1, 90)]
+        followed = self.follow(self.file("late.csv", text_of(rows)), keep=10, batch=2, until_end=True)
+        model, steps = Model(rows, "add", 10), []
+        for step in followed:
+            self.check(step, followed, model)
+            steps.append(step.commit.expired)
+        self.assertEqual(steps, [0, 1, 0, 1, 1, 0])
+
+    def test_expiry_of_what_a_caller_commits(self):
+        """The next commit lets it go, also where the newest time is what it was."""
+        rows = [("a", "b", 1, 100), ("c", "d", 1, 100), ("e", "f", 1, 100)]
+        followed, steps = self.follow(self.file("late.csv", text_of(rows)), keep=10, batch=2, until_end=True), []
+        for step in followed:
+            steps.append((step.commit.expired, followed.store.stat().edges))
+            followed.store.insert(KIND, "x", f"y{step.rows}", 1, 89)
+            followed.store.commit()
+        self.assertEqual(steps, [(0, 1), (1, 2), (1, 3)])
+
+    def test_a_late_row_s_expiry_is_sent_once(self):
+        """Where a batch with an expiry is refused the next step sends the same one."""
+        store, rows = self.store(blocks=16), [("a", "b", 1, 100), *((f"s{it}", f"t{it}", 1, 5) for it in range(16))]
+        followed = self.follow(self.file("late.csv", text_of(rows)), store, keep=10, batch=20, until_end=True)
+        for _ in range(2):
+            self.assertRaises(misteluk.PoolEmpty, next, followed)
+            self.assertEqual((store.pending, store._pending.count("x,90\n")), (18, 1))
 
     def test_batches_are_full(self):
         path = self.file("full.csv", text_of(some_rows(10_000)))
@@ -193,7 +239,8 @@ class Following(Case):
     def test_bad_rows(self):
         text = "a,b,1,1\nb,c,2,2\nb,,3,3\nc,d,x,4\nd,e,5,5\n"
         followed = self.follow(self.file("bad.csv", text), until_end=True)
-        self.assertEqual(next(followed).rows, 2)
+        step = next(followed)
+        self.assertEqual((step.rows, step.bad, "passed over" in str(step)), (2, 0, False))
         with self.assertRaises(misteluk.BadRows) as told:
             next(followed)
         self.assertIn("can't be taken, and those before line 3 are in, and none behind it\n", str(told.exception))
@@ -322,7 +369,7 @@ class Rows(Case):
                     write = 0
                 data = data[more:]
                 for block in rows.take(source.lines(), source.is_at_end):
-                    found += rows_of(block)
+                    found += feeds.rows_of(block)
             source.close()
             return found
 

@@ -135,9 +135,15 @@ class Faults(Case):
         self.path.write_bytes(self.old)
         for name in ("fsync", "replace", "fchmod"):
             with mock.patch.object(os, name, side_effect=OSError(errno.ENOSPC, "No space left on device")):
-                with self.assertRaises(OSError):
+                with self.assertRaises(OSError) as told:
                     self.session.save(self.path)
             self.assertTrue(self.is_old(), name)
+            self.assertEqual(str(told.exception), f"[Errno 28] No space left on device: '{self.path}'")
+        with mock.patch.object(files, "open", side_effect=lambda path, _: os.open(path, os.O_RDONLY), create=True):
+            with self.assertRaisesRegex(FileNotFoundError, f"'{self.path}'$"):
+                self.session.save(self.path)
+        with files_of_at_most(20), self.assertRaisesRegex(OSError, "File too large: '.*/e.csv'$"):
+            self.session.to_csv(self.room / "e.csv")
 
     def test_what_is_killed(self):
         """The program while it is asked; and the process that saves, before the file has its name."""
