@@ -107,8 +107,8 @@ class Fold:
         self.removed: Dict[int, int] = {}
         # The expiries' times and versions.
         self.expiries: List[Tuple[int, int]] = []
-        # What the numbers of a feed's table are here.
-        self.tables: Dict[Table, Tuple[List[int], List[int]]] = {}
+        # What the numbers of a feed's table are here; `None` where all are the same.
+        self.tables: Dict[Table, Optional[Tuple[List[int], List[int]]]] = {}
 
     def put(self, told: Told) -> None:
         if isinstance(told.operations, Rows):
@@ -142,14 +142,21 @@ class Fold:
     def _put_rows(self, rows: Rows, refused: Collection[int]) -> None:
         if rows.table not in self.tables:
             # (lists: a feed that is counted still, in another thread, may get more of them)
-            self.tables[rows.table] = (list(map(self.kinds.__getitem__, list(rows.table.kinds))),
-                                       list(map(self.names.__getitem__, list(rows.table.names))))
-        kinds, names = self.tables[rows.table]
-        keys = [kinds[it >> KIND] << KIND | names[it >> BITS & MASK] << BITS | names[it & MASK] for it in rows.keys]
-        times = list(map(int, rows.times.split(b",")))
+            kinds, names = (list(map(here.__getitem__, list(there)))
+                            for here, there in ((self.kinds, rows.table.kinds), (self.names, rows.table.names)))
+            is_same = all(numbers == list(range(len(numbers))) for numbers in (kinds, names))
+            self.tables[rows.table] = None if is_same else (kinds, names)
+        keys, times = self._keys_here(rows), list(map(int, rows.times.split(b",")))
         if refused:
             keys, times = ([it for at, it in enumerate(all_) if at not in refused] for all_ in (keys, times))
         self._put_edges(keys, times)
+
+    def _keys_here(self, rows: Rows) -> List[int]:
+        numbers = self.tables[rows.table]
+        if numbers is None:  # (as of the first load of a store: they needn't be turned one by one)
+            return rows.keys.tolist()
+        kinds, names = numbers
+        return [kinds[it >> KIND] << KIND | names[it >> BITS & MASK] << BITS | names[it & MASK] for it in rows.keys]
 
     def _put_edges(self, keys: Sequence[int], times: Sequence[int]) -> None:
         latest = self.latest
@@ -168,8 +175,9 @@ class Fold:
         base, times = self.base, self.base.latest[:]
         has_gone = bool(base.gone or self.removed or self.expiries)
         gone = base.gone[:] or array("I", bytes(4 * len(base) * has_gone))
-        new: List[int] = []
-        for key in sorted(self.latest):
+        told = sorted(self.latest)
+        new = [] if base.keys else told
+        for key in told if base.keys else ():
             at = place_of(base.keys, key)
             if at is None:
                 new.append(key)
@@ -183,7 +191,7 @@ class Fold:
         lost = [at for at, version in enumerate(gone) if 0 < version <= most] if is_lost else []
         new = [key for key in new if not 0 < of_new.get(key, 0) <= most] if of_new else new
         kept = without(base.keys, lost)
-        places = [bisect_left(kept, key) for key in new]
+        places = [bisect_left(kept, key) for key in new] if kept else [0] * len(new)
         since = with_more(without(gone, lost), places, [of_new.get(key, 0) for key in new]) if has_gone else gone
         return Candidates(
             list(self.kinds), base.names.and_more(self.names.new), with_more(kept, places, new),
