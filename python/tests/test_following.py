@@ -337,8 +337,9 @@ class Following(Case):
         self.interrupted(40)
 
     def test_interrupts_find_a_fault(self):
+        """Where a step is lost the feed ends early, and an alarm may still come in the place of that."""
         for where, name, fault in ((calls.Calls, "make", made_at_once), (following.Following, "_keep_untaken", lambda *_: None)):
-            with mock.patch.object(where, name, fault), self.assertRaises(Exception):
+            with mock.patch.object(where, name, fault), self.assertRaises((Exception, KeyboardInterrupt)):
                 self.interrupted(60)
 
     def test_an_edge_list(self):
