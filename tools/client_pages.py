@@ -109,8 +109,8 @@ complete -o default -F _{name} {name}
 def bash(parser, version):
     commands = {command: it for command, (it, _) in subcommands(parser).items()}
     # A place that has choices is the first behind its command.
-    values = [f"    '{command} {name}') words='{' '.join(one.choices)}' ;;" for command, it in commands.items()
-              for one in it._actions if one.choices for name in one.option_strings or [command]]
+    values = [f"    '{command} {name}') words='{' '.join(offered_for(one))}' ;;" for command, it in commands.items()
+              for one in it._actions if offered_for(one) for name in one.option_strings or [command]]
     words = [f"            {command}) words='{' '.join(name for one in options(it) for name in one.option_strings)}' ;;"
              for command, it in commands.items()]
     top = [*commands, *(name for one in options(parser) for name in one.option_strings)]
@@ -142,11 +142,17 @@ def quoted(text):
     return "'" + text.replace("'", "'\\''") + "'"
 
 
+def offered_for(action):
+    """The words that are offered for a value: the choices, or what a question may begin with."""
+    from misteluk.questions import NAMES  # (found since `client` was called)
+    return action.choices or (NAMES if action.metavar == "QUESTION" else ())
+
+
 def takes(action):
-    """What zsh offers for a value: the choices, files, or nothing."""
+    """What zsh offers for a value: words, files, or nothing."""
     if action.nargs == 0:
         return ""
-    offered = f"({' '.join(action.choices)})" if action.choices else "_files" if action.dest in FILES else " "
+    offered = f"({' '.join(offered_for(action))})" if offered_for(action) else "_files" if action.dest in FILES else " "
     return f":{action.dest}:{offered}"
 
 

@@ -118,14 +118,14 @@ def tell(words: argparse.Namespace, found: Survey) -> None:
 
 
 def answer(words: argparse.Namespace, session: Session, is_part: bool = False) -> Iterator[str]:
-    """The lines of the tables that are asked for. A part of a fleet needn't have the sources of levels."""
-    questions = [Question(it, it) for it in words.ask]
+    """The lines of what is asked for. A part of a fleet needn't have the names."""
+    questions: List[Question] = [*words.ask]
     questions += [Question(f"levels from {shown(it)}", "levels", (it,)) for it in words.levels]
     for it in questions:
         try:
             yield from all_lines(it, session, words.top, words.column, window(words))
         except (NoVertex, NoKind):
-            if not is_part or it.what != "levels":
+            if not is_part or not it.names:
                 raise
             yield f"{it.text}: no such name or kind"
 

@@ -34,6 +34,10 @@ def asked(text: str) -> Question:
 BLOCKS = "as many as are needed, and no fewer than 16,384; where a file is loaded that has two full batches, 65,536"
 
 
+QUESTIONS = ("degrees, components or cores, with a kind behind them or none; 'levels NAME', 'into NAME', 'out_of NAME', 'path "
+             "SOURCE TARGET' or 'edge KIND SOURCE TARGET'")
+
+
 def add_feed_options(parser: argparse.ArgumentParser, blocks: Optional[str] = BLOCKS) -> None:
     parser.add_argument("file", help="a delimited file, an edge list (SNAP), or a Matrix Market file; .gz is unpacked; - is "
                         "standard input")
@@ -80,8 +84,8 @@ def add_table_options(group: Any) -> None:
 
 
 def add_questions(group: Any) -> None:
-    group.add_argument("--ask", action="append", default=[], choices=("degrees", "components", "cores"), help="print a table; "
-                       "--ask and --levels may be said several times")
+    group.add_argument("--ask", action="append", default=[], type=asked, metavar="QUESTION", help=f"print {QUESTIONS}; --ask and "
+                       "--levels may be said several times")
     group.add_argument("--levels", action="append", default=[], metavar="NAME", help="print the levels from a source")
     add_table_options(group)
 
@@ -130,8 +134,7 @@ def add_follow(follow: argparse.ArgumentParser) -> None:
                       "12h or 14d where they are dates, else a whole number")
     live.add_argument("--until-end", action="store_true", help="end at the file's end, and don't wait for what it grows by")
     told = follow.add_argument_group("what is told behind each commit")
-    told.add_argument("--ask", action="append", default=[], type=asked, metavar="QUESTION", help="degrees, components or cores, "
-                      "with a kind behind them or none; 'levels NAME', 'into NAME', 'out_of NAME' or 'edge KIND SOURCE TARGET'")
+    told.add_argument("--ask", action="append", default=[], type=asked, metavar="QUESTION", help=QUESTIONS)
     told.add_argument("--within", metavar="TIME", help="answer over edges that were touched within so long of the newest time")
     told.add_argument("--json", action="store_true", help="tell each commit and each answer as a line of JSON")
     add_table_options(told)

@@ -12,11 +12,13 @@ from .names import shown
 from .session import Session
 
 # How many names each question has, a kind behind them aside; the kind of an edge stands before them.
-NAMES = {"degrees": 0, "components": 0, "cores": 0, "levels": 1, "into": 1, "out_of": 1, "edge": 3}
+NAMES = {"degrees": 0, "components": 0, "cores": 0, "levels": 1, "into": 1, "out_of": 1, "path": 2, "edge": 3}
+FORMS = {0: "[KIND]", 1: "NAME [KIND]", 2: "SOURCE TARGET [KIND]", 3: "KIND SOURCE TARGET"}
 
 
 class Question(NamedTuple):
-    """What is asked, and how it's told of: a table, levels from a name, an edge, or those beside a name; of a kind, or of any."""
+    """What is asked, and how it's told of: a table, levels from a name, a path, an edge, or those beside a name; of a kind, or of
+    any."""
 
     text: str
     what: str
@@ -42,7 +44,7 @@ def question(text: str) -> Question:
         raise ValueError(f"a question is one of {', '.join(NAMES)}, and not {what!r}")
     count = NAMES[what]
     if not count <= len(words) <= count + (what != "edge"):
-        form = "KIND SOURCE TARGET" if what == "edge" else "[KIND]" if not count else "NAME [KIND]"
+        form = FORMS[count]
         spaces = ". A name with spaces stands within quotes" if len(words) > count > 0 else ""
         raise ValueError(f"{what} is asked as `{what} {form}`, and not as {text!r}{spaces}")
     kind = words[count] if len(words) > count else None
@@ -89,6 +91,11 @@ def _weight(row: Tuple[str, Edge]) -> Any:
     return row[1].weight
 
 
+def _path(it: Question, session: Session, _: int, __: str, window: Dict[str, Any]) -> Dict[str, Any]:
+    source, target = it.names
+    return {"path": session.path(source, target, **_window(it, window))}
+
+
 def _edge(it: Question, session: Session, _: int, __: str, ___: Dict[str, Any]) -> Dict[str, Any]:
     kind, source, target = it.names
     edge = session.edge(kind, source, target)
@@ -96,7 +103,7 @@ def _edge(it: Question, session: Session, _: int, __: str, ___: Dict[str, Any]) 
 
 
 _ANSWERS = {"degrees": _table, "cores": _table, "components": _components, "levels": _levels, "into": _beside, "out_of": _beside,
-            "edge": _edge}
+            "path": _path, "edge": _edge}
 
 
 def lines(asked: Question, found: Dict[str, Any], top: int) -> Iterator[str]:
@@ -106,6 +113,10 @@ def lines(asked: Question, found: Dict[str, Any], top: int) -> Iterator[str]:
     elif "levels" in found:
         yield f"{asked.text}: {found['reached']} reached, the farthest at {len(found['levels']) - 1}"
         yield from (f"  {level}: {count}" for level, count in enumerate(found["levels"][:top]))
+    elif "path" in found:
+        walk: Optional[List[str]] = found["path"]
+        yield f"{asked.text}: " + (f"{len(walk) - 1} step{'s' * (len(walk) != 2)}" if walk else "none")
+        yield from (f"  {shown(it)}" for it in walk or ())
     elif "edge" in found:
         edge: Optional[Dict[str, Any]] = found["edge"]
         yield f"{asked.text}: " + (f"weight {edge['weight']} first {edge['first']} recent {edge['recent']}" if edge else "none")

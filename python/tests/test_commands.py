@@ -46,6 +46,16 @@ class Commands(Case):
         self.load("levels from a: 4 reached, the farthest at 2\n  0: 1\n  1: 2\n  2: 1", "--add", "--levels", "a")
         self.load("levels from a: 2 reached, the farthest at 1\n  0: 1\n  1: 1", "--add", "--levels", "a", "--until", "11")
 
+    def test_load_and_ask_of_names(self):
+        """Weights are sums, and a path goes along edges."""
+        self.load("into b: 1 edge\n  a weight 5 first 10 recent 13", "--add", "--ask", "into b")
+        self.load("out_of a: 2 edges\n  b weight 5 first 10 recent 13", "--add", "--ask", "out_of a", "--top", "1")
+        self.load("path a d: 2 steps\n  a\n  c\n  d\npath d a: none\npath x y link: 1 step\n  x\n  y\npath a a: 0 steps\n  a",
+                  "--add", "--ask", "path a d", "--ask", "path d a", "--ask", "path x y link", "--ask", "path a a")
+        self.load("edge link a b: weight 5 first 10 recent 13", "--add", "--ask", "edge link a b")
+        status, out, err = self.run_it("load", self.file("p.csv", PAIRS), *OF_PAIRS, "--add", "--ask", "path a nobody")
+        self.assertEqual((status, "NoVertex" in err), (1, True))
+
     def test_a_kind_by_column(self):
         path = self.file("k.csv", "kind,source,target\nowns,a,b\nknows,b,c\n")
         status, out, _ = self.run_it("load", path, "--set", "--kind-column", "kind", "--of-kind", "owns", "--levels", "a")
