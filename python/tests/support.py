@@ -54,6 +54,12 @@ class Case(unittest.TestCase):
         store.discard()
         store.close()
 
+    def kill(self, store: Store) -> None:
+        """Ends a store's programs: what a test plants may leave one that can't be closed. To be put in the place of `let_go`."""
+        store._closed = True
+        for it in list(store._talks):
+            it.kill()
+
     def feed(self, store: Store, *operations: str) -> None:
         for it in operations:
             word, *names = it.split()

@@ -275,9 +275,9 @@ class Endless(Case):
         self.assertTrue(has_ended(former) and has_ended(last))
         self.assertRaises(misteluk.SessionClosed, session.degrees)
 
-    def interrupted(self, count):
+    def interrupted(self, count, **options):
         """Commits that are interrupted, while a new program is begun nearly each time."""
-        feed, interrupts, within, real = Feed(self, records=3_000), 0, [0], renewing.Renewing._renew
+        feed, interrupts, within, real = Feed(self, records=3_000, **options), 0, [0], renewing.Renewing._renew
         in_renewal = [False]
 
         def renew(store):
@@ -327,9 +327,10 @@ class Endless(Case):
         self.assertEqual((len(feed.store._talks), feed.store._formers), (1, []))
 
     def test_interrupts_find_a_fault(self):
+        self.let_go = self.kill
         with mock.patch.object(calls.Calls, "make", made_at_once), warnings.catch_warnings():
             warnings.simplefilter("ignore")
-            self.assertRaises(Exception, self.interrupted, 12)
+            self.assertRaises((Exception, KeyboardInterrupt), self.interrupted, 12, timeout=2)
 
     def test_a_new_program_that_ends(self):
         """The one in use stays so, and nothing that is pending was sent; the next commit tries again."""

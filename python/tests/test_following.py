@@ -338,6 +338,7 @@ class Following(Case):
 
     def test_interrupts_find_a_fault(self):
         """Where a step is lost the feed ends early, and an alarm may still come in the place of that."""
+        self.let_go = self.kill
         for where, name, fault in ((calls.Calls, "make", made_at_once), (following.Following, "_keep_untaken", lambda *_: None)):
             with mock.patch.object(where, name, fault), self.assertRaises((Exception, KeyboardInterrupt)):
                 self.interrupted(60)
