@@ -46,19 +46,25 @@ class Documents(Case):
                     "MISTELUK_PROGRAM": find_program()}
 
     def run_commands(self, path) -> int:
-        count = 0
+        """Runs the client's commands, and what stands before them on the page: a function of the shell, or a file that is
+        written. Returns how many of the client's there were."""
+        count, before = 0, ""
         for command, wanted in commands(path.read_text()):
-            if " picture " in command and not optional("matplotlib") or "misteluk" not in command:
+            if re.fullmatch(r"\w+\(\) \{ .* \}|printf '[^']*' > \S+", command):
+                before += f"{command}\n"
                 continue
-            run = subprocess.run(command, shell=True, cwd=self.room, env=self.env, stdout=subprocess.PIPE,
-                                 stderr=subprocess.STDOUT, text=True, timeout=60)
+            names = "|".join(["misteluk", *re.findall(r"(?m)^(\w+)\(\) \{", before)])
+            if " picture " in command and not optional("matplotlib") or not re.search(rf"\b({names})\b", command):
+                continue
+            run = subprocess.run(before + command, shell=True, executable="/bin/bash", cwd=self.room, env=self.env,
+                                 stdout=subprocess.PIPE, stderr=subprocess.STDOUT, text=True, timeout=60)
             told = run.stdout.strip("\n")
             self.assertTrue(is_like(told, wanted), f"\n$ {command}\nprinted\n{told}\nand not\n{wanted}")
             count += 1
         return count
 
     def test_the_tutorial_s_commands(self):
-        self.assertGreater(self.run_commands(TUTORIAL), 5 if optional("matplotlib") else 3)
+        self.assertEqual(self.run_commands(TUTORIAL), 9 if optional("matplotlib") else 7)
 
     def conversations(self, path) -> int:
         """Runs what stands behind >>>, and returns how many such lines there were."""
@@ -89,6 +95,11 @@ class Documents(Case):
         self.assertRaises(AssertionError, self.run_commands, page)
         page.write_text("\n    $ echo misteluk 17 times\n    misteluk ... times\n")
         self.assertEqual(self.run_commands(page), 1)
+        page.write_text("\n    $ say() { echo \"$@\"; }\n    $ printf 'a file' > of_words\n    $ say one\n    one\n"
+                        "    $ say \"$(cat of_words)\"\n    a file\n")
+        self.assertEqual(self.run_commands(page), 2)
+        page.write_text(page.read_text().replace("    a file", "    another file"))
+        self.assertRaises(AssertionError, self.run_commands, page)
         page.write_text("\n    >>> 1 + 1\n    3\n")
         self.assertRaises(AssertionError, self.conversations, page)
 
@@ -165,7 +176,7 @@ class Figures(unittest.TestCase):
     def test_logistics(self):
         rows = [(datetime.date.fromisoformat(it["day"]), it["from"], it["to"], int(it["pallets"]))
                 for it in read("shipments.csv")]
-        for week in range(10, 22):
+        for week in (10, 15, 16, 17, 21):
             now = max(day for day, *_ in rows if day.isocalendar()[1] == week)
             lanes = {(a, b) for day, a, b, _ in rows if now - datetime.timedelta(13) <= day <= now}
             legs = reached(lanes, "hamburg")["munich"]
@@ -178,27 +189,14 @@ class Figures(unittest.TestCase):
         left = Counter()
         for day, source, _, pallets in rows:
             left[source] += pallets * (day.isocalendar()[1] > 15)
-        self.told(*(f"    {it} {count}\n" for it, count in left.items()))
-        self.assertEqual(self.text.count("    kassel 0\n"), 1)
-        self.assertEqual(rows[139][0], datetime.date(2024, 4, 15))
+        told = ast.literal_eval(re.search(r"\n    (\{'leipzig': .*\})\n", self.text)[1])
+        self.assertEqual(told, {it: left[it] for it in {end for _, *ends, _ in rows for end in ends}})
+        self.assertEqual(told["kassel"], 0)
 
     def test_the_recipes(self):
-        """A day's flow is the sum of its rows; what depends on a package is reached against what it needs."""
-        rows = [(it["day"], it["from"], it["to"], Decimal(it["amount"])) for it in read("transfers.csv")]
-
-        def flow(name, end, *days):
-            return sum(it[3] for it in rows if it[end] == name and it[0] in days)
-        self.told(str((flow("funnel", 2, "2024-05-07"), flow("grocer", 2, "2024-05-09"))),
-                  repr(sum(it[3] for it in rows if it[1:3] == ("ana", "grocer"))))
-        days = [f"2024-05-0{it}" for it in range(5, 9)]
-        found = []
-        for name in dict.fromkeys(it[2] for it in rows):
-            senders = {it[1] for it in rows if it[2] == name and it[0] in days[1:]}
-            came, went = flow(name, 2, *days), flow(name, 1, *days)
-            if len(senders) >= 3 and went >= came * 9 / 10:
-                found.append(f"{name}: {len(senders)} senders, {came} in, {went} out")
-        self.told(*found)
-        self.assertEqual(len(found), 1)
+        """What came in on a day is the sum of its rows; what depends on a package is reached against what it needs."""
+        came_in = [it["amount"] for it in read("transfers.csv") if (it["to"], it["day"]) == ("funnel", "2024-05-07")]
+        self.told(repr(sum(map(Decimal, came_in))))
         needed = [(it["needs"], it["package"]) for it in read("debian.csv") if it["kind"] == "depends"]
         told = re.search(r"levels\(\"libsemanage2\".*\n    (\{.*\})\n", self.text)[1]
         self.assertEqual(ast.literal_eval(told), reached(needed, "libsemanage2"))
@@ -245,11 +243,12 @@ class Figures(unittest.TestCase):
             out = Counter()
             for (source, _), lane in lanes.items():
                 out[source] += lane[0]
-            (name, weight), (second, less) = out.most_common(2)
-            self.told(f"version {version}: {end} rows to line {end + 1}{done}; newest {newest} 00:00:00+00:00\n",
-                      f"weight {weight}\n      {second} out", f" weight {less}\n    edge truck hamburg kassel: " + (
-                          "none" if version > 1 else "weight {} first {} 00:00:00+00:00 recent {} 00:00:00+00:00".format(
-                              *lanes["hamburg", "kassel"])))
+            (name, weight), _ = out.most_common(2)
+            self.told(f"version {version}: {end} rows to line {end + 1}{done}; newest {newest} 00:00:00+00:00\n")
+            if version != 2:
+                kassel = "none" if version > 1 else "weight {} first {} 00:00:00+00:00 recent {} 00:00:00+00:00".format(
+                    *lanes["hamburg", "kassel"])
+                self.told(f"      {name} out ", f" weight {weight}\n    edge truck hamburg kassel: {kassel}\n")
 
     def test_the_made_data_are_what_their_script_makes(self):
         made = subprocess.run([sys.executable, TOP / "examples/stories/shipments.py"], stdout=subprocess.PIPE, text=True).stdout
