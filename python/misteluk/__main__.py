@@ -33,7 +33,8 @@ def form_of_feed(words: argparse.Namespace) -> Dict[str, Any]:
     """What is said of the feed."""
     return {"by": words.by, "weight_scale": words.weight_scale, "times": words.times, "names": words.names,
             "format": words.format, "columns": columns_of(words), "delimiter": words.delimiter, "header": words.header,
-            "third": words.third, "encoding": words.encoding, "decimal": words.decimal, "dates": words.dates}
+            "encoding": words.encoding, "decimal": words.decimal, "dates": words.dates,
+            **({"third": words.third} if "third" in words else {})}
 
 
 def read(words: argparse.Namespace, ahead: Optional[Ahead] = None) -> Survey:
@@ -136,10 +137,8 @@ def rows_told(count: int) -> str:
 
 def run_fleet(words: argparse.Namespace) -> int:
     """Parts a file's rows, and tells each part's answers below its key."""
-    form = form_of_feed(words)
-    del form["third"]
     with Fleet(words.file, key=words.key, workers=words.workers, alive=0, skip_bad=words.skip_bad, batch=words.batch,
-               program=words.program, timeout=words.timeout, **form) as fleet:
+               program=words.program, timeout=words.timeout, **form_of_feed(words)) as fleet:
         print(f"{feed_name(words.file)}: {rows_told(sum(fleet.parts.values()))} in {len(fleet)} part{'s' * (len(fleet) != 1)}",
               flush=True)
         for key, lines in fleet.ask(lambda session: list(answer(words, session, is_part=True))):

@@ -38,7 +38,7 @@ QUESTIONS = ("degrees, components or cores, with a kind behind them or none; 'le
              "SOURCE TARGET' or 'edge KIND SOURCE TARGET'")
 
 
-def add_feed_options(parser: argparse.ArgumentParser, blocks: Optional[str] = BLOCKS) -> None:
+def add_feed_options(parser: argparse.ArgumentParser, blocks: Optional[str] = BLOCKS, edge_lists: bool = True) -> None:
     parser.add_argument("file", help="a delimited file, an edge list (SNAP), or a Matrix Market file; .gz is unpacked; - is "
                         "standard input")
     way = parser.add_mutually_exclusive_group(required=True)
@@ -58,7 +58,8 @@ def add_feed_options(parser: argparse.ArgumentParser, blocks: Optional[str] = BL
     feed.add_argument("--decimal", choices=DECIMALS, default=".", help="the sign before decimals: , takes 12,50 and 1.234,50 (.)")
     feed.add_argument("--dates", choices=TIMES, help="times are dates of this form, which a time of day may follow, or numbers "
                       "since 1970; else --times iso takes 2024-03-05")
-    feed.add_argument("--third", choices=("weight", "time"), help="what the third field of an edge list is")
+    if edge_lists:
+        feed.add_argument("--third", choices=("weight", "time"), help="what the third field of an edge list is")
     feed.add_argument("--weight-scale", type=int, metavar="N", help="weights are decimals of so many parts: 100 takes 12.50")
     feed.add_argument("--times", choices=("number", "iso"), help="iso: times are dates, here and in what is asked and told")
     feed.add_argument("--names", choices=("plain", "escape"), default="plain", help="any text is a name; escape: with %%20 for a "
@@ -116,7 +117,7 @@ def add_restore(restore: argparse.ArgumentParser) -> None:
 
 
 def add_fleet(fleet: argparse.ArgumentParser) -> None:
-    add_feed_options(fleet, blocks=None)
+    add_feed_options(fleet, blocks=None, edge_lists=False)  # (an edge list has no column to part its rows by)
     parts = fleet.add_argument_group("parts, and what then")
     parts.add_argument("--key", type=column, required=True, metavar="COLUMN", help="the column that parts the rows: a name, or a "
                        "number from 1")

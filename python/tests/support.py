@@ -1,6 +1,7 @@
 """What the tests share: the program that they run, and files and stand-ins for it."""
 from __future__ import annotations
 
+import io
 import pathlib
 import re
 import stat
@@ -8,7 +9,8 @@ import subprocess
 import sys
 import tempfile
 import unittest
-from typing import Any, Dict, List
+from contextlib import redirect_stderr, redirect_stdout
+from typing import Any, Dict, List, Tuple
 
 HERE = pathlib.Path(__file__).resolve().parent
 TOP = HERE.parent.parent
@@ -18,6 +20,7 @@ NO_REPOSITORY = "this is no repository, but a released archive"
 sys.path.insert(0, str(HERE.parent))
 
 from misteluk import Store, find_program  # noqa: E402
+from misteluk.__main__ import main  # noqa: E402
 
 
 def optional(name: str) -> Any:
@@ -78,6 +81,17 @@ class Case(unittest.TestCase):
         path = pathlib.Path(self.file("stand_in", "\n".join(lines) + "\n"))
         path.chmod(path.stat().st_mode | stat.S_IXUSR)
         return str(path)
+
+
+class CommandCase(Case):
+    """A case that runs commands of the client in this process."""
+
+    def run_it(self, *words: object) -> Tuple[int, str, str]:
+        """The command's status, what it prints, and what it says on standard error."""
+        out, err = io.StringIO(), io.StringIO()
+        with redirect_stdout(out), redirect_stderr(err):
+            status = main([str(it) for it in words])
+        return status, out.getvalue(), err.getvalue()
 
 
 def texts(found: List[Any]) -> List[str]:

@@ -6,10 +6,10 @@ import shutil
 import subprocess
 import sys
 import unittest
-from contextlib import redirect_stderr, redirect_stdout
+from contextlib import redirect_stderr
 
 from pages import CHROMIUM
-from support import HERE, IS_REPOSITORY, NO_REPOSITORY, TOP, Case, find_program, optional, words_of
+from support import HERE, IS_REPOSITORY, NO_REPOSITORY, TOP, Case, CommandCase, find_program, optional, words_of
 
 from misteluk import pictures
 from misteluk.__main__ import main
@@ -20,13 +20,7 @@ PAIRS = "from,to,n,t\na,b,1,10\na,c,2,11\nc,d,3,12\na,b,4,13\nx,y,5,14\n"
 OF_PAIRS = ("--source", "from", "--target", "to", "--weight", "n", "--time", "t")
 
 
-class Commands(Case):
-    def run_it(self, *words: str):
-        out, err = io.StringIO(), io.StringIO()
-        with redirect_stdout(out), redirect_stderr(err):
-            status = main([str(it) for it in words])
-        return status, out.getvalue(), err.getvalue()
-
+class Commands(CommandCase):
     def load(self, wanted: str, *words: str) -> None:
         """Whether a load of the pairs prints these lines behind its first two."""
         status, out, err = self.run_it("load", self.file("p.csv", PAIRS), *OF_PAIRS, *words)
@@ -166,6 +160,16 @@ class Commands(Case):
         self.assertIn("q.csv:7: BadWeight: amount 'five'", err)
         status, out, err = self.run_it("fleet", self.file("one.csv", "from,to\na,b\n"), *OF_PAIRS[:4], "--add", "--key", "from")
         self.assertEqual((status, err, out), (0, "", f"{self.room / 'one.csv'}: 1 row in 1 part\na: 1 row\n"))
+
+    def test_a_fleet_takes_no_edge_lists(self):
+        """So it has no word for their third field, which `load` has."""
+        path = self.file("e.txt", "1 2 3\n")
+        out = self.run_it("load", path, "--set", "--format", "snap", "--third", "weight", "--ask", "edge link 1 2")[1]
+        self.assertEqual(out.splitlines()[2:], ["edge link 1 2: weight 3 first 0 recent 0"])
+        err = io.StringIO()
+        with self.assertRaises(SystemExit), redirect_stderr(err):
+            main(["fleet", path, "--set", "--key", "1", "--third", "weight"])
+        self.assertIn("unrecognized arguments: --third weight", err.getvalue())
 
     def test_an_output_whose_reader_has_gone(self):
         """It ends quietly, with the status that a shell tells of such an end."""
@@ -314,7 +318,7 @@ class Pictures(Case):
             self.assertEqual(drawn[:24], told[:24])
             self.assertLess(len(told), 150_000)
         self.assertEqual({it.name for it in (self.room / "docs/pictures").iterdir()},
-                         {"debian-degrees.svg", "shipments.svg", *pages})
+                         {"debian-degrees.svg", *pages})
 
 
 if __name__ == "__main__":

@@ -1,7 +1,6 @@
 """Any text as a name: there and back, in each call, in errors and on the command line."""
 import base64
 import hashlib
-import io
 import os
 import random
 import re
@@ -9,14 +8,13 @@ import subprocess
 import sys
 import threading
 import unittest
-from contextlib import redirect_stderr, redirect_stdout
 from unittest import mock
 
-from support import HERE, Case, optional, words_of
+from support import HERE, Case, CommandCase, optional, words_of
 
 import misteluk
 from misteluk import Degree, Edge, Feed, Store, names
-from misteluk.__main__ import main, named_edge
+from misteluk.__main__ import named_edge
 from misteluk.names import NameTable, id_of, shown
 
 IVANOV, WANG, SPACES, LONG = "Иванов Пётр Сергеевич", "王小明", " a  b ", "x" * 120
@@ -230,13 +228,7 @@ class Loads(Case):
         self.assertEqual(list(store.open().degrees()), ["a%20b", "50%25"])
 
 
-class Commands(Case):
-    def run_it(self, *words: str):
-        out, err = io.StringIO(), io.StringIO()
-        with redirect_stdout(out), redirect_stderr(err):
-            status = main([str(it) for it in words])
-        return status, out.getvalue(), err.getvalue()
-
+class Commands(CommandCase):
     def people(self) -> tuple:
         text = f'от,кому\n{IVANOV},{WANG}\n{WANG},{SPACES}\n{IVANOV},"a\nb"\nann,{LONG}\n'
         (self.room / "p.csv").write_text(text, encoding="utf-8")

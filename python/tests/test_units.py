@@ -1,17 +1,14 @@
 """Weights as decimals and times as dates. Values are worked out by hand: 2024-03-04 is 19,786 days behind 1970-01-01, since 54
 years with 13 leap days have 19,723 days, and 31 + 29 + 3 days come behind them."""
-import io
 import unittest
-from contextlib import redirect_stderr, redirect_stdout
 from datetime import date, datetime, timedelta, timezone
 from decimal import Decimal
 from fractions import Fraction
 
-from support import Case, optional, words_of
+from support import Case, CommandCase, optional, words_of
 
 import misteluk
 from misteluk import Columns, Commit, Degree, Edge, Feed, Store, units
-from misteluk.__main__ import main
 from misteluk.units import Units
 
 DAY = 86_400 * 10 ** 6
@@ -261,13 +258,7 @@ class Banks(Case):
             self.assertEqual(str(session.degrees("платёж", until="2024-03-05")[self.IBAN].weight_out), "12.05")
 
 
-class Commands(Case):
-
-    def run_it(self, *words: str):
-        out, err = io.StringIO(), io.StringIO()
-        with redirect_stdout(out), redirect_stderr(err):
-            status = main([str(it) for it in words])
-        return status, out.getvalue(), err.getvalue()
+class Commands(CommandCase):
 
     def file_of_cents(self) -> str:
         return self.file("c.csv", "from,to,n,t\na,b,12.50,2024-03-04\na,c,0.05,2024-03-05T10:00:00.5\nc,a,2,2024-03-06\n")
