@@ -80,7 +80,7 @@ class Wheels(Case):
 
     def test_one_version(self):
         program = run(find_program(), "--version", stderr=subprocess.DEVNULL).stdout.split()[-1]
-        changes = re.search(r"(?m)^The version is (\S+)\.$", (TOP / "CHANGELOG.md").read_text())
+        changes = re.search(r"(?m)^## (\d\S+)$", (TOP / "CHANGELOG.md").read_text())
         self.assertEqual({misteluk.__version__, wheels.project().version, program, changes[1]}, {misteluk.__version__})
 
 

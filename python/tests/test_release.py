@@ -261,6 +261,22 @@ class Releases(Case):
         more = next((it for it in ("/usr/bin/git", "/usr/bin/curl", "/bin/ls") if os.path.exists(it)), None)
         self.refused("beside the C library", "--unproved", more)
 
+    def test_another_version_is_refused(self):
+        """That of the change log's first heading is made: the program and the client have to say it, too."""
+        changes, project = self.top / "CHANGELOG.md", self.top / "python/pyproject.toml"
+        heading = f"\n## {misteluk.__version__}\n"
+        self.assertEqual(changes.read_text().count(heading), 1)
+        changes.write_text(changes.read_text().replace(heading, f"\n## 9.8.7\n{heading}"))
+        self.git("commit", "-qam", "a heading of another version")
+        self.refused(f"python/pyproject.toml says version {misteluk.__version__}, and CHANGELOG.md 9.8.7", "--unproved",
+                     find_program())
+        project.write_text(project.read_text().replace(f'version = "{misteluk.__version__}"', 'version = "9.8.7"'))
+        self.git("commit", "-qam", "the client's, too")
+        self.refused(f"the program says version {misteluk.__version__}, and CHANGELOG.md 9.8.7", "--unproved", find_program())
+        changes.write_text("# Changelog\n")
+        self.git("commit", "-qam", "no heading")
+        self.refused("CHANGELOG.md has no heading of a version", "--unproved", find_program())
+
     def test_a_manual_of_another_program_is_refused(self):
         page = self.top / "share/man/man1/stinger.1"
         page.write_text(page.read_text() + ".PP\nMore.\n")
