@@ -1,5 +1,6 @@
-"""Runs each command of docs/TUTORIAL.md, docs/PYTHON.md, docs/FLEET.md and README's part for Python, and compares what it prints;
-and works out the stories' figures once more, by plain loops over their files. (What FLEET has as Python test_fleet.py runs.)"""
+"""Runs each command of docs/TUTORIAL.md, docs/PYTHON.md, docs/FLEET.md and docs/USING.md, README's parts for Python and for one's
+own data, and compares what they print; and works out the stories' figures once more, by plain loops over their files. (What FLEET
+has as Python test_fleet.py runs.)"""
 import ast
 import contextlib
 import csv
@@ -38,8 +39,9 @@ def is_like(told, wanted):
 class Documents(Case):
     def setUp(self):
         super().setUp()
-        for it in ("examples", "python", "docs", "stinger"):
+        for it in ("examples", "python", "docs"):
             (self.room / it).symlink_to(TOP / it)
+        (self.room / "stinger").symlink_to(pathlib.Path(find_program()).resolve())
         (self.room / "bin").mkdir()
         (self.room / "bin/python3").symlink_to(sys.executable)
         self.env = {**os.environ, "PATH": f"{self.room}/bin:{os.environ['PATH']}", "PYTHONPATH": str(HERE.parent),
@@ -53,7 +55,7 @@ class Documents(Case):
             if re.fullmatch(r"\w+\(\) \{ .* \}|printf '[^']*' > \S+", command):
                 before += f"{command}\n"
                 continue
-            names = "|".join(["misteluk", *re.findall(r"(?m)^(\w+)\(\) \{", before)])
+            names = "|".join(["misteluk", "stinger drive", *re.findall(r"(?m)^(\w+)\(\) \{", before)])
             if " picture " in command and not optional("matplotlib") or not re.search(rf"\b({names})\b", command):
                 continue
             run = subprocess.run(before + command, shell=True, executable="/bin/bash", cwd=self.room, env=self.env,
@@ -89,6 +91,19 @@ class Documents(Case):
     def test_the_commands_of_other_pages(self):
         self.assertGreater(self.run_commands(TOP / "docs/PYTHON.md"), 0)
         self.assertGreater(self.run_commands(TOP / "docs/FLEET.md"), 0)
+        self.assertEqual(self.run_commands(TOP / "docs/USING.md"), 1)
+
+    def test_own_data(self):
+        """README's way to a script, over a batch of one edge more than it has room for, and the components that it asks for."""
+        part = (TOP / "README.md").read_text().split("## Your own data\n")[1].split("\n## ")[0]
+        typed = "\n".join(re.findall(r"(?m)^    (.*)$", part))
+        self.file("edges.csv", "".join(f"v{it},v{it + 1},{it},{it}\n" for it in range(4097)))
+        told = subprocess.run(typed, shell=True, executable="/bin/bash", cwd=self.room, stdout=subprocess.PIPE,
+                              stderr=subprocess.DEVNULL, text=True, timeout=60).stdout.splitlines()
+        self.assertEqual(told[:6], ["commit v=1 ins=4096 upd=0 rem=0 abs=0 ovf=0", "collect floor=1 recycled=0 retired=0",
+                                    "commit v=2 ins=1 upd=0 rem=0 abs=0 ovf=0", "collect floor=2 recycled=0 retired=0",
+                                    "open 0 v=2", "comp 0 parts=1"])
+        self.assertEqual(told[6:], [f"v{it} v0" for it in range(4098)])
 
     def test_a_line_that_differs_is_found(self):
         page = pathlib.Path(self.file("page.md", "\n    $ echo misteluk; echo two\n    misteluk\n    three\n"))
