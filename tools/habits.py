@@ -4,7 +4,8 @@
 - A line of a page or a script has at most 130 characters; a row of a table and an indented line, as what is typed, may be
   longer. (`rt fmt` lays code out.)
 - A sentence of README.md, CONTRIBUTING.md and docs/ has at most 30 words. A span of code is one word, a link's target none.
-- A link of a page leads to a file of the repository, and to a heading of it where it names one.
+- A link of a page leads to a file of the repository, and to a heading of it where it names one. One that shows a name, as
+  [`step`](FILE.antt), leads to the file of specs that defines it.
 - Each crate of crates.txt is named in docs/ARCHITECTURE.md, and stands on crates that crates.txt lists or the kit has.
 - docs/LIBRARY.md shows each program that stands on `misteluk`: its row of crates.txt, and each of its files as it is.
 - A wrong body names a file of its crate, and has pairs of an old line, which stands in that file once, and a new one.
@@ -25,6 +26,7 @@ SENTENCE = 30
 # Subjects of before this one were written without the rule.
 SINCE = "cf1127e"
 PAGES = {".md", ".py", ".rs", ""}
+DEFINED = re.compile(r"\[`([^`]+)`\]\(([^)\s]+\.antt)\)")
 LINK = re.compile(r"(?<!!)\[[^\]]*\]\(([^)\s]+)\)")
 
 
@@ -83,6 +85,15 @@ def dead_links(page):
             yield f"{page.relative_to(TOP)}: no {target}"
         elif anchor and to.suffix == ".md" and anchor not in anchors(to):
             yield f"{page.relative_to(TOP)}: no heading for {target}"
+
+
+def undefined_names(page):
+    """Yields each name that a link shows and its file of specs doesn't define."""
+    for name, target in DEFINED.findall(page.read_text(encoding="utf-8")):
+        to = (page.parent / target).resolve()
+        head = rf"^(?:abbrev|record|data) pub {re.escape(name)}\b|^pub (?:record|data) {re.escape(name)}\b"
+        if to.exists() and not re.search(head, to.read_text(encoding="utf-8"), re.M):
+            yield f"{page.relative_to(TOP)}: {target} doesn't define {name}"
 
 
 def rows():
@@ -159,6 +170,7 @@ def main():
         "width of lines": [it for path in known if path.suffix in PAGES for it in wide_lines(path)],
         "length of sentences": [it for page in told for it in long_sentences(page)],
         "links": [it for page in pages for it in dead_links(page)],
+        "names of definitions": [it for page in pages for it in undefined_names(page)],
         "crates": list(unnamed_crates()),
         "programs over the library": list(unshown_programs()),
         "wrong bodies": [it for path in edits for it in lost_edits(path)],
