@@ -6,6 +6,9 @@ use std::alloc::{AllocError, Global};
 /// The number of vertices is 2 to this power.
 const SCALE: u32 = 14;
 
+/// How many operations a batch has.
+const OPERATIONS: u32 = 4_096;
+
 /// The edges of the graph, without end, as a linear congruential generator draws them. An edge may come again.
 #[derive(Clone, Copy)]
 pub(crate) struct Edges {
@@ -77,8 +80,8 @@ fn push(batch: &mut Batch, op: Result<NamedOp, AllocError>) -> bool {
     }
 }
 
-fn push_insertions(alloc: Global, batch: &mut Batch, edges: &mut Edges, count: u32) -> bool {
-    for _ in 0..count {
+fn push_insertions(alloc: Global, batch: &mut Batch, edges: &mut Edges) -> bool {
+    for _ in 0..OPERATIONS {
         if !push(batch, insertion(alloc, edges.next_edge())) {
             return false;
         }
@@ -86,10 +89,10 @@ fn push_insertions(alloc: Global, batch: &mut Batch, edges: &mut Edges, count: u
     true
 }
 
-/// The insertions of the next edges, at most 4,096; nothing where memory was refused.
-pub(crate) fn insertions(alloc: Global, edges: &mut Edges, count: u32) -> Option<Batch> {
+/// The insertions of the next edges; nothing where memory was refused.
+pub(crate) fn insertions(alloc: Global, edges: &mut Edges) -> Option<Batch> {
     let mut batch = Batch::new(alloc);
-    if push_insertions(alloc, &mut batch, edges, count) {
+    if push_insertions(alloc, &mut batch, edges) {
         Some(batch)
     } else {
         None
