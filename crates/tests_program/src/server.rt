@@ -2,6 +2,7 @@
 //! `examples/`.
 
 mod arguments;
+mod checks;
 mod drives;
 mod faults;
 mod feeds;
@@ -10,7 +11,7 @@ mod lines;
 mod progress;
 mod scripts;
 
-use crate::shared::{check_so, check_text};
+use self::checks::{check_so, check_text};
 use std::io;
 use std::io::{ErrorKind, Read, Write};
 use std::process::Abort;

@@ -1,8 +1,8 @@
 // Which arguments have a script served, and what the program does at its arguments where a writer fails. `examples/check` shows
 // what it says of them.
 
+use super::checks::check_text;
 use super::{FIRST, FIRST_TEXT, FakeReader, FakeWriter, ROOMY, check_ran, ran_at, ran_on};
-use crate::shared::check_text;
 use std::alloc::AllocError;
 use std::process::Abort;
 use std::sync::Wait;

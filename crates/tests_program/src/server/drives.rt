@@ -3,7 +3,7 @@
 ghost use Rattle.std.specs.Prelude.{◌≤◌};
 ghost use Rattle.store_drive.specs.Reports.{IsReaderCount};
 
-use crate::shared::check_at;
+use super::checks::check_at;
 use std::process::Abort;
 use std::sync::Wait;
 use std::thread::Threads;

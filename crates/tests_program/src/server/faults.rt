@@ -2,11 +2,11 @@
 
 ghost use Rattle.stinger_server.specs.Runs.{IsFresh};
 
+use super::checks::{check_at, check_so, check_text};
 use super::{
     FIRST, FIRST_ENDS, FIRST_TEXT, FakeReader, FakeWriter, HELD, HELD_ENDS, HELD_TEXT, REFUSED,
     REFUSED_TEXT, count_of, is_cut_of, served,
 };
-use crate::shared::{check_at, check_so, check_text};
 use feed_csv::Feed;
 use std::io::ErrorKind;
 use std::process::Abort;

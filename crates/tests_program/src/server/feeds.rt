@@ -1,9 +1,9 @@
 // What a feed's calls give that no script of the program shows: readers that fail or pause, refused growths, a fault's text.
 
+use super::checks::{check_at, check_text, tell_refused};
 use super::{FakeReader, count_of};
-use crate::shared::{Op, check_at, check_text, is_edge, is_named, is_op, tell_refused};
 use feed_csv::{Command, Feed, FeedFault, FeedWord};
-use graph_model::{NamedFilter, NamedOp, Request};
+use graph_model::{Name, NamedFilter, NamedOp, Request};
 use std::io::ErrorKind;
 use std::process::Abort;
 use std::test::Fail;
@@ -25,21 +25,39 @@ rebase,3
 y,0123456789,0123456789,0123456789,0123456789,0123456789,0123456789,x,x,x,x,x,x,x,x,x,x,x,x,x,x,x,x,x,x,x,x,x,x,x,x,x
 ";
 
-// The calls that give an operation, and which.
-const OPS: [(u64, Op<'static>); 4] = [
-    (1, ("i", "a", "b", 1, 2)),
-    (4, ("r", "a", "b", 0, 0)),
-    (5, ("a", "a", "b", -3, 4)),
-    (12, ("x", "", "", 0, 7)),
-];
+// Equality of texts is dear to prove, so it stands in one function.
+fn is_named(name: &Name, text: &str) -> bool {
+    name.as_str() == text
+}
 
-fn is_op_at(call: u64, found: &NamedOp) -> bool {
-    for (at, op) in OPS {
-        if at == call {
-            return is_op(found, op);
-        }
+// Whether these are kind `k`, source `a` and target `b`.
+fn is_edge(kind: &Name, source: &Name, target: &Name) -> bool {
+    is_named(kind, "k") && is_named(source, "a") && is_named(target, "b")
+}
+
+fn is_op(call: u64, found: &NamedOp) -> bool {
+    match found {
+        NamedOp::Insert {
+            kind,
+            source,
+            target,
+            weight,
+            time,
+        } => call == 1 && *weight == 1 && *time == 2 && is_edge(kind, source, target),
+        NamedOp::Remove {
+            kind,
+            source,
+            target,
+        } => call == 4 && is_edge(kind, source, target),
+        NamedOp::Incr {
+            kind,
+            source,
+            target,
+            amount,
+            time,
+        } => call == 5 && *amount == -3 && *time == 4 && is_edge(kind, source, target),
+        NamedOp::Expire { time } => call == 12 && *time == 7,
     }
-    false
 }
 
 fn is_view(filter: &NamedFilter) -> bool {
@@ -61,14 +79,14 @@ fn is_request(call: u64, request: &Request) -> bool {
             kind,
             source,
             target,
-        } => call == 7 && is_edge(kind, source, target, "a", "b"),
+        } => call == 7 && is_edge(kind, source, target),
     }
 }
 
 // Whether the call of this number gave what `SCRIPT` says, and `stat` or the end behind it.
 fn is_given(call: u64, outcome: &Result<Option<Command>, FeedFault>) -> bool {
     match outcome {
-        Ok(Some(Command::Op(op))) => is_op_at(call, op),
+        Ok(Some(Command::Op(op))) => is_op(call, op),
         Ok(Some(Command::OpenSlot(slot))) => call == 2 && *slot == 3,
         Ok(Some(Command::Query(slot, request))) => *slot == 3 && is_request(call, request),
         Ok(Some(Command::CloseSlot(slot))) => call == 8 && *slot == 3,

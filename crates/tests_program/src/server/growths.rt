@@ -1,11 +1,11 @@
 // Growths that are refused: `tools/refuse-each-growth` refuses each in turn. The writers take no memory.
 
 use super::arguments::{HELP, UNKNOWN};
+use super::checks::{check_so, check_text, tell_refused};
 use super::{
     FIRST, FIRST_ENDS, FIRST_TEXT, FakeReader, FakeWriter, ROOMY, Ran, TABLES, TABLES_ENDS,
     TABLES_TEXT, check_ran, is_cut_of, ran_at, served,
 };
-use crate::shared::{check_so, check_text, tell_refused};
 use std::io::Print;
 use std::process::Abort;
 use std::sync::Wait;

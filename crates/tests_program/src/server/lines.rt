@@ -1,6 +1,6 @@
 // The lines of records by themselves: a call of each kind, and growths that are refused.
 
-use crate::shared::{check_so, check_text, tell_refused};
+use super::checks::{check_so, check_text, tell_refused};
 use feed_csv::FeedWord;
 use graph_model::{List, Outcome, VertexId, is_name};
 use script_lines::{

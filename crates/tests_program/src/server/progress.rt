@@ -1,7 +1,7 @@
 // What a reader with progress passes on, and what it shows meanwhile, by a clock that each reading puts forward.
 
+use super::checks::check_text;
 use super::{FIRST, FIRST_TEXT, FakeReader, FakeWriter, ROOMY, check_ran, count_of, ran_at};
-use crate::shared::check_text;
 use progress_reader::ProgressReader;
 use std::cell::Cell;
 use std::io;

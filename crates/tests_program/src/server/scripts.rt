@@ -1,7 +1,7 @@
 // Ends of lines, quotes and byte order marks, from a reader that gives a byte a read.
 
+use super::checks::check_text;
 use super::{FakeReader, FakeWriter, served};
-use crate::shared::check_text;
 use std::process::Abort;
 use std::sync::Wait;
 use std::thread::Threads;

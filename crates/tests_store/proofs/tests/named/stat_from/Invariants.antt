@@ -1,0 +1,5 @@
+use Rattle.tests_store.proofs.tests.named.stat_from.Given as goal
+
+-- the store is of the opening that was just made
+abbrev pub ghosts-stat_of : goal.ghosts-stat_of
+ghosts-stat_of g a = record { book = a.opened.desk.book; opening = a.opened.desk.desk.last.opening }

@@ -1,0 +1,5 @@
+use Rattle.tests_store.proofs.tests.players.check_over.Given as goal
+
+-- the store is of the opening of the desk
+abbrev pub ghosts-check_shared : goal.ghosts-check_shared
+ghosts-check_shared g a = record { book = a.desk.book; opening = a.desk.desk.last.opening }

@@ -1,0 +1,23 @@
+// Most tests are plays: stories of one thread in lines, which `players` takes. What takes several threads, or what a seat learns,
+// stands in a file of its own.
+
+mod answers;
+mod batches;
+mod checks;
+mod desks;
+mod gates;
+mod handed;
+mod learnt;
+mod limits;
+mod named;
+mod opened;
+mod places;
+mod players;
+mod plays;
+mod refused;
+mod stages;
+mod texts;
+mod threads;
+mod told;
+mod told_readers;
+mod waits;

@@ -1,0 +1,267 @@
+// The player of lines. A line is what one thread does, and what it is told.
+
+ghost use Rattle.std.specs.Prelude.{◌≡◌};
+
+use super::checks::{check_so, tell_refused};
+use super::places::Place;
+use super::stages::{End, Front, Stage};
+use super::texts::{split_at, split_word};
+use seat_board::Board;
+use std::alloc::{AllocError, Global};
+use std::io::Print;
+use std::marker::Brand;
+use std::process::Abort;
+use std::sync::Wait;
+use std::thread::Threads;
+use stream_store::{Config, Desk, Naming, OpenError, Seat, Store, open_parts};
+
+/// A store of so many workers and blocks and four seats; the lines that are played at its desk, then over the store that threads
+/// share, and then behind its end, at which it has that number.
+#[derive(Clone, Copy)]
+pub(super) struct Play<'a> {
+    name: &'a str,
+    workers: usize,
+    blocks: u32,
+    at_desk: &'a str,
+    shared: &'a str,
+    last: u64,
+    ended: &'a str,
+    /// Whether it accepts want of memory.
+    may_refuse: bool,
+}
+
+/// A play's text is a line of its workers, blocks and name; lines at the desk; where it is shared, `share` and the lines then; and
+/// `close => NUMBER` with the lines behind the end. A number that can't be read is one that no store opens with, or ends at.
+pub(super) fn play_of(text: &str, may_refuse: bool) -> Play<'_> {
+    let (head, lines) = split_at(text, "\n");
+    let (workers, head) = split_word(head);
+    let (blocks, name) = split_word(head);
+    let (before, last) = split_at(lines, "close => ");
+    let (last, ended) = split_at(last, "\n");
+    let (at_desk, shared) = split_at(before, "share\n");
+    Play {
+        name,
+        workers: workers.parse().unwrap_or(0),
+        blocks: blocks.parse().unwrap_or(0),
+        at_desk,
+        shared,
+        last: last.parse().unwrap_or(u64::MAX),
+        ended,
+        may_refuse,
+    }
+}
+
+/// A text has room for what a line tells, so that no line is done whose telling is refused.
+const ROOM: usize = 1024;
+
+/// What is told of a line, which is done where there is memory.
+fn told_of<S: Stage, R: Threads + Wait + Sync>(
+    rt: &R,
+    alloc: Global,
+    stage: &mut S,
+    places: &mut Vec<Place>,
+    line: &str,
+) -> Result<String, AllocError> {
+    let words = split_word(line);
+    let mut text = String::with_capacity(alloc, ROOM)?;
+    match stage.play(rt, alloc, places, words, &mut text) {
+        Ok(()) => Ok(text),
+        Err(error) => Err(error),
+    }
+}
+
+/// What a line or a play of this text tells is the wanted text.
+fn check_told(rt: &impl Abort, told: &str, wanted: &str, text: &str) {
+    assert_eq!(rt; told, wanted, "{text}");
+}
+
+/// Whether there was memory for what is told. Where there was, it is what is wanted.
+fn is_wanted<R: Abort>(rt: &R, told: &str, wanted: &str, name: &str) -> bool {
+    let is_told = told != "out of memory";
+    if is_told {
+        check_told(rt, told, wanted, name);
+    }
+    is_told
+}
+
+/// Plays a line; whether there was memory for it.
+fn is_played<S: Stage, R: Threads + Wait + Sync + Abort>(
+    rt: &R,
+    alloc: Global,
+    stage: &mut S,
+    places: &mut Vec<Place>,
+    line: &str,
+    name: &str,
+) -> bool {
+    let (words, wanted) = line.split_once(" => ").expect(rt, "a line");
+    match told_of(rt, alloc, stage, places, words) {
+        Ok(told) => is_wanted(rt, told.as_str(), wanted, name),
+        Err(AllocError) => false,
+    }
+}
+
+/// All that a refusal is to leave; where memory was refused for it, once no more is refused.
+fn kept<S: Stage, R: Threads + Wait + Sync + Abort + Print>(
+    rt: &R,
+    alloc: Global,
+    stage: &mut S,
+    places: &mut Vec<Place>,
+) -> String {
+    if let Ok(text) = told_of(rt, alloc, stage, places, "kept") {
+        return text;
+    }
+    tell_refused(rt);
+    told_of(rt, alloc, stage, places, "kept").expect(rt, "one growth alone is refused")
+}
+
+/// A line is done; or it is refused, leaves all as it was before, and then is done.
+fn check_kept<S: Stage, R: Threads + Wait + Sync + Abort + Print>(
+    rt: &R,
+    alloc: Global,
+    stage: &mut S,
+    places: &mut Vec<Place>,
+    line: &str,
+    before: &str,
+) {
+    if is_played(rt, alloc, stage, places, line, line) {
+        return;
+    }
+    tell_refused(rt);
+    check_told(rt, kept(rt, alloc, stage, places).as_str(), before, line);
+    assert!(rt; is_played(rt, alloc, stage, places, line, line));
+}
+
+/// Plays a line, which may be refused where the play accepts that.
+fn check_line<S: Stage, R: Threads + Wait + Sync + Abort + Print>(
+    rt: &R,
+    alloc: Global,
+    stage: &mut S,
+    places: &mut Vec<Place>,
+    line: &str,
+    play: &Play,
+) {
+    if play.may_refuse {
+        let before = kept(rt, alloc, stage, places);
+        check_kept(rt, alloc, stage, places, line, before.as_str());
+    } else {
+        let is_played = is_played(rt, alloc, stage, places, line, play.name);
+        check_so(rt, is_played, line);
+    }
+}
+
+/// Plays lines; one that begins with `#` says why.
+fn check_lines<S: Stage, R: Threads + Wait + Sync + Abort + Print>(
+    rt: &R,
+    alloc: Global,
+    stage: &mut S,
+    places: &mut Vec<Place>,
+    lines: &str,
+    play: &Play,
+) {
+    for line in lines.lines() {
+        if !line.starts_with('#') {
+            check_line(rt, alloc, stage, places, line, play);
+        }
+    }
+}
+
+/// Ends a store, at its last number.
+fn check_closed<J: Naming, R: Wait + Abort>(rt: &R, store: Store<J>, play: &Play) {
+    let number = store.close(rt).number();
+    check_so(rt, number == play.last, play.name);
+}
+
+/// Plays over the store of a desk and a board, to its end.
+fn check_shared<J: Naming, R: Threads + Wait + Sync + Abort + Print>(
+    rt: &R,
+    alloc: Global,
+    desk: Desk,
+    board: Board,
+    places: &mut Vec<Place>,
+    play: &Play,
+)
+    requires book { desk.book ≡ J.book }
+    requires opening { desk.desk.last.opening ≡ J.opening }
+{
+    let mut store = Store::<J>::over(desk, board);
+    check_lines(rt, alloc, &mut store, places, play.shared, play);
+    check_closed(rt, store, play);
+    check_lines(rt, alloc, &mut End, places, play.ended, play);
+}
+
+/// Plays at a desk, and then over the store of it.
+fn check_over<R: Threads + Wait + Sync + Abort + Print>(
+    rt: &R,
+    alloc: Global,
+    mut front: Front,
+    places: &mut Vec<Place>,
+    play: &Play,
+) {
+    check_lines(rt, alloc, &mut front, places, play.at_desk, play);
+    let Front { desk, board } = front;
+    check_shared::<Brand, R>(rt, alloc, desk, board, places, play);
+}
+
+fn places_of(alloc: Global, seats: Vec<Seat>) -> Result<Vec<Place>, AllocError> {
+    let mut places = Vec::new(alloc);
+    for seat in seats {
+        places.push(Place::Free(seat))?;
+    }
+    Ok(places)
+}
+
+/// Plays over the parts of an opening.
+pub(super) fn check_parts<R: Threads + Wait + Sync + Abort + Print>(
+    rt: &R,
+    alloc: Global,
+    front: Front,
+    seats: Vec<Seat>,
+    play: &Play,
+) {
+    match places_of(alloc, seats) {
+        Ok(mut places) => check_over(rt, alloc, front, &mut places, play),
+        Err(AllocError) => {
+            assert!(rt; play.may_refuse);
+            tell_refused(rt);
+        }
+    }
+}
+
+/// Plays over a new store, which opens, since the opening before it was refused, and one growth alone is.
+fn check_again<R: Threads + Wait + Sync + Abort + Print>(
+    rt: &R,
+    alloc: Global,
+    config: Config,
+    play: &Play,
+) {
+    match open_parts(rt, alloc, config) {
+        Ok((desk, board, seats)) => check_parts(rt, alloc, Front { desk, board }, seats, play),
+        Err(_) => check_so(rt, false, "one growth alone is refused"),
+    }
+}
+
+/// Plays over a new store. Where its opening is refused, nothing was opened, and the next one opens.
+fn check_play<R: Threads + Wait + Sync + Abort + Print>(rt: &R, alloc: Global, play: &Play) {
+    let config = Config::new(play.workers, play.blocks, 4).expect(rt, "within the limits");
+    match open_parts(rt, alloc, config) {
+        Ok((desk, board, seats)) => check_parts(rt, alloc, Front { desk, board }, seats, play),
+        Err(error) => {
+            let is_so = play.may_refuse && error == OpenError::OutOfMemory;
+            check_so(rt, is_so, play.name);
+            tell_refused(rt);
+            check_again(rt, alloc, config, play);
+        }
+    }
+}
+
+/// Plays one play after another, which stand between empty lines.
+pub(super) fn check_plays<R: Threads + Wait + Sync + Abort + Print>(
+    rt: &R,
+    alloc: Global,
+    plays: &str,
+    may_refuse: bool,
+) {
+    for text in plays.split("\n\n") {
+        check_play(rt, alloc, &play_of(text, may_refuse));
+    }
+}

@@ -1,0 +1,363 @@
+// Four seats in threads beside one feeder, which hands them its receipts. What each of them acquires begins with all that it
+// had seen or been told, while blocks are retired and collected.
+
+ghost use Rattle.std.specs.Prelude.{◌≡◌, ◌<◌, All};
+ghost use Rattle.stream_store.specs.Stores.{IsOfOpening, IsSeatOf};
+
+use super::answers::edge_told;
+use super::batches::{Op, batch_of, is_op};
+use super::handed::{Handed, feed, learns_of};
+use super::waits::{has_reached, is_set};
+use graph_model::Batch;
+use graph_version::Version;
+use seat_board::Board;
+use std::alloc::{AllocError, Global};
+use std::marker::Brand;
+use std::process::Abort;
+use std::sync::atomic::Ordering::SeqCst;
+use std::sync::atomic::{AtomicBool, AtomicU32, AtomicU64};
+use std::sync::{OnceLock, Wait};
+use std::thread::{Threads, join, map_vec};
+use stream_store::{Collected, Config, Desk, Naming, Seat, Session, Store, open_parts};
+
+/// How many seats read, each in a thread of its own.
+const READERS: u32 = 4;
+
+/// How many batches are fed.
+const BATCHES: u32 = 64;
+
+/// After so many batches all readers hold a version, until the next eight are applied and the store is collected.
+const HELD_AFTER: u32 = 32;
+
+const SOURCES: [&str; 4] = ["c", "d", "e", "f"];
+
+/// The batch of this number: it adds one to the weight of a to b, and sets the edge to b of one of four sources.
+fn ops_at(number: u32) -> [Op<'static>; 2] {
+    let source = SOURCES[number as usize % 4];
+    let time = u64::from(number);
+    [
+        ("a", "a", "b", 1, time),
+        ("i", source, "b", i64::from(number), time),
+    ]
+}
+
+/// What the threads share beside the store: the receipts that are handed over, how many readers have begun and how many of them
+/// hold a version, whether the store was collected meanwhile, and whether one of them waited in vain.
+struct Shared<J: Naming> {
+    receipts: Vec<OnceLock<Option<Handed<J>>>>,
+    readers: AtomicU32,
+    holding: AtomicU64,
+    is_collected: AtomicBool,
+    is_late: AtomicBool,
+}
+
+// Written by hand: who lets one go rests on this function, and not on how each part is let go.
+impl<J: Naming> Drop for Shared<J> {
+    fn drop(self) {
+        let Shared {
+            receipts: _receipts,
+            readers: _readers,
+            holding: _holding,
+            is_collected: _is_collected,
+            is_late: _is_late,
+        } = self;
+    }
+}
+
+/// A place for the receipt of each batch.
+fn places<J: Naming>(alloc: Global) -> Result<Vec<OnceLock<Option<Handed<J>>>>, AllocError> {
+    let mut places = Vec::new(alloc);
+    for _ in 0..BATCHES {
+        places.push(OnceLock::new())?;
+    }
+    Ok(places)
+}
+
+impl<J: Naming> Shared<J> {
+    fn new(alloc: Global) -> Result<Shared<J>, AllocError> {
+        Ok(Shared {
+            receipts: places(alloc)?,
+            readers: AtomicU32::new(0),
+            holding: AtomicU64::new(0),
+            is_collected: AtomicBool::new(false),
+            is_late: AtomicBool::new(false),
+        })
+    }
+
+    /// Where the receipt of the batch of this number is handed over.
+    fn place(&self, number: u32) -> Option<&OnceLock<Option<Handed<J>>>> {
+        self.receipts.get((number as usize).checked_sub(1)?)
+    }
+
+    /// Waits until all readers hold a version.
+    fn meet_readers(&self) {
+        if !has_reached(&self.holding, u64::from(READERS)) {
+            self.is_late.store(true, SeqCst);
+        }
+    }
+
+    /// A reader that holds a version waits until the store was collected.
+    fn meet_feeder(&self) {
+        self.holding.fetch_add(1, SeqCst);
+        if !is_set(&self.is_collected) {
+            self.is_late.store(true, SeqCst);
+        }
+    }
+}
+
+/// Applies the eight batches of a group, hands over their receipts, and then collects.
+fn feed_group<J: Naming, R: Threads + Wait + Sync>(
+    rt: &R,
+    alloc: Global,
+    store: &Store<J>,
+    shared: &Shared<J>,
+    group: u32,
+) -> Collected
+    requires { group < 8 }
+{
+    for number in 8 * group + 1..=8 * group + 8 {
+        if let Some(place) = shared.place(number) {
+            feed(rt, store, place, batch_of(alloc, ops_at(number).as_slice()));
+        }
+    }
+    store.collect(rt)
+}
+
+/// Feeds all batches. What the collection came to that was made while all readers held a version.
+fn feed_all<J: Naming, R: Threads + Wait + Sync>(
+    rt: &R,
+    alloc: Global,
+    store: &Store<J>,
+    shared: &Shared<J>,
+) -> Collected {
+    for group in 0..4 {
+        let _collected = feed_group(rt, alloc, store, shared, group);
+    }
+    shared.meet_readers();
+    let beside = feed_group(rt, alloc, store, shared, 4);
+    shared.is_collected.store(true, SeqCst);
+    for group in 5..8 {
+        let _collected = feed_group(rt, alloc, store, shared, group);
+    }
+    beside
+}
+
+/// Whether the batch is the one of this number.
+fn is_batch(batch: &Batch, number: u32) -> bool {
+    let [first, second] = ops_at(number);
+    match batch.ops() {
+        [one, other] => is_op(one, first) && is_op(other, second),
+        _ => false,
+    }
+}
+
+/// Whether the version's batches are those that were fed first.
+fn are_first(version: &Version) -> bool {
+    for (batch, number) in version.batches().zip(1..=BATCHES) {
+        if !is_batch(batch, number) {
+            return false;
+        }
+    }
+    version.number() <= u64::from(BATCHES)
+}
+
+/// Whether the session's version has the first batches, and what they leave: each of them added one to the weight.
+fn is_as_fed(alloc: Global, session: &Session) -> bool {
+    let number = session.version().number();
+    match edge_told(alloc, session) {
+        Some(Some((weight, 1, recent))) => {
+            weight.unsigned_abs() == number && recent == number && are_first(session.version())
+        }
+        _ => false,
+    }
+}
+
+/// What a reader found: how often it looked at a version, and whether it was as it is to be each time; whether the reader learnt of
+/// each receipt; and the number of the last version.
+#[derive(Clone, Copy)]
+struct Reading {
+    looked: u32,
+    is_right: bool,
+    is_told: bool,
+    last: u64,
+}
+
+impl Reading {
+    /// Looks at a version that a seat acquired which was told of this number.
+    fn look(&mut self, alloc: Global, session: &Session, told: u64) {
+        let number = session.version().number();
+        self.looked = self.looked.saturating_add(1);
+        self.is_right &= self.last <= number && told <= number && is_as_fed(alloc, session);
+        self.last = number;
+    }
+}
+
+/// Waits for the receipt of this number; whether the seat learnt of it.
+fn is_told<J: Naming, R: Wait>(rt: &R, shared: &Shared<J>, seat: &mut Seat, number: u32) -> bool
+    requires { IsOfOpening J.book J.opening seat.old.seen }
+    ensures { IsOfOpening J.book J.opening seat.new.seen }
+{
+    match shared.place(number) {
+        Some(place) => learns_of(seat, place.wait(rt), u64::from(number)),
+        None => false,
+    }
+}
+
+/// The seat is told of this number, acquires a version, looks at it, and lets it go. One version of each reader is held until
+/// the store was collected.
+fn round<J: Naming, R: Wait>(
+    rt: &R,
+    alloc: Global,
+    store: &Store<J>,
+    shared: &Shared<J>,
+    mut seat: Seat,
+    number: u32,
+    reading: &mut Reading,
+) -> Seat
+    requires { IsOfOpening J.book J.opening seat.seen }
+    ensures { IsOfOpening J.book J.opening result.seen }
+{
+    reading.is_told &= is_told(rt, shared, &mut seat, number);
+    let session = seat.pin(rt, store).enter(rt, store);
+    reading.look(alloc, &session, u64::from(number));
+    if HELD_AFTER - READERS < number && number <= HELD_AFTER {
+        shared.meet_feeder();
+        // The version that is held is the same still.
+        reading.is_right &= session.version().number() == reading.last;
+        reading.look(alloc, &session, u64::from(number));
+    }
+    session.release(rt, store)
+}
+
+/// What a reader finds that is told of every fourth batch, and behind each of these once more of the first one.
+fn read<J: Naming, R: Wait>(
+    rt: &R,
+    alloc: Global,
+    store: &Store<J>,
+    shared: &Shared<J>,
+    mut seat: Seat,
+) -> Reading
+    requires { IsOfOpening J.book J.opening seat.seen }
+{
+    let mut reading = Reading {
+        looked: 0,
+        is_right: true,
+        is_told: true,
+        last: 0,
+    };
+    let first = shared.readers.fetch_add(1, SeqCst) % READERS + 1;
+    for step in 0..BATCHES / READERS {
+        let number = READERS * step + first;
+        seat = round(rt, alloc, store, shared, seat, number, &mut reading);
+        seat = round(rt, alloc, store, shared, seat, 1, &mut reading);
+    }
+    reading
+}
+
+fn read_all<J: Naming + Send + Sync, R: Threads + Wait + Sync>(
+    rt: &R,
+    alloc: Global,
+    store: &Store<J>,
+    shared: &Shared<J>,
+    seats: Vec<Seat>,
+) -> Result<Vec<Reading>, AllocError>
+    requires { All (IsSeatOf J.book J.opening) seats.items }
+{
+    map_vec(
+        rt,
+        seats,
+        &|seat: Seat| -> Reading
+            requires { IsOfOpening J.book J.opening seat.seen }
+        { read(rt, alloc, store, shared, seat) },
+    )
+}
+
+/// In each of 16 rounds two versions were acquired, and one of them all was looked at twice.
+fn is_whole(reading: &Reading) -> bool {
+    reading.looked == 33 && reading.is_right && reading.is_told && reading.last >= 61
+}
+
+/// How many readings are whole, of as many as there are; nothing where a growth was refused.
+fn whole_of(readings: &Result<Vec<Reading>, AllocError>) -> Option<(usize, usize)> {
+    let Ok(readings) = readings else {
+        return None;
+    };
+    let mut whole = 0_usize;
+    for reading in readings.as_slice() {
+        whole = whole.saturating_add(usize::from(is_whole(reading)));
+    }
+    Some((whole, readings.len()))
+}
+
+/// What the readers found, what the collection came to while all of them held a version, and whether one waited in vain.
+#[derive(Clone, Copy)]
+struct Found {
+    whole: Option<(usize, usize)>,
+    beside: Collected,
+    is_late: bool,
+}
+
+fn fed_and_read<J: Naming + Send + Sync, R: Threads + Wait + Sync>(
+    rt: &R,
+    alloc: Global,
+    store: &Store<J>,
+    shared: &Shared<J>,
+    seats: Vec<Seat>,
+) -> Found
+    requires { All (IsSeatOf J.book J.opening) seats.items }
+{
+    let (beside, readings) = join(
+        rt,
+        || feed_all(rt, alloc, store, shared),
+        || -> Result<Vec<Reading>, AllocError>
+            requires { All (IsSeatOf J.book J.opening) seats.items }
+        { read_all(rt, alloc, store, shared, seats) },
+    );
+    Found {
+        whole: whole_of(&readings),
+        beside,
+        is_late: shared.is_late.load(SeqCst),
+    }
+}
+
+fn found_over<J: Naming + Send + Sync, R: Threads + Wait + Sync>(
+    rt: &R,
+    alloc: Global,
+    desk: Desk,
+    board: Board,
+    seats: Vec<Seat>,
+) -> Option<Found>
+    requires book { desk.book ≡ J.book }
+    requires opening { desk.desk.last.opening ≡ J.opening }
+    requires seats { All (IsSeatOf J.book J.opening) seats.items }
+{
+    let store = Store::<J>::over(desk, board);
+    let found = match Shared::<J>::new(alloc) {
+        Ok(shared) => Some(fed_and_read(rt, alloc, &store, &shared, seats)),
+        Err(_) => None,
+    };
+    let _last = store.close(rt);
+    found
+}
+
+fn over_a_new_store<R: Threads + Wait + Sync>(rt: &R, alloc: Global) -> Option<Found> {
+    let config = Config::new(4, 256, READERS as usize).ok()?;
+    match open_parts(rt, alloc, config) {
+        Ok((desk, board, seats)) => found_over::<Brand, R>(rt, alloc, desk, board, seats),
+        Err(_) => None,
+    }
+}
+
+/// While each reader held one of versions 29 to 32, eight batches were applied. The blocks that batches 33 to 39 made for `a`
+/// and 33 to 36 for the others were retired by then and came behind all that is held: these eleven are recycled, at least. Of
+/// each of the five sources a version held has a block that was retired.
+fn check_found<R: Abort>(rt: &R, found: &Found) {
+    assert!(rt; matches!(found.whole, Some((4, 4))) && !found.is_late);
+    assert!(rt; found.beside.recycled >= 11 && found.beside.retired >= 5);
+}
+
+#[test]
+fn four_told_readers(rt: HostRuntime) {
+    let found = over_a_new_store(&rt, rt.alloc()).expect(&rt, "four readings");
+    check_found(&rt, &found);
+}
