@@ -1,6 +1,6 @@
 -- One operation on a row of the program's blocks.
-use Rattle.std.proofs.Common.{◌≡◌, ℕ, ◌<◌, ◌==◌, Bool, true, false, cond, List, [], ◌∷◌, ◌++◌, length, get_or, set, flat_map}
-use Rattle.std.proofs.Common.{refl, sym, ap, ◌∙◌, arith, rules, w64, FitsSigned, ℤ, subst, All}
+use Rattle.std.proofs.Common.{◌≡◌, ℕ, ◌<◌, ◌==◌, Bool, true, false, cond, List, [], ◌∷◌, ◌++◌, length, get_or, set, count_by}
+use Rattle.std.proofs.Common.{refl, sym, ap, ◌∙◌, arith, subst, All}
 use Rattle.std.proofs.lemmas.List.{map-append, Elements.All-head, Elements.All-tail, Quantifiers.position-Some}
 use Rattle.std.specs.{List.list_any, List.position, Option.is_some, Option.option_or}
 use Rattle.std.specs.declared.option.Option.{Option, TheVariants.None, TheVariants.Some}
@@ -11,9 +11,12 @@ use Rattle.edge_block.proofs.{Entries.list_any-holds, Firsts.first_some-by_any}
 use Rattle.edge_block.specs.Slots.{Slot, holds, stamp_at, is_free, put_slot, has_room_for, IsSlot, first_some, at_first}
 use Rattle.block_layout.specs.Rows.{OpenBlock, has_edge, has_room, open_at, edge_at, touch, touches, put_edge, set_edge}
 use Rattle.block_layout.specs.Rows.{new_block, change_row}
-use Rattle.batch_shards.specs.RowBlocks.{block_of, open_of, opens, set_slot, IsChanged, HaveSame}
+use Rattle.batch_shards.specs.RowBlocks.{block_of, open_of, opens, had_here, own_here, set_slot, IsChanged}
+use Rattle.batch_shards.specs.OpenRows.{KeepsHere, KeepsIn}
+use Rattle.std.specs.declared.{sync.Arc.Arc, alloc.Global.Global, vec.Vec.Vec}
+use Rattle.edge_block.specs.declared.blocks.Block.{Block}
 use Rattle.batch_shards.specs.declared.row_blocks.RowBlock.{RowBlock}
-use Rattle.batch_shards.proofs.Places.{list_any-map, none_passes, one_passes, first_changed, first_has, count_by-set}
+use Rattle.batch_shards.proofs.Places.{list_any-map, none_passes, one_passes, first_changed, first_has, count_by-set, flat_map-set}
 
 -- an edge in a slot has a weight and times in range
 pub stamped_at : (slots : List (Option Slot)) (target : ℕ) (s : Stamp) → All IsSlot slots → stamp_at slots target ≡ Some s
@@ -28,9 +31,6 @@ stamped_at (Some e ∷ slots) target s all h =
           same here
       | false ↦ λ i. stamped_at slots target s (All-tail IsSlot (Some e) slots all) i
     ] h
-
-pub weight_fits : (z : ℤ) → IsWeight z → FitsSigned w64 z
-weight_fits z h = search rules
 
 abbrev pub at_edge : ℕ → ℕ → RowBlock → Bool
 at_edge kind target h = has_edge (kind, target) (open_of h)
@@ -147,10 +147,18 @@ room_is kind target row i d room =
 pub room_within : (kind : ℕ) (row : List RowBlock) (i : ℕ) (d : RowBlock) → position (at_room kind) row ≡ Some i → i < length row
 room_within kind row i d room = (position-Some (at_room kind) row i d room).0
 
--- one block's numbers change as the row's
-pub row_numbers : (f : RowBlock → List ℕ) (row : List RowBlock) (i : ℕ) (y d : RowBlock) (fresh others : List ℕ) → i < length row
-    → HaveSame (f y) fresh (f (get_or row i d)) others → HaveSame (flat_map f (set row i y)) fresh (flat_map f row) others
-row_numbers f row i y d fresh others lt same q = let one = count_by-set f q row i y d lt in let here = same q in omega arith
+-- a row keeps what its changed block keeps
+pub keeps_set : (most : ℕ) (row : List RowBlock) (i : ℕ) (y d : RowBlock) (fresh left : Vec (Arc Block Global) Global)
+    → i < length row → d ≡ get_or row i d → KeepsHere most d fresh y left → KeepsIn most row fresh (set row i y) left
+keeps_set most row i y d fresh left lt is keeps = record {
+  had = flat_map-set had_here row i y d lt (keeps.had ∙ ap had_here is);
+  numbers = λ q.
+      let one = count_by-set own_here q row i y d lt in
+      let here = keeps.numbers q in
+      let same = ap (λ h. count_by q (own_here h)) is in
+      omega arith;
+  few = keeps.few;
+}
 
 -- an operation on an edge that is absent
 pub absent_puts : (change : EdgeChange) (place : ℕ × ℕ) (row : List OpenBlock) (s : Stamp) → Some s ≡ stamp_after change None

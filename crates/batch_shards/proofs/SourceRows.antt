@@ -1,6 +1,6 @@
 -- One more source's row is done.
 use Rattle.std.proofs.Common.{◌≡◌, ℕ, ◌+◌, ◌<◌, true, false, List}
-use Rattle.std.proofs.Common.{[], ◌∷◌, ◌++◌, length, get_or, map, flat_map, count_by, take, refl, sym, ap, ap₂, ◌∙◌, arith, All}
+use Rattle.std.proofs.Common.{[], ◌∷◌, ◌++◌, length, get_or, map, flat_map, count_by, take, refl, sym, subst, ap, ap₂, ◌∙◌, arith, All}
 use Rattle.std.{specs.declared.sync.Arc.Arc, specs.declared.alloc.Global.Global, specs.List.sum_by, proofs.lemmas.Bool.false≢true}
 use Rattle.std.proofs.lemmas.List.{map-append, take_more, get_or_default, Sums.sum_by-append, Elements.All-push}
 use Rattle.graph_model.specs.declared.batches.Outcome.{Outcome, TheVariants.Expired}
@@ -11,7 +11,8 @@ use Rattle.batch_shards.specs.RowBlocks.{blocks_of, numbers_of, opens, had_in, o
 use Rattle.batch_shards.specs.Closing.{row_values, after_of, written_of, dropped_of, unused_of, written_all}
 use Rattle.batch_shards.specs.{Shards.key_at, Shards.resolved_at, Shards.resolved_in, Shards.own_all, Done.layout_by}
 use Rattle.batch_shards.specs.Groups.{is_past, does_act, told, outcome_over, IsTold, IsSourceRow, IsOneMore}
-use Rattle.batch_shards.specs.Progress.{AreOutcomes, AreRowsDone}
+use Rattle.batch_shards.specs.{OpenRows.IsRowOf, OpenRows.KeepsOthers, Progress.AreOutcomes, Progress.AreRowsDone}
+use Rattle.graph_model.specs.declared.ids.VertexId.{VertexId}
 use Rattle.batch_shards.specs.declared.shard.{OpenRow.OpenRow, ShardDone.ShardDone, Step.Step}
 use Rattle.batch_shards.proofs.{Places.count_by-append, Places.one_piece, ShardSteps.first_step, SourceSteps.outcome_of, SourceSteps.past_here}
 use Rattle.batch_shards.proofs.Expiring.{edge_stands, told_more}
@@ -65,15 +66,13 @@ module _ (rows : ℕ → List BlockView) (sources : List ℕ) (steps : List Step
 
   -- the outcomes of operations on one more row
   pub outcomes_more : (row source : ℕ) → IsSourceRow sources steps row source → (old new : List (ℕ × Outcome))
-      → map (λ o. o.0) new ≡ map (λ o. o.0) old
       → ((k : ℕ) (s : Step) (o : ℕ × Outcome) → k < length steps → does_act row (get_or steps k s).act ≡ true
       → IsTold (get_or steps k s).act (get_or old k o).1
       → IsOneMore sources steps (opened (layout_by rows)) source k (get_or old k o).1 (get_or new k o).1)
-      → ((k : ℕ) (s : Step) (o : ℕ × Outcome) → k < length steps → does_act row (get_or steps k s).act ≡ false
-      → get_or new k o ≡ get_or old k o)
+      → KeepsOthers steps row old new
       → AreOutcomes sources steps rows row old → AreOutcomes sources steps rows (row + 1) new
-  outcomes_more row source is old new places written others d = record {
-    places = places ∙ d.places;
+  outcomes_more row source is old new written kept d = record {
+    places = kept.places ∙ d.places;
     are = λ k s o lt past.
         let act : Act = (get_or steps k s).act in
         let same : (get_or steps k first_step).act ≡ act = ap (λ (x : Step). x.act) (get_or_default steps k first_step s lt) in
@@ -82,20 +81,19 @@ module _ (rows : ℕ → List BlockView) (sources : List ℕ) (steps : List Step
           | true ↦ λ t. written k s o lt t
               (was_told row source is k lt act same (get_or old k o).1 (λ before. d.are k s o lt before))
               ∙ one_told row source is k lt act same (get_or old k o).1 (λ before. d.are k s o lt before)
-          | false ↦ λ t. ap (λ (p : ℕ × Outcome). p.1) (others k s o lt t)
+          | false ↦ λ t. ap (λ (p : ℕ × Outcome). p.1) (kept.others k s o lt t)
               ∙ d.are k s o lt (past_here row act past t) ∙ ap told (one_edge row source is k lt act same t)
         ] refl;
   }
 
   -- the row as it was opened, and as it was closed
   module _ (row : ℕ) (start r : OpenRow) (is : IsSourceRow sources steps row start.source.0)
-      (source : r.source ≡ start.source) where
+      (of_source : IsRowOf start.source r) where
     taken : take (row + 1) sources ≡ take row sources ++ start.source.0 ∷ []
     taken = take_more sources row 0 is.within ∙ ap (λ s. take row sources ++ s ∷ []) is.source_is
 
     pub row_done : (handed : List ℕ) (fresh next : List (Arc Block Global)) (before after : ShardDone)
         → opens r.blocks.items ≡ rows_all (resolved_in sources steps) (opened (layout_by rows)) start.source.0
-        → All (IsOf r.source.0) r.blocks.items
         → had_in r.blocks.items ≡ rows start.source.0
         → HaveSame (own_in r.blocks.items) (numbers_of next) [] (numbers_of fresh)
         → (AreOutcomes sources steps rows row before.outcomes.items
@@ -105,18 +103,19 @@ module _ (rows : ℕ → List BlockView) (sources : List ℕ) (steps : List Step
         → blocks_of after.left.dropped.items ≡ blocks_of before.left.dropped.items ++ dropped_of r.blocks.items
         → numbers_of after.left.unused.items ≡ numbers_of before.left.unused.items ++ unused_of r.blocks.items
         → AreRowsDone rows sources steps handed row fresh before → AreRowsDone rows sources steps handed (row + 1) next after
-    row_done handed fresh next before after shown own had same outcomes closed took dropped unused d = record {
+    row_done handed fresh next before after shown had same outcomes closed took dropped unused d = record {
       work = d.work ++ r ∷ [];
       sources_are = map-append (λ (r : OpenRow). r.source.0) d.work (r ∷ [])
-          ∙ ap₂ (λ a b. a ++ b ∷ []) d.sources_are (ap (λ s. s.0) source) ∙ sym taken;
+          ∙ ap₂ (λ a b. a ++ b ∷ []) d.sources_are (ap (λ s. s.0) of_source.source_is) ∙ sym taken;
       layout = All-push (λ (r : OpenRow). opens r.blocks.items
           ≡ rows_all (resolved_in sources steps) (opened (layout_by rows)) r.source.0) d.work r d.layout
-          (shown ∙ ap (λ s. rows_all (resolved_in sources steps) (opened (layout_by rows)) s.0) (sym source));
-      own = All-push (λ (r : OpenRow). All (IsOf r.source.0) r.blocks.items) d.work r d.own own;
+          (shown ∙ ap (λ s. rows_all (resolved_in sources steps) (opened (layout_by rows)) s.0) (sym of_source.source_is));
+      own = All-push (λ (r : OpenRow). All (IsOf r.source.0) r.blocks.items) d.work r d.own
+          (subst (λ (s : VertexId). All (IsOf s.0) r.blocks.items) (sym of_source.source_is) of_source.own);
       had = one_piece (λ (r : OpenRow). had_in r.blocks.items) d.work r ∙ ap₂ (λ a b. a ++ b) d.had had
           ∙ sym (ap (flat_map rows) taken ∙ one_piece rows (take row sources) start.source.0);
       had_each = All-push (λ (r : OpenRow). had_in r.blocks.items ≡ rows r.source.0) d.work r d.had_each
-          (had ∙ ap (λ s. rows s.0) (sym source));
+          (had ∙ ap (λ s. rows s.0) (sym of_source.source_is));
       numbers = λ q.
           let all = ap (count_by q) (one_piece (λ (r : OpenRow). own_in r.blocks.items) d.work r)
           ∙ count_by-append q (own_all d.work) (own_in r.blocks.items) in

@@ -16,15 +16,13 @@ use Rattle.batch_shards.specs.declared.shard.Step.{Step}
 
 -- whether an operation is on an edge of a row
 abbrev pub is_at : ℕ → Act → Bool
-is_at row (Edge None change) = false
 is_at row (Edge (Some p) change) = p.row == row
-is_at row (Expire time) = false
+is_at row _ = false
 
 -- whether it is on an edge of a row that is not one of so many first ones
 abbrev pub is_past : ℕ → Act → Bool
-is_past rows (Edge None change) = false
 is_past rows (Edge (Some p) change) = not (nat_lt p.row rows)
-is_past rows (Expire time) = false
+is_past rows _ = false
 
 abbrev pub is_expiry : Act → Bool
 is_expiry (Edge place change) = false

@@ -8,3 +8,4 @@ pub mod Spending
 pub mod Closing
 pub mod Done
 pub mod Progress
+pub mod OpenRows

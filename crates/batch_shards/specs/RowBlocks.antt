@@ -64,7 +64,6 @@ set_slot target (Some stamp) slots = put_slot (record { target = target; stamp =
 -- a block whose slots are changed
 pub record IsTouched (f : List (Option Slot) → List (Option Slot)) (h g : RowBlock) : Type 0 where
   pub shown : open_of g ≡ touch f (open_of h)
-  pub had : had_here g ≡ had_here h
   pub source : (block_of g.block).source ≡ (block_of h.block).source
 
 abbrev pub IsOf : ℕ → RowBlock → Type 0
@@ -74,5 +73,4 @@ IsOf source h = (block_of h.block).source ≡ source
 pub record IsChanged (change : EdgeChange) (target : ℕ) (h g : RowBlock) : Type 0 where
   pub shown : open_of g ≡ (if touches (outcome_at change (stamp_at (block_of h.block).slots target)) then touch
       (set_slot target (stamp_after change (stamp_at (block_of h.block).slots target))) (open_of h) else open_of h)
-  pub had : had_here g ≡ had_here h
   pub source : (block_of g.block).source ≡ (block_of h.block).source

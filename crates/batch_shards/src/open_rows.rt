@@ -1,21 +1,20 @@
 //! Work on the row of a source: it is opened, its operations are done, and it is closed.
 
-ghost use Rattle.std.specs.Prelude.{◌≡◌, ◌+◌, ◌++◌, ◌<◌, ◌≤◌, ℕ, List, [], IfOk, OnOk, All, true, false};
-ghost use Rattle.std.specs.Prelude.{vec_len, length, get_or, map, count_by, ◌%◌, ◌^◌};
+ghost use Rattle.std.specs.Prelude.{◌≡◌, ◌+◌, ◌++◌, ◌<◌, ◌≤◌, ℕ, List, [], IfOk, OnOk, All};
+ghost use Rattle.std.specs.Prelude.{vec_len, length, map, count_by, ◌%◌, ◌^◌};
 ghost use Rattle.graph_model.specs.declared.batches.Outcome.TheVariants.{Expired};
 ghost use Rattle.graph_model.specs.Changes.{IsChange};
 ghost use Rattle.block_layout.specs.Rows as layout;
 ghost use Rattle.block_layout.specs.Rows.{OpenBlock, has_none, shape_of};
-ghost use Rattle.block_layout.specs.Batches.{key_step, rows_all, key_outcome, together};
-ghost use Rattle.batch_shards.specs.RowBlocks.{block_of, blocks_of, kept_of, opens, had_in, own_in, numbers_of, HaveSame, IsOf};
+ghost use Rattle.block_layout.specs.Batches.{key_step, key_outcome, together};
+ghost use Rattle.batch_shards.specs.RowBlocks.{block_of, blocks_of, kept_of, opens, had_in, own_in, numbers_of};
+ghost use Rattle.batch_shards.specs.OpenRows.{IsRowOf, KeepsIn, LeavesEnough, AreDone, KeepsOthers};
 ghost use Rattle.batch_shards.specs.Closing.{after_here, written_here, dropped_here, unused_here, after_of, written_of};
 ghost use Rattle.batch_shards.specs.Closing.{dropped_of, unused_of};
-ghost use Rattle.batch_shards.specs.Groups.{is_at, does_act, key_of, IsSourceRow};
-ghost use Rattle.batch_shards.specs.Groups.{IsOneMore, IsTold, told, act_step, act_outcome};
+ghost use Rattle.batch_shards.specs.Groups.{is_at, key_of, told, act_step, act_outcome, IsSourceRow};
 ghost use Rattle.batch_shards.specs.Spending.{spends, takes, time_of, latest, unspent, IsGrouped};
-ghost use Rattle.batch_shards.specs.Shards.{IsActChange, resolved_in};
+ghost use Rattle.batch_shards.specs.Shards.{IsActChange};
 ghost use Rattle.batch_shards.specs.Notes.{IsNoted};
-ghost use Rattle.batch_shards.specs.Room.{AreHints};
 
 use crate::groups::{Groups, edge_behind, first_edge, later_expiry};
 use crate::notes::Notes;
@@ -37,19 +36,13 @@ fn do_step(
 ) -> Result<Outcome, AllocError>
     requires change { IsChange change }
     requires fresh { 0 < vec_len fresh.old }
-    requires own { All (IsOf row.old.source.0) row.old.blocks.items }
-    requires hinted { AreHints row.old.hints row.old.blocks.items }
+    requires of_source { IsRowOf row.old.source row.old }
     ensures row { OnOk result (opens row.new.blocks.items
         ≡ key_step change (key_of row.old.source.0 place) (opens row.old.blocks.items)) }
     ensures outcome { IfOk result (λ o. o
         ≡ key_outcome change (key_of row.old.source.0 place) (λ _. opens row.old.blocks.items)) }
-    ensures source { OnOk result (row.new.source ≡ row.old.source) }
-    ensures hinted { OnOk result (AreHints row.new.hints row.new.blocks.items) }
-    ensures had { OnOk result (had_in row.new.blocks.items ≡ had_in row.old.blocks.items) }
-    ensures own { OnOk result (All (IsOf row.new.source.0) row.new.blocks.items) }
-    ensures numbers { OnOk result (HaveSame (own_in row.new.blocks.items) (numbers_of fresh.new.items)
-        (own_in row.old.blocks.items) (numbers_of fresh.old.items)) }
-    ensures few { OnOk result (vec_len fresh.old ≤ vec_len fresh.new + 1) }
+    ensures of_source { OnOk result (IsRowOf row.old.source row.new) }
+    ensures keeps { OnOk result (KeepsIn 1 row.old.blocks.items fresh.old row.new.blocks.items fresh.new) }
 {
     let Some(place) = place else {
         return Ok(Outcome::Absent);
@@ -69,18 +62,13 @@ fn do_step(
 /// Takes old edges out of a row, and answers how many they were, modulo 2^64.
 fn expire_row(row: &mut OpenRow, fresh: &mut Vec<Arc<Block>>, time: u64) -> Result<u64, AllocError>
     requires fresh { unspent time (opens row.old.blocks.items) ≤ vec_len fresh.old }
-    requires own { All (IsOf row.old.source.0) row.old.blocks.items }
-    requires hinted { AreHints row.old.hints row.old.blocks.items }
+    requires of_source { IsRowOf row.old.source row.old }
     ensures row { OnOk result (opens row.new.blocks.items ≡ layout.expire_row time (opens row.old.blocks.items)) }
     ensures count { IfOk result (λ n. n ≡ layout.old_in_row time (opens row.old.blocks.items) % 2 ^ 64) }
-    ensures source { OnOk result (row.new.source ≡ row.old.source) }
-    ensures hinted { OnOk result (AreHints row.new.hints row.new.blocks.items) }
-    ensures had { OnOk result (had_in row.new.blocks.items ≡ had_in row.old.blocks.items) }
-    ensures own { OnOk result (All (IsOf row.new.source.0) row.new.blocks.items) }
-    ensures numbers { OnOk result (HaveSame (own_in row.new.blocks.items) (numbers_of fresh.new.items)
-        (own_in row.old.blocks.items) (numbers_of fresh.old.items)) }
-    ensures few { OnOk result ((t : ℕ) → time ≤ t → vec_len fresh.old + unspent t (opens row.new.blocks.items)
-        ≤ vec_len fresh.new + unspent t (opens row.old.blocks.items)) }
+    ensures of_source { OnOk result (IsRowOf row.old.source row.new) }
+    ensures keeps { OnOk result (KeepsIn (unspent time (opens row.old.blocks.items)) row.old.blocks.items fresh.old
+        row.new.blocks.items fresh.new) }
+    ensures enough { OnOk result (LeavesEnough time 0 row.old.blocks.items fresh.old row.new.blocks.items fresh.new) }
 {
     if time <= row.hints.since {
         return Ok(0);
@@ -111,19 +99,14 @@ fn do_act(
 ) -> Result<Outcome, AllocError>
     requires act { IsActChange act }
     requires fresh { spends act (opens row.old.blocks.items) ≤ vec_len fresh.old }
-    requires own { All (IsOf row.old.source.0) row.old.blocks.items }
-    requires hinted { AreHints row.old.hints row.old.blocks.items }
+    requires of_source { IsRowOf row.old.source row.old }
     ensures row { OnOk result (opens row.new.blocks.items ≡ act_step row.old.source.0 act (opens row.old.blocks.items)) }
     ensures outcome { IfOk result (λ o. o ≡ told (together before
         (act_outcome row.old.source.0 act (opens row.old.blocks.items)))) }
-    ensures source { OnOk result (row.new.source ≡ row.old.source) }
-    ensures hinted { OnOk result (AreHints row.new.hints row.new.blocks.items) }
-    ensures had { OnOk result (had_in row.new.blocks.items ≡ had_in row.old.blocks.items) }
-    ensures own { OnOk result (All (IsOf row.new.source.0) row.new.blocks.items) }
-    ensures numbers { OnOk result (HaveSame (own_in row.new.blocks.items) (numbers_of fresh.new.items)
-        (own_in row.old.blocks.items) (numbers_of fresh.old.items)) }
-    ensures few { OnOk result ((t : ℕ) → time_of act ≤ t → vec_len fresh.old + unspent t (opens row.new.blocks.items)
-        ≤ vec_len fresh.new + (takes act + unspent t (opens row.old.blocks.items))) }
+    ensures of_source { OnOk result (IsRowOf row.old.source row.new) }
+    ensures keeps { OnOk result (KeepsIn (spends act (opens row.old.blocks.items)) row.old.blocks.items fresh.old
+        row.new.blocks.items fresh.new) }
+    ensures enough { OnOk result (LeavesEnough (time_of act) (takes act) row.old.blocks.items fresh.old row.new.blocks.items fresh.new) }
 {
     match act {
         Act::Edge(place, change) => {
@@ -153,27 +136,16 @@ pub fn do_steps(
     requires outcomes { length outcomes.old.items ≡ length steps.now }
     requires fresh { count_by (λ s. is_at row s.act) steps.now + unspent (latest steps.now) (opens opened.old.blocks.items)
         ≤ vec_len fresh.old }
-    requires own { All (IsOf opened.old.source.0) opened.old.blocks.items }
-    requires hinted { AreHints opened.old.hints opened.old.blocks.items }
-    ensures rows { OnOk result ((sources : List ℕ) (rows : ℕ → List OpenBlock)
+    requires of_source { IsRowOf opened.old.source opened.old }
+    ensures done { OnOk result ((sources : List ℕ) (rows : ℕ → List OpenBlock)
         → IsSourceRow sources steps.now row opened.old.source.0 → opens opened.old.blocks.items ≡ rows opened.old.source.0
-        → opens opened.new.blocks.items ≡ rows_all (resolved_in sources steps.now) rows opened.old.source.0) }
-    ensures written { OnOk result ((sources : List ℕ) (rows : ℕ → List OpenBlock)
-        → IsSourceRow sources steps.now row opened.old.source.0 → opens opened.old.blocks.items ≡ rows opened.old.source.0
-        → (k : ℕ) (s : Step) (o : ℕ × Outcome) → k < length steps.now → does_act row (get_or steps.now k s).act ≡ true
-        → IsTold (get_or steps.now k s).act (get_or outcomes.old.items k o).1
-        → IsOneMore sources steps.now rows opened.old.source.0 k (get_or outcomes.old.items k o).1
-        (get_or outcomes.new.items k o).1) }
-    ensures others { OnOk result ((k : ℕ) (s : Step) (o : ℕ × Outcome) → k < length steps.now
-        → does_act row (get_or steps.now k s).act ≡ false → get_or outcomes.new.items k o ≡ get_or outcomes.old.items k o) }
-    ensures places { OnOk result (map (λ o. o.0) outcomes.new.items ≡ map (λ o. o.0) outcomes.old.items) }
-    ensures source { OnOk result (opened.new.source ≡ opened.old.source) }
-    ensures had { OnOk result (had_in opened.new.blocks.items ≡ had_in opened.old.blocks.items) }
-    ensures own { OnOk result (All (IsOf opened.new.source.0) opened.new.blocks.items) }
-    ensures numbers { OnOk result (HaveSame (own_in opened.new.blocks.items) (numbers_of fresh.new.items)
-        (own_in opened.old.blocks.items) (numbers_of fresh.old.items)) }
-    ensures few { OnOk result (vec_len fresh.old ≤ vec_len fresh.new + (count_by (λ s. is_at row s.act) steps.now
-        + unspent (latest steps.now) (opens opened.old.blocks.items))) }
+        → AreDone sources steps.now rows row opened.old.source.0 opened.new.blocks.items outcomes.old.items
+        outcomes.new.items) }
+    ensures others { OnOk result (KeepsOthers steps.now row outcomes.old.items outcomes.new.items) }
+    ensures of_source { OnOk result (IsRowOf opened.old.source opened.new) }
+    ensures keeps { OnOk result (KeepsIn (count_by (λ s. is_at row s.act) steps.now
+        + unspent (latest steps.now) (opens opened.old.blocks.items)) opened.old.blocks.items fresh.old
+        opened.new.blocks.items fresh.new) }
 {
     let mut edge = first_edge(groups, steps, row);
     let mut index = edge.min(later_expiry(groups, steps, 0, opened.hints.since));
@@ -202,12 +174,10 @@ pub fn open_row(
     targets: &[u32],
 ) -> Result<OpenRow, AllocError>
     requires { All (λ b. (block_of b).source ≡ source.0) row.now }
-    ensures source { IfOk result (λ r. r.source ≡ source) }
     ensures blocks { IfOk result (λ r. opens r.blocks.items ≡ map kept_of row.now) }
     ensures had { IfOk result (λ r. had_in r.blocks.items ≡ blocks_of row.now) }
     ensures none_own { IfOk result (λ r. own_in r.blocks.items ≡ []) }
-    ensures own { IfOk result (λ r. All (IsOf source.0) r.blocks.items) }
-    ensures hinted { IfOk result (λ r. AreHints r.hints r.blocks.items) }
+    ensures of_source { IfOk result (IsRowOf source) }
 {
     let mut blocks = Vec::with_capacity(alloc, row.len() + 1)?;
     for block in row {

@@ -21,7 +21,8 @@ pub struct RowBlock {
 }
 
 impl RowBlock {
-    ghost use Rattle.batch_shards.specs.RowBlocks.{block_of, open_of, numbers_of, had_here, own_here, untouched_here, IsTouched, HaveSame};
+    ghost use Rattle.batch_shards.specs.RowBlocks.{block_of, open_of, untouched_here, IsTouched};
+    ghost use Rattle.batch_shards.specs.OpenRows.{KeepsHere};
     ghost use Rattle.batch_shards.specs.Spending.{is_unspent};
 
     /// Whether it has an edge of the kind to the target.
@@ -52,9 +53,7 @@ impl RowBlock {
     fn own(&mut self, fresh: &mut Vec<Arc<Block>>) -> Result<(), AllocError>
         requires { self.old.touched ≡ false → 0 < vec_len fresh.old }
         ensures touched { OnOk result (IsTouched (λ slots. slots) self.old self.new) }
-        ensures numbers { OnOk result (HaveSame (own_here self.new) (numbers_of fresh.new.items) (own_here self.old)
-            (numbers_of fresh.old.items)) }
-        ensures few { OnOk result (vec_len fresh.old ≤ vec_len fresh.new + untouched_here self.old) }
+        ensures keeps { OnOk result (KeepsHere (untouched_here self.old) self.old fresh.old self.new fresh.new) }
     {
         if self.touched {
             return Ok(());
@@ -84,9 +83,7 @@ impl RowBlock {
         requires first { IsTime first }
         requires recent { IsTime recent }
         ensures touched { OnOk result (IsTouched (put_slot (edge_slot target weight first recent)) self.old self.new) }
-        ensures numbers { OnOk result (HaveSame (own_here self.new) (numbers_of fresh.new.items) (own_here self.old)
-            (numbers_of fresh.old.items)) }
-        ensures few { OnOk result (vec_len fresh.old ≤ vec_len fresh.new + 1) }
+        ensures keeps { OnOk result (KeepsHere 1 self.old fresh.old self.new fresh.new) }
     {
         self.own(fresh)?;
         Arc::make_mut(&mut self.block)?.put(target, weight, first, recent);
@@ -97,9 +94,7 @@ impl RowBlock {
     pub fn take(&mut self, fresh: &mut Vec<Arc<Block>>, target: u32) -> Result<(), AllocError>
         requires { 0 < vec_len fresh.old }
         ensures touched { OnOk result (IsTouched (take_slot target) self.old self.new) }
-        ensures numbers { OnOk result (HaveSame (own_here self.new) (numbers_of fresh.new.items) (own_here self.old)
-            (numbers_of fresh.old.items)) }
-        ensures few { OnOk result (vec_len fresh.old ≤ vec_len fresh.new + 1) }
+        ensures keeps { OnOk result (KeepsHere 1 self.old fresh.old self.new fresh.new) }
     {
         self.own(fresh)?;
         let _ = Arc::make_mut(&mut self.block)?.take(target);
@@ -111,13 +106,9 @@ impl RowBlock {
     pub fn expire(&mut self, fresh: &mut Vec<Arc<Block>>, time: u64) -> Result<u32, AllocError>
         requires { is_unspent time (open_of self.old) ≡ true → 0 < vec_len fresh.old }
         ensures shown { OnOk result (open_of self.new ≡ layout.expire_block time (open_of self.old)) }
-        ensures had { OnOk result (had_here self.new ≡ had_here self.old) }
         ensures source { OnOk result ((block_of self.new.block).source ≡ (block_of self.old.block).source) }
         ensures count { IfOk result (λ n. n ≡ old_in time (block_of self.old.block).slots) }
-        ensures numbers { OnOk result (HaveSame (own_here self.new) (numbers_of fresh.new.items) (own_here self.old)
-            (numbers_of fresh.old.items)) }
-        ensures few { OnOk result (vec_len fresh.old ≤ vec_len fresh.new
-            + cond (is_unspent time (open_of self.old)) 1 0) }
+        ensures keeps { OnOk result (KeepsHere (cond (is_unspent time (open_of self.old)) 1 0) self.old fresh.old self.new fresh.new) }
     {
         if !self.block.has_before(time) {
             return Ok(0);
@@ -130,9 +121,7 @@ impl RowBlock {
         requires { self.old.touched ≡ false → 0 < vec_len fresh.old }
         ensures touched { OnOk result (IsTouched (slots_since time) self.old self.new) }
         ensures count { IfOk result (λ n. n ≡ old_in time (block_of self.old.block).slots) }
-        ensures numbers { OnOk result (HaveSame (own_here self.new) (numbers_of fresh.new.items) (own_here self.old)
-            (numbers_of fresh.old.items)) }
-        ensures few { OnOk result (vec_len fresh.old ≤ vec_len fresh.new + untouched_here self.old) }
+        ensures keeps { OnOk result (KeepsHere (untouched_here self.old) self.old fresh.old self.new fresh.new) }
     {
         self.own(fresh)?;
         let count = Arc::make_mut(&mut self.block)?.expire(time);

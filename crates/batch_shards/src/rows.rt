@@ -1,7 +1,7 @@
 //! Changes of a row.
 
 ghost use Rattle.std.specs.Prelude.{◌≡◌, ℕ, List, ◌+◌, ◌<◌, ◌≤◌, IsTrue, IfOk};
-ghost use Rattle.std.specs.Prelude.{IfSome, OnOk, All, vec_len, length, [], true, false};
+ghost use Rattle.std.specs.Prelude.{IfSome, OnOk, All, vec_len, length, [], ◌∷◌, true, false};
 ghost use Rattle.std.specs.Prelude.{get_or, min, MatchOption, ◌%◌, ◌^◌};
 ghost use Rattle.std.specs.List.{list_any, position};
 ghost use Rattle.std.specs.Option.{is_some};
@@ -10,11 +10,11 @@ ghost use Rattle.graph_model.specs.Step.{stamp_after, outcome_at};
 ghost use Rattle.edge_block.specs.Slots.{has_room_for, stamp_at, edge_slot};
 ghost use Rattle.block_layout.specs.Rows as layout;
 ghost use Rattle.block_layout.specs.Rows.{touch, touches, change_row, edge_at, put_edge};
-ghost use Rattle.batch_shards.specs.RowBlocks.{block_of, open_of, opens, had_here, had_in, numbers_of, own_here, own_in};
+ghost use Rattle.batch_shards.specs.RowBlocks.{block_of, open_of, opens, set_slot, IsOf, IsChanged, IsTouched};
+ghost use Rattle.batch_shards.specs.OpenRows.{KeepsHere, KeepsIn, LeavesEnough};
 ghost use Rattle.batch_shards.specs.Spending.{unspent};
 ghost use Rattle.batch_shards.specs.Notes.{stands, Gains, IsNoted};
 ghost use Rattle.batch_shards.specs.Room.{IsFull, IsRoom, AreHints};
-ghost use Rattle.batch_shards.specs.RowBlocks.{set_slot, HaveSame, IsOf, IsChanged, IsTouched};
 ghost use Rattle.graph_model.specs.Changes.{option_stamp, AreMarks, IsChange};
 
 use crate::notes::Notes;
@@ -107,9 +107,7 @@ fn change_here(
     requires edge { is_some (stamp_at (block_of here.old.block).slots target) ≡ true }
     ensures outcome { IfOk result (λ o. o ≡ outcome_at change (stamp_at (block_of here.old.block).slots target)) }
     ensures changed { OnOk result (IsChanged change target here.old here.new) }
-    ensures numbers { OnOk result (HaveSame (own_here here.new) (numbers_of fresh.new.items) (own_here here.old)
-        (numbers_of fresh.old.items)) }
-    ensures few { OnOk result (vec_len fresh.old ≤ vec_len fresh.new + 1) }
+    ensures keeps { OnOk result (KeepsHere 1 here.old fresh.old here.new fresh.new) }
 {
     let Some(edge) = here.block.find(target) else {
         return Ok(Outcome::Absent);
@@ -140,9 +138,7 @@ fn set_edge(
     requires room { IsTrue (has_room_for target (block_of here.old.block).slots) }
     requires after { IfSome after AreMarks }
     ensures touched { OnOk result (IsTouched (set_slot target (option_stamp after)) here.old here.new) }
-    ensures numbers { OnOk result (HaveSame (own_here here.new) (numbers_of fresh.new.items) (own_here here.old)
-        (numbers_of fresh.old.items)) }
-    ensures few { OnOk result (vec_len fresh.old ≤ vec_len fresh.new + 1) }
+    ensures keeps { OnOk result (KeepsHere 1 here.old fresh.old here.new fresh.new) }
 {
     match after {
         Some(marks) => here.put(fresh, target, marks.weight, marks.first, marks.recent),
@@ -170,11 +166,8 @@ fn add_edge(
         (opens row.old.items)) }
     ensures gains { IfOk result (λ place. Gains target place row.old.items row.new.items) }
     ensures full { IfOk result (λ place. IsFull kind.0 place row.new.items) }
-    ensures had { OnOk result (had_in row.new.items ≡ had_in row.old.items) }
     ensures own { OnOk result (All (IsOf source.0) row.new.items) }
-    ensures numbers { OnOk result (HaveSame (own_in row.new.items) (numbers_of fresh.new.items) (own_in row.old.items)
-        (numbers_of fresh.old.items)) }
-    ensures few { OnOk result (vec_len fresh.old ≤ vec_len fresh.new + 1) }
+    ensures keeps { OnOk result (KeepsIn 1 row.old.items fresh.old row.new.items fresh.new) }
 {
     match room.first(row.as_slice(), kind) {
         Some(place) => {
@@ -202,10 +195,8 @@ fn new_block(
     requires marks { AreMarks marks }
     ensures shown { IfOk result (λ h. open_of h ≡ layout.new_block kind.0
         (edge_slot target marks.weight marks.first marks.recent)) }
-    ensures had { IfOk result (λ h. had_here h ≡ []) }
     ensures own { IfOk result (λ h. IsOf source.0 h) }
-    ensures numbers { IfOk result (λ h. HaveSame (own_here h) (numbers_of fresh.new.items) [] (numbers_of fresh.old.items)) }
-    ensures few { OnOk result (vec_len fresh.old ≤ vec_len fresh.new + 1) }
+    ensures keeps { IfOk result (λ h. KeepsIn 1 [] fresh.old (h ∷ []) fresh.new) }
 {
     let Some(mut block) = fresh.pop() else {
         return Err(AllocError);
@@ -237,11 +228,8 @@ pub fn apply_step(
     ensures outcome { IfOk result (λ o. o ≡ outcome_at change (edge_at (opens row.old.items) (kind.0, target))) }
     ensures row { OnOk result (opens row.new.items ≡ change_row change (kind.0, target) (opens row.old.items)) }
     ensures hints { OnOk result (AreHints hints.new row.new.items) }
-    ensures had { OnOk result (had_in row.new.items ≡ had_in row.old.items) }
     ensures own { OnOk result (All (IsOf source.0) row.new.items) }
-    ensures numbers { OnOk result (HaveSame (own_in row.new.items) (numbers_of fresh.new.items) (own_in row.old.items)
-        (numbers_of fresh.old.items)) }
-    ensures few { OnOk result (vec_len fresh.old ≤ vec_len fresh.new + 1) }
+    ensures keeps { OnOk result (KeepsIn 1 row.old.items fresh.old row.new.items fresh.new) }
 {
     // The edge may be older than those that the row had.
     hints.since = 0;
@@ -285,12 +273,9 @@ pub fn expire_blocks(
     requires fresh { unspent time (opens row.old.items) ≤ vec_len fresh.old }
     ensures row { OnOk result (opens row.new.items ≡ layout.expire_row time (opens row.old.items)) }
     ensures count { IfOk result (λ n. n ≡ layout.old_in_row time (opens row.old.items) % 2 ^ 64) }
-    ensures had { OnOk result (had_in row.new.items ≡ had_in row.old.items) }
     ensures own { OnOk result ((source : ℕ) → All (IsOf source) row.old.items → All (IsOf source) row.new.items) }
-    ensures numbers { OnOk result (HaveSame (own_in row.new.items) (numbers_of fresh.new.items) (own_in row.old.items)
-        (numbers_of fresh.old.items)) }
-    ensures few { OnOk result ((t : ℕ) → time ≤ t → vec_len fresh.old + unspent t (opens row.new.items)
-        ≤ vec_len fresh.new + unspent t (opens row.old.items)) }
+    ensures keeps { OnOk result (KeepsIn (unspent time (opens row.old.items)) row.old.items fresh.old row.new.items fresh.new) }
+    ensures enough { OnOk result (LeavesEnough time 0 row.old.items fresh.old row.new.items fresh.new) }
 {
     let mut count = 0_u64;
     for place in 0..row.len() {

@@ -3,16 +3,16 @@ use Rattle.batch_shards.specs.{RowBlocks.opens, Groups.key_of, Spending.takes, S
 use Rattle.batch_shards.proofs.Expiring.{edge_owes}
 use Rattle.batch_shards.proofs.open_rows.do_act.Goals as goal
 
-pub returns-in_ok-outcome-in-Edge-clause-few : goal.returns-in_ok-outcome-in-Edge-clause-few
-returns-in_ok-outcome-in-Edge-clause-few c = λ t le.
+pub returns-in_ok-outcome-in-Edge-clause-enough : goal.returns-in_ok-outcome-in-Edge-clause-enough
+returns-in_ok-outcome-in-Edge-clause-enough c = λ t le.
     let owes = edge_owes t c.in-Edge.change (key_of c.args.row.now.source.0 c.in-Edge.place) (opens c.args.row.now.blocks.items)
     (opens c.do_step.new.row.blocks.items) c.in_ok-outcome-in-Edge.ensures.row in
     let one = ap takes c.in-Edge.is in
-    omega (arith, owes, one, c.in_ok-outcome-in-Edge.ensures.few)
+    omega (arith, owes, one, c.in_ok-outcome-in-Edge.ensures.keeps.few)
 
-pub returns-in_ok-count-in-Expire-clause-few : goal.returns-in_ok-count-in-Expire-clause-few
-returns-in_ok-count-in-Expire-clause-few c = λ t le.
+pub returns-in_ok-count-in-Expire-clause-enough : goal.returns-in_ok-count-in-Expire-clause-enough
+returns-in_ok-count-in-Expire-clause-enough c = λ t le.
     let none = ap takes c.in-Expire.is in
     let time = ap time_of c.in-Expire.is in
-    let few = c.in_ok-count-in-Expire.ensures.few t (omega (arith, le, time)) in
+    let few = c.in_ok-count-in-Expire.ensures.enough t (omega (arith, le, time)) in
     omega (arith, few, none)

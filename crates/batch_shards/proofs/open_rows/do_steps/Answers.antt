@@ -5,7 +5,7 @@ use Rattle.batch_shards.proofs.{Expiring.not_later, Expiring.spends_least, Shard
 use Rattle.batch_shards.proofs.SourceSteps.{next_from, stepped, outcome_here, left_alone, left_told, skipped_count, at_row, wrote}
 use Rattle.batch_shards.{proofs.SourceSteps.beside, specs.Groups.told, specs.Groups.act_step}
 use Rattle.batch_shards.specs.Groups.{act_outcome, is_at, is_expiry, is_later, does_act, may_change, IsNext, LeadsTo, IsSourceRow}
-use Rattle.batch_shards.specs.{Groups.IsOneMore, RowBlocks.opens, Shards.resolved_in, Spending.latest, declared.shard.Act.Act}
+use Rattle.batch_shards.specs.{Groups.IsOneMore, OpenRows.IsRowOf, RowBlocks.opens, Shards.resolved_in, Spending.latest, declared.shard.Act.Act}
 use Rattle.block_layout.specs.{Batches.rows_all, Batches.together, Rows.OpenBlock, Rows.old_in_row}
 use Rattle.batch_shards.proofs.open_rows.do_steps.Goals as goal
 
@@ -25,18 +25,16 @@ loop-index-init c =
       there = next.there;
       edge = next_from edge n (omega arith) (omega (arith, c.min-index.ensures));
       rows = λ sources rows is e. e ∙ sym (left_alone sources c.args.steps.now c.args.row c.args.opened.now.source.0 is rows since 0 n
-          next (ap (old_in_row since) (sym e) ∙ c.requires.hinted.young));
+          next (ap (old_in_row since) (sym e) ∙ c.requires.of_source.hinted.young));
       written = λ sources rows is e k s o lt at was. left_told sources c.args.steps.now c.args.row c.args.opened.now.source.0 is rows
-          since 0 n next (ap (old_in_row since) (sym e) ∙ c.requires.hinted.young) k s (get_or c.args.outcomes.now.items k o).1
+          since 0 n next (ap (old_in_row since) (sym e) ∙ c.requires.of_source.hinted.young) k s (get_or c.args.outcomes.now.items k o).1
           (omega arith) lt at was;
       later = λ k o ge. refl;
       others = λ k s o lt at. refl;
       places = refl;
       length = c.requires.outcomes;
-      source = refl;
-      hinted = c.requires.hinted;
+      of_source = c.requires.of_source;
       had = refl;
-      own = c.requires.own;
       numbers = λ q. refl;
       few = omega arith;
     }
@@ -75,7 +73,7 @@ loop-index-preserved c =
     → opens c.do_act.new.row.blocks.items ≡ rows_all (resolved_in sources (take (i + 1) c.args.steps.now)) rows
     c.args.opened.now.source.0 =
     λ sources rows is e. c.in_ok-outcome.ensures.row
-    ∙ ap (λ (s : VertexId). act_step s.0 act (opens c.loop-index.opened.blocks.items)) c.loop-index.invariant.source
+    ∙ ap (λ (s : VertexId). act_step s.0 act (opens c.loop-index.opened.blocks.items)) c.loop-index.invariant.of_source.source_is
     ∙ stepped sources c.args.steps.now c.args.row c.args.opened.now.source.0 is rows i
     (opens c.loop-index.opened.blocks.items) lt at (c.loop-index.invariant.rows sources rows is e) in
     record {
@@ -84,7 +82,7 @@ loop-index-preserved c =
       edge = next_from edge n next.ahead (omega (arith, c.min-index-in-loop-index.ensures));
       rows = λ sources rows is e. by sources rows is e
           ∙ sym (left_alone sources c.args.steps.now c.args.row c.args.opened.now.source.0 is rows since (i + 1) n next
-          (ap (old_in_row since) (sym (by sources rows is e)) ∙ c.in_ok-outcome.ensures.hinted.young));
+          (ap (old_in_row since) (sym (by sources rows is e)) ∙ c.in_ok-outcome.ensures.of_source.hinted.young));
       written = λ sources rows is e k s o k_lt k_at was.
           wrote c.loop-index.outcomes.items i k (c.index_mut.result.now.0, c.in_ok-outcome.outcome) o
           (λ j a. IsOneMore sources c.args.steps.now rows c.args.opened.now.source.0 j
@@ -96,14 +94,14 @@ loop-index-preserved c =
           ∙ ap (λ (p : ℕ × Outcome). told (together p.1 (act_outcome c.loop-index.opened.source.0 act
           (opens c.loop-index.opened.blocks.items)))) (read o)
           ∙ ap (λ (s : VertexId). told (together (get_or c.args.outcomes.now.items i o).1 (act_outcome s.0 act
-          (opens c.loop-index.opened.blocks.items)))) c.loop-index.invariant.source))
+          (opens c.loop-index.opened.blocks.items)))) c.loop-index.invariant.of_source.source_is))
           (beside (λ j. IsOneMore sources c.args.steps.now rows c.args.opened.now.source.0 k
           (get_or c.args.outcomes.now.items k o).1 (get_or c.loop-index.outcomes.items k o).1) i k
           (λ below. c.loop-index.invariant.written sources rows is e k s o below k_at was)
           (λ behind. subst (λ (x : ℕ × Outcome). IsOneMore sources c.args.steps.now rows c.args.opened.now.source.0 k
           (get_or c.args.outcomes.now.items k o).1 x.1) (sym (c.loop-index.invariant.later k o (omega arith)))
           (left_told sources c.args.steps.now c.args.row c.args.opened.now.source.0 is rows since (i + 1) n next
-          (ap (old_in_row since) (sym (by sources rows is e)) ∙ c.in_ok-outcome.ensures.hinted.young) k s
+          (ap (old_in_row since) (sym (by sources rows is e)) ∙ c.in_ok-outcome.ensures.of_source.hinted.young) k s
           (get_or c.args.outcomes.now.items k o).1 behind k_lt k_at was)));
       later = λ k o ge. get_or-set_other c.loop-index.outcomes.items i k
           (c.index_mut.result.now.0, c.in_ok-outcome.outcome) o (omega (arith, next.ahead))
@@ -116,16 +114,14 @@ loop-index-preserved c =
           (c.index_mut.result.now.0, c.in_ok-outcome.outcome) c.index_mut.result.now
           (ap (λ (o : ℕ × Outcome). o.0) c.index_mut.ensures.value) ∙ c.loop-index.invariant.places;
       length = search rules;
-      source = search rules;
-      hinted = c.in_ok-outcome.ensures.hinted;
-      had = search rules;
-      own = c.in_ok-outcome.ensures.own;
-      numbers = λ q. (let a = c.in_ok-outcome.ensures.numbers q in let b = c.loop-index.invariant.numbers q in omega arith);
+      of_source = subst (λ (s : VertexId). IsRowOf s c.do_act.new.row) c.loop-index.invariant.of_source.source_is c.in_ok-outcome.ensures.of_source;
+      had = c.in_ok-outcome.ensures.keeps.had ∙ c.loop-index.invariant.had;
+      numbers = λ q. (let a = c.in_ok-outcome.ensures.keeps.numbers q in let b = c.loop-index.invariant.numbers q in omega arith);
       few =
           let more = at_row c.args.steps.now c.args.row i lt at in
           let same = skipped_count c.args.steps.now c.args.row since (n - (i + 1)) (i + 1) n (omega (arith, next.ahead)) next.within
           next.between in
-          let took = c.in_ok-outcome.ensures.few (latest c.args.steps.now) (not_later c.args.steps.now i first_step lt) in
+          let took = c.in_ok-outcome.ensures.enough (latest c.args.steps.now) (not_later c.args.steps.now i first_step lt) in
           omega (arith, more.0, same, took, c.loop-index.invariant.few);
     }
 

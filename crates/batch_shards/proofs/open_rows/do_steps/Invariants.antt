@@ -1,8 +1,8 @@
-use Rattle.std.proofs.Common.{◌≡◌, ◌+◌, ◌-◌, ◌≤◌, ◌<◌, ℕ, List, All, length, get_or, map, take, count_by, vec_len, true, false}
+use Rattle.std.proofs.Common.{◌≡◌, ◌+◌, ◌-◌, ◌≤◌, ◌<◌, ℕ, List, length, get_or, map, take, count_by, vec_len, true, false}
 use Rattle.block_layout.specs.{Rows.OpenBlock, Batches.rows_all}
 use Rattle.graph_model.specs.declared.batches.Outcome.{Outcome}
-use Rattle.batch_shards.specs.RowBlocks.{opens, had_in, own_in, numbers_of, HaveSame, IsOf}
-use Rattle.batch_shards.specs.{Room.AreHints, Shards.resolved_in, Spending.latest, Spending.unspent, declared.shard.Step.Step}
+use Rattle.batch_shards.specs.RowBlocks.{opens, had_in, own_in, numbers_of, HaveSame}
+use Rattle.batch_shards.specs.{OpenRows.IsRowOf, Shards.resolved_in, Spending.latest, Spending.unspent, declared.shard.Step.Step}
 use Rattle.batch_shards.specs.Groups.{is_at, does_act, IsNext, IsSourceRow, IsOneMore, IsTold}
 use Rattle.batch_shards.proofs.open_rows.do_steps.Given as goal
 
@@ -25,10 +25,8 @@ invariant-loop-index l = record {
       → get_or l.outcomes.items k o ≡ get_or l.initial.outcomes.items k o;
   places : map (λ o. o.0) l.outcomes.items ≡ map (λ o. o.0) l.initial.outcomes.items;
   length : length l.outcomes.items ≡ length l.steps;
-  source : l.opened.source ≡ l.initial.opened.source;
-  hinted : AreHints l.opened.hints l.opened.blocks.items;
+  of_source : IsRowOf l.initial.opened.source l.opened;
   had : had_in l.opened.blocks.items ≡ had_in l.initial.opened.blocks.items;
-  own : All (IsOf l.opened.source.0) l.opened.blocks.items;
   numbers : HaveSame (own_in l.opened.blocks.items) (numbers_of l.fresh.items) (own_in l.initial.opened.blocks.items)
       (numbers_of l.initial.fresh.items);
   few : vec_len l.initial.fresh + unspent (latest l.steps) (opens l.opened.blocks.items)

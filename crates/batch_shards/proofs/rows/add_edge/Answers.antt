@@ -2,10 +2,11 @@ use Rattle.std.proofs.Common.{◌≡◌, true, get_or, length, arith, [], ◌∷
 use Rattle.std.proofs.lemmas.Int.{to_z-of_z}
 use Rattle.edge_block.specs.Slots.{Slot, has_room_for, edge_slot, put_slot}
 use Rattle.block_layout.specs.Rows.{touch}
-use Rattle.batch_shards.specs.RowBlocks.{block_of, open_of, had_here, numbers_of, own_here, HaveSame, IsTouched}
+use Rattle.batch_shards.specs.RowBlocks.{block_of, open_of, IsTouched}
 use Rattle.batch_shards.specs.{declared.row_blocks.RowBlock.RowBlock, Notes.Gains, Room.IsFull}
-use Rattle.batch_shards.proofs.{Places.flat_map-set, Rooms.full_set, Rooms.full_before, Rooms.full_all}
-use Rattle.batch_shards.proofs.RowSteps.{at_room, placed, weight_fits, put_into, put_last, room_is, room_within, row_numbers}
+use Rattle.batch_shards.proofs.Rooms.{full_set, full_before, full_all}
+use Rattle.graph_version.proofs.Rebased.{weight_fits}
+use Rattle.batch_shards.proofs.RowSteps.{at_room, placed, put_into, put_last, room_is, room_within, keeps_set}
 use Rattle.batch_shards.proofs.Noting.{gains_put, gains_push, put_block_targets, new_block_targets}
 use Rattle.batch_shards.proofs.rows.add_edge.Goals as goal
 
@@ -46,22 +47,13 @@ returns-in_ok-put-in-Some-clause-full c =
     (full_before c.args.kind.0 c.in-Some.place c.args.row.now.items c.index_mut.result.now found)
     (λ below within. absurd (omega arith))
 
-pub returns-in_ok-put-in-Some-clause-had : goal.returns-in_ok-put-in-Some-clause-had
-returns-in_ok-put-in-Some-clause-had c =
+pub returns-in_ok-put-in-Some-clause-keeps : goal.returns-in_ok-put-in-Some-clause-keeps
+returns-in_ok-put-in-Some-clause-keeps c =
     let found = placed (at_room c.args.kind.0) c.as_slice.ensures.value c.in-Some.ensures in
     let h : RowBlock = c.index_mut.result.now in
-    flat_map-set had_here c.args.row.now.items c.in-Some.place c.put.new.self h
-    (room_within c.args.kind.0 c.args.row.now.items c.in-Some.place h found)
-    (c.in_ok-put-in-Some.ensures.touched.had ∙ ap had_here c.index_mut.ensures.value)
-
-pub returns-in_ok-put-in-Some-clause-numbers : goal.returns-in_ok-put-in-Some-clause-numbers
-returns-in_ok-put-in-Some-clause-numbers c =
-    let found = placed (at_room c.args.kind.0) c.as_slice.ensures.value c.in-Some.ensures in
-    let h : RowBlock = c.index_mut.result.now in
-    row_numbers own_here c.args.row.now.items c.in-Some.place c.put.new.self h (numbers_of c.put.new.fresh.items)
-    (numbers_of c.args.fresh.now.items) (room_within c.args.kind.0 c.args.row.now.items c.in-Some.place h found)
-    (subst (λ (x : RowBlock). HaveSame (own_here c.put.new.self) (numbers_of c.put.new.fresh.items) (own_here x)
-    (numbers_of c.args.fresh.now.items)) c.index_mut.ensures.value c.in_ok-put-in-Some.ensures.numbers)
+    keeps_set 1 c.args.row.now.items c.in-Some.place c.put.new.self h c.args.fresh.now c.put.new.fresh
+    (room_within c.args.kind.0 c.args.row.now.items c.in-Some.place h found) c.index_mut.ensures.value
+    c.in_ok-put-in-Some.ensures.keeps
 
 pub returns-in_ok-push-in-None-clause-gains : goal.returns-in_ok-push-in-None-clause-gains
 returns-in_ok-push-in-None-clause-gains c =

@@ -2,10 +2,10 @@ use Rattle.std.proofs.Common.{◌≡◌, ◌<◌, List, true, sym, ap, ◌∙◌
 use Rattle.std.specs.{Option.is_some, declared.option.Option.TheVariants.None, declared.option.Option.TheVariants.Some}
 use Rattle.graph_model.specs.{Step.stamp_after, Changes.option_stamp, Changes.stamp_in}
 use Rattle.edge_block.{specs.Slots.stamp_at, proofs.Entries.list_any-holds}
-use Rattle.batch_shards.specs.RowBlocks.{block_of, opens, had_here, numbers_of, own_here, HaveSame, IsChanged}
+use Rattle.batch_shards.specs.RowBlocks.{block_of, opens, IsChanged}
 use Rattle.batch_shards.specs.{declared.row_blocks.RowBlock.RowBlock, Notes.has_target, Room.IsRoom}
-use Rattle.batch_shards.proofs.{Places.flat_map-set, RowSteps.absent_edge, RowSteps.absent_puts, RowSteps.absent_stays}
-use Rattle.batch_shards.proofs.RowSteps.{at_edge, placed, row_numbers, found_within, found_edge, found_some, found_changed, absent_any}
+use Rattle.batch_shards.proofs.RowSteps.{absent_edge, absent_puts, absent_stays}
+use Rattle.batch_shards.proofs.RowSteps.{at_edge, placed, keeps_set, found_within, found_edge, found_some, found_changed, absent_any}
 use Rattle.batch_shards.proofs.{Noting.noted_kept, Noting.changed_targets, Young.none_at_start}
 use Rattle.batch_shards.proofs.rows.apply_step.Goals as goal
 
@@ -57,23 +57,13 @@ returns-in_ok-outcome-in-Some-clause-hints c =
       young = none_at_start (opens (set c.args.row.now.items c.in-Some.place y));
     }
 
-pub returns-in_ok-outcome-in-Some-clause-had : goal.returns-in_ok-outcome-in-Some-clause-had
-returns-in_ok-outcome-in-Some-clause-had c =
+pub returns-in_ok-outcome-in-Some-clause-keeps : goal.returns-in_ok-outcome-in-Some-clause-keeps
+returns-in_ok-outcome-in-Some-clause-keeps c =
     let found = placed (at_edge c.args.kind.0 c.args.target) c.as_slice.ensures.value c.in-Some.ensures in
     let h : RowBlock = c.index_mut.result.now in
-    flat_map-set had_here c.args.row.now.items c.in-Some.place c.change_here.new.here h
-    (found_within c.args.kind.0 c.args.target c.args.row.now.items c.in-Some.place h found)
-    (c.in_ok-outcome-in-Some.ensures.changed.had ∙ ap had_here c.index_mut.ensures.value)
-
-pub returns-in_ok-outcome-in-Some-clause-numbers : goal.returns-in_ok-outcome-in-Some-clause-numbers
-returns-in_ok-outcome-in-Some-clause-numbers c =
-    let found = placed (at_edge c.args.kind.0 c.args.target) c.as_slice.ensures.value c.in-Some.ensures in
-    let h : RowBlock = c.index_mut.result.now in
-    row_numbers own_here c.args.row.now.items c.in-Some.place c.change_here.new.here h
-    (numbers_of c.change_here.new.fresh.items) (numbers_of c.args.fresh.now.items)
-    (found_within c.args.kind.0 c.args.target c.args.row.now.items c.in-Some.place h found)
-    (subst (λ (x : RowBlock). HaveSame (own_here c.change_here.new.here) (numbers_of c.change_here.new.fresh.items) (own_here x)
-    (numbers_of c.args.fresh.now.items)) c.index_mut.ensures.value c.in_ok-outcome-in-Some.ensures.numbers)
+    keeps_set 1 c.args.row.now.items c.in-Some.place c.change_here.new.here h c.args.fresh.now c.change_here.new.fresh
+    (found_within c.args.kind.0 c.args.target c.args.row.now.items c.in-Some.place h found) c.index_mut.ensures.value
+    c.in_ok-outcome-in-Some.ensures.keeps
 
 pub returns-in_ok-note_edge-in-None-clause-outcome : goal.returns-in_ok-note_edge-in-None-clause-outcome
 returns-in_ok-note_edge-in-None-clause-outcome c =

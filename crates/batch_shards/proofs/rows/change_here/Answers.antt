@@ -1,6 +1,7 @@
 use Rattle.std.proofs.{Common.rules, Common.◌≡◌, Common.true, Common.subst, Common.w64, lemmas.Int.to_z-of_z}
 use Rattle.edge_block.{specs.Slots.has_room_for, proofs.Room.room_found}
-use Rattle.batch_shards.proofs.RowSteps.{stamped_at, weight_fits}
+use Rattle.graph_version.proofs.Rebased.{weight_fits}
+use Rattle.batch_shards.proofs.RowSteps.{stamped_at}
 use Rattle.batch_shards.proofs.rows.change_here.Goals as goal
 
 pub change_edge-outcome-requires-clause-before : goal.change_edge-outcome-requires-clause-before

@@ -1,9 +1,9 @@
-use Rattle.std.proofs.Common.{◌≡◌, ℕ, ◌+◌, ◌%◌, ◌^◌, ◌≤◌, All, take, vec_len}
+use Rattle.std.proofs.Common.{◌≡◌, ℕ, ◌%◌, ◌^◌, All, take}
 use Rattle.std.specs.List.{sum_by}
 use Rattle.edge_block.specs.Slots.{old_in}
 use Rattle.block_layout.specs.Rows.{expire_block}
 use Rattle.batch_shards.specs.RowBlocks.{opens, had_in, own_in, numbers_of, HaveSame, IsOf}
-use Rattle.batch_shards.{specs.Spending.unspent, proofs.Expiring.map_first}
+use Rattle.batch_shards.{specs.OpenRows.LeavesEnough, proofs.Expiring.map_first}
 use Rattle.batch_shards.proofs.rows.expire_blocks.Given as goal
 
 abbrev pub invariant-loop-place : goal.invariant-loop-place
@@ -14,6 +14,5 @@ invariant-loop-place l = record {
   own : (source : ℕ) → All (IsOf source) l.initial.row.items → All (IsOf source) l.row.items;
   numbers : HaveSame (own_in l.row.items) (numbers_of l.fresh.items) (own_in l.initial.row.items)
       (numbers_of l.initial.fresh.items);
-  few : (t : ℕ) → l.time ≤ t → vec_len l.initial.fresh + unspent t (opens l.row.items)
-      ≤ vec_len l.fresh + unspent t (opens l.initial.row.items);
+  enough : LeavesEnough l.time 0 l.initial.row.items l.initial.fresh l.row.items l.fresh;
 }

@@ -35,7 +35,7 @@ returns-clause-fresh c =
     let left = needed_row (λ s. old_blocks t (v s)) c.args.sources.now c.args.row c.requires.row in
     let here = owed t c.blocks_at-blocks.result.now (opens c.in_ok-opened.opened.blocks.items)
     (v (get_or c.args.sources.now c.args.row (record { 0 = 0 })).0) c.in_ok-opened.ensures.blocks c.blocks_at-blocks.ensures.row in
-    omega (arith, more, left, here, c.requires.fresh, c.in_ok-do_steps.ensures.few)
+    omega (arith, more, left, here, c.requires.fresh, c.in_ok-do_steps.ensures.keeps.few)
 
 pub returns-clause-done : goal.returns-clause-done
 returns-clause-done c =
@@ -50,28 +50,27 @@ returns-clause-done c =
       distinct = c.requires.distinct;
       within = omega (arith, c.requires.row, long);
       source_is = get_or-map (λ (s : VertexId). s.0) c.args.sources.now c.args.row (record { 0 = 0 }) 0 c.requires.row
-          ∙ ap (λ (s : VertexId). s.0) (sym c.in_ok-opened.ensures.source);
+          ∙ ap (λ (s : VertexId). s.0) (sym c.in_ok-opened.ensures.of_source.source_is);
     } in
     let shown : opens start.blocks.items ≡ opened (layout_by v) start.source.0 =
     c.in_ok-opened.ensures.blocks ∙ kept_all c.blocks_at-blocks.result.now
     ∙ ap (λ b. map untouched (map shape_of b))
-    (c.blocks_at-blocks.ensures.row ∙ ap (λ (s : VertexId). v s.0) (sym c.in_ok-opened.ensures.source)) in
-    λ handed. row_done v sources c.args.steps.now c.args.row start r is c.in_ok-do_steps.ensures.source handed
+    (c.blocks_at-blocks.ensures.row ∙ ap (λ (s : VertexId). v s.0) (sym c.in_ok-opened.ensures.of_source.source_is)) in
+    let done = c.in_ok-do_steps.ensures.done sources (opened (layout_by v)) is shown in
+    λ handed. row_done v sources c.args.steps.now c.args.row start r is c.in_ok-do_steps.ensures.of_source handed
     c.args.fresh.now.items c.do_steps.new.fresh.items c.args.done.now _
-    (c.in_ok-do_steps.ensures.rows sources (opened (layout_by v)) is shown)
-    c.in_ok-do_steps.ensures.own
-    (c.in_ok-do_steps.ensures.had ∙ c.in_ok-opened.ensures.had ∙ c.blocks_at-blocks.ensures.row
-    ∙ ap (λ (s : VertexId). v s.0) (sym c.in_ok-opened.ensures.source))
-    (λ q. let none = ap (count_by q) c.in_ok-opened.ensures.none_own in let same = c.in_ok-do_steps.ensures.numbers q in
+    done.blocks_are
+    (c.in_ok-do_steps.ensures.keeps.had ∙ c.in_ok-opened.ensures.had ∙ c.blocks_at-blocks.ensures.row
+    ∙ ap (λ (s : VertexId). v s.0) (sym c.in_ok-opened.ensures.of_source.source_is))
+    (λ q. let none = ap (count_by q) c.in_ok-opened.ensures.none_own in let same = c.in_ok-do_steps.ensures.keeps.numbers q in
     omega arith)
     (outcomes_more v sources c.args.steps.now c.args.row start.source.0 is c.args.done.now.outcomes.items c.do_steps.new.outcomes.items
-    c.in_ok-do_steps.ensures.places (c.in_ok-do_steps.ensures.written sources (opened (layout_by v)) is shown)
-    c.in_ok-do_steps.ensures.others)
+    done.written c.in_ok-do_steps.ensures.others)
     (ap row_values c.in_ok-push.ensures.items
     ∙ map-append (λ (r : VertexId × Vec (Arc Block Global) Global). (r.0.0, blocks_of r.1.items)) c.args.done.now.rows.items
     ((source, c.in_ok-closed.closed) ∷ [])
     ∙ ap₂ (λ a b. row_values c.args.done.now.rows.items ++ (a, b) ∷ [])
-    (ap (λ (s : VertexId). s.0) (sym (c.in_ok-do_steps.ensures.source ∙ c.in_ok-opened.ensures.source)))
+    (ap (λ (s : VertexId). s.0) (sym (c.in_ok-do_steps.ensures.of_source.source_is ∙ c.in_ok-opened.ensures.of_source.source_is)))
     c.in_ok-closed.ensures.row)
     c.in_ok-closed.ensures.taken
     c.in_ok-closed.ensures.dropped

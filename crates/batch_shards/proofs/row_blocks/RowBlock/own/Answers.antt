@@ -39,12 +39,16 @@ returns-clause-touched c =
     let same : shape_of (block_of c.replace-before.new.dest) ≡ shape_of (block_of h.block) = search rules in
     record {
       shown = owned h c.replace-before.new.dest c.replace-before.result c.if-self.false same;
-      had = ap (λ (b : Arc Block Global). block_of b ∷ []) c.replace-before.ensures.value ∙ sym (had_before h c.if-self.false);
       source = search rules;
     }
 
-pub returns-clause-numbers : goal.returns-clause-numbers
-returns-clause-numbers c q =
+pub returns-clause-keeps : goal.returns-clause-keeps
+returns-clause-keeps c =
+    let h : RowBlock = c.args.self.now in
     let split : c.args.fresh.now.items ≡ c.pop.new.self.items ++ c.in-Some.own ∷ [] = search rules in
     let same : (block_of c.replace-before.new.dest).number ≡ (block_of c.in-Some.own).number = search rules in
-    one_taken q c.args.self.now c.in-Some.own c.args.fresh.now.items c.pop.new.self.items _ c.if-self.false split same
+    record {
+      had = ap (λ (b : Arc Block Global). block_of b ∷ []) c.replace-before.ensures.value ∙ sym (had_before h c.if-self.false);
+      numbers = λ q. one_taken q h c.in-Some.own c.args.fresh.now.items c.pop.new.self.items _ c.if-self.false split same;
+      few = search rules;
+    }
