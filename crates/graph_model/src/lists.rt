@@ -3,11 +3,12 @@
 ghost use Rattle.std.specs.Prelude.{◌≡◌, ◌<◌, ◌^◌, ◌↔◌, [], length, IsTrue};
 ghost use Rattle.std.specs.List.{AllZip};
 ghost use Rattle.std.specs.Slice.Iter.{iter_rest};
+ghost use Rattle.std.specs.Vec.Iter.{into_iter_items};
 ghost use Rattle.std.specs.Cmp.Lexicographic.{pointwise, lists_equiv, lists_per};
 
 use std::alloc::AllocError;
 use std::marker::Model;
-use std::slice;
+use std::{slice, vec};
 
 /// A list that is a field of another type; contracts see the list itself, and not its spare room.
 ///
@@ -106,6 +107,18 @@ impl<'a, T> IntoIterator for &'a List<T> {
 
     fn into_iter(self) -> slice::Iter<'a, T> {
         self.iter()
+    }
+}
+
+impl<T: Drop> IntoIterator for List<T> {
+    type Item = T;
+
+    type IntoIter = vec::IntoIter<T>;
+
+    ghost into_iter_gives = { λ list items. into_iter_items items ≡ list };
+
+    fn into_iter(self) -> vec::IntoIter<T> {
+        self.into_vec().into_iter()
     }
 }
 
