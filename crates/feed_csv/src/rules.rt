@@ -1,6 +1,6 @@
 // Records to commands, one function for each command.
 
-ghost use Rattle.std.specs.Prelude.{◌≡◌, MatchResult, Ok, Err, IfOk, IfErr, bytes_eq, codes, false};
+ghost use Rattle.std.specs.Prelude.{◌≡◌, MatchResult, Ok, Err, IfOk, option_map, bytes_eq, codes, false};
 ghost use Rattle.csv.specs.Records.{fields_of};
 ghost use Rattle.feed_csv.specs.Commands as spec;
 ghost use Rattle.feed_csv.specs.Fields.{of_length};
@@ -9,8 +9,8 @@ ghost use Rattle.feed_csv.specs.Fields as fields;
 use crate::fields::{any_kind_at, field, kind_at, name_at, slot_at, time_at, weight_at};
 use crate::{Command, FeedWord};
 use csv::ByteRecord;
-use graph_model::{Name, NamedFilter, NamedOp, Request};
-use std::alloc::Global;
+use graph_model::{NamedFilter, NamedOp, Request};
+use std::alloc::{AllocError, Global};
 
 /// The command of a record.
 #[tactic(auto, using(crate::proofs::Giving::gives_same), unfolding(crate::specs::Commands::item_of))]
@@ -81,16 +81,6 @@ fn check_length(row: &ByteRecord, count: usize) -> Result<(), FeedWord>
     }
 }
 
-fn name(alloc: Global, text: &str) -> Result<Name, FeedWord>
-    ensures ok { IfOk result (λ name. name ≡ text.now) }
-    ensures err { IfErr result (λ word. word ≡ FeedWord.Memory) }
-{
-    match String::from_str(alloc, text) {
-        Ok(text) => Ok(Name::of(text)),
-        Err(_) => Err(FeedWord::Memory),
-    }
-}
-
 #[tactic(auto, using(crate::proofs::Giving::refuses_same), unfolding(crate::specs::Commands::insert_of))]
 fn insert(alloc: Global, row: &ByteRecord) -> Result<Command, FeedWord>
     ensures { spec.Gives result (spec.insert_of (fields_of row.now)) }
@@ -101,16 +91,8 @@ fn insert(alloc: Global, row: &ByteRecord) -> Result<Command, FeedWord>
     let target = name_at(row, 3)?;
     let weight = weight_at(row, 4)?;
     let time = time_at(row, 5)?;
-    let kind = name(alloc, kind)?;
-    let source = name(alloc, source)?;
-    let target = name(alloc, target)?;
-    Ok(Command::Op(NamedOp::Insert {
-        kind,
-        source,
-        target,
-        weight,
-        time,
-    }))
+    let op = NamedOp::insert(alloc, kind, source, target, weight, time)?;
+    Ok(Command::Op(op))
 }
 
 #[tactic(auto, using(crate::proofs::Giving::refuses_same), unfolding(crate::specs::Commands::incr_of))]
@@ -123,16 +105,8 @@ fn incr(alloc: Global, row: &ByteRecord) -> Result<Command, FeedWord>
     let target = name_at(row, 3)?;
     let amount = weight_at(row, 4)?;
     let time = time_at(row, 5)?;
-    let kind = name(alloc, kind)?;
-    let source = name(alloc, source)?;
-    let target = name(alloc, target)?;
-    Ok(Command::Op(NamedOp::Incr {
-        kind,
-        source,
-        target,
-        amount,
-        time,
-    }))
+    let op = NamedOp::incr(alloc, kind, source, target, amount, time)?;
+    Ok(Command::Op(op))
 }
 
 #[tactic(auto, using(crate::proofs::Giving::refuses_same), unfolding(crate::specs::Commands::remove_of))]
@@ -143,14 +117,8 @@ fn remove(alloc: Global, row: &ByteRecord) -> Result<Command, FeedWord>
     let kind = kind_at(row, 1)?;
     let source = name_at(row, 2)?;
     let target = name_at(row, 3)?;
-    let kind = name(alloc, kind)?;
-    let source = name(alloc, source)?;
-    let target = name(alloc, target)?;
-    Ok(Command::Op(NamedOp::Remove {
-        kind,
-        source,
-        target,
-    }))
+    let op = NamedOp::remove(alloc, kind, source, target)?;
+    Ok(Command::Op(op))
 }
 
 #[tactic(auto, unfolding(crate::specs::Commands::expire_of))]
@@ -159,7 +127,7 @@ fn expire(row: &ByteRecord) -> Result<Command, FeedWord>
 {
     check_length(row, 2)?;
     let time = time_at(row, 1)?;
-    Ok(Command::Op(NamedOp::Expire { time }))
+    Ok(Command::Op(NamedOp::expire(time)))
 }
 
 #[tactic(auto, unfolding(crate::specs::Commands::commit_of))]
@@ -213,6 +181,16 @@ fn rebase(row: &ByteRecord) -> Result<Command, FeedWord>
     Ok(Command::Rebase(slot))
 }
 
+/// The filter of these edges; `None` is any kind.
+fn filter_of(alloc: Global, kind: Option<&str>, lo: u64, hi: u64) -> Result<NamedFilter, AllocError>
+    ensures { IfOk result (λ filter. filter ≡ record { kind = option_map (λ text. text.now) kind.entry; lo = lo; hi = hi }) }
+{
+    match kind {
+        Some(kind) => Ok(NamedFilter::of_kind(alloc, kind)?.within(lo, hi)),
+        None => Ok(NamedFilter::all().within(lo, hi)),
+    }
+}
+
 #[tactic(auto, using(crate::proofs::Giving::refuses_same), unfolding(crate::specs::Commands::levels_of))]
 fn levels(alloc: Global, row: &ByteRecord) -> Result<Command, FeedWord>
     ensures { spec.Gives result (spec.levels_of (fields_of row.now)) }
@@ -223,13 +201,8 @@ fn levels(alloc: Global, row: &ByteRecord) -> Result<Command, FeedWord>
     let lo = time_at(row, 4)?;
     let hi = time_at(row, 5)?;
     let slot = slot_at(row, 1)?;
-    let source = name(alloc, source)?;
-    let kind = match kind {
-        Some(text) => Some(name(alloc, text)?),
-        None => None,
-    };
-    let filter = NamedFilter { kind, lo, hi };
-    Ok(Command::Query(slot, Request::Levels { source, filter }))
+    let request = Request::levels(alloc, source, filter_of(alloc, kind, lo, hi)?)?;
+    Ok(Command::Query(slot, request))
 }
 
 #[tactic(auto, using(crate::proofs::Giving::refuses_same), unfolding(crate::specs::Commands::labels_of))]
@@ -241,12 +214,8 @@ fn labels(alloc: Global, row: &ByteRecord) -> Result<Command, FeedWord>
     let lo = time_at(row, 3)?;
     let hi = time_at(row, 4)?;
     let slot = slot_at(row, 1)?;
-    let kind = match kind {
-        Some(text) => Some(name(alloc, text)?),
-        None => None,
-    };
-    let filter = NamedFilter { kind, lo, hi };
-    Ok(Command::Query(slot, Request::Labels { filter }))
+    let filter = filter_of(alloc, kind, lo, hi)?;
+    Ok(Command::Query(slot, Request::labels(filter)))
 }
 
 #[tactic(auto, using(crate::proofs::Giving::refuses_same), unfolding(crate::specs::Commands::cores_of))]
@@ -258,12 +227,8 @@ fn cores(alloc: Global, row: &ByteRecord) -> Result<Command, FeedWord>
     let lo = time_at(row, 3)?;
     let hi = time_at(row, 4)?;
     let slot = slot_at(row, 1)?;
-    let kind = match kind {
-        Some(text) => Some(name(alloc, text)?),
-        None => None,
-    };
-    let filter = NamedFilter { kind, lo, hi };
-    Ok(Command::Query(slot, Request::Cores { filter }))
+    let filter = filter_of(alloc, kind, lo, hi)?;
+    Ok(Command::Query(slot, Request::cores(filter)))
 }
 
 #[tactic(auto, using(crate::proofs::Giving::refuses_same), unfolding(crate::specs::Commands::degrees_of))]
@@ -275,12 +240,8 @@ fn degrees(alloc: Global, row: &ByteRecord) -> Result<Command, FeedWord>
     let lo = time_at(row, 3)?;
     let hi = time_at(row, 4)?;
     let slot = slot_at(row, 1)?;
-    let kind = match kind {
-        Some(text) => Some(name(alloc, text)?),
-        None => None,
-    };
-    let filter = NamedFilter { kind, lo, hi };
-    Ok(Command::Query(slot, Request::Degrees { filter }))
+    let filter = filter_of(alloc, kind, lo, hi)?;
+    Ok(Command::Query(slot, Request::degrees(filter)))
 }
 
 #[tactic(auto, using(crate::proofs::Giving::refuses_same), unfolding(crate::specs::Commands::edge_of))]
@@ -292,13 +253,6 @@ fn edge(alloc: Global, row: &ByteRecord) -> Result<Command, FeedWord>
     let source = name_at(row, 3)?;
     let target = name_at(row, 4)?;
     let slot = slot_at(row, 1)?;
-    let kind = name(alloc, kind)?;
-    let source = name(alloc, source)?;
-    let target = name(alloc, target)?;
-    let request = Request::OneEdge {
-        kind,
-        source,
-        target,
-    };
+    let request = Request::one_edge(alloc, kind, source, target)?;
     Ok(Command::Query(slot, request))
 }
