@@ -4,6 +4,7 @@ ghost use Rattle.std.specs.Prelude.{◌≡◌};
 ghost use Rattle.feed_csv.specs.Commands.{word_text};
 
 use graph_model::{NamedOp, Request};
+use std::alloc::AllocError;
 use thiserror::Error;
 
 /// What a record of a script asks for.
@@ -46,6 +47,17 @@ pub enum FeedWord {
     BadSlot,
     #[error("out of memory")]
     Memory,
+}
+
+impl From<AllocError> for FeedWord {
+    ghost use Rattle.std.specs.Prelude.{◌≡◌};
+    ghost use Rattle.feed_csv.specs.declared.command.FeedWord.TheVariants.{Memory};
+
+    ghost from_gives = { λ _ word. word ≡ Memory };
+
+    fn from(_error: AllocError) -> FeedWord {
+        FeedWord::Memory
+    }
 }
 
 impl FeedWord {

@@ -1,6 +1,7 @@
 //! Operations on edges, and batches of them.
 
 ghost use Rattle.std.specs.Prelude.{◌≡◌, ◌<◌, ◌≤◌, [], ◌∷◌, ◌++◌, length, OnOk, OnErr, IfErr, ◌⊎◌, ◌↔◌, ◌&&◌, IsTrue};
+ghost use Rattle.graph_model.specs.declared.batches.PushError.TheVariants.{OutOfMemory};
 ghost use Rattle.graph_model.specs.Limits.{operation_limit};
 ghost use Rattle.graph_model.specs.Valid.{push_refusal, IsBatch, IsValid};
 ghost use Rattle.graph_model.specs.Valid as valid;
@@ -19,7 +20,7 @@ const OPERATION_LIMIT: usize = 4096;
 
 /// One operation on one edge, with names as texts (STINGER's insertion, increment and removal, HPEC 2012), or on all
 /// edges that were last touched before a time.
-#[derive(Debug, Drop)]
+#[derive(Debug, Drop, PartialEq, Eq)]
 pub enum NamedOp {
     /// Adds the edge, or replaces the weight of the one that is there.
     Insert {
@@ -126,17 +127,19 @@ pub enum PushError {
     OutOfMemory,
 }
 
+impl From<AllocError> for PushError {
+    ghost from_gives = { λ _ e. e ≡ OutOfMemory };
+
+    fn from(_error: AllocError) -> PushError {
+        PushError::OutOfMemory
+    }
+}
+
 /// A list of at most 4,096 valid operations, which stand for themselves one after another in order.
 ///
 /// ```
 /// let mut batch = Batch::new(alloc);
-/// batch.push(NamedOp::Insert {
-///     kind: Name::of(String::from_str(alloc, "knows")?),
-///     source: Name::of(String::from_str(alloc, "ann")?),
-///     target: Name::of(String::from_str(alloc, "bob")?),
-///     weight: 1,
-///     time: 1,
-/// })?;
+/// batch.push(NamedOp::insert(alloc, "knows", "ann", "bob", 1, 1)?)?;
 /// ```
 #[derive(Debug)]
 pub struct Batch {

@@ -6,10 +6,13 @@
 
 mod batches;
 mod changes;
+mod compared;
 mod contents;
 mod ids;
 mod laws;
 mod lists;
+mod operations;
+mod questions;
 mod requests;
 mod tables;
 mod texts;

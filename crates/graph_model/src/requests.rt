@@ -9,7 +9,12 @@ use thiserror::Error;
 
 /// Which edges a request looks at, with the kind as a text; `None` is any kind. Both ends of the window of
 /// recent times are included.
-#[derive(Debug, Drop)]
+///
+/// ```
+/// let roads = NamedFilter::of_kind(alloc, "road")?;
+/// let new_edges = NamedFilter::all().within(10, 20);
+/// ```
+#[derive(Debug, Drop, PartialEq, Eq)]
 pub struct NamedFilter {
     pub kind: Option<Name>,
     pub lo: u64,
@@ -35,16 +40,9 @@ impl Clone for NamedFilter {
 /// A request about a graph, with names as texts.
 ///
 /// ```
-/// let levels_of_all_edges = Request::Levels {
-///     source: Name::of(String::from_str(alloc, "ann")?),
-///     filter: NamedFilter {
-///         kind: None,
-///         lo: 0,
-///         hi: u64::MAX,
-///     },
-/// };
+/// let levels_over_all_edges = Request::levels(alloc, "ann", NamedFilter::all())?;
 /// ```
-#[derive(Debug, Drop)]
+#[derive(Debug, Drop, PartialEq, Eq)]
 pub enum Request {
     /// The level of each vertex from the source over the view of the filter.
     Levels {
@@ -103,7 +101,7 @@ impl Clone for Request {
 }
 
 /// The reply to a request; lists are in order of the vertices' numbers.
-#[derive(Debug, Drop)]
+#[derive(Debug, Drop, PartialEq, Eq)]
 pub enum Reply {
     /// The name and the level of each vertex to which a walk leads from the source.
     Levels(List<(Name, u32)>),
@@ -115,6 +113,21 @@ pub enum Reply {
     Degrees(List<(Name, Degree)>),
     /// Weight, first time and recent time, where the edge is there.
     OneEdge(Option<(i64, u64, u64)>),
+}
+
+impl Clone for Reply {
+    ghost is_clone = { λ reply copy. copy ≡ reply };
+
+    #[tactic(auto, using(crate::proofs::Copies::same_pairs))]
+    fn clone(&self) -> Result<Reply, AllocError> {
+        match self {
+            Reply::Levels(levels) => Ok(Reply::Levels(levels.clone()?)),
+            Reply::Labels(labels) => Ok(Reply::Labels(labels.clone()?)),
+            Reply::Cores(numbers) => Ok(Reply::Cores(numbers.clone()?)),
+            Reply::Degrees(degrees) => Ok(Reply::Degrees(degrees.clone()?)),
+            Reply::OneEdge(edge) => Ok(Reply::OneEdge(*edge)),
+        }
+    }
 }
 
 /// Why a request has no reply; the first that holds, in this order.

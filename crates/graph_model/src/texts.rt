@@ -1,15 +1,23 @@
 //! Names: small texts, and which of them are names of vertices and of kinds.
 
-ghost use Rattle.std.specs.Prelude.{◌≡◌, string_bytes};
+ghost use Rattle.std.specs.Prelude.{◌≡◌, string_bytes, IfOk};
 ghost use Rattle.std.specs.List.{list_all};
 ghost use Rattle.graph_model.specs.Valid as valid;
 
-use std::alloc::AllocError;
+use std::alloc::{AllocError, Global};
 use std::marker::Model;
 
-/// A text that is a field of another type; contracts see the list of its bytes.
+/// A text that is a field of another type; contracts see the list of its bytes. Names are equal, ordered, hashed and
+/// displayed as their texts are.
 ///
 /// Any text can stand here: [`is_name`] and [`is_kind_name`] tell which are names.
+///
+/// ```
+/// let ann = Name::from_str(alloc, "ann")?;
+/// let bob = Name::from_str(alloc, "bob")?;
+/// assert!(rt; ann < bob);
+/// println!(rt; "{ann}")?;
+/// ```
 #[derive(Debug)]
 pub struct Name {
     text: String,
@@ -31,6 +39,21 @@ impl Model for Name {
 }
 
 impl Name {
+    /// The name that shows a copy of this text, which may be any; the name of no vertex and of no kind is refused where it is
+    /// used, as `BadName` or `NoVertex`.
+    ///
+    /// ```
+    /// let ann = Name::from_str(alloc, "ann")?;
+    /// assert_eq!(rt; ann.as_str(), "ann");
+    /// ```
+    pub fn from_str(alloc: Global, text: &str) -> Result<Name, AllocError>
+        ensures { IfOk result (λ name. name ≡ text.now) }
+    {
+        Ok(Name {
+            text: String::from_str(alloc, text)?,
+        })
+    }
+
     /// The name that shows this text. It takes no memory.
     pub fn of(text: String) -> Name
         ensures { result ≡ string_bytes text }

@@ -48,7 +48,7 @@ fn copied(rt: &impl Abort, board: &mut Board, last: u64, copy: PinCopy) {
 /// Seat 0 has a settled pin, and seat 15 an unsettled one.
 #[test]
 fn copies_the_pins(rt: HostRuntime) -> Result<(), Fail> {
-    let mut board = Board::new();
+    let mut board = Board::default();
     let mut copy = PinCopy::none();
     copied(&rt, &mut board, 0, copy);
     let first = SeatNo::new(0).ok_or("seat 0")?;
