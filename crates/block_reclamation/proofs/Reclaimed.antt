@@ -1,12 +1,11 @@
 -- The laws of status, floor and need.
-use Rattle.std.proofs.Common.{◌≡◌, ℕ, zero, suc, ◌+◌, ◌<◌, ◌≤◌, Bool, true, false, ◌||◌, List, [], ◌∷◌, length, count_by, cond, get_or}
-use Rattle.std.proofs.Common.{Option, Some, None, refl, sym, ap, ◌∙◌, arith, ltb}
+use Rattle.std.proofs.Common.{◌≡◌, ℕ, ◌+◌, ◌<◌, ◌≤◌, Bool, true, false, ◌||◌, List, [], ◌∷◌, count_by, cond}
+use Rattle.std.proofs.Common.{Option, Some, None, refl, ap, ◌∙◌, arith, ltb}
 use Rattle.std.proofs.lemmas.{Bool.Decides.nat_tests, List.Sums.sum_by-cons}
 use Rattle.std.specs.List.{list_any}
 use Rattle.block_reclamation.specs.declared.status.BlockStatus.{BlockStatus}
 use Rattle.block_reclamation.specs.declared.status.BlockStatus.TheVariants.{Free, Granted, Used, Retired}
-use Rattle.block_reclamation.specs.declared.copies.PinCopy.{PinCopy}
-use Rattle.block_reclamation.specs.Copies.{lesser, least_of, is_between, is_before, needs, floor_of}
+use Rattle.block_reclamation.specs.Copies.{lesser, least_of, is_between, is_before}
 use Rattle.block_reclamation.specs.Status.{is_free, is_granted, is_used, is_retired, is_in_use}
 use Rattle.block_reclamation.specs.Laws.{IsOneOfFour, ArePartition, FloorSpares, NeedIsMonotone}
 use Rattle.block_reclamation.proofs.Least.{least_below, least_each}

@@ -73,4 +73,5 @@ is_before retirement (Some pin) = nat_lt pin retirement
 
 abbrev pub needs : PinCopy → ℕ → ℕ → Bool
 needs copy birth retirement =
-    nat_lt copy.last retirement || (list_any (is_between birth retirement) copy.settled || list_any (is_before retirement) copy.unsettled)
+    nat_lt copy.last retirement
+    || (list_any (is_between birth retirement) copy.settled || list_any (is_before retirement) copy.unsettled)

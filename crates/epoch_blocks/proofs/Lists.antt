@@ -1,6 +1,6 @@
 -- Lists, options and tests.
 use Rattle.std.proofs.Common.{◌≡◌, ◌≢◌, ℕ, zero, suc, ◌+◌, ◌<◌, ◌≤◌, Bool, true, false, not, ◌&&◌, ◌||◌, ◌⊎◌, inl, inr, List, []}
-use Rattle.std.proofs.Common.{◌∷◌, ◌++◌, length, get_or, set, take, map, refl, ap, subst, ◌∙◌, arith, eqb}
+use Rattle.std.proofs.Common.{◌∷◌, ◌++◌, length, set, take, map, refl, ap, subst, ◌∙◌, arith, eqb}
 use Rattle.std.specs.{Prelude.slice_get, List.list_all, List.enumerate_from, List.flat_map}
 use Rattle.std.specs.Option.{option_map, option_and_then}
 use Rattle.std.specs.declared.option.Option.{Option, TheVariants.None, TheVariants.Some}

@@ -1,5 +1,5 @@
 use Rattle.std.proofs.Common.{ap, sym, subst, ◌∙◌}
-use Rattle.block_reclamation.specs.{Copies.floor_of, Copies.copy_of, Board.IsLeast}
+use Rattle.block_reclamation.specs.{Copies.floor_of, Board.IsLeast}
 use Rattle.block_reclamation.proofs.Copied.{floor_is_least}
 use Rattle.block_reclamation.proofs.board.Board.raise.Goals as goal
 
