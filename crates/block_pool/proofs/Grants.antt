@@ -2,10 +2,12 @@
 use Rattle.std.proofs.Common.{◌≡◌, ℕ, zero, suc, ◌+◌, ◌-◌, ◌<◌, ◌≤◌, ◌==◌, List, [], ◌∷◌, ◌++◌, length, get_or, set, count_by}
 use Rattle.std.proofs.Common.{take, Bool, true, false, cond, ◌&&◌, refl, sym, ap, ◌∙◌, arith, length-take}
 use Rattle.std.proofs.lemmas.Bool.{eqb-true, eqb-false, and_parts}
-use Rattle.std.proofs.lemmas.List.{get_or-take, get_or-set_same, get_or-set_other, get_or_read, length-map, take_more_set}
+use Rattle.std.proofs.lemmas.List.{get_or-take, get_or-set_same, get_or-set_other, get_or_read, take_more_set}
 use Rattle.std.proofs.Math.{ListN.length-set, Seq.take-set-lt}
-use Rattle.block_pool.specs.Pools.{Status, is_free, marked, AreFree}
-use Rattle.block_pool.specs.Kept.{IsNumbers, statuses, status_from, status_of, tally, Lists, popped}
+use Rattle.block_pool.specs.Pools.{marked, AreFree}
+use Rattle.block_reclamation.specs.declared.status.BlockStatus.{BlockStatus}
+use Rattle.block_reclamation.specs.Status.{is_free}
+use Rattle.block_pool.specs.Kept.{IsNumbers, statuses, status_of, tally, Lists, popped}
 use Rattle.block_pool.specs.declared.numbers.Numbers.{Numbers}
 use Rattle.block_pool.proofs.Tallies.{count_more, count_last, count_here, count_at, listed_at, listed_count, same_number, passes_at}
 
@@ -16,12 +18,12 @@ free_listed n kept =
     omega (arith, length-take n.free_len n.free.items, kept.free_in, kept.free_room, listed)
 
 pub free_read : (n : Numbers) → IsNumbers n → (at number : ℕ) → at < n.free_len → number ≡ get_or n.free.items at number
-    → (number ≡ get_or n.free.items at 0) × (number < length n.places.items)
+    → (number ≡ get_or n.free.items at 0) × (number < length n.statuses.items)
 free_read n kept at number lt is =
     let in_room : n.free_len ≤ length n.free.items = omega (arith, kept.free_in, kept.free_room) in
     let here = listed_at is_free (statuses n) n.free_len n.free.items kept.free_are in_room at lt in
     let same : number ≡ get_or n.free.items at 0 = get_or_read n.free.items at number (omega arith) is 0 in
-    (same, omega (arith, here.0, same, length-map n.places.items status_from))
+    (same, omega (arith, here.0, same))
 
 pub popped_more : (room : List ℕ) (len k : ℕ) → 0 < k
     → popped room len k ≡ get_or room (len - 1) 0 ∷ popped room (len - 1) (k - 1)
@@ -69,7 +71,7 @@ twice (x ∷ xs) (suc a) (suc b) d lt within e =
     let more = twice xs a b d (omega arith) (omega arith) e in
     omega arith
 
-tally_later : (p : Status → Bool) (m i : ℕ) (pool : List Status) → m < i → tally p (λ n. n == m) i pool ≡ 0
+tally_later : (p : BlockStatus → Bool) (m i : ℕ) (pool : List BlockStatus) → m < i → tally p (λ n. n == m) i pool ≡ 0
 tally_later p m i [] lt = refl
 tally_later p m i (s ∷ pool) lt =
     let rest = tally_later p m (i + 1) pool (omega arith) in
@@ -78,7 +80,7 @@ tally_later p m i (s ∷ pool) lt =
     let z : (let k : ℕ = cond (p s && (i == m)) 1 0 in k) ≡ 0 = ap (λ b. cond b 1 0) no in
     omega arith
 
-pub tally_once : (p : Status → Bool) (m i : ℕ) (pool : List Status) → tally p (λ n. n == m) i pool ≤ 1
+pub tally_once : (p : BlockStatus → Bool) (m i : ℕ) (pool : List BlockStatus) → tally p (λ n. n == m) i pool ≤ 1
 tally_once p m i [] = omega arith
 tally_once p m i (s ∷ pool) =
     elim (p s && (i == m)) as (λ b. p s && (i == m) ≡ b → cond b 1 0 + tally p (λ n. n == m) (i + 1) pool ≤ 1) [
@@ -88,7 +90,7 @@ tally_once p m i (s ∷ pool) =
     ] refl
 
 -- two places of a list of numbers that have a status are of two numbers
-apart : (p : Status → Bool) (pool : List Status) (len : ℕ) (room : List ℕ) → Lists p pool (take len room) → len ≤ length room
+apart : (p : BlockStatus → Bool) (pool : List BlockStatus) (len : ℕ) (room : List ℕ) → Lists p pool (take len room) → len ≤ length room
     → (a b : ℕ) → a < b → b < len → get_or room a 0 ≡ get_or room b 0 → ⊥
 apart p pool len room are le a b lt within e =
     let xs : List ℕ = take len room in
@@ -101,7 +103,7 @@ apart p pool len room are le a b lt within e =
     omega arith
 
 -- the numbers that a grant takes are free, and different
-pub popped_free : (pool : List Status) (len : ℕ) (room : List ℕ) (k : ℕ) → Lists is_free pool (take len room) → len ≤ length room
+pub popped_free : (pool : List BlockStatus) (len : ℕ) (room : List ℕ) (k : ℕ) → Lists is_free pool (take len room) → len ≤ length room
     → k ≤ len → AreFree pool (popped room len k)
 popped_free pool len room k are le enough =
     let long = length-popped room len k in

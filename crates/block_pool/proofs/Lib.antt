@@ -3,4 +3,4 @@ pub mod Grants
 pub mod BodyLaws
 pub mod Stacking
 pub mod Needs
-pub mod PlaceReads
+pub mod StatusReads

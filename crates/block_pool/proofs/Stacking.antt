@@ -6,10 +6,13 @@ use Rattle.std.proofs.lemmas.Bool.{true≢false, false≢true, eqb-true, cases_e
 use Rattle.std.proofs.lemmas.List.{get_or-set_same, get_or-set_other, get_or_past, length-replicate, Folds.sum_by-replicate}
 use Rattle.std.proofs.lemmas.List.Sums.{sum_by-cons, sum_by-set, get_or-le-sum_by, count_by-le-length}
 use Rattle.std.proofs.Math.ListN.{length-set}
-use Rattle.pin_copy.specs.declared.copies.{PinCopy.PinCopy, TheConstants.SEATS}
-use Rattle.linked_stacks.specs.Stacks.{stack_of, below_top, is_in, AreAbsent}
+use Rattle.block_reclamation.specs.declared.copies.PinCopy.{PinCopy}
+use Rattle.block_reclamation.specs.declared.copies.TheConstants.{SEATS}
+use Rattle.linked_stacks.specs.Stacks.{stack_of, below_top, AreAbsent}
+use Rattle.block_reclamation.specs.Status.{is_listed, is_retired, is_reclaimable}
 use Rattle.block_pool.specs.declared.numbers.TheConstants.{LOOSE, LATE}
-use Rattle.block_pool.specs.Pools.{Status, Free, Granted, is_retired, is_past}
+use Rattle.block_reclamation.specs.declared.status.BlockStatus.{BlockStatus}
+use Rattle.block_reclamation.specs.declared.status.BlockStatus.TheVariants.{Free, Granted}
 use Rattle.block_pool.specs.Kept.{status_of, tally, AreNeeded, HasPins, IsSorted, Fits, top_of, put_on, taken_off, moved}
 use Rattle.block_pool.proofs.Tallies.{count_more, count_true, count_lt, same_number, tally_at, tally_has_one, tally_true}
 use Rattle.block_pool.proofs.{Tallies.tally_here, Tallies.past_retired, Tallies.none_retired, Grants.tally_once}
@@ -20,26 +23,26 @@ top_first [] lt = absurd (omega arith)
 top_first (n ∷ ns) lt = refl
 
 -- what is counted is in the list, and what is in it is counted
-counted_in : (n : ℕ) (ns : List ℕ) → 1 ≤ count_by (λ k. k == n) ns → is_in n ns ≡ true
+counted_in : (n : ℕ) (ns : List ℕ) → 1 ≤ count_by (λ k. k == n) ns → is_listed n ns ≡ true
 counted_in n [] h = absurd (omega arith)
 counted_in n (m ∷ ns) h =
     elim (m == n) as (λ b. count_by (λ k. k == n) (m ∷ ns) ≡ cond b 1 0 + count_by (λ k. k == n) ns
-    → (b || is_in n ns) ≡ true) [
+    → (b || is_listed n ns) ≡ true) [
       | true ↦ λ _. refl
       | false ↦ λ c. counted_in n ns (omega arith)
     ] (count_more (λ k. k == n) m ns)
 
-in_counted : (n : ℕ) (ns : List ℕ) → is_in n ns ≡ true → 1 ≤ count_by (λ k. k == n) ns
+in_counted : (n : ℕ) (ns : List ℕ) → is_listed n ns ≡ true → 1 ≤ count_by (λ k. k == n) ns
 in_counted n [] h = absurd (false≢true h)
 in_counted n (m ∷ ns) h =
-    elim (m == n) as (λ b. (b || is_in n ns) ≡ true
+    elim (m == n) as (λ b. (b || is_listed n ns) ≡ true
     → count_by (λ k. k == n) (m ∷ ns) ≡ cond b 1 0 + count_by (λ k. k == n) ns → 1 ≤ count_by (λ k. k == n) (m ∷ ns)) [
       | true ↦ λ _ c. omega arith
       | false ↦ λ is c. let rest = in_counted n ns is in omega arith
     ] h (count_more (λ k. k == n) m ns)
 
-not_counted : (n : ℕ) (ns : List ℕ) → count_by (λ k. k == n) ns ≡ 0 → is_in n ns ≡ false
-not_counted n ns none = false_from_ne_true (is_in n ns) (λ t. let c = in_counted n ns t in omega arith)
+not_counted : (n : ℕ) (ns : List ℕ) → count_by (λ k. k == n) ns ≡ 0 → is_listed n ns ≡ false
+not_counted n ns none = false_from_ne_true (is_listed n ns) (λ t. let c = in_counted n ns t in omega arith)
 
 -- the numbers of all stacks, with one put on and with one taken off
 sum_put : (q : ℕ → Bool) (lists : List (List ℕ)) (stack n : ℕ) → stack < length lists
@@ -79,7 +82,7 @@ stack_with q (ns ∷ lists) h =
       | inr le ↦ let rest = stack_with q lists (omega arith) in (suc rest.0, (omega (arith, rest.1.0), rest.1.1))
     ]
 
-tally_none : (p : Status → Bool) (pool : List Status) (k : ℕ) → p (status_of pool k) ≡ false
+tally_none : (p : BlockStatus → Bool) (pool : List BlockStatus) (k : ℕ) → p (status_of pool k) ≡ false
     → tally p (λ n. n == k) 0 pool ≡ 0
 tally_none p pool k not =
     elim (cases_lt 0 (tally p (λ n. n == k) 0 pool)) [
@@ -91,21 +94,21 @@ tally_none p pool k not =
     ]
 
 -- what a copy needs
-module _ (copy : PinCopy) (pool : List Status) where
+module _ (copy : PinCopy) (pool : List BlockStatus) where
   pub needed_none : AreNeeded copy pool []
   needed_none n is = absurd (false≢true is)
 
-  needed_more : (k : ℕ) (ns : List ℕ) → is_past copy (status_of pool k) ≡ false → AreNeeded copy pool ns
+  needed_more : (k : ℕ) (ns : List ℕ) → is_reclaimable copy (status_of pool k) ≡ false → AreNeeded copy pool ns
       → AreNeeded copy pool (k ∷ ns)
   needed_more k ns here rest n is =
-      elim (or_cases (k == n) (is_in n ns) is) [
-        | inl t ↦ subst (λ (j : ℕ). is_past copy (status_of pool j) ≡ false) (eqb-true k n t) here
+      elim (or_cases (k == n) (is_listed n ns) is) [
+        | inl t ↦ subst (λ (j : ℕ). is_reclaimable copy (status_of pool j) ≡ false) (eqb-true k n t) here
         | inr t ↦ rest n t
       ]
 
   needed_below : (ns : List ℕ) → AreNeeded copy pool ns → AreNeeded copy pool (below_top ns)
   needed_below [] are = are
-  needed_below (k ∷ ns) are = λ n is. are n (or_right (k == n) (is_in n ns) is)
+  needed_below (k ∷ ns) are = λ n is. are n (or_right (k == n) (is_listed n ns) is)
 
   needed_off : (lists : List (List ℕ)) (from at : ℕ) → from < length lists → AreNeeded copy pool (stack_of lists at)
       → AreNeeded copy pool (stack_of (taken_off from lists) at)
@@ -120,7 +123,7 @@ module _ (copy : PinCopy) (pool : List Status) where
       ]
 
   needed_on : (lists : List (List ℕ)) (to k at : ℕ) → to < length lists
-      → (at ≡ to → is_past copy (status_of pool k) ≡ false) → AreNeeded copy pool (stack_of lists at)
+      → (at ≡ to → is_reclaimable copy (status_of pool k) ≡ false) → AreNeeded copy pool (stack_of lists at)
       → AreNeeded copy pool (stack_of (put_on to k lists) at)
   needed_on lists to k at lt fits are =
       elim (cases_eq at to) [
@@ -133,35 +136,35 @@ module _ (copy : PinCopy) (pool : List Status) where
       ]
 
   pub needed_moved : (lists : List (List ℕ)) (from to at : ℕ) → from < length lists → to < length lists
-      → (at ≡ to → is_past copy (status_of pool (top_of (stack_of lists from))) ≡ false) → AreNeeded copy pool (stack_of lists at)
+      → (at ≡ to → is_reclaimable copy (status_of pool (top_of (stack_of lists from))) ≡ false) → AreNeeded copy pool (stack_of lists at)
       → AreNeeded copy pool (stack_of (moved from to lists) at)
   needed_moved lists from to at lf lt fits are =
       let long = length-set lists from (below_top (stack_of lists from)) in
       needed_on (taken_off from lists) to (top_of (stack_of lists from)) at (omega arith) fits (needed_off lists from at lf are)
 
   -- a status that isn't due
-  needed_set : (k : ℕ) (s : Status) (ns : List ℕ) → k < length pool → is_past copy s ≡ false → AreNeeded copy pool ns
+  needed_set : (k : ℕ) (s : BlockStatus) (ns : List ℕ) → k < length pool → is_reclaimable copy s ≡ false → AreNeeded copy pool ns
       → AreNeeded copy (set pool k s) ns
   needed_set k s ns lt never are n is =
       elim (cases_eq n k) [
-        | inl e ↦ ap (λ j. is_past copy (status_of (set pool k s) j)) e
-            ∙ ap (is_past copy) (get_or-set_same pool k s Granted lt) ∙ never
-        | inr ne ↦ ap (is_past copy) (get_or-set_other pool k n s Granted ne) ∙ are n is
+        | inl e ↦ ap (λ j. is_reclaimable copy (status_of (set pool k s) j)) e
+            ∙ ap (is_reclaimable copy) (get_or-set_same pool k s Granted lt) ∙ never
+        | inr ne ↦ ap (is_reclaimable copy) (get_or-set_other pool k n s Granted ne) ∙ are n is
       ]
 
   -- a status of a number that isn't in the list
-  needed_else : (k : ℕ) (s : Status) (ns : List ℕ) → is_in k ns ≡ false → AreNeeded copy pool ns
+  needed_else : (k : ℕ) (s : BlockStatus) (ns : List ℕ) → is_listed k ns ≡ false → AreNeeded copy pool ns
       → AreNeeded copy (set pool k s) ns
   needed_else k s ns out are n is =
-      let ne : n ≢ k = λ e. true≢false (sym is ∙ ap (λ j. is_in j ns) e ∙ out) in
-      ap (is_past copy) (get_or-set_other pool k n s Granted ne) ∙ are n is
+      let ne : n ≢ k = λ e. true≢false (sym is ∙ ap (λ j. is_listed j ns) e ∙ out) in
+      ap (is_reclaimable copy) (get_or-set_other pool k n s Granted ne) ∙ are n is
 
   pub needed_freed : (lists : List (List ℕ)) (at k : ℕ) → LOOSE < length lists → k < length pool
       → AreNeeded copy pool (stack_of lists at) → AreNeeded copy (set pool k Free) (stack_of (taken_off LOOSE lists) at)
   needed_freed lists at k lt within are =
       needed_set k Free (stack_of (taken_off LOOSE lists) at) within refl (needed_off lists LOOSE at lt are)
 
-module _ (pool : List Status) (pins : List (Option ℕ)) (least : ℕ) (lists : List (List ℕ)) (are : IsSorted pool pins least lists) where
+module _ (pool : List BlockStatus) (pins : List (Option ℕ)) (least : ℕ) (lists : List (List ℕ)) (are : IsSorted pool pins least lists) where
   all_count : (q : ℕ → Bool) (stack : ℕ) → count_by q (stack_of lists stack) ≤ tally is_retired q 0 pool
   all_count q stack = let c = stack_count q lists stack in let l = are.listed q in omega arith
 
@@ -183,8 +186,8 @@ module _ (pool : List Status) (pins : List (Option ℕ)) (least : ℕ) (lists : 
       omega arith
 
   -- a status that no list tells of
-  pub sorted_set : (k : ℕ) (s : Status) → k < length pool → is_retired (status_of pool k) ≡ false → is_retired s ≡ false
-      → ((copy : PinCopy) → is_past copy s ≡ false) → IsSorted (set pool k s) pins least lists
+  pub sorted_set : (k : ℕ) (s : BlockStatus) → k < length pool → is_retired (status_of pool k) ≡ false → is_retired s ≡ false
+      → ((copy : PinCopy) → is_reclaimable copy s ≡ false) → IsSorted (set pool k s) pins least lists
   sorted_set k s lt not not_now never = record {
     many = are.many;
     listed = λ q.
@@ -196,7 +199,7 @@ module _ (pool : List Status) (pins : List (Option ℕ)) (least : ℕ) (lists : 
   }
 
   -- a number that is retired is loose
-  pub sorted_retired : (k : ℕ) (s : Status) → k < length pool → is_retired (status_of pool k) ≡ false → is_retired s ≡ true
+  pub sorted_retired : (k : ℕ) (s : BlockStatus) → k < length pool → is_retired (status_of pool k) ≡ false → is_retired s ≡ true
       → IsSorted (set pool k s) pins least (put_on LOOSE k lists)
   sorted_retired k s lt not now =
       let many = are.many in
@@ -241,10 +244,10 @@ module _ (pool : List Status) (pins : List (Option ℕ)) (least : ℕ) (lists : 
 
   -- where each stack is needed, nothing is due
   pub all_sorted : (copy : PinCopy) → HasPins copy pins → AreNeeded copy pool (stack_of lists LATE)
-      → stack_of lists LOOSE ≡ [] → (k : ℕ) → k < length pool → is_past copy (status_of pool k) ≡ false
+      → stack_of lists LOOSE ≡ [] → (k : ℕ) → k < length pool → is_reclaimable copy (status_of pool k) ≡ false
   all_sorted copy has late empty k lt =
       elim (is_retired (status_of pool k)) as (λ b. is_retired (status_of pool k) ≡ b
-      → is_past copy (status_of pool k) ≡ false) [
+      → is_reclaimable copy (status_of pool k) ≡ false) [
         | true ↦ λ t.
             let l = are.listed (λ n. n == k) in
             let one = tally_has_one is_retired k pool lt t in
@@ -253,15 +256,15 @@ module _ (pool : List Status) (pins : List (Option ℕ)) (least : ℕ) (lists : 
         | false ↦ λ t. past_retired copy (status_of pool k) t
       ] refl
     where
-      in_stack : (stack : ℕ) → stack ≤ LATE → is_in k (stack_of lists stack) ≡ true → is_past copy (status_of pool k) ≡ false
+      in_stack : (stack : ℕ) → stack ≤ LATE → is_listed k (stack_of lists stack) ≡ true → is_reclaimable copy (status_of pool k) ≡ false
       in_stack stack within is =
           elim (cases_lt stack SEATS) [
             | inl low ↦ are.held copy stack low (has stack low) k is
             | inr high ↦ elim (cases_eq stack LATE) [
-              | inl e ↦ late k (sym (ap (λ j. is_in k (stack_of lists j)) e) ∙ is)
+              | inl e ↦ late k (sym (ap (λ j. is_listed k (stack_of lists j)) e) ∙ is)
               | inr ne ↦
                   let e : stack ≡ LOOSE = omega arith in
-                  absurd (false≢true (sym (ap (is_in k) (ap (stack_of lists) e ∙ empty)) ∙ is))
+                  absurd (false≢true (sym (ap (is_listed k) (ap (stack_of lists) e ∙ empty)) ∙ is))
             ]
           ]
 

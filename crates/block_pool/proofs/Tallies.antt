@@ -3,9 +3,11 @@ use Rattle.std.proofs.Common.{◌≡◌, ℕ, zero, suc, ◌+◌, ◌-◌, ◌<�
 use Rattle.std.proofs.Common.{subst, replicate, count_by, take, Bool, true, false, cond, ◌&&◌, refl, sym, ap, ap₂, ◌∙◌, arith}
 use Rattle.std.proofs.lemmas.Bool.{true≢false, false≢true, eqb-true, eqb-false, and_parts, true_from_ne_false}
 use Rattle.std.{specs.Prelude.slice_get, proofs.lemmas.List.Sums.sum_by-cons, proofs.lemmas.List.Sums.sum_by-append}
-use Rattle.pin_copy.specs.declared.copies.PinCopy.{PinCopy}
-use Rattle.block_pool.specs.Pools.{Status, Free, Granted, Used, Retired, is_free, is_used, is_born, is_retired, is_past, recycled}
-use Rattle.block_pool.specs.{Pools.passes, Kept.status_of, Kept.tally, Kept.Lists}
+use Rattle.block_reclamation.specs.declared.copies.PinCopy.{PinCopy}
+use Rattle.block_reclamation.specs.declared.status.BlockStatus.{BlockStatus}
+use Rattle.block_reclamation.specs.declared.status.BlockStatus.TheVariants.{Free, Granted, Used, Retired}
+use Rattle.block_reclamation.specs.Status.{is_free, is_in_use, is_used, is_retired, is_reclaimable, recycled, is_at}
+use Rattle.block_pool.specs.Kept.{status_of, tally, Lists}
 
 pub count_more : {A : Type 0} (p : A → Bool) (x : A) (xs : List A) → count_by p (x ∷ xs) ≡ cond (p x) 1 0 + count_by p xs
 count_more p x xs = sum_by-cons (λ x. cond (p x) 1 0) x xs
@@ -18,7 +20,7 @@ pub count_true : {A : Type 0} (xs : List A) → count_by (λ _. true) xs ≡ len
 count_true [] = refl
 count_true (x ∷ xs) = let m = count_more (λ _. true) x xs in let rest = count_true xs in omega arith
 
-pub tally_true : (p : Status → Bool) (i : ℕ) (pool : List Status) → tally p (λ _. true) i pool ≡ count_by p pool
+pub tally_true : (p : BlockStatus → Bool) (i : ℕ) (pool : List BlockStatus) → tally p (λ _. true) i pool ≡ count_by p pool
 tally_true p i [] = refl
 tally_true p i (s ∷ pool) =
     ap₂ (λ a b. a + b) (one (p s)) (tally_true p (i + 1) pool) ∙ sym (count_more p s pool) where
@@ -26,7 +28,7 @@ tally_true p i (s ∷ pool) =
       one true = refl
       one false = refl
 
-pub tally_set : (p : Status → Bool) (q : ℕ → Bool) (i : ℕ) (pool : List Status) (k : ℕ) (s d : Status) → k < length pool
+pub tally_set : (p : BlockStatus → Bool) (q : ℕ → Bool) (i : ℕ) (pool : List BlockStatus) (k : ℕ) (s d : BlockStatus) → k < length pool
     → tally p q i (set pool k s) + cond (p (get_or pool k d) && q (i + k)) 1 0 ≡ tally p q i pool + cond (p s && q (i + k)) 1 0
 tally_set p q i [] k s d lt = absurd (omega arith)
 tally_set p q i (x ∷ pool) zero s d lt =
@@ -40,7 +42,7 @@ tally_set p q i (x ∷ pool) (suc k) s d lt =
     let here = rw at at rest in
     omega arith
 
-pub tally_at : (p : Status → Bool) (k i : ℕ) (pool : List Status) (d : Status) → 1 ≤ tally p (λ n. n == k) i pool
+pub tally_at : (p : BlockStatus → Bool) (k i : ℕ) (pool : List BlockStatus) (d : BlockStatus) → 1 ≤ tally p (λ n. n == k) i pool
     → (i ≤ k) × (k < i + length pool) × (p (get_or pool (k - i) d) ≡ true)
 tally_at p k i [] d h = absurd (omega arith)
 tally_at p k i (s ∷ pool) d h =
@@ -59,7 +61,7 @@ tally_at p k i (s ∷ pool) d h =
           )
     ] refl h
 
-pub count_lt : (p : Status → Bool) (pool : List Status) (k : ℕ) (d : Status) → k < length pool → p (get_or pool k d) ≡ false
+pub count_lt : (p : BlockStatus → Bool) (pool : List BlockStatus) (k : ℕ) (d : BlockStatus) → k < length pool → p (get_or pool k d) ≡ false
     → count_by p pool < length pool
 count_lt p [] k d lt e = absurd (omega arith)
 count_lt p (s ∷ pool) zero d lt e =
@@ -74,7 +76,7 @@ count_lt p (s ∷ pool) (suc k) d lt e =
     ] m
 
 -- one status changed
-pub tally_here : (p : Status → Bool) (q : ℕ → Bool) (pool : List Status) (k : ℕ) (s : Status) → k < length pool
+pub tally_here : (p : BlockStatus → Bool) (q : ℕ → Bool) (pool : List BlockStatus) (k : ℕ) (s : BlockStatus) → k < length pool
     → tally p q 0 (set pool k s) + cond (p (status_of pool k) && q k) 1 0 ≡ tally p q 0 pool + cond (p s && q k) 1 0
 tally_here p q pool k s lt = let z : 0 + k ≡ k = omega arith in rw z at (tally_set p q 0 pool k s Granted lt)
 
@@ -82,17 +84,17 @@ pub count_here : {A : Type 0} (p : A → Bool) (pool : List A) (k : ℕ) (s d : 
     → count_by p (set pool k s) + cond (p (get_or pool k d)) 1 0 ≡ count_by p pool + cond (p s) 1 0
 count_here p pool k s d lt = Rattle.std.proofs.lemmas.List.Sums.sum_by-set (λ s. cond (p s) 1 0) pool k s d lt
 
-pub count_kept : (p : Status → Bool) (pool : List Status) (k : ℕ) (s : Status) → k < length pool
+pub count_kept : (p : BlockStatus → Bool) (pool : List BlockStatus) (k : ℕ) (s : BlockStatus) → k < length pool
     → p (status_of pool k) ≡ p s → count_by p (set pool k s) ≡ count_by p pool
 count_kept p pool k s lt same =
     let c = rw same at (count_here p pool k s Granted lt) in
     omega arith
 
-module _ (p : Status → Bool) (pool : List Status) (ns : List ℕ) (are : Lists p pool ns) where
+module _ (p : BlockStatus → Bool) (pool : List BlockStatus) (ns : List ℕ) (are : Lists p pool ns) where
   pub listed_count : length ns ≡ count_by p pool
   listed_count = sym (count_true ns) ∙ are (λ _. true) ∙ tally_true p 0 pool
 
-  module _ (k : ℕ) (s : Status) (lt : k < length pool) where
+  module _ (k : ℕ) (s : BlockStatus) (lt : k < length pool) where
     pub lists_more : p (status_of pool k) ≡ false → p s ≡ true → Lists p (set pool k s) (ns ++ k ∷ [])
     lists_more a b q =
         let old = are q in
@@ -131,7 +133,7 @@ pub same_number : (a : ℕ) → (a == a) ≡ true
 same_number a = true_from_ne_false (a == a) (λ e. eqb-false a a e refl)
 
 -- a listed number is one of the pool's, and its status passes
-pub listed_at : (p : Status → Bool) (pool : List Status) (n : ℕ) (room : List ℕ) → Lists p pool (take n room) → n ≤ length room
+pub listed_at : (p : BlockStatus → Bool) (pool : List BlockStatus) (n : ℕ) (room : List ℕ) → Lists p pool (take n room) → n ≤ length room
     → (i : ℕ) → i < n
     → (get_or room i 0 < length pool) × (p (status_of pool (get_or room i 0)) ≡ true)
 listed_at p pool n room are le i lt =
@@ -143,7 +145,7 @@ listed_at p pool n room are le i lt =
     let at = tally_at p r 0 pool Granted (omega arith) in
     (omega (arith, at.1), subst (λ k. p (get_or pool k Granted) ≡ true) (let z : r - 0 ≡ r = omega arith in z) at.2)
 
-tally_has : (p : Status → Bool) (k i : ℕ) (pool : List Status) → k < length pool → p (status_of pool k) ≡ true
+tally_has : (p : BlockStatus → Bool) (k i : ℕ) (pool : List BlockStatus) → k < length pool → p (status_of pool k) ≡ true
     → 1 ≤ tally p (λ n. n == i + k) i pool
 tally_has p k i [] lt e = absurd (omega arith)
 tally_has p zero i (s ∷ pool) lt e =
@@ -156,122 +158,105 @@ tally_has p (suc k) i (s ∷ pool) lt e =
     omega arith
 
 -- a number whose status passes is tallied
-pub tally_has_one : (p : Status → Bool) (k : ℕ) (pool : List Status) → k < length pool → p (status_of pool k) ≡ true
+pub tally_has_one : (p : BlockStatus → Bool) (k : ℕ) (pool : List BlockStatus) → k < length pool → p (status_of pool k) ≡ true
     → 1 ≤ tally p (λ n. n == k) 0 pool
 tally_has_one p k pool lt e = let z : 0 + k ≡ k = omega arith in rw z at (tally_has p k 0 pool lt e)
 
-pub retired_not_free : (s : Status) → is_retired s ≡ true → is_free s ≡ false
+pub retired_not_free : (s : BlockStatus) → is_retired s ≡ true → is_free s ≡ false
 retired_not_free Free e = absurd (false≢true e)
 retired_not_free Granted e = refl
 retired_not_free (Used birth) e = refl
-retired_not_free (Retired birth since) e = refl
+retired_not_free (Retired birth retirement) e = refl
 
-pub past_retired : (copy : PinCopy) (s : Status) → is_retired s ≡ false → is_past copy s ≡ false
+pub past_retired : (copy : PinCopy) (s : BlockStatus) → is_retired s ≡ false → is_reclaimable copy s ≡ false
 past_retired copy Free e = refl
 past_retired copy Granted e = refl
 past_retired copy (Used birth) e = refl
-past_retired copy (Retired birth since) e = absurd (true≢false e)
+past_retired copy (Retired birth retirement) e = absurd (true≢false e)
 
 -- recycling, one number at a time
 module _ (copy : PinCopy) where
-  due_free : (s : Status) → is_past copy s ≡ true → recycled copy Free ≡ recycled copy s
+  due_free : (s : BlockStatus) → is_reclaimable copy s ≡ true → recycled copy Free ≡ recycled copy s
   due_free s e = ap (λ b. cond b Free s) (sym e)
 
-  pub recycled_set : (pool : List Status) (k : ℕ) → is_past copy (status_of pool k) ≡ true
+  pub recycled_set : (pool : List BlockStatus) (k : ℕ) → is_reclaimable copy (status_of pool k) ≡ true
       → map (recycled copy) (set pool k Free) ≡ map (recycled copy) pool
   recycled_set pool k e = Rattle.std.proofs.Math.Seq.map-set_same (recycled copy) pool k Free Granted
       (due_free (status_of pool k) e)
 
-  pub past_set : (pool : List Status) (k : ℕ) → k < length pool → is_past copy (status_of pool k) ≡ true
-      → count_by (is_past copy) (set pool k Free) + 1 ≡ count_by (is_past copy) pool
+  pub past_set : (pool : List BlockStatus) (k : ℕ) → k < length pool → is_reclaimable copy (status_of pool k) ≡ true
+      → count_by (is_reclaimable copy) (set pool k Free) + 1 ≡ count_by (is_reclaimable copy) pool
   past_set pool k lt e =
-      let s = Rattle.std.proofs.lemmas.List.Sums.sum_by-set (λ s. cond (is_past copy s) 1 0) pool k Free Granted lt in
-      let one : (let x : ℕ = cond (is_past copy (status_of pool k)) 1 0 in x) ≡ 1 = ap (λ b. cond b 1 0) e in
+      let s = Rattle.std.proofs.lemmas.List.Sums.sum_by-set (λ s. cond (is_reclaimable copy s) 1 0) pool k Free Granted lt in
+      let one : (let x : ℕ = cond (is_reclaimable copy (status_of pool k)) 1 0 in x) ≡ 1 = ap (λ b. cond b 1 0) e in
       omega arith
 
-  pub none_past : (pool : List Status) → ((k : ℕ) → k < length pool → is_past copy (status_of pool k) ≡ false)
-      → (map (recycled copy) pool ≡ pool) × (count_by (is_past copy) pool ≡ 0)
+  pub none_past : (pool : List BlockStatus) → ((k : ℕ) → k < length pool → is_reclaimable copy (status_of pool k) ≡ false)
+      → (map (recycled copy) pool ≡ pool) × (count_by (is_reclaimable copy) pool ≡ 0)
   none_past [] none = (refl, refl)
   none_past (s ∷ pool) none =
-      let here : is_past copy s ≡ false = none 0 (omega arith) in
+      let here : is_reclaimable copy s ≡ false = none 0 (omega arith) in
       let rest = none_past pool (λ k lt. none (suc k) (omega arith)) in
-      let m = count_more (is_past copy) s pool in
-      let zero_here : (let x : ℕ = cond (is_past copy s) 1 0 in x) ≡ 0 = ap (λ b. cond b 1 0) here in
+      let m = count_more (is_reclaimable copy) s pool in
+      let zero_here : (let x : ℕ = cond (is_reclaimable copy s) 1 0 in x) ≡ 0 = ap (λ b. cond b 1 0) here in
       let c = rest.1 in
       (ap₂ (λ x xs. x ∷ xs) (ap (λ b. cond b Free s) here) rest.0, omega arith)
 
-pub free_not_retired : (s : Status) → is_free s ≡ true → is_retired s ≡ false
+pub free_not_retired : (s : BlockStatus) → is_free s ≡ true → is_retired s ≡ false
 free_not_retired Free e = refl
 free_not_retired Granted e = absurd (false≢true e)
 free_not_retired (Used birth) e = absurd (false≢true e)
-free_not_retired (Retired birth since) e = absurd (false≢true e)
+free_not_retired (Retired birth retirement) e = absurd (false≢true e)
 
 -- a number whose status passes is one of the pool's
-pub within_pool : (p : Status → Bool) (pool : List Status) (n : ℕ) → passes p (slice_get pool n) ≡ true
+pub within_pool : (p : BlockStatus → Bool) (pool : List BlockStatus) (n : ℕ) → is_at p (slice_get pool n) ≡ true
     → (n < length pool) × (p (status_of pool n) ≡ true)
 within_pool p [] n e = absurd (false≢true e)
 within_pool p (s ∷ pool) zero e = (omega arith, e)
 within_pool p (s ∷ pool) (suc n) e = let rest = within_pool p pool n e in (omega (arith, rest.0), rest.1)
 
-pub passes_at : (p : Status → Bool) (pool : List Status) (n : ℕ) → n < length pool → p (status_of pool n) ≡ true
-    → passes p (slice_get pool n) ≡ true
+pub passes_at : (p : BlockStatus → Bool) (pool : List BlockStatus) (n : ℕ) → n < length pool → p (status_of pool n) ≡ true
+    → is_at p (slice_get pool n) ≡ true
 passes_at p [] n lt e = absurd (omega arith)
 passes_at p (s ∷ pool) zero lt e = e
 passes_at p (s ∷ pool) (suc n) lt e = passes_at p pool n (omega arith) e
 
 -- a used status is neither free nor retired
-pub used_not_free : (s : Status) → is_used s ≡ true → is_free s ≡ false
+pub used_not_free : (s : BlockStatus) → is_in_use s ≡ true → is_free s ≡ false
 used_not_free Free e = absurd (false≢true e)
 used_not_free Granted e = refl
 used_not_free (Used birth) e = refl
-used_not_free (Retired birth since) e = absurd (false≢true e)
+used_not_free (Retired birth retirement) e = absurd (false≢true e)
 
-pub used_not_retired : (s : Status) → is_used s ≡ true → is_retired s ≡ false
+pub used_not_retired : (s : BlockStatus) → is_in_use s ≡ true → is_retired s ≡ false
 used_not_retired Free e = absurd (false≢true e)
 used_not_retired Granted e = refl
 used_not_retired (Used birth) e = refl
-used_not_retired (Retired birth since) e = absurd (false≢true e)
+used_not_retired (Retired birth retirement) e = absurd (false≢true e)
 
-pub record IsUsedAt (pool : List Status) (n : ℕ) : Type 0 where
+pub record IsUsedAt (pool : List BlockStatus) (n : ℕ) : Type 0 where
   pub within : n < length pool
   pub not_free : is_free (status_of pool n) ≡ false
   pub not_retired : is_retired (status_of pool n) ≡ false
 
-pub used_at : (pool : List Status) (n : ℕ) → passes is_used (slice_get pool n) ≡ true → IsUsedAt pool n
-used_at pool n e = let at = within_pool is_used pool n e in record {
+pub used_at : (pool : List BlockStatus) (n : ℕ) → is_at is_in_use (slice_get pool n) ≡ true → IsUsedAt pool n
+used_at pool n e = let at = within_pool is_in_use pool n e in record {
   within = at.0;
   not_free = used_not_free (status_of pool n) at.1;
   not_retired = used_not_retired (status_of pool n) at.1;
 }
 
-born_is : (s : Status) → is_born s ≡ true → (birth : ℕ) × (s ≡ Used birth)
+born_is : (s : BlockStatus) → is_used s ≡ true → (birth : ℕ) × (s ≡ Used birth)
 born_is Free e = absurd (false≢true e)
 born_is Granted e = absurd (false≢true e)
 born_is (Used birth) e = (birth, refl)
-born_is (Retired birth since) e = absurd (false≢true e)
+born_is (Retired birth retirement) e = absurd (false≢true e)
 
-pub born_at : (pool : List Status) (n : ℕ) → passes is_born (slice_get pool n) ≡ true
+pub born_at : (pool : List BlockStatus) (n : ℕ) → is_at is_used (slice_get pool n) ≡ true
     → (n < length pool) × ((birth : ℕ) × (status_of pool n ≡ Used birth))
-born_at pool n e = let at = within_pool is_born pool n e in (at.0, born_is (status_of pool n) at.1)
+born_at pool n e = let at = within_pool is_used pool n e in (at.0, born_is (status_of pool n) at.1)
 
--- each number is free, used or retired
-pub all_parts : (pool : List Status) → count_by is_free pool + count_by is_used pool + count_by is_retired pool ≡ length pool
-all_parts [] = refl
-all_parts (s ∷ pool) =
-    let f = count_more is_free s pool in
-    let u = count_more is_used s pool in
-    let r = count_more is_retired s pool in
-    let rest = all_parts pool in
-    let one = one_part s in
-    omega arith
-  where
-    one_part : (s : Status) → (let x : ℕ = cond (is_free s) 1 0 in x) + cond (is_used s) 1 0 + cond (is_retired s) 1 0 ≡ 1
-    one_part Free = refl
-    one_part Granted = refl
-    one_part (Used birth) = refl
-    one_part (Retired birth since) = refl
-
-pub tally_last : (p : Status → Bool) (q : ℕ → Bool) (i : ℕ) (pool : List Status) (s : Status)
+pub tally_last : (p : BlockStatus → Bool) (q : ℕ → Bool) (i : ℕ) (pool : List BlockStatus) (s : BlockStatus)
     → tally p q i (pool ++ s ∷ []) ≡ tally p q i pool + cond (p s && q (i + length pool)) 1 0
 tally_last p q i [] s = let z : i + 0 ≡ i = omega arith in rw z (Rattle.std.proofs.Common.add_comm (cond (p s && q i) 1 0) 0)
 tally_last p q i (t ∷ pool) s =
@@ -298,7 +283,3 @@ free_more k ns are q =
 pub none_retired : (q : ℕ → Bool) (i k : ℕ) → tally is_retired q i (replicate k Free) ≡ 0
 none_retired q i zero = refl
 none_retired q i (suc k) = let rest = none_retired q (i + 1) k in omega arith
-
-pub all_one : {A B : Type 0} (f : A → B) (k : ℕ) (x : A) → map f (replicate k x) ≡ replicate k (f x)
-all_one f zero x = refl
-all_one f (suc k) x = ap (λ xs. f x ∷ xs) (all_one f k x)

@@ -1,37 +1,31 @@
 -- What a pool keeps of its numbers: the free ones as a list in the first places of a room of fixed size, and the retired
 -- ones in stacks.
-use Rattle.std.specs.Prelude.{◌≡◌, ◌<◌, ◌≤◌, ℕ, zero, suc, ◌+◌, ◌-◌, ◌&&◌, Bool, if◌then◌else◌, List, [], ◌∷◌, length, map, take}
+use Rattle.std.specs.Prelude.{◌≡◌, ◌<◌, ◌≤◌, ℕ, zero, suc, ◌+◌, ◌-◌, ◌&&◌, Bool, if◌then◌else◌, List, [], ◌∷◌, length, take}
 use Rattle.std.specs.Prelude.{count_by, sum_by, slice_index, slice_index_or, slice_set, true, false, Option, None}
-use Rattle.block_pool.specs.declared.numbers.Place.{Place}
-use Rattle.block_pool.specs.declared.numbers.Place.TheVariants as places
 use Rattle.block_pool.specs.declared.numbers.Numbers.{Numbers}
-use Rattle.pin_copy.specs.declared.copies.PinCopy.{PinCopy}
-use Rattle.pin_copy.specs.declared.copies.TheConstants.{SEATS}
-use Rattle.pin_copy.specs.Copies.{reach_of}
-use Rattle.linked_stacks.specs.Stacks.{stack_of, below_top, is_in}
+use Rattle.block_reclamation.specs.declared.copies.PinCopy.{PinCopy}
+use Rattle.block_reclamation.specs.declared.copies.TheConstants.{SEATS}
+use Rattle.block_reclamation.specs.Copies.{reach_of}
+use Rattle.linked_stacks.specs.Stacks.{stack_of, below_top}
+use Rattle.block_reclamation.specs.Status.{is_listed, is_free, is_retired, is_reclaimable}
 use Rattle.block_pool.specs.declared.numbers.TheConstants.{LATE}
-use Rattle.block_pool.specs.Pools.{Status, Free, Granted, Used, Retired, is_free, is_retired, is_past}
+use Rattle.block_reclamation.specs.declared.status.BlockStatus.{BlockStatus}
+use Rattle.block_reclamation.specs.declared.status.BlockStatus.TheVariants.{Granted}
 
-abbrev pub status_from : Place → Status
-status_from places.Free = Free
-status_from places.Granted = Granted
-status_from (places.Used birth) = Used birth
-status_from (places.Retired birth since) = Retired birth since
-
-abbrev pub statuses : Numbers → List Status
-statuses n = map status_from n.places.items
+abbrev pub statuses : Numbers → List BlockStatus
+statuses n = n.statuses.items
 
 -- the status of a number, and one that no list has past the last number
-abbrev pub status_of : List Status → ℕ → Status
+abbrev pub status_of : List BlockStatus → ℕ → BlockStatus
 status_of pool number = slice_index_or pool number Granted
 
 -- how many numbers from i on have a status that passes p and pass q themselves
-abbrev pub tally : (Status → Bool) → (ℕ → Bool) → ℕ → List Status → ℕ
+abbrev pub tally : (BlockStatus → Bool) → (ℕ → Bool) → ℕ → List BlockStatus → ℕ
 tally p q i [] = 0
 tally p q i (s ∷ pool) = (if p s && q i then 1 else 0) + tally p q (i + 1) pool
 
 -- the list has each number whose status passes, once, and no other
-abbrev pub Lists : (Status → Bool) → List Status → List ℕ → Type 0
+abbrev pub Lists : (BlockStatus → Bool) → List BlockStatus → List ℕ → Type 0
 Lists p pool numbers = (q : ℕ → Bool) → count_by q numbers ≡ tally p q 0 pool
 
 -- the last k numbers of the first len of a list, the last one first
@@ -40,12 +34,12 @@ popped room len zero = []
 popped room len (suc k) = slice_index room (len - 1) ∷ popped room (len - 1) k
 
 -- the stacks have each retired number, once, and no other
-abbrev pub AreStacked : List Status → List (List ℕ) → Type 0
+abbrev pub AreStacked : List BlockStatus → List (List ℕ) → Type 0
 AreStacked pool lists = (q : ℕ → Bool) → sum_by (count_by q) lists ≡ tally is_retired q 0 pool
 
 -- the copy needs each block of these numbers that is retired
-abbrev pub AreNeeded : PinCopy → List Status → List ℕ → Type 0
-AreNeeded copy pool numbers = (n : ℕ) → is_in n numbers ≡ true → is_past copy (status_of pool n) ≡ false
+abbrev pub AreNeeded : PinCopy → List BlockStatus → List ℕ → Type 0
+AreNeeded copy pool numbers = (n : ℕ) → is_listed n numbers ≡ true → is_reclaimable copy (status_of pool n) ≡ false
 
 -- the copy has these settled pins
 abbrev pub HasPins : PinCopy → List (Option ℕ) → Type 0
@@ -53,7 +47,7 @@ HasPins copy pins = (seat : ℕ) → seat < SEATS → slice_index_or copy.settle
 
 -- The stacks of the retired numbers: one for each seat, which any copy needs that has the seat's settled pin; one that any
 -- copy needs that reaches no further than below `least`; and one of which nothing is known.
-pub record IsSorted (pool : List Status) (pins : List (Option ℕ)) (least : ℕ) (lists : List (List ℕ)) : Type 0 where
+pub record IsSorted (pool : List BlockStatus) (pins : List (Option ℕ)) (least : ℕ) (lists : List (List ℕ)) : Type 0 where
   pub many : length lists ≡ LATE + 1
   pub listed : AreStacked pool lists
   pub held : (copy : PinCopy) (seat : ℕ) → seat < SEATS → slice_index_or copy.settled seat None ≡ slice_index_or pins seat None
@@ -61,10 +55,10 @@ pub record IsSorted (pool : List Status) (pins : List (Option ℕ)) (least : ℕ
   pub late : (copy : PinCopy) → reach_of copy < least → AreNeeded copy pool (stack_of lists LATE)
 
 -- the number may stand in that stack
-pub record Fits (pool : List Status) (pins : List (Option ℕ)) (least to number : ℕ) : Type 0 where
+pub record Fits (pool : List BlockStatus) (pins : List (Option ℕ)) (least to number : ℕ) : Type 0 where
   pub held : (copy : PinCopy) → to < SEATS → slice_index_or copy.settled to None ≡ slice_index_or pins to None
-      → is_past copy (status_of pool number) ≡ false
-  pub late : (copy : PinCopy) → to ≡ LATE → reach_of copy < least → is_past copy (status_of pool number) ≡ false
+      → is_reclaimable copy (status_of pool number) ≡ false
+  pub late : (copy : PinCopy) → to ≡ LATE → reach_of copy < least → is_reclaimable copy (status_of pool number) ≡ false
 
 abbrev pub top_of : List ℕ → ℕ
 top_of numbers = slice_index numbers 0
@@ -82,11 +76,11 @@ moved from to lists = put_on to (top_of (stack_of lists from)) (taken_off from l
 
 -- the list has the free numbers, and the stacks the retired ones
 pub record IsNumbers (n : Numbers) : Type 0 where
-  pub few : length n.places.items ≤ 65536
-  pub free_room : length n.free.items ≡ length n.places.items
-  pub bound : n.retired.bound ≡ length n.places.items
+  pub few : length n.statuses.items ≤ 65536
+  pub free_room : length n.free.items ≡ length n.statuses.items
+  pub bound : n.retired.bound ≡ length n.statuses.items
   pub seats : length n.pins ≡ SEATS
-  pub free_in : n.free_len ≤ length n.places.items
+  pub free_in : n.free_len ≤ length n.statuses.items
   pub free_are : Lists is_free (statuses n) (take n.free_len n.free.items)
   pub retired_in : n.retired_len ≡ count_by is_retired (statuses n)
   pub sorted : IsSorted (statuses n) n.pins n.least n.retired.lists

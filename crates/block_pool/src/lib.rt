@@ -1,4 +1,4 @@
-//! A pool of edge blocks that is made beforehand: each number is free, used, or retired with the number of the version
+//! A pool of edge blocks that is made beforehand: each number is free, in use, or retired with the number of the version
 //! that left it out.
 //!
 //! STINGER (Ediger, McColl, Riedy, Bader; IEEE HPEC 2012) takes its blocks from such a pool. Here a block that a batch

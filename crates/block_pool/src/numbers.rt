@@ -1,46 +1,35 @@
-//! Which numbers are free, used or retired.
+//! Which numbers are free, in use or retired.
 
 ghost use Rattle.std.specs.Prelude.{◌≡◌, ◌≢◌, ◌<◌, ◌≤◌, ℕ, length, map, replicate, count_by, slice_index, slice_set, ◌+◌, ◌-◌, IfOk};
 ghost use Rattle.std.specs.Prelude.{true, IfSome, slice_index_or, None, []};
-ghost use Rattle.pin_copy.specs.Copies as copies;
+ghost use Rattle.block_reclamation.specs.Copies as copies;
 ghost use Rattle.linked_stacks.specs.Stacks.{stack_of};
-ghost use Rattle.block_pool.specs.Pools.{Free, Granted, Used, Retired, is_free, is_used, is_retired, is_past, recycled};
-ghost use Rattle.block_pool.specs.Pools.{is_used_at, is_born_at, marked, retired};
-ghost use Rattle.block_pool.specs.Kept.{status_from, status_of, popped, Lists, AreNeeded, HasPins, top_of, moved, taken_off};
+ghost use Rattle.block_reclamation.specs.declared.status.BlockStatus.TheVariants.{Free, Granted, Used, Retired};
+ghost use Rattle.block_reclamation.specs.Status.{is_free, is_in_use, is_retired, is_reclaimable, recycled};
+ghost use Rattle.block_pool.specs.Pools.{marked, retired, is_in_use_at, is_used_at};
+ghost use Rattle.block_pool.specs.Kept.{status_of, popped, Lists, AreNeeded, HasPins, top_of, moved, taken_off};
 
+use block_reclamation::{BlockStatus, PinCopy, SEATS};
 use linked_stacks::LinkedStacks;
-use pin_copy::{PinCopy, SEATS};
 use std::alloc::{AllocError, Global};
-
-/// What a number is by now.
-#[derive(Clone, Copy, Debug)]
-pub(crate) enum Place {
-    Free,
-    /// Granted, and in no version yet.
-    Granted,
-    /// In the last version, listed since version `birth`.
-    Used { birth: u64 },
-    /// Listed from version `birth` on, and left out by version `since`.
-    Retired { birth: u64, since: u64 },
-}
 
 /// When a retired block was first listed, and when it was left out.
 #[derive(Clone, Copy)]
 struct Dates {
     birth: u64,
-    since: u64,
+    retirement: u64,
 }
 
-/// A used place once it is retired.
-fn after_retiring(place: Place, version: u64) -> Place
-    ensures { status_from result ≡ retired version (status_from place) }
+/// What a used block is once it is retired.
+fn after_retiring(status: BlockStatus, version: u64) -> BlockStatus
+    ensures { result ≡ retired version status }
 {
-    match place {
-        Place::Used { birth } => Place::Retired {
+    match status {
+        BlockStatus::Used { birth } => BlockStatus::Retired {
             birth,
-            since: version,
+            retirement: version,
         },
-        _ => place,
+        _ => status,
     }
 }
 
@@ -54,7 +43,7 @@ pub(crate) const LATE: usize = 17;
 /// What each number is, a list of the free ones, and stacks of the retired ones. All have their room from the start.
 #[derive(Debug, Drop)]
 pub(crate) struct Numbers {
-    pub places: Vec<Place>,
+    pub statuses: Vec<BlockStatus>,
     /// The first `free_len` are the free numbers, the next one to be granted last; the rest is room.
     pub free: Vec<u32>,
     pub free_len: usize,
@@ -78,7 +67,7 @@ impl Numbers {
     {
         let len = count as usize;
         Ok(Numbers {
-            places: vec![in alloc; Place::Free; len]?,
+            statuses: vec![in alloc; BlockStatus::Free; len]?,
             free: numbers_up_to(alloc, count)?,
             free_len: len,
             retired: LinkedStacks::new(alloc, count, 18)?,
@@ -104,12 +93,12 @@ impl Numbers {
         self.retired_len
     }
 
-    /// How many are used.
+    /// How many are in use.
     pub fn used(&self) -> usize
         requires { IsNumbers self.now }
-        ensures { result ≡ count_by is_used (statuses self.now) }
+        ensures { result ≡ count_by is_in_use (statuses self.now) }
     {
-        self.places.len() - self.free_len - self.retired_len
+        self.statuses.len() - self.free_len - self.retired_len
     }
 
     /// Grants the last `count` of the free numbers.
@@ -139,17 +128,17 @@ impl Numbers {
     {
         self.free_len -= 1;
         let number = self.free[self.free_len];
-        self.places[number as usize] = Place::Granted;
+        self.statuses[number as usize] = BlockStatus::Granted;
     }
 
     /// Makes a used number free.
     pub fn give_back(&mut self, number: u32)
         requires kept { IsNumbers self.old }
-        requires used { is_used_at (statuses self.old) number ≡ true }
+        requires used { is_in_use_at (statuses self.old) number ≡ true }
         ensures kept { IsNumbers self.new }
         ensures statuses { statuses self.new ≡ slice_set (statuses self.old) number Free }
     {
-        self.places[number as usize] = Place::Free;
+        self.statuses[number as usize] = BlockStatus::Free;
         self.free[self.free_len] = number;
         self.free_len += 1;
     }
@@ -157,23 +146,23 @@ impl Numbers {
     /// Notes the version that first lists a used number.
     pub fn born(&mut self, number: u32, version: u64)
         requires kept { IsNumbers self.old }
-        requires used { is_used_at (statuses self.old) number ≡ true }
+        requires used { is_in_use_at (statuses self.old) number ≡ true }
         ensures kept { IsNumbers self.new }
         ensures statuses { statuses self.new ≡ slice_set (statuses self.old) number (Used version) }
     {
-        self.places[number as usize] = Place::Used { birth: version };
+        self.statuses[number as usize] = BlockStatus::Used { birth: version };
     }
 
     /// Retires a born number with the number of a version.
     pub fn retire(&mut self, number: u32, version: u64)
         requires kept { IsNumbers self.old }
-        requires born { is_born_at (statuses self.old) number ≡ true }
+        requires born { is_used_at (statuses self.old) number ≡ true }
         ensures kept { IsNumbers self.new }
         ensures statuses { statuses self.new ≡ slice_set (statuses self.old) number
             (retired version (status_of (statuses self.old) number)) }
     {
-        let place = self.places[number as usize];
-        self.places[number as usize] = after_retiring(place, version);
+        let status = self.statuses[number as usize];
+        self.statuses[number as usize] = after_retiring(status, version);
         self.retired.push(LOOSE, number);
         self.retired_len += 1;
     }
@@ -185,7 +174,7 @@ impl Numbers {
         requires { IsNumbers self.old }
         ensures kept { IsNumbers self.new }
         ensures statuses { statuses self.new ≡ map (recycled copy.now) (statuses self.old) }
-        ensures count { result ≡ count_by (is_past copy.now) (statuses self.old) }
+        ensures count { result ≡ count_by (is_reclaimable copy.now) (statuses self.old) }
     {
         self.follow(copy);
         self.recall(copy);
@@ -275,7 +264,7 @@ impl Numbers {
         requires late { AreNeeded copy.now (statuses self.old) (stack_of self.old.retired.lists LATE) }
         ensures kept { IsNumbers self.new }
         ensures statuses { statuses self.new ≡ map (recycled copy.now) (statuses self.old) }
-        ensures count { result ≡ count_by (is_past copy.now) (statuses self.old) }
+        ensures count { result ≡ count_by (is_reclaimable copy.now) (statuses self.old) }
     {
         let mut count: u32 = 0;
         'sort: while self.retired.height(LOOSE) > 0 {
@@ -297,12 +286,13 @@ impl Numbers {
         ensures late { AreNeeded copy.now (statuses self.new) (stack_of self.new.retired.lists LATE) }
         ensures shorter { length (stack_of self.new.retired.lists LOOSE) + 1 ≡ length (stack_of self.old.retired.lists LOOSE) }
         ensures recycled { map (recycled copy.now) (statuses self.new) ≡ map (recycled copy.now) (statuses self.old) }
-        ensures count { result + count_by (is_past copy.now) (statuses self.new) ≡ count_by (is_past copy.now) (statuses self.old) }
+        ensures count { result + count_by (is_reclaimable copy.now) (statuses self.new)
+            ≡ count_by (is_reclaimable copy.now) (statuses self.old) }
         ensures free { self.new.free_len ≡ self.old.free_len + result }
     {
         let number = self.retired.top(LOOSE);
         let dates = self.dates_of(number);
-        if !copy.needs(dates.birth, dates.since) {
+        if !copy.needs(dates.birth, dates.retirement) {
             self.release_top(place);
             return 1;
         }
@@ -310,22 +300,22 @@ impl Numbers {
             self.move_top(LOOSE, seat);
             return 0;
         }
-        self.least = self.least.min(dates.since);
+        self.least = self.least.min(dates.retirement);
         self.move_top(LOOSE, LATE);
         0
     }
 
     /// The versions that first listed and that retired a retired number.
     fn dates_of(&self, number: u32) -> Dates
-        requires within { number < length self.now.places.items }
+        requires within { number < length self.now.statuses.items }
         requires retired { is_retired (status_of (statuses self.now) number) ≡ true }
-        ensures { status_of (statuses self.now) number ≡ Retired result.birth result.since }
+        ensures { status_of (statuses self.now) number ≡ Retired result.birth result.retirement }
     {
-        match self.places[number as usize] {
-            Place::Retired { birth, since } => Dates { birth, since },
-            Place::Free => unreachable!(),
-            Place::Granted => unreachable!(),
-            Place::Used { .. } => unreachable!(),
+        match self.statuses[number as usize] {
+            BlockStatus::Retired { birth, retirement } => Dates { birth, retirement },
+            BlockStatus::Free => unreachable!(),
+            BlockStatus::Granted => unreachable!(),
+            BlockStatus::Used { .. } => unreachable!(),
         }
     }
 
@@ -345,7 +335,7 @@ impl Numbers {
         let number = self.retired.top(LOOSE);
         self.retired.pop(LOOSE);
         self.retired_len -= 1;
-        self.places[number as usize] = Place::Free;
+        self.statuses[number as usize] = BlockStatus::Free;
         let next = self.free[place];
         self.free[self.free_len] = next;
         self.free[place] = number;
@@ -356,7 +346,7 @@ impl Numbers {
 /// The first seat whose settled pin needs a block of these dates.
 fn witness(copy: &PinCopy, dates: Dates) -> Option<usize>
     ensures { IfSome result (λ seat. (seat < SEATS)
-        × (copies.is_between dates.birth dates.since (slice_index_or copy.now.settled seat None) ≡ true)) }
+        × (copies.is_between dates.birth dates.retirement (slice_index_or copy.now.settled seat None) ≡ true)) }
 {
     for seat in 0..SEATS {
         if is_between(copy.settled[seat], dates) {
@@ -368,10 +358,10 @@ fn witness(copy: &PinCopy, dates: Dates) -> Option<usize>
 
 /// Whether a settled pin holds a version that listed a block of these dates.
 fn is_between(pin: Option<u64>, dates: Dates) -> bool
-    ensures { result ≡ copies.is_between dates.birth dates.since pin }
+    ensures { result ≡ copies.is_between dates.birth dates.retirement pin }
 {
     match pin {
-        Some(pin) => dates.birth <= pin && pin < dates.since,
+        Some(pin) => dates.birth <= pin && pin < dates.retirement,
         None => false,
     }
 }

@@ -1,17 +1,18 @@
-//! A pool: blocks that are free, used or retired.
+//! A pool: blocks that are free, in use or retired.
 
 ghost use Rattle.std.specs.Prelude.{◌≡◌, ◌⊎◌, ◌<◌, ◌≤◌, ◌+◌, [], ◌∷◌, length, map, replicate, count_by, IfOk, OnOk, OnErr, IfErr};
 ghost use Rattle.std.specs.Prelude.{IfSome, None, true, vec_len, slice_index_or, slice_set};
 ghost use Rattle.std.specs.Arc.{arc_value};
 ghost use Rattle.edge_block.specs.declared.blocks.Block.{Block};
-ghost use Rattle.block_pool.specs.Pools.{Free, Granted, Used, is_free, is_used, is_retired, is_past, recycled, retired, is_used_at};
-ghost use Rattle.block_pool.specs.Pools.{is_born_at, marked, changed, AreFree};
+ghost use Rattle.block_pool.specs.Pools.{retired, is_in_use_at, marked, changed, AreFree, is_used_at};
+ghost use Rattle.block_reclamation.specs.declared.status.BlockStatus.TheVariants.{Free, Granted, Used};
+ghost use Rattle.block_reclamation.specs.Status.{is_free, is_in_use, is_retired, is_reclaimable, recycled};
 ghost use Rattle.block_pool.specs.Kept.{statuses, popped, IsNumbers};
 ghost use Rattle.block_pool.specs.Bodies.{AreBodies};
 
 use crate::numbers::Numbers;
+use block_reclamation::PinCopy;
 use edge_block::Block;
-use pin_copy::PinCopy;
 use std::alloc::{AllocError, Global};
 use std::marker::Model;
 use std::sync::Arc;
@@ -39,15 +40,15 @@ impl Drop for Pool {
 
 impl Model for Pool {
     ghost use Rattle.std.specs.Prelude.{List, length};
-    ghost use Rattle.block_pool.specs.Pools.{Status};
+    ghost use Rattle.block_reclamation.specs.declared.status.BlockStatus.{BlockStatus};
     ghost use Rattle.block_pool.specs.Kept.{statuses, IsNumbers};
     ghost use Rattle.block_pool.specs.Bodies.{AreBodies};
 
-    ghost Value = { List Status };
+    ghost Value = { List BlockStatus };
 
     ghost view = { λ p. statuses p.numbers };
 
-    ghost invariant = { λ p. IsNumbers p.numbers × AreBodies (length p.numbers.places.items) p.bodies.items };
+    ghost invariant = { λ p. IsNumbers p.numbers × AreBodies (length p.numbers.statuses.items) p.bodies.items };
 }
 
 /// Blocks that were granted, and their numbers in the same order.
@@ -98,11 +99,11 @@ impl Pool {
         self.numbers.retired() as u32
     }
 
-    /// How many blocks are used: granted and not given back, or in a version. With the free and the retired ones they
+    /// How many blocks are in use: granted and not given back, or in a version. With the free and the retired ones they
     /// add up to the pool.
     pub fn used(&self) -> u32
-        ensures count { result ≡ count_by is_used self.now }
-        ensures all { count_by is_free self.now + count_by is_used self.now + count_by is_retired self.now ≡ length self.now }
+        ensures count { result ≡ count_by is_in_use self.now }
+        ensures all { count_by is_free self.now + count_by is_in_use self.now + count_by is_retired self.now ≡ length self.now }
     {
         self.numbers.used() as u32
     }
@@ -140,7 +141,7 @@ impl Pool {
     /// Gives back what was granted and neither given back nor retired, with the block or without it. It takes no
     /// memory.
     pub fn give_back(&mut self, number: u32, block: Option<Arc<Block>>)
-        requires used { is_used_at self.old number ≡ true }
+        requires used { is_in_use_at self.old number ≡ true }
         requires block { IfSome block (λ b. (arc_value {X = Block} b).number ≡ number) }
         ensures { self.new ≡ marked (number ∷ []) Free self.old }
     {
@@ -150,7 +151,7 @@ impl Pool {
 
     /// Notes the number of the version that first lists a block since its grant. It takes no memory.
     pub fn born(&mut self, number: u32, version: u64)
-        requires { is_used_at self.old number ≡ true }
+        requires { is_in_use_at self.old number ≡ true }
         ensures { self.new ≡ marked (number ∷ []) (Used version) self.old }
     {
         self.numbers.born(number, version);
@@ -158,7 +159,7 @@ impl Pool {
 
     /// Retires a block whose birth was noted with the number of the version that left it out. It takes no memory.
     pub fn retire(&mut self, block: Arc<Block>, version: u64)
-        requires { is_born_at self.old (arc_value {X = Block} block).number ≡ true }
+        requires { is_used_at self.old (arc_value {X = Block} block).number ≡ true }
         ensures { self.new ≡ changed (retired version) ((arc_value {X = Block} block).number ∷ []) self.old }
     {
         let number = block.number();
@@ -171,7 +172,7 @@ impl Pool {
     /// that pins keep.
     pub fn recycle(&mut self, copy: &PinCopy) -> u32
         ensures pool { self.new ≡ map (recycled copy.now) self.old }
-        ensures count { result ≡ count_by (is_past copy.now) self.old }
+        ensures count { result ≡ count_by (is_reclaimable copy.now) self.old }
     {
         self.numbers.recycle(copy)
     }
@@ -198,9 +199,9 @@ fn gather(
     count: usize,
 ) -> Result<Grant, AllocError>
     requires kept { IsNumbers numbers.now }
-    requires bodies { AreBodies (length numbers.now.places.items) bodies.old.items }
+    requires bodies { AreBodies (length numbers.now.statuses.items) bodies.old.items }
     requires enough { count ≤ numbers.now.free_len }
-    ensures bodies { AreBodies (length numbers.now.places.items) bodies.new.items }
+    ensures bodies { AreBodies (length numbers.now.statuses.items) bodies.new.items }
     ensures numbers { IfOk result (λ g. g.numbers.items ≡ popped numbers.now.free.items numbers.now.free_len count) }
     ensures blocks { IfOk result (λ g. map (λ b. (arc_value {X = Block} b).number) g.blocks.items ≡ g.numbers.items) }
 {

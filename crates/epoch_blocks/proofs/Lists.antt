@@ -1,11 +1,12 @@
 -- Lists, options and tests.
 use Rattle.std.proofs.Common.{◌≡◌, ◌≢◌, ℕ, zero, suc, ◌+◌, ◌<◌, ◌≤◌, Bool, true, false, not, ◌&&◌, ◌||◌, ◌⊎◌, inl, inr, List, []}
-use Rattle.std.proofs.Common.{◌∷◌, ◌++◌, length, get_or, set, take, map, refl, ap, subst, ◌∙◌, arith, eqb}
+use Rattle.std.proofs.Common.{◌∷◌, ◌++◌, length, set, take, map, refl, ap, subst, ◌∙◌, arith, eqb}
 use Rattle.std.specs.{Prelude.slice_get, List.list_all, List.enumerate_from, List.flat_map}
 use Rattle.std.specs.Option.{option_map, option_and_then}
 use Rattle.std.specs.declared.option.Option.{Option, TheVariants.None, TheVariants.Some}
 use Rattle.std.proofs.lemmas.Bool.{eq-eqb}
-use Rattle.epoch_blocks.specs.Blocks.{changed_at, is_listed, put}
+use Rattle.epoch_blocks.specs.Blocks.{changed_at, put}
+use Rattle.block_reclamation.specs.Status.{is_listed}
 
 pub option_map_some : {A B : Type 0} (f : A → B) (o : Option A) (y : B) → option_map f o ≡ Some y → (x : A) × (o ≡ Some x)
     × (y ≡ f x)

@@ -1,49 +1,17 @@
--- What blocks are: free, fresh, used or retired; what is listed; and a change of one element of a list.
-use Rattle.std.specs.Prelude.{◌≡◌, ℕ, Bool, true, false, not, ◌&&◌, ◌==◌, List, [], ◌∷◌, map, if◌then◌else◌, slice_get}
+-- What becomes of blocks, and a change of one element of a list.
+use Rattle.std.specs.Prelude.{◌≡◌, ℕ, Bool, true, false, not, ◌&&◌, List, [], ◌∷◌, map, if◌then◌else◌, slice_get}
 use Rattle.std.specs.Prelude.{slice_set}
-use Rattle.std.specs.List.{list_any, enumerate_from}
+use Rattle.std.specs.List.{enumerate_from}
 use Rattle.std.specs.Option.{option_and_then}
 use Rattle.std.specs.declared.option.Option.{Option}
 use Rattle.std.specs.declared.option.Option.TheVariants.{None, Some}
-use Rattle.pin_copy.specs.declared.copies.PinCopy.{PinCopy}
-use Rattle.pin_copy.specs.Copies.{needs}
 use Rattle.graph_model.specs.declared.ids.Edge.{Edge}
-use Rattle.epoch_blocks.specs.declared.states.Status.{Status}
-use Rattle.epoch_blocks.specs.declared.states.Status.TheVariants.{Free, Fresh, Used, Retired}
+use Rattle.block_reclamation.specs.declared.status.BlockStatus.{BlockStatus}
+use Rattle.block_reclamation.specs.declared.status.BlockStatus.TheVariants.{Free, Granted, Used, Retired}
+use Rattle.block_reclamation.specs.declared.copies.PinCopy.{PinCopy}
+use Rattle.block_reclamation.specs.Status.{is_granted, is_listed, is_reclaimable}
 use Rattle.epoch_blocks.specs.declared.steps.Step.{Step}
 use Rattle.epoch_blocks.specs.declared.steps.Step.TheVariants.{Done, Skipped}
-
-abbrev pub is_free : Status → Bool
-is_free Free = true
-is_free Fresh = false
-is_free (Used birth) = false
-is_free (Retired birth since) = false
-
-abbrev pub is_fresh : Status → Bool
-is_fresh Free = false
-is_fresh Fresh = true
-is_fresh (Used birth) = false
-is_fresh (Retired birth since) = false
-
-abbrev pub is_used : Status → Bool
-is_used Free = false
-is_used Fresh = false
-is_used (Used birth) = true
-is_used (Retired birth since) = false
-
-abbrev pub is_retired : Status → Bool
-is_retired Free = false
-is_retired Fresh = false
-is_retired (Used birth) = false
-is_retired (Retired birth since) = true
-
--- whether there is a block of this number, of which this is so
-abbrev pub is_at : (Status → Bool) → Option Status → Bool
-is_at test None = false
-is_at test (Some status) = test status
-
-abbrev pub is_listed : ℕ → List ℕ → Bool
-is_listed b blocks = list_any (λ c. c == b) blocks
 
 -- no number stands twice
 abbrev pub all_differ : List ℕ → Bool
@@ -63,34 +31,31 @@ abbrev pub Stepped : {A : Type 0} → Option A → Step → A → A → Type 0
 Stepped None step old new = (step ≡ Skipped) × (new ≡ old)
 Stepped (Some after) step old new = (step ≡ Done) × (new ≡ after)
 
--- a free block is fresh once it is taken
-abbrev pub taken : Status → Option Status
-taken Free = Some Fresh
-taken Fresh = None
+-- a free block is granted once it is taken
+abbrev pub taken : BlockStatus → Option BlockStatus
+taken Free = Some Granted
+taken Granted = None
 taken (Used birth) = None
-taken (Retired birth since) = None
+taken (Retired birth retirement) = None
 
 -- a retired block that the copy of the pins doesn't need is free once it is recycled
-abbrev pub recycled : PinCopy → Status → Option Status
-recycled copy Free = None
-recycled copy Fresh = None
-recycled copy (Used birth) = None
-recycled copy (Retired birth since) = if needs copy birth since then None else Some Free
+abbrev pub reclaimed : PinCopy → BlockStatus → Option BlockStatus
+reclaimed copy status = if is_reclaimable copy status then Some Free else None
 
--- the heap with these edges in a fresh block
-abbrev pub filled : List Status → List (List Edge) → ℕ → List Edge → Option (List (List Edge))
-filled status heap b edges = option_and_then (λ s. if is_fresh s then Some (slice_set heap b edges) else None)
+-- the heap with these edges in a granted block
+abbrev pub filled : List BlockStatus → List (List Edge) → ℕ → List Edge → Option (List (List Edge))
+filled status heap b edges = option_and_then (λ s. if is_granted s then Some (slice_set heap b edges) else None)
     (slice_get status b)
 
--- what a block is once version n is posted: a fresh block that it lists is born then, and one of the version
+-- what a block is once version n is posted: a granted block that it lists is born then, and one of the version
 -- before that it doesn't list is retired
-abbrev pub after_post : ℕ → Bool → Status → Status
+abbrev pub after_post : ℕ → Bool → BlockStatus → BlockStatus
 after_post n is_in Free = Free
-after_post n true Fresh = Used n
-after_post n false Fresh = Fresh
+after_post n true Granted = Used n
+after_post n false Granted = Granted
 after_post n true (Used birth) = Used birth
 after_post n false (Used birth) = Retired birth n
-after_post n is_in (Retired birth since) = Retired birth since
+after_post n is_in (Retired birth retirement) = Retired birth retirement
 
-abbrev pub status_after : ℕ → List ℕ → List Status → List Status
+abbrev pub status_after : ℕ → List ℕ → List BlockStatus → List BlockStatus
 status_after n blocks status = map (λ p. after_post n (is_listed p.0 blocks) p.1) (enumerate_from 0 status)

@@ -13,9 +13,10 @@ use Rattle.graph_model.specs.GraphLimits.{is_within_limits}
 use Rattle.graph_model.specs.declared.ids.Edge.{Edge}
 use Rattle.graph_model.specs.declared.batches.NamedOp.{NamedOp}
 use Rattle.graph_model.specs.declared.contents.Content.{Content}
-use Rattle.epoch_blocks.specs.declared.states.Status.{Status}
+use Rattle.block_reclamation.specs.declared.status.BlockStatus.{BlockStatus}
 use Rattle.epoch_blocks.specs.declared.states.Version.{Version}
-use Rattle.epoch_blocks.specs.Blocks.{is_at, is_fresh, is_listed, all_differ, status_after}
+use Rattle.epoch_blocks.specs.Blocks.{all_differ, status_after}
+use Rattle.block_reclamation.specs.Status.{is_at, is_granted, is_listed}
 use Rattle.epoch_blocks.specs.declared.states.Opening.{Opening}
 use Rattle.epoch_blocks.specs.Versions.{graph_at, version_at, blocks_at, edges_of, content_with, IsContentGraph}
 
@@ -25,11 +26,11 @@ graph_after opening versions batch = after_all batch (graph_at opening versions 
 
 -- The test
 
--- a version may list the fresh blocks and those of the last version
-abbrev pub is_listable : List Status → List ℕ → ℕ → Bool
-is_listable status last b = is_at is_fresh (slice_get status b) || is_listed b last
+-- a version may list the granted blocks and those of the last version
+abbrev pub is_listable : List BlockStatus → List ℕ → ℕ → Bool
+is_listable status last b = is_at is_granted (slice_get status b) || is_listed b last
 
-abbrev pub all_listable : List Status → List ℕ → List ℕ → Bool
+abbrev pub all_listable : List BlockStatus → List ℕ → List ℕ → Bool
 all_listable status last blocks = list_all (is_listable status last) blocks
 
 abbrev pub same_key : Key → Key → Bool
@@ -54,7 +55,7 @@ abbrev pub are_edges_of : Graph → List Edge → Bool
 are_edges_of g edges = keys_differ edges && list_all (λ e. bears (get g.edges (key_of e)) (stamp_of e)) edges
     && (length edges == len g.edges)
 
-abbrev pub can_post : Opening → List (List Edge) → List Status → List Version → List NamedOp → List ℕ → Bool
+abbrev pub can_post : Opening → List (List Edge) → List BlockStatus → List Version → List NamedOp → List ℕ → Bool
 can_post opening heap status versions batch blocks =
     nat_lt (length versions) batch_limit && all_listable status (blocks_at opening versions (length versions)) blocks
     && all_differ blocks
@@ -84,8 +85,8 @@ IsAppliedTo content batch None = IsFalse (is_within_limits (after_all batch (gra
 IsAppliedTo content batch (Some after) = IsContent after × (graph_of after ≡ after_all batch (graph_of content))
 
 -- what a Post would set: the status of each block and the new version; none where it is skipped
-abbrev pub IsPlanOf : Opening → List (List Edge) → List Status → List Version → List NamedOp → List ℕ
-    → Option (List Status × Version) → Type 0
+abbrev pub IsPlanOf : Opening → List (List Edge) → List BlockStatus → List Version → List NamedOp → List ℕ
+    → Option (List BlockStatus × Version) → Type 0
 IsPlanOf opening heap status versions batch blocks None = IsFalse (can_post opening heap status versions batch blocks)
 IsPlanOf opening heap status versions batch blocks (Some plan) =
     IsTrue (can_post opening heap status versions batch blocks) × (plan.0 ≡ status_after (length versions + 1) blocks status)

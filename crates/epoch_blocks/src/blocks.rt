@@ -2,25 +2,25 @@
 
 ghost use Rattle.std.specs.Prelude.{◌≡◌, ◌+◌, IfOk, OnErr, map, length, slice_get};
 ghost use Rattle.std.specs.List.{enumerate_from};
+ghost use Rattle.block_reclamation.specs.Status as statuses;
 ghost use Rattle.epoch_blocks.specs.Blocks as specs;
 ghost use Rattle.epoch_blocks.specs.Blocks.{Stepped};
 ghost use Rattle.epoch_blocks.specs.Posting as posting;
 
-use crate::states::Status;
 use crate::steps::Step;
+use block_reclamation::{BlockStatus, PinCopy};
 use graph_model::{Edge, List};
-use pin_copy::PinCopy;
 use std::alloc::{AllocError, Global};
 
-/// Makes a free block fresh. `Skipped`, with nothing changed, where there is no block of this number or it isn't free.
+/// Makes a free block granted. `Skipped`, with nothing changed, where there is no block of this number or it isn't free.
 /// It takes no memory.
-pub fn take_block(status: &mut Vec<Status>, block: usize) -> Step
+pub fn take_block(status: &mut Vec<BlockStatus>, block: usize) -> Step
     ensures { Stepped (specs.changed_at specs.taken status.old.items block) result status.old.items status.new.items }
 {
     let before = status.get(block).copied();
     match before {
-        Some(Status::Free) => {
-            status[block] = Status::Fresh;
+        Some(BlockStatus::Free) => {
+            status[block] = BlockStatus::Granted;
             Step::Done
         }
         _ => Step::Skipped,
@@ -28,15 +28,15 @@ pub fn take_block(status: &mut Vec<Status>, block: usize) -> Step
 }
 
 /// What a retired block that the copy of the pins doesn't need becomes, and none for any other.
-fn after_recycle(copy: &PinCopy, status: Status) -> Option<Status>
-    ensures { result ≡ specs.recycled copy.now status }
+fn after_recycle(copy: &PinCopy, status: BlockStatus) -> Option<BlockStatus>
+    ensures { result ≡ specs.reclaimed copy.now status }
 {
     match status {
-        Status::Retired { birth, since } => {
-            if copy.needs(birth, since) {
+        BlockStatus::Retired { birth, retirement } => {
+            if copy.needs(birth, retirement) {
                 None
             } else {
-                Some(Status::Free)
+                Some(BlockStatus::Free)
             }
         }
         _ => None,
@@ -45,8 +45,8 @@ fn after_recycle(copy: &PinCopy, status: Status) -> Option<Status>
 
 /// Frees a retired block that the copy of the pins doesn't need. `Skipped`, with nothing changed, where there is no
 /// such block. It takes no memory.
-pub fn recycle_block(status: &mut Vec<Status>, copy: &PinCopy, block: usize) -> Step
-    ensures { Stepped (specs.changed_at (specs.recycled copy.now) status.old.items block) result status.old.items
+pub fn recycle_block(status: &mut Vec<BlockStatus>, copy: &PinCopy, block: usize) -> Step
+    ensures { Stepped (specs.changed_at (specs.reclaimed copy.now) status.old.items block) result status.old.items
         status.new.items }
 {
     let Some(before) = status.get(block).copied() else {
@@ -61,12 +61,12 @@ pub fn recycle_block(status: &mut Vec<Status>, copy: &PinCopy, block: usize) -> 
     }
 }
 
-/// Puts edges into a fresh block in place of those that it has; the heap has a list of edges for each block that has a
-/// status. `Skipped`, with nothing changed, where there is no block of this number or it isn't fresh. Want of memory is
+/// Puts edges into a granted block in place of those that it has; the heap has a list of edges for each block that has a
+/// status. `Skipped`, with nothing changed, where there is no block of this number or it isn't granted. Want of memory is
 /// the only error, and leaves the heap as it was.
 pub fn fill_block(
     alloc: Global,
-    status: &[Status],
+    status: &[BlockStatus],
     heap: &mut Vec<List<Edge>>,
     block: usize,
     edges: &[Edge],
@@ -78,7 +78,7 @@ pub fn fill_block(
 {
     let before = status.get(block).copied();
     match before {
-        Some(Status::Fresh) => {
+        Some(BlockStatus::Granted) => {
             let copy = Vec::from_slice(alloc, edges)?;
             heap[block] = List::of(copy);
             Ok(Step::Done)
@@ -88,14 +88,14 @@ pub fn fill_block(
 }
 
 /// What a block is once version `number` is posted, which lists it or not.
-fn after_post(number: u64, is_in: bool, status: Status) -> Status
+fn after_post(number: u64, is_in: bool, status: BlockStatus) -> BlockStatus
     ensures { result ≡ specs.after_post number is_in status }
 {
     match status {
-        Status::Fresh if is_in => Status::Used { birth: number },
-        Status::Used { birth } if !is_in => Status::Retired {
+        BlockStatus::Granted if is_in => BlockStatus::Used { birth: number },
+        BlockStatus::Used { birth } if !is_in => BlockStatus::Retired {
             birth,
-            since: number,
+            retirement: number,
         },
         _ => status,
     }
@@ -106,8 +106,8 @@ pub(crate) fn status_after(
     alloc: Global,
     number: u64,
     blocks: &[usize],
-    status: &[Status],
-) -> Result<Vec<Status>, AllocError>
+    status: &[BlockStatus],
+) -> Result<Vec<BlockStatus>, AllocError>
     ensures { IfOk result (λ v. v.items ≡ specs.status_after number blocks.now status.now) }
 {
     status
@@ -117,23 +117,23 @@ pub(crate) fn status_after(
         .collect(alloc)
 }
 
-/// Whether the block is fresh.
-fn is_fresh(status: &[Status], block: usize) -> bool
-    ensures { result ≡ specs.is_at specs.is_fresh (slice_get status.now block) }
+/// Whether the block is granted.
+fn is_granted(status: &[BlockStatus], block: usize) -> bool
+    ensures { result ≡ statuses.is_at statuses.is_granted (slice_get status.now block) }
 {
     let status = status.get(block).copied();
-    matches!(status, Some(Status::Fresh))
+    matches!(status, Some(BlockStatus::Granted))
 }
 
-/// Whether a new version may list the block: it is fresh, or one of the last version's blocks.
-fn is_listable(status: &[Status], last: &[usize], block: usize) -> bool
+/// Whether a new version may list the block: it is granted, or one of the last version's blocks.
+fn is_listable(status: &[BlockStatus], last: &[usize], block: usize) -> bool
     ensures { result ≡ posting.is_listable status.now last.now block }
 {
-    is_fresh(status, block) || last.contains(&block)
+    is_granted(status, block) || last.contains(&block)
 }
 
 /// Whether a new version may list all these blocks. It takes no memory.
-pub(crate) fn all_listable(status: &[Status], last: &[usize], blocks: &[usize]) -> bool
+pub(crate) fn all_listable(status: &[BlockStatus], last: &[usize], blocks: &[usize]) -> bool
     ensures { result ≡ posting.all_listable status.now last.now blocks.now }
 {
     blocks.iter().all(|block| is_listable(status, last, *block))

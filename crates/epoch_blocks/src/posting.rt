@@ -9,8 +9,9 @@ ghost use Rattle.epoch_blocks.specs.Posting as posting;
 
 use crate::blocks::{all_differ, all_listable, status_after};
 use crate::contents::{are_edges_of, edges_of};
-use crate::states::{Opening, Status, Version};
+use crate::states::{Opening, Version};
 use crate::versions::{blocks_at, content_with};
+use block_reclamation::BlockStatus;
 use graph_model::{Batch, Content, Edge, List};
 use reference_graph::{PlainError, plain_apply};
 use std::alloc::{AllocError, Global};
@@ -60,18 +61,18 @@ fn after_batch(
 }
 
 /// What posting the batch on these blocks would set, each block's status and the new version; `None` where it
-/// is skipped: there are 65,536 batches, a block is neither fresh nor of the last version or stands twice, the
+/// is skipped: there are 65,536 batches, a block is neither granted nor of the last version or stands twice, the
 /// batch meets a limit, or the blocks' edges aren't each once what the batch leaves. The edges of the last version are
 /// read from its blocks, which must show what the batches left. Want of memory is the only error.
 pub fn plan_post(
     alloc: Global,
     opening: &Opening,
     heap: &[List<Edge>],
-    status: &[Status],
+    status: &[BlockStatus],
     versions: &[Version],
     batch: &Batch,
     blocks: &[usize],
-) -> Result<Option<(Vec<Status>, Version)>, AllocError>
+) -> Result<Option<(Vec<BlockStatus>, Version)>, AllocError>
     requires content { IsContent (posting.last_content opening.now heap.now versions.now) }
     requires graph { graph_of (posting.last_content opening.now heap.now versions.now)
         ≡ graph_at opening.now versions.now (length versions.now) }

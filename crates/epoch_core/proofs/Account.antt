@@ -6,12 +6,15 @@ use Rattle.std.specs.Option.{option_map, option_to_list, unwrap_or, option_and_t
 use Rattle.std.specs.declared.option.Option.{Option, TheVariants.None, TheVariants.Some}
 use Rattle.std.proofs.lemmas.{Bool.eq-eqb, Bool.cases_eq, List.take_all, List.length-replicate}
 use Rattle.graph_model.specs.{Graph.Graph, Graph.map_of, declared.ids.Edge.Edge, declared.requests.Request.Request}
-use Rattle.epoch_blocks.specs.declared.states.{Status.Status, Version.Version, Opening.Opening}
+use Rattle.epoch_blocks.specs.declared.states.Version.{Version}
+use Rattle.epoch_blocks.specs.declared.states.Opening.{Opening}
+use Rattle.block_reclamation.specs.declared.status.BlockStatus.{BlockStatus}
 use Rattle.epoch_core.specs.declared.states.{Hold.Hold, Inquiry.Inquiry, SessionState.SessionState}
 use Rattle.epoch_core.specs.declared.states.SessionState.TheVariants.{Idle, Pinned, Holding as Holds, Asking}
 use Rattle.epoch_core.specs.declared.events.Event.{Event, TheVariants.Reply, TheVariants.Release}
 use Rattle.epoch_core.specs.declared.events.Event.TheVariants.{Take, Fill, Post, Floor, Recycle, Pin, Enter, Settle, Ask, Read}
-use Rattle.epoch_blocks.specs.Blocks.{changed_at, filled, put, recycled, taken}
+use Rattle.epoch_blocks.specs.Blocks.{changed_at, filled, put, taken}
+use Rattle.epoch_blocks.specs.Blocks.{reclaimed}
 use Rattle.epoch_core.specs.Worlds.{Answer, IsStart, MachineState, World, graph_with, held_in, last_graph, last_number, replies_of}
 use Rattle.epoch_core.specs.{Worlds.session_of, Worlds.start, Posts.posted, Machine.with_status}
 use Rattle.epoch_blocks.specs.Versions.{blocks_at, edges_of, graph_at, version_at}
@@ -73,7 +76,7 @@ no_observations : (b : Bool) (rest : List Observation) → (if b then [] else []
 no_observations true rest = refl
 no_observations false rest = refl
 
-calm_status : (s : ℕ) (w : World) (o : Option (List Status)) → Calm s w (unwrap_or (option_map (with_status w) o) w)
+calm_status : (s : ℕ) (w : World) (o : Option (List BlockStatus)) → Calm s w (unwrap_or (option_map (with_status w) o) w)
 calm_status s w None = calm_itself s w
 calm_status s w (Some status) = record { held = refl; graphs = λ n _. refl }
 
@@ -303,7 +306,7 @@ accounts s w (Post batch blocks) rest sound =
     (record { held = refl; graphs = graph_before w.opening w.versions (version_by w.opening w.versions batch blocks) }))
 accounts s w Floor rest sound = calm_owed s w (next_world w Floor) rest sound (record { held = refl; graphs = λ n _. refl })
 accounts s w (Recycle b) rest sound = calm_accounts s w _ rest (is_done w (Recycle b)) sound
-    (calm_status s w (changed_at (recycled w.copy) w.status b))
+    (calm_status s w (changed_at (reclaimed w.copy) w.status b))
 accounts s w (Pin t) rest sound = calm_accounts s w _ rest (is_done w (Pin t)) sound
     (calm_move s t w (to_pin w.floor) (same_pin w.floor))
 accounts s w (Enter t) rest sound = seen_move s t w (to_enter (last_number w)) (Entered (last_graph w) ∷ []) rest sound

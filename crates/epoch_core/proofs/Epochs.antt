@@ -3,11 +3,13 @@ use Rattle.std.proofs.Common.{◌≡◌, ℕ, zero, suc, ◌≤◌, true, inl, i
 use Rattle.std.proofs.{Common.ap, Common.subst, Common.◌∙◌, Common.arith, Common.ltb, lemmas.Bool.Decides.nat_tests}
 use Rattle.std.specs.{Prelude.slice_get, Prelude.if◌then◌else◌, Prelude.count_by, Prelude.is_some, Option.option_map}
 use Rattle.std.specs.declared.option.Option.{Option, TheVariants.None, TheVariants.Some}
-use Rattle.epoch_blocks.specs.{declared.states.Status.Status, Versions.blocks_at}
-use Rattle.epoch_blocks.specs.declared.states.Status.TheVariants.{Free, Fresh, Used, Retired}
+use Rattle.epoch_blocks.specs.Versions.{blocks_at}
+use Rattle.block_reclamation.specs.declared.status.BlockStatus.{BlockStatus}
+use Rattle.block_reclamation.specs.declared.status.BlockStatus.TheVariants.{Free, Granted, Used, Retired}
 use Rattle.epoch_core.specs.{declared.states.SessionState.SessionState, Machine.with_heap}
 use Rattle.epoch_core.specs.declared.states.SessionState.TheVariants.{Idle, Pinned, Holding, Asking}
-use Rattle.epoch_blocks.specs.Blocks.{filled, is_at, is_free, is_fresh, is_listed, is_retired, is_used}
+use Rattle.epoch_blocks.specs.Blocks.{filled}
+use Rattle.block_reclamation.specs.Status.{is_at, is_free, is_granted, is_listed, is_retired, is_used}
 use Rattle.epoch_core.specs.Worlds.{World, held_in, pin_in, session_of}
 use Rattle.epoch_core.specs.Epochs.{FillsNoHeldBlock, IsPartition, PinsInOrder}
 use Rattle.epoch_core.specs.Sound.{IsKeptAt, IsSessionSound, IsSound}
@@ -35,7 +37,7 @@ fills_no_held w sound b edges s n done held =
     let written = some_of_map (with_heap w) (filled w.status w.heap b edges) done in
     let f : Fills w.status w.heap b edges written.0 = fills w.status w.heap b edges written.0 written.1 in
     elim (true_or_false (is_listed b (blocks_at w.opening w.versions n))) [
-      | inl listed ↦ absurd (subst (IsKeptAt n) f.fresh (held_kept w (session_of w s) n b (sound.sessions s) held listed))
+      | inl listed ↦ absurd (subst (IsKeptAt n) f.granted (held_kept w (session_of w s) n b (sound.sessions s) held listed))
       | inr none ↦ none
     ]
 
@@ -62,13 +64,13 @@ pins_in_order w sound = record {
   floor_last = sound.floor_last;
 }
 
-one_part : (o : Option Status) → count_by (λ is_in. is_in)
-    (is_at is_free o ∷ is_at is_fresh o ∷ is_at is_retired o ∷ is_at is_used o ∷ []) ≡ (if is_some o then 1 else 0)
+one_part : (o : Option BlockStatus) → count_by (λ is_in. is_in)
+    (is_at is_free o ∷ is_at is_granted o ∷ is_at is_retired o ∷ is_at is_used o ∷ []) ≡ (if is_some o then 1 else 0)
 one_part None = refl
 one_part (Some Free) = refl
-one_part (Some Fresh) = refl
+one_part (Some Granted) = refl
 one_part (Some (Used birth)) = refl
-one_part (Some (Retired birth since)) = refl
+one_part (Some (Retired birth retirement)) = refl
 
 shifted : (i n : ℕ) → ltb i n ≡ ltb (suc i) (suc n)
 shifted i n = grind (arith, nat_tests)
@@ -81,7 +83,7 @@ some_within (x ∷ xs) (suc i) = some_within xs i ∙ shifted i (length xs)
 pub partition : (w : World) (blocks : ℕ) → IsSound w → length w.status ≡ blocks → IsPartition blocks w
 partition w blocks sound size = record {
   one_each = λ b.
-      ap (λ t. count_by (λ is_in. is_in) (is_at is_free (slice_get w.status b) ∷ is_at is_fresh (slice_get w.status b)
+      ap (λ t. count_by (λ is_in. is_in) (is_at is_free (slice_get w.status b) ∷ is_at is_granted (slice_get w.status b)
       ∷ is_at is_retired (slice_get w.status b) ∷ t ∷ [])) (sym (sound.used b))
       ∙ one_part (slice_get w.status b) ∙ ap (λ t. if t then 1 else 0) (some_within w.status b ∙ ap (ltb b) size);
   listed_once = sound.listed_once;

@@ -1,19 +1,23 @@
 -- Each event keeps what is sound: blocks and versions.
-use Rattle.std.proofs.Common.{◌≡◌, ◌≢◌, ℕ, ◌≤◌, Bool, true, false, inl, inr, List, [], set, take, refl, sym, ap, subst, ◌∙◌}
+use Rattle.std.proofs.Common.{◌≡◌, ◌≢◌, ℕ, ◌≤◌, Bool, true, false, not, inl, inr, List, [], set, take, refl, sym, ap, subst, ◌∙◌}
 use Rattle.std.proofs.{Common.arith, lemmas.Bool.cases_eq, lemmas.List.get_or-set_other, lemmas.List.length-set}
 use Rattle.std.specs.Prelude.{slice_get, if◌then◌else◌}
 use Rattle.std.specs.declared.option.Option.{Option, TheVariants.None, TheVariants.Some}
 use Rattle.graph_model.specs.declared.ids.Edge.{Edge}
-use Rattle.epoch_blocks.specs.declared.states.Status.{Status}
-use Rattle.epoch_blocks.specs.declared.states.Status.TheVariants.{Free, Fresh, Used, Retired}
+use Rattle.block_reclamation.specs.declared.status.BlockStatus.{BlockStatus}
+use Rattle.block_reclamation.specs.declared.status.BlockStatus.TheVariants.{Free, Granted, Used, Retired}
 use Rattle.epoch_core.specs.declared.states.{Hold.Hold, SessionState.SessionState}
 use Rattle.epoch_core.specs.declared.states.SessionState.TheVariants.{Idle, Pinned, Holding, Asking}
-use Rattle.pin_copy.specs.{declared.copies.PinCopy.PinCopy, Copies.needs}
-use Rattle.epoch_blocks.specs.Blocks.{filled, is_at, is_fresh, is_listed, is_used, recycled, taken}
+use Rattle.block_reclamation.specs.declared.copies.PinCopy.{PinCopy}
+use Rattle.block_reclamation.specs.Copies.{needs}
+use Rattle.epoch_blocks.specs.Blocks.{filled, taken}
+use Rattle.block_reclamation.specs.Status.{is_at, is_granted, is_listed, is_used}
+use Rattle.epoch_blocks.specs.Blocks.{reclaimed}
 use Rattle.epoch_blocks.specs.Versions.{AreEdgesOf, blocks_at, edges_at, edges_of, graph_at, version_at}
 use Rattle.epoch_core.specs.Worlds.{World, last_blocks, last_graph, last_number, session_of}
 use Rattle.epoch_core.specs.Machine.{with_heap, with_status}
-use Rattle.epoch_core.specs.Sound.{IsCovered, IsDated, IsDatedAt, IsHeld, IsKept, IsKeptAt, IsNamed, IsSessionSound, IsSound}
+use Rattle.epoch_core.specs.Sound.{IsCovered, IsDatedAt, IsHeld, IsKeptAt, IsNamed, IsSessionSound, IsSound}
+use Rattle.block_reclamation.specs.Status.{IsDated, IsKept}
 use Rattle.epoch_blocks.proofs.Lists.{and_then_some, set_same, set_else, same_pieces, listed_take}
 
 -- what a change of the world owes to each holder
@@ -65,31 +69,31 @@ carry old new (Asking hold inquiry) c p =
     (carry_held old new hold c p.0, p.1 ∙ sym pieces ∙ ap (λ bs. edges_of new.heap (take inquiry.next bs)) (sym blocks))
 
 -- the status of one block changes, from what no holder keeps, and neither from nor to a used block
-pub record FreesNone (copy : PinCopy) (before after : Status) : Type 0 where
+pub record FreesNone (copy : PinCopy) (before after : BlockStatus) : Type 0 where
   pub unused_before : is_used before ≡ false
   pub unused_after : is_used after ≡ false
   pub dated : (last : ℕ) → IsDated last after
   pub not_kept : (n : ℕ) → IsCovered copy n → IsKept n before → ⊥
 
-pub frees_taken : (copy : PinCopy) (before after : Status) → taken before ≡ Some after → FreesNone copy before after
+pub frees_taken : (copy : PinCopy) (before after : BlockStatus) → taken before ≡ Some after → FreesNone copy before after
 frees_taken copy Free Free is = cc
-frees_taken copy Free Fresh is = record { unused_before = refl; unused_after = refl; dated = λ _. tt; not_kept = λ n _ k. k }
+frees_taken copy Free Granted is = record { unused_before = refl; unused_after = refl; dated = λ _. tt; not_kept = λ n _ k. k }
 frees_taken copy Free (Used birth) is = cc
-frees_taken copy Free (Retired birth since) is = cc
-frees_taken copy Fresh after is = cc
+frees_taken copy Free (Retired birth retirement) is = cc
+frees_taken copy Granted after is = cc
 frees_taken copy (Used birth) after is = cc
-frees_taken copy (Retired birth since) after is = cc
+frees_taken copy (Retired birth retirement) after is = cc
 
-abbrev freed_by : Bool → Option Status
-freed_by t = if t then None else Some Free
+abbrev freed_by : Bool → Option BlockStatus
+freed_by t = if not t then Some Free else None
 
-pub frees_recycled : (copy : PinCopy) (before after : Status) → recycled copy before ≡ Some after → FreesNone copy before after
+pub frees_recycled : (copy : PinCopy) (before after : BlockStatus) → reclaimed copy before ≡ Some after → FreesNone copy before after
 frees_recycled copy Free after is = cc
-frees_recycled copy Fresh after is = cc
+frees_recycled copy Granted after is = cc
 frees_recycled copy (Used birth) after is = cc
-frees_recycled copy (Retired birth since) after is =
-    elim (needs copy birth since) as (λ t. needs copy birth since ≡ t → freed_by t ≡ Some after
-    → FreesNone copy (Retired birth since) after) [
+frees_recycled copy (Retired birth retirement) after is =
+    elim (needs copy birth retirement) as (λ t. needs copy birth retirement ≡ t → freed_by t ≡ Some after
+    → FreesNone copy (Retired birth retirement) after) [
       | true ↦ λ _ f. cc
       | false ↦ λ e f.
           let free : after ≡ Free = cc in
@@ -97,15 +101,15 @@ frees_recycled copy (Retired birth since) after is =
             unused_before = refl;
             unused_after = ap is_used free;
             dated = λ last. subst (IsDated last) (sym free) tt;
-            not_kept = λ n covered k. let needed : needs copy birth since ≡ true = covered birth since k.0 k.1 in cc;
+            not_kept = λ n covered k. let needed : needs copy birth retirement ≡ true = covered birth retirement k.0 k.1 in cc;
           }
     ] refl is
 
-named_with_status : (w : World) (status : List Status) → ((n : ℕ) → n ≤ last_number w → IsNamed w n) → (n : ℕ)
+named_with_status : (w : World) (status : List BlockStatus) → ((n : ℕ) → n ≤ last_number w → IsNamed w n) → (n : ℕ)
     → n ≤ last_number w → IsNamed (with_status w status) n
 named_with_status w status named n h = record { names = (named n h).names; kinds = (named n h).kinds }
 
-pub sound_status : (w : World) (b : ℕ) (before after : Status) → IsSound w → slice_get w.status b ≡ Some before
+pub sound_status : (w : World) (b : ℕ) (before after : BlockStatus) → IsSound w → slice_get w.status b ≡ Some before
     → FreesNone w.copy before after → IsSound (with_status w (set w.status b after))
 sound_status w b before after sound found frees =
     let carries : Carries w (with_status w (set w.status b after)) = record {
@@ -144,36 +148,36 @@ sound_status w b before after sound found frees =
       sizes = sound.sizes ∙ sym (length-set w.status b after);
     }
 
--- a Fill that is done names a fresh block
-pub record Fills (status : List Status) (heap : List (List Edge)) (b : ℕ) (edges : List Edge)
+-- a Fill that is done names a granted block
+pub record Fills (status : List BlockStatus) (heap : List (List Edge)) (b : ℕ) (edges : List Edge)
     (after : List (List Edge)) : Type 0 where
-  pub fresh : slice_get status b ≡ Some Fresh
+  pub granted : slice_get status b ≡ Some Granted
   pub result : after ≡ set heap b edges
 
 abbrev written_if : Bool → List (List Edge) → Option (List (List Edge))
 written_if t heap = if t then Some heap else None
 
-fills_at : (status : List Status) (heap : List (List Edge)) (b : ℕ) (edges : List Edge) (after : List (List Edge))
-    (s : Status) → slice_get status b ≡ Some s → written_if (is_fresh s) (set heap b edges) ≡ Some after
+fills_at : (status : List BlockStatus) (heap : List (List Edge)) (b : ℕ) (edges : List Edge) (after : List (List Edge))
+    (s : BlockStatus) → slice_get status b ≡ Some s → written_if (is_granted s) (set heap b edges) ≡ Some after
     → Fills status heap b edges after
 fills_at status heap b edges after Free found is = cc
-fills_at status heap b edges after Fresh found is = record { fresh = found; result = cc }
+fills_at status heap b edges after Granted found is = record { granted = found; result = cc }
 fills_at status heap b edges after (Used birth) found is = cc
-fills_at status heap b edges after (Retired birth since) found is = cc
+fills_at status heap b edges after (Retired birth retirement) found is = cc
 
-pub fills : (status : List Status) (heap : List (List Edge)) (b : ℕ) (edges : List Edge) (after : List (List Edge))
+pub fills : (status : List BlockStatus) (heap : List (List Edge)) (b : ℕ) (edges : List Edge) (after : List (List Edge))
     → filled status heap b edges ≡ Some after → Fills status heap b edges after
 fills status heap b edges after is =
-    let found = and_then_some (λ s. written_if (is_fresh s) (set heap b edges)) (slice_get status b) after is in
+    let found = and_then_some (λ s. written_if (is_granted s) (set heap b edges)) (slice_get status b) after is in
     fills_at status heap b edges after found.0 found.1 found.2
 
 named_with_heap : (w : World) (heap : List (List Edge)) → ((n : ℕ) → n ≤ last_number w → IsNamed w n) → (n : ℕ)
     → n ≤ last_number w → IsNamed (with_heap w heap) n
 named_with_heap w heap named n h = record { names = (named n h).names; kinds = (named n h).kinds }
 
-pub sound_fill : (w : World) (b : ℕ) (edges : List Edge) → IsSound w → slice_get w.status b ≡ Some Fresh
+pub sound_fill : (w : World) (b : ℕ) (edges : List Edge) → IsSound w → slice_get w.status b ≡ Some Granted
     → IsSound (with_heap w (set w.heap b edges))
-sound_fill w b edges sound fresh =
+sound_fill w b edges sound granted =
     let carries : Carries w (with_heap w (set w.heap b edges)) = record {
       floor = refl;
       copy = refl;
@@ -182,7 +186,7 @@ sound_fill w b edges sound fresh =
       graphs = λ n _. refl;
       kept = λ c n _ _ k. k;
       edges = λ c n k.
-          let apart : c ≢ b = λ e. subst (IsKeptAt n) (ap (slice_get w.status) e ∙ fresh) k in
+          let apart : c ≢ b = λ e. subst (IsKeptAt n) (ap (slice_get w.status) e ∙ granted) k in
           get_or-set_other w.heap b c edges [] apart;
     } in
     record {
@@ -194,7 +198,7 @@ sound_fill w b edges sound fresh =
       shown = subst (λ es. AreEdgesOf es (last_graph w))
           (sym (same_pieces (edges_at (set w.heap b edges)) (edges_at w.heap) (last_blocks w)
           (λ c is. let apart : c ≢ b = λ e. let unused : is_at is_used (slice_get w.status c)
-          ≡ false = ap (λ k. is_at is_used (slice_get w.status k)) e ∙ ap (is_at is_used) fresh in let used =
+          ≡ false = ap (λ k. is_at is_used (slice_get w.status k)) e ∙ ap (is_at is_used) granted in let used =
           sound.used c in cc in get_or-set_other w.heap b c edges [] apart)))
           sound.shown;
       named = named_with_heap w (set w.heap b edges) sound.named;

@@ -1,82 +1,100 @@
 -- Each event keeps what is sound: the floor rises, and sessions move.
 use Rattle.std.proofs.Common.{◌≡◌, ◌≢◌, ℕ, zero, suc, ◌+◌, ◌<◌, ◌≤◌, Bool, true, false, not, inl, inr, List, [], ◌∷◌, ◌++◌}
-use Rattle.std.proofs.Common.{length, map, get_or, set, take, refl, sym, ap, subst, ◌∙◌, arith, add-one, min}
-use Rattle.std.specs.Prelude.{slice_get, if◌then◌else◌}
+use Rattle.std.proofs.Common.{length, map, replicate, get_or, set, take, refl, sym, ap, subst, ◌∙◌, arith, add-one, ◌-◌, IfSome}
+use Rattle.std.specs.{Prelude.slice_get, Prelude.if◌then◌else◌, Option.option_map}
+use Rattle.std.proofs.Math.ListN.{get_or-map}
 use Rattle.std.specs.declared.option.Option.{Option, TheVariants.None, TheVariants.Some}
 use Rattle.std.proofs.lemmas.{Bool.cases_eq, Grind.flat_map-append, List.get_or-set_same, List.get_or-set_other, List.append-nil}
 use Rattle.std.proofs.lemmas.Option.{slice_get_within, get_or_from_slice_get}
 use Rattle.graph_model.specs.declared.{ids.Edge.Edge, requests.Request.Request}
-use Rattle.epoch_blocks.specs.{declared.states.Status.Status, Blocks.is_at, Blocks.is_listed, Blocks.is_used}
-use Rattle.epoch_blocks.specs.declared.states.Status.TheVariants.{Free, Fresh, Used, Retired}
+use Rattle.block_reclamation.specs.declared.status.BlockStatus.{BlockStatus}
+use Rattle.block_reclamation.specs.Status.{is_at, is_listed, is_used}
+use Rattle.block_reclamation.specs.declared.status.BlockStatus.TheVariants.{Free, Granted, Used, Retired}
 use Rattle.epoch_core.specs.declared.states.{Hold.Hold, Inquiry.Inquiry, SessionState.SessionState}
 use Rattle.epoch_core.specs.declared.states.SessionState.TheVariants.{Idle, Pinned, Holding, Asking}
-use Rattle.pin_copy.specs.Copies.{needs}
-use Rattle.pin_copy.proofs.Least.{late_needed, settled_needed, unsettled_needed}
-use Rattle.epoch_core.specs.Worlds.{World, copy_of, last_blocks, last_number, pin_if, pin_in, session_of, settled_in}
+use Rattle.block_reclamation.specs.declared.copies.{Pin.Pin, TheConstants.SEATS}
+use Rattle.block_reclamation.specs.Copies.{floor_of, needs, number_if, pin_at, settled_number, unsettled_number}
+use Rattle.block_reclamation.proofs.Least.{late_needed, settled_needed, unsettled_needed}
+use Rattle.block_reclamation.proofs.Copied.{floor_is_least}
+use Rattle.epoch_core.specs.Worlds.{World, last_blocks, last_number, pin_in, session_of, settled_in}
+use Rattle.epoch_core.specs.Worlds.{present_copy, seat_pin, seat_pins}
 use Rattle.epoch_core.specs.{Worlds.unsettled_in, Machine.to_release, Machine.to_reply, Machine.to_settle, Machine.with_sessions}
 use Rattle.epoch_blocks.specs.Versions.{blocks_at, edges_at, edges_of}
-use Rattle.epoch_core.specs.Machine.{is_all_read, least_pin, lesser, move, read_on, settled_at, to_ask, to_enter, to_pin, to_read}
+use Rattle.epoch_core.specs.Machine.{is_all_read, move, read_on, settled_at, to_ask, to_enter, to_pin, to_read}
 use Rattle.epoch_core.specs.Sound.{IsCovered, IsDatedAt, IsHeld, IsKeptAt, IsNamed, IsSessionSound, IsSound}
 use Rattle.epoch_blocks.proofs.Lists.{option_map_some, ChangedAt, changed_at-some, take_one_more}
 use Rattle.epoch_core.proofs.Keeping.{Carries, carry}
 
+-- a session's pin is that of its seat
+none_at : (k s : ℕ) → pin_at (replicate k None) s ≡ None
+none_at zero s = refl
+none_at (suc k) zero = refl
+none_at (suc k) (suc s) = none_at k s
+
+seated : (sessions : List SessionState) (k s : ℕ) → pin_at (map seat_pin sessions ++ replicate k None) s
+    ≡ seat_pin (get_or sessions s Idle)
+seated [] k s = none_at k s
+seated (session ∷ sessions) k zero = refl
+seated (session ∷ sessions) k (suc s) = seated sessions k s
+
+pub seated_at : (w : World) (s : ℕ) → pin_at (seat_pins w.sessions) s ≡ seat_pin (session_of w s)
+seated_at w s = seated w.sessions (SEATS - length w.sessions) s
+
 -- the floor
-lesser_first : (n : ℕ) (o : Option ℕ) → lesser n o ≤ n
-lesser_first n None = omega arith
-lesser_first n (Some m) = omega arith
+abbrev pub present_floor : World → ℕ
+present_floor w = floor_of (present_copy w)
 
-pub least_first : (n : ℕ) (ps : List SessionState) → least_pin n ps ≤ n
-least_first n [] = omega arith
-least_first n (p ∷ ps) = let here : lesser n (pin_in p) ≤ n =
-    lesser_first n (pin_in p) in let rest : least_pin (lesser n (pin_in p)) ps ≤ lesser n (pin_in p) =
-    least_first (lesser n (pin_in p)) ps in omega arith
+pub floor_first : (w : World) → present_floor w ≤ last_number w
+floor_first w = let least = floor_is_least (last_number w) (seat_pins w.sessions) in least.below_last
 
-pub least_each : (n : ℕ) (ps : List SessionState) (s pin : ℕ) → pin_in (get_or ps s Idle) ≡ Some pin → least_pin n ps ≤ pin
-least_each n [] s pin is = cc
-least_each n (p ∷ ps) zero pin is =
-    let rest : least_pin (lesser n (pin_in p)) ps ≤ lesser n (pin_in p) = least_first (lesser n (pin_in p)) ps in
-    let here : lesser n (pin_in p) ≡ min n pin = ap (lesser n) is in
-    omega arith
-least_each n (p ∷ ps) (suc s) pin is = least_each (lesser n (pin_in p)) ps s pin is
+below_pin : (o : Option Pin) (pin floor : ℕ) → option_map (λ p. p.number) o ≡ Some pin → IfSome o (λ p. floor ≤ p.number) → floor ≤ pin
+below_pin None pin floor is low = cc
+below_pin (Some p) pin floor is low = let same : p.number ≡ pin = cc in omega arith
+
+floor_each : (w : World) (s pin : ℕ) → pin_in (session_of w s) ≡ Some pin → present_floor w ≤ pin
+floor_each w s pin is =
+    let least = floor_is_least (last_number w) (seat_pins w.sessions) in
+    below_pin (seat_pin (session_of w s)) pin (present_floor w) is
+    (subst (λ (o : Option Pin). IfSome o (λ p. present_floor w ≤ p.number)) (seated_at w s) (least.below_pins s))
 
 -- the world after a Floor
 abbrev pub floored : World → World
-floored w = record w { floor = least_pin (last_number w) w.sessions; copy = copy_of w }
+floored w = record w { floor = present_floor w; copy = present_copy w }
 
 named_floored : (w : World) → ((n : ℕ) → n ≤ last_number w → IsNamed w n) → (n : ℕ) → n ≤ last_number w → IsNamed (floored w) n
 named_floored w named n h = record { names = (named n h).names; kinds = (named n h).kinds }
 
 -- a session's pin is among those of the copy
-seated_at : (pin : SessionState → Option ℕ) (sessions : List SessionState) (rest : List (Option ℕ)) (s n : ℕ)
-    → pin Idle ≡ None → pin (get_or sessions s Idle) ≡ Some n → get_or (map pin sessions ++ rest) s None ≡ Some n
-seated_at pin [] rest s n none is = absurd (cc)
-seated_at pin (state ∷ sessions) rest zero n none is = is
-seated_at pin (state ∷ sessions) rest (suc s) n none is = seated_at pin sessions rest s n none is
+copied : (w : World) (number : Option Pin → Option ℕ) (s n : ℕ) → number None ≡ None → number (seat_pin (session_of w s)) ≡ Some n
+    → get_or (map number (seat_pins w.sessions)) s None ≡ Some n
+copied w number s n none is =
+    ap (get_or (map number (seat_pins w.sessions)) s) (sym none) ∙ get_or-map number (seat_pins w.sessions) s None
+    ∙ ap number (seated_at w s) ∙ is
 
-pub settled_needs : (w : World) (s pin birth since : ℕ) → settled_in (session_of w s) ≡ Some pin → birth ≤ pin → pin < since
-    → needs (copy_of w) birth since ≡ true
-settled_needs w s pin birth since is low high =
-    settled_needed (copy_of w) birth since s pin (seated_at settled_in w.sessions _ s pin refl is) low high
+pub settled_needs : (w : World) (s pin birth retirement : ℕ) → settled_in (session_of w s) ≡ Some pin → birth ≤ pin
+    → pin < retirement → needs (present_copy w) birth retirement ≡ true
+settled_needs w s pin birth retirement is low high =
+    settled_needed (present_copy w) birth retirement s pin (copied w settled_number s pin refl is) low high
 
-pub unsettled_needs : (w : World) (s pin birth since : ℕ) → unsettled_in (session_of w s) ≡ Some pin → pin < since
-    → needs (copy_of w) birth since ≡ true
-unsettled_needs w s pin birth since is high =
-    unsettled_needed (copy_of w) birth since s pin (seated_at unsettled_in w.sessions _ s pin refl is) high
+pub unsettled_needs : (w : World) (s pin birth retirement : ℕ) → unsettled_in (session_of w s) ≡ Some pin → pin < retirement
+    → needs (present_copy w) birth retirement ≡ true
+unsettled_needs w s pin birth retirement is high =
+    unsettled_needed (present_copy w) birth retirement s pin (copied w unsettled_number s pin refl is) high
 
 -- the copy of the pins as they stand needs each block that a holder keeps
 covers : (w : World) (s : ℕ) (hold : Hold) (told : Bool) → hold.settled ≡ told
-    → settled_in (session_of w s) ≡ pin_if hold.settled hold.pin
-    → unsettled_in (session_of w s) ≡ pin_if (not hold.settled) hold.pin → IsHeld w hold → IsCovered (copy_of w) hold.version
-covers w s hold true is in_settled in_unsettled h = λ birth since low high.
+    → settled_in (session_of w s) ≡ number_if hold.settled hold.pin
+    → unsettled_in (session_of w s) ≡ number_if (not hold.settled) hold.pin → IsHeld w hold → IsCovered (present_copy w) hold.version
+covers w s hold true is in_settled in_unsettled h = λ birth retirement low high.
     let same : hold.pin ≡ hold.version = h.settled is in
-    settled_needs w s hold.pin birth since (in_settled ∙ ap (λ t. pin_if t hold.pin) is) (omega (arith, same, low))
+    settled_needs w s hold.pin birth retirement (in_settled ∙ ap (λ t. number_if t hold.pin) is) (omega (arith, same, low))
     (omega (arith, same, high))
-covers w s hold false is in_settled in_unsettled h = λ birth since low high.
-    unsettled_needs w s hold.pin birth since (in_unsettled ∙ ap (λ t. pin_if (not t) hold.pin) is)
+covers w s hold false is in_settled in_unsettled h = λ birth retirement low high.
+    unsettled_needs w s hold.pin birth retirement (in_unsettled ∙ ap (λ t. number_if (not t) hold.pin) is)
     (omega (arith, h.pin_held, high))
 
-refloored : (w : World) (hold : Hold) → least_pin (last_number w) w.sessions ≤ hold.pin
-    → IsCovered (copy_of w) hold.version → IsHeld w hold → IsHeld (floored w) hold
+refloored : (w : World) (hold : Hold) → present_floor w ≤ hold.pin
+    → IsCovered (present_copy w) hold.version → IsHeld w hold → IsHeld (floored w) hold
 refloored w hold low covered h = record {
   floor_pin = low;
   pin_held = h.pin_held;
@@ -88,7 +106,7 @@ refloored w hold low covered h = record {
 }
 
 session_floored : (w : World) (s : ℕ) (session : SessionState) → session_of w s ≡ session
-    → ((pin : ℕ) → pin_in session ≡ Some pin → least_pin (last_number w) w.sessions ≤ pin) → IsSessionSound w session
+    → ((pin : ℕ) → pin_in session ≡ Some pin → present_floor w ≤ pin) → IsSessionSound w session
     → IsSessionSound (floored w) session
 session_floored w s Idle at low p = tt
 session_floored w s (Pinned pin) at low p = (low pin refl, p.1)
@@ -101,14 +119,14 @@ session_floored w s (Asking hold inquiry) at low p = (
 
 pub sound_floor : (w : World) → IsSound w → IsSound (floored w)
 sound_floor w sound = record {
-  floor_last = least_first (last_number w) w.sessions;
+  floor_last = floor_first w;
   copy_last = omega arith;
   used = sound.used;
   dated = sound.dated;
   listed_once = sound.listed_once;
   shown = sound.shown;
   named = named_floored w sound.named;
-  sessions = λ s. session_floored w s (session_of w s) refl (least_each (last_number w) w.sessions s) (sound.sessions s);
+  sessions = λ s. session_floored w s (session_of w s) refl (floor_each w s) (sound.sessions s);
   sizes = sound.sizes;
 }
 
@@ -199,12 +217,12 @@ keeps_pin w sound (Pinned pin) next p is = cc
 keeps_pin w sound (Holding hold) next p is = cc
 keeps_pin w sound (Asking hold inquiry) next p is = cc
 
-used_kept : (n : ℕ) (o : Option Status) → is_at is_used o ≡ true → IsDatedAt n o → IsKeptAt n o
+used_kept : (n : ℕ) (o : Option BlockStatus) → is_at is_used o ≡ true → IsDatedAt n o → IsKeptAt n o
 used_kept n None is dated = cc
 used_kept n (Some Free) is dated = cc
-used_kept n (Some Fresh) is dated = cc
+used_kept n (Some Granted) is dated = cc
 used_kept n (Some (Used birth)) is dated = dated
-used_kept n (Some (Retired birth since)) is dated = cc
+used_kept n (Some (Retired birth retirement)) is dated = cc
 
 kept_last : (w : World) → IsSound w → (b : ℕ) → is_listed b (last_blocks w) ≡ true
     → IsKeptAt (last_number w) (slice_get w.status b)
@@ -220,7 +238,7 @@ keeps_enter w sound (Pinned pin) next p is =
       pin_held = p.1;
       held_last = omega arith;
       settled = λ t. cc;
-      covered = λ birth since _ high. late_needed w.copy birth since (omega (arith, sound.copy_last, high));
+      covered = λ birth retirement _ high. late_needed w.copy birth retirement (omega (arith, sound.copy_last, high));
       kept = kept_last w sound;
       shown = sound.shown;
     } in

@@ -8,8 +8,10 @@ use Rattle.std.proofs.lemmas.List.Elements.{All-head, All-tail, All-nil, All-con
 use Rattle.epoch_core.proofs.PostRule.{differ_head}
 use Rattle.graph_model.proofs.Counts.{apart_tail}
 use Rattle.graph_model.specs.{Graph.graph_of, declared.ids.Edge.Edge, declared.contents.Content.Content}
-use Rattle.epoch_blocks.specs.declared.states.Status.{Status, TheVariants.Free, TheVariants.Used}
-use Rattle.epoch_blocks.specs.{Blocks.is_listed, Versions.AreEdgesOf, Versions.edges_at}
+use Rattle.block_reclamation.specs.declared.status.BlockStatus.{BlockStatus}
+use Rattle.block_reclamation.specs.declared.status.BlockStatus.TheVariants.{Free, Used}
+use Rattle.epoch_blocks.specs.Versions.{AreEdgesOf, edges_at}
+use Rattle.block_reclamation.specs.Status.{is_listed}
 use Rattle.epoch_blocks.proofs.Lists.{set_same, set_else}
 use Rattle.epoch_core.specs.{declared.states.SessionState.TheVariants.Idle, Worlds.IsStart, Worlds.HasContents, Sound.IsCore}
 use Rattle.epoch_core.specs.Opened.{Lists, numbers_in, heap_with, status_with, opened_state, IsOpening}
@@ -19,7 +21,7 @@ length-heap_with : (lists : Lists) (heap : List (List Edge)) → length (heap_wi
 length-heap_with [] heap = refl
 length-heap_with (l ∷ lists) heap = length-heap_with lists (set heap l.0 l.1) ∙ length-set heap l.0 l.1
 
-length-status_with : (lists : Lists) (status : List Status) → length (status_with lists status) ≡ length status
+length-status_with : (lists : Lists) (status : List BlockStatus) → length (status_with lists status) ≡ length status
 length-status_with [] status = refl
 length-status_with (l ∷ lists) status = length-status_with lists (set status l.0 (Used 0)) ∙ length-set status l.0 (Used 0)
 
@@ -28,7 +30,7 @@ same_either true = refl
 same_either false = refl
 
 -- what each block is
-status_at : (lists : Lists) (status : List Status) (b : ℕ) (s : Status) → slice_get status b ≡ Some s
+status_at : (lists : Lists) (status : List BlockStatus) (b : ℕ) (s : BlockStatus) → slice_get status b ≡ Some s
     → slice_get (status_with lists status) b ≡ Some (cond (is_listed b (numbers_in lists)) (Used 0) s)
 status_at [] status b s at = at
 status_at (l ∷ lists) status b s at =

@@ -7,27 +7,29 @@ use Rattle.std.proofs.lemmas.Bool.Decides.{Decides-and, Decides-or, Decides-not,
 use Rattle.std.proofs.lemmas.{Bool.Decides.Decides-ltb, Bool.Decides.leb_tells, List.Kept.AllPairs-cons}
 use Rattle.graph_model.proofs.Counts.{apart_tail}
 use Rattle.graph_model.specs.{Limits.batch_limit, Limits.name_limit, Limits.kind_limit, declared.batches.NamedOp.NamedOp}
-use Rattle.epoch_blocks.specs.{declared.states.Status.Status, Blocks.all_differ, Blocks.is_at, Blocks.is_fresh, Blocks.is_listed}
-use Rattle.epoch_blocks.specs.declared.states.Status.TheVariants.{Free, Fresh, Used, Retired}
+use Rattle.epoch_blocks.specs.Blocks.{all_differ}
+use Rattle.block_reclamation.specs.declared.status.BlockStatus.{BlockStatus}
+use Rattle.block_reclamation.specs.Status.{is_at, is_granted, is_listed}
+use Rattle.block_reclamation.specs.declared.status.BlockStatus.TheVariants.{Free, Granted, Used, Retired}
 use Rattle.epoch_core.specs.{declared.events.Event.TheVariants.Post, Worlds.World, Worlds.last_blocks, Worlds.last_number}
 use Rattle.epoch_blocks.specs.Versions.{edges_of}
 use Rattle.epoch_core.specs.{Posts.MayPost, Posts.posted, Runs.is_done}
 use Rattle.epoch_blocks.specs.Posting.{all_listable, can_post, graph_after, is_listable}
 use Rattle.epoch_blocks.proofs.{Lists.and_left, Lists.and_right, Lists.neither, Edges.Decides-edges}
 
-Decides-fresh : (o : Option Status) → Decides (is_at is_fresh o) (o ≡ Some Fresh)
-Decides-fresh None = (λ e. cc, λ e. cc)
-Decides-fresh (Some Free) = (λ e. cc, λ e. cc)
-Decides-fresh (Some Fresh) = (λ _. refl, λ _. refl)
-Decides-fresh (Some (Used birth)) = (λ e. cc, λ e. cc)
-Decides-fresh (Some (Retired birth since)) = (λ e. cc, λ e. cc)
+Decides-granted : (o : Option BlockStatus) → Decides (is_at is_granted o) (o ≡ Some Granted)
+Decides-granted None = (λ e. cc, λ e. cc)
+Decides-granted (Some Free) = (λ e. cc, λ e. cc)
+Decides-granted (Some Granted) = (λ _. refl, λ _. refl)
+Decides-granted (Some (Used birth)) = (λ e. cc, λ e. cc)
+Decides-granted (Some (Retired birth retirement)) = (λ e. cc, λ e. cc)
 
-Decides-listable : (status : List Status) (last : List ℕ) (blocks : List ℕ)
-    → Decides (all_listable status last blocks) (All (λ b. (slice_get status b ≡ Some Fresh) ⊎ IsTrue (is_listed b last)) blocks)
+Decides-listable : (status : List BlockStatus) (last : List ℕ) (blocks : List ℕ)
+    → Decides (all_listable status last blocks) (All (λ b. (slice_get status b ≡ Some Granted) ⊎ IsTrue (is_listed b last)) blocks)
 Decides-listable status last blocks =
-    Decides-by_and (is_listable status last) (λ b. (slice_get status b ≡ Some Fresh) ⊎ IsTrue (is_listed b last))
+    Decides-by_and (is_listable status last) (λ b. (slice_get status b ≡ Some Granted) ⊎ IsTrue (is_listed b last))
     (all_listable status last)
-    (λ b. Decides-or _ _ (Decides-fresh (slice_get status b)) (λ t. t, λ t. t)) refl (λ _ _. refl) blocks
+    (λ b. Decides-or _ _ (Decides-granted (slice_get status b)) (λ t. t, λ t. t)) refl (λ _ _. refl) blocks
 
 -- a number that isn't listed differs from each that is
 Decides-unlisted : (b : ℕ) (bs : List ℕ) → Decides (not (is_listed b bs)) (All (λ c. b ≢ c) bs)

@@ -5,9 +5,11 @@ use Rattle.std.specs.{Prelude.slice_get, Prelude.AllPairs, Option.option_map}
 use Rattle.std.specs.declared.option.Option.{Option, TheVariants.None, TheVariants.Some}
 use Rattle.std.proofs.lemmas.Bool.{cases_eq}
 use Rattle.graph_model.specs.declared.batches.NamedOp.{NamedOp}
-use Rattle.epoch_blocks.specs.declared.states.{Status.Status, Version.Version}
-use Rattle.epoch_blocks.specs.declared.states.Status.TheVariants.{Free, Fresh, Used, Retired}
-use Rattle.epoch_blocks.specs.Blocks.{after_post, is_at, is_fresh, is_listed, is_used, status_after}
+use Rattle.epoch_blocks.specs.declared.states.Version.{Version}
+use Rattle.block_reclamation.specs.declared.status.BlockStatus.{BlockStatus}
+use Rattle.block_reclamation.specs.declared.status.BlockStatus.TheVariants.{Free, Granted, Used, Retired}
+use Rattle.epoch_blocks.specs.Blocks.{after_post, status_after}
+use Rattle.block_reclamation.specs.Status.{is_at, is_granted, is_listed, is_used}
 use Rattle.epoch_blocks.specs.Versions.{AreEdgesOf, edges_of, graph_at, version_at}
 use Rattle.epoch_core.specs.Worlds.{World, last_blocks, last_graph, last_number, session_of}
 use Rattle.epoch_core.specs.{Posts.MayPost, Posts.posted, Sound.IsDatedAt, Sound.IsKeptAt, Sound.IsNamed, Sound.IsSound}
@@ -17,41 +19,41 @@ use Rattle.epoch_core.proofs.Changes.{length_next, version_before, graph_before,
 use Rattle.epoch_core.proofs.{PostRule.Decides-post, PostRule.listable_of, Keeping.Carries, Keeping.carry}
 
 -- the status of each block afterwards
-pub status_at : (n : ℕ) (blocks : List ℕ) (status : List Status) (b : ℕ) → slice_get (status_after n blocks status) b
+pub status_at : (n : ℕ) (blocks : List ℕ) (status : List BlockStatus) (b : ℕ) → slice_get (status_after n blocks status) b
     ≡ option_map (after_post n (is_listed b blocks)) (slice_get status b)
 status_at n blocks status b = get_enumerated (λ i s. after_post n (is_listed i blocks) s) 0 status b
     ∙ (let e : 0 + b ≡ b = omega arith in ap (λ i. option_map (after_post n (is_listed i blocks)) (slice_get status b)) e)
 
-used_after : (n : ℕ) (t : Bool) (o : Option Status) → (t ≡ true → (is_at is_fresh o || is_at is_used o) ≡ true)
+used_after : (n : ℕ) (t : Bool) (o : Option BlockStatus) → (t ≡ true → (is_at is_granted o || is_at is_used o) ≡ true)
     → is_at is_used (option_map (after_post n t) o) ≡ t
 used_after n true None may = let no = may refl in cc
 used_after n false None may = refl
 used_after n true (Some Free) may = let no = may refl in cc
 used_after n false (Some Free) may = refl
-used_after n true (Some Fresh) may = refl
-used_after n false (Some Fresh) may = refl
+used_after n true (Some Granted) may = refl
+used_after n false (Some Granted) may = refl
 used_after n true (Some (Used birth)) may = refl
 used_after n false (Some (Used birth)) may = refl
-used_after n true (Some (Retired birth since)) may = let no = may refl in cc
-used_after n false (Some (Retired birth since)) may = refl
+used_after n true (Some (Retired birth retirement)) may = let no = may refl in cc
+used_after n false (Some (Retired birth retirement)) may = refl
 
-dated_after : (last : ℕ) (t : Bool) (o : Option Status) → IsDatedAt last o
+dated_after : (last : ℕ) (t : Bool) (o : Option BlockStatus) → IsDatedAt last o
     → IsDatedAt (last + 1) (option_map (after_post (last + 1) t) o)
 dated_after last t None d = tt
 dated_after last t (Some Free) d = tt
-dated_after last true (Some Fresh) d = omega arith
-dated_after last false (Some Fresh) d = tt
+dated_after last true (Some Granted) d = omega arith
+dated_after last false (Some Granted) d = tt
 dated_after last true (Some (Used birth)) d = omega (arith, d)
 dated_after last false (Some (Used birth)) d = (omega (arith, d), omega arith)
-dated_after last t (Some (Retired birth since)) d = (d.0, omega (arith, d.1))
+dated_after last t (Some (Retired birth retirement)) d = (d.0, omega (arith, d.1))
 
-kept_after : (n m : ℕ) (t : Bool) (o : Option Status) → m < n → IsKeptAt m o → IsKeptAt m (option_map (after_post n t) o)
+kept_after : (n m : ℕ) (t : Bool) (o : Option BlockStatus) → m < n → IsKeptAt m o → IsKeptAt m (option_map (after_post n t) o)
 kept_after n m t None h k = k
 kept_after n m t (Some Free) h k = absurd k
-kept_after n m t (Some Fresh) h k = absurd k
+kept_after n m t (Some Granted) h k = absurd k
 kept_after n m true (Some (Used birth)) h k = k
 kept_after n m false (Some (Used birth)) h k = (k, h)
-kept_after n m t (Some (Retired birth since)) h k = k
+kept_after n m t (Some (Retired birth retirement)) h k = k
 
 carries_posted : (w : World) (batch : List NamedOp) (blocks : List ℕ) → Carries w (posted w batch blocks)
 carries_posted w batch blocks =
@@ -113,7 +115,7 @@ sound_posted w batch blocks sound can =
       used = λ b.
           ap (is_at is_used) (status_at (last_number w + 1) blocks w.status b)
           ∙ used_after (last_number w + 1) (is_listed b blocks) (slice_get w.status b)
-          (λ is. ap (λ t. is_at is_fresh (slice_get w.status b) || t) (sound.used b)
+          (λ is. ap (λ t. is_at is_granted (slice_get w.status b) || t) (sound.used b)
           ∙ all_listed (is_listable w.status (last_blocks w)) blocks b all is)
           ∙ ap (is_listed b) (sym at);
       dated = λ b. subst (λ n. IsDatedAt n (slice_get (posted w batch blocks).status b))

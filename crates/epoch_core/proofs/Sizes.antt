@@ -3,11 +3,14 @@ use Rattle.std.proofs.Common.{◌≡◌, ℕ, ◌+◌, Bool, true, false, List, 
 use Rattle.std.specs.{Prelude.if◌then◌else◌, Option.option_map, Option.unwrap_or}
 use Rattle.std.specs.declared.option.Option.{Option, TheVariants.None, TheVariants.Some}
 use Rattle.std.proofs.lemmas.List.{length-set}
-use Rattle.epoch_blocks.specs.{declared.states.Status.Status, Posting.can_post}
+use Rattle.epoch_blocks.specs.Posting.{can_post}
+use Rattle.block_reclamation.specs.declared.status.BlockStatus.{BlockStatus}
 use Rattle.epoch_core.specs.{declared.states.SessionState.SessionState, Worlds.World, Worlds.last_number, Posts.posted}
 use Rattle.epoch_core.specs.declared.events.Event.{Event, TheVariants.Reply, TheVariants.Release}
 use Rattle.epoch_core.specs.declared.events.Event.TheVariants.{Take, Fill, Post, Floor, Recycle, Pin, Enter, Settle, Ask, Read}
-use Rattle.epoch_blocks.specs.Blocks.{after_post, changed_at, filled, is_listed, recycled, taken}
+use Rattle.epoch_blocks.specs.Blocks.{after_post, changed_at, filled, taken}
+use Rattle.block_reclamation.specs.Status.{is_listed}
+use Rattle.epoch_blocks.specs.Blocks.{reclaimed}
 use Rattle.epoch_core.specs.Machine.{move, step, to_ask, to_enter, to_pin, to_read, to_release, to_reply, to_settle, with_heap}
 use Rattle.epoch_core.specs.{Machine.with_status, Runs.next_world, Runs.run}
 use Rattle.epoch_blocks.proofs.Lists.{option_map_some, ChangedAt, changed_at-some, length_enumerated}
@@ -20,7 +23,7 @@ pub record SameSizes (old new : World) : Type 0 where
 same_size : (w : World) → SameSizes w w
 same_size w = record { blocks = refl; sessions = refl }
 
-size_changed : (w after : World) (b : ℕ) (change : Status → Option Status)
+size_changed : (w after : World) (b : ℕ) (change : BlockStatus → Option BlockStatus)
     → option_map (with_status w) (changed_at change w.status b) ≡ Some after → SameSizes w after
 size_changed w after b change is =
     let whole = option_map_some (with_status w) _ after is in
@@ -56,7 +59,7 @@ size_step w after (Post batch blocks) is =
     }) is
 size_step w after Floor is = let same : (w.status ≡ after.status) × (w.sessions ≡ after.sessions) =
     (cc, cc) in record { blocks = ap length (sym same.0); sessions = ap length (sym same.1) }
-size_step w after (Recycle b) is = size_changed w after b (recycled w.copy) is
+size_step w after (Recycle b) is = size_changed w after b (reclaimed w.copy) is
 size_step w after (Pin s) is = size_moved w after s (to_pin w.floor) is
 size_step w after (Enter s) is = size_moved w after s (to_enter (last_number w)) is
 size_step w after (Settle s) is = size_moved w after s to_settle is

@@ -3,7 +3,9 @@ use Rattle.std.proofs.Common.{◌≡◌, ℕ, List, refl, sym, ap, subst}
 use Rattle.std.specs.{Prelude.IfOk, Prelude.OnErr, Option.option_map}
 use Rattle.std.specs.declared.option.Option.{Option, TheVariants.None, TheVariants.Some}
 use Rattle.std.specs.declared.result.Result.{Result, TheVariants.Ok, TheVariants.Err}
-use Rattle.epoch_blocks.specs.{Blocks.Stepped, Blocks.changed_at, declared.states.Status.Status, declared.steps.Step.Step}
+use Rattle.epoch_blocks.specs.Blocks.{Stepped, changed_at}
+use Rattle.epoch_blocks.specs.declared.steps.Step.{Step}
+use Rattle.block_reclamation.specs.declared.status.BlockStatus.{BlockStatus}
 use Rattle.epoch_core.specs.declared.{events.Event.Event, states.SessionState.SessionState}
 use Rattle.epoch_core.specs.{Worlds.MachineState, Worlds.World, Runs.Steps}
 use Rattle.epoch_core.specs.Machine.{Replies, move, step, with_sessions, with_status}
@@ -26,8 +28,8 @@ steps_by old e event put_in o outcome before after same does whole replies is =
     })
 
 -- a change of one block's status
-pub changed_by : (old : MachineState) (e event : Event) (b : ℕ) (change : Status → Option Status) (outcome : Step)
-    (status : List Status) → event ≡ e
+pub changed_by : (old : MachineState) (e event : Event) (b : ℕ) (change : BlockStatus → Option BlockStatus) (outcome : Step)
+    (status : List BlockStatus) → event ≡ e
     → step old.world e ≡ option_map (with_status old.world) (changed_at change old.world.status b)
     → Replies old.world e old.replies old.replies
     → Stepped (changed_at change old.world.status b) outcome old.world.status status

@@ -7,24 +7,28 @@ use Rattle.std.specs.declared.option.Option.{Option, TheVariants.None, TheVarian
 use Rattle.std.proofs.lemmas.{List.length-replicate, Option.slice_get_past}
 use Rattle.std.proofs.lemmas.Bool.{cases_lt}
 use Rattle.graph_model.specs.declared.ids.Edge.{Edge}
-use Rattle.epoch_blocks.specs.declared.states.Status.{Status, TheVariants.Free, TheVariants.Used}
+use Rattle.block_reclamation.specs.declared.status.BlockStatus.{BlockStatus}
+use Rattle.block_reclamation.specs.declared.status.BlockStatus.TheVariants.{Free, Used}
 use Rattle.epoch_core.specs.{declared.states.SessionState.TheVariants.Idle, Posts.posted, Runs.next_world, Runs.run}
 use Rattle.epoch_core.specs.declared.events.Event.{Event, TheVariants.Reply, TheVariants.Release}
 use Rattle.epoch_core.specs.declared.events.Event.TheVariants.{Take, Fill, Post, Floor, Recycle, Pin, Enter, Settle, Ask, Read}
-use Rattle.epoch_blocks.specs.Blocks.{changed_at, is_at, is_listed, is_used, recycled, taken}
+use Rattle.epoch_blocks.specs.Blocks.{changed_at, taken}
+use Rattle.block_reclamation.specs.Status.{is_at, is_listed, is_used}
+use Rattle.epoch_blocks.specs.Blocks.{reclaimed}
 use Rattle.epoch_blocks.specs.Versions.{opening_graph, blocks_at, edges_of, graph_at, AreEdgesOf}
 use Rattle.epoch_core.specs.Worlds.{IsStart, World, last_blocks, last_graph, last_number, session_of, start, MachineState}
 use Rattle.epoch_blocks.specs.Posting.{can_post}
 use Rattle.epoch_core.specs.Machine.{step, with_heap, with_status}
-use Rattle.epoch_core.specs.Sound.{IsDated, IsDatedAt, IsNamed, IsSessionSound, IsSound}
+use Rattle.epoch_core.specs.Sound.{IsDatedAt, IsNamed, IsSessionSound, IsSound}
+use Rattle.block_reclamation.specs.Status.{IsDated}
 use Rattle.epoch_blocks.proofs.Lists.{true_or_false, option_map_some, ChangedAt, changed_at-some}
 use Rattle.graph_model.proofs.Keys.{once_none}
 use Rattle.epoch_core.proofs.Keeping.{FreesNone, frees_taken, frees_recycled, sound_status, Fills, fills, sound_fill}
 use Rattle.epoch_core.proofs.{Posted.sound_posted, Moves.keeps_read, Moves.keeps_reply, Moves.keeps_release}
 use Rattle.epoch_core.proofs.Moves.{sound_floor, floored, sound_move, keeps_pin, keeps_enter, keeps_settle, keeps_ask}
 
-sound_changed : (w after : World) (b : ℕ) (change : Status → Option Status) → IsSound w
-    → ((s t : Status) → change s ≡ Some t → FreesNone w.copy s t)
+sound_changed : (w after : World) (b : ℕ) (change : BlockStatus → Option BlockStatus) → IsSound w
+    → ((s t : BlockStatus) → change s ≡ Some t → FreesNone w.copy s t)
     → option_map (with_status w) (changed_at change w.status b) ≡ Some after → IsSound after
 sound_changed w after b change sound frees is =
     let whole = option_map_some (with_status w) _ after is in
@@ -36,7 +40,7 @@ sound_filled : (w after : World) (b : ℕ) (edges : List Edge) → IsSound w →
 sound_filled w after b edges sound is =
     let whole = option_map_some (with_heap w) _ after is in
     let f : Fills w.status w.heap b edges whole.0 = fills w.status w.heap b edges whole.0 whole.1 in
-    subst IsSound (sym (whole.2 ∙ ap (with_heap w) f.result)) (sound_fill w b edges sound f.fresh)
+    subst IsSound (sym (whole.2 ∙ ap (with_heap w) f.result)) (sound_fill w b edges sound f.granted)
 
 sound_if : (t : Bool) (w after : World) → (t ≡ true → IsSound w) → (if t then Some w else None) ≡ Some after → IsSound after
 sound_if true w after sound is = let e : w ≡ after = cc in subst IsSound e (sound refl)
@@ -49,7 +53,7 @@ sound_step w after (Post batch blocks) sound is = sound_if (can_post w.opening w
     (posted w batch blocks) after (sound_posted w batch blocks sound) is
 sound_step w after Floor sound is = let e : floored w ≡ after =
     cc in subst IsSound e (sound_floor w sound)
-sound_step w after (Recycle b) sound is = sound_changed w after b (recycled w.copy) sound (frees_recycled w.copy) is
+sound_step w after (Recycle b) sound is = sound_changed w after b (reclaimed w.copy) sound (frees_recycled w.copy) is
 sound_step w after (Pin s) sound is = sound_move w s _ after sound (keeps_pin w sound) is
 sound_step w after (Enter s) sound is = sound_move w s _ after sound (keeps_enter w sound) is
 sound_step w after (Settle s) sound is = sound_move w s _ after sound (keeps_settle w) is
@@ -75,7 +79,7 @@ pub idle_at : (start : MachineState) (s : ℕ) → IsStart start → session_of 
 idle_at start s is = ap (λ xs. get_or xs s Idle) is.idle ∙ all_idle (length start.world.sessions) s
 
 -- a block's status at a start, by whether its number is listed
-abbrev at_first : Bool → Status
+abbrev at_first : Bool → BlockStatus
 at_first t = if t then Used 0 else Free
 
 used_first : (t : Bool) → is_used (at_first t) ≡ t

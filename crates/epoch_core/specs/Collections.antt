@@ -1,29 +1,29 @@
 -- What a whole collection leaves.
 use Rattle.std.specs.Prelude.{◌≡◌, ◌↔◌, ◌⊎◌, ℕ, ◌≤◌, ◌<◌, List, ◌∷◌, map, slice_get, IsTrue, IsFalse}
 use Rattle.std.specs.declared.option.Option.TheVariants.{None, Some}
-use Rattle.epoch_blocks.specs.declared.states.Status.TheVariants.{Retired}
-use Rattle.epoch_blocks.specs.Blocks.{is_at, is_listed, is_retired}
+use Rattle.block_reclamation.specs.declared.status.BlockStatus.TheVariants.{Retired}
+use Rattle.block_reclamation.specs.Status.{is_at, is_listed, is_retired}
 use Rattle.epoch_core.specs.declared.events.Event.{Event}
 use Rattle.epoch_core.specs.declared.events.Event.TheVariants.{Floor, Recycle}
 use Rattle.epoch_core.specs.Worlds.{World, session_of, pin_in, settled_in, unsettled_in}
 use Rattle.epoch_core.specs.Runs.{run}
 
 -- a settled pin lies from the birth to below the retirement, or an unsettled one below the retirement
-pub record IsSettledNeed (w : World) (birth since : ℕ) : Type 0 where
+pub record IsSettledNeed (w : World) (birth retirement : ℕ) : Type 0 where
   pub session : ℕ
   pub pin : ℕ
   pub is_pin : settled_in (session_of w session) ≡ Some pin
   pub born : birth ≤ pin
-  pub before : pin < since
+  pub before : pin < retirement
 
-pub record IsUnsettledNeed (w : World) (since : ℕ) : Type 0 where
+pub record IsUnsettledNeed (w : World) (retirement : ℕ) : Type 0 where
   pub session : ℕ
   pub pin : ℕ
   pub is_pin : unsettled_in (session_of w session) ≡ Some pin
-  pub before : pin < since
+  pub before : pin < retirement
 
 abbrev pub IsPinned : World → ℕ → ℕ → Type 0
-IsPinned w birth since = IsSettledNeed w birth since ⊎ IsUnsettledNeed w since
+IsPinned w birth retirement = IsSettledNeed w birth retirement ⊎ IsUnsettledNeed w retirement
 
 -- a Floor, and then a Recycle of each of these blocks
 abbrev pub collecting : List ℕ → List Event
@@ -35,9 +35,9 @@ AreAllRetired w blocks = (b : ℕ) → IsTrue (is_at is_retired (slice_get w.sta
 -- the blocks that are still retired are exactly those that a pin needs
 abbrev pub LeavesWhatPinsNeed : World → Type 0
 LeavesWhatPinsNeed w =
-    (blocks : List ℕ) → AreAllRetired w blocks → (b birth since : ℕ)
-    → (slice_get (run (collecting blocks) w).status b ≡ Some (Retired birth since))
-    ↔ ((slice_get w.status b ≡ Some (Retired birth since)) × IsPinned w birth since)
+    (blocks : List ℕ) → AreAllRetired w blocks → (b birth retirement : ℕ)
+    → (slice_get (run (collecting blocks) w).status b ≡ Some (Retired birth retirement))
+    ↔ ((slice_get w.status b ≡ Some (Retired birth retirement)) × IsPinned w birth retirement)
 
 -- where no session is pinned, no block is left retired
 abbrev pub LeavesNoneUnpinned : World → Type 0

@@ -4,7 +4,7 @@ use Rattle.std.specs.Prelude.{AllPairs}
 use Rattle.std.specs.declared.option.Option.TheVariants.{Some}
 use Rattle.graph_model.specs.declared.ids.Edge.{Edge}
 use Rattle.epoch_core.specs.declared.events.Event.TheVariants.{Fill}
-use Rattle.epoch_blocks.specs.Blocks.{is_at, is_free, is_fresh, is_retired, is_listed}
+use Rattle.block_reclamation.specs.Status.{is_at, is_free, is_granted, is_retired, is_listed}
 use Rattle.epoch_core.specs.Worlds.{World, last_number, last_blocks, pin_in, held_in, session_of}
 use Rattle.epoch_blocks.specs.Versions.{blocks_at}
 use Rattle.epoch_core.specs.Runs.{is_done}
@@ -22,11 +22,11 @@ pub record PinsInOrder (w : World) : Type 0 where
   pub pin_held : (s pin n : ℕ) → pin_in (session_of w s) ≡ Some pin → held_in (session_of w s) ≡ Some n → pin ≤ n
   pub floor_last : w.floor ≤ last_number w
 
--- in how many of the four a number is: the free, the fresh and the retired blocks, and those of the last version
+-- in how many of the four a number is: the free, the granted and the retired blocks, and those of the last version
 abbrev pub parts_with : World → ℕ → ℕ
 parts_with w b =
     count_by (λ is_in. is_in)
-    (is_at is_free (slice_get w.status b) ∷ is_at is_fresh (slice_get w.status b) ∷ is_at is_retired (slice_get w.status b)
+    (is_at is_free (slice_get w.status b) ∷ is_at is_granted (slice_get w.status b) ∷ is_at is_retired (slice_get w.status b)
     ∷ is_listed b (last_blocks w) ∷ [])
 
 -- each block number is in exactly one of the four, no other number is in any, and the last version lists no

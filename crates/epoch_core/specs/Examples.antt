@@ -6,7 +6,7 @@ use Rattle.graph_model.specs.declared.batches.NamedOp.{NamedOp}
 use Rattle.graph_model.specs.declared.batches.NamedOp.TheVariants.{Insert, Incr}
 use Rattle.graph_model.specs.declared.requests.Request.{Request}
 use Rattle.graph_model.specs.declared.requests.Request.TheVariants.{OneEdge}
-use Rattle.epoch_blocks.specs.declared.states.Status.TheVariants.{Free, Fresh, Used, Retired}
+use Rattle.block_reclamation.specs.declared.status.BlockStatus.TheVariants.{Free, Granted, Used, Retired}
 use Rattle.epoch_core.specs.declared.events.Event.{Event}
 use Rattle.epoch_core.specs.declared.events.Event.TheVariants.{Take, Fill, Post, Floor, Pin, Enter, Settle, Ask, Read, Reply}
 use Rattle.epoch_core.specs.declared.events.Event.TheVariants.{Release}
@@ -90,7 +90,7 @@ pub record AreExamples : Type 0 where
   -- these don't: in the number of holdings, and in the graph that is held
   pub other_count : of_twice ≢ of_once
   pub other_graph : of_short ≢ of_once
-  -- a Post keeps the birth of a block that it lists, and lets a fresh block that it doesn't list be fresh
+  -- a Post keeps the birth of a block that it lists, and lets a granted block that it doesn't list be granted
   pub blocks :
-      status_after 3 (0 ∷ 1 ∷ []) (Used 1 ∷ Fresh ∷ Used 2 ∷ Fresh ∷ Free ∷ Retired 1 2 ∷ [])
-      ≡ Used 1 ∷ Used 3 ∷ Retired 2 3 ∷ Fresh ∷ Free ∷ Retired 1 2 ∷ []
+      status_after 3 (0 ∷ 1 ∷ []) (Used 1 ∷ Granted ∷ Used 2 ∷ Granted ∷ Free ∷ Retired 1 2 ∷ [])
+      ≡ Used 1 ∷ Used 3 ∷ Retired 2 3 ∷ Granted ∷ Free ∷ Retired 1 2 ∷ []

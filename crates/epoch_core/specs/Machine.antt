@@ -1,5 +1,5 @@
 -- The machine: what each event asks, and what it does.
-use Rattle.std.specs.Prelude.{◌≡◌, ℕ, Bool, true, false, nat_le, List, [], ◌∷◌, ◌++◌, length, ◌+◌, min, if◌then◌else◌, slice_get}
+use Rattle.std.specs.Prelude.{◌≡◌, ℕ, Bool, true, false, nat_le, List, [], ◌∷◌, ◌++◌, length, ◌+◌, if◌then◌else◌, slice_get}
 use Rattle.std.specs.Prelude.{slice_set, slice_index_or, MatchOption}
 use Rattle.std.specs.Option.{option_and_then, option_map}
 use Rattle.std.specs.declared.option.Option.{Option}
@@ -8,7 +8,7 @@ use Rattle.graph_model.specs.Graph.{Graph, IsContent}
 use Rattle.graph_model.specs.Answer.{IsAnswer}
 use Rattle.graph_model.specs.declared.ids.Edge.{Edge}
 use Rattle.graph_model.specs.declared.requests.Request.{Request}
-use Rattle.epoch_blocks.specs.declared.states.Status.{Status}
+use Rattle.block_reclamation.specs.declared.status.BlockStatus.{BlockStatus}
 use Rattle.epoch_blocks.specs.declared.states.Version.{Version}
 use Rattle.epoch_core.specs.declared.states.Hold.{Hold}
 use Rattle.epoch_core.specs.declared.states.Inquiry.{Inquiry}
@@ -17,23 +17,17 @@ use Rattle.epoch_core.specs.declared.states.SessionState.TheVariants.{Idle, Pinn
 use Rattle.epoch_core.specs.declared.events.Event.{Event}
 use Rattle.epoch_core.specs.declared.events.Event.TheVariants.{Take, Fill, Post, Floor, Recycle, Pin, Enter, Settle, Ask, Read}
 use Rattle.epoch_core.specs.declared.events.Event.TheVariants.{Reply, Release}
-use Rattle.epoch_blocks.specs.Blocks.{changed_at, taken, recycled, filled}
+use Rattle.epoch_blocks.specs.Blocks.{changed_at, taken, filled}
+use Rattle.epoch_blocks.specs.Blocks.{reclaimed}
 use Rattle.epoch_blocks.specs.declared.states.Opening.{Opening}
-use Rattle.epoch_core.specs.Worlds.{Answer, World, last_number, graph_with, pin_in, copy_of}
+use Rattle.block_reclamation.specs.Copies.{floor_of}
+use Rattle.epoch_core.specs.Worlds.{Answer, World, last_number, graph_with}
+use Rattle.epoch_core.specs.Worlds.{present_copy}
 use Rattle.epoch_blocks.specs.Versions.{version_at, blocks_at, edges_at, content_with}
 use Rattle.epoch_blocks.specs.Posting.{can_post}
 use Rattle.epoch_core.specs.Posts.{posted}
 
 -- Sessions
-
-abbrev pub lesser : ℕ → Option ℕ → ℕ
-lesser n None = n
-lesser n (Some m) = min n m
-
--- the least of n and all pins
-abbrev pub least_pin : ℕ → List SessionState → ℕ
-least_pin n [] = n
-least_pin n (session ∷ sessions) = least_pin (lesser n (pin_in session)) sessions
 
 abbrev pub to_pin : ℕ → SessionState → Option SessionState
 to_pin floor Idle = Some (Pinned floor)
@@ -94,7 +88,7 @@ to_release (Asking hold inquiry) = None
 
 -- The events
 
-abbrev pub with_status : World → List Status → World
+abbrev pub with_status : World → List BlockStatus → World
 with_status w status = record w { status = status }
 
 abbrev pub with_heap : World → List (List Edge) → World
@@ -113,8 +107,8 @@ step w (Take b) = option_map (with_status w) (changed_at taken w.status b)
 step w (Fill b edges) = option_map (with_heap w) (filled w.status w.heap b edges)
 step w (Post batch blocks) = if can_post w.opening w.heap w.status w.versions batch blocks then Some
     (posted w batch blocks) else None
-step w Floor = Some (record w { floor = least_pin (last_number w) w.sessions; copy = copy_of w })
-step w (Recycle b) = option_map (with_status w) (changed_at (recycled w.copy) w.status b)
+step w Floor = Some (record w { floor = floor_of (present_copy w); copy = present_copy w })
+step w (Recycle b) = option_map (with_status w) (changed_at (reclaimed w.copy) w.status b)
 step w (Pin s) = move w s (to_pin w.floor)
 step w (Enter s) = move w s (to_enter (last_number w))
 step w (Settle s) = move w s to_settle

@@ -4,8 +4,8 @@ use Rattle.std.specs.List.{flat_map}
 use Rattle.graph_model.specs.Graph.{graph_of, IsContent}
 use Rattle.graph_model.specs.declared.ids.Edge.{Edge}
 use Rattle.graph_model.specs.declared.contents.Content.{Content}
-use Rattle.epoch_blocks.specs.declared.states.Status.{Status}
-use Rattle.epoch_blocks.specs.declared.states.Status.TheVariants.{Free, Used}
+use Rattle.block_reclamation.specs.declared.status.BlockStatus.{BlockStatus}
+use Rattle.block_reclamation.specs.declared.status.BlockStatus.TheVariants.{Free, Used}
 use Rattle.epoch_blocks.specs.Versions.{AreEdgesOf}
 use Rattle.epoch_core.specs.Worlds.{MachineState, start_world}
 
@@ -21,7 +21,7 @@ abbrev pub heap_with : Lists → List (List Edge) → List (List Edge)
 heap_with [] heap = heap
 heap_with (l ∷ lists) heap = heap_with lists (slice_set heap l.0 l.1)
 
-abbrev pub status_with : Lists → List Status → List Status
+abbrev pub status_with : Lists → List BlockStatus → List BlockStatus
 status_with [] status = status
 status_with (l ∷ lists) status = status_with lists (slice_set status l.0 (Used 0))
 

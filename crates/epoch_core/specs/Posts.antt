@@ -4,8 +4,9 @@ use Rattle.std.specs.declared.option.Option.TheVariants.{Some}
 use Rattle.graph_model.specs.Limits.{batch_limit}
 use Rattle.graph_model.specs.GraphLimits.{MeetsNameLimit, MeetsKindLimit}
 use Rattle.graph_model.specs.declared.batches.NamedOp.{NamedOp}
-use Rattle.epoch_blocks.specs.declared.states.Status.TheVariants.{Fresh}
-use Rattle.epoch_blocks.specs.Blocks.{is_listed, status_after}
+use Rattle.block_reclamation.specs.declared.status.BlockStatus.TheVariants.{Granted}
+use Rattle.epoch_blocks.specs.Blocks.{status_after}
+use Rattle.block_reclamation.specs.Status.{is_listed}
 use Rattle.epoch_blocks.specs.Versions.{AreEdgesOf, edges_of}
 use Rattle.epoch_blocks.specs.Posting.{graph_after, version_by}
 use Rattle.epoch_core.specs.Worlds.{World, last_number, last_blocks, last_graph}
@@ -14,8 +15,8 @@ use Rattle.epoch_core.specs.Worlds.{World, last_number, last_blocks, last_graph}
 pub record MayPost (w : World) (batch : List NamedOp) (blocks : List ℕ) : Type 0 where
   -- there are fewer batches than the limit
   pub few : last_number w < batch_limit
-  -- each block is fresh or of the last version
-  pub listable : All (λ b. (slice_get w.status b ≡ Some Fresh) ⊎ IsTrue (is_listed b (last_blocks w))) blocks
+  -- each block is granted or of the last version
+  pub listable : All (λ b. (slice_get w.status b ≡ Some Granted) ⊎ IsTrue (is_listed b (last_blocks w))) blocks
   -- none is listed twice
   pub different : AllPairs ◌≢◌ blocks
   -- the batch meets no limit on names or kinds

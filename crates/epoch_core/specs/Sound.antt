@@ -1,41 +1,26 @@
 -- What holds of the machine at every moment, and carries the laws.
 use Rattle.std.specs.Prelude.{true, ◌≡◌, ◌≢◌, ℕ, ◌≤◌, ◌<◌, length, take, slice_get, AllPairs, MatchOption, IsTrue}
 use Rattle.std.specs.declared.option.Option.{Option}
-use Rattle.epoch_blocks.specs.declared.states.Status.{Status}
-use Rattle.epoch_blocks.specs.declared.states.Status.TheVariants.{Free, Fresh, Used, Retired}
+use Rattle.block_reclamation.specs.declared.status.BlockStatus.{BlockStatus}
 use Rattle.epoch_core.specs.declared.states.Hold.{Hold}
 use Rattle.epoch_core.specs.declared.states.SessionState.{SessionState}
 use Rattle.epoch_core.specs.declared.states.SessionState.TheVariants.{Idle, Pinned, Holding, Asking}
-use Rattle.pin_copy.specs.declared.copies.PinCopy.{PinCopy}
-use Rattle.pin_copy.specs.Copies.{needs}
-use Rattle.epoch_blocks.specs.Blocks.{is_at, is_used, is_listed}
+use Rattle.block_reclamation.specs.declared.copies.PinCopy.{PinCopy}
+use Rattle.block_reclamation.specs.Copies.{needs}
+use Rattle.block_reclamation.specs.Status.{is_at, is_used, is_listed, IsDated, IsKept}
 use Rattle.epoch_core.specs.Worlds.{World, MachineState, HasContents, last_number, last_blocks, last_graph, session_of}
 use Rattle.epoch_blocks.specs.Versions.{AreEdgesOf, graph_at, version_at, blocks_at, edges_of}
 
--- a block was born at latest with this version, and retired after its birth and at latest with this version
-abbrev pub IsDated : ℕ → Status → Type 0
-IsDated last Free = Unit {0}
-IsDated last Fresh = Unit {0}
-IsDated last (Used birth) = birth ≤ last
-IsDated last (Retired birth since) = (birth < since) × (since ≤ last)
-
--- a block is kept for the holders of version n: it was born at latest with it, and not retired or only after it
-abbrev pub IsKept : ℕ → Status → Type 0
-IsKept n Free = ⊥
-IsKept n Fresh = ⊥
-IsKept n (Used birth) = birth ≤ n
-IsKept n (Retired birth since) = (birth ≤ n) × (n < since)
-
--- the same of the block of a number, if there is one
-abbrev pub IsDatedAt : ℕ → Option Status → Type 0
+-- what a status says of its dates, said of the block of a number, if there is one
+abbrev pub IsDatedAt : ℕ → Option BlockStatus → Type 0
 IsDatedAt last status = MatchOption status (Unit {0}) (IsDated last)
 
-abbrev pub IsKeptAt : ℕ → Option Status → Type 0
+abbrev pub IsKeptAt : ℕ → Option BlockStatus → Type 0
 IsKeptAt n status = MatchOption status ⊥ (IsKept n)
 
 -- the copy needs each block that is kept for the holders of version n
 abbrev pub IsCovered : PinCopy → ℕ → Type 0
-IsCovered copy n = (birth since : ℕ) → birth ≤ n → n < since → needs copy birth since ≡ true
+IsCovered copy n = (birth retirement : ℕ) → birth ≤ n → n < retirement → needs copy birth retirement ≡ true
 
 -- a holder's pin keeps the blocks of its version, and these show what the batches up to the version leave
 pub record IsHeld (w : World) (hold : Hold) : Type 0 where

@@ -1,8 +1,9 @@
 -- What the machine of interleavings knows at a moment: blocks of edges, versions, the floor, and where each
 -- session stands. It is STINGER's store of edge blocks (Ediger, McColl, Riedy, Bader; IEEE HPEC 2012) under
 -- sessions that hold a version while batches go on, as Aspen's readers do (Dhulipala, Blelloch, Shun; PLDI 2019).
-use Rattle.std.specs.Prelude.{◌≡◌, ◌≢◌, ℕ, ◌<◌, ◌≤◌, ◌-◌, ◌++◌, Bool, true, false, not, List, [], length, map, replicate}
+use Rattle.std.specs.Prelude.{◌≡◌, ◌≢◌, ℕ, ◌<◌, ◌≤◌, ◌-◌, ◌++◌, List, [], length, map, replicate}
 use Rattle.std.specs.Prelude.{slice_get, slice_index_or, if◌then◌else◌, All, AllPairs}
+use Rattle.std.specs.Option.{option_map}
 use Rattle.std.specs.declared.option.Option.{Option}
 use Rattle.std.specs.declared.option.Option.TheVariants.{None, Some}
 use Rattle.std.specs.declared.result.Result.{Result}
@@ -10,16 +11,17 @@ use Rattle.graph_model.specs.Graph.{Graph, map_of, content_of}
 use Rattle.graph_model.specs.declared.ids.Edge.{Edge}
 use Rattle.graph_model.specs.declared.requests.Reply.{Reply}
 use Rattle.graph_model.specs.declared.requests.AskError.{AskError}
-use Rattle.epoch_blocks.specs.declared.states.Status.{Status}
-use Rattle.epoch_blocks.specs.declared.states.Status.TheVariants.{Free, Used}
+use Rattle.block_reclamation.specs.declared.status.BlockStatus.{BlockStatus}
+use Rattle.block_reclamation.specs.declared.status.BlockStatus.TheVariants.{Free, Used}
 use Rattle.epoch_blocks.specs.declared.states.Version.{Version}
 use Rattle.epoch_blocks.specs.declared.states.Opening.{Opening}
 use Rattle.epoch_core.specs.declared.states.SessionState.{SessionState}
 use Rattle.epoch_core.specs.declared.states.SessionState.TheVariants.{Idle, Pinned, Holding, Asking}
-use Rattle.epoch_blocks.specs.Blocks.{is_listed}
-use Rattle.pin_copy.specs.declared.copies.PinCopy.{PinCopy}
-use Rattle.pin_copy.specs.declared.copies.TheConstants.{SEATS}
-use Rattle.pin_copy.specs.Copies.{no_copy}
+use Rattle.block_reclamation.specs.Status.{is_listed}
+use Rattle.block_reclamation.specs.declared.copies.PinCopy.{PinCopy}
+use Rattle.block_reclamation.specs.declared.copies.TheConstants.{SEATS}
+use Rattle.block_reclamation.specs.declared.copies.Pin.{Pin}
+use Rattle.block_reclamation.specs.Copies.{no_copy, copy_of, unsettled, settled_number, unsettled_number}
 use Rattle.epoch_blocks.specs.Versions.{IsContentGraph, AreEdgesOf, blocks_at, edges_of, graph_at, opening_graph}
 
 -- a reply, or the refusal that stands in its place
@@ -32,7 +34,7 @@ pub record World : Type 0 where
   -- for each block number the edges in the block
   pub heap : List (List Edge)
   -- for each block number what the block is
-  pub status : List Status
+  pub status : List BlockStatus
   -- the versions after version 0, in the order of their numbers
   pub versions : List Version
   pub floor : ℕ
@@ -68,42 +70,30 @@ HasContents opening versions = (n : ℕ) → n ≤ length versions → IsContent
 
 -- Sessions
 
--- what is seen of a session: its pin, and the number of the version that it holds
+-- what is seen of a session: its pin, as a seat has it, and the number of the version that it holds
+abbrev pub seat_pin : SessionState → Option Pin
+seat_pin Idle = None
+seat_pin (Pinned pin) = Some (unsettled pin)
+seat_pin (Holding hold) = Some (record { number = hold.pin; is_settled = hold.settled })
+seat_pin (Asking hold inquiry) = Some (record { number = hold.pin; is_settled = hold.settled })
+
 abbrev pub pin_in : SessionState → Option ℕ
-pin_in Idle = None
-pin_in (Pinned pin) = Some pin
-pin_in (Holding hold) = Some hold.pin
-pin_in (Asking hold inquiry) = Some hold.pin
+pin_in session = option_map (λ pin. pin.number) (seat_pin session)
 
 -- the pin of a session that has told the number of its version, and of one that hasn't
-abbrev pub pin_if : Bool → ℕ → Option ℕ
-pin_if true pin = Some pin
-pin_if false pin = None
-
 abbrev pub settled_in : SessionState → Option ℕ
-settled_in Idle = None
-settled_in (Pinned pin) = None
-settled_in (Holding hold) = pin_if hold.settled hold.pin
-settled_in (Asking hold inquiry) = pin_if hold.settled hold.pin
+settled_in session = settled_number (seat_pin session)
 
 abbrev pub unsettled_in : SessionState → Option ℕ
-unsettled_in Idle = None
-unsettled_in (Pinned pin) = Some pin
-unsettled_in (Holding hold) = pin_if (not hold.settled) hold.pin
-unsettled_in (Asking hold inquiry) = pin_if (not hold.settled) hold.pin
+unsettled_in session = unsettled_number (seat_pin session)
 
--- one for each session, and none for each further seat of a copy
-abbrev pub seated : (SessionState → Option ℕ) → List SessionState → List (Option ℕ)
-seated pin sessions = map pin sessions ++ replicate (SEATS - length sessions) None
-
--- the copy of a last number and of these sessions' pins
-abbrev pub pins_of : ℕ → List SessionState → PinCopy
-pins_of last sessions =
-    record { last = last; settled = seated settled_in sessions; unsettled = seated unsettled_in sessions }
+-- one pin for each session, and none for each further seat
+abbrev pub seat_pins : List SessionState → List (Option Pin)
+seat_pins sessions = map seat_pin sessions ++ replicate (SEATS - length sessions) None
 
 -- the copy of the pins as they stand
-abbrev pub copy_of : World → PinCopy
-copy_of w = pins_of (last_number w) w.sessions
+abbrev pub present_copy : World → PinCopy
+present_copy w = copy_of (last_number w) (seat_pins w.sessions)
 
 abbrev pub held_in : SessionState → Option ℕ
 held_in Idle = None

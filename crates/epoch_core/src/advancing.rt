@@ -9,7 +9,7 @@ ghost use Rattle.epoch_core.specs.Cores.{state_of};
 
 use crate::Event;
 use crate::replying::reply;
-use crate::sessions::{ask, copy_pins, enter, least_pin, pin, read, release, settle};
+use crate::sessions::{ask, copy_pins, enter, pin, read, release, settle};
 use crate::states::Parts;
 use epoch_blocks::{Step, fill_block, plan_post, recycle_block, take_block};
 use graph_model::{Batch, Edge};
@@ -99,8 +99,9 @@ fn raise_floor(parts: &mut Parts) -> Step
     ensures contents { HasContents parts.new.opening parts.new.versions.items }
 {
     let last = parts.versions.len() as u64;
-    parts.floor = least_pin(last, parts.sessions.as_slice());
-    parts.copy = copy_pins(last, parts.sessions.as_slice());
+    let copy = copy_pins(last, parts.sessions.as_slice());
+    parts.floor = copy.floor();
+    parts.copy = copy;
     Step::Done
 }
 

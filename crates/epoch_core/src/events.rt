@@ -7,7 +7,7 @@ use graph_model::{Batch, Edge, List, Request};
 pub enum Event {
     /// The writer takes a free block.
     Take(usize),
-    /// The writer fills a fresh block with these edges.
+    /// The writer fills a granted block with these edges.
     Fill(usize, List<Edge>),
     /// The writer posts a batch as the next version, whose edges are in these blocks.
     Post(Batch, List<usize>),

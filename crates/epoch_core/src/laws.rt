@@ -25,7 +25,7 @@ pub fn law_isolation()
 /// - `fills`: no Fill that is done names a block in the list of a version that some session holds.
 /// - `pins`: the floor is at most each pin and at most the last number, and a holder's pin is at most the number
 ///   of its version.
-/// - `partition`: each block number is free, fresh, retired or listed by the last version, and only one of these;
+/// - `partition`: each block number is free, granted, retired or listed by the last version, and only one of these;
 ///   no other number is any of these, and the last version lists no block twice.
 pub fn law_epoch()
     ensures fills { AlwaysFillsNoHeldBlock }
@@ -45,7 +45,7 @@ pub fn law_collection()
 {}
 
 /// The rule of a Post: in every world it is done exactly where there are fewer than 65,536 batches, each block is
-/// fresh or of the last version, none is listed twice, the batch meets no limit on names or kinds, and the edges in
+/// granted or of the last version, none is listed twice, the batch meets no limit on names or kinds, and the edges in
 /// the blocks, taken together, are each once the edges that the batch leaves of the last version.
 pub fn law_post()
     ensures { PostsByItsRule }

@@ -19,11 +19,11 @@ mod sessions;
 mod start;
 mod states;
 
+pub use block_reclamation::PinCopy;
 pub use epoch_blocks::Step;
 pub use events::Event;
 pub use laws::{law_collection, law_epoch, law_examples, law_isolation, law_post};
 pub use machine::{Core, run};
-pub use pin_copy::PinCopy;
 use std::alloc::AllocError;
 
 /// Want of memory.

@@ -13,9 +13,9 @@ use crate::sessions::{held_in, pin_in, state_at};
 use crate::start::{opened_parts, parts_at_start};
 use crate::states::Parts;
 use crate::{Event, OutOfMemory};
+use block_reclamation::PinCopy;
 use epoch_blocks::Step;
 use graph_model::{AskError, Content, Edge, List, Reply};
-use pin_copy::PinCopy;
 use std::alloc::Global;
 use std::marker::Model;
 

@@ -3,13 +3,14 @@
 ghost use Rattle.std.specs.Prelude.{◌≡◌, ◌<◌, ◌≤◌, ◌++◌, IfOk, OnErr, length, slice_index_or};
 ghost use Rattle.epoch_core.specs.Machine as machine;
 ghost use Rattle.epoch_core.specs.Worlds as worlds;
+ghost use Rattle.block_reclamation.specs.Copies.{copy_of};
 ghost use Rattle.epoch_blocks.specs.Blocks.{Stepped, changed_at};
 ghost use Rattle.epoch_core.specs.declared.states.SessionState.TheVariants.{Idle};
 
 use crate::states::{Hold, Inquiry, SessionState, no_items};
+use block_reclamation::{Pin, PinCopy, SEATS};
 use epoch_blocks::{Opening, Step, Version, blocks_at, edges_at};
 use graph_model::{Edge, List, Request};
-use pin_copy::{PinCopy, SEATS};
 use std::alloc::{AllocError, Global};
 
 /// Where a session stands. It takes no memory.
@@ -44,82 +45,46 @@ pub(crate) fn held_in(state: &SessionState) -> Option<u64>
     }
 }
 
-/// The least of a number and all pins. It takes no memory.
-pub(crate) fn least_pin(last: u64, sessions: &[SessionState]) -> u64
-    ensures { result ≡ machine.least_pin last sessions.now }
-{
-    let mut least = last;
-    for state in sessions {
-        if let Some(pin) = pin_in(state) {
-            least = least.min(pin);
-        }
-    }
-    least
-}
-
-/// The pin of a session in this state that has told the number of its version. It takes no memory.
-fn settled_in(state: &SessionState) -> Option<u64>
-    ensures { result ≡ worlds.settled_in state.now }
+/// The pin of a session in this state, as a seat has it. It takes no memory.
+fn seat_pin(state: &SessionState) -> Option<Pin>
+    ensures { result ≡ worlds.seat_pin state.now }
 {
     match state {
         SessionState::Idle => None,
-        SessionState::Pinned(_) => None,
-        SessionState::Holding(hold) => pin_if(hold.settled, hold.pin),
-        SessionState::Asking(hold, _) => pin_if(hold.settled, hold.pin),
+        SessionState::Pinned(pin) => Some(Pin {
+            number: *pin,
+            is_settled: false,
+        }),
+        SessionState::Holding(hold) => Some(pin_by(hold)),
+        SessionState::Asking(hold, _) => Some(pin_by(hold)),
     }
 }
 
-/// The pin of a session in this state that hasn't told the number of its version. It takes no memory.
-fn unsettled_in(state: &SessionState) -> Option<u64>
-    ensures { result ≡ worlds.unsettled_in state.now }
+fn pin_by(hold: &Hold) -> Pin
+    ensures { result ≡ record { number = hold.now.pin; is_settled = hold.now.settled } }
 {
-    match state {
-        SessionState::Idle => None,
-        SessionState::Pinned(pin) => Some(*pin),
-        SessionState::Holding(hold) => pin_if(!hold.settled, hold.pin),
-        SessionState::Asking(hold, _) => pin_if(!hold.settled, hold.pin),
+    Pin {
+        number: hold.pin,
+        is_settled: hold.settled,
     }
 }
 
-fn pin_if(is_in: bool, pin: u64) -> Option<u64>
-    ensures { result ≡ worlds.pin_if is_in pin }
-{
-    if is_in { Some(pin) } else { None }
-}
-
-/// The last number, and the settled and the unsettled pins. It takes no memory.
+/// The copy of a last number and of the sessions' pins. It takes no memory.
 pub(crate) fn copy_pins(last: u64, sessions: &[SessionState]) -> PinCopy
     requires { length sessions.now ≤ 16 }
-    ensures { result ≡ worlds.pins_of last sessions.now }
+    ensures { result ≡ copy_of last (worlds.seat_pins sessions.now) }
 {
-    PinCopy {
-        last,
-        settled: settled_pins(sessions),
-        unsettled: unsettled_pins(sessions),
-    }
+    PinCopy::of(last, &seat_pins(sessions))
 }
 
-fn settled_pins(sessions: &[SessionState]) -> [Option<u64>; SEATS]
+fn seat_pins(sessions: &[SessionState]) -> [Option<Pin>; SEATS]
     requires { length sessions.now ≤ 16 }
-    ensures { result ≡ worlds.seated worlds.settled_in sessions.now }
+    ensures { result ≡ worlds.seat_pins sessions.now }
 {
     let mut pins = [None; SEATS];
     let mut seat = 0;
     while seat < sessions.len() {
-        pins[seat] = settled_in(&sessions[seat]);
-        seat += 1;
-    }
-    pins
-}
-
-fn unsettled_pins(sessions: &[SessionState]) -> [Option<u64>; SEATS]
-    requires { length sessions.now ≤ 16 }
-    ensures { result ≡ worlds.seated worlds.unsettled_in sessions.now }
-{
-    let mut pins = [None; SEATS];
-    let mut seat = 0;
-    while seat < sessions.len() {
-        pins[seat] = unsettled_in(&sessions[seat]);
+        pins[seat] = seat_pin(&sessions[seat]);
         seat += 1;
     }
     pins

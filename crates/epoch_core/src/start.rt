@@ -4,13 +4,13 @@ ghost use Rattle.std.specs.Prelude.{◌≡◌, ◌<◌, [], All, IfOk, OnOk, len
 ghost use Rattle.epoch_core.specs.Worlds as worlds;
 ghost use Rattle.epoch_core.specs.Cores.{state_of};
 ghost use Rattle.epoch_core.specs.Opened.{opened_over, opened_state, numbers_in, heap_with, status_with};
-ghost use Rattle.epoch_blocks.specs.declared.states.Status.TheVariants.{Free};
+ghost use Rattle.block_reclamation.specs.declared.status.BlockStatus.TheVariants.{Free};
 ghost use Rattle.epoch_core.specs.declared.states.SessionState.TheVariants.{Idle};
 
 use crate::states::{Parts, SessionState, no_items};
-use epoch_blocks::{Opening, Status};
+use block_reclamation::{BlockStatus, PinCopy};
+use epoch_blocks::Opening;
 use graph_model::{Content, Edge, List};
-use pin_copy::PinCopy;
 use std::alloc::{AllocError, Global};
 
 /// The fields of the machine at its start.
@@ -117,12 +117,12 @@ fn fill_lists(
 }
 
 /// Marks each listed block as used from version 0 on.
-fn mark_lists(status: &mut Vec<Status>, lists: &[(u32, List<Edge>)])
+fn mark_lists(status: &mut Vec<BlockStatus>, lists: &[(u32, List<Edge>)])
     requires { All (λ l. l.0 < length status.old.items) lists.now }
     ensures { status.new.items ≡ status_with lists.now status.old.items }
 {
     for list in lists {
-        status[list.0 as usize] = Status::Used { birth: 0 };
+        status[list.0 as usize] = BlockStatus::Used { birth: 0 };
     }
 }
 
@@ -151,10 +151,10 @@ fn empty_lists<T: Drop>(alloc: Global, count: usize) -> Result<Vec<List<T>>, All
     Ok(lists)
 }
 
-fn free_blocks(alloc: Global, count: usize) -> Result<Vec<Status>, AllocError>
+fn free_blocks(alloc: Global, count: usize) -> Result<Vec<BlockStatus>, AllocError>
     ensures { IfOk result (λ v. v.items ≡ replicate count Free) }
 {
-    vec![in alloc; Status::Free; count]
+    vec![in alloc; BlockStatus::Free; count]
 }
 
 fn idle_sessions(alloc: Global, count: usize) -> Result<Vec<SessionState>, AllocError>

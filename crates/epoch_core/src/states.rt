@@ -2,9 +2,9 @@
 
 ghost use Rattle.std.specs.Prelude.{◌≡◌, []};
 
-use epoch_blocks::{Opening, Status, Version};
+use block_reclamation::{BlockStatus, PinCopy};
+use epoch_blocks::{Opening, Version};
 use graph_model::{AskError, Edge, List, Reply, Request};
-use pin_copy::PinCopy;
 use std::alloc::Global;
 
 /// A reply, or the refusal that stands in its place.
@@ -64,7 +64,7 @@ pub(crate) struct Parts {
     pub(crate) alloc: Global,
     pub(crate) opening: Opening,
     pub(crate) heap: Vec<List<Edge>>,
-    pub(crate) status: Vec<Status>,
+    pub(crate) status: Vec<BlockStatus>,
     /// The versions after version 0, in the order of their numbers.
     pub(crate) versions: Vec<Version>,
     pub(crate) floor: u64,

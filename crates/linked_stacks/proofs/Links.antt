@@ -5,14 +5,15 @@ use Rattle.std.proofs.lemmas.Bool.{cases_eq, eq-eqb, true≢false, or_parts}
 use Rattle.std.proofs.lemmas.List.{get_or-set_same, get_or-set_other, get_or-map, map-set, length-map, length-replicate}
 use Rattle.std.proofs.Math.ListN.{length-set}
 use Rattle.linked_stacks.specs.{declared.stacks.Stack.Stack, Chains.chain, Chains.chain_of, Chains.AreBelow, Chains.AreWithin}
-use Rattle.linked_stacks.specs.Stacks.{Stacks, stack_of, below_top, is_in, AreAbsent}
+use Rattle.linked_stacks.specs.Stacks.{Stacks, stack_of, below_top, AreAbsent}
+use Rattle.block_reclamation.specs.Status.{is_listed}
 
 -- the link of a number that a chain hasn't
-pub chain_else : (below : List ℕ) (top height n v : ℕ) → is_in n (chain below top height) ≡ false
+pub chain_else : (below : List ℕ) (top height n v : ℕ) → is_listed n (chain below top height) ≡ false
     → chain (set below n v) top height ≡ chain below top height
 chain_else below top zero n v none = refl
 chain_else below top (suc height) n v none =
-    let parts = or_parts (top == n) (is_in n (chain below (get_or below top 0) height)) none in
+    let parts = or_parts (top == n) (is_listed n (chain below (get_or below top 0) height)) none in
     let ne : top ≢ n = λ e. true≢false (sym (eq-eqb top n e) ∙ parts.0) in
     let same : get_or (set below n v) top 0 ≡ get_or below top 0 = get_or-set_other below n top v 0 ne in
     ap (λ ns. top ∷ ns) (ap (λ t. chain (set below n v) t height) same
@@ -40,7 +41,7 @@ pub links_else : (below : List ℕ) (stacks : List Stack) (n v : ℕ) → AreAbs
 links_else below stacks n v absent =
     map_same (chain_of (set below n v)) (chain_of below) stacks (λ k d lt.
     let s : Stack = get_or stacks k d in
-    chain_else below s.top s.height n v (ap (is_in n) (sym (seen below stacks k d lt)) ∙ absent k))
+    chain_else below s.top s.height n v (ap (is_listed n) (sym (seen below stacks k d lt)) ∙ absent k))
 
 -- a chain that isn't empty: its top, and what is below
 pub chain_top : (below : List ℕ) (top height : ℕ) → 0 < height
@@ -55,7 +56,7 @@ chain_rest below top (suc height) lt =
     let less : suc height - 1 ≡ height = omega arith in ap (chain below (get_or below top 0)) less
 
 -- a chain with one number more
-pub chain_more : (below : List ℕ) (top height n : ℕ) → n < length below → is_in n (chain below top height) ≡ false
+pub chain_more : (below : List ℕ) (top height n : ℕ) → n < length below → is_listed n (chain below top height) ≡ false
     → chain (set below n top) n (height + 1) ≡ n ∷ chain below top height
 chain_more below top height n lt none =
     let more : height + 1 ≡ suc height = omega arith in
@@ -91,7 +92,7 @@ module _ (below : List ℕ) (stacks : List Stack) where
       let is = shown (view_of below stacks) refl k s low in
       let this : stack_of (map (chain_of below) stacks) k ≡ chain below s.top s.height =
       is.1 ∙ ap (chain_of below) (sym here) in
-      let more = chain_more below s.top s.height n lt (ap (is_in n) (sym this) ∙ absent k) in
+      let more = chain_more below s.top s.height n lt (ap (is_listed n) (sym this) ∙ absent k) in
       let lists : map (chain_of (set below n s.top)) (set stacks k after)
       ≡ set (map (chain_of below) stacks) k (n ∷ stack_of (map (chain_of below) stacks) k) =
       map-set (chain_of (set below n s.top)) stacks k after
@@ -143,14 +144,14 @@ module _ (below : List ℕ) (stacks : List Stack) where
               ap (λ i. get_or (set stacks k after) i d) e ∙ get_or-set_same stacks k after d lt in
               let this : stack_of (map (chain_of below) stacks) k ≡ chain below s.top s.height =
               seen below stacks k s lt ∙ ap (chain_of below) (sym here) in
-              let more = chain_more below s.top s.height n low (ap (is_in n) (sym this) ∙ absent k) in
+              let more = chain_more below s.top s.height n low (ap (is_listed n) (sym this) ∙ absent k) in
               subst (λ (r : Stack). AreBelow (length below) (chain_of (set below n s.top) r)) (sym it)
               (subst (AreBelow (length below)) (sym more)
               (low, subst (λ (r : Stack). AreBelow (length below) (chain_of below r)) (sym here) (are.each k s lt)))
           | inr ne ↦
               let it : get_or (set stacks k after) j d ≡ get_or stacks j d = get_or-set_other stacks k j after d ne in
               let r : Stack = get_or stacks j d in
-              let same = chain_else below r.top r.height n s.top (ap (is_in n) (sym (seen below stacks j d within)) ∙ absent j) in
+              let same = chain_else below r.top r.height n s.top (ap (is_listed n) (sym (seen below stacks j d within)) ∙ absent j) in
               subst (λ (r : Stack). AreBelow (length below) (chain_of (set below n s.top) r)) (sym it)
               (subst (AreBelow (length below)) (sym same) (are.each j d within))
         ]

@@ -1,6 +1,6 @@
 -- Stacks of numbers below a bound.
-use Rattle.std.specs.Prelude.{◌≡◌, ℕ, ◌==◌, List, [], ◌∷◌, slice_index_or, Bool, false}
-use Rattle.std.specs.List.{list_any}
+use Rattle.std.specs.Prelude.{◌≡◌, ℕ, List, [], ◌∷◌, slice_index_or, false}
+use Rattle.block_reclamation.specs.Status.{is_listed}
 
 -- each list is a stack, its top first
 pub record Stacks : Type 0 where
@@ -14,9 +14,6 @@ abbrev pub below_top : List ℕ → List ℕ
 below_top [] = []
 below_top (top ∷ numbers) = numbers
 
-abbrev pub is_in : ℕ → List ℕ → Bool
-is_in number numbers = list_any (λ n. n == number) numbers
-
 -- the number stands in no stack
 abbrev pub AreAbsent : ℕ → List (List ℕ) → Type 0
-AreAbsent number lists = (stack : ℕ) → is_in number (stack_of lists stack) ≡ false
+AreAbsent number lists = (stack : ℕ) → is_listed number (stack_of lists stack) ≡ false

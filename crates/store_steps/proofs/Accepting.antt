@@ -6,8 +6,9 @@ use Rattle.std.specs.declared.option.Option.{Option, TheVariants.None, TheVarian
 use Rattle.block_pool.proofs.Grants.{length-marked}
 use Rattle.edge_block.specs.Slots.{BlockView}
 use Rattle.row_pages.specs.Rows.{row_of, blocks_of, numbers_of}
-use Rattle.graph_version.specs.Versions.{is_in}
-use Rattle.block_pool.specs.Pools.{Used, is_born, passes, retired, is_free_at, is_born_at, marked}
+use Rattle.block_reclamation.specs.Status.{is_listed, is_used, is_at}
+use Rattle.block_pool.specs.Pools.{retired, is_free_at, marked, is_used_at}
+use Rattle.block_reclamation.specs.declared.status.BlockStatus.TheVariants.{Used}
 use Rattle.epoch_blocks.specs.Blocks.{all_differ}
 use Rattle.store_steps.specs.Journal.{Entry, Ledger, opened_ledger, is_legal, after_entry, entered, replay}
 use Rattle.store_steps.specs.Desks.{IsDesk, IsAccepted, FollowsBirths, birth_at, last_numbers, ledger_of}
@@ -40,13 +41,13 @@ is_legal_in a =
     let free : list_all (is_free_at a.old.pool) a.taken ≡ true = all_by (is_free_at a.old.pool) a.taken (λ m is.
     granted_free a.old.pool a.numbers m a.applied.free (taken_granted a m is)) in
     let apart : all_differ a.taken ≡ true = apart_if a.taken (λ m. let once = handed_once a m in omega arith) in
-    let born : list_all (is_born_at a.old.pool) (dropped_numbers a) ≡ true =
-    all_by (is_born_at a.old.pool) (dropped_numbers a) (dropped_born a) in
+    let born : list_all (is_used_at a.old.pool) (dropped_numbers a) ≡ true =
+    all_by (is_used_at a.old.pool) (dropped_numbers a) (dropped_born a) in
     let different = dropped_differ a in
     rw (free, apart, born, different) refl
 
 -- a block of the next version that isn't a taken one is a block of the last
-kept_before : (a : Application) (b : BlockView) → Contains (blocks_of a.version.rows) b → is_in b.number a.taken ≡ false
+kept_before : (a : Application) (b : BlockView) → Contains (blocks_of a.version.rows) b → is_listed b.number a.taken ≡ false
     → Contains (blocks_of a.old.last.rows) b
 kept_before a b there apart =
     let p : BlockView → Bool = λ x. same_block x b in
@@ -58,8 +59,8 @@ kept_before a b there apart =
       | zero ↦ λ none. listed b (blocks_of a.old.last.rows) (omega arith)
       | suc n ↦ λ some.
           (let fresh : Contains a.applied.exchanged.fresh b = listed b a.applied.exchanged.fresh (omega arith) in
-          let taken : is_in b.number a.taken ≡ true =
-          ap (is_in b.number) (sym a.applied.exchanged.taken_are)
+          let taken : is_listed b.number a.taken ≡ true =
+          ap (is_listed b.number) (sym a.applied.exchanged.taken_are)
           ∙ number_in a.applied.exchanged.fresh b fresh.0 fresh.1 fresh.2 in
           absurd (true≢false (sym taken ∙ apart)))
     ] refl
@@ -72,25 +73,25 @@ default_same (b ∷ bs) (suc k) d h = default_same bs k d (omega arith)
 -- Births
 
 birth_next : (a : Application) (m : ℕ) → birth_at (next_desk a).pool m
-    ≡ birth_in (number_after (number_in_desk a) (slice_get a.old.pool m) (is_in m a.taken) (is_in m (dropped_numbers a)))
+    ≡ birth_in (number_after (number_in_desk a) (slice_get a.old.pool m) (is_listed m a.taken) (is_listed m (dropped_numbers a)))
 birth_next a m =
     birth_from (next_desk a).pool m
     ∙ ap birth_in (exchanged_at (number_in_desk a) a.taken (dropped_numbers a) a.old.pool m (dropped_differ a))
 
-taken_born : (a : Application) (m : ℕ) → is_in m a.taken ≡ true → birth_at (next_desk a).pool m ≡ number_in_desk a
+taken_born : (a : Application) (m : ℕ) → is_listed m a.taken ≡ true → birth_at (next_desk a).pool m ≡ number_in_desk a
 taken_born a m is =
     birth_next a m
-    ∙ ap (λ t. birth_in (number_after (number_in_desk a) (slice_get a.old.pool m) t (is_in m (dropped_numbers a)))) is
-    ∙ birth_taken (number_in_desk a) (slice_get a.old.pool m) (is_in m (dropped_numbers a))
+    ∙ ap (λ t. birth_in (number_after (number_in_desk a) (slice_get a.old.pool m) t (is_listed m (dropped_numbers a)))) is
+    ∙ birth_taken (number_in_desk a) (slice_get a.old.pool m) (is_listed m (dropped_numbers a))
     (granted_free a.old.pool a.numbers m a.applied.free (taken_granted a m is))
 
-listed_born : (a : Application) (m : ℕ) → is_in m (last_numbers a.old) ≡ true
+listed_born : (a : Application) (m : ℕ) → is_listed m (last_numbers a.old) ≡ true
     → birth_at (next_desk a).pool m ≡ birth_at a.old.pool m
 listed_born a m listed =
-    let none : is_in m a.taken ≡ false = not_taken a m (not_granted a.old a.numbers m a.before a.applied.free listed) in
+    let none : is_listed m a.taken ≡ false = not_taken a m (not_granted a.old a.numbers m a.before a.applied.free listed) in
     birth_next a m
-    ∙ ap (λ t. birth_in (number_after (number_in_desk a) (slice_get a.old.pool m) t (is_in m (dropped_numbers a)))) none
-    ∙ birth_stays (number_in_desk a) (slice_get a.old.pool m) (is_in m (dropped_numbers a)) ∙ sym (birth_from a.old.pool m)
+    ∙ ap (λ t. birth_in (number_after (number_in_desk a) (slice_get a.old.pool m) t (is_listed m (dropped_numbers a)))) none
+    ∙ birth_stays (number_in_desk a) (slice_get a.old.pool m) (is_listed m (dropped_numbers a)) ∙ sym (birth_from a.old.pool m)
 
 births_followed : (a : Application) → FollowsBirths a.old a.ops (dropped_numbers a) (next_desk a)
 births_followed a = record {
@@ -134,6 +135,6 @@ made_desk a = record {
       ∙ ap (option_and_then (λ m. entered m (entry_in a))) a.before.replays
       ∙ ap (λ t. if t then Some (after_entry (ledger_of a.old) (entry_in a)) else None) (is_legal_in a)
       ∙ ap Some (λ i. record { batches = sym a.applied.batches i; pool = (next_desk a).pool });
-  listed = λ m. ap (passes is_born) (next_at a m) ∙ (one a m).born
+  listed = λ m. ap (is_at is_used) (next_at a m) ∙ (one a m).born
       ∙ sym (in_times m (numbers_of (blocks_of a.version.rows)) ∙ ap is_some_times (after_times a m));
 }

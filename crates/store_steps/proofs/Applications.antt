@@ -4,8 +4,11 @@ use Rattle.std.specs.{Prelude.slice_get, Prelude.if◌then◌else◌, Option.opt
 use Rattle.graph_model.specs.declared.batches.NamedOp.{NamedOp}
 use Rattle.edge_block.specs.Slots.{BlockView}
 use Rattle.row_pages.specs.Rows.{blocks_of, numbers_of}
-use Rattle.graph_version.specs.Versions.{VersionView, is_in}
-use Rattle.block_pool.specs.Pools.{Status, Free, Granted, Used, retired, is_free_at, is_born_at, marked, changed, AreFree}
+use Rattle.graph_version.specs.Versions.{VersionView}
+use Rattle.block_reclamation.specs.Status.{is_listed}
+use Rattle.block_pool.specs.Pools.{retired, is_free_at, marked, changed, AreFree, is_used_at}
+use Rattle.block_reclamation.specs.declared.status.BlockStatus.{BlockStatus}
+use Rattle.block_reclamation.specs.declared.status.BlockStatus.TheVariants.{Free, Granted, Used}
 use Rattle.epoch_blocks.{specs.Blocks.all_differ, proofs.Lists.all_listed}
 use Rattle.store_steps.specs.{Journal.Entry, Journal.Applied, Journal.exchanged, Desks.DeskView, Desks.IsDesk, Desks.IsAppliedTo}
 use Rattle.store_steps.{specs.Desks.desk_after, specs.Desks.last_numbers, proofs.NumberLists.all_from}
@@ -74,14 +77,14 @@ handed_once a m =
     let same = handed_times a m in omega arith
 
 -- numbers that were granted are free
-pub granted_free : (pool : List Status) (numbers : List ℕ) (m : ℕ) → AreFree pool numbers → is_in m numbers ≡ true
+pub granted_free : (pool : List BlockStatus) (numbers : List ℕ) (m : ℕ) → AreFree pool numbers → is_listed m numbers ≡ true
     → is_free_at pool m ≡ true
 granted_free pool numbers m free is = all_listed (is_free_at pool) numbers m (all_from (is_free_at pool) numbers free.free) is
 
-pub in_numbers : (a : Application) (m : ℕ) → is_in m a.numbers ≡ is_some_times (times m a.taken + times m a.unused)
+pub in_numbers : (a : Application) (m : ℕ) → is_listed m a.numbers ≡ is_some_times (times m a.taken + times m a.unused)
 in_numbers a m = in_times m a.numbers ∙ ap is_some_times (handed_times a m)
 
-in_before : (a : Application) (m : ℕ) → is_born_at a.old.pool m ≡ is_some_times (kept_times a m + dropped_times a m)
+in_before : (a : Application) (m : ℕ) → is_used_at a.old.pool m ≡ is_some_times (kept_times a m + dropped_times a m)
 in_before a m = a.before.listed m ∙ in_times m (last_numbers a.old) ∙ ap is_some_times (before_times a m)
 
 pub one : (a : Application) (m : ℕ) → OneNumber (number_in_desk a) (slice_get a.old.pool m) (kept_times a m) (dropped_times a m)
@@ -99,34 +102,34 @@ some_either (suc a) b e = let more : suc a + b ≡ suc (a + b) = omega arith in 
 pub dropped_differ : (a : Application) → all_differ (dropped_numbers a) ≡ true
 dropped_differ a = apart_if (dropped_numbers a) (λ m. let once = before_once a m in omega arith)
 
-pub dropped_born : (a : Application) (m : ℕ) → is_in m (dropped_numbers a) ≡ true → is_born_at a.old.pool m ≡ true
+pub dropped_born : (a : Application) (m : ℕ) → is_listed m (dropped_numbers a) ≡ true → is_used_at a.old.pool m ≡ true
 dropped_born a m is = in_before a m ∙ some_either (kept_times a m) (dropped_times a m) (sym (in_times m (dropped_numbers a)) ∙ is)
 
 -- The pool, at one number
 
-pub exchanged_at : (number : ℕ) (taken dropped : List ℕ) (pool : List Status) (m : ℕ) → all_differ dropped ≡ true
-    → slice_get (exchanged number taken dropped pool) m ≡ number_after number (slice_get pool m) (is_in m taken) (is_in m dropped)
+pub exchanged_at : (number : ℕ) (taken dropped : List ℕ) (pool : List BlockStatus) (m : ℕ) → all_differ dropped ≡ true
+    → slice_get (exchanged number taken dropped pool) m ≡ number_after number (slice_get pool m) (is_listed m taken) (is_listed m dropped)
 exchanged_at number taken dropped pool m apart =
     changed_at (retired number) dropped (marked taken (Used number) pool) m apart
-    ∙ ap (λ o. if is_in m dropped then option_map (retired number) o else o) (marked_at taken (Used number) pool m)
+    ∙ ap (λ o. if is_listed m dropped then option_map (retired number) o else o) (marked_at taken (Used number) pool m)
 
 pub next_at : (a : Application) (m : ℕ) → slice_get (next_desk a).pool m
     ≡ number_after (number_in_desk a) (slice_get a.old.pool m) (is_some_times (times m a.taken))
     (is_some_times (dropped_times a m))
 next_at a m =
     exchanged_at (number_in_desk a) a.taken (dropped_numbers a) a.old.pool m (dropped_differ a)
-    ∙ ap (λ t. number_after (number_in_desk a) (slice_get a.old.pool m) t (is_in m (dropped_numbers a))) (in_times m a.taken)
+    ∙ ap (λ t. number_after (number_in_desk a) (slice_get a.old.pool m) t (is_listed m (dropped_numbers a))) (in_times m a.taken)
     ∙ ap (number_after (number_in_desk a) (slice_get a.old.pool m) (is_some_times (times m a.taken)))
     (in_times m (dropped_numbers a))
 
 -- the pool after the grant, then after the taken blocks are born, and then after the dropped ones are retired
-abbrev pub granted_pool : Application → List Status
+abbrev pub granted_pool : Application → List BlockStatus
 granted_pool a = marked a.numbers Granted a.old.pool
 
-abbrev pub born_pool : Application → List Status
+abbrev pub born_pool : Application → List BlockStatus
 born_pool a = marked a.taken (Used (number_in_desk a)) (granted_pool a)
 
-abbrev pub retired_pool : Application → List Status
+abbrev pub retired_pool : Application → List BlockStatus
 retired_pool a = changed (retired (number_in_desk a)) (dropped_numbers a) (born_pool a)
 
 retired_at : (a : Application) (m : ℕ)
@@ -135,12 +138,12 @@ retired_at : (a : Application) (m : ℕ)
     (is_some_times (times m a.taken)) (is_some_times (dropped_times a m))
 retired_at a m =
     exchanged_at (number_in_desk a) a.taken (dropped_numbers a) (granted_pool a) m (dropped_differ a)
-    ∙ ap (λ o. number_after (number_in_desk a) o (is_in m a.taken) (is_in m (dropped_numbers a)))
+    ∙ ap (λ o. number_after (number_in_desk a) o (is_listed m a.taken) (is_listed m (dropped_numbers a)))
     (marked_at a.numbers Granted a.old.pool m
     ∙ ap (λ t. marked_if Granted t (slice_get a.old.pool m)) (in_numbers a m))
     ∙ ap (λ t. number_after (number_in_desk a)
     (marked_if Granted (is_some_times (times m a.taken + times m a.unused)) (slice_get a.old.pool m)) t
-    (is_in m (dropped_numbers a))) (in_times m a.taken)
+    (is_listed m (dropped_numbers a))) (in_times m a.taken)
     ∙ ap (number_after (number_in_desk a)
     (marked_if Granted (is_some_times (times m a.taken + times m a.unused)) (slice_get a.old.pool m))
     (is_some_times (times m a.taken))) (in_times m (dropped_numbers a))

@@ -4,8 +4,10 @@ use Rattle.std.specs.{Prelude.if◌then◌else◌, declared.option.Option.TheVar
 use Rattle.graph_model.specs.declared.batches.NamedOp.{NamedOp}
 use Rattle.edge_block.specs.Slots.{BlockView}
 use Rattle.row_pages.specs.Rows.{numbers_of}
-use Rattle.graph_version.specs.Versions.{VersionView, is_in}
-use Rattle.block_pool.specs.Pools.{Free, Granted, Used, retired, is_free_at, is_born_at, marked, changed}
+use Rattle.graph_version.specs.Versions.{VersionView}
+use Rattle.block_reclamation.specs.Status.{is_listed}
+use Rattle.block_pool.specs.Pools.{retired, is_free_at, marked, changed, is_used_at}
+use Rattle.block_reclamation.specs.declared.status.BlockStatus.TheVariants.{Free, Granted, Used}
 use Rattle.epoch_blocks.proofs.Lists.{all_listed}
 use Rattle.store_steps.specs.Journal.{Entry, Applied, Ledger, is_legal, after_entry, entered}
 use Rattle.store_steps.specs.Desks.{DeskView, IsDesk, IsAppliedTo, IsAccepted, desk_after}
@@ -21,19 +23,19 @@ not_if true h = sym (h refl)
 not_if false h = refl
 
 -- a batch that takes what isn't free, or drops what isn't the last version's, isn't entered
-pub taken_is_free : (l : Ledger) (batch : List NamedOp) (taken dropped : List ℕ) (n : ℕ) → is_in n taken ≡ true
+pub taken_is_free : (l : Ledger) (batch : List NamedOp) (taken dropped : List ℕ) (n : ℕ) → is_listed n taken ≡ true
     → is_free_at l.pool n ≡ false → entered l (Applied batch taken dropped) ≡ None
 taken_is_free l batch taken dropped n is none =
     not_entered l (Applied batch taken dropped)
     (not_if (is_legal l (Applied batch taken dropped)) (λ legal. sym none
     ∙ all_listed (is_free_at l.pool) taken n (legal_batch l batch taken dropped legal).free is))
 
-pub dropped_is_born : (l : Ledger) (batch : List NamedOp) (taken dropped : List ℕ) (n : ℕ) → is_in n dropped ≡ true
-    → is_born_at l.pool n ≡ false → entered l (Applied batch taken dropped) ≡ None
+pub dropped_is_born : (l : Ledger) (batch : List NamedOp) (taken dropped : List ℕ) (n : ℕ) → is_listed n dropped ≡ true
+    → is_used_at l.pool n ≡ false → entered l (Applied batch taken dropped) ≡ None
 dropped_is_born l batch taken dropped n is none =
     not_entered l (Applied batch taken dropped)
     (not_if (is_legal l (Applied batch taken dropped)) (λ legal. sym none
-    ∙ all_listed (is_born_at l.pool) dropped n (legal_batch l batch taken dropped legal).born is))
+    ∙ all_listed (is_used_at l.pool) dropped n (legal_batch l batch taken dropped legal).born is))
 
 module _ (old : DeskView) (ops : List NamedOp) (numbers : List ℕ) (version : VersionView) (taken : List ℕ)
     (dropped : List BlockView) (unused : List ℕ) (desk : IsDesk old)

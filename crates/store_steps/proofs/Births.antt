@@ -5,64 +5,65 @@ use Rattle.std.specs.Prelude.{slice_get}
 use Rattle.std.specs.declared.option.Option.{Option, TheVariants.None, TheVariants.Some}
 use Rattle.edge_block.specs.Slots.{BlockView}
 use Rattle.row_pages.specs.Rows.{row_of, blocks_of, numbers_of}
-use Rattle.graph_version.specs.Versions.{is_in}
-use Rattle.block_pool.specs.Pools.{Status, Free, is_free, passes}
+use Rattle.block_reclamation.specs.Status.{is_listed, is_free, is_at}
+use Rattle.block_reclamation.specs.declared.status.BlockStatus.{BlockStatus}
+use Rattle.block_reclamation.specs.declared.status.BlockStatus.TheVariants.{Free}
 use Rattle.store_steps.{specs.Desks.birth_of, specs.Desks.birth_at, proofs.OneNumber.number_after}
 
 -- One number
 
-abbrev pub birth_in : Option Status → ℕ
+abbrev pub birth_in : Option BlockStatus → ℕ
 birth_in None = 0
 birth_in (Some s) = birth_of s
 
-pub birth_from : (pool : List Status) (m : ℕ) → birth_at pool m ≡ birth_in (slice_get pool m)
+pub birth_from : (pool : List BlockStatus) (m : ℕ) → birth_at pool m ≡ birth_in (slice_get pool m)
 birth_from [] m = refl
 birth_from (s ∷ pool) zero = refl
 birth_from (s ∷ pool) (suc m) = birth_from pool m
 
 -- what version n takes is born with it
-pub birth_taken : (n : ℕ) (p : Option Status) (dropped : Bool) → passes is_free p ≡ true
+pub birth_taken : (n : ℕ) (p : Option BlockStatus) (dropped : Bool) → is_at is_free p ≡ true
     → birth_in (number_after n p true dropped) ≡ n
 birth_taken n None dropped free = cc
 birth_taken n (Some s) true free = refl
 birth_taken n (Some s) false free = refl
 
 -- and all else keeps its birth, also what it drops
-pub birth_stays : (n : ℕ) (p : Option Status) (dropped : Bool) → birth_in (number_after n p false dropped) ≡ birth_in p
+pub birth_stays : (n : ℕ) (p : Option BlockStatus) (dropped : Bool) → birth_in (number_after n p false dropped) ≡ birth_in p
 birth_stays n (Some Free) true = refl
 birth_stays n _ true = refl
 birth_stays n p false = refl
 
 -- Rows
 
-pub births_of : (pool : List Status) (bs : List BlockView)
+pub births_of : (pool : List BlockStatus) (bs : List BlockView)
     → map (birth_at pool) (numbers_of bs) ≡ map (λ b. birth_at pool b.number) bs
 births_of pool [] = refl
 births_of pool (b ∷ bs) = ap (λ births. birth_at pool b.number ∷ births) (births_of pool bs)
 
-in_first : (m : ℕ) (bs cs : List BlockView) → is_in m (numbers_of bs) ≡ true → is_in m (numbers_of (bs ++ cs)) ≡ true
+in_first : (m : ℕ) (bs cs : List BlockView) → is_listed m (numbers_of bs) ≡ true → is_listed m (numbers_of (bs ++ cs)) ≡ true
 in_first m [] cs is = cc
 in_first m (b ∷ bs) cs is =
-    elim (b.number == m) as (λ t. (t || is_in m (numbers_of bs)) ≡ true → (t || is_in m (numbers_of (bs ++ cs))) ≡ true) [
+    elim (b.number == m) as (λ t. (t || is_listed m (numbers_of bs)) ≡ true → (t || is_listed m (numbers_of (bs ++ cs))) ≡ true) [
       | true ↦ λ _. refl
       | false ↦ λ rest. in_first m bs cs rest
     ] is
 
-in_second : (m : ℕ) (bs cs : List BlockView) → is_in m (numbers_of cs) ≡ true → is_in m (numbers_of (bs ++ cs)) ≡ true
+in_second : (m : ℕ) (bs cs : List BlockView) → is_listed m (numbers_of cs) ≡ true → is_listed m (numbers_of (bs ++ cs)) ≡ true
 in_second m [] cs is = is
-in_second m (b ∷ bs) cs is = or_right (b.number == m) (is_in m (numbers_of (bs ++ cs))) (in_second m bs cs is)
+in_second m (b ∷ bs) cs is = or_right (b.number == m) (is_listed m (numbers_of (bs ++ cs))) (in_second m bs cs is)
 
 -- the number of a block of a row is one of all rows
 pub number_of_row : (bs : List BlockView) (k : ℕ) (d : BlockView) → k < length bs
-    → is_in (get_or bs k d).number (numbers_of bs) ≡ true
+    → is_listed (get_or bs k d).number (numbers_of bs) ≡ true
 number_of_row [] k d h = absurd (omega arith)
 number_of_row (b ∷ bs) zero d h = let same : (b.number == b.number) ≡ true = eq-eqb b.number b.number refl in rw same refl
 number_of_row (b ∷ bs) (suc k) d h =
-    or_right (b.number == (get_or bs k d).number) (is_in (get_or bs k d).number (numbers_of bs))
+    or_right (b.number == (get_or bs k d).number) (is_listed (get_or bs k d).number (numbers_of bs))
     (number_of_row bs k d (omega arith))
 
-pub row_listed : (rows : List (List BlockView)) (source m : ℕ) → is_in m (numbers_of (row_of rows source)) ≡ true
-    → is_in m (numbers_of (blocks_of rows)) ≡ true
+pub row_listed : (rows : List (List BlockView)) (source m : ℕ) → is_listed m (numbers_of (row_of rows source)) ≡ true
+    → is_listed m (numbers_of (blocks_of rows)) ≡ true
 row_listed [] source m is = cc
 row_listed (row ∷ rows) zero m is = in_first m row (blocks_of rows) is
 row_listed (row ∷ rows) (suc source) m is = in_second m row (blocks_of rows) (row_listed rows source m is)

@@ -2,32 +2,32 @@
 use Rattle.std.proofs.Common.{◌≡◌, ℕ, ◌==◌, true, false, List, [], ◌∷◌, set, refl, sym, ap, ◌∙◌}
 use Rattle.std.specs.{List.list_all, Prelude.slice_get, Prelude.Bool}
 use Rattle.std.proofs.lemmas.Bool.{eq-eqb, true≢false}
-use Rattle.block_pool.specs.Pools.{Status, passes}
-use Rattle.graph_version.specs.Versions.{is_in}
+use Rattle.block_reclamation.specs.declared.status.BlockStatus.{BlockStatus}
+use Rattle.block_reclamation.specs.Status.{is_at, is_listed}
 use Rattle.epoch_blocks.specs.Blocks.{all_differ}
 use Rattle.epoch_blocks.proofs.Lists.{set_else, and_left, and_right, or_false}
 use Rattle.store_steps.proofs.NumberLists.{differ_head, differ_tail}
 
 -- numbers whose statuses pass a test, and that are each there once: they may be moved one after another
-pub record AreMovable (test : Status → Bool) (ns : List ℕ) (pool : List Status) : Type 0 where
-  pub pass : list_all (λ n. passes test (slice_get pool n)) ns ≡ true
+pub record AreMovable (test : BlockStatus → Bool) (ns : List ℕ) (pool : List BlockStatus) : Type 0 where
+  pub pass : list_all (λ n. is_at test (slice_get pool n)) ns ≡ true
   pub apart : all_differ ns ≡ true
 
 -- numbers that pass and are different do so yet, once another one was moved
-still_pass : (test : Status → Bool) (n : ℕ) (ns : List ℕ) (s : Status) (pool : List Status)
-    → list_all (λ m. passes test (slice_get pool m)) ns ≡ true → is_in n ns ≡ false
-    → list_all (λ m. passes test (slice_get (set pool n s) m)) ns ≡ true
+still_pass : (test : BlockStatus → Bool) (n : ℕ) (ns : List ℕ) (s : BlockStatus) (pool : List BlockStatus)
+    → list_all (λ m. is_at test (slice_get pool m)) ns ≡ true → is_listed n ns ≡ false
+    → list_all (λ m. is_at test (slice_get (set pool n s) m)) ns ≡ true
 still_pass test n [] s pool pass apart = refl
 still_pass test n (m ∷ ns) s pool pass apart =
-    let parts : ((m == n) ≡ false) × (is_in n ns ≡ false) = or_false (m == n) (is_in n ns) apart in
-    let same : passes test (slice_get (set pool n s) m) ≡ passes test (slice_get pool m) =
-    ap (passes test) (set_else pool n m s (λ e. absurd (true≢false (sym (eq-eqb m n e) ∙ parts.0)))) in
-    let here : passes test (slice_get (set pool n s) m) ≡ true = same ∙ and_left _ _ pass in
+    let parts : ((m == n) ≡ false) × (is_listed n ns ≡ false) = or_false (m == n) (is_listed n ns) apart in
+    let same : is_at test (slice_get (set pool n s) m) ≡ is_at test (slice_get pool m) =
+    ap (is_at test) (set_else pool n m s (λ e. absurd (true≢false (sym (eq-eqb m n e) ∙ parts.0)))) in
+    let here : is_at test (slice_get (set pool n s) m) ≡ true = same ∙ and_left _ _ pass in
     rw here (still_pass test n ns s pool (and_right _ _ pass) parts.1)
 
 -- the first may be moved, and then the rest, whatever the first becomes
-pub moving : (test : Status → Bool) (n : ℕ) (ns : List ℕ) (s : Status) (pool : List Status) → AreMovable test (n ∷ ns) pool
-    → (passes test (slice_get pool n) ≡ true) × AreMovable test ns (set pool n s)
+pub moving : (test : BlockStatus → Bool) (n : ℕ) (ns : List ℕ) (s : BlockStatus) (pool : List BlockStatus) → AreMovable test (n ∷ ns) pool
+    → (is_at test (slice_get pool n) ≡ true) × AreMovable test ns (set pool n s)
 moving test n ns s pool m = (
   and_left _ _ m.pass,
   record { pass = still_pass test n ns s pool (and_right _ _ m.pass) (differ_head n ns m.apart); apart = differ_tail n ns m.apart },

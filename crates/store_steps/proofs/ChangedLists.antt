@@ -3,8 +3,10 @@ use Rattle.std.proofs.Common.{◌≡◌, ℕ, zero, suc, ◌==◌, Bool, true, f
 use Rattle.std.proofs.{Common.subst, Common.◌∙◌, Common.arith, lemmas.Bool.eq-eqb, lemmas.Bool.eqb-true, lemmas.Bool.true≢false}
 use Rattle.std.{proofs.lemmas.List.length-set, specs.Option.option_map, specs.Prelude.slice_get, specs.Prelude.if◌then◌else◌}
 use Rattle.std.specs.declared.option.Option.{Option, TheVariants.None, TheVariants.Some}
-use Rattle.graph_version.specs.Versions.{is_in}
-use Rattle.block_pool.specs.Pools.{Status, Granted, marked, changed}
+use Rattle.block_reclamation.specs.Status.{is_listed}
+use Rattle.block_pool.specs.Pools.{marked, changed}
+use Rattle.block_reclamation.specs.declared.status.BlockStatus.{BlockStatus}
+use Rattle.block_reclamation.specs.declared.status.BlockStatus.TheVariants.{Granted}
 use Rattle.epoch_blocks.specs.Blocks.{all_differ}
 use Rattle.store_steps.proofs.NumberLists.{apart_test, differ_head, differ_tail}
 
@@ -42,12 +44,12 @@ twice false false x o = refl
 
 -- what stands at a place, once some are marked
 pub marked_at : {A : Type 0} (ns : List ℕ) (x : A) (xs : List A) (n : ℕ)
-    → slice_get (marked ns x xs) n ≡ (if is_in n ns then option_map (λ _. x) (slice_get xs n) else slice_get xs n)
+    → slice_get (marked ns x xs) n ≡ (if is_listed n ns then option_map (λ _. x) (slice_get xs n) else slice_get xs n)
 marked_at [] x xs n = refl
 marked_at (m ∷ ns) x xs n =
     marked_at ns x (set xs m x) n
-    ∙ ap (changed_if (λ _. x) (is_in n ns)) (set_at (λ _. x) xs m n x)
-    ∙ twice (m == n) (is_in n ns) x (slice_get xs n)
+    ∙ ap (changed_if (λ _. x) (is_listed n ns)) (set_at (λ _. x) xs m n x)
+    ∙ twice (m == n) (is_listed n ns) x (slice_get xs n)
 
 once : {A : Type 0} (f : A → A) (a b : Bool) (o : Option A) → (a ≡ true → b ≡ false)
     → changed_if f b (changed_if f a o) ≡ changed_if f (a || b) o
@@ -57,16 +59,16 @@ once f false true o apart = refl
 once f false false o apart = refl
 
 -- what stands at a number, once different numbers' statuses are changed
-pub changed_at : (f : Status → Status) (ns : List ℕ) (pool : List Status) (n : ℕ) → all_differ ns ≡ true
-    → slice_get (changed f ns pool) n ≡ (if is_in n ns then option_map f (slice_get pool n) else slice_get pool n)
+pub changed_at : (f : BlockStatus → BlockStatus) (ns : List ℕ) (pool : List BlockStatus) (n : ℕ) → all_differ ns ≡ true
+    → slice_get (changed f ns pool) n ≡ (if is_listed n ns then option_map f (slice_get pool n) else slice_get pool n)
 changed_at f [] pool n apart = refl
 changed_at f (m ∷ ns) pool n apart =
     changed_at f ns (set pool m (f (get_or pool m Granted))) n (differ_tail m ns apart)
-    ∙ ap (changed_if f (is_in n ns)) (set_at f pool m n Granted)
-    ∙ once f (m == n) (is_in n ns) (slice_get pool n) (λ e. subst (λ x. is_in x ns
+    ∙ ap (changed_if f (is_listed n ns)) (set_at f pool m n Granted)
+    ∙ once f (m == n) (is_listed n ns) (slice_get pool n) (λ e. subst (λ x. is_listed x ns
     ≡ false) (eqb-true m n e) (differ_head m ns apart))
 
-pub length-changed : (f : Status → Status) (ns : List ℕ) (pool : List Status) → length (changed f ns pool) ≡ length pool
+pub length-changed : (f : BlockStatus → BlockStatus) (ns : List ℕ) (pool : List BlockStatus) → length (changed f ns pool) ≡ length pool
 length-changed f [] pool = refl
 length-changed f (m ∷ ns) pool = length-changed f ns (set pool m (f (get_or pool m Granted)))
     ∙ length-set pool m (f (get_or pool m Granted))

@@ -7,9 +7,11 @@ use Rattle.std.{specs.declared.option.Option.TheVariants.Some, proofs.lemmas.Lis
 use Rattle.std.proofs.lemmas.{List.length-map, Bool.eq-eqb, Bool.or_right, Bool.Decides.nat_tests, Option.slice_get-map}
 use Rattle.edge_block.specs.Slots.{BlockView}
 use Rattle.row_pages.specs.Rows.{row_of, numbers_of}
-use Rattle.graph_version.specs.Versions.{VersionView, is_in}
-use Rattle.pin_copy.specs.declared.copies.PinCopy.{PinCopy}
-use Rattle.block_pool.specs.Pools.{Status, Free, Used, Retired, is_retired, is_past, is_born, passes, recycled}
+use Rattle.graph_version.specs.Versions.{VersionView}
+use Rattle.block_reclamation.specs.Status.{is_listed, is_retired, is_reclaimable, is_used, is_at, recycled}
+use Rattle.block_reclamation.specs.declared.copies.PinCopy.{PinCopy}
+use Rattle.block_reclamation.specs.declared.status.BlockStatus.{BlockStatus}
+use Rattle.block_reclamation.specs.declared.status.BlockStatus.TheVariants.{Free, Used, Retired}
 use Rattle.block_pool.proofs.Tallies.{count_more}
 use Rattle.store_steps.specs.Journal.{Collected, Ledger, opened_ledger, is_legal, after_entry, entered, replay}
 use Rattle.store_steps.specs.Desks.{DeskView, IsDesk, IsCollected, birth_at, births_in, ledger_of, collections}
@@ -17,47 +19,47 @@ use Rattle.store_steps.proofs.{NumberLists.apart_test, Accepting.replay_more}
 use Rattle.store_steps.proofs.Births.{birth_in, birth_from, row_listed}
 
 -- one status is freed, or retired still, or was never retired
-past_one : (copy : PinCopy) (x : Status) → cond (is_past copy x) 1 0 + cond (is_retired (recycled copy x)) 1 0
+past_one : (copy : PinCopy) (x : BlockStatus) → cond (is_reclaimable copy x) 1 0 + cond (is_retired (recycled copy x)) 1 0
     ≡ cond (is_retired x) 1 0
 past_one copy (Retired b v) =
-    elim (is_past copy (Retired b v)) as (λ t. cond t 1 0 + cond (is_retired (if t then Free else Retired b v)) 1 0
+    elim (is_reclaimable copy (Retired b v)) as (λ t. cond t 1 0 + cond (is_retired (if t then Free else Retired b v)) 1 0
     ≡ 1) [ true ↦ refl | false ↦ refl ]
 past_one copy _ = refl
 
 -- what is freed and what is left are the retired blocks
-pub past_and_left : (copy : PinCopy) (xs : List Status) → count_by (is_past copy) xs + count_by is_retired (map (recycled copy) xs)
+pub past_and_left : (copy : PinCopy) (xs : List BlockStatus) → count_by (is_reclaimable copy) xs + count_by is_retired (map (recycled copy) xs)
     ≡ count_by is_retired xs
 past_and_left copy [] = omega arith
 past_and_left copy (x ∷ xs) =
-    let a = count_more (is_past copy) x xs in
+    let a = count_more (is_reclaimable copy) x xs in
     let b = count_more is_retired (recycled copy x) (map (recycled copy) xs) in
     let c = count_more is_retired x xs in
     let rest = past_and_left copy xs in
     let one = past_one copy x in
     omega arith
 
-same_if_none : (copy : PinCopy) (xs : List Status) → count_by (is_past copy) xs ≡ 0 → map (recycled copy) xs ≡ xs
+same_if_none : (copy : PinCopy) (xs : List BlockStatus) → count_by (is_reclaimable copy) xs ≡ 0 → map (recycled copy) xs ≡ xs
 same_if_none copy [] none = refl
 same_if_none copy (x ∷ xs) none =
-    let a = count_more (is_past copy) x xs in
+    let a = count_more (is_reclaimable copy) x xs in
     let rest : map (recycled copy) xs ≡ xs = same_if_none copy xs (omega arith) in
-    let here : cond {A = ℕ} (is_past copy x) 1 0 ≡ 0 = omega arith in
-    let stays : recycled copy x ≡ x = elim (is_past copy x) as (λ t. cond {A = ℕ} t 1 0 ≡ 0
+    let here : cond {A = ℕ} (is_reclaimable copy x) 1 0 ≡ 0 = omega arith in
+    let stays : recycled copy x ≡ x = elim (is_reclaimable copy x) as (λ t. cond {A = ℕ} t 1 0 ≡ 0
     → (if t then Free else x) ≡ x) [ true ↦ λ e. absurd (omega arith) | false ↦ λ e. refl ] here in
     cc
 
-born_recycled : (copy : PinCopy) (o : Option Status) → passes is_born (option_map (recycled copy) o) ≡ passes is_born o
+born_recycled : (copy : PinCopy) (o : Option BlockStatus) → is_at is_used (option_map (recycled copy) o) ≡ is_at is_used o
 born_recycled copy (Some (Retired b v)) =
-    elim (is_past copy (Retired b v)) as (λ t. passes is_born (Some (if t then Free else Retired b v))
+    elim (is_reclaimable copy (Retired b v)) as (λ t. is_at is_used (Some (if t then Free else Retired b v))
     ≡ false) [ true ↦ refl | false ↦ refl ]
 born_recycled copy _ = refl
 
-legal_if : (l : Ledger) (copy : PinCopy) (count : ℕ) → copy.last ≤ length l.batches → 0 < count → count ≡ count_by (is_past copy) l.pool
+legal_if : (l : Ledger) (copy : PinCopy) (count : ℕ) → copy.last ≤ length l.batches → 0 < count → count ≡ count_by (is_reclaimable copy) l.pool
     → is_legal l (Collected copy count) ≡ true
 legal_if l copy count low some is =
     let a : nat_le copy.last (length l.batches) ≡ true = grind (arith, nat_tests) in
     let b : nat_lt 0 count ≡ true = grind (arith, nat_tests) in
-    let c : (count == count_by (is_past copy) l.pool) ≡ true = eq-eqb count (count_by (is_past copy) l.pool) is in
+    let c : (count == count_by (is_reclaimable copy) l.pool) ≡ true = eq-eqb count (count_by (is_reclaimable copy) l.pool) is in
     rw (a, b, c) refl
 
 -- the desk after a collection
@@ -65,11 +67,11 @@ abbrev pub desk_collected : DeskView → PinCopy → DeskView
 desk_collected d copy = record {
   opened = d.opened;
   last = d.last;
-  journal = d.journal ++ collections copy (count_by (is_past copy) d.pool);
+  journal = d.journal ++ collections copy (count_by (is_reclaimable copy) d.pool);
   pool = map (recycled copy) d.pool;
 }
 
-replays_on : (d : DeskView) (copy : PinCopy) → IsDesk d → copy.last ≤ length d.last.batches → (n : ℕ) → count_by (is_past copy) d.pool ≡ n
+replays_on : (d : DeskView) (copy : PinCopy) → IsDesk d → copy.last ≤ length d.last.batches → (n : ℕ) → count_by (is_reclaimable copy) d.pool ≡ n
     → replay (d.journal ++ collections copy n) (opened_ledger (length d.pool) d.opened)
     ≡ Some (record { batches = d.last.batches; pool = map (recycled copy) d.pool })
 replays_on d copy desk low zero is =
@@ -87,10 +89,10 @@ pub collected_desk : (d : DeskView) (copy : PinCopy) → IsDesk d → copy.last 
 collected_desk d copy desk low = record {
   version = desk.version;
   replays =
-      ap (λ n. replay (d.journal ++ collections copy (count_by (is_past copy) d.pool)) (opened_ledger n d.opened))
+      ap (λ n. replay (d.journal ++ collections copy (count_by (is_reclaimable copy) d.pool)) (opened_ledger n d.opened))
       (length-map d.pool (recycled copy))
-      ∙ replays_on d copy desk low (count_by (is_past copy) d.pool) refl;
-  listed = λ n. ap (passes is_born) (slice_get-map (recycled copy) d.pool n) ∙ born_recycled copy (slice_get d.pool n)
+      ∙ replays_on d copy desk low (count_by (is_reclaimable copy) d.pool) refl;
+  listed = λ n. ap (is_at is_used) (slice_get-map (recycled copy) d.pool n) ∙ born_recycled copy (slice_get d.pool n)
       ∙ desk.listed n;
 }
 
@@ -110,19 +112,19 @@ collected_is_desk d e copy desk low is = subst IsDesk (sym (is_desk_collected d 
 
 -- Births: none of the last version's blocks is recycled
 
-birth_recycled : (copy : PinCopy) (p : Option Status) → passes is_born p ≡ true
+birth_recycled : (copy : PinCopy) (p : Option BlockStatus) → is_at is_used p ≡ true
     → birth_in (option_map (recycled copy) p) ≡ birth_in p
 birth_recycled copy (Some (Used b)) born = refl
 birth_recycled copy _ born = cc
 
-same_births : (p q : List Status) (bs : List BlockView)
-    → ((m : ℕ) → is_in m (numbers_of bs) ≡ true → birth_at p m ≡ birth_at q m)
+same_births : (p q : List BlockStatus) (bs : List BlockView)
+    → ((m : ℕ) → is_listed m (numbers_of bs) ≡ true → birth_at p m ≡ birth_at q m)
     → map (λ b. birth_at p b.number) bs ≡ map (λ b. birth_at q b.number) bs
 same_births p q [] same = refl
 same_births p q (b ∷ bs) same =
     let here : (b.number == b.number) ≡ true = eq-eqb b.number b.number refl in
     ap₂ (λ x xs. x ∷ xs) (same b.number (rw here refl))
-    (same_births p q bs (λ m is. same m (or_right (b.number == m) (is_in m (numbers_of bs)) is)))
+    (same_births p q bs (λ m is. same m (or_right (b.number == m) (is_listed m (numbers_of bs)) is)))
 
 pub births_collected : (d e : DeskView) (copy : PinCopy) → IsDesk d → IsCollected d copy e
     → (source : ℕ) → births_in e source ≡ births_in d source

@@ -6,46 +6,47 @@ use Rattle.std.specs.{List.enumerate_from, Option.option_map, Option.option_and_
 use Rattle.std.specs.declared.option.Option.{Option, TheVariants.None, TheVariants.Some}
 use Rattle.std.proofs.lemmas.{Bool.eq-eqb, Bool.true≢false, Bool.or_right, Option.slice_get-map}
 use Rattle.block_pool.proofs.Grants.{length-marked}
-use Rattle.graph_version.specs.Versions.{is_in}
-use Rattle.block_pool.specs.Pools.{Status as PoolStatus, Free as PoolFree, Granted as PoolGranted, Used as PoolUsed}
-use Rattle.block_pool.specs.Pools.{Retired as PoolRetired, is_past, recycled as pool_recycled, passes, marked}
-use Rattle.pin_copy.specs.{declared.copies.PinCopy.PinCopy, Copies.needs}
-use Rattle.epoch_blocks.specs.{declared.states.Status.Status, Blocks.recycled, Blocks.put, Blocks.all_differ}
-use Rattle.epoch_blocks.specs.declared.states.Status.TheVariants.{Free, Fresh, Used, Retired}
+use Rattle.block_reclamation.specs.Status.{is_listed, is_reclaimable, recycled, is_at}
+use Rattle.block_reclamation.specs.declared.status.BlockStatus.{BlockStatus}
+use Rattle.block_reclamation.specs.declared.status.BlockStatus.TheVariants.{Free}
+use Rattle.block_pool.specs.Pools.{marked}
+use Rattle.block_reclamation.specs.declared.copies.PinCopy.{PinCopy}
+use Rattle.epoch_blocks.specs.Blocks.{put, all_differ, reclaimed}
 use Rattle.epoch_core.specs.{declared.events.Event.TheVariants.Recycle, Worlds.World, Machine.step, Machine.with_status}
 use Rattle.epoch_blocks.proofs.Lists.{set_else}
-use Rattle.store_steps.specs.{Desks.DeskView, Desks.IsCollected, Shown.SameStatus, Shown.ShowsWorld, Steps.all_done}
+use Rattle.store_steps.specs.{Desks.DeskView, Desks.IsCollected, Shown.ShowsWorld, Steps.all_done}
 use Rattle.store_steps.{specs.Steps.past_numbers, specs.Steps.recycling, specs.Steps.TakesAt, proofs.NumberLists.apart_test}
-use Rattle.store_steps.proofs.{NumberLists.differ_head, NumberLists.differ_tail, Filling.step_then, ChangedLists.marked_at}
+use Rattle.store_steps.proofs.{NumberLists.differ_head, NumberLists.differ_tail, Filling.step_then}
+use Rattle.store_steps.proofs.ChangedLists.{marked_at, same_list}
 
 -- whether the machine recycles a block by the copy
-abbrev goes : PinCopy → Option Status → Bool
-goes copy o = is_some (option_and_then (recycled copy) o)
+abbrev goes : PinCopy → Option BlockStatus → Bool
+goes copy o = is_some (option_and_then (reclaimed copy) o)
 
-freed : (t : Bool) → is_some (if t then None else Some Free) ≡ true → (if t then None else Some Free) ≡ Some Free
-freed true is = cc
-freed false is = refl
+freed : (t : Bool) → is_some (if t then Some Free else None) ≡ true → (if t then Some Free else None) ≡ Some Free
+freed true is = refl
+freed false is = cc
 
 -- what goes is free then
-goes_free : (copy : PinCopy) (o : Option Status) → goes copy o ≡ true → option_and_then (recycled copy) o ≡ Some Free
-goes_free copy (Some (Retired birth since)) is = freed (needs copy birth since) is
-goes_free copy _ is = cc
+goes_free : (copy : PinCopy) (o : Option BlockStatus) → goes copy o ≡ true → option_and_then (reclaimed copy) o ≡ Some Free
+goes_free copy None is = cc
+goes_free copy (Some s) is = freed (is_reclaimable copy s) is
 
 recycle_done : (w : World) (n : ℕ) → goes w.copy (slice_get w.status n) ≡ true
     → step w (Recycle n) ≡ Some (with_status w (set w.status n Free))
 recycle_done w n is = ap (λ o. option_map (with_status w) (put w.status n o)) (goes_free w.copy (slice_get w.status n) is)
 
-none_if : (o : Option Status) → is_some o ≡ false → o ≡ None
+none_if : (o : Option BlockStatus) → is_some o ≡ false → o ≡ None
 none_if None is = refl
 none_if (Some s) is = cc
 
 -- what doesn't go isn't recycled
 recycle_skipped : (w : World) (n : ℕ) → goes w.copy (slice_get w.status n) ≡ false → step w (Recycle n) ≡ None
 recycle_skipped w n is = ap (λ o. option_map (with_status w) (put w.status n o))
-    (none_if (option_and_then (recycled w.copy) (slice_get w.status n)) is)
+    (none_if (option_and_then (reclaimed w.copy) (slice_get w.status n)) is)
 
 -- Recycle of different blocks that go
-recycles : (ns : List ℕ) (w : World) → ((n : ℕ) → is_in n ns ≡ true → goes w.copy (slice_get w.status n) ≡ true)
+recycles : (ns : List ℕ) (w : World) → ((n : ℕ) → is_listed n ns ≡ true → goes w.copy (slice_get w.status n) ≡ true)
     → all_differ ns ≡ true
     → all_done (map Recycle ns) w ≡ Some (with_status w (marked ns Free w.status))
 recycles [] w go apart = refl
@@ -55,18 +56,18 @@ recycles (n ∷ ns) w go apart =
     step_then (Recycle n) (map Recycle ns) w w1 (recycle_done w n (go n (rw here refl)))
     ∙ recycles ns w1
     (λ m is.
-    let ne : m ≢ n = λ e. absurd (true≢false (sym is ∙ ap (λ x. is_in x ns) e ∙ differ_head n ns apart)) in
-    ap (goes w.copy) (set_else w.status n m Free ne) ∙ go m (or_right (n == m) (is_in m ns) is))
+    let ne : m ≢ n = λ e. absurd (true≢false (sym is ∙ ap (λ x. is_listed x ns) e ∙ differ_head n ns apart)) in
+    ap (goes w.copy) (set_else w.status n m Free ne) ∙ go m (or_right (n == m) (is_listed m ns) is))
     (differ_tail n ns apart)
 
 -- The numbers that the copy frees
 
-abbrev past_from : PinCopy → ℕ → List PoolStatus → List ℕ
-past_from copy k pool = map (λ p. p.0) (filter (λ p. is_past copy p.1) (enumerate_from k pool))
+abbrev past_from : PinCopy → ℕ → List BlockStatus → List ℕ
+past_from copy k pool = map (λ p. p.0) (filter (λ p. is_reclaimable copy p.1) (enumerate_from k pool))
 
-in_cond : (t : Bool) (k n : ℕ) (rest : List (ℕ × PoolStatus)) (s : PoolStatus)
-    → is_in n (map (λ p. p.0) (if t then (k, s) ∷ rest else rest))
-    ≡ (if t then (k == n) || is_in n (map (λ p. p.0) rest) else is_in n (map (λ p. p.0) rest))
+in_cond : (t : Bool) (k n : ℕ) (rest : List (ℕ × BlockStatus)) (s : BlockStatus)
+    → is_listed n (map (λ p. p.0) (if t then (k, s) ∷ rest else rest))
+    ≡ (if t then (k == n) || is_listed n (map (λ p. p.0) rest) else is_listed n (map (λ p. p.0) rest))
 in_cond true k n rest s = refl
 in_cond false k n rest s = refl
 
@@ -80,87 +81,77 @@ hit true true r e f = refl
 hit true false r e f = cc
 hit false u r e f = f
 
-past_below : (copy : PinCopy) (k n : ℕ) (pool : List PoolStatus) → n < k → is_in n (past_from copy k pool) ≡ false
+past_below : (copy : PinCopy) (k n : ℕ) (pool : List BlockStatus) → n < k → is_listed n (past_from copy k pool) ≡ false
 past_below copy k n [] h = refl
 past_below copy k n (s ∷ pool) h =
-    in_cond (is_past copy s) k n (filter (λ p. is_past copy p.1) (enumerate_from (k + 1) pool)) s
-    ∙ skip (is_past copy s) (k == n) _ (apart_test k n (λ e. absurd (omega arith)))
+    in_cond (is_reclaimable copy s) k n (filter (λ p. is_reclaimable copy p.1) (enumerate_from (k + 1) pool)) s
+    ∙ skip (is_reclaimable copy s) (k == n) _ (apart_test k n (λ e. absurd (omega arith)))
     ∙ past_below copy (k + 1) n pool (omega arith)
 
-past_at : (copy : PinCopy) (k n j : ℕ) (pool : List PoolStatus) → n ≡ k + j
-    → is_in n (past_from copy k pool) ≡ passes (is_past copy) (slice_get pool j)
+past_at : (copy : PinCopy) (k n j : ℕ) (pool : List BlockStatus) → n ≡ k + j
+    → is_listed n (past_from copy k pool) ≡ is_at (is_reclaimable copy) (slice_get pool j)
 past_at copy k n j [] e = refl
 past_at copy k n zero (s ∷ pool) e =
-    in_cond (is_past copy s) k n (filter (λ p. is_past copy p.1) (enumerate_from (k + 1) pool)) s
-    ∙ hit (is_past copy s) (k == n) _ (eq-eqb k n (omega arith)) (past_below copy (k + 1) n pool (omega arith))
+    in_cond (is_reclaimable copy s) k n (filter (λ p. is_reclaimable copy p.1) (enumerate_from (k + 1) pool)) s
+    ∙ hit (is_reclaimable copy s) (k == n) _ (eq-eqb k n (omega arith)) (past_below copy (k + 1) n pool (omega arith))
 past_at copy k n (suc j) (s ∷ pool) e =
-    in_cond (is_past copy s) k n (filter (λ p. is_past copy p.1) (enumerate_from (k + 1) pool)) s
-    ∙ skip (is_past copy s) (k == n) _ (apart_test k n (λ q. absurd (omega arith)))
+    in_cond (is_reclaimable copy s) k n (filter (λ p. is_reclaimable copy p.1) (enumerate_from (k + 1) pool)) s
+    ∙ skip (is_reclaimable copy s) (k == n) _ (apart_test k n (λ q. absurd (omega arith)))
     ∙ past_at copy (k + 1) n j pool (omega arith)
 
-past_apart : (copy : PinCopy) (k : ℕ) (pool : List PoolStatus) → all_differ (past_from copy k pool) ≡ true
+past_apart : (copy : PinCopy) (k : ℕ) (pool : List BlockStatus) → all_differ (past_from copy k pool) ≡ true
 past_apart copy k [] = refl
 past_apart copy k (s ∷ pool) =
-    elim (is_past copy s) as (λ t. all_differ (map (λ p. p.0)
-    (if t then (k, s) ∷ filter (λ p. is_past copy p.1) (enumerate_from (k + 1) pool) else filter (λ p. is_past copy p.1)
+    elim (is_reclaimable copy s) as (λ t. all_differ (map (λ p. p.0)
+    (if t then (k, s) ∷ filter (λ p. is_reclaimable copy p.1) (enumerate_from (k + 1) pool) else filter (λ p. is_reclaimable copy p.1)
     (enumerate_from (k + 1) pool))) ≡ true) [
       | true ↦ rw (past_below copy (k + 1) k pool (omega arith)) (past_apart copy (k + 1) pool)
       | false ↦ past_apart copy (k + 1) pool
     ]
 
--- Both sides of one number
+-- One number
 
-goes_if : (t : Bool) → not t ≡ true → is_some (if t then None else Some Free) ≡ true
-goes_if true is = cc
-goes_if false is = refl
+some_if : (t : Bool) → is_some (if t then Some Free else None) ≡ t
+some_if true = refl
+some_if false = refl
 
--- what the pool frees goes in the machine
-goes_there : (copy : PinCopy) (p : Option PoolStatus) (s : Option Status) → SameStatus p s → passes (is_past copy) p ≡ true
-    → goes copy s ≡ true
-goes_there copy (Some (PoolRetired b v)) (Some (Retired birth since)) same is =
-    goes_if (needs copy birth since) (ap (λ m. not (needs copy m since)) same.0 ∙ ap (λ m. not (needs copy b m)) same.1 ∙ is)
-goes_there copy (Some (PoolRetired b v)) _ same is = absurd same
-goes_there copy _ s same is = cc
+-- exactly what the copy frees goes
+goes_is : (copy : PinCopy) (o : Option BlockStatus) → goes copy o ≡ is_at (is_reclaimable copy) o
+goes_is copy None = refl
+goes_is copy (Some s) = some_if (is_reclaimable copy s)
 
-freed_same : (p : PoolStatus) (s : Status) (t : Bool) → SameStatus (Some p) (Some s)
-    → SameStatus (Some (if t then PoolFree else p)) (if t then Some Free else Some s)
-freed_same p s true same = tt
-freed_same p s false same = same
+free_if : (t : Bool) (s : BlockStatus) → (let o : Option BlockStatus = Some (if t then Free else s) in o) ≡ (if t then Some Free else Some s)
+free_if true s = refl
+free_if false s = refl
 
-same_collected : (copy : PinCopy) (p : Option PoolStatus) (s : Option Status) → SameStatus p s
-    → SameStatus (option_map (pool_recycled copy) p) (if passes (is_past copy) p then option_map (λ _. Free) s else s)
-same_collected copy None None same = tt
-same_collected copy (Some p) (Some s) same = freed_same p s (is_past copy p) same
-same_collected copy _ _ same = absurd same
-
-stays_if : (copy : PinCopy) (b v birth since : ℕ) (t : Bool) → needs copy b v ≡ t → birth ≡ b → since ≡ v
-    → goes copy (if not t then Some Free else Some (Retired birth since)) ≡ false
-stays_if copy b v birth since true e born same =
-    ap (λ t. is_some (if t then None else Some Free)) (ap (λ m. needs copy m since) born ∙ ap (needs copy b) same ∙ e)
-stays_if copy b v birth since false e born same = refl
+same_collected : (copy : PinCopy) (o : Option BlockStatus)
+    → option_map (recycled copy) o ≡ (if is_at (is_reclaimable copy) o then option_map (λ _. Free) o else o)
+same_collected copy None = refl
+same_collected copy (Some s) = free_if (is_reclaimable copy s) s
 
 -- nothing goes any more
-none_goes : (copy : PinCopy) (p : Option PoolStatus) (s : Option Status) → SameStatus p s
-    → goes copy (if passes (is_past copy) p then option_map (λ _. Free) s else s) ≡ false
-none_goes copy None None same = refl
-none_goes copy (Some PoolFree) (Some Free) same = refl
-none_goes copy (Some PoolGranted) (Some Fresh) same = refl
-none_goes copy (Some (PoolUsed b)) (Some (Used birth)) same = refl
-none_goes copy (Some (PoolRetired b v)) (Some (Retired birth since)) same =
-    stays_if copy b v birth since (needs copy b v) refl same.0 same.1
-none_goes copy _ _ same = absurd same
+none_goes : (copy : PinCopy) (o : Option BlockStatus)
+    → goes copy (if is_at (is_reclaimable copy) o then option_map (λ _. Free) o else o) ≡ false
+none_goes copy None = refl
+none_goes copy (Some s) =
+    elim (is_reclaimable copy s) as (λ t. is_reclaimable copy s ≡ t → goes copy (if t then Some Free else Some s) ≡ false) [
+      | true ↦ λ _. refl
+      | false ↦ λ stays. goes_is copy (Some s) ∙ stays
+    ] refl
 
 -- the world after a collection
 abbrev collected_world : PinCopy → DeskView → World → World
 collected_world copy old w = with_status w (marked (past_numbers copy old.pool) Free w.status)
 
-status_collected : (copy : PinCopy) (old : DeskView) (w : World) (n : ℕ)
-    → slice_get (collected_world copy old w).status n ≡ (if passes (is_past copy) (slice_get old.pool n) then option_map
-    (λ _. Free) (slice_get w.status n) else slice_get w.status n)
-status_collected copy old w n =
+status_collected : (copy : PinCopy) (old : DeskView) (w : World) → ShowsWorld old w → (n : ℕ)
+    → slice_get (collected_world copy old w).status n ≡ (if is_at (is_reclaimable copy) (slice_get old.pool n) then option_map
+    (λ _. Free) (slice_get old.pool n) else slice_get old.pool n)
+status_collected copy old w shows n =
     marked_at (past_numbers copy old.pool) Free w.status n
     ∙ ap (λ t. if t then option_map (λ _. Free) (slice_get w.status n) else slice_get w.status n)
     (past_at copy 0 n n old.pool (omega arith))
+    ∙ ap (λ pool. if is_at (is_reclaimable copy) (slice_get old.pool n) then option_map (λ _. Free) (slice_get pool n)
+    else slice_get pool n) shows.status
 
 shows_collected : (old new : DeskView) (copy : PinCopy) (w : World) → IsCollected old copy new → ShowsWorld old w
     → ShowsWorld new (collected_world copy old w)
@@ -173,22 +164,19 @@ shows_collected old new copy w collected shows =
       batches = shows.batches;
       blocks = shows.blocks;
       edges = shows.edges;
-      status = λ n.
-          let pool : slice_get new.pool n ≡ option_map (pool_recycled copy) (slice_get old.pool n) =
-          ap (λ p. slice_get p n) collected.pool ∙ slice_get-map (pool_recycled copy) old.pool n in
-          subst (λ o. SameStatus o (slice_get (collected_world copy old w).status n)) (sym pool)
-          (subst (SameStatus (option_map (pool_recycled copy) (slice_get old.pool n))) (sym (status_collected copy old w n))
-          (same_collected copy (slice_get old.pool n) (slice_get w.status n) (shows.status n)));
+      status = same_list (collected_world copy old w).status new.pool (λ n.
+          status_collected copy old w shows n ∙ sym (same_collected copy (slice_get old.pool n))
+          ∙ sym (slice_get-map (recycled copy) old.pool n) ∙ ap (λ p. slice_get p n) (sym collected.pool));
       sizes = shows.sizes ∙ sym (length-marked (past_numbers copy old.pool) Free w.status);
     })
 
 pub collected_takes : (old new : DeskView) (copy : PinCopy) → IsCollected old copy new
     → TakesAt copy old (recycling copy old.pool) new
 collected_takes old new copy collected w shows at =
-    let go : (n : ℕ) → is_in n (past_numbers copy old.pool) ≡ true → goes w.copy (slice_get w.status n) ≡ true =
-    λ n is. subst (λ f. goes f (slice_get w.status n) ≡ true) (sym at)
-    (goes_there copy (slice_get old.pool n) (slice_get w.status n) (shows.status n)
-    (sym (past_at copy 0 n n old.pool (omega arith)) ∙ is)) in (
+    let go : (n : ℕ) → is_listed n (past_numbers copy old.pool) ≡ true → goes w.copy (slice_get w.status n) ≡ true =
+    λ n is.
+    ap (λ f. goes f (slice_get w.status n)) at ∙ ap (λ pool. goes copy (slice_get pool n)) shows.status
+    ∙ goes_is copy (slice_get old.pool n) ∙ sym (past_at copy 0 n n old.pool (omega arith)) ∙ is in (
       record {
         after = collected_world copy old w;
         done = recycles (past_numbers copy old.pool) w go (past_apart copy 0 old.pool);
@@ -199,6 +187,5 @@ collected_takes old new copy collected w shows at =
       },
       λ n. recycle_skipped (collected_world copy old w) n
           (ap (λ f. goes f (slice_get (collected_world copy old w).status n)) at
-          ∙ ap (goes copy) (status_collected copy old w n)
-          ∙ none_goes copy (slice_get old.pool n) (slice_get w.status n) (shows.status n)),
+          ∙ ap (goes copy) (status_collected copy old w shows n) ∙ none_goes copy (slice_get old.pool n)),
     )

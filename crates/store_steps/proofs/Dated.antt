@@ -4,10 +4,11 @@ use Rattle.std.proofs.{Common.length-append, Common.replicate, lemmas.Bool.true�
 use Rattle.std.specs.{Option.option_map, Option.option_and_then, Prelude.slice_get, Prelude.if◌then◌else◌}
 use Rattle.std.specs.declared.option.Option.{Option, TheVariants.None, TheVariants.Some}
 use Rattle.graph_model.specs.declared.batches.NamedOp.{NamedOp}
-use Rattle.graph_version.specs.Versions.{is_in}
-use Rattle.pin_copy.specs.declared.copies.PinCopy.{PinCopy}
-use Rattle.block_pool.specs.Pools.{Status, Free, Granted, Used, Retired, is_free, is_born, is_free_at, is_born_at, is_past, passes}
-use Rattle.block_pool.specs.Pools.{recycled}
+use Rattle.block_reclamation.specs.Status.{is_listed, is_free, is_used, is_reclaimable, is_at, recycled}
+use Rattle.block_reclamation.specs.declared.copies.PinCopy.{PinCopy}
+use Rattle.block_pool.specs.Pools.{is_free_at, is_used_at}
+use Rattle.block_reclamation.specs.declared.status.BlockStatus.{BlockStatus}
+use Rattle.block_reclamation.specs.declared.status.BlockStatus.TheVariants.{Free, Granted, Used, Retired}
 use Rattle.epoch_blocks.proofs.Lists.{all_listed}
 use Rattle.store_steps.specs.Journal.{Entry, Applied, Collected, Ledger, opened_ledger, is_legal, after_entry, exchanged, replay}
 use Rattle.store_steps.specs.{Desks.DeskView, Desks.IsDesk, Desks.ledger_of, Dates.IsDated, Dates.AreDated}
@@ -16,13 +17,13 @@ use Rattle.store_steps.proofs.Posting.{IsLegalBatch, legal_batch}
 
 -- One number
 
-still_dated : (o : Bool) (last : ℕ) (p : Option Status) → IsDated o last p → IsDated o (last + 1) p
+still_dated : (o : Bool) (last : ℕ) (p : Option BlockStatus) → IsDated o last p → IsDated o (last + 1) p
 still_dated o last (Some (Used b)) is = let low = is.1 in (is.0, omega arith)
 still_dated o last (Some (Retired b v)) is = let low = is.2 in (is.0, is.1, omega arith)
 still_dated o last _ is = is
 
-number_dated : (o : Bool) (last : ℕ) (p : Option Status) (t d : Bool) → IsDated o last p
-    → (t ≡ true → passes is_free p ≡ true) → (d ≡ true → passes is_born p ≡ true)
+number_dated : (o : Bool) (last : ℕ) (p : Option BlockStatus) (t d : Bool) → IsDated o last p
+    → (t ≡ true → is_at is_free p ≡ true) → (d ≡ true → is_at is_used p ≡ true)
     → IsDated o (last + 1) (number_after (last + 1) p t d)
 number_dated o last None true true is f g = tt
 number_dated o last None true false is f g = tt
@@ -40,10 +41,10 @@ number_dated o last (Some (Retired b v)) true d is f g = let no = f refl in cc
 number_dated o last (Some (Retired b v)) false true is f g = let no = g refl in cc
 number_dated o last (Some (Retired b v)) false false is f g = still_dated o last (Some (Retired b v)) is
 
-recycled_dated : (o : Bool) (last : ℕ) (copy : PinCopy) (p : Option Status) → IsDated o last p
+recycled_dated : (o : Bool) (last : ℕ) (copy : PinCopy) (p : Option BlockStatus) → IsDated o last p
     → IsDated o last (option_map (recycled copy) p)
 recycled_dated o last copy (Some (Retired b v)) is =
-    elim (is_past copy (Retired b v)) as (λ t. IsDated o last (Some (if t then Free else Retired b v))) [
+    elim (is_reclaimable copy (Retired b v)) as (λ t. IsDated o last (Some (if t then Free else Retired b v))) [
       | true ↦ tt
       | false ↦ is
     ]
@@ -56,10 +57,10 @@ batch_dated : (opened : List ℕ) (l : Ledger) (ops : List NamedOp) (taken dropp
     → AreDated opened (length l.batches + 1) (exchanged (length l.batches + 1) taken dropped l.pool)
 batch_dated opened l ops taken dropped is dated m =
     let legal : IsLegalBatch l.pool taken dropped = legal_batch l ops taken dropped is in
-    subst (IsDated (is_in m opened) (length l.batches + 1))
+    subst (IsDated (is_listed m opened) (length l.batches + 1))
     (sym (exchanged_at (length l.batches + 1) taken dropped l.pool m legal.dropped_apart))
-    (number_dated (is_in m opened) (length l.batches) (slice_get l.pool m) (is_in m taken) (is_in m dropped) (dated m)
-    (λ t. all_listed (is_free_at l.pool) taken m legal.free t) (λ t. all_listed (is_born_at l.pool) dropped m legal.born t))
+    (number_dated (is_listed m opened) (length l.batches) (slice_get l.pool m) (is_listed m taken) (is_listed m dropped) (dated m)
+    (λ t. all_listed (is_free_at l.pool) taken m legal.free t) (λ t. all_listed (is_used_at l.pool) dropped m legal.born t))
 
 entry_dated : (opened : List ℕ) (l : Ledger) (e : Entry) → is_legal l e ≡ true → AreDated opened (length l.batches) l.pool
     → AreDated opened (length (after_entry l e).batches) (after_entry l e).pool
@@ -68,8 +69,8 @@ entry_dated opened l (Applied ops taken dropped) is dated =
     subst (λ k. AreDated opened k (exchanged (length l.batches + 1) taken dropped l.pool)) (sym long)
     (batch_dated opened l ops taken dropped is dated)
 entry_dated opened l (Collected copy count) is dated = λ m.
-    subst (IsDated (is_in m opened) (length l.batches)) (sym (slice_get-map (recycled copy) l.pool m))
-    (recycled_dated (is_in m opened) (length l.batches) copy (slice_get l.pool m) (dated m))
+    subst (IsDated (is_listed m opened) (length l.batches)) (sym (slice_get-map (recycled copy) l.pool m))
+    (recycled_dated (is_listed m opened) (length l.batches) copy (slice_get l.pool m) (dated m))
 
 replay_dated : (opened : List ℕ) (es : List Entry) (l m : Ledger) → AreDated opened (length l.batches) l.pool
     → replay es l ≡ Some m → AreDated opened (length m.batches) m.pool
@@ -89,15 +90,15 @@ free_dated o zero m = tt
 free_dated o (suc blocks) zero = tt
 free_dated o (suc blocks) (suc m) = free_dated o blocks m
 
-one_dated : (o : Bool) (p : Option Status) → IsDated o 0 p → IsDated o 0 (if o then option_map (λ _. Used 0) p else p)
+one_dated : (o : Bool) (p : Option BlockStatus) → IsDated o 0 p → IsDated o 0 (if o then option_map (λ _. Used 0) p else p)
 one_dated false p is = is
 one_dated true None is = tt
 one_dated true (Some p) is = (λ e. absurd (true≢false e), omega arith)
 
 opened_dated : (blocks : ℕ) (opened : List ℕ) → AreDated opened 0 (opened_ledger blocks opened).pool
 opened_dated blocks opened m =
-    subst (IsDated (is_in m opened) 0) (sym (marked_at opened (Used 0) (replicate blocks Free) m))
-    (one_dated (is_in m opened) (slice_get (replicate blocks Free) m) (free_dated (is_in m opened) blocks m))
+    subst (IsDated (is_listed m opened) 0) (sym (marked_at opened (Used 0) (replicate blocks Free) m))
+    (one_dated (is_listed m opened) (slice_get (replicate blocks Free) m) (free_dated (is_listed m opened) blocks m))
 
 pub desk_dated : (d : DeskView) → IsDesk d → AreDated d.opened (length d.last.batches) d.pool
 desk_dated d desk =

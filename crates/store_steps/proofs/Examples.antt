@@ -3,19 +3,16 @@ use Rattle.std.proofs.Common.{◌≡◌, ℕ, zero, suc, Bool, false, [], ◌∷
 use Rattle.std.specs.Prelude.{All, slice_get, Option, Some, None}
 use Rattle.std.proofs.lemmas.{Bool.true≢false, List.Elements.All-cons}
 use Rattle.graph_version.specs.Edges.{edges_in_block}
+use Rattle.epoch_core.specs.Worlds.{seat_pin, start_world, session_of}
 use Rattle.epoch_core.specs.declared.{states.SessionState.TheVariants.Idle, events.Event.TheVariants.Pin}
-use Rattle.epoch_core.specs.Worlds.{start_world, session_of}
 use Rattle.epoch_blocks.specs.Versions.{edges_at}
-use Rattle.seat_board.specs.{Board.pin_at, Board.no_pins, Board.with_pin, Board.unsettled, declared.board.Pin.Pin as SeatPin}
-use Rattle.store_steps.specs.{Reached.world_by, Shown.SameStatus, Boards.seat_pin}
-use Rattle.store_steps.specs.Examples.{AreExamples, block_one, desk_of_edge, world_of_edge, board_of_two, world_of_two}
+use Rattle.block_reclamation.specs.Copies.{pin_at, unsettled}
+use Rattle.block_reclamation.specs.Board.{no_pins, with_pin}
+use Rattle.block_reclamation.specs.Status.{is_at, is_granted}
+use Rattle.block_reclamation.specs.declared.copies.Pin.{Pin as SeatPin}
+use Rattle.store_steps.specs.{Reached.world_by, Desks.birth_at}
+use Rattle.store_steps.specs.Examples.{AreExamples, block_one, world_of_edge, board_of_two, world_of_two}
 use Rattle.store_steps.proofs.OpeningShown.{no_pin}
-
-status_shown : (n : ℕ) → SameStatus (slice_get desk_of_edge.pool n) (slice_get world_of_edge.status n)
-status_shown zero = tt
-status_shown (suc zero) = refl
-status_shown (suc (suc zero)) = tt
-status_shown (suc (suc (suc n))) = tt
 
 edges_shown : All (λ b. edges_at world_of_edge.heap b.number ≡ edges_in_block b) (block_one ∷ [])
 edges_shown = All-cons (λ b. edges_at world_of_edge.heap b.number
@@ -61,11 +58,11 @@ are_examples = record {
     batches = refl;
     blocks = refl;
     edges = edges_shown;
-    status = status_shown;
+    status = refl;
     sizes = refl;
   };
-  later = λ w shows. let no : 2 ≡ 1 = shows.status 1 in absurd (omega arith);
-  fresh = λ w shows. shows.status 1;
+  later = λ w shows. let no : 2 ≡ 1 = ap (λ pool. birth_at pool 1) shows.status in absurd (omega arith);
+  granted = λ w shows. true≢false (ap (λ pool. is_at is_granted (slice_get pool 1)) shows.status);
   posted = refl;
   filled = refl;
   kept = refl;

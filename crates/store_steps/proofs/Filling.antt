@@ -7,11 +7,14 @@ use Rattle.std.proofs.lemmas.List.{length-set, Elements.All-head, Elements.All-t
 use Rattle.graph_model.specs.declared.ids.Edge.{Edge}
 use Rattle.edge_block.specs.Slots.{BlockView}
 use Rattle.row_pages.specs.Rows.{numbers_of}
-use Rattle.graph_version.specs.{Versions.is_in, Edges.edges_in_block, Edges.edges_in_blocks}
+use Rattle.graph_version.specs.Edges.{edges_in_block, edges_in_blocks}
+use Rattle.block_reclamation.specs.Status.{is_listed, is_granted}
 use Rattle.block_pool.specs.Pools.{marked}
-use Rattle.epoch_blocks.specs.declared.states.Status.{Status, TheVariants.Free, TheVariants.Fresh}
+use Rattle.block_reclamation.specs.declared.status.BlockStatus.{BlockStatus}
+use Rattle.block_reclamation.specs.declared.status.BlockStatus.TheVariants.{Free, Granted}
 use Rattle.epoch_core.specs.declared.events.Event.{Event, TheVariants.Take, TheVariants.Fill}
-use Rattle.epoch_blocks.specs.{Blocks.taken, Blocks.is_fresh, Blocks.put, Blocks.all_differ, Versions.edges_at, Versions.edges_of}
+use Rattle.epoch_blocks.specs.Blocks.{taken, put, all_differ}
+use Rattle.epoch_blocks.specs.Versions.{edges_at, edges_of}
 use Rattle.epoch_core.specs.{Worlds.World, Machine.step, Machine.with_status, Machine.with_heap}
 use Rattle.epoch_blocks.proofs.Lists.{set_same, set_else, or_false}
 use Rattle.store_steps.{specs.Steps.all_done, specs.Steps.filling, proofs.NumberLists.differ_head, proofs.NumberLists.differ_tail}
@@ -21,32 +24,32 @@ abbrev pub heap_with : List BlockView → List (List Edge) → List (List Edge)
 heap_with [] heap = heap
 heap_with (b ∷ bs) heap = heap_with bs (set heap b.number (edges_in_block b))
 
--- the world in which these blocks are fresh and filled
+-- the world in which these blocks are granted and filled
 abbrev pub filled_world : World → List BlockView → World
-filled_world w bs = record w { status = marked (numbers_of bs) Fresh w.status; heap = heap_with bs w.heap }
+filled_world w bs = record w { status = marked (numbers_of bs) Granted w.status; heap = heap_with bs w.heap }
 
 pub step_then : (e : Event) (es : List Event) (w next : World) → step w e ≡ Some next → all_done (e ∷ es) w ≡ all_done es next
 step_then e es w next is = ap (option_and_then (all_done es)) is
 
-take_done : (w : World) (n : ℕ) → slice_get w.status n ≡ Some Free → step w (Take n) ≡ Some (with_status w (set w.status n Fresh))
+take_done : (w : World) (n : ℕ) → slice_get w.status n ≡ Some Free → step w (Take n) ≡ Some (with_status w (set w.status n Granted))
 take_done w n is = ap (λ o. option_map (with_status w) (put w.status n (option_and_then taken o))) is
 
-fill_done : (w : World) (n : ℕ) (edges : List Edge) → slice_get w.status n ≡ Some Fresh
+fill_done : (w : World) (n : ℕ) (edges : List Edge) → slice_get w.status n ≡ Some Granted
     → step w (Fill n edges) ≡ Some (with_heap w (set w.heap n edges))
 fill_done w n edges is = ap (λ o. option_map (with_heap w) (option_and_then
-    (λ s. if is_fresh s then Some (set w.heap n edges) else None) o)) is
+    (λ s. if is_granted s then Some (set w.heap n edges) else None) o)) is
 
 -- the blocks of these numbers are all in this state
-abbrev pub AllAre : Status → List Status → List BlockView → Type 0
+abbrev pub AllAre : BlockStatus → List BlockStatus → List BlockView → Type 0
 AllAre s status bs = All (λ b. slice_get status b.number ≡ Some s) bs
 
-still : (status : List Status) (s x : Status) (b : BlockView) (bs : List BlockView) → is_in b.number (numbers_of bs) ≡ false
+still : (status : List BlockStatus) (s x : BlockStatus) (b : BlockView) (bs : List BlockView) → is_listed b.number (numbers_of bs) ≡ false
     → AllAre s status bs
     → AllAre s (set status b.number x) bs
 still status s x b [] apart all = λ k d h. absurd (omega arith)
 still status s x b (c ∷ cs) apart all =
-    let parts : ((c.number == b.number) ≡ false) × (is_in b.number (numbers_of cs) ≡ false) =
-    or_false (c.number == b.number) (is_in b.number (numbers_of cs)) apart in
+    let parts : ((c.number == b.number) ≡ false) × (is_listed b.number (numbers_of cs) ≡ false) =
+    or_false (c.number == b.number) (is_listed b.number (numbers_of cs)) apart in
     All-cons (λ y. slice_get (set status b.number x) y.number ≡ Some s) c cs
     (set_else status b.number c.number x (λ e. absurd (true≢false (sym (eq-eqb c.number b.number e) ∙ parts.0)))
     ∙ All-head (λ y. slice_get status y.number ≡ Some s) c cs all)
@@ -59,13 +62,13 @@ pub fills_done : (bs : List BlockView) (rest : List Event) (w : World) → AllAr
 fills_done [] rest w free apart = refl
 fills_done (b ∷ bs) rest w free apart =
     let here : slice_get w.status b.number ≡ Some Free = All-head (λ y. slice_get w.status y.number ≡ Some Free) b bs free in
-    let w1 : World = with_status w (set w.status b.number Fresh) in
+    let w1 : World = with_status w (set w.status b.number Granted) in
     let w2 : World = with_heap w1 (set w.heap b.number (edges_in_block b)) in
     step_then (Take b.number) (Fill b.number (edges_in_block b) ∷ (flat_map filling bs ++ rest)) w w1 (take_done w b.number here)
     ∙ step_then (Fill b.number (edges_in_block b)) (flat_map filling bs ++ rest) w1 w2
-    (fill_done w1 b.number (edges_in_block b) (set_same w.status b.number Free Fresh here))
+    (fill_done w1 b.number (edges_in_block b) (set_same w.status b.number Free Granted here))
     ∙ fills_done bs rest w2
-    (still w.status Free Fresh b bs (differ_head b.number (numbers_of bs) apart) (All-tail (λ y. slice_get w.status y.number
+    (still w.status Free Granted b bs (differ_head b.number (numbers_of bs) apart) (All-tail (λ y. slice_get w.status y.number
     ≡ Some Free) b bs free))
     (differ_tail b.number (numbers_of bs) apart)
 
@@ -75,12 +78,12 @@ length-heap_with (b ∷ bs) heap = length-heap_with bs (set heap b.number (edges
     ∙ length-set heap b.number (edges_in_block b)
 
 -- other blocks keep their edges
-pub heap_else : (bs : List BlockView) (heap : List (List Edge)) (n : ℕ) → is_in n (numbers_of bs) ≡ false
+pub heap_else : (bs : List BlockView) (heap : List (List Edge)) (n : ℕ) → is_listed n (numbers_of bs) ≡ false
     → edges_at (heap_with bs heap) n ≡ edges_at heap n
 heap_else [] heap n apart = refl
 heap_else (b ∷ bs) heap n apart =
-    let parts : ((b.number == n) ≡ false) × (is_in n (numbers_of bs) ≡ false) =
-    or_false (b.number == n) (is_in n (numbers_of bs)) apart in
+    let parts : ((b.number == n) ≡ false) × (is_listed n (numbers_of bs) ≡ false) =
+    or_false (b.number == n) (is_listed n (numbers_of bs)) apart in
     let ne : n ≢ b.number = λ e. absurd (true≢false (sym (eq-eqb b.number n (sym e)) ∙ parts.0)) in
     heap_else bs (set heap b.number (edges_in_block b)) n parts.1 ∙ rw get_or-set_other refl
 

@@ -2,9 +2,10 @@
 use Rattle.std.proofs.Common.{◌≡◌, ℕ, zero, suc, ◌+◌, ◌≤◌, Bool, true, false, List, refl, sym, ap, ◌∙◌, arith}
 use Rattle.std.{proofs.lemmas.Bool.true≢false, specs.Option.option_map, specs.Prelude.slice_get, specs.Prelude.if◌then◌else◌}
 use Rattle.std.specs.declared.option.Option.{Option, TheVariants.None, TheVariants.Some}
-use Rattle.graph_version.specs.Versions.{is_in}
-use Rattle.block_pool.specs.Pools.{Status, Free, Granted, Used, Retired, is_free, is_used, is_born, passes, retired, is_free_at}
-use Rattle.block_pool.specs.Pools.{is_used_at, is_born_at, marked, AreFree}
+use Rattle.block_reclamation.specs.Status.{is_listed, is_free, is_in_use, is_used, is_at}
+use Rattle.block_pool.specs.Pools.{retired, is_free_at, marked, AreFree, is_in_use_at, is_used_at}
+use Rattle.block_reclamation.specs.declared.status.BlockStatus.{BlockStatus}
+use Rattle.block_reclamation.specs.declared.status.BlockStatus.TheVariants.{Free, Granted, Used, Retired}
 use Rattle.store_steps.specs.Desks.{DeskView, IsDesk, last_numbers}
 use Rattle.store_steps.proofs.{NumberLists.all_by, NumberLists.differ_from, OneNumber.marked_if, OneNumber.not_both}
 use Rattle.store_steps.proofs.{ChangedLists.marked_at, ChangedLists.changed_at, ChangedLists.same_list, BlockMoves.AreMovable}
@@ -12,60 +13,60 @@ use Rattle.store_steps.proofs.Counting.{times, is_some_times, in_times, apart_if
 use Rattle.store_steps.proofs.Applications.{Application, number_in_desk, dropped_numbers, handed_once, granted_free, in_numbers}
 use Rattle.store_steps.proofs.Applications.{some_either, dropped_differ, dropped_born, granted_pool, born_pool, retired_pool}
 
-used_marked : (p : Option Status) → passes is_free p ≡ true → passes is_used (option_map (λ _. Granted) p) ≡ true
+used_marked : (p : Option BlockStatus) → is_at is_free p ≡ true → is_at is_in_use (option_map (λ _. Granted) p) ≡ true
 used_marked None e = cc
 used_marked (Some p) e = refl
 
-granted_used : (pool : List Status) (numbers : List ℕ) (m : ℕ) → is_free_at pool m ≡ true → is_in m numbers ≡ true
-    → is_used_at (marked numbers Granted pool) m ≡ true
+granted_used : (pool : List BlockStatus) (numbers : List ℕ) (m : ℕ) → is_free_at pool m ≡ true → is_listed m numbers ≡ true
+    → is_in_use_at (marked numbers Granted pool) m ≡ true
 granted_used pool numbers m free is =
-    ap (passes is_used) (marked_at numbers Granted pool m)
-    ∙ ap (λ t. passes is_used (marked_if Granted t (slice_get pool m))) is
+    ap (is_at is_in_use) (marked_at numbers Granted pool m)
+    ∙ ap (λ t. is_at is_in_use (marked_if Granted t (slice_get pool m))) is
     ∙ used_marked (slice_get pool m) free
 
 -- what was granted is not the last version's
 pub not_granted : (d : DeskView) (numbers : List ℕ) (m : ℕ) → IsDesk d → AreFree d.pool numbers
-    → is_in m (last_numbers d) ≡ true → is_in m numbers ≡ false
-not_granted d numbers m desk free listed = elim (is_in m numbers) as (λ t. is_in m numbers ≡ t → t ≡ false) [
+    → is_listed m (last_numbers d) ≡ true → is_listed m numbers ≡ false
+not_granted d numbers m desk free listed = elim (is_listed m numbers) as (λ t. is_listed m numbers ≡ t → t ≡ false) [
   | true ↦ λ is. absurd (not_both (slice_get d.pool m) (granted_free d.pool numbers m free is) (desk.listed m ∙ listed))
   | false ↦ λ is. refl
 ] refl
 
-pub granted_unlisted : (d : DeskView) (numbers : List ℕ) (m : ℕ) → IsDesk d → AreFree d.pool numbers → is_in m numbers ≡ true
-    → is_in m (last_numbers d) ≡ false
-granted_unlisted d numbers m desk free is = elim (is_in m (last_numbers d)) as (λ t. is_in m (last_numbers d) ≡ t → t ≡ false) [
+pub granted_unlisted : (d : DeskView) (numbers : List ℕ) (m : ℕ) → IsDesk d → AreFree d.pool numbers → is_listed m numbers ≡ true
+    → is_listed m (last_numbers d) ≡ false
+granted_unlisted d numbers m desk free is = elim (is_listed m (last_numbers d)) as (λ t. is_listed m (last_numbers d) ≡ t → t ≡ false) [
   | true ↦ λ listed. absurd (not_both (slice_get d.pool m) (granted_free d.pool numbers m free is) (desk.listed m ∙ listed))
   | false ↦ λ listed. refl
 ] refl
 
-not_dropped : (a : Application) (m : ℕ) → is_free_at a.old.pool m ≡ true → is_in m (dropped_numbers a) ≡ false
-not_dropped a m free = elim (is_in m (dropped_numbers a)) as (λ t. is_in m (dropped_numbers a) ≡ t → t ≡ false) [
+not_dropped : (a : Application) (m : ℕ) → is_free_at a.old.pool m ≡ true → is_listed m (dropped_numbers a) ≡ false
+not_dropped a m free = elim (is_listed m (dropped_numbers a)) as (λ t. is_listed m (dropped_numbers a) ≡ t → t ≡ false) [
   | true ↦ λ is. absurd (not_both (slice_get a.old.pool m) free (dropped_born a m is))
   | false ↦ λ is. refl
 ] refl
 
-pub taken_granted : (a : Application) (m : ℕ) → is_in m a.taken ≡ true → is_in m a.numbers ≡ true
+pub taken_granted : (a : Application) (m : ℕ) → is_listed m a.taken ≡ true → is_listed m a.numbers ≡ true
 taken_granted a m is =
     let some : is_some_times (times m a.unused + times m a.taken) ≡ true =
     some_either (times m a.unused) (times m a.taken) (sym (in_times m a.taken) ∙ is) in
     let turn : times m a.taken + times m a.unused ≡ times m a.unused + times m a.taken = omega arith in
     in_numbers a m ∙ ap is_some_times turn ∙ some
 
-unused_granted : (a : Application) (m : ℕ) → is_in m a.unused ≡ true → is_in m a.numbers ≡ true
+unused_granted : (a : Application) (m : ℕ) → is_listed m a.unused ≡ true → is_listed m a.numbers ≡ true
 unused_granted a m is = in_numbers a m ∙ some_either (times m a.taken) (times m a.unused) (sym (in_times m a.unused) ∙ is)
 
 -- what is born isn't granted, nor taken
-born_ungranted : (a : Application) (m : ℕ) → is_born_at a.old.pool m ≡ true → is_in m a.numbers ≡ false
+born_ungranted : (a : Application) (m : ℕ) → is_used_at a.old.pool m ≡ true → is_listed m a.numbers ≡ false
 born_ungranted a m born = not_granted a.old a.numbers m a.before a.applied.free (sym (a.before.listed m) ∙ born)
 
-pub not_taken : (a : Application) (m : ℕ) → is_in m a.numbers ≡ false → is_in m a.taken ≡ false
-not_taken a m none = elim (is_in m a.taken) as (λ t. is_in m a.taken ≡ t → t ≡ false) [
+pub not_taken : (a : Application) (m : ℕ) → is_listed m a.numbers ≡ false → is_listed m a.taken ≡ false
+not_taken a m none = elim (is_listed m a.taken) as (λ t. is_listed m a.taken ≡ t → t ≡ false) [
   | true ↦ λ is. absurd (true≢false (sym (taken_granted a m is) ∙ none))
   | false ↦ λ is. refl
 ] refl
 
 -- no number is both taken and unused
-unused_untaken : (a : Application) (m : ℕ) → is_in m a.unused ≡ true → is_in m a.taken ≡ false
+unused_untaken : (a : Application) (m : ℕ) → is_listed m a.unused ≡ true → is_listed m a.taken ≡ false
 unused_untaken a m is =
     let once = handed_once a m in
     let some : 1 ≤ times m a.unused = at_least_once (times m a.unused) (sym (in_times m a.unused) ∙ is) in
@@ -80,52 +81,52 @@ unused_untaken a m is =
     none_times (suc k) h = absurd (omega arith)
 
 -- the taken blocks can be born, then the dropped ones be retired, and then the unused be given back
-pub taken_movable : (a : Application) → AreMovable is_used a.taken (granted_pool a)
+pub taken_movable : (a : Application) → AreMovable is_in_use a.taken (granted_pool a)
 taken_movable a = record {
-  pass = all_by (is_used_at (granted_pool a)) a.taken (λ m is.
-      let granted : is_in m a.numbers ≡ true = taken_granted a m is in
+  pass = all_by (is_in_use_at (granted_pool a)) a.taken (λ m is.
+      let granted : is_listed m a.numbers ≡ true = taken_granted a m is in
       granted_used a.old.pool a.numbers m (granted_free a.old.pool a.numbers m a.applied.free granted) granted);
   apart = apart_if a.taken (λ m. let once = handed_once a m in omega arith);
 }
 
-pub dropped_movable : (a : Application) → AreMovable is_born (dropped_numbers a) (born_pool a)
+pub dropped_movable : (a : Application) → AreMovable is_used (dropped_numbers a) (born_pool a)
 dropped_movable a = record {
-  pass = all_by (is_born_at (born_pool a)) (dropped_numbers a) (λ m is.
-      let born : is_born_at a.old.pool m ≡ true = dropped_born a m is in
-      let none : is_in m a.numbers ≡ false = born_ungranted a m born in
-      ap (passes is_born) (marked_at a.taken (Used (number_in_desk a)) (granted_pool a) m)
-      ∙ ap (λ t. passes is_born (marked_if (Used (number_in_desk a)) t (slice_get (granted_pool a) m))) (not_taken a m none)
-      ∙ ap (passes is_born) (marked_at a.numbers Granted a.old.pool m)
-      ∙ ap (λ t. passes is_born (marked_if Granted t (slice_get a.old.pool m))) none
+  pass = all_by (is_used_at (born_pool a)) (dropped_numbers a) (λ m is.
+      let born : is_used_at a.old.pool m ≡ true = dropped_born a m is in
+      let none : is_listed m a.numbers ≡ false = born_ungranted a m born in
+      ap (is_at is_used) (marked_at a.taken (Used (number_in_desk a)) (granted_pool a) m)
+      ∙ ap (λ t. is_at is_used (marked_if (Used (number_in_desk a)) t (slice_get (granted_pool a) m))) (not_taken a m none)
+      ∙ ap (is_at is_used) (marked_at a.numbers Granted a.old.pool m)
+      ∙ ap (λ t. is_at is_used (marked_if Granted t (slice_get a.old.pool m))) none
       ∙ born);
   apart = dropped_differ a;
 }
 
-pub unused_movable : (a : Application) → AreMovable is_used a.unused (retired_pool a)
+pub unused_movable : (a : Application) → AreMovable is_in_use a.unused (retired_pool a)
 unused_movable a = record {
-  pass = all_by (is_used_at (retired_pool a)) a.unused (λ m is.
-      let granted : is_in m a.numbers ≡ true = unused_granted a m is in
+  pass = all_by (is_in_use_at (retired_pool a)) a.unused (λ m is.
+      let granted : is_listed m a.numbers ≡ true = unused_granted a m is in
       let free : is_free_at a.old.pool m ≡ true = granted_free a.old.pool a.numbers m a.applied.free granted in
-      let stays : is_in m (dropped_numbers a) ≡ false = not_dropped a m free in
-      ap (passes is_used) (changed_at (retired (number_in_desk a)) (dropped_numbers a) (born_pool a) m (dropped_differ a))
-      ∙ ap (λ t. passes is_used (if t then option_map (retired (number_in_desk a)) (slice_get (born_pool a) m) else slice_get
+      let stays : is_listed m (dropped_numbers a) ≡ false = not_dropped a m free in
+      ap (is_at is_in_use) (changed_at (retired (number_in_desk a)) (dropped_numbers a) (born_pool a) m (dropped_differ a))
+      ∙ ap (λ t. is_at is_in_use (if t then option_map (retired (number_in_desk a)) (slice_get (born_pool a) m) else slice_get
       (born_pool a) m)) stays
-      ∙ ap (passes is_used) (marked_at a.taken (Used (number_in_desk a)) (granted_pool a) m)
-      ∙ ap (λ t. passes is_used (marked_if (Used (number_in_desk a)) t (slice_get (granted_pool a) m))) (unused_untaken a m is)
+      ∙ ap (is_at is_in_use) (marked_at a.taken (Used (number_in_desk a)) (granted_pool a) m)
+      ∙ ap (λ t. is_at is_in_use (marked_if (Used (number_in_desk a)) t (slice_get (granted_pool a) m))) (unused_untaken a m is)
       ∙ granted_used a.old.pool a.numbers m free granted);
   apart = apart_if a.unused (λ m. let once = handed_once a m in omega arith);
 }
 
 -- what was granted can be given back, and then the pool is as before
-pub granted_movable : (pool : List Status) (numbers : List ℕ) → AreFree pool numbers
-    → AreMovable is_used numbers (marked numbers Granted pool)
+pub granted_movable : (pool : List BlockStatus) (numbers : List ℕ) → AreFree pool numbers
+    → AreMovable is_in_use numbers (marked numbers Granted pool)
 granted_movable pool numbers free = record {
-  pass = all_by (is_used_at (marked numbers Granted pool)) numbers
+  pass = all_by (is_in_use_at (marked numbers Granted pool)) numbers
       (λ m is. granted_used pool numbers m (granted_free pool numbers m free is) is);
   apart = differ_from numbers free.distinct;
 }
 
-there_and_back : (t : Bool) (p : Option Status) → (t ≡ true → passes is_free p ≡ true)
+there_and_back : (t : Bool) (p : Option BlockStatus) → (t ≡ true → is_at is_free p ≡ true)
     → marked_if Free t (marked_if Granted t p) ≡ p
 there_and_back true None f = refl
 there_and_back true (Some Free) f = refl
@@ -134,31 +135,31 @@ there_and_back true (Some (Used b)) f = let no = f refl in cc
 there_and_back true (Some (Retired b v)) f = let no = f refl in cc
 there_and_back false p f = refl
 
-pub given_back : (pool : List Status) (numbers : List ℕ) → AreFree pool numbers
+pub given_back : (pool : List BlockStatus) (numbers : List ℕ) → AreFree pool numbers
     → marked numbers Free (marked numbers Granted pool) ≡ pool
 given_back pool numbers free = same_list _ _ (λ m.
     marked_at numbers Free (marked numbers Granted pool) m
-    ∙ ap (marked_if Free (is_in m numbers)) (marked_at numbers Granted pool m)
-    ∙ there_and_back (is_in m numbers) (slice_get pool m) (λ is. granted_free pool numbers m free is))
+    ∙ ap (marked_if Free (is_listed m numbers)) (marked_at numbers Granted pool m)
+    ∙ there_and_back (is_listed m numbers) (slice_get pool m) (λ is. granted_free pool numbers m free is))
 
 -- and so it can where some of them were born meanwhile
 
-used_born : (n : ℕ) (t : Bool) (p : Option Status) → passes is_used p ≡ true → passes is_used (marked_if (Used n) t p) ≡ true
+used_born : (n : ℕ) (t : Bool) (p : Option BlockStatus) → is_at is_in_use p ≡ true → is_at is_in_use (marked_if (Used n) t p) ≡ true
 used_born n false p is = is
 used_born n true None is = cc
 used_born n true (Some p) is = refl
 
-pub born_movable : (pool : List Status) (numbers taken : List ℕ) (n : ℕ) → AreFree pool numbers
-    → AreMovable is_used numbers (marked taken (Used n) (marked numbers Granted pool))
+pub born_movable : (pool : List BlockStatus) (numbers taken : List ℕ) (n : ℕ) → AreFree pool numbers
+    → AreMovable is_in_use numbers (marked taken (Used n) (marked numbers Granted pool))
 born_movable pool numbers taken n free = record {
-  pass = all_by (is_used_at (marked taken (Used n) (marked numbers Granted pool))) numbers (λ m is.
-      ap (passes is_used) (marked_at taken (Used n) (marked numbers Granted pool) m)
-      ∙ used_born n (is_in m taken) (slice_get (marked numbers Granted pool) m)
+  pass = all_by (is_in_use_at (marked taken (Used n) (marked numbers Granted pool))) numbers (λ m is.
+      ap (is_at is_in_use) (marked_at taken (Used n) (marked numbers Granted pool) m)
+      ∙ used_born n (is_listed m taken) (slice_get (marked numbers Granted pool) m)
       (granted_used pool numbers m (granted_free pool numbers m free is) is));
   apart = differ_from numbers free.distinct;
 }
 
-born_and_back : (n : ℕ) (g t : Bool) (p : Option Status) → (g ≡ true → passes is_free p ≡ true) → (t ≡ true → g ≡ true)
+born_and_back : (n : ℕ) (g t : Bool) (p : Option BlockStatus) → (g ≡ true → is_at is_free p ≡ true) → (t ≡ true → g ≡ true)
     → marked_if Free g (marked_if (Used n) t (marked_if Granted g p)) ≡ p
 born_and_back n true t None f h = elim t as (λ t. marked_if Free true (marked_if (Used n) t None) ≡ None) [
   | true ↦ refl
@@ -174,12 +175,12 @@ born_and_back n true t (Some (Retired b v)) f h = let no = f refl in cc
 born_and_back n false true p f h = let no = h refl in cc
 born_and_back n false false p f h = refl
 
-pub born_given_back : (pool : List Status) (numbers taken : List ℕ) (n : ℕ) → AreFree pool numbers
-    → ((m : ℕ) → is_in m taken ≡ true → is_in m numbers ≡ true)
+pub born_given_back : (pool : List BlockStatus) (numbers taken : List ℕ) (n : ℕ) → AreFree pool numbers
+    → ((m : ℕ) → is_listed m taken ≡ true → is_listed m numbers ≡ true)
     → marked numbers Free (marked taken (Used n) (marked numbers Granted pool)) ≡ pool
 born_given_back pool numbers taken n free within = same_list _ _ (λ m.
     marked_at numbers Free (marked taken (Used n) (marked numbers Granted pool)) m
-    ∙ ap (marked_if Free (is_in m numbers)) (marked_at taken (Used n) (marked numbers Granted pool) m)
-    ∙ ap (λ o. marked_if Free (is_in m numbers) (marked_if (Used n) (is_in m taken) o)) (marked_at numbers Granted pool m)
-    ∙ born_and_back n (is_in m numbers) (is_in m taken) (slice_get pool m) (λ is. granted_free pool numbers m free is)
+    ∙ ap (marked_if Free (is_listed m numbers)) (marked_at taken (Used n) (marked numbers Granted pool) m)
+    ∙ ap (λ o. marked_if Free (is_listed m numbers) (marked_if (Used n) (is_listed m taken) o)) (marked_at numbers Granted pool m)
+    ∙ born_and_back n (is_listed m numbers) (is_listed m taken) (slice_get pool m) (λ is. granted_free pool numbers m free is)
     (within m))

@@ -1,18 +1,18 @@
 -- What a session holds is a snapshot.
-use Rattle.std.proofs.Common.{◌≡◌, ℕ, not, false, take, refl, sym, ap, subst, ◌∙◌, arith}
+use Rattle.std.proofs.Common.{◌≡◌, ℕ, not, false, take, refl, sym, ap, subst, ◌∙◌, arith, List}
 use Rattle.std.specs.{Prelude.slice_get, declared.option.Option.Option, declared.option.Option.TheVariants.Some}
 use Rattle.std.proofs.lemmas.List.{take-map}
 use Rattle.graph_model.specs.Step.{left_by}
-use Rattle.block_pool.specs.Pools.{Status as PoolStatus, Free as PoolFree, Retired as PoolRetired, is_free, is_past, passes}
-use Rattle.pin_copy.specs.{declared.copies.PinCopy.PinCopy, Copies.needs}
+use Rattle.block_reclamation.specs.declared.status.BlockStatus.{BlockStatus}
+use Rattle.block_reclamation.specs.declared.status.BlockStatus.TheVariants.{Free, Retired}
+use Rattle.block_reclamation.specs.Status.{is_free, is_reclaimable, is_at, is_listed}
+use Rattle.block_reclamation.specs.declared.copies.PinCopy.{PinCopy}
 use Rattle.epoch_core.specs.declared.states.{Hold.Hold, SessionState.SessionState}
 use Rattle.epoch_core.specs.declared.states.SessionState.TheVariants.{Idle, Pinned, Holding, Asking}
 use Rattle.epoch_core.specs.Sound.{IsSound, IsSessionSound, IsHeld, IsCovered, IsKeptAt}
 use Rattle.epoch_core.{specs.Worlds.World, specs.Worlds.session_of, specs.Worlds.held_in, proofs.Steps.always_sound}
-use Rattle.epoch_blocks.specs.declared.states.Status.{Status, TheVariants.Free, TheVariants.Retired}
-use Rattle.epoch_blocks.specs.Blocks.{is_listed}
 use Rattle.epoch_blocks.specs.Versions.{AreEdgesOf, opening_graph, blocks_at, edges_of, graph_at}
-use Rattle.store_steps.specs.{Desks.DeskView, Shown.SameStatus, Shown.ShowsWorld, Reached.world_by, Held.IsSnapshot}
+use Rattle.store_steps.specs.{Desks.DeskView, Shown.ShowsWorld, Reached.world_by, Held.IsSnapshot}
 use Rattle.store_steps.{specs.Held.HeldIsSnapshot, proofs.Reached.same_count}
 
 -- a session that holds a version holds it soundly
@@ -28,17 +28,14 @@ holder_of w (Holding hold) n sound held = record { hold = hold; version_is = cc;
 holder_of w (Asking hold inquiry) n sound held = record { hold = hold; version_is = cc; held = sound.0 }
 
 -- a block that is kept for the holders of a version is neither free nor freed by a copy that covers it
-not_free : (n : ℕ) (p : Option PoolStatus) (s : Option Status) → SameStatus p s → IsKeptAt n s → passes is_free p ≡ false
-not_free n (Some PoolFree) (Some Free) same kept = absurd kept
-not_free n (Some PoolFree) _ same kept = absurd same
-not_free n _ s same kept = refl
+not_free : (n : ℕ) (s : Option BlockStatus) → IsKeptAt n s → is_at is_free s ≡ false
+not_free n (Some Free) kept = absurd kept
+not_free n _ kept = refl
 
-not_past : (n : ℕ) (copy : PinCopy) (p : Option PoolStatus) (s : Option Status) → SameStatus p s → IsKeptAt n s
-    → IsCovered copy n → passes (is_past copy) p ≡ false
-not_past n copy (Some (PoolRetired b v)) (Some (Retired birth since)) same kept covered =
-    ap not (sym (ap (λ m. needs copy m since) same.0 ∙ ap (needs copy b) same.1) ∙ covered birth since kept.0 kept.1)
-not_past n copy (Some (PoolRetired b v)) _ same kept covered = absurd same
-not_past n copy _ s same kept covered = refl
+not_reclaimable : (n : ℕ) (copy : PinCopy) (s : Option BlockStatus) → IsKeptAt n s → IsCovered copy n
+    → is_at (is_reclaimable copy) s ≡ false
+not_reclaimable n copy (Some (Retired birth retirement)) kept covered = ap not (covered birth retirement kept.0 kept.1)
+not_reclaimable n copy _ kept covered = refl
 
 -- the graph of the machine's version is what the desk's first batches leave
 graph_first : (d : DeskView) (w : World) (n : ℕ) → ShowsWorld d w → graph_at w.opening w.versions n
@@ -58,10 +55,12 @@ snapshot d w copy n shows same holder =
           (subst (λ m. AreEdgesOf (edges_of w.heap (blocks_at w.opening w.versions m)) (graph_at w.opening w.versions m))
           version holder.held.shown);
       in_use = λ c is.
-          not_free holder.hold.version (slice_get d.pool c) (slice_get w.status c) (shows.status c)
+          ap (λ (pool : List BlockStatus). is_at is_free (slice_get pool c)) (sym shows.status)
+          ∙ not_free holder.hold.version (slice_get w.status c)
           (holder.held.kept c (ap (λ m. is_listed c (blocks_at w.opening w.versions m)) version ∙ is));
       kept = λ c is.
-          not_past holder.hold.version copy (slice_get d.pool c) (slice_get w.status c) (shows.status c)
+          ap (λ (pool : List BlockStatus). is_at (is_reclaimable copy) (slice_get pool c)) (sym shows.status)
+          ∙ not_reclaimable holder.hold.version copy (slice_get w.status c)
           (holder.held.kept c (ap (λ m. is_listed c (blocks_at w.opening w.versions m)) version ∙ is)) covered;
     }
 

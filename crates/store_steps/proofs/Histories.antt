@@ -5,13 +5,14 @@ use Rattle.std.specs.declared.option.Option.{Option, TheVariants.None, TheVarian
 use Rattle.std.proofs.lemmas.Bool.{cases_eq}
 use Rattle.graph_model.specs.declared.requests.Request.{Request}
 use Rattle.epoch_blocks.specs.{declared.states.Version.Version, declared.states.Opening.Opening, Versions.blocks_at}
+use Rattle.epoch_core.specs.Worlds.{seat_pin}
 use Rattle.epoch_core.specs.declared.states.{Hold.Hold, Inquiry.Inquiry, SessionState.SessionState}
 use Rattle.epoch_core.specs.declared.states.SessionState.TheVariants.{Idle, Pinned, Holding, Asking}
 use Rattle.epoch_core.specs.{Worlds.World, Worlds.session_of, Worlds.last_number, Runs.run}
 use Rattle.epoch_core.specs.Machine.{step, read_on, is_all_read, to_enter, to_ask, to_read, to_reply}
 use Rattle.epoch_core.proofs.Moves.{Moved, moved, session_after, session_else}
-use Rattle.seat_board.specs.Board.{BoardState}
-use Rattle.store_steps.specs.{Desks.DeskView, Shown.ShowsWorld, Boards.seat_pin, Boards.ShowsBoard, Steps.all_done}
+use Rattle.block_reclamation.specs.Board.{BoardState}
+use Rattle.store_steps.specs.{Desks.DeskView, Shown.ShowsWorld, Boards.ShowsBoard, Steps.all_done}
 use Rattle.store_steps.{specs.Histories.DoneIsRun, specs.Histories.ReadersAreUnseen, proofs.BoardSteps.shows_sessions}
 
 pub done_is_run : DoneIsRun

@@ -7,7 +7,7 @@ use Rattle.std.proofs.lemmas.Bool.{eq-eqb, eqb-true, true≢false, or_right}
 use Rattle.graph_model.proofs.Counts.{apart_tail}
 use Rattle.edge_block.specs.Slots.{BlockView}
 use Rattle.row_pages.specs.Rows.{numbers_of}
-use Rattle.graph_version.specs.Versions.{is_in}
+use Rattle.block_reclamation.specs.Status.{is_listed}
 use Rattle.epoch_blocks.specs.Blocks.{all_differ}
 
 -- the test of two numbers that differ
@@ -27,19 +27,19 @@ all_from p [] all = refl
 all_from p (x ∷ xs) all = rw (All-head (λ y. p y ≡ true) x xs all) (all_from p xs (All-tail (λ y. p y ≡ true) x xs all))
 
 -- a test that holds of whatever is listed
-pub all_by : (p : ℕ → Bool) (ns : List ℕ) → ((m : ℕ) → is_in m ns ≡ true → p m ≡ true) → list_all p ns ≡ true
+pub all_by : (p : ℕ → Bool) (ns : List ℕ) → ((m : ℕ) → is_listed m ns ≡ true → p m ≡ true) → list_all p ns ≡ true
 all_by p [] each = refl
 all_by p (n ∷ ns) each =
     let here : (n == n) ≡ true = eq-eqb n n refl in
     let first : p n ≡ true = each n (rw here refl) in
-    rw first (all_by p ns (λ m is. each m (or_right (n == m) (is_in m ns) is)))
+    rw first (all_by p ns (λ m is. each m (or_right (n == m) (is_listed m ns) is)))
 
 -- Numbers that differ
 
-not_in : (n : ℕ) (ns : List ℕ) → ((k : ℕ) → k < length ns → n ≢ get_or ns k 0) → is_in n ns ≡ false
+not_in : (n : ℕ) (ns : List ℕ) → ((k : ℕ) → k < length ns → n ≢ get_or ns k 0) → is_listed n ns ≡ false
 not_in n [] apart = refl
 not_in n (m ∷ ns) apart =
-    let rest : is_in n ns ≡ false = not_in n ns (λ k h. apart (suc k) (omega arith)) in
+    let rest : is_listed n ns ≡ false = not_in n ns (λ k h. apart (suc k) (omega arith)) in
     let here : (m == n) ≡ false = apart_test m n (λ e. apart 0 (omega arith) (sym e)) in
     rw (here, rest) refl
 
@@ -49,18 +49,18 @@ apart_head n ns apart k h = apart 0 (suc k) 0 (omega arith) (omega arith)
 pub differ_from : (ns : List ℕ) → AllPairs ◌≢◌ ns → all_differ ns ≡ true
 differ_from [] apart = refl
 differ_from (n ∷ ns) apart =
-    let none : is_in n ns ≡ false = not_in n ns (apart_head n ns apart) in
+    let none : is_listed n ns ≡ false = not_in n ns (apart_head n ns apart) in
     rw none (differ_from ns (apart_tail n ns apart))
 
 -- the first of different numbers is none of the rest
-pub differ_head : (n : ℕ) (ns : List ℕ) → all_differ (n ∷ ns) ≡ true → is_in n ns ≡ false
-differ_head n ns is = go (is_in n ns) is where
+pub differ_head : (n : ℕ) (ns : List ℕ) → all_differ (n ∷ ns) ≡ true → is_listed n ns ≡ false
+differ_head n ns is = go (is_listed n ns) is where
   go : (b : Bool) → (not b && all_differ ns) ≡ true → b ≡ false
   go true h = cc
   go false h = refl
 
 pub differ_tail : (n : ℕ) (ns : List ℕ) → all_differ (n ∷ ns) ≡ true → all_differ ns ≡ true
-differ_tail n ns is = go (is_in n ns) is where
+differ_tail n ns is = go (is_listed n ns) is where
   go : (b : Bool) → (not b && all_differ ns) ≡ true → all_differ ns ≡ true
   go true h = cc
   go false h = h
@@ -69,11 +69,11 @@ differ_tail n ns is = go (is_in n ns) is where
 
 -- the number of a block that is listed is listed
 pub number_in : (bs : List BlockView) (b : BlockView) (k : ℕ) → k < length bs → get_or bs k b ≡ b
-    → is_in b.number (numbers_of bs) ≡ true
+    → is_listed b.number (numbers_of bs) ≡ true
 number_in [] b k h at = absurd (omega arith)
 number_in (c ∷ cs) b zero h at = let same : (c.number == b.number) ≡ true =
     eq-eqb c.number b.number (ap (λ x. x.number) at) in rw same refl
-number_in (c ∷ cs) b (suc k) h at = or_right (c.number == b.number) (is_in b.number (numbers_of cs))
+number_in (c ∷ cs) b (suc k) h at = or_right (c.number == b.number) (is_listed b.number (numbers_of cs))
     (number_in cs b k (omega arith) at)
 
 pub numbers_all : (p : ℕ → Bool) (bs : List BlockView) → All (λ b. p b.number ≡ true) bs → list_all p (numbers_of bs) ≡ true
@@ -87,7 +87,7 @@ abbrev pub picked : (ℕ → Bool) → List BlockView → List BlockView
 picked p bs = filter (λ b. p b.number) bs
 
 in_cond : (t : Bool) (b : BlockView) (bs : List BlockView) (n : ℕ)
-    → is_in n (numbers_of (if t then b ∷ bs else bs)) ≡ (if t then (b.number == n) || is_in n (numbers_of bs) else is_in n
+    → is_listed n (numbers_of (if t then b ∷ bs else bs)) ≡ (if t then (b.number == n) || is_listed n (numbers_of bs) else is_listed n
     (numbers_of bs))
 in_cond true b bs n = refl
 in_cond false b bs n = refl
@@ -98,7 +98,7 @@ picks p m n rest true true e f more is = ap p (sym (eqb-true m n f)) ∙ e
 picks p m n rest true false e f more is = more is
 picks p m n rest false u e f more is = more is
 
-pub in_picked : (p : ℕ → Bool) (bs : List BlockView) (n : ℕ) → is_in n (numbers_of (picked p bs)) ≡ true → p n ≡ true
+pub in_picked : (p : ℕ → Bool) (bs : List BlockView) (n : ℕ) → is_listed n (numbers_of (picked p bs)) ≡ true → p n ≡ true
 in_picked p [] n is = cc
 in_picked p (b ∷ bs) n is =
     picks p b.number n _ (p b.number) (b.number == n) refl refl (in_picked p bs n) (sym (in_cond (p b.number) b (picked p bs) n)
@@ -112,8 +112,8 @@ picked_by p m n rest more true false e f pass h is = h is
 picked_by p m n rest more false true e f pass h is = absurd (true≢false (sym (ap p (eqb-true m n f) ∙ pass) ∙ e))
 picked_by p m n rest more false false e f pass h is = h is
 
-pub picked_in : (p : ℕ → Bool) (bs : List BlockView) (n : ℕ) → p n ≡ true → is_in n (numbers_of bs) ≡ true
-    → is_in n (numbers_of (picked p bs)) ≡ true
+pub picked_in : (p : ℕ → Bool) (bs : List BlockView) (n : ℕ) → p n ≡ true → is_listed n (numbers_of bs) ≡ true
+    → is_listed n (numbers_of (picked p bs)) ≡ true
 picked_in p [] n pass is = is
 picked_in p (b ∷ bs) n pass is =
     in_cond (p b.number) b (picked p bs) n
@@ -125,8 +125,8 @@ none_of true false rest more h is = h is
 none_of false true rest more h is = cc
 none_of false false rest more h is = h is
 
-not_picked : (p : ℕ → Bool) (bs : List BlockView) (n : ℕ) → is_in n (numbers_of bs) ≡ false
-    → is_in n (numbers_of (picked p bs)) ≡ false
+not_picked : (p : ℕ → Bool) (bs : List BlockView) (n : ℕ) → is_listed n (numbers_of bs) ≡ false
+    → is_listed n (numbers_of (picked p bs)) ≡ false
 not_picked p [] n is = refl
 not_picked p (b ∷ bs) n is = in_cond (p b.number) b (picked p bs) n
     ∙ none_of (p b.number) (b.number == n) _ _ (not_picked p bs n) is

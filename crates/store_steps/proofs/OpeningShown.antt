@@ -2,7 +2,7 @@
 use Rattle.std.proofs.Common.{◌≡◌, ◌≢◌, ℕ, zero, suc, ◌<◌, ◌==◌, ◌||◌, Bool, true, false, List, [], ◌∷◌, ◌++◌, length}
 use Rattle.std.proofs.Common.{replicate, refl, sym, ap, subst, ◌∙◌, arith, All, AllPairs}
 use Rattle.std.specs.{Prelude.map, Prelude.slice_get, Prelude.slice_set, Prelude.if◌then◌else◌, List.flat_map, Option.option_map}
-use Rattle.std.specs.declared.option.Option.{Option, TheVariants.None, TheVariants.Some}
+use Rattle.std.specs.declared.option.Option.TheVariants.{None, Some}
 use Rattle.std.proofs.lemmas.Bool.{eqb-true}
 use Rattle.std.proofs.lemmas.List.{length-replicate, Elements.All-head, Elements.All-tail, Elements.All-cons}
 use Rattle.block_pool.proofs.Grants.{length-marked}
@@ -10,37 +10,40 @@ use Rattle.graph_model.specs.{Graph.Graph, Graph.graph_of, Graph.content_of, Gra
 use Rattle.graph_model.specs.declared.{ids.Edge.Edge, contents.Content.Content}
 use Rattle.edge_block.specs.Slots.{BlockView}
 use Rattle.row_pages.specs.Rows.{blocks_of, numbers_of}
-use Rattle.graph_version.specs.Versions.{VersionView, content, empty_version, is_in}
+use Rattle.graph_version.specs.Versions.{VersionView, content, empty_version}
+use Rattle.block_reclamation.specs.Status.{is_listed, is_used, is_at}
 use Rattle.graph_version.specs.Edges.{edges_in_block, edges_in_blocks, AreEachOnce}
 use Rattle.graph_version.proofs.{Empty.is_empty_version, Shown.rows_each_once}
-use Rattle.block_pool.specs.Pools.{Status as PoolStatus, Free as PoolFree, Used as PoolUsed, is_born, is_born_at, passes, marked}
-use Rattle.epoch_blocks.specs.declared.states.Status.{Status, TheVariants.Free, TheVariants.Used}
-use Rattle.epoch_blocks.specs.{Blocks.is_listed, Versions.AreEdgesOf, Versions.edges_at, Versions.edges_of}
+use Rattle.block_pool.specs.Pools.{marked, is_used_at}
+use Rattle.block_reclamation.specs.declared.status.BlockStatus.{BlockStatus}
+use Rattle.block_reclamation.specs.declared.status.BlockStatus.TheVariants.{Free, Used}
+use Rattle.epoch_blocks.specs.Versions.{AreEdgesOf, edges_at, edges_of}
+use Rattle.epoch_core.specs.Worlds.{seat_pin}
 use Rattle.epoch_core.specs.Opened.{Lists, numbers_in, heap_with, status_with, IsOpening}
 use Rattle.epoch_core.specs.{Worlds.IsStart, declared.states.SessionState.TheVariants.Idle}
 use Rattle.epoch_core.proofs.Steps.{all_idle, free_at}
-use Rattle.seat_board.specs.Board.{pin_at}
-use Rattle.store_steps.specs.{Desks.IsDesk, Shown.ShowsWorld, Shown.SameStatus, Boards.seat_pin}
+use Rattle.block_reclamation.specs.Copies.{pin_at}
+use Rattle.store_steps.specs.{Desks.IsDesk, Shown.ShowsWorld}
 use Rattle.store_steps.specs.Opening.{opened_desk, opened_start, lists_of, IsVersionZero, OpensAsMachine, OpensBlank}
 use Rattle.store_steps.proofs.{NumberLists.differ_from, ChangedLists.marked_at}
 use Rattle.store_steps.proofs.Filling as filling
 
 -- The pool
 
-none_born : (n m : ℕ) → passes is_born (slice_get (replicate n PoolFree) m) ≡ false
+none_born : (n m : ℕ) → is_at is_used (slice_get (replicate n Free) m) ≡ false
 none_born zero m = refl
 none_born (suc n) zero = refl
 none_born (suc n) (suc m) = none_born n m
 
-free_below : (n m : ℕ) → m < n → slice_get (replicate n PoolFree) m ≡ Some PoolFree
+free_below : (n m : ℕ) → m < n → slice_get (replicate n Free) m ≡ Some Free
 free_below zero m h = absurd (omega arith)
 free_below (suc n) zero h = refl
 free_below (suc n) (suc m) h = free_below n m (omega arith)
 
-listed_below : (blocks : ℕ) (ns : List ℕ) (m : ℕ) → All (λ n. n < blocks) ns → is_in m ns ≡ true → m < blocks
+listed_below : (blocks : ℕ) (ns : List ℕ) (m : ℕ) → All (λ n. n < blocks) ns → is_listed m ns ≡ true → m < blocks
 listed_below blocks [] m within is = cc
 listed_below blocks (n ∷ ns) m within is =
-    elim (n == m) as (λ t. n == m ≡ t → (t || is_in m ns) ≡ true → m < blocks) [
+    elim (n == m) as (λ t. n == m ≡ t → (t || is_listed m ns) ≡ true → m < blocks) [
       | true ↦ λ e listed. (let low : n < blocks = All-head (λ k. k < blocks) n ns within in
           let same : n ≡ m = eqb-true n m e in omega arith)
       | false ↦ λ e listed. listed_below blocks ns m (All-tail (λ k. k < blocks) n ns within) listed
@@ -48,12 +51,12 @@ listed_below blocks (n ∷ ns) m within is =
 
 -- the numbers that are marked are those that are born
 born_listed : (blocks : ℕ) (ns : List ℕ) → All (λ n. n < blocks) ns → (m : ℕ)
-    → is_born_at (marked ns (PoolUsed 0) (replicate blocks PoolFree)) m ≡ is_in m ns
+    → is_used_at (marked ns (Used 0) (replicate blocks Free)) m ≡ is_listed m ns
 born_listed blocks ns within m =
-    ap (passes is_born) (marked_at ns (PoolUsed 0) (replicate blocks PoolFree) m)
-    ∙ (elim (is_in m ns) as (λ t. is_in m ns ≡ t → passes is_born (if t then option_map (λ _. PoolUsed 0)
-    (slice_get (replicate blocks PoolFree) m) else slice_get (replicate blocks PoolFree) m) ≡ t) [
-      | true ↦ λ is. ap (λ p. passes is_born (option_map (λ _. PoolUsed 0) p))
+    ap (is_at is_used) (marked_at ns (Used 0) (replicate blocks Free) m)
+    ∙ (elim (is_listed m ns) as (λ t. is_listed m ns ≡ t → is_at is_used (if t then option_map (λ _. Used 0)
+    (slice_get (replicate blocks Free) m) else slice_get (replicate blocks Free) m) ≡ t) [
+      | true ↦ λ is. ap (λ p. is_at is_used (option_map (λ _. Used 0) p))
           (free_below blocks m (listed_below blocks ns m within is))
       | false ↦ λ is. none_born blocks m
     ] refl)
@@ -63,8 +66,8 @@ no_pin zero s = refl
 no_pin (suc n) zero = refl
 no_pin (suc n) (suc s) = no_pin n s
 
-length-opened : (blocks : ℕ) (ns : List ℕ) → length (marked ns (PoolUsed 0) (replicate blocks PoolFree)) ≡ blocks
-length-opened blocks ns = length-marked ns (PoolUsed 0) (replicate blocks PoolFree) ∙ length-replicate blocks PoolFree
+length-opened : (blocks : ℕ) (ns : List ℕ) → length (marked ns (Used 0) (replicate blocks Free)) ≡ blocks
+length-opened blocks ns = length-marked ns (Used 0) (replicate blocks Free) ∙ length-replicate blocks Free
 
 pub opened_is_desk : (blocks : ℕ) (v : VersionView) → IsVersionZero blocks v → IsDesk (opened_desk blocks v)
 opened_is_desk blocks v zero_is =
@@ -73,7 +76,7 @@ opened_is_desk blocks v zero_is =
       version = zero_is.version;
       replays = λ i. Some (record {
         batches = sym zero_is.alone i;
-        pool = marked ns (PoolUsed 0) (replicate (length-opened blocks ns i) PoolFree);
+        pool = marked ns (Used 0) (replicate (length-opened blocks ns i) Free);
       });
       listed = born_listed blocks ns zero_is.within;
     }
@@ -110,40 +113,10 @@ heap_paired : (bs : List BlockView) (heap : List (List Edge)) → heap_with (pai
 heap_paired [] heap = refl
 heap_paired (b ∷ bs) heap = heap_paired bs (slice_set heap b.number (edges_in_block b))
 
-status_paired : (bs : List BlockView) (status : List Status)
+status_paired : (bs : List BlockView) (status : List BlockStatus)
     → status_with (pairs bs) status ≡ marked (numbers_of bs) (Used 0) status
 status_paired [] status = refl
 status_paired (b ∷ bs) status = status_paired bs (slice_set status b.number (Used 0))
-
-same_free : (n m : ℕ) → SameStatus (slice_get (replicate n PoolFree) m) (slice_get (replicate n Free) m)
-same_free zero m = tt
-same_free (suc n) zero = tt
-same_free (suc n) (suc m) = same_free n m
-
-same_marked : (t : Bool) (p : Option PoolStatus) (s : Option Status) → SameStatus p s
-    → SameStatus (if t then option_map (λ _. PoolUsed 0) p else p) (if t then option_map (λ _. Used 0) s else s)
-same_marked false p s same = same
-same_marked true None None same = tt
-same_marked true None (Some s) same = absurd same
-same_marked true (Some p) None same = absurd same
-same_marked true (Some p) (Some s) same = refl
-
-status_opened : (blocks : ℕ) (bs : List BlockView) (m : ℕ)
-    → SameStatus (slice_get (marked (numbers_of bs) (PoolUsed 0) (replicate blocks PoolFree)) m)
-    (slice_get (status_with (pairs bs) (replicate blocks Free)) m)
-status_opened blocks bs m =
-    let ns : List ℕ = numbers_of bs in
-    let machine : slice_get (status_with (pairs bs) (replicate blocks Free)) m
-    ≡ (if is_in m ns then option_map (λ _. Used 0) (slice_get (replicate blocks Free) m)
-    else slice_get (replicate blocks Free) m) =
-    ap (λ (xs : List Status). slice_get xs m) (status_paired bs (replicate blocks Free))
-    ∙ marked_at ns (Used 0) (replicate blocks Free) m in
-    subst (λ p. SameStatus p (slice_get (status_with (pairs bs) (replicate blocks Free)) m))
-    (sym (marked_at ns (PoolUsed 0) (replicate blocks PoolFree) m))
-    (subst (SameStatus (if is_in m ns then option_map (λ _. PoolUsed 0) (slice_get (replicate blocks PoolFree) m)
-    else slice_get (replicate blocks PoolFree) m)) (sym machine)
-    (same_marked (is_in m ns) (slice_get (replicate blocks PoolFree) m) (slice_get (replicate blocks Free) m)
-    (same_free blocks m)))
 
 edges_opened : (blocks : ℕ) (bs : List BlockView) → All (λ n. n < blocks) (numbers_of bs) → AllPairs ◌≢◌ (numbers_of bs)
     → All (λ b. edges_at (heap_with (pairs bs) (replicate blocks [])) b.number ≡ edges_in_block b) bs
@@ -179,7 +152,7 @@ module _ (sessions blocks : ℕ) (v : VersionView) (c : Content) (zero_is : IsVe
   abbrev heap : List (List Edge)
   heap = heap_with (pairs bs) (replicate blocks [])
 
-  abbrev status : List Status
+  abbrev status : List BlockStatus
   status = status_with (pairs bs) (replicate blocks Free)
 
   apart : AllPairs ◌≢◌ (numbers_of bs)
@@ -202,11 +175,11 @@ module _ (sessions blocks : ℕ) (v : VersionView) (c : Content) (zero_is : IsVe
   status_start : (b : ℕ) → b < blocks
       → slice_get status b ≡ Some (if is_listed b (numbers_in (pairs bs)) then Used 0 else Free)
   status_start b low =
-      ap (λ (xs : List Status). slice_get xs b) (status_paired bs (replicate blocks Free))
+      ap (λ (xs : List BlockStatus). slice_get xs b) (status_paired bs (replicate blocks Free))
       ∙ marked_at (numbers_of bs) (Used 0) (replicate blocks Free) b
-      ∙ ap (λ o. if is_in b (numbers_of bs) then option_map (λ _. Used 0) o else o) (free_at blocks b low)
-      ∙ used_or_free (is_in b (numbers_of bs))
-      ∙ ap (λ ns. Some (if is_in b ns then Used 0 else Free)) (sym (numbers_paired bs))
+      ∙ ap (λ o. if is_listed b (numbers_of bs) then option_map (λ _. Used 0) o else o) (free_at blocks b low)
+      ∙ used_or_free (is_listed b (numbers_of bs))
+      ∙ ap (λ ns. Some (if is_listed b ns then Used 0 else Free)) (sym (numbers_paired bs))
 
   long : length status ≡ blocks
   long = ap length (status_paired bs (replicate blocks Free)) ∙ length-marked (numbers_of bs) (Used 0) (replicate blocks Free)
@@ -236,7 +209,7 @@ module _ (sessions blocks : ℕ) (v : VersionView) (c : Content) (zero_is : IsVe
     batches = sym zero_is.alone;
     blocks = numbers_paired bs;
     edges = edges_opened blocks bs zero_is.within apart;
-    status = status_opened blocks bs;
+    status = status_paired bs (replicate blocks Free);
     sizes = sizes_opened blocks bs;
   }
 

@@ -10,30 +10,34 @@ use Rattle.graph_model.specs.{Limits.batch_limit, GraphLimits.is_within_limits, 
 use Rattle.graph_model.specs.declared.batches.NamedOp.{NamedOp}
 use Rattle.edge_block.specs.Slots.{BlockView}
 use Rattle.row_pages.specs.Rows.{blocks_of, numbers_of}
-use Rattle.graph_version.specs.{Versions.content, Versions.is_in, Edges.edges_in_block, Edges.edges_in_blocks, Edges.AreEachOnce}
+use Rattle.graph_version.specs.Versions.{content}
+use Rattle.graph_version.specs.Edges.{edges_in_block, edges_in_blocks, AreEachOnce}
+use Rattle.block_reclamation.specs.Status.{is_listed, is_used, is_at, is_granted}
 use Rattle.graph_version.proofs.Shown.{rows_each_once}
-use Rattle.block_pool.specs.Pools.{Status as PoolStatus, is_born, passes, is_free_at, is_born_at}
-use Rattle.epoch_blocks.specs.declared.states.{Status.TheVariants.Free, Status.TheVariants.Fresh, Version.Version}
-use Rattle.epoch_blocks.specs.Blocks.{is_at, is_fresh, is_listed, all_differ, after_post}
+use Rattle.block_pool.specs.Pools.{is_free_at, is_used_at}
+use Rattle.block_reclamation.specs.declared.status.BlockStatus.{BlockStatus}
+use Rattle.epoch_blocks.specs.declared.states.Version.{Version}
+use Rattle.block_reclamation.specs.declared.status.BlockStatus.TheVariants.{Free, Granted}
+use Rattle.epoch_blocks.specs.Blocks.{all_differ, after_post}
 use Rattle.epoch_blocks.specs.Versions.{AreEdgesOf, opening_graph, edges_at, edges_of}
 use Rattle.epoch_blocks.specs.Posting.{is_listable, version_by, can_post, graph_after, are_edges_of}
 use Rattle.epoch_blocks.proofs.{Edges.Decides-edges, Lists.and_left, Lists.and_right, Lists.all_listed, Lists.length_enumerated}
 use Rattle.epoch_core.specs.{declared.events.Event.TheVariants.Post, Worlds.World, Worlds.last_blocks, Posts.posted}
 use Rattle.epoch_core.proofs.{Changes.version_next, Changes.batches_all, Changes.left_more, Posted.status_at}
-use Rattle.store_steps.specs.{Journal.Applied, Journal.Ledger, Journal.is_legal, Shown.SameStatus, Shown.ShowsWorld}
+use Rattle.store_steps.specs.{Journal.Applied, Journal.Ledger, Journal.is_legal, Shown.ShowsWorld}
 use Rattle.store_steps.specs.Desks.{DeskView, IsDesk, IsAccepted, last_numbers, ledger_of}
 use Rattle.store_steps.specs.Steps.{fresh_in, posting, Takes}
 use Rattle.store_steps.proofs.NumberLists.{same_bool, differ_from, number_in, numbers_all, picked, in_picked, picked_in}
-use Rattle.store_steps.proofs.{NumberLists.picked_apart, NumberLists.picked_all, OneNumber.number_after, Filling.edges_from}
-use Rattle.store_steps.proofs.{ChangedLists.marked_at, Applications.exchanged_at}
-use Rattle.store_steps.proofs.OneStatus.{status_by, same_after, free_there, born_mark}
+use Rattle.store_steps.proofs.{NumberLists.picked_apart, NumberLists.picked_all, OneNumber.number_after, OneNumber.free_is, Filling.edges_from}
+use Rattle.store_steps.proofs.{ChangedLists.marked_at, ChangedLists.same_list, Applications.exchanged_at}
+use Rattle.store_steps.proofs.OneStatus.{status_by, same_after, born_mark}
 use Rattle.store_steps.proofs.Filling.{filled_world, fills_done, step_then, AllAre, length-heap_with, heap_else, heap_here}
 
 -- what a legal batch asks of the pool
-pub record IsLegalBatch (pool : List PoolStatus) (taken dropped : List ℕ) : Type 0 where
+pub record IsLegalBatch (pool : List BlockStatus) (taken dropped : List ℕ) : Type 0 where
   pub free : list_all (is_free_at pool) taken ≡ true
   pub apart : all_differ taken ≡ true
-  pub born : list_all (is_born_at pool) dropped ≡ true
+  pub born : list_all (is_used_at pool) dropped ≡ true
   pub dropped_apart : all_differ dropped ≡ true
 
 pub legal_batch : (l : Ledger) (ops : List NamedOp) (taken dropped : List ℕ) → is_legal l (Applied ops taken dropped) ≡ true
@@ -73,31 +77,31 @@ legal_in : (a : Acceptance) → IsLegalBatch a.old.pool a.taken a.dropped
 legal_in a = legal_batch (ledger_of a.old) a.ops a.taken a.dropped a.accepted.legal
 
 new_pool : (a : Acceptance) (n : ℕ) → slice_get a.new.pool n ≡ number_after (number_in_desk a) (slice_get a.old.pool n)
-    (is_in n a.taken) (is_in n a.dropped)
+    (is_listed n a.taken) (is_listed n a.dropped)
 new_pool a n = ap (λ l. slice_get l.pool n) a.accepted.ledger
     ∙ exchanged_at (number_in_desk a) a.taken a.dropped a.old.pool n (legal_in a).dropped_apart
 
-taken_free : (a : Acceptance) (n : ℕ) → is_in n a.taken ≡ true → is_free_at a.old.pool n ≡ true
+taken_free : (a : Acceptance) (n : ℕ) → is_listed n a.taken ≡ true → is_free_at a.old.pool n ≡ true
 taken_free a n is = all_listed (is_free_at a.old.pool) a.taken n (legal_in a).free is
 
-dropped_born : (a : Acceptance) (n : ℕ) → is_in n a.dropped ≡ true → is_born_at a.old.pool n ≡ true
-dropped_born a n is = all_listed (is_born_at a.old.pool) a.dropped n (legal_in a).born is
+dropped_born : (a : Acceptance) (n : ℕ) → is_listed n a.dropped ≡ true → is_used_at a.old.pool n ≡ true
+dropped_born a n is = all_listed (is_used_at a.old.pool) a.dropped n (legal_in a).born is
 
 -- a taken number is one of the new version's
-taken_listed : (a : Acceptance) (n : ℕ) → is_in n a.taken ≡ true → is_in n (last_numbers a.new) ≡ true
+taken_listed : (a : Acceptance) (n : ℕ) → is_listed n a.taken ≡ true → is_listed n (last_numbers a.new) ≡ true
 taken_listed a n is =
-    sym (a.after.listed n) ∙ ap (passes is_born) (new_pool a n)
-    ∙ born_mark (number_in_desk a) (slice_get a.old.pool n) (is_in n a.taken) (is_in n a.dropped) (taken_free a n)
+    sym (a.after.listed n) ∙ ap (is_at is_used) (new_pool a n)
+    ∙ born_mark (number_in_desk a) (slice_get a.old.pool n) (is_listed n a.taken) (is_listed n a.dropped) (taken_free a n)
     (dropped_born a n) is
 
--- the fresh blocks' numbers are those taken
-fresh_taken : (a : Acceptance) (n : ℕ) → is_in n (numbers_of (fresh_blocks a)) ≡ is_in n a.taken
+-- the numbers of the new blocks are those taken
+fresh_taken : (a : Acceptance) (n : ℕ) → is_listed n (numbers_of (fresh_blocks a)) ≡ is_listed n a.taken
 fresh_taken a n =
-    same_bool _ _ (in_picked (λ m. is_in m a.taken) (new_blocks a) n)
-    (λ is. picked_in (λ m. is_in m a.taken) (new_blocks a) n is (taken_listed a n is))
+    same_bool _ _ (in_picked (λ m. is_listed m a.taken) (new_blocks a) n)
+    (λ is. picked_in (λ m. is_listed m a.taken) (new_blocks a) n is (taken_listed a n is))
 
 fresh_apart : (a : Acceptance) → all_differ (numbers_of (fresh_blocks a)) ≡ true
-fresh_apart a = picked_apart (λ m. is_in m a.taken) (new_blocks a)
+fresh_apart a = picked_apart (λ m. is_listed m a.taken) (new_blocks a)
     (differ_from (numbers_of (new_blocks a)) a.after.version.rows.numbers)
 
 -- The machine beside it
@@ -108,8 +112,8 @@ ready a w = filled_world w (fresh_blocks a)
 fresh_free : (a : Acceptance) (w : World) → ShowsWorld a.old w → AllAre Free w.status (fresh_blocks a)
 fresh_free a w shows k d h =
     let n : ℕ = (get_or (fresh_blocks a) k d).number in
-    free_there (slice_get a.old.pool n) (slice_get w.status n) (shows.status n)
-    (taken_free a n (picked_all (λ m. is_in m a.taken) (new_blocks a) k d h))
+    ap (λ (pool : List BlockStatus). slice_get pool n) shows.status ∙ free_is (slice_get a.old.pool n)
+    (taken_free a n (picked_all (λ m. is_listed m a.taken) (new_blocks a) k d h))
 
 fresh_within : (a : Acceptance) (w : World) → ShowsWorld a.old w → All (λ b. b.number < length w.heap) (fresh_blocks a)
 fresh_within a w shows k d h =
@@ -117,10 +121,10 @@ fresh_within a w shows k d h =
     shows.sizes in omega arith
 
 ready_status : (a : Acceptance) (w : World) (n : ℕ) → slice_get (ready a w).status n
-    ≡ (if is_in n a.taken then option_map (λ _. Fresh) (slice_get w.status n) else slice_get w.status n)
+    ≡ (if is_listed n a.taken then option_map (λ _. Granted) (slice_get w.status n) else slice_get w.status n)
 ready_status a w n =
-    marked_at (numbers_of (fresh_blocks a)) Fresh w.status n
-    ∙ ap (λ t. if t then option_map (λ _. Fresh) (slice_get w.status n) else slice_get w.status n) (fresh_taken a n)
+    marked_at (numbers_of (fresh_blocks a)) Granted w.status n
+    ∙ ap (λ t. if t then option_map (λ _. Granted) (slice_get w.status n) else slice_get w.status n) (fresh_taken a n)
 
 -- a block of the new version has its edges in the machine, and may be listed
 pub record IsPlaced (a : Acceptance) (w : World) (b : BlockView) : Type 0 where
@@ -128,17 +132,17 @@ pub record IsPlaced (a : Acceptance) (w : World) (b : BlockView) : Type 0 where
   pub listable : is_listable (ready a w).status (last_blocks w) b.number ≡ true
 
 taken_placed : (a : Acceptance) (w : World) → ShowsWorld a.old w → (b : BlockView) → Contains (fresh_blocks a) b
-    → is_in b.number a.taken ≡ true → IsPlaced a w b
+    → is_listed b.number a.taken ≡ true → IsPlaced a w b
 taken_placed a w shows b (k, h, at) is = record {
   edges = subst (λ x. edges_at (ready a w).heap x.number ≡ edges_in_block x) at
       (heap_here (fresh_blocks a) w.heap (fresh_within a w shows) (fresh_apart a) k b h);
   listable =
       let free : slice_get w.status b.number ≡ Some Free =
-      free_there (slice_get a.old.pool b.number) (slice_get w.status b.number) (shows.status b.number)
+      ap (λ (pool : List BlockStatus). slice_get pool b.number) shows.status ∙ free_is (slice_get a.old.pool b.number)
       (taken_free a b.number is) in
-      let fresh : slice_get (ready a w).status b.number ≡ Some Fresh = ready_status a w b.number ∙ rw (is, free) refl in
-      or_left (is_at is_fresh (slice_get (ready a w).status b.number)) (is_listed b.number (last_blocks w))
-      (ap (is_at is_fresh) fresh);
+      let fresh : slice_get (ready a w).status b.number ≡ Some Granted = ready_status a w b.number ∙ rw (is, free) refl in
+      or_left (is_at is_granted (slice_get (ready a w).status b.number)) (is_listed b.number (last_blocks w))
+      (ap (is_at is_granted) fresh);
 }
 
 contains_picked : (p : ℕ → Bool) (bs : List BlockView) (b : BlockView) (k : ℕ) → k < length bs → get_or bs k b ≡ b
@@ -155,13 +159,13 @@ contains_picked p (c ∷ cs) b (suc k) h at is =
     ]
 
 kept_placed : (a : Acceptance) (w : World) → ShowsWorld a.old w → (b : BlockView) → Contains (blocks_of a.old.last.rows) b
-    → is_in b.number a.taken ≡ false → IsPlaced a w b
+    → is_listed b.number a.taken ≡ false → IsPlaced a w b
 kept_placed a w shows b (k, h, at) is = record {
   edges =
       heap_else (fresh_blocks a) w.heap b.number (fresh_taken a b.number ∙ is)
       ∙ subst (λ x. edges_at w.heap x.number ≡ edges_in_block x) at (shows.edges k b h);
-  listable = or_right (is_at is_fresh (slice_get (ready a w).status b.number)) (is_listed b.number (last_blocks w))
-      (ap (is_in b.number) shows.blocks ∙ number_in (blocks_of a.old.last.rows) b k h at);
+  listable = or_right (is_at is_granted (slice_get (ready a w).status b.number)) (is_listed b.number (last_blocks w))
+      (ap (is_listed b.number) shows.blocks ∙ number_in (blocks_of a.old.last.rows) b k h at);
 }
 
 get_or_default : (bs : List BlockView) (k : ℕ) (d e : BlockView) → k < length bs → get_or bs k d ≡ get_or bs k e
@@ -173,8 +177,8 @@ placed : (a : Acceptance) (w : World) → ShowsWorld a.old w → All (IsPlaced a
 placed a w shows k d h =
     let b : BlockView = get_or (new_blocks a) k d in
     let at : get_or (new_blocks a) k b ≡ b = get_or_default (new_blocks a) k b d h in
-    elim (is_in b.number a.taken) as (λ t. is_in b.number a.taken ≡ t → IsPlaced a w b) [
-      | true ↦ λ is. taken_placed a w shows b (contains_picked (λ m. is_in m a.taken) (new_blocks a) b k h at is) is
+    elim (is_listed b.number a.taken) as (λ t. is_listed b.number a.taken ≡ t → IsPlaced a w b) [
+      | true ↦ λ is. taken_placed a w shows b (contains_picked (λ m. is_listed m a.taken) (new_blocks a) b k h at is) is
       | false ↦ λ is. kept_placed a w shows b (a.accepted.kept k d h is) is
     ] refl
 
@@ -219,23 +223,20 @@ abbrev posted_world : Acceptance → World → World
 posted_world a w = posted (ready a w) a.ops (last_numbers a.new)
 
 status_posted : (a : Acceptance) (w : World) → ShowsWorld a.old w → (n : ℕ)
-    → SameStatus (slice_get a.new.pool n) (slice_get (posted_world a w).status n)
+    → slice_get (posted_world a w).status n ≡ slice_get a.new.pool n
 status_posted a w shows n =
-    let listed : is_in n (last_numbers a.new) ≡ passes is_born
-    (number_after (number_in_desk a) (slice_get a.old.pool n) (is_in n a.taken) (is_in n a.dropped)) =
-    sym (a.after.listed n) ∙ ap (passes is_born) (new_pool a n) in
-    let machine : slice_get (posted_world a w).status n
-    ≡ status_by (number_in_desk a) (passes is_born (number_after (number_in_desk a) (slice_get a.old.pool n) (is_in n a.taken)
-    (is_in n a.dropped))) (slice_get w.status n) (is_in n a.taken) =
+    let listed : is_listed n (last_numbers a.new) ≡ is_at is_used
+    (number_after (number_in_desk a) (slice_get a.old.pool n) (is_listed n a.taken) (is_listed n a.dropped)) =
+    sym (a.after.listed n) ∙ ap (is_at is_used) (new_pool a n) in
     status_at (length w.versions + 1) (last_numbers a.new) (ready a w).status n
-    ∙ ap (option_map (after_post (length w.versions + 1) (is_in n (last_numbers a.new)))) (ready_status a w n)
-    ∙ ap (λ m. status_by (m + 1) (is_in n (last_numbers a.new)) (slice_get w.status n) (is_in n a.taken)) (same_count a w shows)
-    ∙ ap (λ t. status_by (number_in_desk a) t (slice_get w.status n) (is_in n a.taken)) listed in
-    subst (λ o. SameStatus o (slice_get (posted_world a w).status n)) (sym (new_pool a n))
-    (subst (SameStatus (number_after (number_in_desk a) (slice_get a.old.pool n) (is_in n a.taken) (is_in n a.dropped)))
-    (sym machine)
-    (same_after (number_in_desk a) (slice_get a.old.pool n) (slice_get w.status n) (is_in n a.taken) (is_in n a.dropped)
-    (shows.status n) (taken_free a n) (dropped_born a n)))
+    ∙ ap (option_map (after_post (length w.versions + 1) (is_listed n (last_numbers a.new)))) (ready_status a w n)
+    ∙ ap (λ m. status_by (m + 1) (is_listed n (last_numbers a.new)) (slice_get w.status n) (is_listed n a.taken)) (same_count a w shows)
+    ∙ ap (λ t. status_by (number_in_desk a) t (slice_get w.status n) (is_listed n a.taken)) listed
+    ∙ ap (λ (pool : List BlockStatus). status_by (number_in_desk a) (is_at is_used (number_after (number_in_desk a)
+    (slice_get a.old.pool n) (is_listed n a.taken) (is_listed n a.dropped))) (slice_get pool n) (is_listed n a.taken)) shows.status
+    ∙ same_after (number_in_desk a) (slice_get a.old.pool n) (is_listed n a.taken) (is_listed n a.dropped) (taken_free a n)
+    (dropped_born a n)
+    ∙ sym (new_pool a n)
 
 shows_posted : (a : Acceptance) (w : World) → ShowsWorld a.old w → ShowsWorld a.new (posted_world a w)
 shows_posted a w shows =
@@ -247,10 +248,10 @@ shows_posted a w shows =
       batches = map-append (λ u. u.batch) w.versions (v ∷ []) ∙ ap (λ bs. bs ++ a.ops ∷ []) shows.batches ∙ sym (new_batches a);
       blocks = ap (λ u. u.blocks) (version_next w.opening w.versions v);
       edges = λ k d h. (all k d h).edges;
-      status = status_posted a w shows;
+      status = same_list (posted_world a w).status a.new.pool (status_posted a w shows);
       sizes =
           length-heap_with (fresh_blocks a) w.heap ∙ shows.sizes
-          ∙ sym (length-marked (numbers_of (fresh_blocks a)) Fresh w.status)
+          ∙ sym (length-marked (numbers_of (fresh_blocks a)) Granted w.status)
           ∙ sym (length_enumerated (λ p. after_post (length w.versions + 1) (is_listed p.0 (last_numbers a.new)) p.1) 0
           (ready a w).status);
     }

@@ -3,20 +3,21 @@ use Rattle.std.proofs.Common.{◌≡◌, ℕ, zero, suc, ◌<◌, true, false, L
 use Rattle.std.proofs.{Common.◌∙◌, Common.arith, lemmas.List.length-map, lemmas.Option.slice_get-get_or}
 use Rattle.std.specs.{Option.unwrap_or, Option.option_map, Option.option_and_then, Prelude.slice_get, Prelude.is_some}
 use Rattle.std.specs.declared.option.Option.{Option, TheVariants.None, TheVariants.Some}
+use Rattle.epoch_core.specs.Worlds.{seat_pin, World, MachineState, IsStart, start_world, last_number, session_of, held_in}
 use Rattle.epoch_core.specs.{declared.events.Event.Event, declared.states.SessionState.SessionState, Epochs.PinsInOrder}
 use Rattle.epoch_core.specs.declared.events.Event.TheVariants.{Floor, Pin, Enter, Settle, Ask, Read, Reply, Release}
 use Rattle.epoch_core.specs.declared.states.SessionState.TheVariants.{Idle, Pinned, Holding, Asking}
 use Rattle.epoch_blocks.specs.Blocks.{put}
-use Rattle.epoch_core.specs.Worlds.{World, MachineState, IsStart, start_world, last_number, session_of, held_in}
 use Rattle.epoch_core.specs.Machine.{step, move, to_pin, to_enter, to_settle, with_sessions}
 use Rattle.epoch_core.specs.Runs.{run, next_world, is_done}
 use Rattle.epoch_core.proofs.{Moves.Moved, Moves.moved, Moves.floored, Moves.session_after, Steps.always_sound, Steps.idle_at}
 use Rattle.epoch_core.proofs.{Sizes.size_run, Epochs.pins_in_order}
 use Rattle.graph_version.specs.Versions.{empty_version}
-use Rattle.pin_copy.specs.declared.copies.PinCopy.{PinCopy}
-use Rattle.seat_board.specs.Board.{BoardState, pin_at, with_pin, unsettled, settled, copy_of}
+use Rattle.block_reclamation.specs.declared.copies.PinCopy.{PinCopy}
+use Rattle.block_reclamation.specs.Board.{BoardState, with_pin}
+use Rattle.block_reclamation.specs.Copies.{pin_at, unsettled, settled, copy_of}
 use Rattle.store_steps.specs.{Desks.DeskView, Shown.ShowsWorld, Histories.IsUnseen, Steps.IsTaken, Opening.opened_desk}
-use Rattle.store_steps.specs.Boards.{seat_pin, ShowsBoard, ShowsIfDone, raised_board}
+use Rattle.store_steps.specs.Boards.{ShowsBoard, ShowsIfDone, raised_board}
 use Rattle.store_steps.specs.Reached.{Store, opened_store, world_by, IsReached, Leads, IsReaders, StaysReached}
 use Rattle.store_steps.proofs.BoardSteps.{pins_as_machine, settles_as_machine, unpins_as_machine, raises_as_machine}
 use Rattle.store_steps.proofs.{Histories.done_is_run, Histories.readers_are_unseen, OpeningShown.no_pin, OpeningShown.opens_blank}

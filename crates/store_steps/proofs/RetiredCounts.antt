@@ -1,12 +1,15 @@
 -- How many blocks are retired, and how many free, once some are moved.
 use Rattle.std.proofs.Common.{◌≡◌, ℕ, zero, suc, ◌+◌, ◌≤◌, Bool, true, false, cond, List, [], ◌∷◌, length, get_or, set, count_by, sym, ap, arith}
 use Rattle.std.proofs.lemmas.List.{length-map}
-use Rattle.block_pool.specs.Pools.{Status, Free, Granted, Used, is_retired, retired, marked, changed}
+use Rattle.block_pool.specs.Pools.{retired, marked, changed}
+use Rattle.block_reclamation.specs.declared.status.BlockStatus.{BlockStatus}
+use Rattle.block_reclamation.specs.declared.status.BlockStatus.TheVariants.{Free, Granted, Used}
+use Rattle.block_reclamation.specs.Status.{is_retired}
 use Rattle.block_pool.proofs.Tallies.{count_more}
 use Rattle.store_steps.proofs.Applications.{Application, next_desk, granted_pool, born_pool, dropped_numbers, number_in_desk}
 use Rattle.store_steps.proofs.Applications.{retired_pool, moves_left}
 
-set_count : (xs : List Status) (i : ℕ) (s : Status) → count_by is_retired (set xs i s) ≤ count_by is_retired xs + cond
+set_count : (xs : List BlockStatus) (i : ℕ) (s : BlockStatus) → count_by is_retired (set xs i s) ≤ count_by is_retired xs + cond
     (is_retired s) 1 0
 set_count [] i s = omega arith
 set_count (x ∷ xs) zero s = let a = count_more is_retired x xs in let b = count_more is_retired s xs in omega arith
@@ -19,20 +22,20 @@ one_at_most true = omega arith
 one_at_most false = omega arith
 
 -- each block that is retired is one more at most
-pub retired_more : (ns : List ℕ) (n : ℕ) (xs : List Status) → count_by is_retired (changed (retired n) ns xs) ≤ count_by
+pub retired_more : (ns : List ℕ) (n : ℕ) (xs : List BlockStatus) → count_by is_retired (changed (retired n) ns xs) ≤ count_by
     is_retired xs + length ns
 retired_more [] n xs = omega arith
 retired_more (m ∷ ns) n xs =
-    let s : Status = retired n (get_or xs m Granted) in
+    let s : BlockStatus = retired n (get_or xs m Granted) in
     let rest = retired_more ns n (set xs m s) in let one = set_count xs m s in let few = one_at_most (is_retired s) in omega arith
 
 -- no block that is freed is retired
-pub freed_no_more : (ns : List ℕ) (xs : List Status) → count_by is_retired (marked ns Free xs) ≤ count_by is_retired xs
+pub freed_no_more : (ns : List ℕ) (xs : List BlockStatus) → count_by is_retired (marked ns Free xs) ≤ count_by is_retired xs
 freed_no_more [] xs = omega arith
 freed_no_more (m ∷ ns) xs = let rest = freed_no_more ns (set xs m Free) in let one = set_count xs m Free in omega arith
 
 -- nor is one that is born
-born_no_more : (ns : List ℕ) (birth : ℕ) (xs : List Status) → count_by is_retired (marked ns (Used birth) xs)
+born_no_more : (ns : List ℕ) (birth : ℕ) (xs : List BlockStatus) → count_by is_retired (marked ns (Used birth) xs)
     ≤ count_by is_retired xs
 born_no_more [] birth xs = omega arith
 born_no_more (m ∷ ns) birth xs =

@@ -6,10 +6,12 @@ use Rattle.std.proofs.lemmas.{List.length-map, Bool.eq-eqb, Bool.true≢false, B
 use Rattle.std.proofs.lemmas.Option.{get_or_from_slice_get}
 use Rattle.block_pool.proofs.{Grants.length-marked, Tallies.count_here, Tallies.count_more}
 use Rattle.graph_model.specs.declared.batches.NamedOp.{NamedOp}
-use Rattle.graph_version.specs.Versions.{is_in}
-use Rattle.pin_copy.specs.{declared.copies.PinCopy.PinCopy, Copies.needs}
-use Rattle.block_pool.specs.Pools.{Status, Free, Granted, Used, Retired, is_free, is_retired, is_past, recycled, retired}
-use Rattle.block_pool.specs.Pools.{is_free_at, is_born_at, marked, changed}
+use Rattle.block_reclamation.specs.Status.{is_listed, is_free, is_retired, is_reclaimable, recycled}
+use Rattle.block_reclamation.specs.declared.copies.PinCopy.{PinCopy}
+use Rattle.block_reclamation.specs.Copies.{needs}
+use Rattle.block_pool.specs.Pools.{retired, is_free_at, marked, changed, is_used_at}
+use Rattle.block_reclamation.specs.declared.status.BlockStatus.{BlockStatus}
+use Rattle.block_reclamation.specs.declared.status.BlockStatus.TheVariants.{Free, Granted, Used, Retired}
 use Rattle.epoch_blocks.{specs.Blocks.all_differ, proofs.Lists.set_else, proofs.Lists.all_listed}
 use Rattle.store_steps.specs.Desks.{DeskView, IsAccepted, IsCollected, AcceptedCounts, CollectedCounts, is_retired_by, birth_of, birth_at}
 use Rattle.store_steps.specs.Desks.{ledger_of}
@@ -18,27 +20,27 @@ use Rattle.store_steps.proofs.{ChangedLists.marked_at, ChangedLists.length-chang
 use Rattle.store_steps.proofs.OneNumber.{free_is, born_is, not_both}
 
 -- one status is set
-count_set : (p : Status → Bool) (pool : List Status) (n : ℕ) (s t : Status) → slice_get pool n ≡ Some s
+count_set : (p : BlockStatus → Bool) (pool : List BlockStatus) (n : ℕ) (s t : BlockStatus) → slice_get pool n ≡ Some s
     → count_by p (set pool n t) + cond (p s) 1 0 ≡ count_by p pool + cond (p t) 1 0
 count_set p pool n s t is =
     subst (λ x. count_by p (set pool n t) + cond (p x) 1 0 ≡ count_by p pool + cond (p t) 1 0)
     (get_or_from_slice_get pool n s s is) (count_here p pool n t s (slice_get_within pool n s is))
 
 -- each of these numbers has this status
-abbrev AllHave : Status → List Status → List ℕ → Type 0
-AllHave s pool ns = (m : ℕ) → is_in m ns ≡ true → slice_get pool m ≡ Some s
+abbrev AllHave : BlockStatus → List BlockStatus → List ℕ → Type 0
+AllHave s pool ns = (m : ℕ) → is_listed m ns ≡ true → slice_get pool m ≡ Some s
 
-have_head : (s : Status) (pool : List Status) (n : ℕ) (ns : List ℕ) → AllHave s pool (n ∷ ns) → slice_get pool n ≡ Some s
-have_head s pool n ns have = let here : (n == n) ≡ true = eq-eqb n n refl in have n (ap (λ t. t || is_in n ns) here)
+have_head : (s : BlockStatus) (pool : List BlockStatus) (n : ℕ) (ns : List ℕ) → AllHave s pool (n ∷ ns) → slice_get pool n ≡ Some s
+have_head s pool n ns have = let here : (n == n) ≡ true = eq-eqb n n refl in have n (ap (λ t. t || is_listed n ns) here)
 
-have_tail : (s t : Status) (pool : List Status) (n : ℕ) (ns : List ℕ) → all_differ (n ∷ ns) ≡ true → AllHave s pool (n ∷ ns)
+have_tail : (s t : BlockStatus) (pool : List BlockStatus) (n : ℕ) (ns : List ℕ) → all_differ (n ∷ ns) ≡ true → AllHave s pool (n ∷ ns)
     → AllHave s (set pool n t) ns
 have_tail s t pool n ns apart have m is =
-    let ne : m ≢ n = λ e. absurd (true≢false (sym is ∙ ap (λ x. is_in x ns) e ∙ differ_head n ns apart)) in
-    set_else pool n m t ne ∙ have m (or_right (n == m) (is_in m ns) is)
+    let ne : m ≢ n = λ e. absurd (true≢false (sym is ∙ ap (λ x. is_listed x ns) e ∙ differ_head n ns apart)) in
+    set_else pool n m t ne ∙ have m (or_right (n == m) (is_listed m ns) is)
 
 -- numbers of one status are all set to another
-fewer : (p : Status → Bool) (s t : Status) (ns : List ℕ) (pool : List Status) → p s ≡ true → p t ≡ false → all_differ ns ≡ true
+fewer : (p : BlockStatus → Bool) (s t : BlockStatus) (ns : List ℕ) (pool : List BlockStatus) → p s ≡ true → p t ≡ false → all_differ ns ≡ true
     → AllHave s pool ns
     → count_by p (marked ns t pool) + length ns ≡ count_by p pool
 fewer p s t [] pool was is apart have = omega arith
@@ -49,7 +51,7 @@ fewer p s t (n ∷ ns) pool was is apart have =
     let rest = fewer p s t ns (set pool n t) was is (differ_tail n ns apart) (have_tail s t pool n ns apart have) in
     omega arith
 
-more : (p : Status → Bool) (s t : Status) (ns : List ℕ) (pool : List Status) → p s ≡ false → p t ≡ true → all_differ ns ≡ true
+more : (p : BlockStatus → Bool) (s t : BlockStatus) (ns : List ℕ) (pool : List BlockStatus) → p s ≡ false → p t ≡ true → all_differ ns ≡ true
     → AllHave s pool ns
     → count_by p (marked ns t pool) ≡ count_by p pool + length ns
 more p s t [] pool was is apart have = omega arith
@@ -60,7 +62,7 @@ more p s t (n ∷ ns) pool was is apart have =
     let rest = more p s t ns (set pool n t) was is (differ_tail n ns apart) (have_tail s t pool n ns apart have) in
     omega arith
 
-as_many : (p : Status → Bool) (s t : Status) (ns : List ℕ) (pool : List Status) → p s ≡ p t → all_differ ns ≡ true
+as_many : (p : BlockStatus → Bool) (s t : BlockStatus) (ns : List ℕ) (pool : List BlockStatus) → p s ≡ p t → all_differ ns ≡ true
     → AllHave s pool ns
     → count_by p (marked ns t pool) ≡ count_by p pool
 as_many p s t [] pool same apart have = refl
@@ -71,21 +73,21 @@ as_many p s t (n ∷ ns) pool same apart have =
     omega arith
 
 -- each of these numbers is born, at the birth that the pool has
-abbrev AllBorn : List Status → (ℕ → ℕ) → List ℕ → Type 0
-AllBorn pool births ns = (m : ℕ) → is_in m ns ≡ true → slice_get pool m ≡ Some (Used (births m))
+abbrev AllBorn : List BlockStatus → (ℕ → ℕ) → List ℕ → Type 0
+AllBorn pool births ns = (m : ℕ) → is_listed m ns ≡ true → slice_get pool m ≡ Some (Used (births m))
 
-born_head : (pool : List Status) (births : ℕ → ℕ) (n : ℕ) (ns : List ℕ) → AllBorn pool births (n ∷ ns)
+born_head : (pool : List BlockStatus) (births : ℕ → ℕ) (n : ℕ) (ns : List ℕ) → AllBorn pool births (n ∷ ns)
     → slice_get pool n ≡ Some (Used (births n))
-born_head pool births n ns have = let here : (n == n) ≡ true = eq-eqb n n refl in have n (ap (λ t. t || is_in n ns) here)
+born_head pool births n ns have = let here : (n == n) ≡ true = eq-eqb n n refl in have n (ap (λ t. t || is_listed n ns) here)
 
-born_tail : (t : Status) (pool : List Status) (births : ℕ → ℕ) (n : ℕ) (ns : List ℕ) → all_differ (n ∷ ns) ≡ true
+born_tail : (t : BlockStatus) (pool : List BlockStatus) (births : ℕ → ℕ) (n : ℕ) (ns : List ℕ) → all_differ (n ∷ ns) ≡ true
     → AllBorn pool births (n ∷ ns) → AllBorn (set pool n t) births ns
 born_tail t pool births n ns apart have m is =
-    let ne : m ≢ n = λ e. absurd (true≢false (sym is ∙ ap (λ x. is_in x ns) e ∙ differ_head n ns apart)) in
-    set_else pool n m t ne ∙ have m (or_right (n == m) (is_in m ns) is)
+    let ne : m ≢ n = λ e. absurd (true≢false (sym is ∙ ap (λ x. is_listed x ns) e ∙ differ_head n ns apart)) in
+    set_else pool n m t ne ∙ have m (or_right (n == m) (is_listed m ns) is)
 
 -- born numbers are all retired: what a test counts grows by those whose retired status passes, and falls by none that does
-retired_counts : (p : Status → Bool) (number : ℕ) (births : ℕ → ℕ) (ns : List ℕ) (pool : List Status)
+retired_counts : (p : BlockStatus → Bool) (number : ℕ) (births : ℕ → ℕ) (ns : List ℕ) (pool : List BlockStatus)
     → ((birth : ℕ) → p (Used birth) ≡ false) → all_differ ns ≡ true → AllBorn pool births ns
     → count_by p (changed (retired number) ns pool)
     ≡ count_by p pool + count_by (λ birth. p (Retired birth number)) (map births ns)
@@ -93,7 +95,7 @@ retired_counts p number births [] pool never apart have = omega arith
 retired_counts p number births (n ∷ ns) pool never apart have =
     let at = born_head pool births n ns have in
     let there : get_or pool n Granted ≡ Used (births n) = get_or_from_slice_get pool n (Used (births n)) Granted at in
-    let dated : Status = Retired (births n) number in
+    let dated : BlockStatus = Retired (births n) number in
     let one = count_set p pool n (Used (births n)) dated at in
     let a : (let k : ℕ = cond (p (Used (births n))) 1 0 in k) ≡ 0 = ap (λ b. cond b 1 0) (never (births n)) in
     let rest = retired_counts p number births ns (set pool n dated) never (differ_tail n ns apart)
@@ -105,14 +107,14 @@ retired_counts p number births (n ∷ ns) pool never apart have =
     omega arith
 
 -- and what doesn't tell a born status from a retired one is as before
-retired_alike : (p : Status → Bool) (number : ℕ) (births : ℕ → ℕ) (ns : List ℕ) (pool : List Status)
+retired_alike : (p : BlockStatus → Bool) (number : ℕ) (births : ℕ → ℕ) (ns : List ℕ) (pool : List BlockStatus)
     → ((birth : ℕ) → p (Used birth) ≡ p (Retired birth number)) → all_differ ns ≡ true → AllBorn pool births ns
     → count_by p (changed (retired number) ns pool) ≡ count_by p pool
 retired_alike p number births [] pool same apart have = refl
 retired_alike p number births (n ∷ ns) pool same apart have =
     let at = born_head pool births n ns have in
     let there : get_or pool n Granted ≡ Used (births n) = get_or_from_slice_get pool n (Used (births n)) Granted at in
-    let dated : Status = Retired (births n) number in
+    let dated : BlockStatus = Retired (births n) number in
     let one = count_set p pool n (Used (births n)) dated at in
     let a : (let k : ℕ = cond (p (Used (births n))) 1 0 in k) ≡ cond (p dated) 1 0 = ap (λ b. cond b 1 0) (same (births n)) in
     let rest = retired_alike p number births ns (set pool n dated) same (differ_tail n ns apart)
@@ -124,23 +126,23 @@ retired_alike p number births (n ∷ ns) pool same apart have =
 
 -- A batch
 
-taken_have : (pool : List Status) (taken dropped : List ℕ) → IsLegalBatch pool taken dropped → AllHave Free pool taken
+taken_have : (pool : List BlockStatus) (taken dropped : List ℕ) → IsLegalBatch pool taken dropped → AllHave Free pool taken
 taken_have pool taken dropped legal m is = free_is (slice_get pool m) (all_listed (is_free_at pool) taken m legal.free is)
 
-born_in : (pool : List Status) (taken dropped : List ℕ) → IsLegalBatch pool taken dropped → (m : ℕ) → is_in m dropped ≡ true
-    → is_born_at pool m ≡ true
-born_in pool taken dropped legal m is = all_listed (is_born_at pool) dropped m legal.born is
+born_in : (pool : List BlockStatus) (taken dropped : List ℕ) → IsLegalBatch pool taken dropped → (m : ℕ) → is_listed m dropped ≡ true
+    → is_used_at pool m ≡ true
+born_in pool taken dropped legal m is = all_listed (is_used_at pool) dropped m legal.born is
 
 -- no block is both taken and dropped
-not_taken : (pool : List Status) (taken dropped : List ℕ) → IsLegalBatch pool taken dropped → (m : ℕ) → is_in m dropped ≡ true
-    → is_in m taken ≡ false
-not_taken pool taken dropped legal m is = elim (is_in m taken) as (λ t. is_in m taken ≡ t → t ≡ false) [
+not_taken : (pool : List BlockStatus) (taken dropped : List ℕ) → IsLegalBatch pool taken dropped → (m : ℕ) → is_listed m dropped ≡ true
+    → is_listed m taken ≡ false
+not_taken pool taken dropped legal m is = elim (is_listed m taken) as (λ t. is_listed m taken ≡ t → t ≡ false) [
   | true ↦ λ both. absurd (not_both (slice_get pool m) (all_listed (is_free_at pool) taken m legal.free both)
       (born_in pool taken dropped legal m is))
   | false ↦ λ _. refl
 ] refl
 
-dropped_have : (pool : List Status) (number : ℕ) (taken dropped : List ℕ) → IsLegalBatch pool taken dropped
+dropped_have : (pool : List BlockStatus) (number : ℕ) (taken dropped : List ℕ) → IsLegalBatch pool taken dropped
     → AllBorn (marked taken (Used number) pool) (birth_at pool) dropped
 dropped_have pool number taken dropped legal m is =
     let born = born_is (slice_get pool m) (born_in pool taken dropped legal m is) in
@@ -159,7 +161,7 @@ pub accepted_counts : (old new : DeskView) (ops : List NamedOp) (taken dropped :
 accepted_counts old new ops taken dropped accepted =
     let legal : IsLegalBatch old.pool taken dropped = legal_batch (ledger_of old) ops taken dropped accepted.legal in
     let number : ℕ = length old.last.batches + 1 in
-    let granted : List Status = marked taken (Used number) old.pool in
+    let granted : List BlockStatus = marked taken (Used number) old.pool in
     let free = taken_have old.pool taken dropped legal in
     let births : ℕ → ℕ = birth_at old.pool in
     let born = dropped_have old.pool number taken dropped legal in
@@ -187,26 +189,26 @@ accepted_counts old new ops taken dropped accepted =
 
 -- A collection
 
-free_one : (copy : PinCopy) (s : Status) → cond {A = ℕ} (is_free (recycled copy s)) 1 0
-    ≡ cond (is_free s) 1 0 + cond (is_past copy s) 1 0
+free_one : (copy : PinCopy) (s : BlockStatus) → cond {A = ℕ} (is_free (recycled copy s)) 1 0
+    ≡ cond (is_free s) 1 0 + cond (is_reclaimable copy s) 1 0
 free_one copy (Retired b v) =
-    elim (is_past copy (Retired b v)) as (λ t. cond {A = ℕ} (is_free (if t then Free else Retired b v)) 1 0
+    elim (is_reclaimable copy (Retired b v)) as (λ t. cond {A = ℕ} (is_free (if t then Free else Retired b v)) 1 0
     ≡ cond (is_free (Retired b v)) 1 0 + cond t 1 0) [ true ↦ refl | false ↦ refl ]
 free_one copy _ = refl
 
-free_more : (copy : PinCopy) (pool : List Status) → count_by is_free (map (recycled copy) pool)
-    ≡ count_by is_free pool + count_by (is_past copy) pool
+free_more : (copy : PinCopy) (pool : List BlockStatus) → count_by is_free (map (recycled copy) pool)
+    ≡ count_by is_free pool + count_by (is_reclaimable copy) pool
 free_more copy [] = omega arith
 free_more copy (s ∷ pool) =
     let a = count_more is_free (recycled copy s) (map (recycled copy) pool) in
     let b = count_more is_free s pool in
-    let c = count_more (is_past copy) s pool in
+    let c = count_more (is_reclaimable copy) s pool in
     let one = free_one copy s in
     let rest = free_more copy pool in
     omega arith
 
-needed_one : (q : ℕ → ℕ → Bool) (copy : PinCopy) (s : Status) → is_retired_by q (recycled copy s)
-    ≡ is_retired_by (λ birth since. needs copy birth since && q birth since) s
+needed_one : (q : ℕ → ℕ → Bool) (copy : PinCopy) (s : BlockStatus) → is_retired_by q (recycled copy s)
+    ≡ is_retired_by (λ birth retirement. needs copy birth retirement && q birth retirement) s
 needed_one q copy (Retired b v) = elim (needs copy b v) as (λ t.
     is_retired_by q (if not t then Free else Retired b v) ≡ (t && q b v)) [
       | true ↦ refl
@@ -214,14 +216,14 @@ needed_one q copy (Retired b v) = elim (needs copy b v) as (λ t.
     ]
 needed_one q copy _ = refl
 
-needed_all : (q : ℕ → ℕ → Bool) (copy : PinCopy) (pool : List Status) → count_by (is_retired_by q) (map (recycled copy) pool)
-    ≡ count_by (is_retired_by (λ birth since. needs copy birth since && q birth since)) pool
+needed_all : (q : ℕ → ℕ → Bool) (copy : PinCopy) (pool : List BlockStatus) → count_by (is_retired_by q) (map (recycled copy) pool)
+    ≡ count_by (is_retired_by (λ birth retirement. needs copy birth retirement && q birth retirement)) pool
 needed_all q copy [] = refl
 needed_all q copy (s ∷ pool) =
     let a = count_more (is_retired_by q) (recycled copy s) (map (recycled copy) pool) in
-    let b = count_more (is_retired_by (λ birth since. needs copy birth since && q birth since)) s pool in
+    let b = count_more (is_retired_by (λ birth retirement. needs copy birth retirement && q birth retirement)) s pool in
     let one : (let n : ℕ = cond (is_retired_by q (recycled copy s)) 1 0 in n)
-    ≡ cond (is_retired_by (λ birth since. needs copy birth since && q birth since) s) 1 0 =
+    ≡ cond (is_retired_by (λ birth retirement. needs copy birth retirement && q birth retirement) s) 1 0 =
     ap (λ t. cond t 1 0) (needed_one q copy s) in
     let rest = needed_all q copy pool in
     omega arith

@@ -1,26 +1,16 @@
 -- Worlds of the machine of interleavings that a board shows, and the steps of the machine that the board's calls are
 -- where these are done. Blocks, versions, and what a session holds are open.
-use Rattle.std.specs.Prelude.{◌≡◌, ℕ, ◌<◌, ◌≤◌, length, Option, Some, None, option_map}
+use Rattle.std.specs.Prelude.{◌≡◌, ℕ, ◌<◌, ◌≤◌, length, Some, None, option_map}
 use Rattle.epoch_core.specs.declared.events.Event.{Event}
 use Rattle.epoch_core.specs.declared.events.Event.TheVariants.{Floor, Pin, Settle, Release}
-use Rattle.epoch_core.specs.declared.states.SessionState.{SessionState}
-use Rattle.epoch_core.specs.declared.states.SessionState.TheVariants.{Idle, Pinned, Holding, Asking}
-use Rattle.epoch_core.specs.Worlds.{World, session_of, pin_in, held_in, last_number}
+use Rattle.epoch_core.specs.Worlds.{World, session_of, seat_pin, pin_in, held_in, last_number}
 use Rattle.epoch_core.specs.Machine.{step}
-use Rattle.pin_copy.specs.declared.copies.PinCopy.{PinCopy}
-use Rattle.pin_copy.specs.Copies.{floor_of}
-use Rattle.seat_board.specs.Board.{BoardState, IsBoard, pin_at, with_pin, unsettled, settled, copy_of}
-use Rattle.seat_board.specs.declared.board.Pin.{Pin as SeatPin}
-use Rattle.seat_board.specs.declared.board.TheConstants.{SEATS}
+use Rattle.block_reclamation.specs.declared.copies.PinCopy.{PinCopy}
+use Rattle.block_reclamation.specs.Copies.{floor_of, pin_at, unsettled, settled, copy_of}
+use Rattle.block_reclamation.specs.Board.{BoardState, IsBoard, with_pin}
+use Rattle.block_reclamation.specs.declared.copies.TheConstants.{SEATS}
 use Rattle.store_steps.specs.Desks.{DeskView}
 use Rattle.store_steps.specs.Shown.{ShowsWorld}
-
--- a session's pin as a seat has it, settled or not
-abbrev pub seat_pin : SessionState → Option SeatPin
-seat_pin Idle = None
-seat_pin (Pinned pin) = Some (unsettled pin)
-seat_pin (Holding hold) = Some (record { number = hold.pin; is_settled = hold.settled })
-seat_pin (Asking hold inquiry) = Some (record { number = hold.pin; is_settled = hold.settled })
 
 -- the board shows the floor, and each session's pin
 pub record ShowsBoard (b : BoardState) (w : World) : Type 0 where

@@ -8,11 +8,13 @@ use Rattle.graph_model.specs.Step.{after_all}
 use Rattle.edge_block.specs.Slots.{BlockView}
 use Rattle.block_layout.specs.Batches.{layout_after, taken_by, dropped_by}
 use Rattle.row_pages.specs.Rows.{row_of, blocks_of, numbers_of}
-use Rattle.graph_version.specs.Versions.{VersionView, IsVersion, content, layout_of, is_in}
-use Rattle.pin_copy.specs.declared.copies.PinCopy.{PinCopy}
-use Rattle.pin_copy.specs.Copies.{needs}
-use Rattle.block_pool.specs.Pools.{Status, Granted, Used, Retired, AreFree, is_free, is_retired, is_born_at, is_past}
-use Rattle.block_pool.specs.Pools.{recycled}
+use Rattle.graph_version.specs.Versions.{VersionView, IsVersion, content, layout_of}
+use Rattle.block_reclamation.specs.Status.{is_listed, is_free, is_retired, is_reclaimable, recycled}
+use Rattle.block_reclamation.specs.declared.copies.PinCopy.{PinCopy}
+use Rattle.block_reclamation.specs.Copies.{needs}
+use Rattle.block_pool.specs.Pools.{AreFree, is_used_at}
+use Rattle.block_reclamation.specs.declared.status.BlockStatus.{BlockStatus}
+use Rattle.block_reclamation.specs.declared.status.BlockStatus.TheVariants.{Granted, Used, Retired}
 use Rattle.batch_shards.specs.Births.{births_after, dropped_births, CarriesBirths}
 use Rattle.batch_shards.specs.Done.{Exchanges}
 use Rattle.store_steps.specs.Journal.{Entry, Applied, Collected, Ledger, opened_ledger, replay, is_legal, after_entry, exchanged}
@@ -22,7 +24,7 @@ pub record DeskView : Type 0 where
   pub opened : List ℕ
   pub last : VersionView
   pub journal : List Entry
-  pub pool : List Status
+  pub pool : List BlockStatus
 
 -- the numbers of the last version's blocks
 abbrev pub last_numbers : DeskView → List ℕ
@@ -36,15 +38,15 @@ ledger_of d = record { batches = d.last.batches; pool = d.pool }
 pub record IsDesk (d : DeskView) : Type 0 where
   pub version : IsVersion d.last
   pub replays : replay d.journal (opened_ledger (length d.pool) d.opened) ≡ Some (ledger_of d)
-  pub listed : (n : ℕ) → is_born_at d.pool n ≡ is_in n (last_numbers d)
+  pub listed : (n : ℕ) → is_used_at d.pool n ≡ is_listed n (last_numbers d)
 
 -- the birth of a block of the last version
-abbrev pub birth_of : Status → ℕ
+abbrev pub birth_of : BlockStatus → ℕ
 birth_of (Used birth) = birth
-birth_of (Retired birth since) = birth
+birth_of (Retired birth retirement) = birth
 birth_of _ = 0
 
-abbrev pub birth_at : List Status → ℕ → ℕ
+abbrev pub birth_at : List BlockStatus → ℕ → ℕ
 birth_at pool number = birth_of (slice_index_or pool number Granted)
 
 -- the births of the last version's blocks, by source
@@ -99,13 +101,13 @@ pub record IsAccepted (old : DeskView) (ops : List NamedOp) (taken dropped : Lis
   pub legal : is_legal (ledger_of old) (Applied ops taken dropped) ≡ true
   pub ledger : ledger_of new ≡ after_entry (ledger_of old) (Applied ops taken dropped)
   -- blocks that weren't taken are those of the version before, unchanged
-  pub kept : All (λ b. is_in b.number taken ≡ false → Contains (blocks_of old.last.rows) b) (blocks_of new.last.rows)
+  pub kept : All (λ b. is_listed b.number taken ≡ false → Contains (blocks_of old.last.rows) b) (blocks_of new.last.rows)
   pub layout : FollowsLayout old.last ops new.last (length taken) (length dropped)
   pub births : FollowsBirths old ops dropped new
 
 -- whether a block is retired, with a birth and a retirement that pass the test
-abbrev pub is_retired_by : (ℕ → ℕ → Bool) → Status → Bool
-is_retired_by q (Retired birth since) = q birth since
+abbrev pub is_retired_by : (ℕ → ℕ → Bool) → BlockStatus → Bool
+is_retired_by q (Retired birth retirement) = q birth retirement
 is_retired_by q _ = false
 
 -- free falls by what the batch takes, and retired grows by what it drops, all of which the new version's number retires,
@@ -130,12 +132,12 @@ pub record IsCollected (old : DeskView) (copy : PinCopy) (new : DeskView) : Type
   pub opened : new.opened ≡ old.opened
   pub last : new.last ≡ old.last
   pub pool : new.pool ≡ map (recycled copy) old.pool
-  pub journal : new.journal ≡ old.journal ++ collections copy (count_by (is_past copy) old.pool)
+  pub journal : new.journal ≡ old.journal ++ collections copy (count_by (is_reclaimable copy) old.pool)
 
 -- what the collection recycles was retired and is free; retired is what the copy needs
 pub record CollectedCounts (old : DeskView) (copy : PinCopy) (new : DeskView) : Type 0 where
-  pub free : count_by is_free new.pool ≡ count_by is_free old.pool + count_by (is_past copy) old.pool
-  pub retired : count_by is_retired new.pool + count_by (is_past copy) old.pool ≡ count_by is_retired old.pool
+  pub free : count_by is_free new.pool ≡ count_by is_free old.pool + count_by (is_reclaimable copy) old.pool
+  pub retired : count_by is_retired new.pool + count_by (is_reclaimable copy) old.pool ≡ count_by is_retired old.pool
   pub retired_by : (q : ℕ → ℕ → Bool) → count_by (is_retired_by q) new.pool
-      ≡ count_by (is_retired_by (λ birth since. needs copy birth since && q birth since)) old.pool
+      ≡ count_by (is_retired_by (λ birth retirement. needs copy birth retirement && q birth retirement)) old.pool
   pub blocks : length new.pool ≡ length old.pool

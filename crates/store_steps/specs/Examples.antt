@@ -10,16 +10,15 @@ use Rattle.block_layout.specs.Rows.{OpenBlock, Shape, row_end}
 use Rattle.block_layout.specs.Examples.{insert_at, remove_at, row_by, many}
 use Rattle.graph_version.specs.Versions.{VersionView, empty_version}
 use Rattle.batch_shards.specs.Births.{births_end, births_dropped}
-use Rattle.block_pool.specs.Pools.{Status as PoolStatus, Free as PoolFree, Used as PoolUsed}
-use Rattle.block_pool.specs.Pools.{Retired as PoolRetired}
-use Rattle.pin_copy.specs.declared.copies.PinCopy.{PinCopy}
-use Rattle.pin_copy.specs.Copies.{no_copy}
-use Rattle.epoch_blocks.specs.declared.states.Status.TheVariants.{Free, Fresh, Used, Retired}
+use Rattle.block_reclamation.specs.declared.status.BlockStatus.{BlockStatus}
+use Rattle.block_reclamation.specs.declared.status.BlockStatus.TheVariants.{Free, Used, Retired, Granted}
+use Rattle.block_reclamation.specs.declared.copies.PinCopy.{PinCopy}
+use Rattle.block_reclamation.specs.Copies.{no_copy, unsettled}
 use Rattle.epoch_core.specs.declared.states.SessionState.TheVariants.{Idle, Pinned, Holding}
 use Rattle.epoch_core.specs.declared.events.Event.TheVariants.{Take, Fill, Post, Recycle, Pin, Enter}
 use Rattle.epoch_core.specs.Examples.{name_a, name_b, kind_k, put_edge, edge_of}
 use Rattle.epoch_core.specs.Worlds.{World, empty_opening, start_world, session_of, held_in}
-use Rattle.seat_board.specs.Board.{BoardState, no_pins, with_pin, unsettled}
+use Rattle.block_reclamation.specs.Board.{BoardState, no_pins, with_pin}
 use Rattle.store_steps.specs.Journal.{Entry, Applied, Collected, Ledger, opened_ledger, replay}
 use Rattle.store_steps.specs.Desks.{DeskView, desk_after, collections}
 use Rattle.store_steps.specs.Shown.{ShowsWorld}
@@ -60,7 +59,7 @@ desk_of_edge = record {
   opened = [];
   last = record { opening = empty_graph; batches = put_edge (pos 1) 1 ∷ []; rows = (block_one ∷ []) ∷ [] };
   journal = Applied (put_edge (pos 1) 1) (1 ∷ []) [] ∷ [];
-  pool = PoolFree ∷ PoolUsed 1 ∷ PoolFree ∷ [];
+  pool = Free ∷ Used 1 ∷ Free ∷ [];
 }
 
 -- the machine's world after the edge was posted; block 1 was born with version 1
@@ -98,8 +97,8 @@ pub record Bears (row : List OpenBlock) (births after dropped : List ℕ) : Type
 -- Collections
 
 -- a pool in which version 2 retired block 0, and version 3 block 2, which was born with it
-abbrev pub retired_pool : List PoolStatus
-retired_pool = PoolRetired 1 2 ∷ PoolUsed 1 ∷ PoolRetired 2 3 ∷ PoolFree ∷ []
+abbrev pub retired_pool : List BlockStatus
+retired_pool = Retired 1 2 ∷ Used 1 ∷ Retired 2 3 ∷ Free ∷ []
 
 abbrev pub retired_world : World
 retired_world = record (start_world 0 0) {
@@ -127,12 +126,12 @@ pub record AreExamples : Type 0 where
   pub batches : replay two_batches four_free
       ≡ Some (record {
         batches = put_edge (pos 1) 1 ∷ put_edge (pos 2) 2 ∷ [];
-        pool = PoolRetired 1 2 ∷ PoolUsed 1 ∷ PoolUsed 2 ∷ PoolFree ∷ [];
+        pool = Retired 1 2 ∷ Used 1 ∷ Used 2 ∷ Free ∷ [];
       })
   pub collection : replay (two_batches ++ Collected (unpinned 2) 1 ∷ []) four_free
       ≡ Some (record {
         batches = put_edge (pos 1) 1 ∷ put_edge (pos 2) 2 ∷ [];
-        pool = PoolFree ∷ PoolUsed 1 ∷ PoolUsed 2 ∷ PoolFree ∷ [];
+        pool = Free ∷ Used 1 ∷ Used 2 ∷ Free ∷ [];
       })
   -- no journal: a block taken that is used, or past the last; one taken twice; one dropped that isn't the last version's
   pub taken_used : replay (two_batches ++ Applied [] (1 ∷ []) [] ∷ []) four_free ≡ None
@@ -146,15 +145,15 @@ pub record AreExamples : Type 0 where
   pub collected_unsettled : replay (two_batches ++ Collected (unsettled_at 2 0) 1 ∷ []) four_free ≡ None
   pub collected_late : replay (two_batches ++ Collected (unpinned 3) 1 ∷ []) four_free ≡ None
   pub collected_nothing : replay (two_batches ++ Collected (unpinned 1) 0 ∷ []) four_free ≡ None
-  -- the desk shows the world after the edge; not one in which block 1 is fresh, or was born later
+  -- the desk shows the world after the edge; not one in which block 1 is granted, or was born later
   pub desk : ShowsWorld desk_of_edge world_of_edge
   pub later : (w : World) → ShowsWorld desk_of_edge (record w { status = Free ∷ Used 2 ∷ Free ∷ [] }) → ⊥
-  pub fresh : (w : World) → ShowsWorld desk_of_edge (record w { status = Free ∷ Fresh ∷ Free ∷ [] }) → ⊥
+  pub granted : (w : World) → ShowsWorld desk_of_edge (record w { status = Free ∷ Granted ∷ Free ∷ [] }) → ⊥
   -- the events of the batch, of which Take and Fill are done from the start
   pub posted : posting desk_of_edge.last (put_edge (pos 1) 1) (1 ∷ [])
       ≡ Take 1 ∷ Fill 1 (edge_of (pos 1) 1) ∷ Post (put_edge (pos 1) 1) (1 ∷ []) ∷ []
   pub filled : all_done (Take 1 ∷ Fill 1 (edge_of (pos 1) 1) ∷ []) (start_world 1 3)
-      ≡ Some (record (start_world 1 3) { heap = [] ∷ edge_of (pos 1) 1 ∷ [] ∷ []; status = Free ∷ Fresh ∷ Free ∷ [] })
+      ≡ Some (record (start_world 1 3) { heap = [] ∷ edge_of (pos 1) 1 ∷ [] ∷ []; status = Free ∷ Granted ∷ Free ∷ [] })
   -- a block that was kept is neither taken nor filled again
   pub kept : posting desk_of_edge.last [] [] ≡ Post [] (1 ∷ []) ∷ []
   -- under a pin settled at 1 block 2 alone goes, which was born later; under one settled at 2 block 0 alone, which was retired
@@ -170,11 +169,11 @@ pub record AreExamples : Type 0 where
   pub entry : collections (unpinned 2) 1 ≡ Collected (unpinned 2) 1 ∷ []
   pub no_entry : collections (unpinned 2) 0 ≡ []
   -- a store that opens with the edge: its block is there with birth 0, and a batch that drops it retires it so
-  pub opened : (opened_desk 3 begins_with_edge).pool ≡ PoolFree ∷ PoolUsed 0 ∷ PoolFree ∷ []
+  pub opened : (opened_desk 3 begins_with_edge).pool ≡ Free ∷ Used 0 ∷ Free ∷ []
   pub opened_edges : (opened_start 1 3 content_of_edge begins_with_edge).world.heap ≡ [] ∷ edge_of (pos 1) 1 ∷ [] ∷ []
   pub opened_status : (opened_start 1 3 content_of_edge begins_with_edge).world.status ≡ Free ∷ Used 0 ∷ Free ∷ []
   pub opened_dropped : replay (Applied [] (2 ∷ []) (1 ∷ []) ∷ []) (opened_ledger 3 (1 ∷ []))
-      ≡ Some (record { batches = [] ∷ []; pool = PoolFree ∷ PoolRetired 0 1 ∷ PoolUsed 1 ∷ [] })
+      ≡ Some (record { batches = [] ∷ []; pool = Free ∷ Retired 0 1 ∷ Used 1 ∷ [] })
   -- its block is not free, and an entry that takes it is not legal
   pub opened_taken : replay (Applied [] (1 ∷ []) [] ∷ []) (opened_ledger 3 (1 ∷ [])) ≡ None
   -- a touched block is dropped and born anew, and the one behind it keeps its birth

@@ -1,12 +1,11 @@
 -- What a session holds, where the desk and the board show a run of the machine.
 use Rattle.std.specs.Prelude.{◌≡◌, ℕ, ◌≤◌, false, List, length, take, slice_get, Some, IsTrue}
 use Rattle.graph_model.specs.Step.{left_by}
-use Rattle.block_pool.specs.Pools.{is_free, is_past, passes}
+use Rattle.block_reclamation.specs.Status.{is_free, is_reclaimable, is_at, is_listed}
 use Rattle.epoch_core.specs.declared.events.Event.{Event}
-use Rattle.epoch_blocks.specs.Blocks.{is_listed}
 use Rattle.epoch_core.specs.Worlds.{World, MachineState, IsStart, session_of, held_in}
 use Rattle.epoch_blocks.specs.Versions.{AreEdgesOf, blocks_at, edges_of}
-use Rattle.pin_copy.specs.declared.copies.PinCopy.{PinCopy}
+use Rattle.block_reclamation.specs.declared.copies.PinCopy.{PinCopy}
 use Rattle.store_steps.specs.Desks.{DeskView}
 use Rattle.store_steps.specs.Reached.{Store, world_by, IsReached}
 
@@ -15,9 +14,9 @@ use Rattle.store_steps.specs.Reached.{Store, world_by, IsReached}
 pub record IsSnapshot (d : DeskView) (copy : PinCopy) (w : World) (n : ℕ) : Type 0 where
   pub within : n ≤ length d.last.batches
   pub shown : AreEdgesOf (edges_of w.heap (blocks_at w.opening w.versions n)) (left_by (take n d.last.batches) d.last.opening)
-  pub in_use : (c : ℕ) → IsTrue (is_listed c (blocks_at w.opening w.versions n)) → passes is_free (slice_get d.pool c) ≡ false
+  pub in_use : (c : ℕ) → IsTrue (is_listed c (blocks_at w.opening w.versions n)) → is_at is_free (slice_get d.pool c) ≡ false
   pub kept : (c : ℕ) → IsTrue (is_listed c (blocks_at w.opening w.versions n))
-      → passes (is_past copy) (slice_get d.pool c) ≡ false
+      → is_at (is_reclaimable copy) (slice_get d.pool c) ≡ false
 
 -- whatever the start and the run: the version that a session holds is such a one
 abbrev pub HeldIsSnapshot : Type 0

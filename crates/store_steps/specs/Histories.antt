@@ -7,7 +7,7 @@ use Rattle.epoch_core.specs.Worlds.{World}
 use Rattle.epoch_core.specs.Machine.{step}
 use Rattle.epoch_core.specs.Runs.{run}
 use Rattle.graph_model.specs.declared.requests.Request.{Request}
-use Rattle.seat_board.specs.Board.{BoardState}
+use Rattle.block_reclamation.specs.Board.{BoardState}
 use Rattle.store_steps.specs.Desks.{DeskView}
 use Rattle.store_steps.specs.Shown.{ShowsWorld}
 use Rattle.store_steps.specs.Boards.{ShowsBoard}

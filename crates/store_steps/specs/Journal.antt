@@ -7,8 +7,11 @@ use Rattle.std.specs.declared.option.Option.{Option}
 use Rattle.std.specs.declared.option.Option.TheVariants.{None, Some}
 use Rattle.graph_model.specs.declared.batches.NamedOp.{NamedOp}
 use Rattle.epoch_blocks.specs.Blocks.{all_differ}
-use Rattle.pin_copy.specs.declared.copies.PinCopy.{PinCopy}
-use Rattle.block_pool.specs.Pools.{Status, Free, Used, is_free_at, is_born_at, is_past, recycled, retired, marked, changed}
+use Rattle.block_reclamation.specs.declared.copies.PinCopy.{PinCopy}
+use Rattle.block_pool.specs.Pools.{is_free_at, retired, marked, changed, is_used_at}
+use Rattle.block_reclamation.specs.declared.status.BlockStatus.{BlockStatus}
+use Rattle.block_reclamation.specs.declared.status.BlockStatus.TheVariants.{Free, Used}
+use Rattle.block_reclamation.specs.Status.{is_reclaimable, recycled}
 
 -- an accepted batch with the numbers of the blocks that it took and dropped, or a collection with its copy of the pins and
 -- how many blocks it recycled
@@ -19,7 +22,7 @@ pub data Entry : Type 0 where
 -- what a journal leaves: the batches in order, and what each block number is
 pub record Ledger : Type 0 where
   pub batches : List (List NamedOp)
-  pub pool : List Status
+  pub pool : List BlockStatus
 
 -- no batches; the blocks of these numbers are version 0's, and all others are free
 abbrev pub opened_ledger : ℕ → List ℕ → Ledger
@@ -30,12 +33,12 @@ opened_ledger blocks opened = record { batches = []; pool = marked opened (Used 
 -- and not needed by the copy
 abbrev pub is_legal : Ledger → Entry → Bool
 is_legal l (Applied batch taken dropped) =
-    list_all (is_free_at l.pool) taken && all_differ taken && list_all (is_born_at l.pool) dropped && all_differ dropped
+    list_all (is_free_at l.pool) taken && all_differ taken && list_all (is_used_at l.pool) dropped && all_differ dropped
 is_legal l (Collected copy count) = nat_le copy.last (length l.batches) && nat_lt 0 count &&
-    (count == count_by (is_past copy) l.pool)
+    (count == count_by (is_reclaimable copy) l.pool)
 
 -- the pool after a batch whose version has this number, which is the birth of the blocks taken
-abbrev pub exchanged : ℕ → List ℕ → List ℕ → List Status → List Status
+abbrev pub exchanged : ℕ → List ℕ → List ℕ → List BlockStatus → List BlockStatus
 exchanged number taken dropped pool = changed (retired number) dropped (marked taken (Used number) pool)
 
 abbrev pub after_entry : Ledger → Entry → Ledger

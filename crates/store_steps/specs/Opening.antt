@@ -5,10 +5,11 @@ use Rattle.graph_model.specs.declared.contents.Content.{Content}
 use Rattle.row_pages.specs.Rows.{blocks_of, numbers_of}
 use Rattle.graph_version.specs.Versions.{VersionView, IsVersion, empty_version}
 use Rattle.graph_version.specs.Edges.{edges_in_block}
-use Rattle.block_pool.specs.Pools.{Free, Used, marked}
+use Rattle.block_pool.specs.Pools.{marked}
+use Rattle.block_reclamation.specs.declared.status.BlockStatus.TheVariants.{Free, Used}
 use Rattle.epoch_core.specs.Worlds.{MachineState, IsStart, start_world}
 use Rattle.epoch_core.specs.Opened.{Lists, IsOpening, opened_state}
-use Rattle.seat_board.specs.Board.{no_pins}
+use Rattle.block_reclamation.specs.Board.{no_pins}
 use Rattle.store_steps.specs.Desks.{DeskView, IsDesk}
 use Rattle.store_steps.specs.Shown.{ShowsWorld}
 use Rattle.store_steps.specs.Boards.{ShowsBoard}

@@ -5,11 +5,11 @@ use Rattle.epoch_core.specs.declared.events.Event.TheVariants.{Floor, Pin, Enter
 use Rattle.epoch_core.specs.Worlds.{World, session_of, held_in}
 use Rattle.epoch_core.specs.Runs.{run, is_done}
 use Rattle.graph_model.specs.declared.requests.Request.{Request}
-use Rattle.pin_copy.specs.declared.copies.PinCopy.{PinCopy}
-use Rattle.pin_copy.specs.Copies.{no_copy}
-use Rattle.seat_board.specs.Board.{BoardState, IsBoard, no_pins, pin_at, with_pin, unsettled, settled, copy_of}
-use Rattle.seat_board.specs.declared.board.Pin.{Pin as SeatPin}
-use Rattle.seat_board.specs.declared.board.TheConstants.{SEATS}
+use Rattle.block_reclamation.specs.declared.copies.PinCopy.{PinCopy}
+use Rattle.block_reclamation.specs.Copies.{no_copy, pin_at, unsettled, settled, copy_of}
+use Rattle.block_reclamation.specs.Board.{BoardState, IsBoard, no_pins, with_pin}
+use Rattle.block_reclamation.specs.declared.copies.Pin.{Pin as SeatPin}
+use Rattle.block_reclamation.specs.declared.copies.TheConstants.{SEATS}
 use Rattle.store_steps.specs.Desks.{DeskView}
 use Rattle.store_steps.specs.Shown.{ShowsWorld}
 use Rattle.store_steps.specs.Boards.{ShowsBoard, raised_board}

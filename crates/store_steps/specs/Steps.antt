@@ -7,10 +7,11 @@ use Rattle.std.specs.declared.option.Option.TheVariants.{None, Some}
 use Rattle.graph_model.specs.declared.batches.NamedOp.{NamedOp}
 use Rattle.edge_block.specs.Slots.{BlockView}
 use Rattle.row_pages.specs.Rows.{blocks_of, numbers_of}
-use Rattle.graph_version.specs.Versions.{VersionView, is_in}
+use Rattle.graph_version.specs.Versions.{VersionView}
+use Rattle.block_reclamation.specs.Status.{is_listed, is_reclaimable}
 use Rattle.graph_version.specs.Edges.{edges_in_block}
-use Rattle.pin_copy.specs.declared.copies.PinCopy.{PinCopy}
-use Rattle.block_pool.specs.Pools.{Status, is_past}
+use Rattle.block_reclamation.specs.declared.copies.PinCopy.{PinCopy}
+use Rattle.block_reclamation.specs.declared.status.BlockStatus.{BlockStatus}
 use Rattle.epoch_core.specs.declared.events.Event.{Event}
 use Rattle.epoch_core.specs.declared.events.Event.TheVariants.{Take, Fill, Post, Recycle}
 use Rattle.epoch_core.specs.Worlds.{World}
@@ -29,7 +30,7 @@ filling b = Take b.number ∷ Fill b.number (edges_in_block b) ∷ []
 
 -- the blocks of a version whose numbers are among those taken
 abbrev pub fresh_in : VersionView → List ℕ → List BlockView
-fresh_in v taken = filter (λ b. is_in b.number taken) (blocks_of v.rows)
+fresh_in v taken = filter (λ b. is_listed b.number taken) (blocks_of v.rows)
 
 -- Take and Fill of each taken block, and then one Post of the batch over the blocks of the version
 abbrev pub posting : VersionView → List NamedOp → List ℕ → List Event
@@ -49,11 +50,11 @@ abbrev pub Takes : DeskView → List Event → DeskView → Type 0
 Takes old events new = (w : World) → ShowsWorld old w → IsTaken w events new
 
 -- the numbers that are retired and not needed by the copy, rising
-abbrev pub past_numbers : PinCopy → List Status → List ℕ
-past_numbers copy pool = map (λ p. p.0) (filter (λ p. is_past copy p.1) (enumerate_from 0 pool))
+abbrev pub past_numbers : PinCopy → List BlockStatus → List ℕ
+past_numbers copy pool = map (λ p. p.0) (filter (λ p. is_reclaimable copy p.1) (enumerate_from 0 pool))
 
 -- Recycle of each of these
-abbrev pub recycling : PinCopy → List Status → List Event
+abbrev pub recycling : PinCopy → List BlockStatus → List Event
 recycling copy pool = map Recycle (past_numbers copy pool)
 
 -- these events are all done in worlds with this copy, and afterwards no further block goes

@@ -7,10 +7,12 @@ ghost use Rattle.graph_model.specs.declared.contents.Content.{Content};
 ghost use Rattle.graph_model.specs.declared.batches.NamedOp.{NamedOp};
 ghost use Rattle.edge_block.specs.Slots.{BlockView};
 ghost use Rattle.row_pages.specs.Rows.{numbers_of};
-ghost use Rattle.graph_version.specs.Versions.{VersionView, empty_version, is_in};
-ghost use Rattle.pin_copy.specs.declared.copies.PinCopy.{PinCopy};
+ghost use Rattle.graph_version.specs.Versions.{VersionView, empty_version};
+ghost use Rattle.block_reclamation.specs.Status.{is_listed};
+ghost use Rattle.block_reclamation.specs.declared.copies.PinCopy.{PinCopy};
 ghost use Rattle.epoch_core.specs.Worlds.{MachineState, IsStart, start_world};
-ghost use Rattle.block_pool.specs.Pools.{Free, Granted, Used, retired, is_free_at, is_born_at, marked, changed};
+ghost use Rattle.block_pool.specs.Pools.{retired, is_free_at, marked, changed, is_used_at};
+ghost use Rattle.block_reclamation.specs.declared.status.BlockStatus.TheVariants.{Free, Granted, Used};
 ghost use Rattle.store_steps.specs.Journal.{Entry, Applied, Ledger, entered, replay};
 ghost use Rattle.store_steps.specs.Desks.{DeskView, IsDesk, IsAppliedTo, IsAccepted, IsCollected, AcceptedCounts};
 ghost use Rattle.store_steps.specs.Desks.{CollectedCounts, desk_after};
@@ -32,9 +34,9 @@ pub fn law_journal()
     ensures appended { (es : List Entry) (e : Entry) (l : Ledger) → replay (es ++ e ∷ []) l
         ≡ option_and_then (λ m. entered m e) (replay es l) }
     ensures taken_is_free { (l : Ledger) (batch : List NamedOp) (taken dropped : List ℕ) (n : ℕ)
-        → is_in n taken ≡ true → is_free_at l.pool n ≡ false → entered l (Applied batch taken dropped) ≡ None }
+        → is_listed n taken ≡ true → is_free_at l.pool n ≡ false → entered l (Applied batch taken dropped) ≡ None }
     ensures dropped_is_listed { (l : Ledger) (batch : List NamedOp) (taken dropped : List ℕ) (n : ℕ)
-        → is_in n dropped ≡ true → is_born_at l.pool n ≡ false → entered l (Applied batch taken dropped) ≡ None }
+        → is_listed n dropped ≡ true → is_used_at l.pool n ≡ false → entered l (Applied batch taken dropped) ≡ None }
 {}
 
 /// A batch that was applied to a desk's last version with granted blocks.

@@ -4,9 +4,12 @@ use Rattle.std.specs.Prelude.{slice_set}
 use Rattle.logbook.specs.Pages.{Book}
 use Rattle.row_pages.specs.Rows.{blocks_of, numbers_of}
 use Rattle.graph_version.specs.Versions.{VersionView}
-use Rattle.block_pool.specs.Pools.{Status, Free, Used, is_retired, marked}
+use Rattle.block_pool.specs.Pools.{marked}
+use Rattle.block_reclamation.specs.declared.status.BlockStatus.{BlockStatus}
+use Rattle.block_reclamation.specs.declared.status.BlockStatus.TheVariants.{Free, Used}
+use Rattle.block_reclamation.specs.Status.{is_retired}
 use Rattle.block_pool.proofs.Tallies.{count_more}
-use Rattle.pin_copy.specs.declared.copies.PinCopy.{PinCopy}
+use Rattle.block_reclamation.specs.declared.copies.PinCopy.{PinCopy}
 use Rattle.version_shelf.specs.Shelves.{ShelfView, opened_shelf}
 use Rattle.store_steps.specs.Opening.{IsVersionZero, opened_desk}
 use Rattle.store_steps.proofs.CollectedDesk.{desk_collected, is_collected, collected_is_desk}
@@ -35,7 +38,7 @@ none_retired : (n : ℕ) → count_by is_retired (replicate n Free) ≡ 0
 none_retired zero = refl
 none_retired (suc n) = let more = none_retired n in cc
 
-set_unretired : (xs : List Status) (n : ℕ) → count_by is_retired xs ≡ 0 → count_by is_retired (slice_set xs n (Used 0)) ≡ 0
+set_unretired : (xs : List BlockStatus) (n : ℕ) → count_by is_retired xs ≡ 0 → count_by is_retired (slice_set xs n (Used 0)) ≡ 0
 set_unretired [] n none = none
 set_unretired (s ∷ xs) zero none =
     let a = count_more is_retired s xs in let b = count_more is_retired (Used 0) xs in omega arith
@@ -45,7 +48,7 @@ set_unretired (s ∷ xs) (suc n) none =
     let rest = set_unretired xs n (omega arith) in
     omega arith
 
-marked_unretired : (ns : List ℕ) (xs : List Status) → count_by is_retired xs ≡ 0 → count_by is_retired (marked ns (Used 0) xs) ≡ 0
+marked_unretired : (ns : List ℕ) (xs : List BlockStatus) → count_by is_retired xs ≡ 0 → count_by is_retired (marked ns (Used 0) xs) ≡ 0
 marked_unretired [] xs none = none
 marked_unretired (n ∷ ns) xs none = marked_unretired ns (slice_set xs n (Used 0)) (set_unretired xs n none)
 

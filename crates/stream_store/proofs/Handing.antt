@@ -7,8 +7,12 @@ use Rattle.graph_model.specs.{Limits.batch_limit, declared.batches.NamedOp.Named
 use Rattle.edge_block.specs.declared.blocks.Block.{Block}
 use Rattle.row_pages.specs.Rows as rows
 use Rattle.batch_shards.specs.RowBlocks.{block_of, blocks_of, numbers_of}
-use Rattle.graph_version.specs.{declared.versions.Version.Version, Versions.VersionView, Versions.content, Versions.is_in}
-use Rattle.block_pool.specs.Pools.{Status, Free, Granted, Used, is_free, is_retired, is_used, retired, marked, changed, AreFree}
+use Rattle.graph_version.specs.declared.versions.Version.{Version}
+use Rattle.graph_version.specs.Versions.{VersionView, content}
+use Rattle.block_reclamation.specs.Status.{is_listed, is_free, is_retired, is_in_use}
+use Rattle.block_pool.specs.Pools.{retired, marked, changed, AreFree}
+use Rattle.block_reclamation.specs.declared.status.BlockStatus.{BlockStatus}
+use Rattle.block_reclamation.specs.declared.status.BlockStatus.TheVariants.{Free, Granted, Used}
 use Rattle.version_shelf.specs.Shelves.{ShelfView, IsNext}
 use Rattle.store_steps.specs.Journal as journal
 use Rattle.store_steps.specs.{Desks.DeskView, Desks.IsDesk, Desks.FollowsLayout, Steps.Accepts}
@@ -32,7 +36,7 @@ pub record Handing : Type 0 where
   pub numbers : List ℕ
   pub handed : List ℕ
   pub prepared : Prepared
-  pub pool : List Status
+  pub pool : List BlockStatus
   pub before : IsDesk old
   pub free : AreFree old.pool numbers
   pub same : handed ≡ numbers
@@ -72,9 +76,9 @@ application h = record {
 -- The grant is within what is asked for, since the used blocks are the last version's
 
 pub grant_within : (d : DeskView) (v : VersionView) (workers : ℕ) (ops : List NamedOp) (plan : Plan) → IsDesk d → v ≡ d.last
-    → IsAdmitted v workers ops plan → sum_by (λ n. n) plan.needs.items ≤ asked ops (count_by is_used d.pool)
+    → IsAdmitted v workers ops plan → sum_by (λ n. n) plan.needs.items ≤ asked ops (count_by is_in_use d.pool)
 grant_within d v workers ops plan desk last admitted =
-    let used : block_count v ≡ count_by is_used d.pool = ap block_count last ∙ sym (used_blocks d desk) in
+    let used : block_count v ≡ count_by is_in_use d.pool = ap block_count last ∙ sym (used_blocks d desk) in
     subst (λ n. sum_by (λ n. n) plan.needs.items ≤ asked ops n) used
     (needs_within (workers_for workers (length ops + length admitted.old)) ops (content v) v.rows plan admitted.planned)
 
@@ -88,28 +92,28 @@ granted_many blocks numbers n same many =
 
 -- The grant is given back
 
-pub back_used : (pool new : List Status) (numbers : List ℕ) → AreFree pool numbers → new ≡ marked numbers Granted pool
+pub back_used : (pool new : List BlockStatus) (numbers : List ℕ) → AreFree pool numbers → new ≡ marked numbers Granted pool
     → AreUsedOnce numbers new
 back_used pool new numbers free is =
     let m = granted_movable pool numbers free in subst (AreUsedOnce numbers) (sym is) (record { pass = m.pass; apart = m.apart })
 
-pub back_same : (pool new end : List Status) (numbers : List ℕ) → AreFree pool numbers → new ≡ marked numbers Granted pool
+pub back_same : (pool new end : List BlockStatus) (numbers : List ℕ) → AreFree pool numbers → new ≡ marked numbers Granted pool
     → end ≡ marked numbers Free new → end ≡ pool
 back_same pool new end numbers free is after = after ∙ ap (marked numbers Free) is ∙ given_back pool numbers free
 
 -- and so it is where some of the granted numbers were born meanwhile
 
-taken_within : (h : Handing) (m : ℕ) → is_in m h.prepared.taken ≡ true → is_in m h.numbers ≡ true
+taken_within : (h : Handing) (m : ℕ) → is_listed m h.prepared.taken ≡ true → is_listed m h.numbers ≡ true
 taken_within h m is = taken_granted (application h) m is
 
-pub born_used : (h : Handing) (number : ℕ) (new : List Status) → new ≡ marked h.prepared.taken (Used number) h.pool
+pub born_used : (h : Handing) (number : ℕ) (new : List BlockStatus) → new ≡ marked h.prepared.taken (Used number) h.pool
     → AreUsedOnce h.numbers new
 born_used h number new is =
     let m = born_movable h.old.pool h.numbers h.prepared.taken number h.free in
     subst (AreUsedOnce h.numbers) (sym (is ∙ ap (marked h.prepared.taken (Used number)) h.granted))
     (record { pass = m.pass; apart = m.apart })
 
-pub born_same : (h : Handing) (number : ℕ) (new end : List Status) → new ≡ marked h.prepared.taken (Used number) h.pool
+pub born_same : (h : Handing) (number : ℕ) (new end : List BlockStatus) → new ≡ marked h.prepared.taken (Used number) h.pool
     → end ≡ marked h.numbers Free new → end ≡ h.old.pool
 born_same h number new end is after =
     after ∙ ap (marked h.numbers Free) (is ∙ ap (marked h.prepared.taken (Used number)) h.granted)
@@ -117,16 +121,16 @@ born_same h number new end is after =
 
 -- The granted blocks are none of the last version's
 
-number_listed : (ns : List ℕ) (k : ℕ) (e : ℕ) → k < length ns → is_in (get_or ns k e) ns ≡ true
+number_listed : (ns : List ℕ) (k : ℕ) (e : ℕ) → k < length ns → is_listed (get_or ns k e) ns ≡ true
 number_listed [] k e h = absurd (omega arith)
 number_listed (n ∷ ns) zero e h = let same = eq-eqb n n refl in rw same refl
-number_listed (n ∷ ns) (suc k) e h = or_right (n == get_or ns k e) (is_in (get_or ns k e) ns) (number_listed ns k e (omega arith))
+number_listed (n ∷ ns) (suc k) e h = or_right (n == get_or ns k e) (is_listed (get_or ns k e) ns) (number_listed ns k e (omega arith))
 
 pub unlisted : (d : DeskView) (numbers handed : List ℕ) (v : VersionView) → IsDesk d → AreFree d.pool numbers → handed ≡ numbers
-    → v ≡ d.last → All (λ n. is_in n (rows.numbers_of (rows.blocks_of v.rows)) ≡ false) handed
+    → v ≡ d.last → All (λ n. is_listed n (rows.numbers_of (rows.blocks_of v.rows)) ≡ false) handed
 unlisted d numbers handed v desk free same at k e h =
-    ap (λ (w : VersionView). is_in (get_or handed k e) (rows.numbers_of (rows.blocks_of w.rows))) at
-    ∙ granted_unlisted d numbers (get_or handed k e) desk free (ap (is_in (get_or handed k e)) (sym same)
+    ap (λ (w : VersionView). is_listed (get_or handed k e) (rows.numbers_of (rows.blocks_of w.rows))) at
+    ∙ granted_unlisted d numbers (get_or handed k e) desk free (ap (is_listed (get_or handed k e)) (sym same)
     ∙ number_listed handed k e h)
 
 -- The blocks' moves
@@ -134,11 +138,11 @@ unlisted d numbers handed v desk free same at k e h =
 dropped_is : (h : Handing) → numbers_of h.prepared.dropped.items ≡ rows.numbers_of (blocks_of h.prepared.dropped.items)
 dropped_is h = sym (numbers_mapped h.prepared.dropped.items)
 
-born_is : (h : Handing) (number : ℕ) (born : List Status) → number ≡ length h.old.last.batches + 1
+born_is : (h : Handing) (number : ℕ) (born : List BlockStatus) → number ≡ length h.old.last.batches + 1
     → born ≡ marked h.prepared.taken (Used number) h.pool → born ≡ born_pool (application h)
 born_is h number born is made = made ∙ (λ i. marked h.prepared.taken (Used (is i)) (h.granted i))
 
-retired_is : (h : Handing) (number : ℕ) (born : List Status) → number ≡ length h.old.last.batches + 1
+retired_is : (h : Handing) (number : ℕ) (born : List BlockStatus) → number ≡ length h.old.last.batches + 1
     → born ≡ marked h.prepared.taken (Used number) h.pool
     → changed (retired number) (numbers_of h.prepared.dropped.items) born ≡ retired_pool (application h)
 retired_is h number born is made =
@@ -149,7 +153,7 @@ taken_once h =
     let m = taken_movable (application h) in
     subst (AreUsedOnce h.prepared.taken) (sym h.granted) (record { pass = m.pass; apart = m.apart })
 
-pub dropped_once : (h : Handing) (number : ℕ) (born : List Status) → number ≡ length h.old.last.batches + 1
+pub dropped_once : (h : Handing) (number : ℕ) (born : List BlockStatus) → number ≡ length h.old.last.batches + 1
     → born ≡ marked h.prepared.taken (Used number) h.pool → AreBornOnce (numbers_of h.prepared.dropped.items) born
 dropped_once h number born is made =
     let m = dropped_movable (application h) in
@@ -158,7 +162,7 @@ dropped_once h number born is made =
     subst (AreBornOnce (numbers_of h.prepared.dropped.items)) (sym (born_is h number born is made))
     (subst (λ ns. AreBornOnce ns (born_pool (application h))) (sym (dropped_is h)) once)
 
-pub unused_once : (h : Handing) (number : ℕ) (born : List Status) → number ≡ length h.old.last.batches + 1
+pub unused_once : (h : Handing) (number : ℕ) (born : List BlockStatus) → number ≡ length h.old.last.batches + 1
     → born ≡ marked h.prepared.taken (Used number) h.pool
     → AreUsedOnce (numbers_of h.prepared.unused.items) (changed (retired number) (numbers_of h.prepared.dropped.items) born)
 unused_once h number born is made =
@@ -166,7 +170,7 @@ unused_once h number born is made =
     subst (AreUsedOnce (numbers_of h.prepared.unused.items)) (sym (retired_is h number born is made))
     (record { pass = m.pass; apart = m.apart })
 
-pub end_pool : (h : Handing) (number : ℕ) (born end : List Status) → number ≡ length h.old.last.batches + 1
+pub end_pool : (h : Handing) (number : ℕ) (born end : List BlockStatus) → number ≡ length h.old.last.batches + 1
     → born ≡ marked h.prepared.taken (Used number) h.pool
     → end ≡ marked (numbers_of h.prepared.unused.items) Free
     (changed (retired number) (numbers_of h.prepared.dropped.items) born)
@@ -180,11 +184,11 @@ end_pool h number born end is made moved =
 abbrev pub entry_in : Handing → JournalEntry
 entry_in h = entries.Applied h.prepared.batch h.prepared.taken h.prepared.dropped_numbers
 
-abbrev pub desk_of : List ℕ → VersionView → List JournalEntry → List Status → DeskView
+abbrev pub desk_of : List ℕ → VersionView → List JournalEntry → List BlockStatus → DeskView
 desk_of opened last entries pool = record { opened = opened; last = last; journal = map entry_of entries; pool = pool }
 
 pub end_desk : (h : Handing) (opened : List ℕ) (last : VersionView) (entries old_entries : List JournalEntry)
-    (pool : List Status) → h.old.opened ≡ opened → map entry_of old_entries ≡ h.old.journal → last ≡ version_of h
+    (pool : List BlockStatus) → h.old.opened ≡ opened → map entry_of old_entries ≡ h.old.journal → last ≡ version_of h
     → entries ≡ old_entries ++ entry_in h ∷ [] → pool ≡ (next_desk (application h)).pool
     → desk_of opened last entries pool ≡ next_desk (application h)
 end_desk h opened last entries old_entries pool same_opened before same_last same_entries same_pool =
@@ -207,7 +211,7 @@ end_accepts h new is =
       steps = accepted_steps h.old (next_desk a) h.ops a.taken dropped h.before (made_desk a) (made_accepted a);
     })
 
-pub end_room : (h : Handing) (end : List Status) → end ≡ (next_desk (application h)).pool
+pub end_room : (h : Handing) (end : List BlockStatus) → end ≡ (next_desk (application h)).pool
     → count_by is_retired end ≤ count_by is_retired h.pool + length h.prepared.dropped.items
 end_room h end is =
     let a = ap (count_by is_retired) is in
@@ -218,7 +222,7 @@ end_room h end is =
     omega arith
 
 -- the journal's room for what is retired then, where as much was made as for what was retired and what was dropped
-pub end_fits : (h : Handing) (end : List Status) (entries capacity before dropped : ℕ) → end ≡ (next_desk (application h)).pool
+pub end_fits : (h : Handing) (end : List BlockStatus) (entries capacity before dropped : ℕ) → end ≡ (next_desk (application h)).pool
     → before ≡ count_by is_retired h.pool → dropped ≡ vec_len h.prepared.dropped → entries + (before + dropped) ≤ capacity
     → entries + count_by is_retired end ≤ capacity
 end_fits h end entries capacity before dropped is retired many fits =
@@ -258,14 +262,14 @@ grant_refused v free workers ops plan OutOfMemory admitted refuses = refuses
 
 module _ (d : DeskView) (v : VersionView) (workers : ℕ) (ops : List NamedOp) (plan : Plan) (desk : IsDesk d) (last : v ≡ d.last)
     (admitted : IsAdmitted v workers ops plan) where
-  pub desk_refuses : (e : ApplyError) → RefusesGrant (asked ops (count_by is_used d.pool)) (count_by is_free d.pool) e
+  pub desk_refuses : (e : ApplyError) → RefusesGrant (asked ops (count_by is_in_use d.pool)) (count_by is_free d.pool) e
       → Refuses d.last (count_by is_free d.pool) ops e
   desk_refuses e refuses =
       let free : ℕ = count_by is_free d.pool in
       subst (λ (w : VersionView). Refuses w free ops e) last (grant_refused v free workers ops plan e admitted
       (subst (λ n. RefusesGrant (asked ops n) free e) (used_blocks d desk ∙ ap block_count (sym last)) refuses))
 
-  pub desk_admits : asked ops (count_by is_used d.pool) ≤ count_by is_free d.pool
+  pub desk_admits : asked ops (count_by is_in_use d.pool) ≤ count_by is_free d.pool
       → IsWithin d.last (count_by is_free d.pool) ops
   desk_admits enough = record {
     few = subst (λ (w : VersionView). length w.batches < batch_limit) last admitted.few;
@@ -274,7 +278,7 @@ module _ (d : DeskView) (v : VersionView) (workers : ℕ) (ops : List NamedOp) (
   }
 
 -- a batch handed over, by what is known of the version that was lent
-abbrev pub handing : (old : DeskView) (ops : List NamedOp) (numbers handed : List ℕ) (prepared : Prepared) (pool : List Status)
+abbrev pub handing : (old : DeskView) (ops : List NamedOp) (numbers handed : List ℕ) (prepared : Prepared) (pool : List BlockStatus)
     (v : VersionView)
     → IsDesk old → AreFree old.pool numbers → handed ≡ numbers → v ≡ old.last → IsPrepared v ops handed prepared
     → pool ≡ marked numbers Granted old.pool → Handing

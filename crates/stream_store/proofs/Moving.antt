@@ -5,8 +5,10 @@ use Rattle.std.proofs.lemmas.List.{map-append}
 use Rattle.std.specs.declared.{sync.Arc.Arc, alloc.Global.Global}
 use Rattle.edge_block.specs.declared.blocks.Block.{Block}
 use Rattle.batch_shards.specs.RowBlocks.{block_of, numbers_of}
-use Rattle.graph_version.specs.Versions.{is_in}
-use Rattle.block_pool.specs.Pools.{Status, Granted, is_used, is_born, is_used_at, is_born_at, marked, changed, passes, retired}
+use Rattle.block_reclamation.specs.Status.{is_listed, is_in_use, is_used, is_at}
+use Rattle.block_pool.specs.Pools.{marked, changed, retired, is_in_use_at, is_used_at}
+use Rattle.block_reclamation.specs.declared.status.BlockStatus.{BlockStatus}
+use Rattle.block_reclamation.specs.declared.status.BlockStatus.TheVariants.{Granted}
 use Rattle.block_pool.proofs.Tallies.{count_more, count_last}
 use Rattle.epoch_blocks.specs.Blocks.{all_differ}
 use Rattle.epoch_blocks.proofs.Lists.{all_listed}
@@ -20,25 +22,25 @@ turned_times : (m n : ℕ) (ns : List ℕ) → times m (ns ++ n ∷ []) ≡ time
 turned_times m n ns =
     count_last (λ x. x == m) ns n ∙ add_comm (times m ns) (cond (n == m) 1 0) ∙ sym (count_more (λ x. x == m) n ns)
 
-turned_in : (m n : ℕ) (ns : List ℕ) → is_in m (ns ++ n ∷ []) ≡ is_in m (n ∷ ns)
+turned_in : (m n : ℕ) (ns : List ℕ) → is_listed m (ns ++ n ∷ []) ≡ is_listed m (n ∷ ns)
 turned_in m n ns = in_times m (ns ++ n ∷ []) ∙ ap is_some_times (turned_times m n ns) ∙ sym (in_times m (n ∷ ns))
 
-turned : (test : Status → Bool) (n : ℕ) (ns : List ℕ) (pool : List Status) → AreOnce test (ns ++ n ∷ []) pool
+turned : (test : BlockStatus → Bool) (n : ℕ) (ns : List ℕ) (pool : List BlockStatus) → AreOnce test (ns ++ n ∷ []) pool
     → AreMovable test (n ∷ ns) pool
 turned test n ns pool once = record {
-  pass = all_by (λ k. passes test (slice_get pool k)) (n ∷ ns) (λ m is. all_listed (λ k. passes test (slice_get pool k))
+  pass = all_by (λ k. is_at test (slice_get pool k)) (n ∷ ns) (λ m is. all_listed (λ k. is_at test (slice_get pool k))
       (ns ++ n ∷ []) m once.pass (turned_in m n ns ∙ is));
   apart = apart_if (n ∷ ns)
       (λ m. subst (λ k. k ≤ 1) (turned_times m n ns) (once_at_most m (ns ++ n ∷ []) once.apart));
 }
 
-turned_marks : (n : ℕ) (ns : List ℕ) (s : Status) (pool : List Status) → marked ns s (set pool n s) ≡ marked (ns ++ n ∷ []) s pool
+turned_marks : (n : ℕ) (ns : List ℕ) (s : BlockStatus) (pool : List BlockStatus) → marked ns s (set pool n s) ≡ marked (ns ++ n ∷ []) s pool
 turned_marks n ns s pool = same_list _ _ (λ m.
     marked_at (n ∷ ns) s pool m
     ∙ ap (λ t. if t then option_map (λ _. s) (slice_get pool m) else slice_get pool m) (sym (turned_in m n ns))
     ∙ sym (marked_at (ns ++ n ∷ []) s pool m))
 
-turned_changes : (f : Status → Status) (n : ℕ) (ns : List ℕ) (pool : List Status) → all_differ (ns ++ n ∷ []) ≡ true
+turned_changes : (f : BlockStatus → BlockStatus) (n : ℕ) (ns : List ℕ) (pool : List BlockStatus) → all_differ (ns ++ n ∷ []) ≡ true
     → all_differ (n ∷ ns) ≡ true → changed f (n ∷ ns) pool ≡ changed f (ns ++ n ∷ []) pool
 turned_changes f n ns pool apart first = same_list _ _ (λ m.
     changed_at f (n ∷ ns) pool m first
@@ -46,45 +48,45 @@ turned_changes f n ns pool apart first = same_list _ _ (λ m.
     ∙ sym (changed_at f (ns ++ n ∷ []) pool m apart))
 
 -- what stays to be moved, and what the pool will be
-pub record IsMoving (numbers : List ℕ) (s : Status) (pool end : List Status) : Type 0 where
+pub record IsMoving (numbers : List ℕ) (s : BlockStatus) (pool end : List BlockStatus) : Type 0 where
   pub once : AreUsedOnce numbers pool
   pub ends : marked numbers s pool ≡ end
 
-pub last_used : (old ns : List ℕ) (n : ℕ) (s : Status) (pool end : List Status) → old ≡ ns ++ n ∷ [] → IsMoving old s pool end
-    → is_used_at pool n ≡ true
+pub last_used : (old ns : List ℕ) (n : ℕ) (s : BlockStatus) (pool end : List BlockStatus) → old ≡ ns ++ n ∷ [] → IsMoving old s pool end
+    → is_in_use_at pool n ≡ true
 last_used old ns n s pool end is m =
-    (moving is_used n ns s pool (turned is_used n ns pool (subst (λ xs. AreUsedOnce xs pool) is m.once))).0
+    (moving is_in_use n ns s pool (turned is_in_use n ns pool (subst (λ xs. AreUsedOnce xs pool) is m.once))).0
 
-pub rest_moving : (old ns : List ℕ) (n : ℕ) (s : Status) (pool next end : List Status) → old ≡ ns ++ n ∷ [] → next ≡ set pool n s
+pub rest_moving : (old ns : List ℕ) (n : ℕ) (s : BlockStatus) (pool next end : List BlockStatus) → old ≡ ns ++ n ∷ [] → next ≡ set pool n s
     → IsMoving old s pool end → IsMoving ns s next end
 rest_moving old ns n s pool next end is moved m =
-    let rest = (moving is_used n ns s pool (turned is_used n ns pool (subst (λ xs. AreUsedOnce xs pool) is m.once))).1 in
+    let rest = (moving is_in_use n ns s pool (turned is_in_use n ns pool (subst (λ xs. AreUsedOnce xs pool) is m.once))).1 in
     record {
       once = subst (AreUsedOnce ns) (sym moved) (record { pass = rest.pass; apart = rest.apart });
       ends = ap (marked ns s) moved ∙ turned_marks n ns s pool ∙ ap (λ xs. marked xs s pool) (sym is) ∙ m.ends;
     }
 
 -- the first of some numbers is moved, and then the rest
-pub first_used : (n : ℕ) (ns : List ℕ) (s : Status) (pool end : List Status) → IsMoving (n ∷ ns) s pool end
-    → is_used_at pool n ≡ true
-first_used n ns s pool end m = (moving is_used n ns s pool (record { pass = m.once.pass; apart = m.once.apart })).0
+pub first_used : (n : ℕ) (ns : List ℕ) (s : BlockStatus) (pool end : List BlockStatus) → IsMoving (n ∷ ns) s pool end
+    → is_in_use_at pool n ≡ true
+first_used n ns s pool end m = (moving is_in_use n ns s pool (record { pass = m.once.pass; apart = m.once.apart })).0
 
 -- what stays to be retired, and what the pool will be
-pub record IsRetiring (numbers : List ℕ) (number : ℕ) (pool end : List Status) : Type 0 where
+pub record IsRetiring (numbers : List ℕ) (number : ℕ) (pool end : List BlockStatus) : Type 0 where
   pub once : AreBornOnce numbers pool
   pub ends : changed (retired number) numbers pool ≡ end
 
-pub last_born : (old ns : List ℕ) (n number : ℕ) (pool end : List Status) → old ≡ ns ++ n ∷ []
-    → IsRetiring old number pool end → is_born_at pool n ≡ true
+pub last_born : (old ns : List ℕ) (n number : ℕ) (pool end : List BlockStatus) → old ≡ ns ++ n ∷ []
+    → IsRetiring old number pool end → is_used_at pool n ≡ true
 last_born old ns n number pool end is m =
-    (moving is_born n ns Granted pool (turned is_born n ns pool (subst (λ xs. AreBornOnce xs pool) is m.once))).0
+    (moving is_used n ns Granted pool (turned is_used n ns pool (subst (λ xs. AreBornOnce xs pool) is m.once))).0
 
-pub rest_retiring : (old ns : List ℕ) (n number : ℕ) (pool next end : List Status) → old ≡ ns ++ n ∷ []
+pub rest_retiring : (old ns : List ℕ) (n number : ℕ) (pool next end : List BlockStatus) → old ≡ ns ++ n ∷ []
     → next ≡ changed (retired number) (n ∷ []) pool → IsRetiring old number pool end → IsRetiring ns number next end
 rest_retiring old ns n number pool next end is moved m =
     let once : AreBornOnce (ns ++ n ∷ []) pool = subst (λ xs. AreBornOnce xs pool) is m.once in
-    let first : AreMovable is_born (n ∷ ns) pool = turned is_born n ns pool once in
-    let rest = (moving is_born n ns (retired number (get_or pool n Granted)) pool first).1 in
+    let first : AreMovable is_used (n ∷ ns) pool = turned is_used n ns pool once in
+    let rest = (moving is_used n ns (retired number (get_or pool n Granted)) pool first).1 in
     record {
       once = subst (AreBornOnce ns) (sym moved) (record { pass = rest.pass; apart = rest.apart });
       ends = ap (changed (retired number) ns) moved ∙ turned_changes (retired number) n ns pool once.apart first.apart

@@ -6,7 +6,8 @@ use Rattle.std.proofs.lemmas.List.{map-append, length-append, Elements.All-head,
 use Rattle.logbook.specs.Pages.{Book}
 use Rattle.graph_version.specs.Versions.{VersionView}
 use Rattle.version_shelf.specs.Shelves.{ToldView}
-use Rattle.seat_board.specs.{Board.BoardState, Board.with_pin, declared.board.Pin.Pin}
+use Rattle.block_reclamation.specs.Board.{BoardState, with_pin}
+use Rattle.block_reclamation.specs.declared.copies.Pin.{Pin}
 use Rattle.stream_store.specs.Seats.{SeatView, HasSeen}
 
 set_again : {X : Type 0} (xs : List X) (i : ℕ) (x y : X) → slice_set (slice_set xs i x) i y ≡ slice_set xs i y

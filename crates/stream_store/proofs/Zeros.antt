@@ -4,26 +4,30 @@ use Rattle.std.proofs.Common.{refl, sym, ap, subst, ◌∙◌, arith, All, if◌
 use Rattle.std.specs.{Prelude.slice_get, Option.option_map, Arc.arc_value}
 use Rattle.std.specs.declared.option.Option.{Option, TheVariants.None, TheVariants.Some}
 use Rattle.row_pages.specs.Rows.{blocks_of, numbers_of}
-use Rattle.graph_version.specs.{Versions.VersionView, Versions.IsVersion, Versions.is_in, Rebased.IsRebased}
+use Rattle.graph_version.specs.Versions.{VersionView, IsVersion}
+use Rattle.graph_version.specs.Rebased.{IsRebased}
+use Rattle.block_reclamation.specs.Status.{is_listed}
 use Rattle.graph_version.specs.declared.versions.Version.{Version}
-use Rattle.block_pool.specs.Pools.{Status, Free, Granted, Used, is_free_at, marked, AreFree}
+use Rattle.block_pool.specs.Pools.{is_free_at, marked, AreFree}
+use Rattle.block_reclamation.specs.declared.status.BlockStatus.{BlockStatus}
+use Rattle.block_reclamation.specs.declared.status.BlockStatus.TheVariants.{Free, Granted, Used}
 use Rattle.store_steps.specs.Opening.{IsVersionZero, opened_desk}
 use Rattle.store_steps.proofs.ChangedLists.{marked_at, same_list}
 use Rattle.stream_store.specs.{Openings.OpensWith, declared.zero.Zero.Zero}
 
 -- what is marked twice is as it was marked last
-twice_marked : (t : Bool) (p : Option Status) (x y : Status)
+twice_marked : (t : Bool) (p : Option BlockStatus) (x y : BlockStatus)
     → (if t then option_map (λ _. y) (if t then option_map (λ _. x) p else p) else (if t then option_map (λ _. x) p else p))
     ≡ (if t then option_map (λ _. y) p else p)
 twice_marked false p x y = refl
 twice_marked true None x y = refl
 twice_marked true (Some s) x y = refl
 
-pub marked_over : (ns : List ℕ) (x y : Status) (pool : List Status) → marked ns y (marked ns x pool) ≡ marked ns y pool
+pub marked_over : (ns : List ℕ) (x y : BlockStatus) (pool : List BlockStatus) → marked ns y (marked ns x pool) ≡ marked ns y pool
 marked_over ns x y pool = same_list _ _ (λ m.
     marked_at ns y (marked ns x pool) m
-    ∙ ap (λ p. if is_in m ns then option_map (λ _. y) p else p) (marked_at ns x pool m)
-    ∙ twice_marked (is_in m ns) (slice_get pool m) x y
+    ∙ ap (λ p. if is_listed m ns then option_map (λ _. y) p else p) (marked_at ns x pool m)
+    ∙ twice_marked (is_listed m ns) (slice_get pool m) x y
     ∙ sym (marked_at ns y pool m))
 
 -- a number that is free in a pool of so many is below that
@@ -43,7 +47,7 @@ zero_is blocks v z numbers free same is rebased = record {
   within = subst (λ ns. All (λ n. n < blocks) ns) (sym same) (free_below blocks numbers free);
 }
 
-pub zero_pool : (blocks : ℕ) (z : VersionView) (numbers : List ℕ) (fresh granted pool : List Status) (number : ℕ)
+pub zero_pool : (blocks : ℕ) (z : VersionView) (numbers : List ℕ) (fresh granted pool : List BlockStatus) (number : ℕ)
     → fresh ≡ replicate blocks Free → granted ≡ marked numbers Granted fresh → pool ≡ marked numbers (Used number) granted
     → number ≡ length z.batches → length z.batches ≡ 0 → numbers_of (blocks_of z.rows) ≡ numbers
     → pool ≡ (opened_desk blocks z).pool

@@ -4,7 +4,8 @@ use Rattle.std.specs.Arc.{arc_value}
 use Rattle.logbook.specs.Pages.{Book}
 use Rattle.graph_model.specs.declared.batches.Batch.{Batch}
 use Rattle.graph_version.specs.Versions.{VersionView}
-use Rattle.block_pool.specs.Pools.{Status, is_retired}
+use Rattle.block_reclamation.specs.declared.status.BlockStatus.{BlockStatus}
+use Rattle.block_reclamation.specs.Status.{is_retired}
 use Rattle.version_shelf.specs.Shelves.{ShelfView}
 use Rattle.store_steps.specs.Journal.{Entry, Applied, Collected}
 use Rattle.store_steps.specs.Desks.{DeskView, IsDesk}
@@ -22,7 +23,7 @@ abbrev pub entry_of : JournalEntry → Entry
 entry_of (entries.Applied batch taken dropped) = Applied (arc_value {X = Batch} batch) taken dropped
 entry_of (entries.Collected copy recycled) = Collected copy recycled
 
-abbrev pub state_of : Book → ℕ → List ℕ → VersionView → List JournalEntry → List Status → DeskState
+abbrev pub state_of : Book → ℕ → List ℕ → VersionView → List JournalEntry → List BlockStatus → DeskState
 state_of book workers opened last journal pool = record {
   book = book;
   workers = workers;

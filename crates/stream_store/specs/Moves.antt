@@ -2,15 +2,16 @@
 use Rattle.std.specs.Prelude.{◌≡◌, ℕ, List, Bool, true, slice_get}
 use Rattle.std.specs.List.{list_all}
 use Rattle.epoch_blocks.specs.Blocks.{all_differ}
-use Rattle.block_pool.specs.Pools.{Status, is_used, is_born, passes}
+use Rattle.block_reclamation.specs.declared.status.BlockStatus.{BlockStatus}
+use Rattle.block_reclamation.specs.Status.{is_in_use, is_used, is_at}
 
 -- each of the numbers has a status that passes, and none stands twice
-pub record AreOnce (test : Status → Bool) (numbers : List ℕ) (pool : List Status) : Type 0 where
-  pub pass : list_all (λ n. passes test (slice_get pool n)) numbers ≡ true
+pub record AreOnce (test : BlockStatus → Bool) (numbers : List ℕ) (pool : List BlockStatus) : Type 0 where
+  pub pass : list_all (λ n. is_at test (slice_get pool n)) numbers ≡ true
   pub apart : all_differ numbers ≡ true
 
-abbrev pub AreUsedOnce : List ℕ → List Status → Type 0
-AreUsedOnce numbers pool = AreOnce is_used numbers pool
+abbrev pub AreUsedOnce : List ℕ → List BlockStatus → Type 0
+AreUsedOnce numbers pool = AreOnce is_in_use numbers pool
 
-abbrev pub AreBornOnce : List ℕ → List Status → Type 0
-AreBornOnce numbers pool = AreOnce is_born numbers pool
+abbrev pub AreBornOnce : List ℕ → List BlockStatus → Type 0
+AreBornOnce numbers pool = AreOnce is_used numbers pool

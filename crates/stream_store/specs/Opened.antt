@@ -2,7 +2,7 @@
 use Rattle.std.specs.Prelude.{◌≡◌, List, All}
 use Rattle.logbook.specs.Pages.{Book}
 use Rattle.graph_model.specs.Graph.{Graph}
-use Rattle.seat_board.specs.Board.{BoardState}
+use Rattle.block_reclamation.specs.Board.{BoardState}
 use Rattle.stream_store.specs.Kept.{DeskState}
 use Rattle.stream_store.specs.Seats.{SeatView, HasSeen}
 

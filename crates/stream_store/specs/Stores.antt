@@ -9,8 +9,9 @@ use Rattle.graph_model.specs.declared.batches.Outcome.{Outcome}
 use Rattle.graph_version.specs.Versions.{VersionView, IsVersion}
 use Rattle.batch_plan.specs.Planned.{MeetsNeitherLimit}
 use Rattle.version_shelf.specs.Shelves.{ToldView}
-use Rattle.pin_copy.specs.declared.copies.PinCopy.{PinCopy}
-use Rattle.seat_board.specs.Board.{BoardState, copy_of}
+use Rattle.block_reclamation.specs.declared.copies.PinCopy.{PinCopy}
+use Rattle.block_reclamation.specs.Board.{BoardState}
+use Rattle.block_reclamation.specs.Copies.{copy_of}
 use Rattle.store_steps.specs.Desks.{DeskView}
 use Rattle.stream_store.specs.Refusals.{Refuses}
 use Rattle.stream_store.specs.Seats.{SeatView}

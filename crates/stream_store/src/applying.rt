@@ -9,8 +9,9 @@ ghost use Rattle.graph_model.specs.Limits.{batch_limit};
 ghost use Rattle.row_pages.specs.Rows as rows;
 ghost use Rattle.batch_shards.specs.RowBlocks.{numbers_of};
 ghost use Rattle.graph_version.specs.declared.versions.Version.{Version};
-ghost use Rattle.graph_version.specs.Versions.{is_in};
-ghost use Rattle.block_pool.specs.Pools.{Granted, AreFree, is_free, is_used, marked};
+ghost use Rattle.block_reclamation.specs.Status.{is_listed, is_free, is_in_use};
+ghost use Rattle.block_pool.specs.Pools.{AreFree, marked};
+ghost use Rattle.block_reclamation.specs.declared.status.BlockStatus.TheVariants.{Granted};
 ghost use Rattle.version_shelf.specs.Shelves.{IsNext};
 ghost use Rattle.stream_store.specs.Applying.{IsPrepared};
 ghost use Rattle.stream_store.specs.Refusals.{Refuses, RefusesGrant, IsAdmitted, asked, workers_for};
@@ -82,13 +83,13 @@ fn asked_by(batch: &Batch, used: u32) -> u32
 /// Grants as many blocks as a plan's shards may take, where all those are free that its batch asks for behind the version
 /// that uses the used ones.
 pub(crate) fn grant_blocks(pool: &mut Pool, batch: &Batch, plan: &Plan) -> Result<Grant, ApplyError>
-    requires { sum_by (λ n. n) plan.now.needs.items ≤ asked batch.now (count_by is_used pool.old) }
+    requires { sum_by (λ n. n) plan.now.needs.items ≤ asked batch.now (count_by is_in_use pool.old) }
     ensures numbers { IfOk result (λ g. AreFree pool.old g.numbers.items
         × (length g.numbers.items ≡ sum_by (λ n. n) plan.now.needs.items)) }
     ensures blocks { IfOk result (λ g. numbers_of g.blocks.items ≡ g.numbers.items) }
     ensures used { IfOk result (λ g. pool.new ≡ marked g.numbers.items Granted pool.old) }
-    ensures enough { OnOk result (asked batch.now (count_by is_used pool.old) ≤ count_by is_free pool.old) }
-    ensures refused { IfErr result (RefusesGrant (asked batch.now (count_by is_used pool.old)) (count_by is_free pool.old)) }
+    ensures enough { OnOk result (asked batch.now (count_by is_in_use pool.old) ≤ count_by is_free pool.old) }
+    ensures refused { IfErr result (RefusesGrant (asked batch.now (count_by is_in_use pool.old)) (count_by is_free pool.old)) }
     ensures unchanged { OnErr result (pool.new ≡ pool.old) }
 {
     let free = pool.free();
@@ -150,7 +151,8 @@ pub(crate) fn prepare<R: Threads + Sync, G: Gate + Sync>(
     requires admitted { (workers : ℕ) × IsAdmitted last.now workers batch plan }
     requires blocks { sum_by (λ n. n) plan.needs.items ≤ length blocks.items }
     requires distinct { AllPairs ◌≢◌ (numbers_of blocks.items) }
-    requires unlisted { All (λ n. is_in n (rows.numbers_of (rows.blocks_of last.now.rows)) ≡ false) (numbers_of blocks.items) }
+    requires unlisted { All (λ n. is_listed n (rows.numbers_of (rows.blocks_of last.now.rows)) ≡ false)
+        (numbers_of blocks.items) }
     ensures { IfOk result (IsPrepared last.now batch (numbers_of blocks.items)) }
 {
     let Ok(batch) = Arc::new(alloc, batch) else {

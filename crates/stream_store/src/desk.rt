@@ -7,9 +7,9 @@ ghost use mathlib.Core.List.{IsPrefix};
 ghost use Rattle.graph_version.specs.declared.versions.Version.{Version};
 ghost use Rattle.graph_version.specs.Versions.{content};
 ghost use Rattle.graph_version.specs.Kept.{edge_total};
-ghost use Rattle.block_pool.specs.Pools.{is_free, is_used, is_retired, is_past};
-ghost use Rattle.pin_copy.specs.Copies.{floor_of};
-ghost use Rattle.pin_copy.specs.declared.copies.PinCopy.{PinCopy};
+ghost use Rattle.block_reclamation.specs.Status.{is_free, is_in_use, is_retired, is_reclaimable};
+ghost use Rattle.block_reclamation.specs.Copies.{floor_of};
+ghost use Rattle.block_reclamation.specs.declared.copies.PinCopy.{PinCopy};
 ghost use Rattle.version_shelf.specs.Shelves.{opened_shelf};
 ghost use Rattle.store_steps.specs.Desks.{IsDesk, IsCollected, births_in, collections};
 ghost use Rattle.store_steps.specs.Dates.{AreDated};
@@ -28,9 +28,9 @@ use crate::receipts::{ApplyError, Receipt};
 use crate::zero::Zero;
 use batch_apply::Gate;
 use block_pool::{Grant, Pool};
+use block_reclamation::PinCopy;
 use graph_model::{Batch, List};
 use graph_version::Version;
-use pin_copy::PinCopy;
 use std::alloc::Global;
 use std::marker::Model;
 use std::sync::{Arc, Wait};
@@ -209,7 +209,7 @@ impl Desk {
         ensures births { (source : ℕ) → births_in self.new.desk source ≡ births_in self.old.desk source }
         ensures steps { TakesAt copy.now self.old.desk (recycling copy.now self.old.desk.pool) self.new.desk }
         ensures floor { result.floor ≡ floor_of copy.now }
-        ensures recycled { result.recycled ≡ count_by (is_past copy.now) self.old.desk.pool }
+        ensures recycled { result.recycled ≡ count_by (is_reclaimable copy.now) self.old.desk.pool }
         ensures retired { result.retired ≡ count_by is_retired self.new.desk.pool }
     {
         let recycled = self.pool.recycle(copy);
@@ -255,7 +255,7 @@ impl Desk {
         ensures edges { result.edges ≡ edge_total self.now.desk.last }
         ensures free { result.free ≡ count_by is_free self.now.desk.pool }
         ensures retired { result.retired ≡ count_by is_retired self.now.desk.pool }
-        ensures used { result.used ≡ count_by is_used self.now.desk.pool }
+        ensures used { result.used ≡ count_by is_in_use self.now.desk.pool }
     {
         Stat {
             number: self.last.number(),
@@ -273,7 +273,7 @@ impl Desk {
         ensures entries { map entry_of result.now ≡ self.now.desk.journal }
         ensures replays { IsDesk self.now.desk }
         ensures dated { AreDated self.now.desk.opened (length self.now.desk.last.batches) self.now.desk.pool }
-        ensures used { count_by is_used self.now.desk.pool ≡ block_count self.now.desk.last }
+        ensures used { count_by is_in_use self.now.desk.pool ≡ block_count self.now.desk.last }
     {
         self.journal.as_slice()
     }

@@ -2,8 +2,8 @@
 
 ghost use Rattle.std.specs.Prelude.{◌≡◌, ◌+◌, ◌<◌, ◌≤◌, ◌++◌, ◌∷◌, [], vec_capacity, vec_len};
 
+use block_reclamation::PinCopy;
 use graph_model::{Batch, List};
-use pin_copy::PinCopy;
 use std::sync::Arc;
 
 /// What the desk did: it accepted a batch, or it collected.

@@ -1,7 +1,8 @@
 //! Moves of blocks between the pool's sets, in time by their count. None of these takes memory.
 
 ghost use Rattle.std.specs.Prelude.{◌≡◌};
-ghost use Rattle.block_pool.specs.Pools.{Free, Used, marked, changed, retired};
+ghost use Rattle.block_pool.specs.Pools.{marked, changed, retired};
+ghost use Rattle.block_reclamation.specs.declared.status.BlockStatus.TheVariants.{Free, Used};
 ghost use Rattle.batch_shards.specs.RowBlocks.{numbers_of};
 ghost use Rattle.stream_store.specs.Moves.{AreUsedOnce, AreBornOnce};
 

@@ -2,7 +2,7 @@
 
 ghost use Rattle.std.specs.Prelude.{◌≡◌, ◌<◌, length, map, IfOk, IfErr, Err, All};
 ghost use Rattle.std.specs.List.{range_with_len};
-ghost use Rattle.seat_board.specs.Board.{no_pins};
+ghost use Rattle.block_reclamation.specs.Board.{no_pins};
 ghost use Rattle.graph_version.specs.Versions.{empty_version};
 ghost use Rattle.graph_version.specs.Rebased.{IsRebased};
 ghost use Rattle.store_steps.specs.Opening.{IsVersionZero, opened_desk};
@@ -17,8 +17,8 @@ use crate::desk::Desk;
 use crate::opening::{OpenError, open_parts, open_parts_from};
 use crate::seats::Seat;
 use crate::store::{Naming, Store};
+use block_reclamation::Board;
 use graph_version::Version;
-use seat_board::Board;
 use std::alloc::Global;
 use std::marker::{Brand, Model};
 use std::sync::Wait;

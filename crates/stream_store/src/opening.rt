@@ -3,7 +3,7 @@
 ghost use Rattle.std.specs.Prelude.{◌≡◌, ℕ, ◌<◌, ◌≤◌, length, map, IfOk, IfErr, Err, All};
 ghost use Rattle.std.specs.List.{range_with_len};
 ghost use Rattle.std.specs.Arc.{arc_value};
-ghost use Rattle.seat_board.specs.Board.{no_pins};
+ghost use Rattle.block_reclamation.specs.Board.{no_pins};
 ghost use Rattle.graph_version.specs.declared.versions.Version.{Version};
 ghost use Rattle.graph_version.specs.Versions.{empty_version};
 ghost use Rattle.graph_version.specs.Rebased.{IsRebased};
@@ -16,8 +16,8 @@ use crate::config::Config;
 use crate::desk::Desk;
 use crate::seats::Seat;
 use crate::zero::Zero;
+use block_reclamation::{Board, SeatNo};
 use graph_version::Version;
-use seat_board::{Board, SeatNo};
 use std::alloc::{AllocError, Global};
 use std::sync::{Arc, Wait};
 use thiserror::Error;

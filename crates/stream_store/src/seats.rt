@@ -5,7 +5,8 @@ ghost use Rattle.std.specs.Prelude.{◌≡◌, ◌⊎◌, ℕ, List, max, length
 ghost use Rattle.std.specs.Prelude.{Err, option_map};
 ghost use Rattle.graph_model.specs.Answer.{IsAnswer};
 ghost use Rattle.graph_model.specs.declared.requests.Request.TheVariants.{OneEdge};
-ghost use Rattle.seat_board.specs.Board.{with_pin, pin_at, unsettled, settled};
+ghost use Rattle.block_reclamation.specs.Board.{with_pin};
+ghost use Rattle.block_reclamation.specs.Copies.{pin_at, unsettled, settled};
 ghost use Rattle.version_shelf.specs.Shelves.{Begins, IsOfOneShelf};
 ghost use Rattle.version_answers.specs.Numbered.{IsNumberedAnswer};
 ghost use Rattle.stream_store.specs.Seats.{held_version, held_graph, lent_to, seat_of};
@@ -13,9 +14,9 @@ ghost use Rattle.stream_store.specs.Seats.{held_version, held_graph, lent_to, se
 use crate::desk::Desk;
 use crate::receipts::Receipt;
 use crate::store::{Naming, Store};
+use block_reclamation::{Board, SeatNo};
 use graph_model::{AskError, Reply, Request};
 use graph_version::Version;
-use seat_board::{Board, SeatNo};
 use std::alloc::AllocError;
 use std::marker::Model;
 use std::sync::{Arc, Wait};

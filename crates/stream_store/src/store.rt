@@ -11,9 +11,9 @@ ghost use Rattle.graph_model.specs.Step.{empty_graph};
 ghost use Rattle.graph_version.specs.declared.versions.Version.{Version};
 ghost use Rattle.graph_version.specs.Versions.{content};
 ghost use Rattle.graph_version.specs.Kept.{edge_total};
-ghost use Rattle.block_pool.specs.Pools.{is_free, is_used, is_retired, is_past};
-ghost use Rattle.pin_copy.specs.Copies.{floor_of};
-ghost use Rattle.seat_board.specs.Board.{IsLeast};
+ghost use Rattle.block_reclamation.specs.Status.{is_free, is_in_use, is_retired, is_reclaimable};
+ghost use Rattle.block_reclamation.specs.Copies.{floor_of};
+ghost use Rattle.block_reclamation.specs.Board.{IsLeast};
 ghost use Rattle.store_steps.specs.Desks.{IsCollected, births_in};
 ghost use Rattle.store_steps.specs.Steps.{Accepts, TakesAt, recycling};
 ghost use Rattle.stream_store.specs.Applying.{IsReceipt};
@@ -23,10 +23,9 @@ ghost use Rattle.stream_store.specs.Stores.{IsReceiptOf, IsRefusalOf, IsOfOpenin
 use crate::desk::{Collected, Desk, Stat};
 use crate::receipts::{ApplyError, Receipt};
 use batch_apply::Gate;
+use block_reclamation::{Board, PinCopy, SeatNo};
 use graph_model::Batch;
 use graph_version::Version;
-use pin_copy::PinCopy;
-use seat_board::{Board, SeatNo};
 use std::alloc::AllocError;
 use std::marker::{Brand, Model, PhantomData};
 use std::sync::{Arc, Mutex, MutexGuard, Wait};
@@ -93,7 +92,7 @@ impl<J: Naming> NamedDesk<J> {
             TakesAt copy self.old.desk.desk (recycling copy self.old.desk.desk.pool) self.new.desk.desk }
         ensures workers { self.new.desk.workers ≡ self.old.desk.workers }
         ensures recycled { result.recycled
-            ≡ count_by (is_past (copied self.old.desk.desk (mutex_guard_value board.entry))) self.old.desk.desk.pool }
+            ≡ count_by (is_reclaimable (copied self.old.desk.desk (mutex_guard_value board.entry))) self.old.desk.desk.pool }
         ensures retired { result.retired ≡ count_by is_retired self.new.desk.desk.pool }
     {
         let copy = self.copy_of(board);
@@ -139,7 +138,7 @@ impl<J: Naming> NamedDesk<J> {
         ensures edges { result.edges ≡ edge_total self.now.desk.desk.last }
         ensures free { result.free ≡ count_by is_free self.now.desk.desk.pool }
         ensures retired { result.retired ≡ count_by is_retired self.now.desk.desk.pool }
-        ensures used { result.used ≡ count_by is_used self.now.desk.desk.pool }
+        ensures used { result.used ≡ count_by is_in_use self.now.desk.desk.pool }
     {
         self.desk.stat()
     }

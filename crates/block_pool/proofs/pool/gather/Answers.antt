@@ -22,8 +22,8 @@ loop-i-preserved c =
     let is = free_read n c.requires.kept (n.free_len - 1 - c.loop-i.i) c.index-number.result.now
     (omega (arith, c.loop-i-test.true, c.requires.enough)) c.index-number.ensures in
     record {
-      bodies = subst (AreBodies (length n.places.items)) (sym c.in_ok-body.ensures.bodies)
-          (bodies_set (length n.places.items) c.loop-i.bodies.items c.index-number.result.now None is.1 tt
+      bodies = subst (AreBodies (length n.statuses.items)) (sym c.in_ok-body.ensures.bodies)
+          (bodies_set (length n.statuses.items) c.loop-i.bodies.items c.index-number.result.now None is.1 tt
           c.loop-i.invariant.bodies);
       granted = c.in_ok-push-2.ensures.items ∙ ap (λ ns. ns ++ c.index-number.result.now ∷ []) c.loop-i.invariant.granted
           ∙ ap (λ j. popped n.free.items n.free_len c.loop-i.i ++ j ∷ []) is.0
@@ -46,8 +46,8 @@ returns-in_err-body-clause-bodies c =
     let n = c.args.numbers.now in
     let is = free_read n c.requires.kept (n.free_len - 1 - c.loop-i.i) c.index-number.result.now
     (omega (arith, c.loop-i-test.true, c.requires.enough)) c.index-number.ensures in
-    subst (AreBodies (length n.places.items)) (sym c.in_err-body.ensures.bodies)
-    (bodies_set (length n.places.items) c.loop-i.bodies.items c.index-number.result.now None is.1 tt
+    subst (AreBodies (length n.statuses.items)) (sym c.in_err-body.ensures.bodies)
+    (bodies_set (length n.statuses.items) c.loop-i.bodies.items c.index-number.result.now None is.1 tt
     c.loop-i.invariant.bodies)
 
 pub returns-in_err-push-clause-bodies : goal.returns-in_err-push-clause-bodies
@@ -55,8 +55,8 @@ returns-in_err-push-clause-bodies c =
     let n = c.args.numbers.now in
     let is = free_read n c.requires.kept (n.free_len - 1 - c.loop-i.i) c.index-number.result.now
     (omega (arith, c.loop-i-test.true, c.requires.enough)) c.index-number.ensures in
-    subst (AreBodies (length n.places.items)) (sym c.in_ok-body.ensures.bodies)
-    (bodies_set (length n.places.items) c.loop-i.bodies.items c.index-number.result.now None is.1 tt
+    subst (AreBodies (length n.statuses.items)) (sym c.in_ok-body.ensures.bodies)
+    (bodies_set (length n.statuses.items) c.loop-i.bodies.items c.index-number.result.now None is.1 tt
     c.loop-i.invariant.bodies)
 
 pub returns-in_err-push-2-clause-bodies : goal.returns-in_err-push-2-clause-bodies
@@ -64,8 +64,8 @@ returns-in_err-push-2-clause-bodies c =
     let n = c.args.numbers.now in
     let is = free_read n c.requires.kept (n.free_len - 1 - c.loop-i.i) c.index-number.result.now
     (omega (arith, c.loop-i-test.true, c.requires.enough)) c.index-number.ensures in
-    subst (AreBodies (length n.places.items)) (sym c.in_ok-body.ensures.bodies)
-    (bodies_set (length n.places.items) c.loop-i.bodies.items c.index-number.result.now None is.1 tt
+    subst (AreBodies (length n.statuses.items)) (sym c.in_ok-body.ensures.bodies)
+    (bodies_set (length n.statuses.items) c.loop-i.bodies.items c.index-number.result.now None is.1 tt
     c.loop-i.invariant.bodies)
 
 pub returns-clause-bodies : goal.returns-clause-bodies

@@ -5,7 +5,7 @@ use Rattle.block_pool.proofs.pool.gather.Given as goal
 
 abbrev pub invariant-loop-i : goal.invariant-loop-i
 invariant-loop-i l = record {
-  bodies : AreBodies (length l.numbers.places.items) l.bodies.items;
+  bodies : AreBodies (length l.numbers.statuses.items) l.bodies.items;
   granted : l.granted.items ≡ popped l.numbers.free.items l.numbers.free_len l.i;
   blocks : map (λ b. (arc_value {X = Block} b).number) l.blocks.items ≡ l.granted.items;
 }

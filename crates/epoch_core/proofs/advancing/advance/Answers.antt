@@ -1,7 +1,8 @@
 use Rattle.std.proofs.Common.{List, refl, sym, ap, subst, ◌∙◌}
 use Rattle.std.specs.Prelude.{IfOk, OnErr, IsTrue, ◌≡◌}
 use Rattle.std.proofs.lemmas.Result.{on_err_weaker}
-use Rattle.epoch_blocks.specs.Blocks.{Stepped, changed_at, recycled, taken}
+use Rattle.epoch_blocks.specs.Blocks.{Stepped, changed_at, taken}
+use Rattle.epoch_blocks.specs.Blocks.{reclaimed}
 use Rattle.epoch_core.specs.declared.{events.Event.Event, states.SessionState.SessionState}
 use Rattle.epoch_core.specs.declared.events.Event.TheVariants.{Take, Fill, Post, Recycle, Pin, Settle, Ask}
 use Rattle.epoch_core.specs.declared.events.Event.TheVariants.{Release}
@@ -22,7 +23,7 @@ returns-in-Take-clause-contents c = c.requires.contents
 pub returns-in-Recycle-clause-steps : goal.returns-in-Recycle-clause-steps
 returns-in-Recycle-clause-steps c =
     let old : MachineState = state_of c.args.parts.now in
-    changed_by old (Recycle c.in-Recycle.block) c.args.event.now c.in-Recycle.block (recycled old.world.copy) c.recycle_block.result c.recycle_block.new.status.items
+    changed_by old (Recycle c.in-Recycle.block) c.args.event.now c.in-Recycle.block (reclaimed old.world.copy) c.recycle_block.result c.recycle_block.new.status.items
     c.in-Recycle.is refl refl c.recycle_block.ensures
 
 pub returns-in-Recycle-clause-contents : goal.returns-in-Recycle-clause-contents

@@ -3,7 +3,8 @@ use Rattle.std.specs.{Prelude.if◌then◌else◌, Option.option_map}
 use Rattle.std.specs.declared.option.Option.{Option, TheVariants.None, TheVariants.Some}
 use Rattle.graph_model.specs.{Graph.IsContent, declared.ids.Edge.Edge, declared.batches.NamedOp.NamedOp}
 use Rattle.epoch_blocks.specs.{declared.states.Version.Version, declared.states.Opening.Opening, Versions.IsContentGraph}
-use Rattle.epoch_blocks.specs.{Blocks.Stepped, declared.states.Status.Status}
+use Rattle.epoch_blocks.specs.Blocks.{Stepped}
+use Rattle.block_reclamation.specs.declared.status.BlockStatus.{BlockStatus}
 use Rattle.epoch_blocks.specs.declared.steps.Step.TheVariants.{Done, Skipped}
 use Rattle.epoch_core.specs.{Worlds.HasContents, Worlds.World, Cores.state_of, Machine.step, Posts.posted}
 use Rattle.epoch_core.specs.declared.events.Event.TheVariants.{Post}
@@ -37,9 +38,9 @@ returns-clause-contents c =
     subst (HasContents o) (sym (c.in_ok-push.ensures.items ∙ ap (λ v. versions ++ v ∷ []) version))
     (contents_posted o versions c.args.batch.now c.args.blocks.now c.requires.contents made)
 
-module _ (w : World) (heap : List (List Edge)) (status : List Status) (versions : List Version) (batch : List NamedOp)
+module _ (w : World) (heap : List (List Edge)) (status : List BlockStatus) (versions : List Version) (batch : List NamedOp)
     (blocks : List ℕ) (same_heap : heap ≡ w.heap) (same_status : status ≡ w.status) (same_versions : versions ≡ w.versions) where
-  plan_here : (o : Option (List Status × Version)) → IsPlanOf w.opening heap status versions batch blocks o
+  plan_here : (o : Option (List BlockStatus × Version)) → IsPlanOf w.opening heap status versions batch blocks o
       → IsPlanOf w.opening w.heap w.status w.versions batch blocks o
   plan_here o is =
       subst (λ h. IsPlanOf w.opening h w.status w.versions batch blocks o) same_heap
@@ -47,7 +48,7 @@ module _ (w : World) (heap : List (List Edge)) (status : List Status) (versions 
       (subst (λ vs. IsPlanOf w.opening heap status vs batch blocks o) same_versions is))
 
   -- what a plan sets is what the Post does
-  posts : (set : List Status) (version : Version) (more : List Version)
+  posts : (set : List BlockStatus) (version : Version) (more : List Version)
       → IsPlanOf w.opening heap status versions batch blocks (Some (set, version)) → more ≡ w.versions ++ version ∷ []
       → Stepped (step w (Post batch blocks)) Done w (record w { status = set; versions = more })
   posts set version more is pushed =

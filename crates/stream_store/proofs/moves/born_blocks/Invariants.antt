@@ -1,5 +1,6 @@
 use Rattle.std.proofs.Common.{length}
-use Rattle.block_pool.specs.Pools.{Used, marked}
+use Rattle.block_pool.specs.Pools.{marked}
+use Rattle.block_reclamation.specs.declared.status.BlockStatus.TheVariants.{Used}
 use Rattle.stream_store.proofs.Moving.{IsMoving}
 use Rattle.stream_store.proofs.moves.born_blocks.Given as goal
 

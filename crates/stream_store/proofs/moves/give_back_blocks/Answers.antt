@@ -1,5 +1,5 @@
 use Rattle.std.proofs.Common.{◌≡◌, ap, set, ◌∙◌, rules}
-use Rattle.block_pool.specs.Pools.{Free}
+use Rattle.block_reclamation.specs.declared.status.BlockStatus.TheVariants.{Free}
 use Rattle.batch_shards.specs.RowBlocks.{block_of, numbers_of}
 use Rattle.stream_store.proofs.Moving.{rest_moving, last_used, last_number}
 use Rattle.stream_store.proofs.moves.give_back_blocks.Goals as goal

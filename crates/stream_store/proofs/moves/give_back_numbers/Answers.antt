@@ -1,4 +1,4 @@
-use Rattle.block_pool.specs.Pools.{Free}
+use Rattle.block_reclamation.specs.declared.status.BlockStatus.TheVariants.{Free}
 use Rattle.stream_store.proofs.Moving.{rest_moving, last_used}
 use Rattle.stream_store.proofs.moves.give_back_numbers.Goals as goal
 

@@ -1,4 +1,5 @@
-use Rattle.block_pool.specs.Pools.{Free, marked}
+use Rattle.block_pool.specs.Pools.{marked}
+use Rattle.block_reclamation.specs.declared.status.BlockStatus.TheVariants.{Free}
 use Rattle.stream_store.proofs.Moving.{IsMoving}
 use Rattle.stream_store.proofs.moves.give_back_numbers.Given as goal
 

@@ -1,7 +1,7 @@
 use Rattle.std.proofs.Common.{length, ◌≡◌, ◌∙◌, ℕ, List, sym, ap, ap₂, subst, arith}
-use Rattle.std.proofs.{Math.ListN.length-set, lemmas.List.length-map}
+use Rattle.std.proofs.Math.ListN.{length-set}
 use Rattle.linked_stacks.specs.Stacks.{Stacks, stack_of, below_top, AreAbsent}
-use Rattle.block_pool.specs.Kept.{statuses, status_from, IsSorted, top_of, put_on, taken_off, moved}
+use Rattle.block_pool.specs.Kept.{statuses, IsSorted, top_of, put_on, taken_off, moved}
 use Rattle.block_pool.proofs.Stacking.{top_listed, top_absent, top_room, sorted_moved}
 use Rattle.block_pool.proofs.numbers.Numbers.move_top.Goals as goal
 
@@ -25,7 +25,6 @@ push-requires c =
     let there = ap (λ ls. length (stack_of ls c.args.to)) off in
     let many = ap length off in
     let long = length-set lists c.args.from (below_top (stack_of lists c.args.from)) in
-    let all = length-map n.places.items status_from in
     record {
       stack = omega (arith, k.sorted.many, c.requires.to);
       number = omega (arith, k.bound);

@@ -1,5 +1,6 @@
 use Rattle.std.proofs.Common.{◌∙◌, map, count_by, sym, ap, subst}
-use Rattle.block_pool.specs.{Pools.is_past, Pools.recycled, Kept.HasPins}
+use Rattle.block_pool.specs.Kept.{HasPins}
+use Rattle.block_reclamation.specs.Status.{is_reclaimable, recycled}
 use Rattle.block_pool.proofs.numbers.Numbers.recycle.Goals as goal
 
 pub sort-requires-clause-pins : goal.sort-requires-clause-pins
@@ -11,4 +12,4 @@ returns-clause-statuses c =
 
 pub returns-clause-count : goal.returns-clause-count
 returns-clause-count c =
-    c.sort.ensures.count ∙ ap (count_by (is_past c.args.copy.now)) (c.recall.ensures.same.same ∙ c.follow.ensures.statuses)
+    c.sort.ensures.count ∙ ap (count_by (is_reclaimable c.args.copy.now)) (c.recall.ensures.same.same ∙ c.follow.ensures.statuses)

@@ -1,11 +1,11 @@
 use Rattle.std.proofs.Common.{◌≡◌, ◌∙◌, ◌+◌, ◌<◌, ℕ, length, get_or, set, count_by, sym, ap, subst, refl, take, arith}
 use Rattle.std.proofs.{Common.length-take, Common.true, Math.ListN.length-set}
-use Rattle.std.proofs.lemmas.List.{map-set, length-map, get_or_read}
+use Rattle.std.proofs.lemmas.List.{get_or_read}
 use Rattle.linked_stacks.specs.Stacks.{Stacks, stack_of}
 use Rattle.block_pool.specs.declared.numbers.{Numbers.Numbers, TheConstants.LOOSE}
-use Rattle.block_pool.specs.Pools.{Free, Granted, is_free, is_retired}
-use Rattle.block_pool.specs.Kept.{statuses, status_from, status_of, Lists, IsNumbers, IsSorted, top_of, taken_off}
-use Rattle.block_pool.specs.declared.numbers.Place.TheVariants as places
+use Rattle.block_reclamation.specs.declared.status.BlockStatus.TheVariants.{Free, Granted}
+use Rattle.block_reclamation.specs.Status.{is_free, is_retired}
+use Rattle.block_pool.specs.Kept.{statuses, status_of, IsNumbers, IsSorted, top_of, taken_off}
 use Rattle.block_pool.proofs.Tallies.{lists_more, lists_room, count_at, count_here, retired_not_free}
 use Rattle.block_pool.proofs.{Grants.placed, Stacking.top_listed, Stacking.sorted_freed}
 use Rattle.block_pool.proofs.numbers.Numbers.release_top.Goals as goal
@@ -30,7 +30,7 @@ index_mut-requires c =
     let k = c.requires.kept in
     let is = top_listed (statuses n) n.pins n.least n.retired.lists k.sorted LOOSE (omega arith) c.requires.some in
     let num : c.top-number.result ≡ top_of (stack_of n.retired.lists LOOSE) = sym (ap top_of c.top-number.ensures) in
-    omega (arith, is.0, num, length-map n.places.items status_from)
+    omega (arith, is.0, num)
 
 -- there is room for one more free number
 room_left : (n : Numbers) → IsNumbers n → 0 < length (stack_of n.retired.lists LOOSE) → n.free_len < length n.free.items
@@ -39,8 +39,7 @@ room_left n k some =
     let is = top_listed (statuses n) n.pins n.least n.retired.lists k.sorted LOOSE (omega arith) some in
     let room = lists_room is_free (statuses n) (take n.free_len n.free.items) k.free_are r Free is.0
     (retired_not_free (status_of (statuses n) r) is.1) in
-    let long = length-map n.places.items status_from in
-    omega (arith, length-take n.free_len n.free.items, k.free_in, k.free_room, room, long)
+    omega (arith, length-take n.free_len n.free.items, k.free_in, k.free_room, room)
 
 pub index-next-requires : goal.index-next-requires
 index-next-requires c = omega (arith, c.requires.place, room_left c.args.self.now c.requires.kept c.requires.some)
@@ -72,29 +71,25 @@ returns-clause-kept c =
     let next : ℕ = c.index-next.result.now in
     let is_next : next ≡ get_or n.free.items c.args.place 0 =
     get_or_read n.free.items c.args.place next (omega (arith, c.requires.place, lt)) c.index-next.ensures 0 in
-    let long_places = length-set n.places.items num places.Free in
-    let after = map-set status_from n.places.items num places.Free in
+    let long_after = length-set n.statuses.items num Free in
     let free = length-set n.free.items n.free_len next in
     let free_after = length-set (set n.free.items n.free_len next) c.args.place num in
     let count = rw st at (count_here is_retired (statuses n) num Free Granted within) in
-    let told = ap (count_by is_retired) after in
     record {
       few = omega (arith, k.few);
       free_room = omega (arith, k.free_room);
-      bound = ap (λ (s : Stacks). s.bound) c.pop.ensures ∙ k.bound ∙ sym long_places;
+      bound = ap (λ (s : Stacks). s.bound) c.pop.ensures ∙ k.bound ∙ sym long_after;
       seats = k.seats;
       free_in = omega (arith, k.free_room);
-      free_are = subst (λ pool. Lists is_free pool (take (n.free_len + 1) (set (set n.free.items n.free_len next) c.args.place num)))
-          (sym after) (λ q.
+      free_are = λ q.
           ap (λ (i : ℕ). count_by q (take (n.free_len + 1) (set (set n.free.items n.free_len i) c.args.place num))) is_next
           ∙ placed n.free.items n.free_len c.args.place num c.requires.place lt q
           ∙ lists_more is_free (statuses n) (take n.free_len n.free.items) k.free_are num Free within
-          (retired_not_free (status_of (statuses n) num) st) refl q);
+          (retired_not_free (status_of (statuses n) num) st) refl q;
       retired_in = omega (arith, k.retired_in);
-      sorted = subst (λ pool. IsSorted pool n.pins n.least c.pop.new.self.lists) (sym after)
-          (subst (IsSorted (set (statuses n) num Free) n.pins n.least) (sym (ap (λ (s : Stacks). s.lists) c.pop.ensures))
+      sorted = subst (IsSorted (set (statuses n) num Free) n.pins n.least) (sym (ap (λ (s : Stacks). s.lists) c.pop.ensures))
           (subst (λ (j : ℕ). IsSorted (set (statuses n) j Free) n.pins n.least (taken_off LOOSE n.retired.lists)) (sym same)
-          (sorted_freed (statuses n) n.pins n.least n.retired.lists k.sorted c.requires.some)));
+          (sorted_freed (statuses n) n.pins n.least n.retired.lists k.sorted c.requires.some));
     }
 
 pub returns-clause-lists : goal.returns-clause-lists
@@ -103,5 +98,4 @@ returns-clause-lists c = ap (λ (s : Stacks). s.lists) c.pop.ensures
 pub returns-clause-statuses : goal.returns-clause-statuses
 returns-clause-statuses c =
     let n = c.args.self.now in
-    map-set status_from n.places.items c.top-number.result places.Free
-    ∙ ap (λ (j : ℕ). set (statuses n) j Free) (sym (ap top_of c.top-number.ensures))
+    ap (λ (j : ℕ). set (statuses n) j Free) (sym (ap top_of c.top-number.ensures))

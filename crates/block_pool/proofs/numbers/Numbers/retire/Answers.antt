@@ -1,9 +1,14 @@
 use Rattle.std.proofs.Common.{◌≡◌, ◌∙◌, count_by, ◌<◌, length, set, sym, ap, subst, refl, take, arith, false}
-use Rattle.std.proofs.{Math.ListN.length-set, lemmas.List.map-set, lemmas.List.length-map, lemmas.List.get_or-map}
-use Rattle.block_pool.specs.{declared.numbers.TheConstants.LOOSE, Pools.Status, Pools.Granted, Pools.Retired, Pools.is_free}
-use Rattle.block_pool.specs.{Pools.is_retired, Pools.retired, Kept.statuses, Kept.status_from, Kept.status_of, Kept.Lists}
+use Rattle.std.proofs.Math.ListN.{length-set}
+use Rattle.block_pool.specs.declared.numbers.TheConstants.{LOOSE}
+use Rattle.block_reclamation.specs.declared.status.BlockStatus.{BlockStatus}
+use Rattle.block_reclamation.specs.declared.status.BlockStatus.TheVariants.{Granted, Retired}
+use Rattle.block_reclamation.specs.Status.{is_free, is_retired}
+use Rattle.block_pool.specs.Pools.{retired}
+use Rattle.block_pool.specs.Kept.{statuses, status_of, Lists}
 use Rattle.block_pool.{specs.Kept.IsSorted, proofs.Tallies.lists_same, proofs.Tallies.born_at, proofs.Tallies.count_here}
 use Rattle.block_pool.proofs.Stacking.{absent, room, sorted_retired}
+use Rattle.block_pool.proofs.StatusReads.{status_read}
 use Rattle.block_pool.proofs.numbers.Numbers.retire.Goals as goal
 
 pub push-requires : goal.push-requires
@@ -11,7 +16,6 @@ push-requires c =
     let n = c.args.self.now in
     let k = c.requires.kept in
     let at = born_at (statuses n) c.args.number c.requires.born in
-    let long = length-map n.places.items status_from in
     let not : is_retired (status_of (statuses n) c.args.number) ≡ false = ap is_retired at.1.1 in
     let here = room (statuses n) n.pins n.least n.retired.lists k.sorted c.args.number LOOSE at.0 not in
     record {
@@ -26,17 +30,12 @@ returns-clause-kept c =
     let n = c.args.self.now in
     let k = c.requires.kept in
     let at = born_at (statuses n) c.args.number c.requires.born in
-    let dated : Status = Retired at.1.0 c.args.version in
-    let long = length-map n.places.items status_from in
-    let within : c.args.number < length n.places.items = omega (arith, at.0, long) in
-    let place = c.index-place.result.now in
-    let read : status_of (statuses n) c.args.number ≡ status_from place =
-    get_or-map status_from n.places.items c.args.number place Granted within ∙ ap status_from (sym c.index-place.ensures) in
-    let is : status_from c.after_retiring.result ≡ dated =
+    let dated : BlockStatus = Retired at.1.0 c.args.version in
+    let read = status_read n c.args.number c.index-status.result.now at.0 c.index-status.ensures in
+    let is : c.after_retiring.result ≡ dated =
     c.after_retiring.ensures ∙ ap (retired c.args.version) (sym read ∙ at.1.1) in
-    let long_places = length-set n.places.items c.args.number c.after_retiring.result in
-    let after = map-set status_from n.places.items c.args.number c.after_retiring.result
-    ∙ ap (set (statuses n) c.args.number) is in
+    let long_after = length-set n.statuses.items c.args.number c.after_retiring.result in
+    let after = ap (set (statuses n) c.args.number) is in
     let not : is_retired (status_of (statuses n) c.args.number) ≡ false = ap is_retired at.1.1 in
     let count = rw not at (count_here is_retired (statuses n) c.args.number dated Granted at.0) in
     let told = ap (count_by is_retired) after in
@@ -60,9 +59,5 @@ pub returns-clause-statuses : goal.returns-clause-statuses
 returns-clause-statuses c =
     let n = c.args.self.now in
     let at = born_at (statuses n) c.args.number c.requires.born in
-    let within : c.args.number < length n.places.items = omega (arith, at.0, length-map n.places.items status_from) in
-    let place = c.index-place.result.now in
-    let read : status_of (statuses n) c.args.number ≡ status_from place =
-    get_or-map status_from n.places.items c.args.number place Granted within ∙ ap status_from (sym c.index-place.ensures) in
-    map-set status_from n.places.items c.args.number c.after_retiring.result
-    ∙ ap (set (statuses n) c.args.number) (c.after_retiring.ensures ∙ ap (retired c.args.version) (sym read))
+    let read = status_read n c.args.number c.index-status.result.now at.0 c.index-status.ensures in
+    ap (set (statuses n) c.args.number) (c.after_retiring.ensures ∙ ap (retired c.args.version) (sym read))

@@ -1,7 +1,9 @@
 use Rattle.std.proofs.Common.{◌∙◌, sym, subst, refl, arith}
-use Rattle.std.proofs.lemmas.List.{length-map, Sums.count_by-le-length}
+use Rattle.std.proofs.lemmas.List.{Sums.count_by-le-length}
 use Rattle.linked_stacks.specs.Stacks.{stack_of}
-use Rattle.block_pool.specs.{declared.numbers.TheConstants.LOOSE, Pools.is_past, Kept.statuses, Kept.status_from, Kept.HasPins}
+use Rattle.block_pool.specs.declared.numbers.TheConstants.{LOOSE}
+use Rattle.block_pool.specs.Kept.{statuses, HasPins}
+use Rattle.block_reclamation.specs.Status.{is_reclaimable}
 use Rattle.block_pool.proofs.{Tallies.none_past, Stacking.all_sorted, Stacking.no_number}
 use Rattle.block_pool.proofs.numbers.Numbers.sort.Goals as goal
 
@@ -26,9 +28,8 @@ sort_top-count-requires c = record {
 
 pub overflow_add-count : goal.overflow_add-count
 overflow_add-count c =
-    let few = count_by-le-length (is_past c.args.copy.now) (statuses c.args.self.now) in
-    let long = length-map c.args.self.now.places.items status_from in
-    omega (arith, few, long, c.requires.kept.few, c.sort.invariant.counted, c.sort_top-count.ensures.count)
+    let few = count_by-le-length (is_reclaimable c.args.copy.now) (statuses c.args.self.now) in
+    omega (arith, few, c.requires.kept.few, c.sort.invariant.counted, c.sort_top-count.ensures.count)
 
 pub sort-preserved : goal.sort-preserved
 sort-preserved c = record {

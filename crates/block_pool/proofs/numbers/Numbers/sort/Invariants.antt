@@ -1,7 +1,8 @@
 use Rattle.std.proofs.Common.{◌≡◌, ◌≤◌, ◌+◌, map, count_by, length}
 use Rattle.linked_stacks.specs.Stacks.{stack_of}
 use Rattle.block_pool.specs.declared.numbers.TheConstants.{LOOSE, LATE}
-use Rattle.block_pool.specs.{Pools.recycled, Pools.is_past, Kept.statuses, Kept.AreNeeded, Kept.HasPins, Kept.IsNumbers}
+use Rattle.block_pool.specs.Kept.{statuses, AreNeeded, HasPins, IsNumbers}
+use Rattle.block_reclamation.specs.Status.{recycled, is_reclaimable}
 use Rattle.block_pool.proofs.numbers.Numbers.sort.Given as goal
 
 abbrev pub invariant-sort : goal.invariant-sort
@@ -10,7 +11,7 @@ invariant-sort l = record {
   pins : HasPins l.copy l.self.pins;
   late : AreNeeded l.copy (statuses l.self) (stack_of l.self.retired.lists LATE);
   after : map (recycled l.copy) (statuses l.self) ≡ map (recycled l.copy) (statuses l.initial.self);
-  counted : l.count + count_by (is_past l.copy) (statuses l.self) ≡ count_by (is_past l.copy) (statuses l.initial.self);
+  counted : l.count + count_by (is_reclaimable l.copy) (statuses l.self) ≡ count_by (is_reclaimable l.copy) (statuses l.initial.self);
   free : l.count ≤ l.self.free_len;
 }
 

@@ -1,5 +1,7 @@
 use Rattle.std.proofs.Common.{◌≡◌, ◌≤◌}
-use Rattle.block_pool.specs.{Pools.Granted, Pools.marked, Kept.statuses, Kept.popped, Kept.IsNumbers}
+use Rattle.block_pool.specs.Pools.{marked}
+use Rattle.block_pool.specs.Kept.{statuses, popped, IsNumbers}
+use Rattle.block_reclamation.specs.declared.status.BlockStatus.TheVariants.{Granted}
 use Rattle.block_pool.proofs.numbers.Numbers.use_last.Given as goal
 
 abbrev pub invariant-grant : goal.invariant-grant

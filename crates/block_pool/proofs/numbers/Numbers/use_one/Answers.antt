@@ -1,10 +1,11 @@
-use Rattle.std.proofs.Common.{◌≡◌, ◌∙◌, ◌+◌, ◌<◌, ℕ, length, get_or, set, count_by, cond, ◌-◌, sym, ap, subst, refl, take, arith}
+use Rattle.std.proofs.Common.{◌≡◌, ◌∙◌, ◌+◌, ◌<◌, ℕ, length, get_or, set, count_by, cond, ◌-◌, sym, ap, refl, take, arith}
 use Rattle.std.proofs.{Common.true, Math.ListN.length-set}
-use Rattle.std.proofs.lemmas.List.{get_or_read, take_more, map-set, length-map}
-use Rattle.block_pool.specs.{Pools.Granted, Pools.is_free, Pools.is_retired, Kept.statuses, Kept.status_from, Kept.status_of}
-use Rattle.block_pool.{specs.Kept.Lists, specs.Kept.IsSorted, proofs.Tallies.lists_less, proofs.Tallies.listed_at}
+use Rattle.std.proofs.lemmas.List.{get_or_read, take_more}
+use Rattle.block_pool.specs.Kept.{statuses, status_of}
+use Rattle.block_reclamation.specs.declared.status.BlockStatus.TheVariants.{Granted}
+use Rattle.block_reclamation.specs.Status.{is_free, is_retired}
+use Rattle.block_pool.proofs.Tallies.{lists_less, listed_at}
 use Rattle.block_pool.proofs.{Tallies.count_last, Tallies.free_not_retired, Tallies.count_kept, Stacking.sorted_set}
-use Rattle.block_pool.specs.declared.numbers.Place.TheVariants as places
 use Rattle.block_pool.proofs.numbers.Numbers.use_one.Goals as goal
 
 pub index_mut-requires : goal.index_mut-requires
@@ -14,11 +15,10 @@ index_mut-requires c =
     let m : ℕ = n.free_len - 1 in
     let at = listed_at is_free (statuses n) n.free_len n.free.items k.free_are (omega (arith, k.free_in, k.free_room)) m
     (omega (arith, c.requires.some)) in
-    let long = length-map n.places.items status_from in
     let same : c.index-number.result.now ≡ get_or n.free.items m 0 =
     get_or_read n.free.items m c.index-number.result.now
     (omega (arith, c.requires.some, k.free_in, k.free_room)) c.index-number.ensures 0 in
-    omega (arith, at.0, long, same)
+    omega (arith, at.0, same)
 
 pub returns-clause-kept : goal.returns-clause-kept
 returns-clause-kept c =
@@ -33,24 +33,22 @@ returns-clause-kept c =
     (omega (arith, c.requires.some)) in
     let within : num < length (statuses n) = omega (arith, at.0, same) in
     let st : is_free (status_of (statuses n) num) ≡ true = ap (λ j. is_free (status_of (statuses n) j)) same ∙ at.1 in
-    let long_places = length-set n.places.items num places.Granted in
-    let after = map-set status_from n.places.items num places.Granted in
+    let long_after = length-set n.statuses.items num Granted in
     record {
       few = omega (arith, k.few);
       free_room = omega (arith, k.free_room);
       bound = omega (arith, k.bound);
       seats = k.seats;
       free_in = omega (arith, k.free_in);
-      free_are = subst (λ pool. Lists is_free pool (take m n.free.items)) (sym after)
-          (lists_less is_free (statuses n) (take n.free_len n.free.items) k.free_are num Granted within (take m n.free.items)
+      free_are = lists_less is_free (statuses n) (take n.free_len n.free.items) k.free_are num Granted within (take m n.free.items)
           (λ q. ap (λ j. count_by q (take j n.free.items)) (sym more) ∙ ap (count_by q) (take_more n.free.items m 0 ml)
           ∙ count_last q (take m n.free.items) (get_or n.free.items m 0)
           ∙ ap (λ b. count_by q (take m n.free.items) + cond (q b) 1 0) (sym same))
-          st refl);
+          st refl;
       retired_in = k.retired_in
-          ∙ sym (ap (count_by is_retired) after ∙ count_kept is_retired (statuses n) num Granted within (free_not_retired (status_of (statuses n) num) st));
-      sorted = subst (λ pool. IsSorted pool n.pins n.least n.retired.lists) (sym after)
-          (sorted_set (statuses n) n.pins n.least n.retired.lists k.sorted num Granted within (free_not_retired (status_of (statuses n) num) st) refl (λ _. refl));
+          ∙ sym (count_kept is_retired (statuses n) num Granted within (free_not_retired (status_of (statuses n) num) st));
+      sorted = sorted_set (statuses n) n.pins n.least n.retired.lists k.sorted num Granted within
+          (free_not_retired (status_of (statuses n) num) st) refl (λ _. refl);
     }
 
 pub returns-clause-statuses : goal.returns-clause-statuses
@@ -61,4 +59,4 @@ returns-clause-statuses c =
     let same : c.index-number.result.now ≡ get_or n.free.items m 0 =
     get_or_read n.free.items m c.index-number.result.now
     (omega (arith, c.requires.some, k.free_in, k.free_room)) c.index-number.ensures 0 in
-    map-set status_from n.places.items c.index-number.result.now places.Granted ∙ ap (λ j. set (statuses n) j Granted) same
+    ap (λ j. set (statuses n) j Granted) same

@@ -1,7 +1,9 @@
 use Rattle.std.proofs.Common.{◌≡◌, ℕ, ◌∙◌, ◌≤◌, length, sym, ap, subst, count_by, arith}
-use Rattle.block_pool.specs.{Pools.Granted, Pools.is_free, Pools.AreFree, Kept.statuses, Kept.status_from, Kept.popped}
+use Rattle.block_pool.specs.Pools.{AreFree}
+use Rattle.block_pool.specs.Kept.{statuses, popped}
+use Rattle.block_reclamation.specs.declared.status.BlockStatus.TheVariants.{Granted}
+use Rattle.block_reclamation.specs.Status.{is_free}
 use Rattle.block_pool.specs.Bodies.{AreBodies}
-use Rattle.std.proofs.lemmas.List.{length-map}
 use Rattle.block_pool.proofs.Grants.{free_listed, popped_free, length-popped, length-marked}
 use Rattle.block_pool.proofs.pool.Pool.grant.Goals as goal
 
@@ -18,11 +20,9 @@ use_last-requires-clause-enough c =
 pub invariant_of-self-2 : goal.invariant_of-self-2
 invariant_of-self-2 c =
     let n = c.self.inside.numbers in
-    let before = length-map n.places.items status_from in
-    let after = length-map c.use_last.new.self.places.items status_from in
     let e = ap length c.use_last.ensures.statuses
     ∙ length-marked (popped n.free.items n.free_len c.args.count) Granted (statuses n) in
-    let same : length n.places.items ≡ length c.use_last.new.self.places.items = omega arith in
+    let same : length n.statuses.items ≡ length c.use_last.new.self.statuses.items = omega arith in
     (c.use_last.ensures.kept, subst (λ (m : ℕ). AreBodies m c.gather.new.bodies.items) same c.gather.ensures.bodies)
 
 pub returns-clause-numbers : goal.returns-clause-numbers

@@ -3,7 +3,9 @@ use Rattle.std.specs.Arc.{arc_value}
 use Rattle.graph_version.specs.{declared.versions.Version.Version, Versions.VersionView, Versions.content}
 use Rattle.logbook.specs.Pages.{Book}
 use Rattle.graph_model.specs.Step.{outcomes}
-use Rattle.block_pool.specs.Pools.{Used, is_free, marked}
+use Rattle.block_pool.specs.Pools.{marked}
+use Rattle.block_reclamation.specs.declared.status.BlockStatus.TheVariants.{Used}
+use Rattle.block_reclamation.specs.Status.{is_free}
 use Rattle.batch_plan.proofs.Names.{err_then}
 use Rattle.version_shelf.specs.Shelves.{ToldView}
 use Rattle.store_steps.specs.Steps.{Accepts}

@@ -1,7 +1,7 @@
 use Rattle.std.proofs.Common.{◌≡◌, ℕ, ◌≤◌, ◌++◌, length, sym, ap, subst, ◌∙◌, arith, count_by, map}
 use Rattle.std.specs.Arc.{arc_value}
 use Rattle.graph_version.specs.declared.versions.Version.{Version}
-use Rattle.block_pool.specs.Pools.{is_past, is_retired}
+use Rattle.block_reclamation.specs.Status.{is_reclaimable, is_retired}
 use Rattle.store_steps.specs.{Desks.IsCollected, Desks.births_in, Desks.collections, Steps.TakesAt, Steps.recycling}
 use Rattle.store_steps.proofs.Collecting.{collected_takes}
 use Rattle.store_steps.proofs.CollectedDesk.{past_and_left, is_collected, births_collected}
@@ -24,7 +24,7 @@ invariant_of-self c =
     c.enter_collection.new.journal.items c.recycle-recycled.new.self in
     let count = c.recycle-recycled.ensures.count in
     let entries : map entry_of c.enter_collection.new.journal.items ≡ map entry_of c.self.inside.journal.items
-    ++ collections c.args.copy.now (count_by (is_past c.args.copy.now) c.self.inside.pool) =
+    ++ collections c.args.copy.now (count_by (is_reclaimable c.args.copy.now) c.self.inside.pool) =
     c.enter_collection.ensures.entries ∙ ap (λ n. map entry_of c.self.inside.journal.items ++ collections c.args.copy.now n) count in
     let low : c.args.copy.now.last ≤ length (arc_value {X = Version} c.self.inside.last).batches =
     subst (λ (d : DeskState). c.args.copy.now.last ≤ length d.desk.last.batches) (sym c.self.view_is) c.requires in
@@ -54,7 +54,7 @@ returns-clause-steps c =
     c.enter_collection.new.journal.items c.recycle-recycled.new.self in
     let count = c.recycle-recycled.ensures.count in
     let entries : map entry_of c.enter_collection.new.journal.items ≡ map entry_of c.self.inside.journal.items
-    ++ collections c.args.copy.now (count_by (is_past c.args.copy.now) c.self.inside.pool) =
+    ++ collections c.args.copy.now (count_by (is_reclaimable c.args.copy.now) c.self.inside.pool) =
     c.enter_collection.ensures.entries ∙ ap (λ n. map entry_of c.self.inside.journal.items ++ collections c.args.copy.now n) count in
     let is : new.desk ≡ (state_collected old c.args.copy.now).desk =
     λ i. record {
@@ -74,7 +74,7 @@ returns-clause-collected c =
     c.enter_collection.new.journal.items c.recycle-recycled.new.self in
     let count = c.recycle-recycled.ensures.count in
     let entries : map entry_of c.enter_collection.new.journal.items ≡ map entry_of c.self.inside.journal.items
-    ++ collections c.args.copy.now (count_by (is_past c.args.copy.now) c.self.inside.pool) =
+    ++ collections c.args.copy.now (count_by (is_reclaimable c.args.copy.now) c.self.inside.pool) =
     c.enter_collection.ensures.entries ∙ ap (λ n. map entry_of c.self.inside.journal.items ++ collections c.args.copy.now n) count in
     let is : new.desk ≡ (state_collected old c.args.copy.now).desk =
     λ i. record {
@@ -94,7 +94,7 @@ returns-clause-births c =
     c.enter_collection.new.journal.items c.recycle-recycled.new.self in
     let count = c.recycle-recycled.ensures.count in
     let entries : map entry_of c.enter_collection.new.journal.items ≡ map entry_of c.self.inside.journal.items
-    ++ collections c.args.copy.now (count_by (is_past c.args.copy.now) c.self.inside.pool) =
+    ++ collections c.args.copy.now (count_by (is_reclaimable c.args.copy.now) c.self.inside.pool) =
     c.enter_collection.ensures.entries ∙ ap (λ n. map entry_of c.self.inside.journal.items ++ collections c.args.copy.now n) count in
     let is : new.desk ≡ (state_collected old c.args.copy.now).desk =
     λ i. record {
@@ -109,4 +109,4 @@ returns-clause-births c =
 
 pub returns-clause-recycled : goal.returns-clause-recycled
 returns-clause-recycled c =
-    c.recycle-recycled.ensures.count ∙ ap (λ (d : DeskState). count_by (is_past c.args.copy.now) d.desk.pool) c.self.view_is
+    c.recycle-recycled.ensures.count ∙ ap (λ (d : DeskState). count_by (is_reclaimable c.args.copy.now) d.desk.pool) c.self.view_is

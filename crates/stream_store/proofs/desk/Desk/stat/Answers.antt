@@ -1,5 +1,5 @@
 use Rattle.std.proofs.Common.{ap, ◌∙◌, count_by}
-use Rattle.block_pool.specs.Pools.{is_free}
+use Rattle.block_reclamation.specs.Status.{is_free}
 use Rattle.stream_store.specs.Kept.{DeskState}
 use Rattle.stream_store.proofs.desk.Desk.stat.Goals as goal
 

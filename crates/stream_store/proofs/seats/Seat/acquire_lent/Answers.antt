@@ -1,6 +1,7 @@
 use Rattle.std.proofs.Common.{◌≡◌, length, max, Some, true, refl, ap, ◌∙◌, rules}
 use Rattle.std.specs.Prelude.{option_map}
-use Rattle.seat_board.specs.Board.{with_pin, settled}
+use Rattle.block_reclamation.specs.Board.{with_pin}
+use Rattle.block_reclamation.specs.Copies.{settled}
 use Rattle.stream_store.proofs.Seated.{pin_twice}
 use Rattle.stream_store.proofs.seats.Seat.acquire_lent.Goals as goal
 

@@ -1,5 +1,5 @@
 use Rattle.std.proofs.Common.{None, ap, ◌∙◌}
-use Rattle.seat_board.specs.Board.{with_pin}
+use Rattle.block_reclamation.specs.Board.{with_pin}
 use Rattle.stream_store.specs.Seats.{SessionView}
 use Rattle.stream_store.proofs.seats.Session.release_lent.Goals as goal
 

@@ -1,6 +1,6 @@
 use Rattle.std.proofs.{Common.ℕ, lemmas.Result.IfErr-weaker}
 use Rattle.std.specs.Prelude.{count_by}
-use Rattle.block_pool.specs.Pools.{is_free}
+use Rattle.block_reclamation.specs.Status.{is_free}
 use Rattle.store_steps.specs.Steps.{Accepts}
 use Rattle.stream_store.specs.{Applying.IsReceipt, Kept.DeskState, Refusals.Refuses, Refusals.IsWithin}
 use Rattle.stream_store.specs.Stores.{IsReceiptOf, IsRefusalOf}

@@ -1,7 +1,7 @@
 use Rattle.std.proofs.Common.{ap, subst, ◌∙◌}
 use Rattle.std.specs.Prelude.{count_by}
-use Rattle.pin_copy.specs.declared.copies.PinCopy.{PinCopy}
-use Rattle.block_pool.specs.Pools.{is_past}
+use Rattle.block_reclamation.specs.declared.copies.PinCopy.{PinCopy}
+use Rattle.block_reclamation.specs.Status.{is_reclaimable}
 use Rattle.store_steps.specs.{Desks.IsCollected, Steps.TakesAt, Steps.recycling}
 use Rattle.stream_store.specs.Kept.{DeskState}
 use Rattle.stream_store.proofs.store.NamedDesk.collect.Goals as goal
@@ -21,4 +21,4 @@ returns-clause-steps g c =
 pub returns-clause-recycled : goal.returns-clause-recycled
 returns-clause-recycled g c =
     let old : DeskState = c.args.self.now.desk in
-    c.collect.ensures.recycled ∙ ap (λ (copy : PinCopy). count_by (is_past copy) old.desk.pool) c.copy_of-copy.ensures.copied
+    c.collect.ensures.recycled ∙ ap (λ (copy : PinCopy). count_by (is_reclaimable copy) old.desk.pool) c.copy_of-copy.ensures.copied

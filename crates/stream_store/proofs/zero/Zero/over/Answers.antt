@@ -2,7 +2,8 @@ use Rattle.std.proofs.Common.{rules, ◌≡◌, ℕ, List, length, replicate, sy
 use Rattle.std.specs.Arc.{arc_value}
 use Rattle.graph_version.specs.{declared.versions.Version.Version, Versions.VersionView}
 use Rattle.row_pages.specs.{Rows.blocks_of, Rows.numbers_of, Sharing.block_values}
-use Rattle.block_pool.specs.Pools.{Free, Used, AreFree, marked}
+use Rattle.block_pool.specs.Pools.{AreFree, marked}
+use Rattle.block_reclamation.specs.declared.status.BlockStatus.TheVariants.{Free, Used}
 use Rattle.stream_store.specs.Moves.{AreUsedOnce}
 use Rattle.stream_store.proofs.{Handing.back_used, Zeros.zero_is, Zeros.zero_pool, Zeros.opens_with}
 use Rattle.stream_store.proofs.zero.Zero.over.Goals as goal

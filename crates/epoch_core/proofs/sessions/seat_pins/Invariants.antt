@@ -1,11 +1,11 @@
 use Rattle.std.proofs.Common.{◌≡◌, ◌≤◌, ◌-◌, ◌++◌, length, map, take, replicate}
 use Rattle.std.specs.declared.option.Option.TheVariants.{None}
-use Rattle.epoch_core.specs.Worlds.{settled_in}
-use Rattle.epoch_core.proofs.sessions.settled_pins.Given as goal
+use Rattle.epoch_core.specs.Worlds.{seat_pin}
+use Rattle.epoch_core.proofs.sessions.seat_pins.Given as goal
 
 abbrev pub invariant-loop-seat : goal.invariant-loop-seat
 invariant-loop-seat l = record {
-  copied : l.pins ≡ map settled_in (take l.seat l.sessions) ++ replicate (16 - l.seat) None;
+  copied : l.pins ≡ map seat_pin (take l.seat l.sessions) ++ replicate (16 - l.seat) None;
   within : l.seat ≤ length l.sessions;
 }
 

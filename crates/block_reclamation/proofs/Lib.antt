@@ -1,0 +1,4 @@
+pub mod Least
+pub mod Seats
+pub mod Copied
+pub mod Reclaimed

@@ -1,0 +1,6 @@
+use Rattle.std.proofs.Common.{rules}
+use Rattle.block_reclamation.proofs.board.Board.new.Goals as goal
+
+-- Its search is long where it fails.
+pub returns : goal.returns
+returns c = search rules

@@ -1,0 +1,4 @@
+pub mod Copies
+pub mod Status
+pub mod Board
+pub mod Laws
