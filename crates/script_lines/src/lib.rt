@@ -2,6 +2,7 @@
 //! how each line is written.
 #![tactic(auto)]
 
+mod counts;
 mod ends;
 mod lines;
 mod page;

@@ -1,10 +1,10 @@
 //! A record's line, appended to a buffer. `AllocError` where the buffer could not grow: what it held before stands, and behind it
 //! there may be a part of the line.
 
-ghost use Rattle.std.specs.Prelude.{◌≡◌, ◌++◌, OnOk, codes, count_by, decimal, string_bytes, sum_by};
-ghost use Rattle.std.specs.List.{list_any};
+ghost use Rattle.std.specs.Prelude.{◌≡◌, ◌++◌, [], OnOk, codes, decimal, if◌then◌else◌, string_bytes};
 ghost use Rattle.script_lines.specs.Lines as lines_of;
 
+use crate::counts::counts_in;
 use graph_model::Outcome;
 use itoa::Buffer;
 use std::alloc::AllocError;
@@ -15,18 +15,14 @@ use stream_store::{Collected, Stat};
 pub fn commit_line(lines: &mut String, version: u64, outcomes: &[Outcome]) -> Result<(), AllocError>
     ensures { OnOk result (string_bytes lines.new ≡ string_bytes lines.old ++ lines_of.commit_line version outcomes.now) }
 {
-    let inserted = count_of(outcomes, Outcome::Inserted);
-    let updated = count_of(outcomes, Outcome::Updated);
-    let removed = count_of(outcomes, Outcome::Removed);
-    let absent = count_of(outcomes, Outcome::Absent);
-    let overflow = count_of(outcomes, Outcome::Overflow);
+    let counts = counts_in(outcomes);
     number_part(lines, "commit v=", version)?;
-    count_part(lines, " ins=", " ins=0", inserted)?;
-    count_part(lines, " upd=", " upd=0", updated)?;
-    count_part(lines, " rem=", " rem=0", removed)?;
-    count_part(lines, " abs=", " abs=0", absent)?;
-    count_part(lines, " ovf=", " ovf=0", overflow)?;
-    expired_part(lines, outcomes)?;
+    count_part(lines, " ins=", " ins=0", counts.inserted)?;
+    count_part(lines, " upd=", " upd=0", counts.updated)?;
+    count_part(lines, " rem=", " rem=0", counts.removed)?;
+    count_part(lines, " abs=", " abs=0", counts.absent)?;
+    count_part(lines, " ovf=", " ovf=0", counts.overflow)?;
+    expired_part(lines, counts.has_expiry, counts.expired)?;
     line_feed(lines)
 }
 
@@ -57,55 +53,14 @@ fn count_part(lines: &mut String, label: &str, none: &str, count: usize) -> Resu
 }
 
 /// Appends how many edges expiries removed, where an operation was one.
-fn expired_part(lines: &mut String, outcomes: &[Outcome]) -> Result<(), AllocError>
-    ensures { OnOk result (string_bytes lines.new ≡ string_bytes lines.old ++ lines_of.expired_part outcomes.now) }
+fn expired_part(lines: &mut String, has_expiry: bool, expired: u128) -> Result<(), AllocError>
+    ensures { OnOk result (string_bytes lines.new ≡ string_bytes lines.old
+        ++ (if has_expiry then codes " exp=" ++ decimal expired else [])) }
 {
-    if !has_expiry(outcomes) {
+    if !has_expiry {
         return Ok(());
     }
-    let expired = count_expired(outcomes);
     write!(lines, " exp={expired}")
-}
-
-fn has_expiry(outcomes: &[Outcome]) -> bool
-    ensures { result ≡ list_any lines_of.is_expired outcomes.now }
-{
-    outcomes.iter().any(is_expired)
-}
-
-fn is_expired(outcome: &Outcome) -> bool
-    ensures { result ≡ lines_of.is_expired outcome.now }
-{
-    matches!(outcome, Outcome::Expired(_))
-}
-
-fn expired_in(outcome: &Outcome) -> u64
-    ensures { result ≡ lines_of.expired_in outcome.now }
-{
-    match outcome {
-        Outcome::Expired(count) => *count,
-        _ => 0,
-    }
-}
-
-/// How many edges expiries removed. Any slice's sum has room in the wider type.
-fn count_expired(outcomes: &[Outcome]) -> u128
-    ensures { result ≡ sum_by lines_of.expired_in outcomes.now }
-{
-    let mut expired: u128 = 0;
-    for outcome in outcomes {
-        expired += u128::from(expired_in(outcome));
-    }
-    expired
-}
-
-fn count_of(outcomes: &[Outcome], wanted: Outcome) -> usize
-    ensures { result ≡ count_by (lines_of.is_outcome wanted) outcomes.now }
-{
-    outcomes
-        .iter()
-        .filter(|outcome| **outcome == wanted)
-        .count()
 }
 
 /// Appends the line of a slot that holds this version from now on.
