@@ -35,10 +35,13 @@ fn name(alloc: Global, text: &str) -> Result<Name, AllocError> {
 
 /// A road of this length, open from this day on.
 fn road(alloc: Global, ends: [&str; 2], length: i64, day: u64) -> Result<NamedOp, AllocError> {
+    let kind = name(alloc, "road")?;
+    let source = name(alloc, ends[0])?;
+    let target = name(alloc, ends[1])?;
     Ok(NamedOp::Insert {
-        kind: name(alloc, "road")?,
-        source: name(alloc, ends[0])?,
-        target: name(alloc, ends[1])?,
+        kind,
+        source,
+        target,
         weight: length,
         time: day,
     })
