@@ -3,7 +3,8 @@ use Rattle.std.proofs.Common.{◌≡◌, ◌∷◌, [], codes, refl, None, Ok, E
 use Rattle.csv.specs.{Machine.next_record, Reading.records_from, Reading.strip_bom, Records.field_at}
 use Rattle.graph_model.specs.declared.batches.NamedOp.TheVariants.{Insert, Incr}
 use Rattle.graph_model.specs.declared.requests.Request.TheVariants.{Degrees, Levels}
-use Rattle.feed_csv.specs.Commands.{collect_of, commit_of, degrees_of, incr_of, insert_of, item_of, levels_of, rebase_of, stat_of}
+use Rattle.feed_csv.specs.Commands.{collect_of, commit_of, degrees_of, edge_fields, filter_at, filter_fields, incr_of}
+use Rattle.feed_csv.specs.Commands.{insert_of, item_of, levels_of, names_at, rebase_of, stat_of}
 use Rattle.feed_csv.specs.Fields.{any_kind_at, kind_at, name_at, of_length, slot_at, time_at, weight_at}
 use Rattle.feed_csv.specs.Records.{records_of}
 use Rattle.feed_csv.specs.declared.command.Command.TheVariants.{Collect, Op, Query, Rebase, Stat}
@@ -17,31 +18,31 @@ three-records = refl
 
 pub an-insertion : item_of (codes "i" ∷ codes "k" ∷ codes "a" ∷ codes "*" ∷ codes "-007" ∷ codes "5" ∷ [])
     ≡ Ok (Op (Insert (codes "k") (codes "a") (codes "*") (negsuc 6) 5))
-unfolding item_of insert_of of_length kind_at name_at weight_at time_at field_at
+unfolding item_of insert_of edge_fields names_at of_length kind_at name_at weight_at time_at field_at
 an-insertion = refl
 
 pub an-increment : item_of (codes "a" ∷ codes "k" ∷ codes "a" ∷ codes "b" ∷ codes "0010" ∷ codes "5" ∷ [])
     ≡ Ok (Op (Incr (codes "k") (codes "a") (codes "b") (pos 10) 5))
-unfolding item_of incr_of of_length kind_at name_at weight_at time_at field_at
+unfolding item_of incr_of edge_fields names_at of_length kind_at name_at weight_at time_at field_at
 an-increment = refl
 
 pub a-request : item_of (codes "deg" ∷ codes "015" ∷ codes "*" ∷ codes "0" ∷ codes "9223372036854775807" ∷ [])
     ≡ Ok (Query 15 (Degrees (record { kind = None; lo = 0; hi = 9223372036854775807 })))
-unfolding item_of degrees_of of_length any_kind_at time_at slot_at field_at
+unfolding item_of degrees_of filter_fields filter_at of_length any_kind_at time_at slot_at field_at
 a-request = refl
 
 pub a-search : item_of (codes "bfs" ∷ codes "0" ∷ codes "*" ∷ codes "*" ∷ codes "3" ∷ codes "2" ∷ [])
     ≡ Ok (Query 0 (Levels (codes "*") (record { kind = None; lo = 3; hi = 2 })))
-unfolding item_of levels_of of_length name_at any_kind_at time_at slot_at field_at
+unfolding item_of levels_of filter_at of_length name_at any_kind_at time_at slot_at field_at
 a-search = refl
 
 -- a time comes before the slot, and a name before a time
 pub a-bad-time : item_of (codes "deg" ∷ codes "x" ∷ codes "k" ∷ codes "0" ∷ codes "9223372036854775808" ∷ []) ≡ Err BadTime
-unfolding item_of degrees_of of_length any_kind_at time_at slot_at field_at
+unfolding item_of degrees_of filter_fields filter_at of_length any_kind_at time_at slot_at field_at
 a-bad-time = refl
 
 pub a-bad-name : item_of (codes "deg" ∷ codes "x" ∷ codes "k k" ∷ codes "x" ∷ codes "0" ∷ []) ≡ Err BadName
-unfolding item_of degrees_of of_length any_kind_at time_at slot_at field_at
+unfolding item_of degrees_of filter_fields filter_at of_length any_kind_at time_at slot_at field_at
 a-bad-name = refl
 
 pub a-commit-with-fields : item_of (codes "commit" ∷ codes "1" ∷ []) ≡ Err BadFields

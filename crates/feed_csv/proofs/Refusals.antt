@@ -1,9 +1,10 @@
 -- A record is refused for what it says, and never for a failed read or want of memory; and an operation that it gives is valid.
-use Rattle.std.proofs.Common.{◌≡◌, ◌≢◌, ℕ, ◌≤◌, ℤ, pos, neg_ℤ, Bool, true, false, cond, codes, List, Option, Some, None}
+use Rattle.std.proofs.Common.{◌≡◌, ◌≢◌, ℕ, ◌+◌, ◌≤◌, ℤ, pos, neg_ℤ, Bool, true, false, cond, codes, List, Option, Some, None}
 use Rattle.std.proofs.Common.{Result, Ok, Err, IsTrue, length, nat_eq, IfOk, IfSome, option_map, drop, refl, subst, arith, rules}
 use Rattle.std.{proofs.lemmas.Grind.common_steps, specs.Str.bytes_eq}
 use Rattle.graph_model.specs.{Limits.is_time, Limits.is_weight, Valid.are_names, Valid.is_kind_name, Valid.is_name}
-use Rattle.feed_csv.specs.Commands.{HasValidOp, Refuses, close_of, commit_of, cores_of, degrees_of, edge_of, expire_of, incr_of}
+use Rattle.feed_csv.specs.Commands.{HasValidOp, Refuses, close_of, commit_of, cores_of, degrees_of, edge_of, edge_fields}
+use Rattle.feed_csv.specs.Commands.{expire_of, filter_at, filter_fields, incr_of, names_at}
 use Rattle.feed_csv.specs.Commands.{collect_of, insert_of, item_of, labels_of, levels_of, open_of, rebase_of, remove_of, stat_of}
 use Rattle.feed_csv.specs.Fields.{◌>>=◌, any_kind_at, field, kind_at, name_at, of_length, required, slot_at, time_at, weight_at}
 use Rattle.feed_csv.specs.Number.{at_most, has_minus, number_of, slot_of, time_of, weight_of}
@@ -113,28 +114,37 @@ slot_at-judges : (row : Row) (place : ℕ) → Judges Any (slot_at row place)
 unfolding slot_at
 slot_at-judges row place = needed BadSlot (slot_of (field row place)) tt (λ _ _. tt)
 
+names_at-judges : (row : Row) (place : ℕ) → Judges (λ n. IsTrue (are_names n.kind n.source n.target)) (names_at row place)
+unfolding names_at
+names_at-judges row place =
+    then (kind_at row place) _ (kind_at-judges row place) (λ v0 kind.
+    then (name_at row (place + 1)) _ (name_at-judges row (place + 1)) (λ v1 source.
+    then (name_at row (place + 2)) _ (name_at-judges row (place + 2)) (λ v2 target.
+    given _ (names_are v0 v1 v2 kind source target))))
+
+edge_fields-judges : (row : Row) → Judges (λ e. IsTrue (are_names e.names.kind e.names.source e.names.target)
+    × IsTrue (is_weight e.amount) × IsTrue (is_time e.time)) (edge_fields row)
+unfolding edge_fields
+edge_fields-judges row =
+    then (of_length 6 row) _ (of_length-judges 6 row) (λ r _. then (names_at r 1) _ (names_at-judges r 1) (λ v0 names.
+    then (weight_at r 4) _ (weight_at-judges r 4) (λ v1 weight. then (time_at r 5) _ (time_at-judges r 5) (λ v2 time.
+    given _ (names, weight, time)))))
+
 insert_of-judges : (row : Row) → Judges HasValidOp (insert_of row)
 unfolding insert_of
 insert_of-judges row =
-    then (of_length 6 row) _ (of_length-judges 6 row) (λ r _. then (kind_at r 1) _ (kind_at-judges r 1) (λ v0 kind.
-    then (name_at r 2) _ (name_at-judges r 2) (λ v1 source. then (name_at r 3) _ (name_at-judges r 3) (λ v2 target.
-    then (weight_at r 4) _ (weight_at-judges r 4) (λ v3 weight. then (time_at r 5) _ (time_at-judges r 5) (λ v4 time.
-    given _ (record { names = names_are v0 v1 v2 kind source target; weight = weight; time = time })))))))
+    then (edge_fields row) _ (edge_fields-judges row) (λ _ is. given _ (record { names = is.0; weight = is.1; time = is.2 }))
 
 incr_of-judges : (row : Row) → Judges HasValidOp (incr_of row)
 unfolding incr_of
 incr_of-judges row =
-    then (of_length 6 row) _ (of_length-judges 6 row) (λ r _. then (kind_at r 1) _ (kind_at-judges r 1) (λ v0 kind.
-    then (name_at r 2) _ (name_at-judges r 2) (λ v1 source. then (name_at r 3) _ (name_at-judges r 3) (λ v2 target.
-    then (weight_at r 4) _ (weight_at-judges r 4) (λ v3 weight. then (time_at r 5) _ (time_at-judges r 5) (λ v4 time.
-    given _ (record { names = names_are v0 v1 v2 kind source target; weight = weight; time = time })))))))
+    then (edge_fields row) _ (edge_fields-judges row) (λ _ is. given _ (record { names = is.0; weight = is.1; time = is.2 }))
 
 remove_of-judges : (row : Row) → Judges HasValidOp (remove_of row)
 unfolding remove_of
 remove_of-judges row =
-    then (of_length 4 row) _ (of_length-judges 4 row) (λ r _. then (kind_at r 1) _ (kind_at-judges r 1) (λ v0 kind.
-    then (name_at r 2) _ (name_at-judges r 2) (λ v1 source. then (name_at r 3) _ (name_at-judges r 3) (λ v2 target.
-    given _ (record { names = names_are v0 v1 v2 kind source target; weight = refl; time = refl })))))
+    then (of_length 4 row) _ (of_length-judges 4 row) (λ r _. then (names_at r 1) _ (names_at-judges r 1) (λ v0 names.
+    given _ (record { names = names; weight = refl; time = refl })))
 
 expire_of-judges : (row : Row) → Judges HasValidOp (expire_of row)
 unfolding expire_of
@@ -159,40 +169,42 @@ close_of-judges row =
     then (of_length 2 row) _ (of_length-judges 2 row) (λ r _. then (slot_at r 1) _ (slot_at-judges r 1) (λ v0 _.
     given _ tt))
 
+filter_at-judges : (row : Row) (place : ℕ) → Judges Any (filter_at row place)
+unfolding filter_at
+filter_at-judges row place =
+    then (any_kind_at row place) _ (any_kind_at-judges row place) (λ v0 _.
+    then (time_at row (place + 1)) _ (time_at-judges row (place + 1)) (λ v1 _.
+    then (time_at row (place + 2)) _ (time_at-judges row (place + 2)) (λ v2 _. given _ tt)))
+
+filter_fields-judges : (row : Row) → Judges Any (filter_fields row)
+unfolding filter_fields
+filter_fields-judges row =
+    then (of_length 5 row) _ (of_length-judges 5 row) (λ r _. then (filter_at r 2) _ (filter_at-judges r 2) (λ v0 _.
+    then (slot_at r 1) _ (slot_at-judges r 1) (λ v1 _. given _ tt)))
+
 levels_of-judges : (row : Row) → Judges HasValidOp (levels_of row)
 unfolding levels_of
 levels_of-judges row =
     then (of_length 6 row) _ (of_length-judges 6 row) (λ r _. then (name_at r 2) _ (name_at-judges r 2) (λ v0 _.
-    then (any_kind_at r 3) _ (any_kind_at-judges r 3) (λ v1 _. then (time_at r 4) _ (time_at-judges r 4) (λ v2 _.
-    then (time_at r 5) _ (time_at-judges r 5) (λ v3 _. then (slot_at r 1) _ (slot_at-judges r 1) (λ v4 _. given _ tt))))))
+    then (filter_at r 3) _ (filter_at-judges r 3) (λ v1 _. then (slot_at r 1) _ (slot_at-judges r 1) (λ v2 _. given _ tt))))
 
 labels_of-judges : (row : Row) → Judges HasValidOp (labels_of row)
 unfolding labels_of
-labels_of-judges row =
-    then (of_length 5 row) _ (of_length-judges 5 row) (λ r _. then (any_kind_at r 2) _ (any_kind_at-judges r 2) (λ v0 _.
-    then (time_at r 3) _ (time_at-judges r 3) (λ v1 _. then (time_at r 4) _ (time_at-judges r 4) (λ v2 _.
-    then (slot_at r 1) _ (slot_at-judges r 1) (λ v3 _. given _ tt)))))
+labels_of-judges row = then (filter_fields row) _ (filter_fields-judges row) (λ _ _. given _ tt)
 
 cores_of-judges : (row : Row) → Judges HasValidOp (cores_of row)
 unfolding cores_of
-cores_of-judges row =
-    then (of_length 5 row) _ (of_length-judges 5 row) (λ r _. then (any_kind_at r 2) _ (any_kind_at-judges r 2) (λ v0 _.
-    then (time_at r 3) _ (time_at-judges r 3) (λ v1 _. then (time_at r 4) _ (time_at-judges r 4) (λ v2 _.
-    then (slot_at r 1) _ (slot_at-judges r 1) (λ v3 _. given _ tt)))))
+cores_of-judges row = then (filter_fields row) _ (filter_fields-judges row) (λ _ _. given _ tt)
 
 degrees_of-judges : (row : Row) → Judges HasValidOp (degrees_of row)
 unfolding degrees_of
-degrees_of-judges row =
-    then (of_length 5 row) _ (of_length-judges 5 row) (λ r _. then (any_kind_at r 2) _ (any_kind_at-judges r 2) (λ v0 _.
-    then (time_at r 3) _ (time_at-judges r 3) (λ v1 _. then (time_at r 4) _ (time_at-judges r 4) (λ v2 _.
-    then (slot_at r 1) _ (slot_at-judges r 1) (λ v3 _. given _ tt)))))
+degrees_of-judges row = then (filter_fields row) _ (filter_fields-judges row) (λ _ _. given _ tt)
 
 edge_of-judges : (row : Row) → Judges HasValidOp (edge_of row)
 unfolding edge_of
 edge_of-judges row =
-    then (of_length 5 row) _ (of_length-judges 5 row) (λ r _. then (kind_at r 2) _ (kind_at-judges r 2) (λ v0 _.
-    then (name_at r 3) _ (name_at-judges r 3) (λ v1 _. then (name_at r 4) _ (name_at-judges r 4) (λ v2 _.
-    then (slot_at r 1) _ (slot_at-judges r 1) (λ v3 _. given _ tt)))))
+    then (of_length 5 row) _ (of_length-judges 5 row) (λ r _. then (names_at r 2) _ (names_at-judges r 2) (λ v0 _.
+    then (slot_at r 1) _ (slot_at-judges r 1) (λ v1 _. given _ tt)))
 
 stat_of-judges : (row : Row) → Judges HasValidOp (stat_of row)
 unfolding stat_of

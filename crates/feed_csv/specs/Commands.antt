@@ -1,8 +1,9 @@
 -- The command of a record, or the word of its refusal: one rule for each command. A rule takes the fields in the
 -- order of refusals: how many there are, names and kinds, the weight, times, the slot.
-use Rattle.std.specs.Prelude.{◌≡◌, ℕ, bytes_eq, codes, List, if◌then◌else◌, Result, Ok, Err}
+use Rattle.std.specs.Prelude.{◌≡◌, ℕ, ◌+◌, bytes_eq, codes, List, if◌then◌else◌, Result, Ok, Err}
 use Rattle.graph_model.specs.Valid.{IsValid}
 use Rattle.graph_model.specs.declared.batches.NamedOp.TheVariants.{Insert, Incr, Remove, Expire}
+use Rattle.graph_model.specs.declared.requests.NamedFilter.{NamedFilter}
 use Rattle.graph_model.specs.declared.requests.Request.TheVariants.{Levels, Labels, Cores, Degrees, OneEdge}
 use Rattle.feed_csv.specs.Fields.{◌>>=◌, any_kind_at, field, kind_at, name_at, of_length, slot_at, time_at, weight_at}
 use Rattle.feed_csv.specs.Records.{Row}
@@ -11,37 +12,43 @@ use Rattle.feed_csv.specs.declared.command.Command.TheVariants.{Op, Commit, Open
 use Rattle.feed_csv.specs.declared.command.FeedWord.{FeedWord}
 use Rattle.feed_csv.specs.declared.command.FeedWord.TheVariants.{Read, BadCommand, BadFields, BadName, BadWeight, BadTime}
 use Rattle.feed_csv.specs.declared.command.FeedWord.TheVariants.{BadSlot, Memory}
+use Rattle.feed_csv.specs.declared.rules.{EdgeFields.EdgeFields, EdgeNames.EdgeNames}
+
+-- kind,source,target from a place on
+unfoldable pub names_at : Row → ℕ → Result EdgeNames FeedWord
+names_at row place = do
+  kind ← kind_at row place
+  source ← name_at row (place + 1)
+  target ← name_at row (place + 2)
+  Ok (record { kind = kind; source = source; target = target })
+
+-- word,kind,source,target,weight or amount,time
+unfoldable pub edge_fields : Row → Result EdgeFields FeedWord
+edge_fields record_fields = do
+  row ← of_length 6 record_fields
+  names ← names_at row 1
+  amount ← weight_at row 4
+  time ← time_at row 5
+  Ok (record { names = names; amount = amount; time = time })
 
 -- i,kind,source,target,weight,time
 unfoldable pub insert_of : Row → Result Command FeedWord
-insert_of record_fields = do
-  row ← of_length 6 record_fields
-  kind ← kind_at row 1
-  source ← name_at row 2
-  target ← name_at row 3
-  weight ← weight_at row 4
-  time ← time_at row 5
-  Ok (Op (Insert kind source target weight time))
+insert_of row = do
+  edge ← edge_fields row
+  Ok (Op (Insert edge.names.kind edge.names.source edge.names.target edge.amount edge.time))
 
 -- a,kind,source,target,amount,time
 unfoldable pub incr_of : Row → Result Command FeedWord
-incr_of record_fields = do
-  row ← of_length 6 record_fields
-  kind ← kind_at row 1
-  source ← name_at row 2
-  target ← name_at row 3
-  amount ← weight_at row 4
-  time ← time_at row 5
-  Ok (Op (Incr kind source target amount time))
+incr_of row = do
+  edge ← edge_fields row
+  Ok (Op (Incr edge.names.kind edge.names.source edge.names.target edge.amount edge.time))
 
 -- r,kind,source,target
 unfoldable pub remove_of : Row → Result Command FeedWord
 remove_of record_fields = do
   row ← of_length 4 record_fields
-  kind ← kind_at row 1
-  source ← name_at row 2
-  target ← name_at row 3
-  Ok (Op (Remove kind source target))
+  names ← names_at row 1
+  Ok (Op (Remove names.kind names.source names.target))
 
 -- x,time
 unfoldable pub expire_of : Row → Result Command FeedWord
@@ -70,56 +77,56 @@ close_of record_fields = do
   slot ← slot_at row 1
   Ok (CloseSlot slot)
 
+-- kind or *,lo,hi from a place on
+unfoldable pub filter_at : Row → ℕ → Result NamedFilter FeedWord
+filter_at row place = do
+  kind ← any_kind_at row place
+  lo ← time_at row (place + 1)
+  hi ← time_at row (place + 2)
+  Ok (record { kind = kind; lo = lo; hi = hi })
+
+-- word,slot,kind or *,lo,hi
+unfoldable pub filter_fields : Row → Result (ℕ × NamedFilter) FeedWord
+filter_fields record_fields = do
+  row ← of_length 5 record_fields
+  filter ← filter_at row 2
+  slot ← slot_at row 1
+  Ok (slot, filter)
+
 -- bfs,slot,source,kind or *,lo,hi
 unfoldable pub levels_of : Row → Result Command FeedWord
 levels_of record_fields = do
   row ← of_length 6 record_fields
   source ← name_at row 2
-  kind ← any_kind_at row 3
-  lo ← time_at row 4
-  hi ← time_at row 5
+  filter ← filter_at row 3
   slot ← slot_at row 1
-  Ok (Query slot (Levels source (record { kind = kind; lo = lo; hi = hi })))
+  Ok (Query slot (Levels source filter))
 
 -- comp,slot,kind or *,lo,hi
 unfoldable pub labels_of : Row → Result Command FeedWord
-labels_of record_fields = do
-  row ← of_length 5 record_fields
-  kind ← any_kind_at row 2
-  lo ← time_at row 3
-  hi ← time_at row 4
-  slot ← slot_at row 1
-  Ok (Query slot (Labels (record { kind = kind; lo = lo; hi = hi })))
+labels_of row = do
+  request ← filter_fields row
+  Ok (Query request.0 (Labels request.1))
 
 -- core,slot,kind or *,lo,hi
 unfoldable pub cores_of : Row → Result Command FeedWord
-cores_of record_fields = do
-  row ← of_length 5 record_fields
-  kind ← any_kind_at row 2
-  lo ← time_at row 3
-  hi ← time_at row 4
-  slot ← slot_at row 1
-  Ok (Query slot (Cores (record { kind = kind; lo = lo; hi = hi })))
+cores_of row = do
+  request ← filter_fields row
+  Ok (Query request.0 (Cores request.1))
 
 -- deg,slot,kind or *,lo,hi
 unfoldable pub degrees_of : Row → Result Command FeedWord
-degrees_of record_fields = do
-  row ← of_length 5 record_fields
-  kind ← any_kind_at row 2
-  lo ← time_at row 3
-  hi ← time_at row 4
-  slot ← slot_at row 1
-  Ok (Query slot (Degrees (record { kind = kind; lo = lo; hi = hi })))
+degrees_of row = do
+  request ← filter_fields row
+  Ok (Query request.0 (Degrees request.1))
 
 -- edge,slot,kind,source,target
 unfoldable pub edge_of : Row → Result Command FeedWord
 edge_of record_fields = do
   row ← of_length 5 record_fields
-  kind ← kind_at row 2
-  source ← name_at row 3
-  target ← name_at row 4
+  names ← names_at row 2
   slot ← slot_at row 1
-  Ok (Query slot (OneEdge kind source target))
+  Ok (Query slot (OneEdge names.kind names.source names.target))
 
 -- stat
 unfoldable pub stat_of : Row → Result Command FeedWord
@@ -178,11 +185,11 @@ word_text BadSlot = codes "BadSlot"
 word_text Memory = codes "Memory"
 
 -- a word that stands for want of memory, or for the record's refusal
-abbrev pub Refuses : FeedWord → Result Command FeedWord → Type 0
+abbrev pub Refuses : {A : Type 0} → FeedWord → Result A FeedWord → Type 0
 Refuses Memory item = Unit {0}
 Refuses word item = item ≡ Err word
 
 -- a result is what the rules give, unless memory ran out
-abbrev pub Gives : Result Command FeedWord → Result Command FeedWord → Type 0
-Gives (Ok command) item = item ≡ Ok command
+abbrev pub Gives : {A : Type 0} → Result A FeedWord → Result A FeedWord → Type 0
+Gives (Ok value) item = item ≡ Ok value
 Gives (Err word) item = Refuses word item

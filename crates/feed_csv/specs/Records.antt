@@ -4,6 +4,8 @@ use Rattle.csv.specs.Reading.{Ready, default_config, has_failed, is_flexible, re
 use Rattle.csv.specs.Reading.{records_from, source_of, strip_bom}
 use Rattle.csv.specs.declared.reader.Reader.{Reader}
 use Rattle.csv.specs.declared.reader.Trim.TheVariants as trim
+-- a feed gives no more records than these
+pub use Rattle.graph_model.specs.Limits.{record_limit}
 
 -- a record is its fields, and a field is its bytes
 abbrev pub Row : Type 0
@@ -12,10 +14,6 @@ Row = List (List ℕ)
 -- the records of a whole text, behind a byte order mark where it begins with one
 abbrev pub records_of : List ℕ → List Row
 records_of bytes = records default_config (strip_bom bytes)
-
--- a feed gives no more records than these
-abbrev pub record_limit : ℕ
-record_limit = 1000000
 
 -- a reader of records of any number of fields, without a header row, that trims nothing and has not failed
 pub record IsPlain {R : Type 0} (reader : Reader R) : Type 0 where

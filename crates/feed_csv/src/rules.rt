@@ -1,6 +1,6 @@
 // Records to commands, one function for each command.
 
-ghost use Rattle.std.specs.Prelude.{◌≡◌, MatchResult, Ok, Err, IfOk, IfErr, bytes_eq, codes, false};
+ghost use Rattle.std.specs.Prelude.{◌≡◌, ◌<◌, MatchResult, Ok, Err, IfOk, IfErr, bytes_eq, codes, false};
 ghost use Rattle.csv.specs.Records.{fields_of};
 ghost use Rattle.feed_csv.specs.Commands as spec;
 ghost use Rattle.feed_csv.specs.Fields.{of_length};
@@ -91,24 +91,67 @@ fn name(alloc: Global, text: &str) -> Result<Name, FeedWord>
     }
 }
 
+/// An edge's kind, source and target.
+#[derive(Drop)]
+struct EdgeNames {
+    kind: Name,
+    source: Name,
+    target: Name,
+}
+
+/// Three fields from a place on: a kind, a source and a target.
+#[tactic(auto, using(crate::proofs::Giving::refuses_same), unfolding(crate::specs::Commands::names_at))]
+fn names_at(alloc: Global, row: &ByteRecord, place: usize) -> Result<EdgeNames, FeedWord>
+    requires { place < 8 }
+    ensures { spec.Gives result (spec.names_at (fields_of row.now) place) }
+{
+    let kind = kind_at(row, place)?;
+    let source = name_at(row, place + 1)?;
+    let target = name_at(row, place + 2)?;
+    Ok(EdgeNames {
+        kind: name(alloc, kind)?,
+        source: name(alloc, source)?,
+        target: name(alloc, target)?,
+    })
+}
+
+/// What an operation on an edge has: its names, its weight or what is added to it, and its time.
+#[derive(Drop)]
+struct EdgeFields {
+    names: EdgeNames,
+    amount: i64,
+    time: u64,
+}
+
+#[tactic(auto, using(crate::proofs::Giving::refuses_same), unfolding(crate::specs::Commands::edge_fields))]
+fn edge_fields(alloc: Global, row: &ByteRecord) -> Result<EdgeFields, FeedWord>
+    ensures { spec.Gives result (spec.edge_fields (fields_of row.now)) }
+{
+    check_length(row, 6)?;
+    let names = names_at(alloc, row, 1)?;
+    let amount = weight_at(row, 4)?;
+    let time = time_at(row, 5)?;
+    Ok(EdgeFields {
+        names,
+        amount,
+        time,
+    })
+}
+
 #[tactic(auto, using(crate::proofs::Giving::refuses_same), unfolding(crate::specs::Commands::insert_of))]
 fn insert(alloc: Global, row: &ByteRecord) -> Result<Command, FeedWord>
     ensures { spec.Gives result (spec.insert_of (fields_of row.now)) }
 {
-    check_length(row, 6)?;
-    let kind = kind_at(row, 1)?;
-    let source = name_at(row, 2)?;
-    let target = name_at(row, 3)?;
-    let weight = weight_at(row, 4)?;
-    let time = time_at(row, 5)?;
-    let kind = name(alloc, kind)?;
-    let source = name(alloc, source)?;
-    let target = name(alloc, target)?;
+    let EdgeFields {
+        names,
+        amount,
+        time,
+    } = edge_fields(alloc, row)?;
     Ok(Command::Op(NamedOp::Insert {
-        kind,
-        source,
-        target,
-        weight,
+        kind: names.kind,
+        source: names.source,
+        target: names.target,
+        weight: amount,
         time,
     }))
 }
@@ -117,19 +160,15 @@ fn insert(alloc: Global, row: &ByteRecord) -> Result<Command, FeedWord>
 fn incr(alloc: Global, row: &ByteRecord) -> Result<Command, FeedWord>
     ensures { spec.Gives result (spec.incr_of (fields_of row.now)) }
 {
-    check_length(row, 6)?;
-    let kind = kind_at(row, 1)?;
-    let source = name_at(row, 2)?;
-    let target = name_at(row, 3)?;
-    let amount = weight_at(row, 4)?;
-    let time = time_at(row, 5)?;
-    let kind = name(alloc, kind)?;
-    let source = name(alloc, source)?;
-    let target = name(alloc, target)?;
+    let EdgeFields {
+        names,
+        amount,
+        time,
+    } = edge_fields(alloc, row)?;
     Ok(Command::Op(NamedOp::Incr {
-        kind,
-        source,
-        target,
+        kind: names.kind,
+        source: names.source,
+        target: names.target,
         amount,
         time,
     }))
@@ -140,16 +179,11 @@ fn remove(alloc: Global, row: &ByteRecord) -> Result<Command, FeedWord>
     ensures { spec.Gives result (spec.remove_of (fields_of row.now)) }
 {
     check_length(row, 4)?;
-    let kind = kind_at(row, 1)?;
-    let source = name_at(row, 2)?;
-    let target = name_at(row, 3)?;
-    let kind = name(alloc, kind)?;
-    let source = name(alloc, source)?;
-    let target = name(alloc, target)?;
+    let names = names_at(alloc, row, 1)?;
     Ok(Command::Op(NamedOp::Remove {
-        kind,
-        source,
-        target,
+        kind: names.kind,
+        source: names.source,
+        target: names.target,
     }))
 }
 
@@ -213,22 +247,42 @@ fn rebase(row: &ByteRecord) -> Result<Command, FeedWord>
     Ok(Command::Rebase(slot))
 }
 
+/// Three fields from a place on: a kind or `*`, and the two ends of the window.
+#[tactic(auto, using(crate::proofs::Giving::refuses_same), unfolding(crate::specs::Commands::filter_at))]
+fn filter_at(alloc: Global, row: &ByteRecord, place: usize) -> Result<NamedFilter, FeedWord>
+    requires { place < 8 }
+    ensures { spec.Gives result (spec.filter_at (fields_of row.now) place) }
+{
+    let kind = any_kind_at(row, place)?;
+    let lo = time_at(row, place + 1)?;
+    let hi = time_at(row, place + 2)?;
+    let kind = match kind {
+        Some(text) => Some(name(alloc, text)?),
+        None => None,
+    };
+    Ok(NamedFilter { kind, lo, hi })
+}
+
+/// What a request with a filter alone has: its slot and the filter.
+#[tactic(auto, using(crate::proofs::Giving::refuses_same), unfolding(crate::specs::Commands::filter_fields))]
+fn filter_fields(alloc: Global, row: &ByteRecord) -> Result<(u8, NamedFilter), FeedWord>
+    ensures { spec.Gives result (spec.filter_fields (fields_of row.now)) }
+{
+    check_length(row, 5)?;
+    let filter = filter_at(alloc, row, 2)?;
+    let slot = slot_at(row, 1)?;
+    Ok((slot, filter))
+}
+
 #[tactic(auto, using(crate::proofs::Giving::refuses_same), unfolding(crate::specs::Commands::levels_of))]
 fn levels(alloc: Global, row: &ByteRecord) -> Result<Command, FeedWord>
     ensures { spec.Gives result (spec.levels_of (fields_of row.now)) }
 {
     check_length(row, 6)?;
     let source = name_at(row, 2)?;
-    let kind = any_kind_at(row, 3)?;
-    let lo = time_at(row, 4)?;
-    let hi = time_at(row, 5)?;
+    let filter = filter_at(alloc, row, 3)?;
     let slot = slot_at(row, 1)?;
     let source = name(alloc, source)?;
-    let kind = match kind {
-        Some(text) => Some(name(alloc, text)?),
-        None => None,
-    };
-    let filter = NamedFilter { kind, lo, hi };
     Ok(Command::Query(slot, Request::Levels { source, filter }))
 }
 
@@ -236,16 +290,7 @@ fn levels(alloc: Global, row: &ByteRecord) -> Result<Command, FeedWord>
 fn labels(alloc: Global, row: &ByteRecord) -> Result<Command, FeedWord>
     ensures { spec.Gives result (spec.labels_of (fields_of row.now)) }
 {
-    check_length(row, 5)?;
-    let kind = any_kind_at(row, 2)?;
-    let lo = time_at(row, 3)?;
-    let hi = time_at(row, 4)?;
-    let slot = slot_at(row, 1)?;
-    let kind = match kind {
-        Some(text) => Some(name(alloc, text)?),
-        None => None,
-    };
-    let filter = NamedFilter { kind, lo, hi };
+    let (slot, filter) = filter_fields(alloc, row)?;
     Ok(Command::Query(slot, Request::Labels { filter }))
 }
 
@@ -253,16 +298,7 @@ fn labels(alloc: Global, row: &ByteRecord) -> Result<Command, FeedWord>
 fn cores(alloc: Global, row: &ByteRecord) -> Result<Command, FeedWord>
     ensures { spec.Gives result (spec.cores_of (fields_of row.now)) }
 {
-    check_length(row, 5)?;
-    let kind = any_kind_at(row, 2)?;
-    let lo = time_at(row, 3)?;
-    let hi = time_at(row, 4)?;
-    let slot = slot_at(row, 1)?;
-    let kind = match kind {
-        Some(text) => Some(name(alloc, text)?),
-        None => None,
-    };
-    let filter = NamedFilter { kind, lo, hi };
+    let (slot, filter) = filter_fields(alloc, row)?;
     Ok(Command::Query(slot, Request::Cores { filter }))
 }
 
@@ -270,16 +306,7 @@ fn cores(alloc: Global, row: &ByteRecord) -> Result<Command, FeedWord>
 fn degrees(alloc: Global, row: &ByteRecord) -> Result<Command, FeedWord>
     ensures { spec.Gives result (spec.degrees_of (fields_of row.now)) }
 {
-    check_length(row, 5)?;
-    let kind = any_kind_at(row, 2)?;
-    let lo = time_at(row, 3)?;
-    let hi = time_at(row, 4)?;
-    let slot = slot_at(row, 1)?;
-    let kind = match kind {
-        Some(text) => Some(name(alloc, text)?),
-        None => None,
-    };
-    let filter = NamedFilter { kind, lo, hi };
+    let (slot, filter) = filter_fields(alloc, row)?;
     Ok(Command::Query(slot, Request::Degrees { filter }))
 }
 
@@ -288,17 +315,12 @@ fn edge(alloc: Global, row: &ByteRecord) -> Result<Command, FeedWord>
     ensures { spec.Gives result (spec.edge_of (fields_of row.now)) }
 {
     check_length(row, 5)?;
-    let kind = kind_at(row, 2)?;
-    let source = name_at(row, 3)?;
-    let target = name_at(row, 4)?;
+    let names = names_at(alloc, row, 2)?;
     let slot = slot_at(row, 1)?;
-    let kind = name(alloc, kind)?;
-    let source = name(alloc, source)?;
-    let target = name(alloc, target)?;
     let request = Request::OneEdge {
-        kind,
-        source,
-        target,
+        kind: names.kind,
+        source: names.source,
+        target: names.target,
     };
     Ok(Command::Query(slot, request))
 }
