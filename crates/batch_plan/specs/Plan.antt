@@ -59,10 +59,8 @@ ends_listed (Many ends) = ends.items
 
 -- the key of three numbers, if all of them are known
 abbrev pub key_from : Option ℕ → Option ℕ → Option ℕ → Option Key
-key_from None source target = None
-key_from (Some kind) None target = None
-key_from (Some kind) (Some source) None = None
 key_from (Some kind) (Some source) (Some target) = Some (record { kind = kind; source = source; target = target })
+key_from _ _ _ = None
 
 -- an operation with these ends, by these kinds
 abbrev pub with_kind : List (List ℕ) → Ends → Parts → Resolved
@@ -71,10 +69,9 @@ with_kind kinds ends (OfEdge change kind source target) =
 with_kind kinds ends (OfAll time) = InAll time
 
 abbrev pub with_kinds : List Ends → List NamedOp → List (List ℕ) → List Resolved
-with_kinds [] ops kinds = []
-with_kinds (e ∷ ends) [] kinds = []
 with_kinds (e ∷ ends) (op ∷ ops) kinds =
     with_kind (kinds_after op kinds) e (parts_of op) ∷ with_kinds ends ops (kinds_after op kinds)
+with_kinds _ _ kinds = []
 
 -- the key and the operation that the program's values show
 abbrev pub key_of : EdgeKey → Key
