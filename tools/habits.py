@@ -8,6 +8,8 @@
   [`step`](FILE.antt), leads to the file of specs that defines it.
 - Each crate of crates.txt is named in docs/ARCHITECTURE.md, and stands on crates that crates.txt lists or the kit has.
 - docs/LIBRARY.md shows each program that stands on `misteluk`: its row of crates.txt, and each of its files as it is.
+- No definition, and no lemma with its name and type, stands twice in `specs/` and `proofs/`, but for those that
+  tools/statements.py lists.
 - A wrong body names a file of its crate, and has pairs of an old line, which stands in that file once, and a new one.
 - A commit's subject has at most 72 characters.
 
@@ -18,6 +20,8 @@ import re
 import subprocess
 import sys
 import textwrap
+
+import statements
 
 TOP = pathlib.Path(__file__).resolve().parent.parent
 WIDTH = 130
@@ -173,6 +177,7 @@ def main():
         "names of definitions": [it for page in pages for it in undefined_names(page)],
         "crates": list(unnamed_crates()),
         "programs over the library": list(unshown_programs()),
+        "statements": list(statements.told_twice(TOP)),
         "wrong bodies": [it for path in edits for it in lost_edits(path)],
         "subjects": list(long_subjects()),
     }

@@ -1,10 +1,10 @@
 -- One edge more in a table of degrees.
 use Rattle.std.proofs.Common.{◌≡◌, ℕ, ◌+◌, ◌<◌, Bool, true, false, cond, ◌&&◌, eqb, List, [], ◌∷◌, ◌++◌, length, map, ℤ, pos}
-use Rattle.std.proofs.Common.{◌+ℤ◌, refl, sym, ap, subst, ◌∙◌, arith, rules, w64, FitsSigned}
+use Rattle.std.proofs.Common.{◌+ℤ◌, refl, sym, ap, subst, ◌∙◌, arith}
 use Rattle.std.specs.Prelude.{filter, fold, All}
 use Rattle.std.proofs.lemmas.{Int.ints, List.map-append, List.Sums.sum_by_push, List.Sums.fold-append}
 use Rattle.std.proofs.lemmas.List.Elements.{filter-append, All-append, All-cons, All-nil, All-head}
-use Rattle.graph_model.specs.{Graph.entry_of, Graph.stamp_of, Limits.IsWeight, Limits.kind_limit, View.leaves, View.enters}
+use Rattle.graph_model.specs.{Graph.entry_of, Graph.stamp_of, Limits.kind_limit, View.leaves, View.enters}
 use Rattle.graph_model.specs.Degrees.{listed_degree, with_edge, CountsEdge, IsWithinLimits}
 use Rattle.graph_model.specs.declared.ids.{Edge.Edge, Degree.Degree, Filter.Filter}
 use Rattle.graph_model.proofs.DegreeBounds.{degree_within}
@@ -57,10 +57,6 @@ counts_edge f e old new shown stamp counts before is = record {
   stamps = All-append (λ (x : Edge). IsStamp (stamp_of x)) before (e ∷ []) is.stamps
       (All-cons (λ (x : Edge). IsStamp (stamp_of x)) e [] stamp (All-nil (λ (x : Edge). IsStamp (stamp_of x))));
 }
-
--- a weight is a number of 64 bits
-pub weight_fits : (z : ℤ) → IsWeight z → FitsSigned w64 z
-weight_fits z h = search rules
 
 -- what an edge that can be counted keeps to
 pub record IsCountable (f : Filter) (e : Edge) (table : List Degree) : Type 0 where

@@ -3,33 +3,21 @@ use Rattle.std.proofs.Common.{◌≡◌, ℕ, ◌≤◌, zero, suc, arith, refl,
 use Rattle.std.proofs.lemmas.Option.{get_or_from_slice_get}
 use Rattle.graph_model.specs.{Graph.Graph, declared.ids.Filter.Filter}
 use Rattle.graph_model.specs.Analyses.{LeadsTo, Joins, Walk, Connects, IsLabel, IsTable}
+use Rattle.graph_model.proofs.Walks.{joined, back}
 use Rattle.graph_levels.specs.Forest.{parent, IsForest, IsSound}
 
 module _ (f : Filter) (g : Graph) where
-  joined : (m n a b c : ℕ) → Walk (Joins f g) a b m → Walk (Joins f g) b c n → (k : ℕ) × Walk (Joins f g) a c k
-  joined m zero a b c p q = (m, subst (λ x. Walk (Joins f g) a x m) q p)
-  joined m (suc n) a b c p q =
-      let r = joined m n a b q.0 p q.1 in
-      (suc r.0, (q.0, r.1, q.2))
-
   pub itself : (a : ℕ) → Connects f g a a
   itself a = (0, refl)
 
   pub then : (a b c : ℕ) → Connects f g a b → Connects f g b c → Connects f g a c
-  then a b c p q = joined p.0 q.0 a b c p.1 q.1
-
-  other_way : (a b : ℕ) → Joins f g a b → Joins f g b a
-  other_way a b j = elim j [ inl x ↦ inr x | inr x ↦ inl x ]
+  then a b c p q = joined (Joins f g) p.0 q.0 a b c p.1 q.1
 
   pub one_step : (a b : ℕ) → Joins f g a b → Connects f g a b
   one_step a b j = (1, (a, refl, j))
 
-  pub back : (n a b : ℕ) → Walk (Joins f g) a b n → Connects f g b a
-  back zero a b p = (0, sym p)
-  back (suc n) a b p = then b p.0 a (one_step b p.0 (other_way p.0 b p.2)) (back n a p.0 p.1)
-
   pub backward : (a b : ℕ) → Connects f g a b → Connects f g b a
-  backward a b p = back p.0 a b p.1
+  backward a b p = back f g p.0 a b p.1
 
   module _ (label : ℕ → ℕ) (sound : (v : ℕ) → Connects f g (label v) v) (low : (v : ℕ) → label v ≤ v)
       (closed : (u v : ℕ) → Joins f g u v → label u ≡ label v) where

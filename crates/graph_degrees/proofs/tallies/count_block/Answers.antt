@@ -2,7 +2,8 @@ use Rattle.std.proofs.{Common.◌∙◌, Common.ap, Common.subst, Common.sym, Co
 use Rattle.std.{proofs.lemmas.List.Elements.All-head, proofs.lemmas.List.Elements.All-tail, specs.Prelude.All}
 use Rattle.edge_block.specs.{Slots.IsStamp, Lending.LentEdge, Lending.lent_edge, Lending.edges_left}
 use Rattle.graph_degrees.{specs.Tallies.shown_block, proofs.Blocks.edges_lent, proofs.Blocks.lent_block}
-use Rattle.graph_degrees.proofs.{Counting.weight_fits, Parts.begun_start, Parts.begun_end, Turns.next_room, Turns.next_begun}
+use Rattle.graph_version.proofs.Rebased.{weight_fits}
+use Rattle.graph_degrees.proofs.{Parts.begun_start, Parts.begun_end, Turns.next_room, Turns.next_begun}
 use Rattle.graph_degrees.proofs.tallies.count_block.Goals as goal
 
 pub loop-edge-init : goal.loop-edge-init

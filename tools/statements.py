@@ -1,0 +1,138 @@
+"""Statements of `specs/` and `proofs/`: the definitions, and the lemmas by their name and type."""
+import collections
+import itertools
+import re
+
+ITEM = re.compile(r"(?P<words>(?:(?:pub|abbrev|unfoldable) )*)(?P<kind>(?:record|data) )?(?P<name>[^\s:]+) ")
+APART = ("--", "use ", "pub use ", "mod ", "pub mod ", "infix", "unfolding ")
+BOUND = re.compile(r"[({]([^(){}:]+) :")
+WORD = re.compile(r"[^\s(){},;.]+")
+
+# Those that stand in more than one place still, and in how many: most belong into a crate that nearly all others stand on, which
+# are proved again where one moves there. The list may only shrink.
+LEFT = {
+    "below_zero": 2,
+    "count_more": 2,
+    "empty_content": 2,
+    "kept_row": 2,
+    "left_more": 3,
+    "lesser": 2,
+    "one_where": 2,
+    "range_more": 2,
+    "refused_so": 2,
+    "shift": 2,
+    "slot_entry": 2,
+    "vertex_listed": 2,
+    "vertex_refused": 2,
+    "with_shown": 2,
+}
+
+
+def indent_of(line):
+    return len(line) - len(line.lstrip())
+
+
+def block_end(lines, start, is_within):
+    """Returns the place behind a block that begins at a line, without the blank lines at its end."""
+    end = start + 1
+    while end < len(lines) and is_within(lines[end]):
+        end += 1
+    while not lines[end - 1].strip():
+        end -= 1
+    return end
+
+
+def is_deeper(indent, may_be_blank=False):
+    return lambda line: indent_of(line) > indent if line.strip() else may_be_blank
+
+
+def spread(path):
+    """Returns the names that an import brings in, each as a path: `A.{B.c, D}` as `A.B.c` and `A.D`."""
+    head, brace, rest = path.partition("{")
+    if not brace:
+        return [path.strip()] if path.strip() else []
+    parts, depth, part = [], 0, ""
+    for letter in rest.rpartition("}")[0]:
+        depth += {"{": 1, "}": -1}.get(letter, 0)
+        if letter == "," and depth == 0:
+            parts.append(part)
+            part = ""
+        else:
+            part += letter
+    return [head.strip() + name for it in [*parts, part] for name in spread(it.strip())]
+
+
+def imports(text, crates):
+    """Returns which crate of the repository a word that a file imports comes from."""
+    found = {}
+    for path in re.findall(r"^(?:pub )?use ([^\n]*)", text, re.M):
+        for name in spread(path):
+            whole, _, other = name.partition(" as ")
+            parts = whole.strip().split(".")
+            if parts[0] == "Rattle" and len(parts) > 1 and parts[1] in crates:
+                found[other.strip() or parts[-1]] = parts[1]
+    return found
+
+
+def statements(lines, is_definitions):
+    """Yields each statement of a file: its line, its name, and its text with what the modules round it take.
+
+    A lemma's proof is no part of it, and a definition's cases are. A goal that a proof file answers is no statement."""
+    around = []
+    place = 0
+    while place < len(lines):
+        line, indent = lines[place], indent_of(lines[place])
+        bare = line.strip()
+        around = [it for it in around if not bare or it[0] < indent]
+        item = ITEM.match(bare)
+        end = block_end(lines, place, is_deeper(indent))
+        if not bare or bare.startswith(APART):
+            end = place + 1
+        elif bare.startswith("module "):
+            end = 1 + next(it for it in range(place, len(lines)) if lines[it].rstrip().endswith("where"))
+            around.append((indent, lines[place:end]))
+        elif item and item["kind"]:
+            end = block_end(lines, place, is_deeper(indent, may_be_blank=True))
+            yield place + 1, item["name"], text_of(around, lines[place:end], item["words"])
+        elif item and re.match(r"\S+ : (?!goal\.)", bare[len(item["words"]):]):
+            if is_definitions or "abbrev" in item["words"] or "unfoldable" in item["words"]:
+                case = " " * indent + item["name"] + " "
+                while end < len(lines) and lines[end].startswith(case):
+                    end = block_end(lines, end, is_deeper(indent))
+            yield place + 1, item["name"], text_of(around, lines[place:end], item["words"])
+        place = end
+
+
+def text_of(around, lines, words):
+    whole = [line.strip() for line in itertools.chain(*(head for _, head in around), [lines[0].strip()[len(words):]], lines[1:])]
+    return " ".join(" ".join(line for line in whole if not line.startswith("--")).split())
+
+
+def doubled(top):
+    """Returns each statement that stands more than once, by its name and places: the same text, in words of the same crates."""
+    paths = [it for kind in ("specs", "proofs") for it in sorted(top.glob(f"crates/*/{kind}/**/*.antt"))]
+    crates = {it.relative_to(top).parts[1] for it in paths}
+    found = collections.defaultdict(list)
+    for path in paths:
+        text = path.read_text(encoding="utf-8")
+        place = path.relative_to(top)
+        said_here = list(statements(text.splitlines(), place.parts[2] == "specs"))
+        origins = {name: place.parts[1] for _, name, _ in said_here} | imports(text, crates)
+        for line, name, said in said_here:
+            own = {name, *itertools.chain(*(it.split() for it in BOUND.findall(said)))}
+            words = frozenset((it, origins[it]) for it in set(WORD.findall(said)) - own if it in origins)
+            found[name, said, words].append(f"{place}:{line}")
+    return [(name, places) for (name, _, _), places in found.items() if len(places) > 1]
+
+
+def told_twice(top):
+    """Yields each statement that stands more often than the list of those left allows, and each entry of it that is too high."""
+    twice = collections.defaultdict(list)
+    for name, places in doubled(top):
+        twice[name] += places
+    for name, places in twice.items():
+        if len(places) > LEFT.get(name, 1):
+            yield f"{name} stands in {' and in '.join(places)}"
+    for name, allowed in LEFT.items():
+        if len(twice[name]) < allowed:
+            yield f"tools/statements.py lets {name} stand in {allowed} places, and it stands in {len(twice[name]) or 1}: lower it"
