@@ -2,7 +2,7 @@
 
 ghost use Rattle.std.specs.Prelude.{◌≡◌};
 
-use crate::edges::{Edges, insertions, vertex_name};
+use crate::edges::{Edges, insertions};
 use batch_apply::PassAll;
 use graph_model::{NamedFilter, Request};
 use seat_board::Board;
@@ -195,10 +195,31 @@ fn await_first(is_fed: &AtomicBool) {
 
 /// Asks each request of all edges, and prints what it took.
 fn ask_each<R: CpuClock + Print + AllocGlobal>(rt: &R, when: &str, session: &Session) -> bool {
-    ask(rt, when, "levels", session, levels(rt.alloc()))
-        && ask(rt, when, "labels", session, Some(labels()))
-        && ask(rt, when, "cores", session, Some(cores()))
-        && ask(rt, when, "degrees", session, Some(degrees()))
+    ask(
+        rt,
+        when,
+        "levels",
+        session,
+        Request::levels(rt.alloc(), "v0", NamedFilter::all()).ok(),
+    ) && ask(
+        rt,
+        when,
+        "labels",
+        session,
+        Some(Request::labels(NamedFilter::all())),
+    ) && ask(
+        rt,
+        when,
+        "cores",
+        session,
+        Some(Request::cores(NamedFilter::all())),
+    ) && ask(
+        rt,
+        when,
+        "degrees",
+        session,
+        Some(Request::degrees(NamedFilter::all())),
+    )
 }
 
 /// Asks a request, where memory for it was had, and prints what it took.
@@ -235,41 +256,5 @@ fn clock<R: CpuClock>(rt: &R) -> Option<u128> {
     match rt.thread_cpu_time() {
         Ok(time) => Some(time.as_nanos()),
         Err(_) => None,
-    }
-}
-
-fn levels(alloc: Global) -> Option<Request> {
-    match vertex_name(alloc, 0) {
-        Ok(source) => Some(Request::Levels {
-            source,
-            filter: all_edges(),
-        }),
-        Err(_) => None,
-    }
-}
-
-fn labels() -> Request {
-    Request::Labels {
-        filter: all_edges(),
-    }
-}
-
-fn cores() -> Request {
-    Request::Cores {
-        filter: all_edges(),
-    }
-}
-
-fn degrees() -> Request {
-    Request::Degrees {
-        filter: all_edges(),
-    }
-}
-
-fn all_edges() -> NamedFilter {
-    NamedFilter {
-        kind: None,
-        lo: 0,
-        hi: u64::MAX,
     }
 }

@@ -2,7 +2,7 @@
 
 use crate::signs::{BOTH_HELD, COLLECTED, FIRST_HELD, Handed, Signs, Slot};
 use batch_apply::PassAll;
-use graph_model::{Batch, Name, NamedOp};
+use graph_model::{Batch, NamedOp};
 use std::alloc::{AllocError, Global};
 use std::sync::Wait;
 use std::sync::atomic::Ordering::SeqCst;
@@ -51,11 +51,6 @@ fn handed_of<J: Naming, R: Threads + Wait + Sync>(
     }
 }
 
-/// A name of this text.
-pub fn name(alloc: Global, text: &str) -> Result<Name, AllocError> {
-    Ok(Name::of(String::from_str(alloc, text)?))
-}
-
 /// The batch that inserts an edge from `ann` to each target.
 fn batch_of(alloc: Global, targets: &[&str]) -> Result<Batch, AllocError> {
     let mut batch = Batch::new(alloc);
@@ -67,7 +62,7 @@ fn batch_of(alloc: Global, targets: &[&str]) -> Result<Batch, AllocError> {
 
 fn push_insertions(alloc: Global, batch: &mut Batch, targets: &[&str]) -> Result<(), AllocError> {
     for target in targets {
-        push(batch, insertion(alloc, target))?;
+        push(batch, NamedOp::insert(alloc, "knows", "ann", target, 1, 1))?;
     }
     Ok(())
 }
@@ -75,29 +70,6 @@ fn push_insertions(alloc: Global, batch: &mut Batch, targets: &[&str]) -> Result
 fn push(batch: &mut Batch, op: Result<NamedOp, AllocError>) -> Result<(), AllocError> {
     match op {
         Ok(op) => batch.push(op).map_err(|_| AllocError),
-        Err(error) => Err(error),
-    }
-}
-
-/// The names of a source and a target.
-fn ends_of(alloc: Global, source: &str, target: &str) -> Result<(Name, Name), AllocError> {
-    let source = name(alloc, source)?;
-    match name(alloc, target) {
-        Ok(target) => Ok((source, target)),
-        Err(error) => Err(error),
-    }
-}
-
-fn insertion(alloc: Global, target: &str) -> Result<NamedOp, AllocError> {
-    let kind = name(alloc, "knows")?;
-    match ends_of(alloc, "ann", target) {
-        Ok((source, target)) => Ok(NamedOp::Insert {
-            kind,
-            source,
-            target,
-            weight: 1,
-            time: 1,
-        }),
         Err(error) => Err(error),
     }
 }

@@ -3,7 +3,6 @@
 ghost use Rattle.std.specs.Prelude.{◌≡◌};
 ghost use Rattle.stream_store.specs.Stores.{IsOfOpening};
 
-use crate::feeder::name;
 use crate::signs::{COLLECTED, Signs, Slot};
 use graph_model::{NamedFilter, Reply, Request};
 use std::alloc::{AllocError, Global};
@@ -21,18 +20,6 @@ pub struct Sight {
     pub reached: usize,
 }
 
-/// The request of the levels from `ann` over all edges.
-fn levels_from_ann(alloc: Global) -> Result<Request, AllocError> {
-    Ok(Request::Levels {
-        source: name(alloc, "ann")?,
-        filter: NamedFilter {
-            kind: None,
-            lo: 0,
-            hi: u64::MAX,
-        },
-    })
-}
-
 /// What a session shows that answered so.
 fn sight_by(session: &Session, reply: &Reply) -> Option<Sight> {
     match reply {
@@ -40,7 +27,7 @@ fn sight_by(session: &Session, reply: &Reply) -> Option<Sight> {
             number: session.version().number(),
             names: session.version().names().len(),
             edges: session.version().edge_count(),
-            reached: levels.as_slice().len(),
+            reached: levels.len(),
         }),
         _ => None,
     }
@@ -55,7 +42,7 @@ fn sight_at(session: &Session, request: &Request) -> Option<Sight> {
 
 /// What a session shows, which is asked for the levels from `ann`; nothing where it refuses, or memory was refused.
 fn sight_of(alloc: Global, session: &Session) -> Option<Sight> {
-    match levels_from_ann(alloc) {
+    match Request::levels(alloc, "ann", NamedFilter::all()) {
         Ok(request) => sight_at(session, &request),
         Err(AllocError) => None,
     }

@@ -5,8 +5,8 @@ ghost use Rattle.misteluk.specs.Opened.{IsOpeningOf};
 ghost use Rattle.misteluk.specs.Stores.{IsSeatOf};
 
 use misteluk::{
-    Batch, Config, Name, NamedFilter, NamedOp, Naming, Opened, PassAll, Reply, Request, Seat,
-    Session, Store,
+    Batch, Config, NamedFilter, NamedOp, Naming, Opened, PassAll, Reply, Request, Seat, Session,
+    Store,
 };
 use std::alloc::Global;
 use std::marker::Brand;
@@ -15,13 +15,7 @@ use std::thread::{Threads, join};
 
 /// A batch of one road, from `ulm` to this town.
 fn road(alloc: Global, town: &str) -> Option<Batch> {
-    let op = NamedOp::Insert {
-        kind: Name::of(String::from_str(alloc, "road").ok()?),
-        source: Name::of(String::from_str(alloc, "ulm").ok()?),
-        target: Name::of(String::from_str(alloc, town).ok()?),
-        weight: 1,
-        time: 1,
-    };
+    let op = NamedOp::insert(alloc, "road", "ulm", town, 1, 1).ok()?;
     let mut batch = Batch::new(alloc);
     batch.push(op).ok()?;
     Some(batch)
@@ -41,10 +35,9 @@ fn feed<J: Naming, R: Threads + Wait + Sync>(
 
 /// How many towns roads join in the version held.
 fn towns(session: &Session) -> Option<usize> {
-    let (kind, lo, hi) = (None, 0, 1);
-    let filter = NamedFilter { kind, lo, hi };
-    match session.ask(&Request::Labels { filter }).ok()? {
-        Reply::Labels(labels) => Some(labels.as_slice().len()),
+    let question = Request::labels(NamedFilter::all());
+    match session.ask(&question).ok()? {
+        Reply::Labels(labels) => Some(labels.len()),
         _ => None,
     }
 }
