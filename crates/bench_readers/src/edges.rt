@@ -45,7 +45,7 @@ impl Edges {
     }
 }
 
-pub(crate) fn vertex_name(alloc: Global, vertex: u32) -> Result<Name, AllocError> {
+fn vertex_name(alloc: Global, vertex: u32) -> Result<Name, AllocError> {
     Ok(Name::of(format!(in alloc; "v{vertex}")?))
 }
 
@@ -59,7 +59,7 @@ fn ends_of(alloc: Global, (source, target): (u32, u32)) -> Result<(Name, Name), 
 }
 
 fn insertion(alloc: Global, edge: (u32, u32)) -> Result<NamedOp, AllocError> {
-    let kind = Name::of(String::from_str(alloc, "k")?);
+    let kind = Name::from_str(alloc, "k")?;
     match ends_of(alloc, edge) {
         Ok((source, target)) => Ok(NamedOp::Insert {
             kind,

@@ -5,7 +5,7 @@ pub use batch_apply::{Gate, PassAll};
 pub use edge_block::EdgeRef;
 pub use graph_model::{
     AskError, Batch, Content, Degree, Edge, Filter, KindId, List, Name, NamedFilter, NamedOp,
-    Outcome, PinCopy, PushError, Reply, Request, VertexId,
+    Outcome, PinCopy, PushError, Reply, Request, VertexId, is_kind_name, is_name,
 };
 pub use graph_version::Version;
 pub use seat_board::{Board, Pin, SeatNo};
