@@ -4,8 +4,8 @@ ghost use Rattle.std.specs.Prelude.{◌≡◌};
 
 use crate::edges::{Edges, insertions, vertex_name};
 use batch_apply::PassAll;
+use block_reclamation::Board;
 use graph_model::{NamedFilter, Request};
-use seat_board::Board;
 use std::alloc::Global;
 use std::marker::Brand;
 use std::sync::Wait;

@@ -15,7 +15,7 @@ ghost use Rattle.stream_store.specs.Stores.{IsOfOpening, IsSeatOf};
 use crate::feeder::feed;
 use crate::readers::{Sight, read};
 use crate::signs::{BOTH_HELD, FIRST_HELD, Signs};
-use seat_board::Board;
+use block_reclamation::Board;
 use std::alloc::Global;
 use std::marker::Brand;
 use std::process::ExitCode;
