@@ -5,7 +5,9 @@ pub use Rattle.graph_model.specs.Limits
 pub use Rattle.graph_model.specs.Step
 pub use Rattle.graph_model.specs.Valid
 pub use Rattle.graph_version.specs.Versions
-pub use Rattle.seat_board.specs.Board
+pub use Rattle.block_reclamation.specs.Board
+pub use Rattle.block_reclamation.specs.Copies
+pub use Rattle.block_reclamation.specs.Status
 pub use Rattle.version_shelf.specs.Shelves
 pub use Rattle.stream_store.specs.Applying
 pub use Rattle.stream_store.specs.Configs

@@ -2,13 +2,13 @@
 #![tactic(auto)]
 
 pub use batch_apply::{Gate, PassAll};
+pub use block_reclamation::{Board, Pin, SeatNo};
 pub use edge_block::EdgeRef;
 pub use graph_model::{
     AskError, Batch, Content, Degree, Edge, Filter, KindId, List, Name, NamedFilter, NamedOp,
     Outcome, PinCopy, PushError, Reply, Request, VertexId, is_kind_name, is_name,
 };
 pub use graph_version::Version;
-pub use seat_board::{Board, Pin, SeatNo};
 pub use stream_store::{
     ApplyError, BadConfig, Collected, Config, Desk, JournalEntry, Naming, OpenError, Opened,
     PinnedSeat, Receipt, Seat, Session, Stat, Store, open_parts, open_parts_from,

@@ -5,11 +5,13 @@ use Rattle.std.specs.{Prelude.Ok, Prelude.Err, Prelude.if◌then◌else◌, FinM
 use Rattle.std.proofs.lemmas.List.{length-append}
 use Rattle.batch_shards.proofs.Places.{count_by-append}
 use Rattle.block_layout.specs.Batches.{layout_after, taken_by}
-use Rattle.block_pool.specs.Pools.{Status, Free, Granted, Used, Retired, is_free, is_past, is_retired, is_used}
+use Rattle.block_reclamation.specs.declared.status.BlockStatus.{BlockStatus}
+use Rattle.block_reclamation.specs.declared.status.BlockStatus.TheVariants.{Free, Granted, Used, Retired}
+use Rattle.block_reclamation.specs.Status.{is_free, is_reclaimable, is_retired, is_in_use}
 use Rattle.block_pool.proofs.Tallies.{count_more}
-use Rattle.pin_copy.specs.declared.copies.PinCopy.{PinCopy}
-use Rattle.pin_copy.specs.Copies as copies
-use Rattle.pin_copy.specs.Copies.{needs}
+use Rattle.block_reclamation.specs.declared.copies.PinCopy.{PinCopy}
+use Rattle.block_reclamation.specs.Copies as copies
+use Rattle.block_reclamation.specs.Copies.{needs}
 use Rattle.batch_shards.specs.Births.{births_after, dropped_births}
 use Rattle.feed_csv.specs.declared.command.Command.TheVariants.{Collect, Commit, Stat}
 use Rattle.graph_model.specs.Step.{after_all, left_by, outcomes}
@@ -22,14 +24,13 @@ use Rattle.stream_store.specs.{Configs.ConfigView, declared.receipts.ApplyError.
 use Rattle.stream_store.specs.Refusals.{Attempt, BatchRefusal, IsAdmissible, IsWithin, Refuses, attempt_on, block_count}
 use Rattle.stream_store.specs.declared.receipts.ApplyError.TheVariants as refused
 use Rattle.script_lines.specs.Lines.{collect_line, commit_line, stat_line}
-use Rattle.script_commands.proofs.SlotLaws.{floor_is}
-use Rattle.script_commands.specs.{Servers.ShowsDesk, States.dates, States.dropped, States.floor_of, States.held_numbers}
+use Rattle.script_commands.specs.{Servers.ShowsDesk, States.dates, States.dropped, States.floor_of}
 use Rattle.script_commands.specs.States.{Dates, IsCommandResult, ServerState, after_collect, after_commit, attempt, batch_word, beginning, copy_of}
 use Rattle.script_commands.specs.States.{last_version, left_by_pending, recycled, set_up, taken, used}
 
 -- Counts
 
-same_counts : (p q : Status → Bool) → ((s : Status) → p s ≡ q s) → (pool : List Status) → count_by p pool ≡ count_by q pool
+same_counts : (p q : BlockStatus → Bool) → ((s : BlockStatus) → p s ≡ q s) → (pool : List BlockStatus) → count_by p pool ≡ count_by q pool
 same_counts p q same [] = refl
 same_counts p q same (s ∷ pool) =
     let a = count_more p s pool in
@@ -38,31 +39,31 @@ same_counts p q same (s ∷ pool) =
     let rest = same_counts p q same pool in
     omega arith
 
-retired_any : (s : Status) → is_retired s ≡ is_retired_by (λ birth since. true) s
+retired_any : (s : BlockStatus) → is_retired s ≡ is_retired_by (λ birth retirement. true) s
 retired_any Free = refl
 retired_any Granted = refl
 retired_any (Used birth) = refl
-retired_any (Retired birth since) = refl
+retired_any (Retired birth retirement) = refl
 
-past_any : (copy : PinCopy) (s : Status) → is_past copy s ≡ is_retired_by (λ birth since. not (needs copy birth since)) s
+past_any : (copy : PinCopy) (s : BlockStatus) → is_reclaimable copy s ≡ is_retired_by (λ birth retirement. not (needs copy birth retirement)) s
 past_any copy Free = refl
 past_any copy Granted = refl
 past_any copy (Used birth) = refl
-past_any copy (Retired birth since) = refl
+past_any copy (Retired birth retirement) = refl
 
 -- each block is free, retired or used
-parts_one : (s : Status) → (let n : ℕ = cond (is_free s) 1 0 in n) + cond (is_retired s) 1 0 + cond (is_used s) 1 0 ≡ 1
+parts_one : (s : BlockStatus) → (let n : ℕ = cond (is_free s) 1 0 in n) + cond (is_retired s) 1 0 + cond (is_in_use s) 1 0 ≡ 1
 parts_one Free = refl
 parts_one Granted = refl
 parts_one (Used birth) = refl
-parts_one (Retired birth since) = refl
+parts_one (Retired birth retirement) = refl
 
-pub parts : (pool : List Status) → count_by is_free pool + count_by is_retired pool + count_by is_used pool ≡ length pool
+pub parts : (pool : List BlockStatus) → count_by is_free pool + count_by is_retired pool + count_by is_in_use pool ≡ length pool
 parts [] = refl
 parts (s ∷ pool) =
     let a = count_more is_free s pool in
     let b = count_more is_retired s pool in
-    let c = count_more is_used s pool in
+    let c = count_more is_in_use s pool in
     let one = parts_one s in
     let rest = parts pool in
     omega arith
@@ -85,11 +86,11 @@ all_counted_in (x ∷ xs) = let one = count_more (λ (y : Dates). true) x xs in 
 -- how many are retired is how many dates there are
 all_retired : (d : DeskView) (s : ServerState) → ShowsDesk d s → count_by is_retired d.pool ≡ length s.retired
 all_retired d s shows =
-    same_counts is_retired (is_retired_by (λ birth since. true)) retired_any d.pool
-    ∙ (shows.retired (λ birth since. true) ∙ all_counted_in s.retired)
+    same_counts is_retired (is_retired_by (λ birth retirement. true)) retired_any d.pool
+    ∙ (shows.retired (λ birth retirement. true) ∙ all_counted_in s.retired)
 
 -- how many are used is how many are neither free nor retired
-all_used : (d : DeskView) (s : ServerState) → ShowsDesk d s → count_by is_used d.pool ≡ used s
+all_used : (d : DeskView) (s : ServerState) → ShowsDesk d s → count_by is_in_use d.pool ≡ used s
 all_used d s shows =
     let whole = parts d.pool in
     let gone = all_retired d s shows in
@@ -97,7 +98,7 @@ all_used d s shows =
 
 -- The opening
 
-pub none_counted : (p : Status → Bool) → p Free ≡ false → (n : ℕ) → count_by p (replicate n Free) ≡ 0
+pub none_counted : (p : BlockStatus → Bool) → p Free ≡ false → (n : ℕ) → count_by p (replicate n Free) ≡ 0
 none_counted p none zero = refl
 none_counted p none (suc n) =
     let more = count_more p Free (replicate n Free) in
@@ -137,7 +138,7 @@ left_is d s ops shows pending = λ i. after_all (pending i) (content_is d s show
 
 -- the desk is asked what the state is: its last version's blocks are the used ones
 attempt_is : (d : DeskView) (s : ServerState) (ops : List NamedOp) → ShowsDesk d s → ops ≡ s.pending
-    → count_by is_used d.pool ≡ block_count d.last → attempt_on d.last (count_by is_free d.pool) ops ≡ attempt s
+    → count_by is_in_use d.pool ≡ block_count d.last → attempt_on d.last (count_by is_free d.pool) ops ≡ attempt s
 attempt_is d s ops shows pending many = λ i. record {
   ops = pending i;
   batches = length (shows.batches i);
@@ -148,22 +149,22 @@ attempt_is d s ops shows pending many = λ i. record {
 
 -- births with one retirement
 dated : (q : ℕ → ℕ → Bool) (births : List ℕ) (n : ℕ)
-    → count_by (λ (x : Dates). q x.birth x.since) (map (λ birth. dates birth n) births)
+    → count_by (λ (x : Dates). q x.birth x.retirement) (map (λ birth. dates birth n) births)
     ≡ count_by (λ birth. q birth n) births
 dated q [] n = refl
 dated q (birth ∷ births) n =
     let more : List Dates = map (λ birth. dates birth n) births in
-    let a = count_more (λ (x : Dates). q x.birth x.since) (dates birth n) more in
+    let a = count_more (λ (x : Dates). q x.birth x.retirement) (dates birth n) more in
     let b = count_more (λ k. q k n) birth births in
     let rest = dated q births n in
     omega arith
 
 dated_counts : (q : ℕ → ℕ → Bool) (retired : List Dates) (births : List ℕ) (n : ℕ)
-    → count_by (λ (x : Dates). q x.birth x.since) (retired ++ map (λ birth. dates birth n) births)
-    ≡ count_by (λ (x : Dates). q x.birth x.since) retired + count_by (λ birth. q birth n) births
+    → count_by (λ (x : Dates). q x.birth x.retirement) (retired ++ map (λ birth. dates birth n) births)
+    ≡ count_by (λ (x : Dates). q x.birth x.retirement) retired + count_by (λ birth. q birth n) births
 dated_counts q retired births n =
-    count_by-append (λ (x : Dates). q x.birth x.since) retired (map (λ birth. dates birth n) births)
-    ∙ ap (λ k. count_by (λ (x : Dates). q x.birth x.since) retired + k) (dated q births n)
+    count_by-append (λ (x : Dates). q x.birth x.retirement) retired (map (λ birth. dates birth n) births)
+    ∙ ap (λ k. count_by (λ (x : Dates). q x.birth x.retirement) retired + k) (dated q births n)
 
 pub batches_after : (d e : DeskView) (ops : List NamedOp) → Accepts d ops e → e.last.batches ≡ d.last.batches ++ ops ∷ []
 batches_after d e ops accepts = ap (λ l. l.batches) accepts.accepted.ledger
@@ -178,7 +179,7 @@ blocks_after d e ops accepts =
     counts.blocks
 
 pub commit_done : (s : ServerState) (d e : DeskView) (ops : List NamedOp) (number : ℕ) (results : List Outcome) (lines : List ℕ)
-    → ShowsDesk d s → ops ≡ s.pending → count_by is_used d.pool ≡ block_count d.last
+    → ShowsDesk d s → ops ≡ s.pending → count_by is_in_use d.pool ≡ block_count d.last
     → IsWithin d.last (count_by is_free d.pool) ops → Accepts d ops e
     → number ≡ length e.last.batches → results ≡ outcomes ops (content d.last) → lines ≡ commit_line number results
     → IsCommandResult Commit s (Ok lines)
@@ -212,13 +213,13 @@ shows_committed s d e ops shows pending accepts =
       free = omega (arith, counts.free, takes, shows.free);
       retired = λ q. counts.retired_by q
           ∙ ((λ i. shows.retired q i + accepted.births.dropped_are (λ birth. q birth (length d.last.batches + 1)) i)
-          ∙ ((λ i. count_by (λ (x : Dates). q x.birth x.since) s.retired + count_by (λ birth. q birth (number i + 1))
+          ∙ ((λ i. count_by (λ (x : Dates). q x.birth x.retirement) s.retired + count_by (λ birth. q birth (number i + 1))
           (dropped_births (pending i) (same i) (shows.layout i) (births i) (length (left i).names)))
           ∙ sym (dated_counts q s.retired (dropped s) (length s.batches + 1))));
     }
 
 pub commit_refused : (s : ServerState) (d : DeskView) (ops : List NamedOp) (error : ApplyError) → ShowsDesk d s → ops ≡ s.pending
-    → count_by is_used d.pool ≡ block_count d.last → error ≢ refused.OutOfMemory
+    → count_by is_in_use d.pool ≡ block_count d.last → error ≢ refused.OutOfMemory
     → Refuses d.last (count_by is_free d.pool) ops error → IsCommandResult Commit s (Err (batch_word error))
 commit_refused s d ops error shows pending many known is =
     (error, subst (λ (a : Attempt). BatchRefusal a error) (attempt_is d s ops shows pending many) is, known, refl)
@@ -238,11 +239,11 @@ shows_given_up s d shows = record {
 -- A collection
 
 past_is : (s : ServerState) (d : DeskView) (copy : PinCopy) → ShowsDesk d s → copy ≡ copy_of s
-    → count_by (is_past copy) d.pool ≡ recycled s
+    → count_by (is_reclaimable copy) d.pool ≡ recycled s
 past_is s d copy shows same =
-    same_counts (is_past copy) (is_retired_by (λ birth since. not (needs copy birth since))) (past_any copy) d.pool
-    ∙ (shows.retired (λ birth since. not (needs copy birth since))
-    ∙ ap (λ k. count_by (λ (x : Dates). not (needs k x.birth x.since)) s.retired) same)
+    same_counts (is_reclaimable copy) (is_retired_by (λ birth retirement. not (needs copy birth retirement))) (past_any copy) d.pool
+    ∙ (shows.retired (λ birth retirement. not (needs copy birth retirement))
+    ∙ ap (λ k. count_by (λ (x : Dates). not (needs k x.birth x.retirement)) s.retired) same)
 
 pub shows_collected : (s : ServerState) (d e : DeskView) (copy : PinCopy) → ShowsDesk d s → IsCollected d copy e
     → ((source : ℕ) → births_in e source ≡ births_in d source) → copy ≡ copy_of s → ShowsDesk e (after_collect s)
@@ -256,17 +257,17 @@ shows_collected s d e copy shows collected births same =
       blocks = counts.blocks ∙ shows.blocks;
       free = omega (arith, counts.free, past_is s d copy shows same, shows.free);
       retired = λ q. counts.retired_by q
-          ∙ (shows.retired (λ birth since. needs copy birth since && q birth since)
-          ∙ (ap (λ k. count_by (λ (x : Dates). needs k x.birth x.since && q x.birth x.since) s.retired) same
-          ∙ count_filter (λ (x : Dates). needs (copy_of s) x.birth x.since) (λ (x : Dates). q x.birth x.since) s.retired));
+          ∙ (shows.retired (λ birth retirement. needs copy birth retirement && q birth retirement)
+          ∙ (ap (λ k. count_by (λ (x : Dates). needs k x.birth x.retirement && q x.birth x.retirement) s.retired) same
+          ∙ count_filter (λ (x : Dates). needs (copy_of s) x.birth x.retirement) (λ (x : Dates). q x.birth x.retirement) s.retired));
     }
 
 pub collect_done : (s : ServerState) (d e : DeskView) (copy : PinCopy) (floor count left : ℕ) (lines : List ℕ) → ShowsDesk d s
     → IsCollected d copy e → ((source : ℕ) → births_in e source ≡ births_in d source) → copy ≡ copy_of s → floor ≡ copies.floor_of copy
-    → count ≡ count_by (is_past copy) d.pool → left ≡ count_by is_retired e.pool
+    → count ≡ count_by (is_reclaimable copy) d.pool → left ≡ count_by is_retired e.pool
     → lines ≡ collect_line floor count left → IsCommandResult Collect s (Ok lines)
 collect_done s d e copy floor count left lines shows collected births same floor_are count_is left_is lines_are =
-    let low : floor ≡ floor_of s = floor_are ∙ (ap copies.floor_of same ∙ floor_is (length s.batches) (held_numbers s.held)) in
+    let low : floor ≡ floor_of s = floor_are ∙ ap copies.floor_of same in
     let gone : count ≡ recycled s = count_is ∙ past_is s d copy shows same in
     let stay : left ≡ length (after_collect s).retired =
     left_is ∙ all_retired e (after_collect s) (shows_collected s d e copy shows collected births same) in
@@ -276,7 +277,7 @@ collect_done s d e copy floor count left lines shows collected births same floor
 
 pub stat_done : (s : ServerState) (d : DeskView) (number names edges free retired many : ℕ) (lines : List ℕ) → ShowsDesk d s
     → number ≡ length d.last.batches → names ≡ length (content d.last).names → edges ≡ edge_total d.last
-    → free ≡ count_by is_free d.pool → retired ≡ count_by is_retired d.pool → many ≡ count_by is_used d.pool
+    → free ≡ count_by is_free d.pool → retired ≡ count_by is_retired d.pool → many ≡ count_by is_in_use d.pool
     → lines ≡ stat_line number names edges free retired many → IsCommandResult Stat s (Ok lines)
 stat_done s d number names edges free retired many lines shows number_is names_are edges_are free_are retired_are used_are
     lines_are =

@@ -3,7 +3,10 @@ use Rattle.std.proofs.Common.{◌≡◌, ℕ, zero, suc, Bool, false, cond, List
 use Rattle.std.proofs.Common.{count_by, replicate, refl, ap, ap₂, ◌∙◌, arith}
 use Rattle.std.specs.{Prelude.Ok, Prelude.slice_get, FinMap.len}
 use Rattle.block_layout.specs.{Batches.sum_below, Rows.Shape, Rows.shape_of}
-use Rattle.block_pool.specs.Pools.{Status, Free, Used, is_retired, is_used, marked}
+use Rattle.block_pool.specs.Pools.{marked}
+use Rattle.block_reclamation.specs.declared.status.BlockStatus.{BlockStatus}
+use Rattle.block_reclamation.specs.declared.status.BlockStatus.TheVariants.{Free, Used}
+use Rattle.block_reclamation.specs.Status.{is_retired, is_in_use}
 use Rattle.block_pool.proofs.{Grants.length-marked, Tallies.count_more}
 use Rattle.edge_block.specs.Slots.{BlockView}
 use Rattle.feed_csv.specs.declared.command.Command.TheVariants.{Rebase}
@@ -20,17 +23,17 @@ use Rattle.script_commands.specs.States.{IsCommandResult, ServerState, after_reb
 -- The pool
 
 -- no block was born with a later version than 0
-abbrev AreFirst : List Status → Type 0
+abbrev AreFirst : List BlockStatus → Type 0
 AreFirst pool = (k : ℕ) → birth_at pool k ≡ 0
 
-set_first : (pool : List Status) (n k : ℕ) → AreFirst pool → birth_at (set pool n (Used 0)) k ≡ 0
+set_first : (pool : List BlockStatus) (n k : ℕ) → AreFirst pool → birth_at (set pool n (Used 0)) k ≡ 0
 set_first [] n k first = refl
 set_first (s ∷ pool) zero zero first = refl
 set_first (s ∷ pool) zero (suc k) first = first (suc k)
 set_first (s ∷ pool) (suc n) zero first = first 0
 set_first (s ∷ pool) (suc n) (suc k) first = set_first pool n k (λ m. first (suc m))
 
-marked_first : (ns : List ℕ) (pool : List Status) → AreFirst pool → AreFirst (marked ns (Used 0) pool)
+marked_first : (ns : List ℕ) (pool : List BlockStatus) → AreFirst pool → AreFirst (marked ns (Used 0) pool)
 marked_first [] pool first = first
 marked_first (n ∷ ns) pool first = marked_first ns (set pool n (Used 0)) (λ k. set_first pool n k first)
 
@@ -39,7 +42,7 @@ free_first zero k = refl
 free_first (suc n) zero = refl
 free_first (suc n) (suc k) = free_first n k
 
-set_none : (p : Status → Bool) (s : Status) → p s ≡ false → (pool : List Status) (n : ℕ) → count_by p pool ≡ 0
+set_none : (p : BlockStatus → Bool) (s : BlockStatus) → p s ≡ false → (pool : List BlockStatus) (n : ℕ) → count_by p pool ≡ 0
     → count_by p (set pool n s) ≡ 0
 set_none p s fails [] n none = none
 set_none p s fails (t ∷ pool) zero none =
@@ -53,13 +56,13 @@ set_none p s fails (t ∷ pool) (suc n) none =
     let rest = set_none p s fails pool n (omega arith) in
     omega arith
 
-marked_none : (p : Status → Bool) (s : Status) → p s ≡ false → (ns : List ℕ) (pool : List Status) → count_by p pool ≡ 0
+marked_none : (p : BlockStatus → Bool) (s : BlockStatus) → p s ≡ false → (ns : List ℕ) (pool : List BlockStatus) → count_by p pool ≡ 0
     → count_by p (marked ns s pool) ≡ 0
 marked_none p s fails [] pool none = none
 marked_none p s fails (n ∷ ns) pool none = marked_none p s fails ns (set pool n s) (set_none p s fails pool n none)
 
 -- a test that neither a free nor a used block passes counts nothing at an opening
-none_opened : (p : Status → Bool) → p Free ≡ false → p (Used 0) ≡ false → (blocks : ℕ) (d : DeskView)
+none_opened : (p : BlockStatus → Bool) → p Free ≡ false → p (Used 0) ≡ false → (blocks : ℕ) (d : DeskView)
     → d ≡ opened_desk blocks d.last → count_by p d.pool ≡ 0
 none_opened p free used blocks d opened =
     ap (λ (e : DeskView). count_by p e.pool) opened
@@ -75,7 +78,7 @@ length_opened blocks d opened =
     ap (λ (e : DeskView). length e.pool) opened
     ∙ (length-marked (numbers_of (blocks_of d.last.rows)) (Used 0) (replicate blocks Free) ∙ length-replicate blocks)
 
-births_first : (row : List BlockView) (pool : List Status) → AreFirst pool
+births_first : (row : List BlockView) (pool : List BlockStatus) → AreFirst pool
     → map (λ b. birth_at pool b.number) row ≡ map (λ (b : Shape). 0) (map shape_of row)
 births_first [] pool first = refl
 births_first (b ∷ row) pool first = ap₂ (λ n ns. n ∷ ns) (first b.number) (births_first row pool first)
@@ -94,7 +97,7 @@ count_rebased s v d rebased desk same =
     ∙ (λ i. sum_below (length (graph i).names) (λ source. length (rebased.rows source i)))
 
 pub shows_rebased : (s : ServerState) (v : VersionView) (blocks : ℕ) (d : DeskView) → IsRebased v d.last
-    → d ≡ opened_desk blocks d.last → IsDesk d → count_by is_used d.pool ≡ block_count d.last
+    → d ≡ opened_desk blocks d.last → IsDesk d → count_by is_in_use d.pool ≡ block_count d.last
     → content v ≡ version (length v.batches) s → blocks ≡ s.blocks → ShowsDesk d (after_rebase (held_of v) s)
 shows_rebased s v blocks d rebased opened desk used same blocks_are = record {
   opening = rebased.opening ∙ same;
@@ -114,9 +117,9 @@ shows_rebased s v blocks d rebased opened desk used same blocks_are = record {
 
 pub rebase_done : (s : ServerState) (v : VersionView) (d : DeskView) (slot number names edges many : ℕ) (lines : List ℕ)
     → version_in (slice_get s.held slot) ≡ Ok (held_of v) → IsRebased v d.last → IsDesk d
-    → count_by is_used d.pool ≡ block_count d.last → content v ≡ version (length v.batches) s
+    → count_by is_in_use d.pool ≡ block_count d.last → content v ≡ version (length v.batches) s
     → number ≡ length d.last.batches → names ≡ length (content d.last).names → edges ≡ edge_total d.last
-    → many ≡ count_by is_used d.pool → lines ≡ rebase_line number names edges many → IsCommandResult (Rebase slot) s (Ok lines)
+    → many ≡ count_by is_in_use d.pool → lines ≡ rebase_line number names edges many → IsCommandResult (Rebase slot) s (Ok lines)
 rebase_done s v d slot number names edges many lines there rebased desk used same number_is names_are edges_are used_are
     lines_are =
     let graph : content d.last ≡ version (length v.batches) s = content_rebased v d.last rebased ∙ same in

@@ -1,6 +1,6 @@
 -- Slots that stay slots: as sessions are acquired and released, batches come, and the floor rises.
 use Rattle.std.proofs.Common.{◌≡◌, ◌≢◌, ℕ, zero, suc, ◌+◌, ◌<◌, ◌≤◌, ◌==◌, max, true, false, List, [], ◌∷◌, ◌++◌, length, map}
-use Rattle.std.proofs.Common.{take, get_or, set, replicate, append-nil, refl, sym, ap, ap₂, subst, ◌∙◌, arith, inl, inr, ◌-◌, min}
+use Rattle.std.proofs.Common.{take, get_or, set, replicate, append-nil, refl, sym, ap, ap₂, subst, ◌∙◌, arith, inl, inr, ◌-◌}
 use Rattle.std.specs.{Prelude.◌⊎◌, Prelude.Option, Prelude.None, Prelude.Some, Prelude.IfSome, Prelude.slice_get, Iterator.Yields}
 use Rattle.std.specs.{List.range_with_len, Option.option_map, declared.vec.IntoIter.IntoIter}
 use Rattle.std.specs.Vec.Iter.{into_iter_items, into_iter_len, into_iter_steps}
@@ -11,12 +11,13 @@ use Rattle.std.proofs.lemmas.Option.{get_or_from_slice_get, slice_get_read, slic
 use Rattle.std.proofs.Math.{ListN.length-set, Seq.take-length, Nat.max-eq_right}
 use Rattle.graph_model.specs.declared.batches.NamedOp.{NamedOp}
 use Rattle.graph_version.specs.Versions.{IsVersion, VersionView}
-use Rattle.pin_copy.specs.Copies.{floor_of, least_of, lesser}
-use Rattle.seat_board.specs.Board.{BoardState, copy_of, no_pins, pin_at, settled_number, unsettled_number, with_pin}
-use Rattle.seat_board.specs.declared.board.{Pin.Pin, TheConstants.SEATS}
+use Rattle.block_reclamation.specs.Board.{BoardState, no_pins, with_pin}
+use Rattle.block_reclamation.specs.Copies.{copy_of, pin_at}
+use Rattle.block_reclamation.specs.declared.copies.Pin.{Pin}
+use Rattle.block_reclamation.specs.declared.copies.TheConstants.{SEATS}
 use Rattle.stream_store.specs.Seats.{SeatView, SessionView, held_version, lent_to, seat_of}
-use Rattle.script_commands.specs.Slots.{AreSlots, IsEarlier, IsPinned, IsSlot, held_by, held_of, holding}
-use Rattle.script_commands.specs.States.{Held, copy_by, least_held, held_numbers}
+use Rattle.script_commands.specs.Slots.{AreSlots, IsEarlier, IsPinned, IsSlot, held_by, held_of}
+use Rattle.script_commands.specs.States.{holding, pins_of}
 
 same_or_not : (a b : ℕ) → (a ≡ b) ⊎ (a ≢ b)
 same_or_not a b = elim (a == b) as (λ t. (a == b) ≡ t → (a ≡ b) ⊎ (a ≢ b)) [
@@ -210,79 +211,28 @@ slots_more last new batch board seats sessions opening batches slots = record {
   };
 }
 
--- The copy of the pins, and its floor
+-- The copy of the pins
 
-settled_pin : (pin : Option Pin) (held : Option Held) → pin ≡ option_map holding held
-    → settled_number pin ≡ option_map (λ (h : Held). h.number) held
-settled_pin pin None is = ap settled_number is
-settled_pin pin (Some h) is = ap settled_number is
-
-unsettled_pin : (pin : Option Pin) (held : Option Held) → pin ≡ option_map holding held → unsettled_number pin ≡ None
-unsettled_pin pin None is = ap unsettled_number is
-unsettled_pin pin (Some h) is = ap unsettled_number is
-
-settled_are : (pins : List (Option Pin)) (sessions : List (Option SessionView)) (free : ℕ)
+pins_are : (pins : List (Option Pin)) (sessions : List (Option SessionView)) (free : ℕ)
     → length sessions + free ≡ length pins
     → ((slot : ℕ) → pin_at pins slot ≡ option_map holding (held_by (get_or sessions slot None)))
-    → map settled_number pins ≡ held_numbers (map held_by sessions) ++ replicate free None
-settled_are [] [] zero long same = refl
-settled_are [] [] (suc free) long same = absurd (omega arith)
-settled_are [] (s ∷ sessions) free long same = absurd (omega arith)
-settled_are (p ∷ pins) [] zero long same = absurd (omega arith)
-settled_are (p ∷ pins) [] (suc free) long same =
-    ap₂ (λ n ns. n ∷ ns) (settled_pin p None (same 0)) (settled_are pins [] free (omega arith) (λ slot. same (suc slot)))
-settled_are (p ∷ pins) (s ∷ sessions) free long same =
-    ap₂ (λ n ns. n ∷ ns) (settled_pin p (held_by s) (same 0))
-    (settled_are pins sessions free (omega arith) (λ slot. same (suc slot)))
+    → pins ≡ map (option_map holding) (map held_by sessions) ++ replicate free None
+pins_are [] [] zero long same = refl
+pins_are [] [] (suc free) long same = absurd (omega arith)
+pins_are [] (s ∷ sessions) free long same = absurd (omega arith)
+pins_are (p ∷ pins) [] zero long same = absurd (omega arith)
+pins_are (p ∷ pins) [] (suc free) long same =
+    ap₂ (λ x xs. x ∷ xs) (same 0) (pins_are pins [] free (omega arith) (λ slot. same (suc slot)))
+pins_are (p ∷ pins) (s ∷ sessions) free long same =
+    ap₂ (λ x xs. x ∷ xs) (same 0) (pins_are pins sessions free (omega arith) (λ slot. same (suc slot)))
 
-unsettled_are : (pins : List (Option Pin)) (held : ℕ → Option Held) → ((slot : ℕ) → pin_at pins slot ≡ option_map holding (held slot))
-    → map unsettled_number pins ≡ replicate (length pins) None
-unsettled_are [] held same = refl
-unsettled_are (p ∷ pins) held same =
-    ap₂ (λ n ns. n ∷ ns) (unsettled_pin p (held 0) (same 0))
-    (unsettled_are pins (λ slot. held (suc slot)) (λ slot. same (suc slot)))
-
-abbrev nones : ℕ → List (Option ℕ)
-nones n = replicate n None
-
--- the board's copy is that of the held numbers
+-- the board's copy is that of the held versions
 pub copy_is : (last number : ℕ) (board : BoardState) (sessions : List (Option SessionView)) → IsPinned last board sessions
-    → length sessions ≤ SEATS → copy_of number board.pins ≡ copy_by number (held_numbers (map held_by sessions))
+    → length sessions ≤ SEATS → copy_of number board.pins ≡ copy_of number (pins_of (map held_by sessions))
 copy_is last number board sessions pinned few =
-    let held : List (Option Held) = map held_by sessions in
-    let free : ℕ = SEATS - length (held_numbers held) in
-    let many : length (held_numbers held) ≡ length sessions =
-    length-map held (λ slot. option_map (λ (h : Held). h.number) slot) ∙ length-map sessions held_by in
-    let long : length sessions + free ≡ length board.pins = omega (arith, many, pinned.seats, few) in
-    let settled : map settled_number board.pins ≡ held_numbers held ++ nones free =
-    settled_are board.pins sessions free long pinned.pins in
-    let unsettled : map unsettled_number board.pins ≡ nones SEATS =
-    unsettled_are board.pins (λ slot. held_by (get_or sessions slot None)) pinned.pins ∙ ap nones pinned.seats in
-    λ i. record { last = number; settled = settled i; unsettled = unsettled i }
-
-least_none : (n free : ℕ) → least_of n (replicate free None) ≡ n
-least_none n zero = refl
-least_none n (suc free) = least_none n free
-
-least_more : (n : ℕ) (held : List (Option ℕ)) (free : ℕ) → least_of n (held ++ replicate free None) ≡ least_of n held
-least_more n [] free = least_none n free
-least_more n (m ∷ held) free = least_more (lesser n m) held free
-
-least_turned : (n m : ℕ) (held : List (Option ℕ)) → least_held (min n m) held ≡ min m (least_held n held)
-least_turned n m [] = omega arith
-least_turned n m (None ∷ held) = least_turned n m held
-least_turned n m (Some k ∷ held) = let rest = least_turned n m held in omega arith
-
-least_is : (n : ℕ) (held : List (Option ℕ)) → least_of n held ≡ least_held n held
-least_is n [] = refl
-least_is n (None ∷ held) = least_is n held
-least_is n (Some m ∷ held) = least_is (min n m) held ∙ least_turned n m held
-
--- the floor of that copy is the least of its numbers
-pub floor_is : (last : ℕ) (held : List (Option ℕ)) → floor_of (copy_by last held) ≡ least_held last held
-floor_is last held =
-    least_none (least_of last (held ++ replicate (SEATS - length held) None)) SEATS
-    ∙ (least_more last held (SEATS - length held) ∙ least_is last held)
+    let many : length (map held_by sessions) ≡ length sessions = length-map sessions held_by in
+    ap (copy_of number)
+    (pins_are board.pins sessions (SEATS - length (map held_by sessions)) (omega (arith, many, pinned.seats, few)) pinned.pins)
 
 pub slots_raised : (last : VersionView) (board new : BoardState) (seats : List (Option SeatView))
     (sessions : List (Option SessionView)) (floor : ℕ) → new ≡ record board { floor = floor } → floor ≤ length last.batches

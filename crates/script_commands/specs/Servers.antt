@@ -1,7 +1,7 @@
 -- A server's fields, and the states that they show.
 use Rattle.std.specs.Prelude.{◌≡◌, ◌≢◌, ℕ, List, length, count_by, AllPairs, Ok, Err, Bool}
 use Rattle.graph_version.specs.Versions.{layout_of}
-use Rattle.block_pool.specs.Pools.{is_free}
+use Rattle.block_reclamation.specs.Status.{is_free}
 use Rattle.store_steps.specs.Desks.{DeskView, births_in, is_retired_by}
 use Rattle.feed_csv.specs.declared.command.Command.{Command}
 use Rattle.graph_model.specs.declared.batches.NamedOp.{NamedOp}
@@ -37,7 +37,7 @@ pub record ShowsDesk (d : DeskView) (s : ServerState) : Type 0 where
   pub births : (source : ℕ) → births_in d source ≡ s.births source
   pub blocks : length d.pool ≡ s.blocks
   pub free : count_by is_free d.pool ≡ s.free
-  pub retired : (q : ℕ → ℕ → Bool) → count_by (is_retired_by q) d.pool ≡ count_by (λ (x : Dates). q x.birth x.since) s.retired
+  pub retired : (q : ℕ → ℕ → Bool) → count_by (is_retired_by q) d.pool ≡ count_by (λ (x : Dates). q x.birth x.retirement) s.retired
 
 -- the fields are those of the state
 pub record ShowsServer (server : Server) (s : ServerState) : Type 0 where

@@ -1,13 +1,13 @@
 -- Slots: each has a seat, or a session on a version that the desk lent.
-use Rattle.std.specs.Prelude.{◌≡◌, ℕ, ◌<◌, ◌≤◌, All, IfSome, true, List, length, map, take, slice_index_or, Option, None, Some}
+use Rattle.std.specs.Prelude.{◌≡◌, ℕ, ◌<◌, ◌≤◌, All, IfSome, List, length, map, take, slice_index_or, Option, None, Some}
 use Rattle.std.specs.Option.{option_map}
 use Rattle.graph_version.specs.Versions.{VersionView, IsVersion, layout_of}
-use Rattle.seat_board.specs.Board.{BoardState, pin_at}
-use Rattle.seat_board.specs.declared.board.Pin.{Pin}
-use Rattle.seat_board.specs.declared.board.TheConstants.{SEATS}
+use Rattle.block_reclamation.specs.Board.{BoardState}
+use Rattle.block_reclamation.specs.Copies.{pin_at}
+use Rattle.block_reclamation.specs.declared.copies.TheConstants.{SEATS}
 use Rattle.stream_store.specs.Refusals.{block_count}
 use Rattle.stream_store.specs.Seats.{SeatView, SessionView, held_version}
-use Rattle.script_commands.specs.States.{Held}
+use Rattle.script_commands.specs.States.{Held, holding}
 use Rattle.script_commands.specs.declared.slots.Slots.{Slots}
 
 -- a version, as a slot holds it
@@ -33,10 +33,6 @@ abbrev pub IsSlot : VersionView → ℕ → Option SeatView → Option SessionVi
 IsSlot last slot (Some seat) None = seat.number ≡ slot
 IsSlot last slot None (Some session) = (session.number ≡ slot) × IsEarlier last (held_version session)
 IsSlot last slot _ _ = ⊥
-
--- the pin of a held version: the session has told its number
-abbrev pub holding : Held → Pin
-holding held = record { number = held.number; is_settled = true }
 
 -- the pins on the board are those of the held versions, and the floor is at most the last version's number
 pub record IsPinned (last : ℕ) (board : BoardState) (sessions : List (Option SessionView)) : Type 0 where

@@ -1,14 +1,15 @@
 -- Where a run stands between two records, and what one record does.
-use Rattle.std.specs.Prelude.{◌≡◌, ◌≢◌, ℕ, ◌+◌, ◌-◌, min, not, List, [], ◌∷◌, ◌++◌, length, map, take, replicate}
-use Rattle.std.specs.Prelude.{filter}
+use Rattle.std.specs.Prelude.{◌≡◌, ◌≢◌, ℕ, ◌+◌, ◌-◌, not, List, [], ◌∷◌, ◌++◌, length, map, take, replicate}
+use Rattle.std.specs.Prelude.{filter, true}
 use Rattle.std.specs.Prelude.{slice_get, slice_set, count_by, Option, None, Some, Result, Ok, Err}
 use Rattle.std.specs.FinMap.{entries, len}
 use Rattle.std.specs.Option.{option_map}
 use Rattle.block_layout.specs.Batches.{layout_after, sum_below, taken_by}
 use Rattle.block_layout.specs.Rows.{Shape}
-use Rattle.pin_copy.specs.declared.copies.PinCopy.{PinCopy}
-use Rattle.pin_copy.specs.declared.copies.TheConstants.{SEATS}
-use Rattle.pin_copy.specs.Copies.{needs}
+use Rattle.block_reclamation.specs.declared.copies.{Pin.Pin, PinCopy.PinCopy}
+use Rattle.block_reclamation.specs.declared.copies.TheConstants.{SEATS}
+use Rattle.block_reclamation.specs.Copies as copies
+use Rattle.block_reclamation.specs.Copies.{needs}
 use Rattle.batch_shards.specs.Births.{births_after, dropped_births}
 use Rattle.graph_model.specs.Graph.{Graph}
 use Rattle.graph_model.specs.Step.{after_all, empty_graph, left_by, outcomes}
@@ -51,10 +52,10 @@ set_up config = record { opening = empty_graph; blocks = config.blocks; seats = 
 -- the version that a retired block was taken by, and the one that retired it
 pub record Dates : Type 0 where
   pub birth : ℕ
-  pub since : ℕ
+  pub retirement : ℕ
 
 abbrev pub dates : ℕ → ℕ → Dates
-dates birth since = record { birth = birth; since = since }
+dates birth retirement = record { birth = birth; retirement = retirement }
 
 -- a version that a slot holds: its number, and its row of blocks for each source
 pub record Held : Type 0 where
@@ -110,10 +111,6 @@ last_version s = left_by s.batches s.opening
 -- the last version, as a slot that is opened holds it
 abbrev pub last_held : ServerState → Held
 last_held s = record { number = length s.batches; layout = s.layout }
-
--- the number of the version that each slot holds
-abbrev pub held_numbers : List (Option Held) → List (Option ℕ)
-held_numbers held = map (λ slot. option_map (λ (h : Held). h.number) slot) held
 
 -- what a record comes to: the lines that it prints, or the word of its refusal
 abbrev pub RecordResult : Type 0
@@ -191,31 +188,28 @@ after_commit s = record s {
   retired = s.retired ++ map (λ birth. dates birth (length s.batches + 1)) (dropped s);
 }
 
--- the floor: the least of the last version's number and all held numbers
-abbrev pub least_held : ℕ → List (Option ℕ) → ℕ
-least_held last [] = last
-least_held last (None ∷ held) = least_held last held
-least_held last (Some n ∷ held) = min n (least_held last held)
+-- the pins of held versions, one for each seat: a session that holds a version has told its number
+abbrev pub holding : Held → Pin
+holding held = record { number = held.number; is_settled = true }
+
+abbrev pub pins_of : List (Option Held) → List (Option Pin)
+pins_of held = map (option_map holding) held ++ replicate (SEATS - length held) None
+
+-- the copy of these pins, and the floor: the least of the last version's number and all held numbers
+abbrev pub copy_of : ServerState → PinCopy
+copy_of s = copies.copy_of (length s.batches) (pins_of s.held)
 
 abbrev pub floor_of : ServerState → ℕ
-floor_of s = least_held (length s.batches) (held_numbers s.held)
-
--- the copy of a last number and of held numbers: each is a settled pin
-abbrev pub copy_by : ℕ → List (Option ℕ) → PinCopy
-copy_by last held =
-    record { last = last; settled = held ++ replicate (SEATS - length held) None; unsettled = replicate SEATS None }
-
-abbrev pub copy_of : ServerState → PinCopy
-copy_of s = copy_by (length s.batches) (held_numbers s.held)
+floor_of s = copies.floor_of (copy_of s)
 
 -- how many blocks a collection frees: the retired ones that the copy doesn't need
 abbrev pub recycled : ServerState → ℕ
-recycled s = count_by (λ (d : Dates). not (needs (copy_of s) d.birth d.since)) s.retired
+recycled s = count_by (λ (d : Dates). not (needs (copy_of s) d.birth d.retirement)) s.retired
 
 abbrev pub after_collect : ServerState → ServerState
 after_collect s = record s {
   free = s.free + recycled s;
-  retired = filter (λ (d : Dates). needs (copy_of s) d.birth d.since) s.retired;
+  retired = filter (λ (d : Dates). needs (copy_of s) d.birth d.retirement) s.retired;
 }
 
 abbrev pub op_refusal : Option PushError → Option Word

@@ -3,7 +3,7 @@
 ghost use Rattle.std.specs.Prelude.{◌≡◌, ℕ, ◌≢◌, ◌≤◌, [], length, map, replicate, slice_get, string_bytes, ◌++◌, IfOk, IfErr};
 ghost use Rattle.std.specs.Prelude.{OnOk, OnErr, None, Ok, Err};
 ghost use Rattle.std.specs.List.{range_with_len};
-ghost use Rattle.seat_board.specs.Board.{no_pins};
+ghost use Rattle.block_reclamation.specs.Board.{no_pins};
 ghost use Rattle.graph_version.specs.Versions.{empty_version};
 ghost use Rattle.graph_version.specs.Rebased.{IsRebased};
 ghost use Rattle.store_steps.specs.Opening.{opened_desk};
@@ -17,12 +17,12 @@ ghost use Rattle.script_commands.specs.States as states;
 
 use crate::slots::Slots;
 use batch_apply::PassAll;
+use block_reclamation::Board;
 use feed_csv::Command;
 use graph_model::{AskError, Batch, NamedOp, PushError, Request};
 use script_lines::{
     Word, close_line, collect_line, commit_line, open_line, rebase_line, reply_lines, stat_line,
 };
-use seat_board::Board;
 use std::alloc::{AllocError, Global};
 use std::mem;
 use std::sync::Wait;

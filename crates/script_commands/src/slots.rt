@@ -4,16 +4,16 @@ ghost use Rattle.std.specs.Prelude.{◌≡◌, ℕ, ◌<◌, ◌≤◌, All, Err
 ghost use Rattle.std.specs.Prelude.{slice_get, slice_set};
 ghost use Rattle.std.specs.List.{range_with_len};
 ghost use Rattle.graph_version.specs.Versions.{IsVersion, VersionView};
-ghost use Rattle.seat_board.specs.Board.{no_pins};
+ghost use Rattle.block_reclamation.specs.Board.{no_pins};
+ghost use Rattle.block_reclamation.specs.Copies.{copy_of};
 ghost use Rattle.stream_store.specs.Refusals.{block_count};
 ghost use Rattle.stream_store.specs.Seats.{SeatView, SessionView};
 ghost use Rattle.script_commands.specs.Slots.{AreFew, AreSlotsOf, held_in, held_of};
 ghost use Rattle.script_commands.specs.States as states;
 
+use block_reclamation::{Board, PinCopy};
 use feed_csv::FeedWord;
-use pin_copy::PinCopy;
 use script_lines::Word;
-use seat_board::Board;
 use std::alloc::{AllocError, Global};
 use stream_store::{Desk, Seat, Session};
 
@@ -110,7 +110,7 @@ impl Slots {
         ensures slots { AreSlotsOf desk.now.desk.last self.new }
         ensures few { (blocks : ℕ) → AreFew blocks self.old → AreFew blocks self.new }
         ensures held { held_in self.new ≡ held_in self.old }
-        ensures copy { result ≡ states.copy_by (length desk.now.desk.last.batches) (states.held_numbers (held_in self.old)) }
+        ensures copy { result ≡ copy_of (length desk.now.desk.last.batches) (states.pins_of (held_in self.old)) }
     {
         let last = desk.last().number();
         self.board.raise(last)

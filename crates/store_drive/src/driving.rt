@@ -10,7 +10,7 @@ use crate::pace::Pace;
 use crate::readers::{Reading, read};
 use crate::reports::{DriveCounts, DriveFault, DriveReport, DriveWord};
 use crate::tally::{Tally, sum_of};
-use seat_board::Board;
+use block_reclamation::Board;
 use std::alloc::Global;
 use std::marker::Brand;
 use std::sync::Wait;

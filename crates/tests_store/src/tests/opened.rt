@@ -6,7 +6,7 @@ ghost use Rattle.graph_model.specs.Coded.{graph_code};
 ghost use Rattle.graph_version.specs.Versions.{empty_version};
 ghost use Rattle.stream_store.specs.Seats.{IsNewSeat};
 
-use seat_board::Board;
+use block_reclamation::Board;
 use std::alloc::Global;
 use std::sync::Wait;
 use stream_store::{Config, Desk, Seat, open_parts};

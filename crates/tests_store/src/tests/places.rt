@@ -3,8 +3,8 @@
 use super::answers::push_answer;
 use super::texts::{push_item, split_word};
 use super::told::{push_opening, push_stat, push_version};
+use block_reclamation::Board;
 use graph_version::Version;
-use seat_board::Board;
 use std::alloc::{AllocError, Global};
 use std::sync::Wait;
 use stream_store::{Config, Desk, Naming, PinnedSeat, Seat, Session, Store, open_parts_from};

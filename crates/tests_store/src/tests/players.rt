@@ -6,7 +6,7 @@ use super::checks::{check_so, tell_refused};
 use super::places::Place;
 use super::stages::{End, Front, Stage};
 use super::texts::{split_at, split_word};
-use seat_board::Board;
+use block_reclamation::Board;
 use std::alloc::{AllocError, Global};
 use std::io::Print;
 use std::marker::Brand;

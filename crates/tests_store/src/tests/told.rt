@@ -1,9 +1,9 @@
 // What lines tell of: receipts, counts, collections, and what a desk keeps.
 
 use super::texts::{push_item, push_numbers};
+use block_reclamation::{Board, Pin, SeatNo};
 use graph_model::Outcome;
 use graph_version::Version;
-use seat_board::{Board, Pin, SeatNo};
 use std::alloc::AllocError;
 use stream_store::{ApplyError, Collected, Desk, JournalEntry, Receipt, Stat};
 

@@ -1,6 +1,5 @@
 use Rattle.std.proofs.Common.{rules, ap, ◌≡◌, ◌≤◌, ◌∙◌, length}
-use Rattle.pin_copy.specs.Copies.{floor_of}
-use Rattle.seat_board.specs.Board.{copy_of}
+use Rattle.block_reclamation.specs.Copies.{floor_of, copy_of}
 use Rattle.script_commands.proofs.SlotLaws.{copy_is, slots_raised}
 use Rattle.script_commands.proofs.slots.Slots.copy.Goals as goal
 
