@@ -61,6 +61,15 @@ impl Model for Board {
     ghost invariant = { λ board. IsBoard (record { floor = board.floor; pins = board.pins }) };
 }
 
+impl Default for Board {
+    ghost is_default = { λ board. board ≡ no_pins };
+
+    /// `Board::new`.
+    fn default() -> Board {
+        Board::new()
+    }
+}
+
 impl Board {
     /// A board with floor 0 and no pin.
     pub fn new() -> Self

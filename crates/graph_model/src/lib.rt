@@ -26,7 +26,6 @@ pub use laws::{
     law_some_answer, law_within_limits,
 };
 pub use lists::List;
-pub use pin_copy::PinCopy;
 pub use requests::{AskError, NamedFilter, Reply, Request};
 pub use tables::{law_one_table, law_some_table};
 pub use texts::{Name, is_kind_name, is_name};

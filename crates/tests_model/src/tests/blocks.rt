@@ -5,19 +5,25 @@ ghost use Rattle.std.specs.Prelude.{◌≡◌, IfOk, length};
 use super::checks::{check_told, only_refused, refused, same};
 use super::parts::{LineError, edges, push};
 use super::texts::push_shown;
-use epoch_blocks::{Status, Step, edges_at, fill_block, recycle_block, take_block};
+use block_reclamation::{BlockStatus, PinCopy};
+use epoch_blocks::{Step, edges_at, fill_block, recycle_block, take_block};
 use graph_model::{Edge, KindId, List, VertexId};
-use pin_copy::PinCopy;
 use std::alloc::Global;
 use std::process::Abort;
 use std::test::Fail;
 
-const STATUSES: [Status; 5] = [
-    Status::Free,
-    Status::Fresh,
-    Status::Used { birth: 1 },
-    Status::Retired { birth: 1, since: 3 },
-    Status::Retired { birth: 2, since: 4 },
+const STATUSES: [BlockStatus; 5] = [
+    BlockStatus::Free,
+    BlockStatus::Granted,
+    BlockStatus::Used { birth: 1 },
+    BlockStatus::Retired {
+        birth: 1,
+        retirement: 3,
+    },
+    BlockStatus::Retired {
+        birth: 2,
+        retirement: 4,
+    },
 ];
 
 // A pin is settled at 3. It needs the block that was born with version 2 and retired by version 4, and not the one that version
@@ -26,18 +32,18 @@ const STEPS: &str = "recycle 0 => Skipped
 recycle 1 => Skipped
 recycle 2 => Skipped
 take 3 => Skipped
-recycle 3 => Done: [Free, Fresh, Used { birth: 1 }, Free, Retired { birth: 2, since: 4 }]
+recycle 3 => Done: [Free, Granted, Used { birth: 1 }, Free, Retired { birth: 2, retirement: 4 }]
 recycle 3 => Skipped
 recycle 4 => Skipped
-recycle 5 => Skipped: [Free, Fresh, Used { birth: 1 }, Free, Retired { birth: 2, since: 4 }]
-take 0 => Done: [Fresh, Fresh, Used { birth: 1 }, Free, Retired { birth: 2, since: 4 }]
+recycle 5 => Skipped: [Free, Granted, Used { birth: 1 }, Free, Retired { birth: 2, retirement: 4 }]
+take 0 => Done: [Granted, Granted, Used { birth: 1 }, Free, Retired { birth: 2, retirement: 4 }]
 take 0 => Skipped
 take 1 => Skipped
 take 2 => Skipped
 take 4 => Skipped
-take 5 => Skipped: [Fresh, Fresh, Used { birth: 1 }, Free, Retired { birth: 2, since: 4 }]";
+take 5 => Skipped: [Granted, Granted, Used { birth: 1 }, Free, Retired { birth: 2, retirement: 4 }]";
 
-fn step(status: &mut Vec<Status>, line: &str) -> Result<Step, LineError> {
+fn step(status: &mut Vec<BlockStatus>, line: &str) -> Result<Step, LineError> {
     let (verb, block) = line.split_once(' ').ok_or(LineError::Wrong)?;
     let block = block.parse()?;
     if verb == "take" {
@@ -51,18 +57,22 @@ fn step(status: &mut Vec<Status>, line: &str) -> Result<Step, LineError> {
     Ok(recycle_block(status, &copy, block))
 }
 
-fn push_step(text: &mut String, status: &mut Vec<Status>, line: &str) -> Result<(), LineError> {
+fn push_step(
+    text: &mut String,
+    status: &mut Vec<BlockStatus>,
+    line: &str,
+) -> Result<(), LineError> {
     push_shown(text, "", step(status, line)?)?;
     Ok(push_shown(text, ": ", status.as_slice())?)
 }
 
-fn stepped(alloc: Global, status: &mut Vec<Status>, line: &str) -> Result<String, LineError> {
+fn stepped(alloc: Global, status: &mut Vec<BlockStatus>, line: &str) -> Result<String, LineError> {
     let mut text = String::new(alloc);
     push_step(&mut text, status, line)?;
     Ok(text)
 }
 
-fn check_steps(rt: &impl Abort, alloc: Global, status: &mut Vec<Status>) -> Result<(), Fail> {
+fn check_steps(rt: &impl Abort, alloc: Global, status: &mut Vec<BlockStatus>) -> Result<(), Fail> {
     for line in STEPS.lines() {
         let (text, wanted) = line.split_once(" => ").ok_or("no arrow")?;
         check_told(rt, line, stepped(alloc, status, text)?.as_str(), wanted);
@@ -76,8 +86,8 @@ fn takes_a_free_block_and_recycles_what_no_pin_needs(rt: HostRuntime) -> Result<
     check_steps(&rt, rt.alloc(), &mut status)
 }
 
-/// A fresh block and a free one.
-pub(super) const FRESH_AND_FREE: [Status; 2] = [Status::Fresh, Status::Free];
+/// A granted block and a free one.
+pub(super) const GRANTED_AND_FREE: [BlockStatus; 2] = [BlockStatus::Granted, BlockStatus::Free];
 
 /// The edges in the first of two blocks, and none in the second.
 pub(super) fn two_blocks(alloc: Global, listed: &str) -> Result<Vec<List<Edge>>, LineError>
@@ -125,7 +135,7 @@ fn check_fill(
 ) -> Result<(), Fail>
     requires { length heap.old.items ≡ 2 }
 {
-    match fill_block(alloc, &FRESH_AND_FREE, heap, block, &[BACK]) {
+    match fill_block(alloc, &GRANTED_AND_FREE, heap, block, &[BACK]) {
         Ok(step) => {
             same(rt, step, wanted.0);
             check_edges(rt, heap.as_slice(), wanted.1);
@@ -150,7 +160,7 @@ fn check_new_fill(
     }
 }
 
-// A fresh block alone is filled.
+// A granted block alone is filled.
 #[test]
 fn refused_fill_leaves_the_blocks(rt: HostRuntime) -> Result<(), Fail> {
     check_new_fill(&rt, rt.alloc(), 0, (Step::Done, BACK))?;

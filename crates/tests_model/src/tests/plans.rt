@@ -1,14 +1,15 @@
-// What posting a batch would set, on two blocks of an opening without edges: the first one fresh, the second one free.
+// What posting a batch would set, on two blocks of an opening without edges: the first one granted, the second one free.
 
 ghost use Rattle.std.specs.Prelude.{◌≡◌};
 ghost use Rattle.epoch_core.specs.Worlds.{empty_opening};
 
-use super::blocks::{FRESH_AND_FREE, two_blocks};
+use super::blocks::{GRANTED_AND_FREE, two_blocks};
 use super::checks::{check_told, only_refused};
 use super::graphs::{content_of, empty};
 use super::parts::{LineError, batch, edges, numbers};
 use super::texts::{push_item, push_names, push_shown};
-use epoch_blocks::{Opening, Status, Version, blocks_at, content_with, plan_post};
+use block_reclamation::BlockStatus;
+use epoch_blocks::{Opening, Version, blocks_at, content_with, plan_post};
 use graph_model::{Batch, Content, Edge, List};
 use std::alloc::{AllocError, Global};
 use std::process::Abort;
@@ -23,7 +24,7 @@ const PLANS: &str =
     [7] x y, m, 5 -7
 0,0,1,5,10,10 0,1,0,7,20,20; i,k,a,b,5,10 i,k,b,a,7,20 | 0 => [Used { birth: 1 }, Free] 2; [7] x y, m, 5 -7; \
     [0] a b, k, 5 -7; [7] x y, m, 5 -7
-0,0,1,5,10,10; | => [Fresh, Free] 0; [7] x y, m, 5 -7; [],, 5 -7; [7] x y, m, 5 -7
+0,0,1,5,10,10; | => [Granted, Free] 0; [7] x y, m, 5 -7; [],, 5 -7; [7] x y, m, 5 -7
 0,0,1,5,10,10; i,k,a,b,6,10 | 0 => none
 0,0,1,5,10,10; i,k,a,b,5,10 | 0 0 => none
 0,0,1,5,10,10; i,k,a,b,5,10 | 1 => none
@@ -76,7 +77,7 @@ fn push_versions(
 fn push_planned(
     alloc: Global,
     text: &mut String,
-    status: &[Status],
+    status: &[BlockStatus],
     version: &Version,
 ) -> Result<(), LineError> {
     push_shown(text, "", status)?;
@@ -87,7 +88,7 @@ fn push_planned(
 fn push_plan(
     alloc: Global,
     text: &mut String,
-    plan: Option<(Vec<Status>, Version)>,
+    plan: Option<(Vec<BlockStatus>, Version)>,
 ) -> Result<(), LineError> {
     match plan {
         Some((status, version)) => push_planned(alloc, text, status.as_slice(), &version),
@@ -114,7 +115,7 @@ fn push_plan_on(
 ) -> Result<(), LineError>
     requires { opening.now ≡ empty_opening }
 {
-    let plan = plan_post(alloc, opening, heap, &FRESH_AND_FREE, &[], post.0, post.1)?;
+    let plan = plan_post(alloc, opening, heap, &GRANTED_AND_FREE, &[], post.0, post.1)?;
     push_plan(alloc, text, plan)
 }
 

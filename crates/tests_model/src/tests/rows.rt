@@ -156,7 +156,7 @@ post | 0 => Skipped
 recycle 0 => Skipped",
         FREE,
     ),
-    // It is fresh.
+    // It is granted.
     (
         "take 0 => Done",
         "take 0 => Skipped

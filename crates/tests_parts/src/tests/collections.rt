@@ -4,11 +4,11 @@
 // is also what a plain look at each retired block says. Three numbers count the free, used and retired blocks.
 
 ghost use Rattle.std.specs.Prelude.{◌<◌};
-ghost use Rattle.pin_copy.specs.declared.copies.TheConstants.{SEATS};
+ghost use Rattle.block_reclamation.specs.declared.copies.TheConstants.{SEATS};
 
 use super::checks::same;
 use super::pools::{Hand, counts, freed, granted};
-use pin_copy::{PinCopy, SEATS};
+use block_reclamation::{PinCopy, SEATS};
 use std::process::Abort;
 use std::test::Fail;
 

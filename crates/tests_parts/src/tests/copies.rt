@@ -1,7 +1,10 @@
 // Copies of the pins.
 
+ghost use Rattle.std.specs.Prelude.{◌≡◌, length};
+ghost use Rattle.block_reclamation.specs.declared.copies.TheConstants.{SEATS};
+
 use super::checks::same;
-use pin_copy::PinCopy;
+use block_reclamation::{Pin, PinCopy, SEATS};
 use std::process::Abort;
 
 /// Last number 9, settled pins at 4 and 7, and an unsettled one at 6.
@@ -24,6 +27,30 @@ fn tells(rt: &impl Abort, copy: &PinCopy, floor: u64, reach: u64) {
 fn tells_the_least_of_all_pins_and_of_the_unsettled(rt: HostRuntime) {
     tells(&rt, &PinCopy::none(), 0, 0);
     tells(&rt, &copy_of_three(), 4, 6);
+}
+
+fn is_copied(rt: &impl Abort, pins: &[Option<Pin>; SEATS])
+    requires { length pins.now ≡ SEATS }
+{
+    same(rt, PinCopy::of(9, pins), copy_of_three());
+}
+
+#[test]
+fn copies_settled_and_unsettled_pins(rt: HostRuntime) {
+    let mut pins = [None; SEATS];
+    pins[0] = Some(Pin {
+        number: 4,
+        is_settled: true,
+    });
+    pins[3] = Some(Pin {
+        number: 6,
+        is_settled: false,
+    });
+    pins[15] = Some(Pin {
+        number: 7,
+        is_settled: true,
+    });
+    is_copied(&rt, &pins);
 }
 
 /// Whether a block of this birth and retirement is needed.

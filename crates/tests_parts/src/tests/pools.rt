@@ -4,8 +4,8 @@ ghost use Rattle.std.specs.Prelude.{◌≡◌};
 
 use super::checks::{same, tell_refused};
 use block_pool::{Grant, GrantError, Pool};
+use block_reclamation::PinCopy;
 use edge_block::Block;
-use pin_copy::PinCopy;
 use std::alloc::{AllocError, Global};
 use std::io::Print;
 use std::marker::Model;
@@ -34,10 +34,10 @@ impl Drop for Hand {
 
 impl Model for Hand {
     ghost use Rattle.std.specs.Prelude.{List};
-    ghost use Rattle.block_pool.specs.Pools.{Status};
+    ghost use Rattle.block_reclamation.specs.declared.status.BlockStatus.{BlockStatus};
     ghost use Rattle.tests_parts.specs.Held.{numbers_of, AreHeld};
 
-    ghost Value = { List Status };
+    ghost Value = { List BlockStatus };
 
     ghost view = { λ h. h.pool };
 

@@ -1,8 +1,7 @@
 // The board of seats.
 
 use super::checks::same;
-use pin_copy::PinCopy;
-use seat_board::{Board, Pin, SeatNo};
+use block_reclamation::{Board, Pin, PinCopy, SeatNo};
 use std::process::Abort;
 use std::test::Fail;
 

@@ -1,5 +1,5 @@
 use Rattle.std.proofs.Common.{rules}
-use Rattle.block_pool.specs.Pools.{Free}
+use Rattle.block_reclamation.specs.declared.status.BlockStatus.TheVariants.{Free}
 use Rattle.tests_parts.proofs.Held.{rest_held}
 use Rattle.tests_parts.proofs.tests.pools.Hand.give_back.Goals as goal
 

@@ -1,12 +1,14 @@
 use Rattle.std.proofs.Common.{◌≡◌, ℕ, List, [], ◌∷◌, set, refl, true, sym, ap, subst, ◌∙◌, rules}
 use Rattle.std.specs.Arc.{arc_value}
 use Rattle.edge_block.specs.declared.blocks.Block.{Block}
-use Rattle.block_pool.specs.Pools.{Status, Used, is_born_at, changed, retired}
+use Rattle.block_pool.specs.Pools.{changed, retired, is_used_at}
+use Rattle.block_reclamation.specs.declared.status.BlockStatus.{BlockStatus}
+use Rattle.block_reclamation.specs.declared.status.BlockStatus.TheVariants.{Used}
 use Rattle.tests_parts.proofs.Held.{rest_held, first_used, born_here, retired_at}
 use Rattle.tests_parts.proofs.tests.pools.Hand.retire.Goals as goal
 
 -- the pool with the birth noted at the block's own number
-born_at : (pool born : List Status) (m n birth : ℕ) (x y : Block) → born ≡ set pool m (Used birth)
+born_at : (pool born : List BlockStatus) (m n birth : ℕ) (x y : Block) → born ≡ set pool m (Used birth)
     → m ≡ x.number → x ≡ y → n ≡ y.number
     → born ≡ set pool n (Used birth)
 born_at pool born m n birth x y is first same last =
@@ -15,7 +17,7 @@ born_at pool born m n birth x y is first same last =
 pub retire-requires : goal.retire-requires
 retire-requires c =
     let n : ℕ = (arc_value {X = Block} c.remove-block.result).number in
-    subst (λ (pool : List Status). is_born_at pool n ≡ true)
+    subst (λ (pool : List BlockStatus). is_used_at pool n ≡ true)
     (sym (born_at c.self.inside.pool c.born.new.self _ n c.args.birth _ _ c.born.ensures c.number.ensures c.deref.ensures refl))
     (born_here c.self.inside.pool n c.args.birth
     (first_used c.self.inside.blocks.items c.remove-block.result c.self.inside.pool c.remove-block.ensures.value (search rules)

@@ -1,6 +1,0 @@
-use Rattle.std.proofs.Common.{rules}
-use Rattle.seat_board.proofs.board.Board.pin_of.Goals as goal
-
--- Its search is long where it fails.
-pub returns : goal.returns
-returns c = search rules

@@ -1,6 +1,0 @@
-use Rattle.std.proofs.Common.{rules}
-use Rattle.seat_board.proofs.board.SeatNo.number.Goals as goal
-
--- Its search is long where it fails.
-pub returns-clause-value : goal.returns-clause-value
-returns-clause-value c = search rules
