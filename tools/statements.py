@@ -16,7 +16,6 @@ LEFT = {
     "empty_content": 2,
     "kept_row": 2,
     "left_more": 3,
-    "lesser": 2,
     "one_where": 2,
     "range_more": 2,
     "refused_so": 2,

@@ -260,15 +260,9 @@ module _ (v : VersionView) (ops : List NamedOp) (workers : ℕ) (shards : List S
 -- The drafts of the next version
 
 module _ (v : VersionView) (ops : List NamedOp) (names kinds : Book) (values : List (ℕ × List BlockView))
-    (d0 d1 d2 d3 : DraftView)
-    (e0 : d0 ≡ drafted_over v) (e1 : d1 ≡ record d0 { names = names; kinds = kinds }) (e2 : ReplacesRows values d1 d2)
+    (d1 d2 d3 : DraftView)
+    (e1 : d1 ≡ record (drafted_over v) { names = names; kinds = kinds }) (e2 : ReplacesRows values d1 d2)
     (e3 : d3 ≡ with_batch d2 ops) where
-  abbrev given : DraftView → DraftView
-  given d = record d { names = names; kinds = kinds }
-
-  first : d1 ≡ given (drafted_over v)
-  first = e1 ∙ ap given e0
-
   pub draft_is : d3 ≡ record {
     names = names;
     kinds = kinds;
@@ -279,14 +273,14 @@ module _ (v : VersionView) (ops : List NamedOp) (names kinds : Book) (values : L
       e3 ∙ ap (λ d. with_batch d ops)
       (e2.rest
       ∙ ap (λ (d : DraftView). let r : DraftView = record d { version = record d.version { rows = d2.version.rows } } in r)
-      first)
+      e1)
 
   pub edges_left : edge_total d3.version ≡ len (after_all ops (content v)).edges
   edges_left = ap (λ (d : DraftView). edge_total d.version) draft_is
       ∙ ap (λ (h : Graph). len h.edges) (left_more v.batches ops v.opening)
 
   pub draft_among : (s : ℕ) → row_of d2.version.rows s ≡ row_among values s (row_of v.rows s)
-  draft_among s = e2.rows_are s ∙ ap (λ (d : DraftView). row_among values s (row_of d.version.rows s)) first
+  draft_among s = e2.rows_are s ∙ ap (λ (d : DraftView). row_among values s (row_of d.version.rows s)) e1
 
   pub draft_whole : names ≡ vertex_book (after_all ops (content v)).names → kinds ≡ kind_book (after_all ops (content v)).kinds
       → IsVersion (record { opening = v.opening; batches = v.batches ++ ops ∷ []; rows = d2.version.rows }) → IsWhole d3

@@ -1,7 +1,7 @@
 //! A batch applied to a version.
 
 ghost use Rattle.std.specs.Prelude.{◌≡◌, ◌≢◌, ◌+◌, ◌++◌, ◌%◌, ◌^◌, ◌<◌, ◌≤◌, ℕ, [], false, Bool, List, length, map, flat_map};
-ghost use Rattle.std.specs.Prelude.{replicate, count_by, zip, IfOk, OnOk, All, AllPairs};
+ghost use Rattle.std.specs.Prelude.{replicate, count_by, zip, IfOk, OnOk, All, AllPairs, if◌then◌else◌};
 ghost use Rattle.std.specs.List.{sum_by, AllZip};
 ghost use Rattle.graph_model.specs.declared.batches.Outcome.TheVariants.{Absent};
 ghost use Rattle.batch_pages.specs.Batches.{batch_value};
@@ -82,7 +82,7 @@ pub fn apply<R: Threads + Sync, G: Gate + Sync>(
     let _within = (names.len(), kinds.len());
     let all = work(rt, alloc, gate, version, load)?;
     let edges = edges_after(version.edge_count(), &all.outcomes);
-    let draft = VersionDraft::over(version)?.set_names(names, kinds);
+    let draft = VersionDraft::over_named(version, names, kinds)?;
     let draft = replace_rows(draft, all.rows)?.push_batch(batch)?;
     Ok(Applied {
         version: draft.finish_counted(edges),
@@ -348,41 +348,24 @@ fn edges_after(before: u64, outcomes: &[Outcome]) -> u64
     ensures { (after : ℕ) → after + sum_by taken_away outcomes.now ≡ before + count_by is_inserted outcomes.now
         → result ≡ after % 2 ^ 64 }
 {
-    before
-        .wrapping_add(inserted_in(outcomes) as u64)
-        .wrapping_sub(gone_in(outcomes))
+    let mut edges = before;
+    for outcome in outcomes {
+        edges = edges_then(edges, *outcome);
+    }
+    edges
 }
 
-/// How many operations inserted an edge.
-fn inserted_in(outcomes: &[Outcome]) -> usize
-    ensures { result ≡ count_by is_inserted outcomes.now }
-{
-    outcomes
-        .iter()
-        .filter(|outcome| **outcome == Outcome::Inserted)
-        .count()
-}
-
-/// How many edges an operation with this outcome took away.
-fn gone_by(outcome: Outcome) -> u64
-    ensures { result ≡ taken_away outcome }
+/// How many edges an operation with this outcome leaves of so many, modulo 2^64.
+fn edges_then(before: u64, outcome: Outcome) -> u64
+    ensures left { (result + taken_away outcome) % 2 ^ 64 ≡ (before + (if is_inserted outcome then 1 else 0)) % 2 ^ 64 }
+    ensures fits { result < 2 ^ 64 }
 {
     match outcome {
-        Outcome::Removed => 1,
-        Outcome::Expired(count) => count,
-        _ => 0,
+        Outcome::Inserted => before.wrapping_add(1),
+        Outcome::Removed => before.wrapping_sub(1),
+        Outcome::Expired(count) => before.wrapping_sub(count),
+        Outcome::Updated | Outcome::Absent | Outcome::Overflow => before,
     }
-}
-
-/// How many edges the operations took away, modulo 2^64.
-fn gone_in(outcomes: &[Outcome]) -> u64
-    ensures { result ≡ sum_by taken_away outcomes.now % 2 ^ 64 }
-{
-    let mut gone = 0_u64;
-    for outcome in outcomes {
-        gone = gone.wrapping_add(gone_by(*outcome));
-    }
-    gone
 }
 
 /// The draft with these rows, each in the place of its source's row.

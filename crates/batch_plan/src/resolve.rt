@@ -129,16 +129,6 @@ pub fn ends_of(alloc: Global, names: &mut NameBook, ops: &[NamedOp]) -> Result<E
     Ok(EndsList::Many(list_ends(alloc, names, ops)?))
 }
 
-/// The kind of a number that a book of at most 64 kinds has.
-fn kind_id(kinds: &NameBook, number: u32) -> KindId
-    requires limit { kinds.now.limit ≤ 64 }
-    requires number { number < length kinds.now.names }
-    ensures { result.0 ≡ number }
-{
-    let _count = kinds.len();
-    KindId(number as u8)
-}
-
 /// The number of a kind, which is added.
 fn add_kind(kinds: &mut NameBook, kind: &str) -> Result<Option<KindId>, AddError>
     requires limit { kinds.old.limit ≤ 64 }
@@ -148,7 +138,7 @@ fn add_kind(kinds: &mut NameBook, kind: &str) -> Result<Option<KindId>, AddError
     ensures refused { IfErr result (λ error. IsRefusal error kinds.old (with_name kinds.old.names kind.now)) }
 {
     let number = kinds.add(kind)?;
-    Ok(Some(kind_id(kinds, number)))
+    Ok(Some(KindId(number as u8)))
 }
 
 /// The number of a kind, where it has appeared.
@@ -157,7 +147,7 @@ fn find_kind(kinds: &NameBook, kind: &str) -> Option<KindId>
     ensures { option_map (λ k. k.0) result ≡ known kinds.now.names kind.now }
 {
     let number = kinds.number(kind)?;
-    Some(kind_id(kinds, number))
+    Some(KindId(number as u8))
 }
 
 /// The number of an operation's kind, which is added first, where the operation makes kinds.

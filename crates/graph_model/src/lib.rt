@@ -28,4 +28,4 @@ pub use laws::{
 pub use lists::List;
 pub use requests::{AskError, NamedFilter, Reply, Request};
 pub use tables::{law_one_table, law_some_table};
-pub use texts::{Name, is_kind_name, is_name};
+pub use texts::{Name, is_kind_name, is_kind_name_bytes, is_name, is_name_bytes};

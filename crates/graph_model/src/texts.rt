@@ -92,15 +92,32 @@ impl Clone for Name {
 pub fn is_name(text: &str) -> bool
     ensures { result ≡ valid.is_name text.now }
 {
-    let bytes = text.as_bytes();
-    !bytes.is_empty() && bytes.len() <= 64 && all_printable(bytes)
+    is_name_bytes(text.as_bytes())
 }
 
 /// Whether a text is a kind's name: a name other than `*`, which stands for any kind. It takes no memory.
 pub fn is_kind_name(text: &str) -> bool
     ensures { result ≡ valid.is_kind_name text.now }
 {
-    is_name(text) && text.as_bytes() != b"*".as_slice()
+    is_kind_name_bytes(text.as_bytes())
+}
+
+/// Whether bytes are those of a vertex's name. They are ASCII then, and so a text. It takes no memory.
+///
+/// ```
+/// let name = if is_name_bytes(field) { str::from_utf8(field).ok() } else { None };
+/// ```
+pub fn is_name_bytes(bytes: &[u8]) -> bool
+    ensures { result ≡ valid.is_name bytes.now }
+{
+    !bytes.is_empty() && bytes.len() <= 64 && all_printable(bytes)
+}
+
+/// Whether bytes are those of a kind's name. They are ASCII then, and so a text. It takes no memory.
+pub fn is_kind_name_bytes(bytes: &[u8]) -> bool
+    ensures { result ≡ valid.is_kind_name bytes.now }
+{
+    is_name_bytes(bytes) && bytes != b"*".as_slice()
 }
 
 /// Whether each byte is from `!` to `~`.

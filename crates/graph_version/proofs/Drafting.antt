@@ -4,22 +4,18 @@ use Rattle.graph_model.specs.{Graph.Graph, declared.batches.NamedOp.NamedOp}
 use Rattle.edge_block.specs.Slots.{BlockView}
 use Rattle.vertex_names.specs.Book.{Book}
 use Rattle.graph_version.specs.Kept.{version_of, edge_total, IsSummary}
-use Rattle.graph_version.specs.Drafts.{DraftView, drafted_over, IsWhole}
+use Rattle.graph_version.specs.Drafts.{DraftView, IsWhole}
 use Rattle.graph_version.proofs.Few.{few_total}
 
 -- the draft of these parts
 abbrev pub draft_of : Book → Book → Graph → List (List NamedOp) → List (List BlockView) → DraftView
 draft_of names kinds opening batches rows = record { names = names; kinds = kinds; version = version_of opening batches rows }
 
-pub drafted : (names kinds old_names old_kinds : Book) (opening old_opening : Graph)
-    (batches old_batches : List (List NamedOp)) (rows old_rows : List (List BlockView)) (edges : ℕ)
-    → IsSummary old_names old_kinds edges (version_of old_opening old_batches old_rows) → names ≡ old_names → kinds ≡ old_kinds
-    → opening ≡ old_opening → batches ≡ old_batches → rows ≡ old_rows
-    → draft_of names kinds opening batches rows ≡ drafted_over (version_of old_opening old_batches old_rows)
-drafted names kinds old_names old_kinds opening old_opening batches old_batches rows old_rows edges is n k o b r =
-    let names_are = is.names_are in
-    let kinds_are = is.kinds_are in
-    rw (n, k, o, b, r, names_are, kinds_are) refl
+-- a draft of these books, and of what else a version has
+pub drafted : (names kinds : Book) (opening old_opening : Graph) (batches old_batches : List (List NamedOp))
+    (rows old_rows : List (List BlockView)) → opening ≡ old_opening → batches ≡ old_batches → rows ≡ old_rows
+    → draft_of names kinds opening batches rows ≡ draft_of names kinds old_opening old_batches old_rows
+drafted names kinds opening old_opening batches old_batches rows old_rows o b r = rw (o, b, r) refl
 
 -- the count of a version's edges, where it is known modulo 2^64
 pub whole_kept : (names kinds : Book) (opening : Graph) (batches : List (List NamedOp)) (rows : List (List BlockView))

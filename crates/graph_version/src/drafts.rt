@@ -54,9 +54,20 @@ impl VersionDraft {
     pub fn over(version: &Version) -> Result<VersionDraft, AllocError>
         ensures { IfOk result (λ draft. draft ≡ drafted_over version.now) }
     {
+        VersionDraft::over_named(version, version.names.share()?, version.kinds.share()?)
+    }
+
+    /// As `over` and then `set_names`, for who has the books at hand: those of the version aren't shared.
+    pub fn over_named(
+        version: &Version,
+        names: NameBook,
+        kinds: NameBook,
+    ) -> Result<VersionDraft, AllocError>
+        ensures { IfOk result (λ draft. draft ≡ record (drafted_over version.now) { names = names; kinds = kinds }) }
+    {
         Ok(VersionDraft {
-            names: version.names.share()?,
-            kinds: version.kinds.share()?,
+            names,
+            kinds,
             batches: version.batches.share()?,
             rows: version.rows.share()?,
             opening: version.opening.share()?,

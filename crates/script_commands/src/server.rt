@@ -180,8 +180,7 @@ impl Server {
         ensures kept { IsServer self.new }
         ensures obeys { IfOk result (λ response. Obeys Command.Commit self.old response (string_bytes lines.new) self.new) }
     {
-        // A desk's contract says with its journal that the used blocks are those of its last version.
-        let _journal = self.desk.journal();
+        self.desk.facts();
         // A feed's batches are mostly of one length, so that the next one need not grow to it.
         let next = Batch::with_room(self.alloc, self.pending.len());
         let batch = mem::replace(&mut self.pending, next);
@@ -205,8 +204,7 @@ impl Server {
         ensures obeys { IfOk result (λ response. Obeys (Command.OpenSlot slot) self.old response
             (string_bytes lines.new) self.new) }
     {
-        // A desk's contract says with its journal that the last version's blocks are among the store's.
-        let _journal = self.desk.journal();
+        self.desk.facts();
         match self.slots.session(slot) {
             Err(Word::NotOpen) => {
                 open_line(lines, slot, self.desk.last().number())?;
@@ -289,8 +287,7 @@ impl Server {
         };
         let (desk, board, seats) = parts_from(rt, self.alloc, self.config, session)?;
         let slots = Slots::new(self.alloc, board, seats)?;
-        // A desk's contract says with its journal that the used blocks are those of its last version.
-        let _journal = desk.journal();
+        desk.facts();
         rebase_line(lines, desk.stat())?;
         self.slots = slots;
         let old = mem::replace(&mut self.desk, desk);

@@ -267,6 +267,17 @@ impl Desk {
         }
     }
 
+    /// What is true of every desk, for a proof that cites it: its journal replays legally, to the last version's batches and to
+    /// what each block is. So no block was born or retired with a number above the last version's, and the used blocks are those
+    /// of the last version. It does nothing.
+    pub fn facts(&self)
+        ensures replays { IsDesk self.now.desk }
+        ensures dated { AreDated self.now.desk.opened (length self.now.desk.last.batches) self.now.desk.pool }
+        ensures used { count_by is_used self.now.desk.pool ≡ block_count self.now.desk.last }
+    {
+        let _ = &self.journal;
+    }
+
     /// What the desk did, in order. It replays legally, to the last version's batches and to what each block is. So no block
     /// was born or retired with a number above the last version's, and the used blocks are those of the last version.
     pub fn journal(&self) -> &[JournalEntry]
@@ -275,6 +286,7 @@ impl Desk {
         ensures dated { AreDated self.now.desk.opened (length self.now.desk.last.batches) self.now.desk.pool }
         ensures used { count_by is_in_use self.now.desk.pool ≡ block_count self.now.desk.last }
     {
+        self.facts();
         self.journal.as_slice()
     }
 

@@ -159,10 +159,7 @@ fn kind_number(version: &Version, name: &Name) -> Option<KindId>
     ensures { SomeIff (option_map (λ kind. kind.0) result) (is_listed (content version.now).kinds name.now ≡ true)
         (number_of (content version.now).kinds name.now) }
 {
-    let kinds = version.kinds();
-    // A book's contract says with its length that its names are within the limit.
-    let _count = kinds.len();
-    let number = kinds.number(name.as_str())?;
+    let number = version.kinds().number(name.as_str())?;
     Some(KindId(number as u8))
 }
 

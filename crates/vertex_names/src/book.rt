@@ -113,9 +113,10 @@ impl NameBook {
         self.len() == 0
     }
 
-    /// The number of a name that has appeared.
+    /// The number of a name that has appeared. Like each number of a name, it is below the limit.
     pub fn number(&self, name: &str) -> Option<u32>
-        ensures { SomeIff result (IsTrue (is_listed self.now.names name.now)) (number_of self.now.names name.now) }
+        ensures number { SomeIff result (IsTrue (is_listed self.now.names name.now)) (number_of self.now.names name.now) }
+        ensures within { length self.now.names ≤ self.now.limit }
     {
         let short = short_hash(name);
         if let Some(number) = self.cached(short, name) {
@@ -153,6 +154,7 @@ impl NameBook {
     fn cached(&self, short: u64, name: &str) -> Option<u32>
         ensures listed { IfSome result (λ number. IsTrue (is_listed self.now.names name.now)) }
         ensures number { IfSome result (λ number. number ≡ number_of self.now.names name.now) }
+        ensures within { length self.now.names ≤ self.now.limit }
     {
         let number = self.cache.as_ref()?.get(short)?;
         self.if_named(number, name)

@@ -2,7 +2,7 @@
 
 use super::checks::same;
 use super::parts::name;
-use graph_model::{is_kind_name, is_name};
+use graph_model::{is_kind_name, is_kind_name_bytes, is_name, is_name_bytes};
 use std::process::Abort;
 use std::test::Fail;
 
@@ -23,10 +23,13 @@ tab\t
 \u{7f}
 \u{e9}";
 
-/// Whether each line is a name, and whether it is that of a kind.
+/// Whether each line is a name, and whether it is that of a kind, as a text and as bytes.
 fn check_texts(rt: &impl Abort, lines: &str, are_names: bool, are_kinds: bool) {
     for text in lines.lines() {
         let told = (is_name(text), is_kind_name(text));
+        same(rt, (text, told), (text, (are_names, are_kinds)));
+        let bytes = text.as_bytes();
+        let told = (is_name_bytes(bytes), is_kind_name_bytes(bytes));
         same(rt, (text, told), (text, (are_names, are_kinds)));
     }
 }

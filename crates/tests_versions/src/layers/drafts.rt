@@ -58,11 +58,20 @@ fn one_row(alloc: Global, number: u32) -> Result<Vec<Arc<Block>>, AllocError> {
     Ok(row)
 }
 
+// The draft over a version, with the version's books of names set anew.
+fn with_its_names(before: &Version) -> Result<VersionDraft, AllocError>
+    ensures { IfOk result (λ draft. draft ≡ drafted_over before.now) }
+{
+    let names = before.names().share()?;
+    let kinds = before.kinds().share()?;
+    Ok(VersionDraft::over(before)?.set_names(names, kinds))
+}
+
 // The draft over a version in which this is the row of the first source.
 fn with_row(before: &Version, row: Vec<Arc<Block>>) -> Result<VersionDraft, AllocError>
     ensures { IfOk result (λ put. ReplacesRow 0 (block_values row.items) (drafted_over before.now) put) }
 {
-    VersionDraft::over(before)?.replace_row(VertexId(0), row)
+    with_its_names(before)?.replace_row(VertexId(0), row)
 }
 
 // The draft without that row.

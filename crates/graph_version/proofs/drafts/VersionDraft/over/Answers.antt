@@ -1,8 +1,11 @@
-use Rattle.std.proofs.Common.{ap}
-use Rattle.graph_model.specs.Graph.{graph_of}
-use Rattle.graph_version.proofs.Drafting.{drafted}
+use Rattle.std.proofs.Common.{◌∙◌, ap}
+use Rattle.graph_version.specs.{Versions.VersionView, Versions.content, Kept.vertex_book, Kept.kind_book}
 use Rattle.graph_version.proofs.drafts.VersionDraft.over.Goals as goal
 
 pub returns : goal.returns
-returns c = rw (← c.version.view_is) (drafted _ _ _ _ _ _ _ _ _ _ _ c.version.invariant c.in_ok-share.ensures
-    c.in_ok-share-2.ensures (ap graph_of c.in_ok-share-5.ensures) c.in_ok-share-3.ensures c.in_ok-share-4.ensures)
+returns c =
+    let names = c.in_ok-share.ensures ∙ c.version.invariant.names_are
+    ∙ ap (λ (v : VersionView). vertex_book (content v).names) c.version.view_is in
+    let kinds = c.in_ok-share-2.ensures ∙ c.version.invariant.kinds_are
+    ∙ ap (λ (v : VersionView). kind_book (content v).kinds) c.version.view_is in
+    rw (names, kinds) at c.over_named.ensures

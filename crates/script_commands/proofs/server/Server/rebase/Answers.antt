@@ -30,13 +30,13 @@ returns-clause-obeys g c = λ s shows.
     let seats : length c.in_ok-desk.seats.items ≡ length s.held =
     c.in_ok-desk.ensures.seats ∙ (sym c.requires.server.seats ∙ ap length shows.held) in (
       rebase_done s v c.in_ok-desk.desk.desk c.args.slot c.stat.result.number c.stat.result.names c.stat.result.edges
-          c.stat.result.used _ there c.in_ok-desk.ensures.rebased c.journal-journal.ensures.replays c.journal-journal.ensures.used
+          c.stat.result.used _ there c.in_ok-desk.ensures.rebased c.facts.ensures.replays c.facts.ensures.used
           same c.stat.ensures.number c.stat.ensures.names c.stat.ensures.edges c.stat.ensures.used
           (rw c.requires.empty at c.in_ok-rebase_line.ensures),
       rw (there, c.replace-old.ensures.after) (record {
         pending = shows.pending;
         desk = shows_rebased s v c.args.self.now.config.blocks c.in_ok-desk.desk.desk c.in_ok-desk.ensures.rebased
-            c.in_ok-desk.ensures.desk c.journal-journal.ensures.replays c.journal-journal.ensures.used same
+            c.in_ok-desk.ensures.desk c.facts.ensures.replays c.facts.ensures.used same
             (sym c.requires.server.blocks ∙ shows.desk.blocks);
         held = c.in_ok-slots.ensures.none ∙ ap (λ n. replicate n None) seats;
       }),

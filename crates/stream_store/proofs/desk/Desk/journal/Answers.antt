@@ -1,20 +1,5 @@
-use Rattle.std.proofs.Common.{subst, rules}
-use Rattle.store_steps.specs.Desks.{IsDesk}
-use Rattle.store_steps.proofs.Dated.{desk_dated}
-use Rattle.stream_store.specs.Kept.{DeskState}
-use Rattle.stream_store.proofs.UsedBlocks.{used_blocks}
+use Rattle.std.proofs.Common.{rules}
 use Rattle.stream_store.proofs.desk.Desk.journal.Goals as goal
 
 pub returns-clause-entries : goal.returns-clause-entries
 returns-clause-entries c = search rules
-
-pub returns-clause-replays : goal.returns-clause-replays
-returns-clause-replays c = subst (λ (s : DeskState). IsDesk s.desk) c.self.view_is c.self.invariant.desk
-
-pub returns-clause-dated : goal.returns-clause-dated
-returns-clause-dated c =
-    desk_dated c.args.self.now.desk (subst (λ (s : DeskState). IsDesk s.desk) c.self.view_is c.self.invariant.desk)
-
-pub returns-clause-used : goal.returns-clause-used
-returns-clause-used c =
-    used_blocks c.args.self.now.desk (subst (λ (s : DeskState). IsDesk s.desk) c.self.view_is c.self.invariant.desk)
