@@ -18,6 +18,7 @@ pub trait Gate {
 }
 
 /// The gate that does nothing.
+#[derive(Clone, Copy, Debug, Default)]
 pub struct PassAll;
 
 impl Gate for PassAll {

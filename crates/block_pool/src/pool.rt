@@ -67,6 +67,17 @@ pub enum GrantError {
     OutOfMemory,
 }
 
+impl From<AllocError> for GrantError {
+    ghost use Rattle.std.specs.Prelude.{◌≡◌};
+    ghost use Rattle.block_pool.specs.declared.pool.GrantError.TheVariants.{OutOfMemory};
+
+    ghost from_gives = { λ _ e. e ≡ OutOfMemory };
+
+    fn from(_error: AllocError) -> GrantError {
+        GrantError::OutOfMemory
+    }
+}
+
 impl Pool {
     /// A pool of so many blocks, 16 to 65,536, all free. It takes all the memory that the other calls need, but for
     /// the two lists of a grant and the blocks that were given up; beside each block's body some 40 bytes, 4 of them
@@ -131,9 +142,7 @@ impl Pool {
                 free,
             });
         }
-        let Ok(grant) = gather(self.alloc, &self.numbers, &mut self.bodies, count as usize) else {
-            return Err(GrantError::OutOfMemory);
-        };
+        let grant = gather(self.alloc, &self.numbers, &mut self.bodies, count as usize)?;
         self.numbers.use_last(count as usize);
         Ok(grant)
     }

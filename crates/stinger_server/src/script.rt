@@ -18,7 +18,7 @@ use crate::sink::{Sink, Unwritten};
 use feed_csv::{Command, Feed, FeedWord};
 use script_commands::{Response, Server, Stop};
 use script_lines::Word;
-use std::alloc::Global;
+use std::alloc::{AllocError, Global};
 use std::io::{Read, Write};
 use std::sync::Wait;
 use std::thread::Threads;
@@ -340,6 +340,17 @@ fn turn<P: Threads + Wait + Sync, R: Read, W: Write>(
                 Err(_) => Err(ServeFault::Write),
             },
         },
+    }
+}
+
+impl From<AllocError> for ServeFault {
+    ghost use Rattle.std.specs.Prelude.{◌≡◌};
+    ghost use Rattle.stinger_server.specs.declared.script.ServeFault.TheVariants.{Memory};
+
+    ghost from_gives = { λ _ fault. fault ≡ Memory };
+
+    fn from(_error: AllocError) -> ServeFault {
+        ServeFault::Memory
     }
 }
 

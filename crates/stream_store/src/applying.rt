@@ -59,9 +59,7 @@ pub(crate) fn plan_next(
     if last.number() >= 65_536 {
         return Err(ApplyError::BatchLimit);
     }
-    let Ok(old) = old_rows(alloc, last, batch) else {
-        return Err(ApplyError::OutOfMemory);
-    };
+    let old = old_rows(alloc, last, batch)?;
     let workers = workers_for(workers, batch.len(), old.len());
     match plan(alloc, last, batch, &old, workers) {
         Ok(plan) => Ok(plan),
@@ -155,9 +153,7 @@ pub(crate) fn prepare<R: Threads + Sync, G: Gate + Sync>(
         (numbers_of blocks.items) }
     ensures { IfOk result (IsPrepared last.now batch (numbers_of blocks.items)) }
 {
-    let Ok(batch) = Arc::new(alloc, batch) else {
-        return Err(AllocError);
-    };
+    let batch = Arc::new(alloc, batch)?;
     let shared = Arc::try_clone(&batch)?;
     let applied = batch_apply::apply(rt, alloc, gate, last, plan, shared, blocks)?;
     let Applied {
@@ -168,9 +164,7 @@ pub(crate) fn prepare<R: Threads + Sync, G: Gate + Sync>(
         unused,
     } = applied;
     let dropped_numbers = List::of(numbers_in(alloc, dropped.as_slice())?);
-    let Ok(version) = Arc::new(alloc, version) else {
-        return Err(AllocError);
-    };
+    let version = Arc::new(alloc, version)?;
     Ok(Prepared {
         version,
         outcomes: List::of(outcomes),

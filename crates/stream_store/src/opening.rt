@@ -34,6 +34,17 @@ pub enum OpenError {
     OutOfMemory,
 }
 
+impl From<AllocError> for OpenError {
+    ghost use Rattle.std.specs.Prelude.{◌≡◌};
+    ghost use Rattle.stream_store.specs.declared.opening.OpenError.TheVariants.{OutOfMemory};
+
+    ghost from_gives = { λ _ e. e ≡ OutOfMemory };
+
+    fn from(_error: AllocError) -> OpenError {
+        OpenError::OutOfMemory
+    }
+}
+
 /// A desk, a board and the seats, numbered from 0, all of one opening: version 0, an empty journal, all blocks free, no
 /// pins, and seats that have seen version 0. It waits for nobody.
 pub fn open_parts<R: Wait>(
@@ -48,10 +59,7 @@ pub fn open_parts<R: Wait>(
     ensures numbers { IfOk result (λ r. map (λ (s : SeatView). s.number) r.2.items ≡ range_with_len 0 (length r.2.items)) }
     ensures refused { IfErr result (RefusesOpening 0 config.blocks) }
 {
-    let Ok(zero) = Zero::blank(alloc, config.blocks()) else {
-        return Err(OpenError::OutOfMemory);
-    };
-    open_over(rt, alloc, config, zero)
+    open_over(rt, alloc, config, Zero::blank(alloc, config.blocks())?)
 }
 
 /// The same with what a version holds, for which it copies the version's blocks: version 0 begins with the version's
@@ -80,10 +88,7 @@ pub fn open_parts_from<R: Wait>(
     if needed > free as usize {
         return Err(OpenError::PoolEmpty { needed, free });
     }
-    let Ok(zero) = Zero::over(alloc, free, version) else {
-        return Err(OpenError::OutOfMemory);
-    };
-    open_over(rt, alloc, config, zero)
+    open_over(rt, alloc, config, Zero::over(alloc, free, version)?)
 }
 
 /// The parts of a store over this version 0.
@@ -105,17 +110,13 @@ fn open_over<R: Wait>(
     ensures numbers { IfOk result (λ r. map (λ (s : SeatView). s.number) r.2.items ≡ range_with_len 0 (length r.2.items)) }
     ensures refused { IfErr result (λ e. (needed : ℕ) → RefusesOpening needed config.blocks e) }
 {
-    let Ok(shown) = Arc::try_clone(&zero.version) else {
-        return Err(OpenError::OutOfMemory);
-    };
+    let shown = Arc::try_clone(&zero.version)?;
     let (writer, readers) = match shelf(rt, alloc, shown, config.seats()) {
         Ok(parts) => parts,
         Err(ShelfError::NoReader) => return Err(OpenError::NoReader),
         Err(ShelfError::OutOfMemory) => return Err(OpenError::OutOfMemory),
     };
-    let Ok(seats) = seats_of(alloc, readers) else {
-        return Err(OpenError::OutOfMemory);
-    };
+    let seats = seats_of(alloc, readers)?;
     Ok((
         Desk::opened(alloc, config, zero, writer),
         Board::new(),

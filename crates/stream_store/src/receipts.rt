@@ -1,6 +1,7 @@
 //! What an accepted batch is answered with, and why one is refused.
 
 use graph_model::{List, Outcome};
+use std::alloc::AllocError;
 use thiserror::Error;
 use version_shelf::Told;
 
@@ -31,4 +32,15 @@ pub enum ApplyError {
     PoolEmpty { needed: u32, free: u32 },
     #[error("out of memory")]
     OutOfMemory,
+}
+
+impl From<AllocError> for ApplyError {
+    ghost use Rattle.std.specs.Prelude.{◌≡◌};
+    ghost use Rattle.stream_store.specs.declared.receipts.ApplyError.TheVariants.{OutOfMemory};
+
+    ghost from_gives = { λ _ e. e ≡ OutOfMemory };
+
+    fn from(_error: AllocError) -> ApplyError {
+        ApplyError::OutOfMemory
+    }
 }

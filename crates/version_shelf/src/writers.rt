@@ -30,6 +30,17 @@ pub enum ShelfError {
     OutOfMemory,
 }
 
+impl From<AllocError> for ShelfError {
+    ghost use Rattle.std.specs.Prelude.{◌≡◌};
+    ghost use Rattle.version_shelf.specs.declared.writers.ShelfError.TheVariants.{OutOfMemory};
+
+    ghost from_gives = { λ _ e. e ≡ OutOfMemory };
+
+    fn from(_error: AllocError) -> ShelfError {
+        ShelfError::OutOfMemory
+    }
+}
+
 /// The writer of a shelf. Contracts see it as the posted batches, and those of the version that readers find.
 pub struct ShelfWriter {
     place: WriterPlace,
@@ -129,18 +140,10 @@ fn opened<R: Wait>(
     requires { (0 < readers) × (readers ≤ 16) }
     ensures { IfOk result (λ w. (w.desk.shown.value ≡ told.now) × (view w.desk.place ≡ Some w.desk.shown.value)) }
 {
-    let Ok(first) = told.share() else {
-        return Err(ShelfError::OutOfMemory);
-    };
-    let Ok(spare) = told.share() else {
-        return Err(ShelfError::OutOfMemory);
-    };
-    let Ok(second) = told.share() else {
-        return Err(ShelfError::OutOfMemory);
-    };
-    let Ok(mut place) = Writer::new(alloc, first, spare, readers) else {
-        return Err(ShelfError::OutOfMemory);
-    };
+    let first = told.share()?;
+    let spare = told.share()?;
+    let second = told.share()?;
+    let mut place = Writer::new(alloc, first, spare, readers)?;
     show(rt, &mut place, second);
     Ok(place)
 }
@@ -249,7 +252,7 @@ impl ShelfWriter {
             .reader()
             .map_err(|_| ShelfError::NoReader)?;
         place.learn::<Notes>(self.place.tell::<Notes>());
-        let newest = told.share().map_err(|_| ShelfError::OutOfMemory)?;
+        let newest = told.share()?;
         readers
             .push(ShelfReader {
                 alloc,

@@ -1,8 +1,7 @@
 // Tests of names.
 
 use super::checks::same;
-use super::parts::name;
-use graph_model::{is_kind_name, is_kind_name_bytes, is_name, is_name_bytes};
+use graph_model::{Name, is_kind_name, is_kind_name_bytes, is_name, is_name_bytes};
 use std::process::Abort;
 use std::test::Fail;
 
@@ -43,6 +42,8 @@ fn names_are_short_printable_texts(rt: HostRuntime) {
 
 #[test]
 fn a_name_gives_back_its_text(rt: HostRuntime) -> Result<(), Fail> {
-    same(&rt, name(rt.alloc(), "ann")?.into_string().as_str(), "ann");
+    let name = Name::from_str(rt.alloc(), "ann")?;
+    same(&rt, name.into_string().as_str(), "ann");
+    same(&rt, Name::from_str(rt.alloc(), "")?.as_str(), "");
     Ok(())
 }

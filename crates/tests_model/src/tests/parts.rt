@@ -4,7 +4,7 @@ ghost use Rattle.std.specs.Prelude.{◌≡◌, ◌++◌, ◌∷◌, [], IfOk, On
 ghost use Rattle.feed_csv.specs.Commands.{HasValidOp};
 
 use feed_csv::{Command, Feed, FeedFault, FeedWord};
-use graph_model::{Batch, Edge, KindId, List, Name, NamedOp, PushError, Request, VertexId};
+use graph_model::{Batch, Edge, KindId, List, NamedOp, PushError, Request, VertexId};
 use std::alloc::{AllocError, Global};
 use std::num::ParseIntError;
 
@@ -46,11 +46,6 @@ impl From<FeedFault> for LineError {
             _ => LineError::Wrong,
         }
     }
-}
-
-/// The name of this text, whether it is one by the rules or not.
-pub(super) fn name(alloc: Global, text: &str) -> Result<Name, AllocError> {
-    Ok(Name::of(String::from_str(alloc, text)?))
 }
 
 /// The item at the end of the list.
@@ -117,14 +112,10 @@ pub(super) fn edges(alloc: Global, text: &str) -> Result<List<Edge>, LineError> 
 }
 
 // `kind,source,target`
-fn three_names(alloc: Global, text: &str) -> Result<(Name, Name, Name), LineError> {
+fn three_names(text: &str) -> Result<(&str, &str, &str), LineError> {
     let (kind, ends) = text.split_once(',').ok_or(LineError::Wrong)?;
     let (source, target) = ends.split_once(',').ok_or(LineError::Wrong)?;
-    Ok((
-        name(alloc, kind)?,
-        name(alloc, source)?,
-        name(alloc, target)?,
-    ))
+    Ok((kind, source, target))
 }
 
 // Of an operation on an edge the names, the weight or amount, and the time; a removal has none of these two.
@@ -139,32 +130,17 @@ fn with_numbers<'a>(letter: &str, text: &'a str) -> Result<(&'a str, i64, u64), 
 
 // The operation of a letter on an edge.
 fn op_on(
+    alloc: Global,
     letter: &str,
-    ends: (Name, Name, Name),
+    ends: (&str, &str, &str),
     number: i64,
     time: u64,
 ) -> Result<NamedOp, LineError> {
     let (kind, source, target) = ends;
     match letter {
-        "i" => Ok(NamedOp::Insert {
-            kind,
-            source,
-            target,
-            weight: number,
-            time,
-        }),
-        "a" => Ok(NamedOp::Incr {
-            kind,
-            source,
-            target,
-            amount: number,
-            time,
-        }),
-        "r" => Ok(NamedOp::Remove {
-            kind,
-            source,
-            target,
-        }),
+        "i" => Ok(NamedOp::insert(alloc, kind, source, target, number, time)?),
+        "a" => Ok(NamedOp::incr(alloc, kind, source, target, number, time)?),
+        "r" => Ok(NamedOp::remove(alloc, kind, source, target)?),
         _ => Err(LineError::Wrong),
     }
 }
@@ -174,11 +150,10 @@ fn op_on(
 fn op(alloc: Global, text: &str) -> Result<NamedOp, LineError> {
     let (letter, rest) = text.split_once(',').ok_or(LineError::Wrong)?;
     if letter == "x" {
-        let time = rest.parse()?;
-        return Ok(NamedOp::Expire { time });
+        return Ok(NamedOp::expire(rest.parse()?));
     }
     let (ends, number, time) = with_numbers(letter, rest)?;
-    op_on(letter, three_names(alloc, ends)?, number, time)
+    op_on(alloc, letter, three_names(ends)?, number, time)
 }
 
 /// The operation of a text at the end of the batch.

@@ -1,6 +1,5 @@
 // What sessions answer.
 
-use super::batches::{ends_of, name};
 use super::texts::{push_item, push_numbers, split_word};
 use graph_model::{AskError, Degree, Name, NamedFilter, Reply, Request};
 use std::alloc::{AllocError, Global};
@@ -9,38 +8,15 @@ use stream_store::Session;
 /// Weight, first and recent time of the edge from `a` to `b`, where it is there.
 pub(super) type Edge = Option<(i64, u64, u64)>;
 
-fn edge_request(alloc: Global) -> Result<Request, AllocError> {
-    let kind = name(alloc, "k")?;
-    match ends_of(alloc, "a", "b") {
-        Ok((source, target)) => Ok(Request::OneEdge {
-            kind,
-            source,
-            target,
-        }),
-        Err(error) => Err(error),
-    }
-}
-
-fn any() -> NamedFilter {
-    NamedFilter {
-        kind: None,
-        lo: 0,
-        hi: 99,
-    }
-}
-
 /// The request of `levels SOURCE`, `labels`, `cores`, `degrees`, or else of the edge from `a` to `b`.
 fn request_of(alloc: Global, text: &str) -> Result<Request, AllocError> {
     let (word, source) = split_word(text);
     match word {
-        "levels" => Ok(Request::Levels {
-            source: name(alloc, source)?,
-            filter: any(),
-        }),
-        "labels" => Ok(Request::Labels { filter: any() }),
-        "cores" => Ok(Request::Cores { filter: any() }),
-        "degrees" => Ok(Request::Degrees { filter: any() }),
-        _ => edge_request(alloc),
+        "levels" => Request::levels(alloc, source, NamedFilter::all()),
+        "labels" => Ok(Request::labels(NamedFilter::all())),
+        "cores" => Ok(Request::cores(NamedFilter::all())),
+        "degrees" => Ok(Request::degrees(NamedFilter::all())),
+        _ => Request::one_edge(alloc, "k", "a", "b"),
     }
 }
 
@@ -119,7 +95,7 @@ fn edge_of(reply: &Reply) -> Option<Edge> {
 
 /// What the session answers of the edge from `a` to `b`; nothing where it refuses.
 pub(super) fn edge_told(alloc: Global, session: &Session) -> Option<Edge> {
-    let request = edge_request(alloc).ok()?;
+    let request = Request::one_edge(alloc, "k", "a", "b").ok()?;
     match session.ask(&request) {
         Ok(reply) => edge_of(&reply),
         Err(_) => None,

@@ -62,55 +62,13 @@ fn op_of(text: &str) -> Op<'_> {
     (word, source, target, weight, time.parse().unwrap_or(0))
 }
 
-pub(super) fn name(alloc: Global, text: &str) -> Result<Name, AllocError> {
-    Ok(Name::of(String::from_str(alloc, text)?))
-}
-
-/// The names of a source and a target.
-pub(super) fn ends_of(
-    alloc: Global,
-    source: &str,
-    target: &str,
-) -> Result<(Name, Name), AllocError> {
-    let source = name(alloc, source)?;
-    match name(alloc, target) {
-        Ok(target) => Ok((source, target)),
-        Err(error) => Err(error),
-    }
-}
-
-fn named_operation(op: Op, kind: Name, source: Name, target: Name) -> NamedOp {
-    match op.0 {
-        "i" => NamedOp::Insert {
-            kind,
-            source,
-            target,
-            weight: op.3,
-            time: op.4,
-        },
-        "a" => NamedOp::Incr {
-            kind,
-            source,
-            target,
-            amount: op.3,
-            time: op.4,
-        },
-        _ => NamedOp::Remove {
-            kind,
-            source,
-            target,
-        },
-    }
-}
-
 fn operation(alloc: Global, op: Op) -> Result<NamedOp, AllocError> {
-    if op.0 == "x" {
-        return Ok(NamedOp::Expire { time: op.4 });
-    }
-    let kind = name(alloc, "k")?;
-    match ends_of(alloc, op.1, op.2) {
-        Ok((source, target)) => Ok(named_operation(op, kind, source, target)),
-        Err(error) => Err(error),
+    let (word, source, target, weight, time) = op;
+    match word {
+        "i" => NamedOp::insert(alloc, "k", source, target, weight, time),
+        "a" => NamedOp::incr(alloc, "k", source, target, weight, time),
+        "x" => Ok(NamedOp::expire(time)),
+        _ => NamedOp::remove(alloc, "k", source, target),
     }
 }
 

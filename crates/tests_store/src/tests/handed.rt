@@ -38,7 +38,7 @@ pub(super) fn handed_of<J: Naming, R: Threads + Wait + Sync>(
     store: &Store<J>,
     batch: Result<Batch, AllocError>,
 ) -> Option<Handed<J>> {
-    match apply_to(rt, store, &PassAll, batch) {
+    match apply_to(rt, store, &PassAll::default(), batch) {
         Ok(receipt) => Some(Handed {
             receipt,
             of: PhantomData,

@@ -11,7 +11,7 @@ pub apply-requires-clause-plan : goal.apply-requires-clause-plan
 apply-requires-clause-plan g c κs within =
     let a = c.requires.admitted.1 in
     let workers = workers_for c.requires.admitted.0 (length c.args.batch + length a.old) in
-    let same : arc_value {X = Batch} c.in_ok-shared.shared ≡ c.args.batch = c.in_ok-shared.ensures ∙ c.in-Ok.ensures.ok in (
+    let same : arc_value {X = Batch} c.in_ok-shared.shared ≡ c.args.batch = c.in_ok-shared.ensures ∙ c.in_ok-batch.ensures.ok in (
       workers,
       a.some,
       subst (λ (ops : List NamedOp). IsPlan workers ops (content c.args.last.now) (row_of c.args.last.now.rows) c.args.plan)

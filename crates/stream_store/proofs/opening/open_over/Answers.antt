@@ -7,11 +7,11 @@ use Rattle.stream_store.proofs.opening.open_over.Goals as goal
 
 pub returns-clause-seats : goal.returns-clause-seats
 returns-clause-seats g c =
-    let same : map (λ (s : SeatView). s.seen) c.in-Ok-seats_of.seats.items ≡ c.in-Ok-shelf.parts.1.items =
-    c.in-Ok-seats_of.ensures.seen in
-    let count : length c.in-Ok-shelf.parts.1.items ≡ c.args.config.seats = omega (arith, c.in-Ok-shelf.ensures.count) in (
-      sym (length-map c.in-Ok-seats_of.seats.items (λ (s : SeatView). s.seen)) ∙ ap length same ∙ count,
-      subst (λ (v : VersionView). All (HasSeen c.opened.result.book v) c.in-Ok-seats_of.seats.items) c.in-Ok.ensures
-          (new_seats _ _ _ c.in-Ok-seats_of.seats.items c.in-Ok-shelf.parts.1.items same c.in-Ok-shelf.ensures.readers
+    let same : map (λ (s : SeatView). s.seen) c.in_ok-seats.seats.items ≡ c.in-Ok.parts.1.items =
+    c.in_ok-seats.ensures.seen in
+    let count : length c.in-Ok.parts.1.items ≡ c.args.config.seats = omega (arith, c.in-Ok.ensures.count) in (
+      sym (length-map c.in_ok-seats.seats.items (λ (s : SeatView). s.seen)) ∙ ap length same ∙ count,
+      subst (λ (v : VersionView). All (HasSeen c.opened.result.book v) c.in_ok-seats.seats.items) c.in_ok-shown.ensures
+          (new_seats _ _ _ c.in_ok-seats.seats.items c.in-Ok.parts.1.items same c.in-Ok.ensures.readers
           (ap (λ d. d.book) c.opened.ensures)),
     )

@@ -32,9 +32,9 @@ returns-clause-numbers c =
     let free = free_listed n kept in
     let enough : c.args.count ≤ n.free_len =
     omega (arith, free, ap (count_by is_free) c.self.view_is, c.free-free.ensures, c.if-count-free.false) in (
-      subst (AreFree c.args.self.now) (sym c.in-Ok.ensures.numbers)
+      subst (AreFree c.args.self.now) (sym c.in_ok-grant.ensures.numbers)
           (subst (λ pool. AreFree pool (popped n.free.items n.free_len c.args.count)) c.self.view_is
           (popped_free (statuses n) n.free_len n.free.items c.args.count kept.free_are
           (omega (arith, kept.free_in, kept.free_room)) enough)),
-      ap length c.in-Ok.ensures.numbers ∙ length-popped n.free.items n.free_len c.args.count,
+      ap length c.in_ok-grant.ensures.numbers ∙ length-popped n.free.items n.free_len c.args.count,
     )

@@ -1,0 +1,185 @@
+// Tests of names, operations and requests that are made of texts.
+
+use super::checks::{refused, same};
+use super::texts::push_shown;
+use graph_model::{Batch, Name, NamedFilter, NamedOp, PushError, Request};
+use std::alloc::{AllocError, Global};
+use std::fmt::Debug;
+use std::process::Abort;
+use std::test::Fail;
+
+// Whether what was made is shown so.
+fn is_shown<T: Debug + Drop>(alloc: Global, made: T, shown: &str) -> Result<bool, AllocError> {
+    let mut text = String::new(alloc);
+    push_shown(&mut text, "", made)?;
+    Ok(text.as_str() == shown)
+}
+
+fn check_shown<T: Debug + Drop>(
+    rt: &impl Abort,
+    alloc: Global,
+    made: T,
+    shown: &str,
+) -> Result<(), AllocError> {
+    same(rt, is_shown(alloc, made, shown)?, true);
+    Ok(())
+}
+
+const INSERT: &str = "Insert { kind: Name { text: \"knows\" }, source: Name { text: \"ann\" }, \
+    target: Name { text: \"bob\" }, weight: -5, time: 10 }";
+
+const INCR: &str = "Incr { kind: Name { text: \"knows\" }, source: Name { text: \"ann\" }, \
+    target: Name { text: \"bob\" }, amount: -5, time: 10 }";
+
+const REMOVE: &str = "Remove { kind: Name { text: \"knows\" }, source: Name { text: \"ann\" }, \
+    target: Name { text: \"bob\" } }";
+
+#[test]
+fn operations_are_made_of_texts(rt: HostRuntime) -> Result<(), Fail> {
+    let alloc = rt.alloc();
+    check_shown(
+        &rt,
+        alloc,
+        NamedOp::insert(alloc, "knows", "ann", "bob", -5, 10)?,
+        INSERT,
+    )?;
+    check_shown(
+        &rt,
+        alloc,
+        NamedOp::incr(alloc, "knows", "ann", "bob", -5, 10)?,
+        INCR,
+    )?;
+    check_shown(
+        &rt,
+        alloc,
+        NamedOp::remove(alloc, "knows", "ann", "bob")?,
+        REMOVE,
+    )?;
+    check_shown(&rt, alloc, NamedOp::expire(10), "Expire { time: 10 }")?;
+    Ok(())
+}
+
+// A batch's refusal of what was made, which it doesn't take.
+fn check_refusal(rt: &impl Abort, alloc: Global, op: NamedOp, refusal: PushError) {
+    same(rt, Batch::new(alloc).push(op), Err(refusal));
+}
+
+// What a batch refuses is made all the same.
+#[test]
+fn a_batch_judges_what_was_made(rt: HostRuntime) -> Result<(), Fail> {
+    let alloc = rt.alloc();
+    check_refusal(
+        &rt,
+        alloc,
+        NamedOp::insert(alloc, "knows", "", "bob", i64::MIN, u64::MAX)?,
+        PushError::BadName,
+    );
+    check_refusal(
+        &rt,
+        alloc,
+        NamedOp::incr(alloc, "knows", "ann", "bob", i64::MAX, u64::MAX)?,
+        PushError::BadWeight,
+    );
+    check_refusal(
+        &rt,
+        alloc,
+        NamedOp::remove(alloc, "*", "ann", "bob")?,
+        PushError::BadName,
+    );
+    check_refusal(&rt, alloc, NamedOp::expire(u64::MAX), PushError::BadTime);
+    Ok(())
+}
+
+const LEVELS: &str = "Levels { source: Name { text: \"ann\" }, \
+    filter: NamedFilter { kind: None, lo: 0, hi: 18446744073709551615 } }";
+
+const LABELS: &str = "Labels { filter: NamedFilter { kind: None, lo: 3, hi: 7 } }";
+
+const CORES: &str = "Cores { filter: NamedFilter { kind: Some(Name { text: \"knows\" }), \
+    lo: 0, hi: 18446744073709551615 } }";
+
+const DEGREES: &str = "Degrees { filter: NamedFilter { kind: Some(Name { text: \"\" }), \
+    lo: 18446744073709551615, hi: 0 } }";
+
+const ONE_EDGE: &str = "OneEdge { kind: Name { text: \"knows\" }, source: Name { text: \"ann\" }, \
+    target: Name { text: \"bob\" } }";
+
+#[test]
+fn requests_are_made_of_texts(rt: HostRuntime) -> Result<(), Fail> {
+    let alloc = rt.alloc();
+    check_shown(
+        &rt,
+        alloc,
+        Request::levels(alloc, "ann", NamedFilter::all())?,
+        LEVELS,
+    )?;
+    check_shown(
+        &rt,
+        alloc,
+        Request::labels(NamedFilter::all().within(3, 7)),
+        LABELS,
+    )?;
+    check_shown(
+        &rt,
+        alloc,
+        Request::cores(NamedFilter::of_kind(alloc, "knows")?),
+        CORES,
+    )?;
+    check_shown(
+        &rt,
+        alloc,
+        Request::degrees(NamedFilter::of_kind(alloc, "")?.within(u64::MAX, 0)),
+        DEGREES,
+    )?;
+    check_shown(
+        &rt,
+        alloc,
+        Request::one_edge(alloc, "knows", "ann", "bob")?,
+        ONE_EDGE,
+    )?;
+    Ok(())
+}
+
+// Whether this adds a weight of 1 at the time 2, from `ann` to `bob`.
+fn is_insertion(op: &NamedOp) -> bool {
+    match op {
+        NamedOp::Insert {
+            source,
+            target,
+            weight: 1,
+            time: 2,
+            ..
+        } => source.as_str() == "ann" && target.as_str() == "bob",
+        _ => false,
+    }
+}
+
+#[test]
+fn refused_growths_make_no_operation(rt: HostRuntime) -> Result<(), Fail> {
+    match NamedOp::insert(rt.alloc(), "knows", "ann", "bob", 1, 2) {
+        Ok(op) => {
+            same(&rt, is_insertion(&op), true);
+            Ok(())
+        }
+        Err(AllocError) => refused(&rt),
+    }
+}
+
+fn is_question(request: &Request) -> bool {
+    match request {
+        Request::OneEdge { kind, target, .. } => kind.as_str() == "knows"
+            && target.as_str() == "bob",
+        _ => false,
+    }
+}
+
+#[test]
+fn refused_growths_make_no_request(rt: HostRuntime) -> Result<(), Fail> {
+    match Request::one_edge(rt.alloc(), "knows", "ann", "bob") {
+        Ok(request) => {
+            same(&rt, is_question(&request), true);
+            Ok(())
+        }
+        Err(AllocError) => refused(&rt),
+    }
+}
