@@ -76,8 +76,7 @@ impl<J: Naming> NamedDesk<J> {
         ensures opening { IfOk result (λ r. IsOfOpening J.book J.opening r.told) }
         ensures refused { IfErr result (IsRefusalOf J.opening batch) }
     {
-        // A desk's contract says with its journal that its last version is one.
-        let _journal = self.desk.journal();
+        self.desk.facts();
         self.desk.apply(rt, gate, batch)
     }
 

@@ -25,7 +25,7 @@ returns-clause-refused g c =
     (λ e h. record {
       last = old.desk.last;
       free = free;
-      version_is = c.journal-journal.ensures.replays.version;
+      version_is = c.facts.ensures.replays.version;
       opening_is = c.args.self.now.opening_is;
       refuses = h;
     }) c.apply.ensures.refused
