@@ -15,27 +15,19 @@ use Rattle.epoch_blocks.specs.declared.steps.Step.TheVariants.{Done, Skipped}
 
 abbrev pub is_free : Status → Bool
 is_free Free = true
-is_free Fresh = false
-is_free (Used birth) = false
-is_free (Retired birth since) = false
+is_free _ = false
 
 abbrev pub is_fresh : Status → Bool
-is_fresh Free = false
 is_fresh Fresh = true
-is_fresh (Used birth) = false
-is_fresh (Retired birth since) = false
+is_fresh _ = false
 
 abbrev pub is_used : Status → Bool
-is_used Free = false
-is_used Fresh = false
 is_used (Used birth) = true
-is_used (Retired birth since) = false
+is_used _ = false
 
 abbrev pub is_retired : Status → Bool
-is_retired Free = false
-is_retired Fresh = false
-is_retired (Used birth) = false
 is_retired (Retired birth since) = true
+is_retired _ = false
 
 -- whether there is a block of this number, of which this is so
 abbrev pub is_at : (Status → Bool) → Option Status → Bool
@@ -66,16 +58,12 @@ Stepped (Some after) step old new = (step ≡ Done) × (new ≡ after)
 -- a free block is fresh once it is taken
 abbrev pub taken : Status → Option Status
 taken Free = Some Fresh
-taken Fresh = None
-taken (Used birth) = None
-taken (Retired birth since) = None
+taken _ = None
 
 -- a retired block that the copy of the pins doesn't need is free once it is recycled
 abbrev pub recycled : PinCopy → Status → Option Status
-recycled copy Free = None
-recycled copy Fresh = None
-recycled copy (Used birth) = None
 recycled copy (Retired birth since) = if needs copy birth since then None else Some Free
+recycled copy _ = None
 
 -- the heap with these edges in a fresh block
 abbrev pub filled : List Status → List (List Edge) → ℕ → List Edge → Option (List (List Edge))
