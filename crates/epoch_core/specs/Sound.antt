@@ -2,7 +2,7 @@
 use Rattle.std.specs.Prelude.{true, ◌≡◌, ◌≢◌, ℕ, ◌≤◌, ◌<◌, length, take, slice_get, AllPairs, MatchOption, IsTrue}
 use Rattle.std.specs.declared.option.Option.{Option}
 use Rattle.epoch_blocks.specs.declared.states.Status.{Status}
-use Rattle.epoch_blocks.specs.declared.states.Status.TheVariants.{Free, Fresh, Used, Retired}
+use Rattle.epoch_blocks.specs.declared.states.Status.TheVariants.{Used, Retired}
 use Rattle.epoch_core.specs.declared.states.Hold.{Hold}
 use Rattle.epoch_core.specs.declared.states.SessionState.{SessionState}
 use Rattle.epoch_core.specs.declared.states.SessionState.TheVariants.{Idle, Pinned, Holding, Asking}
@@ -14,17 +14,15 @@ use Rattle.epoch_blocks.specs.Versions.{AreEdgesOf, graph_at, version_at, blocks
 
 -- a block was born at latest with this version, and retired after its birth and at latest with this version
 abbrev pub IsDated : ℕ → Status → Type 0
-IsDated last Free = Unit {0}
-IsDated last Fresh = Unit {0}
 IsDated last (Used birth) = birth ≤ last
 IsDated last (Retired birth since) = (birth < since) × (since ≤ last)
+IsDated last _ = Unit {0}
 
 -- a block is kept for the holders of version n: it was born at latest with it, and not retired or only after it
 abbrev pub IsKept : ℕ → Status → Type 0
-IsKept n Free = ⊥
-IsKept n Fresh = ⊥
 IsKept n (Used birth) = birth ≤ n
 IsKept n (Retired birth since) = (birth ≤ n) × (n < since)
+IsKept n _ = ⊥
 
 -- the same of the block of a number, if there is one
 abbrev pub IsDatedAt : ℕ → Option Status → Type 0

@@ -81,10 +81,9 @@ pin_if true pin = Some pin
 pin_if false pin = None
 
 abbrev pub settled_in : SessionState → Option ℕ
-settled_in Idle = None
-settled_in (Pinned pin) = None
 settled_in (Holding hold) = pin_if hold.settled hold.pin
 settled_in (Asking hold inquiry) = pin_if hold.settled hold.pin
+settled_in _ = None
 
 abbrev pub unsettled_in : SessionState → Option ℕ
 unsettled_in Idle = None
@@ -106,10 +105,9 @@ abbrev pub copy_of : World → PinCopy
 copy_of w = pins_of (last_number w) w.sessions
 
 abbrev pub held_in : SessionState → Option ℕ
-held_in Idle = None
-held_in (Pinned pin) = None
 held_in (Holding hold) = Some hold.version
 held_in (Asking hold inquiry) = Some hold.version
+held_in _ = None
 
 abbrev pub session_of : World → ℕ → SessionState
 session_of w s = slice_index_or w.sessions s Idle
