@@ -11,7 +11,6 @@ WORD = re.compile(r"[^\s(){},;.]+")
 # Those that stand in more than one place still, and in how many: most belong into a crate that nearly all others stand on, which
 # are proved again where one moves there. The list may only shrink.
 LEFT = {
-    "below_zero": 2,
     "count_more": 2,
     "empty_content": 2,
     "kept_row": 2,
@@ -19,7 +18,6 @@ LEFT = {
     "one_where": 2,
     "range_more": 2,
     "refused_so": 2,
-    "shift": 2,
     "slot_entry": 2,
     "vertex_listed": 2,
     "vertex_refused": 2,

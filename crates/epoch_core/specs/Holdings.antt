@@ -4,10 +4,9 @@ use Rattle.std.specs.List.{flat_map}
 use Rattle.graph_model.specs.Graph.{Graph}
 use Rattle.graph_model.specs.declared.requests.Request.{Request}
 use Rattle.epoch_core.specs.declared.states.SessionState.{SessionState}
-use Rattle.epoch_core.specs.declared.states.SessionState.TheVariants.{Idle, Pinned, Holding as Holds, Asking}
+use Rattle.epoch_core.specs.declared.states.SessionState.TheVariants.{Asking}
 use Rattle.epoch_core.specs.declared.events.Event.{Event}
-use Rattle.epoch_core.specs.declared.events.Event.TheVariants.{Take, Fill, Post, Floor, Recycle, Pin, Enter, Settle, Ask, Read}
-use Rattle.epoch_core.specs.declared.events.Event.TheVariants.{Reply, Release}
+use Rattle.epoch_core.specs.declared.events.Event.TheVariants.{Enter, Reply, Release}
 use Rattle.epoch_core.specs.Worlds.{World, last_graph, session_of}
 use Rattle.epoch_core.specs.Machine.{Question}
 use Rattle.epoch_core.specs.Runs.{is_done, next_world}
@@ -20,25 +19,15 @@ pub data Observation : Type 0 where
 
 -- the request that a session has asked and not been replied to
 abbrev pub request_in : SessionState → List Request
-request_in Idle = []
-request_in (Pinned pin) = []
-request_in (Holds hold) = []
 request_in (Asking hold inquiry) = inquiry.request ∷ []
+request_in _ = []
 
 -- what befalls session s in an event that is done
 abbrev pub observed_at : ℕ → World → Event → List Observation
 observed_at s w (Enter t) = if t == s then Entered (last_graph w) ∷ [] else []
 observed_at s w (Reply t) = if t == s then map Replied (request_in (session_of w s)) else []
 observed_at s w (Release t) = if t == s then Released ∷ [] else []
-observed_at s w (Take b) = []
-observed_at s w (Fill b edges) = []
-observed_at s w (Post batch blocks) = []
-observed_at s w Floor = []
-observed_at s w (Recycle b) = []
-observed_at s w (Pin t) = []
-observed_at s w (Settle t) = []
-observed_at s w (Ask t request) = []
-observed_at s w (Read t) = []
+observed_at s w _ = []
 
 -- all that befalls session s in a list of events, in order
 abbrev pub observations : ℕ → World → List Event → List Observation
@@ -52,10 +41,8 @@ pub record Holding : Type 0 where
 
 -- the requests replied to before the session lets go or takes hold anew
 abbrev pub answered_first : List Observation → List Request
-answered_first [] = []
-answered_first (Entered graph ∷ rest) = []
 answered_first (Replied request ∷ rest) = request ∷ answered_first rest
-answered_first (Released ∷ rest) = []
+answered_first _ = []
 
 -- a holding goes from an Enter to the next Release, or to the end
 abbrev pub holdings_of : List Observation → List Holding

@@ -31,60 +31,48 @@ use Rattle.epoch_core.specs.Posts.{posted}
 
 abbrev pub to_pin : ℕ → SessionState → Option SessionState
 to_pin floor Idle = Some (Pinned floor)
-to_pin floor (Pinned pin) = None
-to_pin floor (Holding hold) = None
-to_pin floor (Asking hold inquiry) = None
+to_pin floor _ = None
 
 abbrev pub to_enter : ℕ → SessionState → Option SessionState
-to_enter last Idle = None
 to_enter last (Pinned pin) = Some (Holding (record { pin = pin; settled = false; version = last }))
-to_enter last (Holding hold) = None
-to_enter last (Asking hold inquiry) = None
+to_enter last _ = None
 
 abbrev pub settled_at : Hold → Hold
 settled_at hold = record { pin = hold.version; settled = true; version = hold.version }
 
 abbrev pub to_settle : SessionState → Option SessionState
-to_settle Idle = None
-to_settle (Pinned pin) = None
 to_settle (Holding hold) = Some (Holding (settled_at hold))
 to_settle (Asking hold inquiry) = Some (Asking (settled_at hold) inquiry)
+to_settle _ = None
 
 -- a request of which no block is read yet
 abbrev pub new_inquiry : Request → Inquiry
 new_inquiry request = record { request = request; next = 0; read = [] }
 
 abbrev pub to_ask : Request → SessionState → Option SessionState
-to_ask request Idle = None
-to_ask request (Pinned pin) = None
 to_ask request (Holding hold) = Some (Asking hold (new_inquiry request))
-to_ask request (Asking hold inquiry) = None
+to_ask request _ = None
 
 -- the heap's present edges of the next block are added to what was read
 abbrev pub read_on : List (List Edge) → Inquiry → ℕ → Inquiry
 read_on heap inquiry b = record { request = inquiry.request; next = inquiry.next + 1; read = inquiry.read ++ edges_at heap b }
 
 abbrev pub to_read : Opening → List (List Edge) → List Version → SessionState → Option SessionState
-to_read opening heap versions Idle = None
-to_read opening heap versions (Pinned pin) = None
-to_read opening heap versions (Holding hold) = None
 to_read opening heap versions (Asking hold inquiry) =
     option_map (λ b. Asking hold (read_on heap inquiry b)) (slice_get (blocks_at opening versions hold.version) inquiry.next)
+to_read opening heap versions _ = None
 
 abbrev pub is_all_read : Opening → List Version → Hold → Inquiry → Bool
 is_all_read opening versions hold inquiry = nat_le (length (blocks_at opening versions hold.version)) inquiry.next
 
 abbrev pub to_reply : Opening → List Version → SessionState → Option SessionState
-to_reply opening versions Idle = None
-to_reply opening versions (Pinned pin) = None
-to_reply opening versions (Holding hold) = None
 to_reply opening versions (Asking hold inquiry) = if is_all_read opening versions hold inquiry then Some (Holding hold) else None
+to_reply opening versions _ = None
 
 abbrev pub to_release : SessionState → Option SessionState
-to_release Idle = None
 to_release (Pinned pin) = Some Idle
 to_release (Holding hold) = Some Idle
-to_release (Asking hold inquiry) = None
+to_release _ = None
 
 -- The events
 
@@ -119,18 +107,12 @@ step w (Release s) = move w s to_release
 
 -- the events that may take memory
 abbrev pub takes_memory : Event → Bool
-takes_memory (Take b) = false
 takes_memory (Fill b edges) = true
 takes_memory (Post batch blocks) = true
-takes_memory Floor = false
-takes_memory (Recycle b) = false
-takes_memory (Pin s) = false
-takes_memory (Enter s) = false
-takes_memory (Settle s) = false
 takes_memory (Ask s request) = true
 takes_memory (Read s) = true
 takes_memory (Reply s) = true
-takes_memory (Release s) = false
+takes_memory _ = false
 
 -- Replies
 
@@ -142,13 +124,11 @@ pub record Question : Type 0 where
 -- what a session's Reply answers: its request, over the held version's names and kinds and the edges read;
 -- none where the Reply can't be done
 abbrev pub question_in : Opening → List Version → SessionState → Option Question
-question_in opening versions Idle = None
-question_in opening versions (Pinned pin) = None
-question_in opening versions (Holding hold) = None
 question_in opening versions (Asking hold inquiry) =
     if is_all_read opening versions hold inquiry
     then Some (record { request = inquiry.request; graph = graph_with (version_at opening versions hold.version) inquiry.read })
     else None
+question_in opening versions _ = None
 
 abbrev pub question_of : World → ℕ → Option Question
 question_of w s = option_and_then (question_in w.opening w.versions) (slice_get w.sessions s)
@@ -163,32 +143,19 @@ IsAnswered s q old new = (answer : Answer) × Answers q answer × (new ≡ slice
 
 -- what an event does to the replies: only a Reply that is done adds one
 abbrev pub Replies : World → Event → List (List Answer) → List (List Answer) → Type 0
-Replies w (Take b) old new = new ≡ old
-Replies w (Fill b edges) old new = new ≡ old
-Replies w (Post batch blocks) old new = new ≡ old
-Replies w Floor old new = new ≡ old
-Replies w (Recycle b) old new = new ≡ old
-Replies w (Pin s) old new = new ≡ old
-Replies w (Enter s) old new = new ≡ old
-Replies w (Settle s) old new = new ≡ old
-Replies w (Ask s request) old new = new ≡ old
-Replies w (Read s) old new = new ≡ old
 Replies w (Reply s) old new = MatchOption (question_of w s) (new ≡ old) (λ q. IsAnswered s q old new)
-Replies w (Release s) old new = new ≡ old
+Replies w _ old new = new ≡ old
 
 -- where a session has read all blocks of its version for a request, the version's names and kinds and the edges
 -- read make a content
 abbrev pub ReadsContent : Opening → List Version → SessionState → Type 0
-ReadsContent opening versions Idle = Unit {0}
-ReadsContent opening versions (Pinned pin) = Unit {0}
-ReadsContent opening versions (Holding hold) = Unit {0}
 ReadsContent opening versions (Asking hold inquiry) =
     is_all_read opening versions hold inquiry ≡ true → IsContent
     (content_with (version_at opening versions hold.version) inquiry.read)
+ReadsContent opening versions _ = Unit {0}
 
 -- the answer to the question that a session's Reply answers, if there is one
 abbrev pub IsAnswerTo : Option Question → Option Answer → Type 0
 IsAnswerTo None None = Unit {0}
-IsAnswerTo None (Some answer) = ⊥
-IsAnswerTo (Some q) None = ⊥
 IsAnswerTo (Some q) (Some answer) = Answers q answer
+IsAnswerTo _ _ = ⊥

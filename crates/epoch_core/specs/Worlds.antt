@@ -96,10 +96,9 @@ abbrev pub present_copy : World → PinCopy
 present_copy w = copy_of (last_number w) (seat_pins w.sessions)
 
 abbrev pub held_in : SessionState → Option ℕ
-held_in Idle = None
-held_in (Pinned pin) = None
 held_in (Holding hold) = Some hold.version
 held_in (Asking hold inquiry) = Some hold.version
+held_in _ = None
 
 abbrev pub session_of : World → ℕ → SessionState
 session_of w s = slice_index_or w.sessions s Idle

@@ -7,15 +7,8 @@ use Rattle.edge_block.specs.Slots.{BlockView}
 use Rattle.row_pages.specs.Rows.{blocks_of, row_of}
 use Rattle.block_layout.specs.{Batches.sum_below, Rows.shape_of}
 use Rattle.graph_version.specs.Versions.{IsVersion, VersionView, content, layout_of}
+use Rattle.batch_apply.proofs.Kept.{shift, below_zero}
 use Rattle.graph_degrees.proofs.Whole.{all_below}
-
-shift : (n : ℕ) (f : ℕ → ℕ) → sum_below (suc n) f ≡ f 0 + sum_below n (λ s. f (suc s))
-shift zero f = refl
-shift (suc n) f = let rest = shift n f in omega arith
-
-below_zero : (n : ℕ) → (let f : ℕ → ℕ = λ _. 0 in sum_below n f) ≡ 0
-below_zero zero = refl
-below_zero (suc n) = let rest = below_zero n in omega arith
 
 same_below : (n : ℕ) (f g : ℕ → ℕ) → ((s : ℕ) → s < n → f s ≡ g s) → sum_below n f ≡ sum_below n g
 same_below zero f g each = refl
