@@ -26,25 +26,24 @@ bodies_set count bodies k body lt own are = record {
       ] refl;
 }
 
--- one number more, and a body of it
-pub bodies_more : (count : ℕ) (bodies : List (Option (Arc Block Global))) (body : Arc Block Global)
-    → (arc_value {X = Block} body).number ≡ count
-    → AreBodies count bodies → AreBodies (count + 1) (bodies ++ Some body ∷ [])
-bodies_more count bodies body own are = record {
-  same_length = omega (arith, length-append bodies (Some body ∷ []), are.same_length);
+-- one number more, without a body
+pub bodies_more : (count : ℕ) (bodies : List (Option (Arc Block Global))) → AreBodies count bodies
+    → AreBodies (count + 1) (bodies ++ None ∷ [])
+bodies_more count bodies are = record {
+  same_length = omega (arith, length-append bodies (None ∷ []), are.same_length);
   numbers = λ n within.
       elim (n == count) as (λ b. n == count ≡ b
-      → IfSome (get_or (bodies ++ Some body ∷ []) n None) (λ b. (arc_value {X = Block} b).number ≡ n)) [
+      → IfSome (get_or (bodies ++ None ∷ []) n None) (λ b. (arc_value {X = Block} b).number ≡ n)) [
         | true ↦ λ t.
             let e : n ≡ count = eqb-true n count t in
-            let last : get_or (bodies ++ Some body ∷ []) n None ≡ Some body =
-            ap (λ i. get_or (bodies ++ Some body ∷ []) i None) (e ∙ sym are.same_length)
-            ∙ get_or-append_seam bodies (Some body) [] None in
-            subst (λ o. IfSome o (λ b. (arc_value {X = Block} b).number ≡ n)) (sym last) (own ∙ sym e)
+            let last : get_or (bodies ++ None ∷ []) n None ≡ None =
+            ap (λ i. get_or (bodies ++ None ∷ []) i None) (e ∙ sym are.same_length)
+            ∙ get_or-append_seam bodies None [] None in
+            subst (λ o. IfSome o (λ b. (arc_value {X = Block} b).number ≡ n)) (sym last) tt
         | false ↦ λ t.
             let ne : n ≡ count → ⊥ = eqb-false n count t in
             let lt : n < count = omega arith in
             subst (λ o. IfSome o (λ b. (arc_value {X = Block} b).number ≡ n))
-            (sym (get_or_append_left bodies (Some body ∷ []) None n (omega (arith, are.same_length)))) (are.numbers n lt)
+            (sym (get_or_append_left bodies (None ∷ []) None n (omega (arith, are.same_length)))) (are.numbers n lt)
       ] refl;
 }

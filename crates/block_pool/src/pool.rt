@@ -80,8 +80,8 @@ impl From<AllocError> for GrantError {
 
 impl Pool {
     /// A pool of so many blocks, 16 to 65,536, all free. It takes all the memory that the other calls need, but for
-    /// the two lists of a grant and the blocks that were given up; beside each block's body some 40 bytes, 4 of them
-    /// the link of its stack while it is retired.
+    /// the two lists of a grant and the bodies of blocks that it grants for the first time or that were given up. That
+    /// is some 40 bytes a block, 4 of them the link of its stack while it is retired.
     pub fn new(alloc: Global, blocks: u32) -> Result<Pool, AllocError>
         requires least { 16 ≤ blocks }
         requires most { blocks ≤ 65536 }
@@ -90,7 +90,7 @@ impl Pool {
         Ok(Pool {
             alloc,
             numbers: Numbers::all_free(alloc, blocks)?,
-            bodies: blank_bodies(alloc, blocks)?,
+            bodies: no_bodies(alloc, blocks)?,
         })
     }
 
@@ -187,14 +187,15 @@ impl Pool {
     }
 }
 
-/// A blank block for each number.
-fn blank_bodies(alloc: Global, count: u32) -> Result<Vec<Option<Arc<Block>>>, AllocError>
+/// No body for any number: each is made at its first grant, so that an opening costs little where few blocks are used, and
+/// a block is written while it is still in the cache.
+fn no_bodies(alloc: Global, count: u32) -> Result<Vec<Option<Arc<Block>>>, AllocError>
     requires { count ≤ 65536 }
     ensures { IfOk result (λ bodies. AreBodies count bodies.items) }
 {
     let mut bodies = Vec::with_capacity(alloc, count as usize)?;
-    for number in 0..count {
-        bodies.push(Some(Arc::new(alloc, Block::blank(number))?))?;
+    for _ in 0..count {
+        bodies.push(None)?;
     }
     Ok(bodies)
 }

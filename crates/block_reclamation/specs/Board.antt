@@ -1,5 +1,5 @@
--- A board: the floor, and the pin of each seat. What lies below the floor may be reused (acquire and release of Aspen,
--- PLDI 2019).
+-- A board: the floor, and the pin of each seat. What was retired at latest with the floor may be reused; what else may, the copy of
+-- the pins tells (acquire and release of Aspen, PLDI 2019).
 use Rattle.std.specs.Prelude.{◌≡◌, ℕ, ◌≤◌, List, length, replicate, Option, None, IfSome, IsSomeAnd, ◌⊎◌, slice_set}
 use Rattle.block_reclamation.specs.declared.copies.Pin.{Pin}
 use Rattle.block_reclamation.specs.declared.copies.TheConstants.{SEATS}

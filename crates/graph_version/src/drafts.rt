@@ -49,8 +49,8 @@ impl Model for VersionDraft {
 }
 
 impl VersionDraft {
-    /// A draft of a version like this one. It shares the rows, the batches and the names: one reference for each 64
-    /// rows, 256 batches or 256 names.
+    /// A draft of a version like this one. It shares the rows, the batches and the names: one reference for each
+    /// 1,024 rows, one for each 1,024 batches, and one for all of a book's names.
     pub fn over(version: &Version) -> Result<VersionDraft, AllocError>
         ensures { IfOk result (λ draft. draft ≡ drafted_over version.now) }
     {

@@ -1,4 +1,4 @@
-// Many versions one after another, at the ends of the pieces of 256 batches that they share.
+// Many versions one after another, at the ends of the pages of 32 batches that they share.
 
 ghost use Rattle.graph_model.specs.Graph.{IsContent};
 

@@ -1,0 +1,5 @@
+use Rattle.block_pool.specs.Bodies.{AreBodies}
+use Rattle.block_pool.proofs.pool.no_bodies.Given as goal
+
+abbrev pub invariant-loop : goal.invariant-loop
+invariant-loop l = AreBodies l.counter l.bodies.items
