@@ -7,6 +7,7 @@
 - A link of a page leads to a file of the repository, and to a heading of it where it names one. One that shows a name, as
   [`step`](FILE.antt), leads to the file of specs that defines it.
 - Each crate of crates.txt is named in docs/ARCHITECTURE.md, and stands on crates that crates.txt lists or the kit has.
+- A crate's row has those crates of the repository that its sources, specs and proofs name, and no others.
 - docs/LIBRARY.md shows each program that stands on `misteluk`: its row of crates.txt, and each of its files as it is.
 - No definition, and no lemma with its name and type, stands twice in `specs/` and `proofs/`, but for those that
   tools/statements.py lists.
@@ -120,6 +121,32 @@ def unnamed_crates():
             yield f"crates.txt doesn't list {folder.name}"
 
 
+def named_by(crate):
+    """Returns what may be crates that a crate's sources, specs and proofs name: what stands before a path."""
+    found = set()
+    for part in ("src", "specs", "proofs"):
+        for path in (TOP / "crates" / crate / part).rglob("*"):
+            if path.suffix in (".rt", ".antt"):
+                code = re.sub(r"^\s*(?://|--).*$", "", path.read_text(encoding="utf-8"), flags=re.M)
+                found |= set(re.findall(r"\bRattle\.(\w+)", code))
+                if path.suffix == ".rt":
+                    found |= set(re.findall(r"(?<![\w.:])(\w+)::", code))
+                    found |= set(re.findall(r"^\s*(?:pub )?use (\w+)(?: as \w+)?;", code, re.M))
+    return found - {crate}
+
+
+def misnamed_crates():
+    listed = crates()
+    for row in rows():
+        name, _, below = row.partition(":")
+        crate, below = name.split()[0], {it for it in below.split() if it in listed}
+        named = named_by(crate) & set(listed)
+        for it in sorted(named - below):
+            yield f"crates.txt: the row of {crate} doesn't have {it}, which it names"
+        for it in sorted(below - named):
+            yield f"crates.txt: the row of {crate} has {it}, which it doesn't name"
+
+
 def programs():
     """Returns each program over the library that others learn from: its row of crates.txt, and its files."""
     found = [row for row in rows() if "misteluk" in row.partition(":")[2].split()]
@@ -175,7 +202,7 @@ def main():
         "length of sentences": [it for page in told for it in long_sentences(page)],
         "links": [it for page in pages for it in dead_links(page)],
         "names of definitions": [it for page in pages for it in undefined_names(page)],
-        "crates": list(unnamed_crates()),
+        "crates": [*unnamed_crates(), *misnamed_crates()],
         "programs over the library": list(unshown_programs()),
         "statements": list(statements.told_twice(TOP)),
         "wrong bodies": [it for path in edits for it in lost_edits(path)],

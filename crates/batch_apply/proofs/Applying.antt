@@ -4,16 +4,16 @@ use Rattle.std.proofs.Common.{length-append, map, flat_map, zip, count_by, repli
 use Rattle.std.{proofs.Common.AllPairs, proofs.Common.ltb, specs.List.range_with_len, specs.List.AllZip, specs.FinMap.len}
 use Rattle.std.proofs.lemmas.{Bool.ltb-true, Bool.ltb-false, List.length-map}
 use Rattle.std.proofs.lemmas.{List.FromFn.length-range_with_len, List.Concat.length-flat_map, Slice.Zip.AllZip-long}
-use Rattle.graph_model.specs.{Graph.Graph, Limits.name_limit, Limits.kind_limit, Limits.batch_limit, Limits.operation_limit}
-use Rattle.graph_model.specs.Step.{after_all, outcomes, left_by}
-use Rattle.graph_model.specs.declared.batches.{NamedOp.NamedOp, Outcome.TheVariants.Absent}
+use Rattle.graph_types.specs.{Graph.Graph, Limits.name_limit, Limits.kind_limit, Limits.batch_limit, Limits.operation_limit}
+use Rattle.graph_types.specs.Step.{after_all, outcomes, left_by}
+use Rattle.graph_types.specs.declared.batches.{NamedOp.NamedOp, Outcome.TheVariants.Absent}
 use Rattle.edge_block.specs.Slots.{BlockView}
 use Rattle.vertex_names.specs.Book.{Book}
-use Rattle.block_layout.specs.Rows.{OpenBlock, shape_of, row_at, IsRow}
-use Rattle.block_layout.specs.Batches.{Resolved, resolved, outcomes_all, opened, layout_after, IsWithin, IsLayoutOf}
-use Rattle.block_layout.proofs.GraphLaws.{batch_layout}
-use Rattle.row_pages.specs.Rows as rows
-use Rattle.row_pages.specs.Rows.{row_of}
+use Rattle.edge_block.specs.Rows.{OpenBlock, shape_of, row_at, IsRow}
+use Rattle.edge_block.specs.Batches.{Resolved, resolved, outcomes_all, opened, layout_after, IsWithin, IsLayoutOf}
+use Rattle.edge_block.proofs.GraphLaws.{batch_layout}
+use Rattle.graph_version.specs.Rows as rows
+use Rattle.graph_version.specs.Rows.{row_of}
 use Rattle.batch_shards.specs.{RowBlocks.block_of, RowBlocks.blocks_of, RowBlocks.numbers_of, Groups.told, Done.IsShardDone}
 use Rattle.batch_shards.specs.{Done.Exchanges, Done.sources_in, Done.rows_by, Births.births_end, Births.births_dropped}
 use Rattle.batch_shards.specs.{Births.open_row, Births.births_after, Births.dropped_births, declared.shard.Shard.Shard}
@@ -21,7 +21,7 @@ use Rattle.batch_shards.{specs.declared.shard.ShardDone.ShardDone, proofs.Places
 use Rattle.graph_version.specs.Versions.{VersionView, IsVersion, IsBlockOf, AreRowsOf, content, layout_of, is_in}
 use Rattle.graph_version.specs.{Kept.vertex_book, Kept.kind_book, Kept.edge_total, Drafts.DraftView, Drafts.drafted_over}
 use Rattle.graph_version.{specs.Drafts.with_batch, specs.Drafts.IsWhole, proofs.Few.few_total}
-use Rattle.batch_plan.{specs.Shards.IsShardOf, specs.Planned.MeetsNeitherLimit, proofs.Resolving.as_many_resolved}
+use Rattle.batch_apply.{specs.Shards.IsShardOf, specs.Planned.MeetsNeitherLimit, proofs.Resolving.as_many_resolved}
 use Rattle.batch_apply.specs.{Plans.written_all, Sums.ArePlanned, declared.applied.Applied.Applied, declared.workers.Job.Job}
 use Rattle.batch_apply.specs.Applied.{IsApplied, ReplacesRows, row_among, written_from}
 use Rattle.batch_apply.proofs.{Told.told_exact, Written.all_written, Written.all_sources, Placed.times, Placed.among_is}

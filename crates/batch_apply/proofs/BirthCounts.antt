@@ -3,9 +3,9 @@ use Rattle.std.proofs.Common.{◌≡◌, ℕ, zero, suc, ◌+◌, ◌==◌, Bool
 use Rattle.std.proofs.Common.{map, flat_map, count_by, refl, sym, ap, ap₂, ◌∙◌}
 use Rattle.std.specs.List.{sum_by}
 use Rattle.std.proofs.lemmas.List.{map-append, Sums.sum_by-cons, Elements.All-head, Elements.All-tail}
-use Rattle.graph_model.specs.{Graph.Graph, declared.batches.NamedOp.NamedOp}
+use Rattle.graph_types.specs.{Graph.Graph, declared.batches.NamedOp.NamedOp}
 use Rattle.edge_block.specs.Slots.{BlockView}
-use Rattle.block_layout.specs.{Rows.Shape, Rows.shape_of, Rows.untouched, Batches.sum_below}
+use Rattle.edge_block.specs.{Rows.Shape, Rows.shape_of, Rows.untouched, Batches.sum_below}
 use Rattle.batch_shards.specs.Births.{births_end, births_dropped, later_births, open_row, dropped_births}
 use Rattle.graph_version.specs.Versions.{is_in}
 use Rattle.batch_shards.proofs.Places.{count_by-append}

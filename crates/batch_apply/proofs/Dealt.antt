@@ -3,12 +3,12 @@ use Rattle.std.proofs.Common.{◌≡◌, ℕ, zero, suc, ◌+◌, ◌<◌, List,
 use Rattle.std.proofs.Common.{refl, sym, ap, ap₂, ◌∙◌, arith, subst, All, Bool}
 use Rattle.std.specs.List.{sum_by, range_with_len, AllZip}
 use Rattle.std.proofs.lemmas.List.{length-map, Sums.sum_by-cons, Elements.All-nil, Elements.All-cons}
-use Rattle.graph_model.specs.declared.{ids.VertexId.VertexId}
+use Rattle.graph_types.specs.declared.{ids.VertexId.VertexId}
 use Rattle.edge_block.specs.Slots.{BlockView}
-use Rattle.block_layout.specs.{Rows.Shape, Batches.Resolved}
+use Rattle.edge_block.specs.{Rows.Shape, Batches.Resolved}
 use Rattle.batch_shards.specs.{RowBlocks.numbers_of, Shards.AreSteps, Done.IsShardDone, Done.sources_in, Spending.needed}
 use Rattle.batch_shards.specs.declared.shard.{Shard.Shard, ShardDone.ShardDone, Step.Step}
-use Rattle.batch_plan.specs.Shards.{latest, is_old_row, AreShardSteps, IsShardOf}
+use Rattle.batch_apply.specs.Shards.{latest, is_old_row, AreShardSteps, IsShardOf}
 use Rattle.batch_apply.specs.{Jobs.IsDealt, Jobs.IsShard, Jobs.AreDone, declared.workers.Job.Job}
 
 -- Numbers of blocks that are dealt one after another

@@ -5,13 +5,13 @@ use Rattle.std.specs.{Prelude.◌+ℤ◌, Prelude.count_by, Prelude.if◌then◌
 use Rattle.std.proofs.lemmas.{Bool.true≢false, List.Sums.sum_by-cons}
 use Rattle.std.specs.declared.option.Option.{Option, TheVariants.None, TheVariants.Some}
 use Rattle.std.specs.FinMap.{FinMap, get, insert, remove, len, len-insert, len-remove, empty_of_len, get-empty}
-use Rattle.graph_model.specs.{Limits.is_weight, Graph.Graph, Graph.Key, Graph.Stamp, Graph.key_cmp, Step.change_outcome}
-use Rattle.graph_model.specs.Step.{after, outcome, after_all, outcomes, stamp_after, outcome_at, set_at, changed, changed_key}
-use Rattle.graph_model.specs.declared.{batches.NamedOp.NamedOp, changes.EdgeChange.EdgeChange}
-use Rattle.graph_model.specs.declared.batches.NamedOp.TheVariants.{Insert, Incr, Remove, Expire}
-use Rattle.graph_model.specs.declared.batches.Outcome.{Outcome, TheVariants.Updated, TheVariants.Overflow}
-use Rattle.graph_model.specs.declared.changes.EdgeChange.TheVariants.{Insert as ToInsert, Incr as ToIncr, Remove as ToRemove}
-use Rattle.graph_model.proofs.{Keys.keys_total, Expiry.fewer}
+use Rattle.graph_types.specs.{Limits.is_weight, Graph.Graph, Graph.Key, Graph.Stamp, Graph.key_cmp, Step.change_outcome}
+use Rattle.graph_types.specs.Step.{after, outcome, after_all, outcomes, stamp_after, outcome_at, set_at, changed, changed_key}
+use Rattle.graph_types.specs.declared.{batches.NamedOp.NamedOp, changes.EdgeChange.EdgeChange}
+use Rattle.graph_types.specs.declared.batches.NamedOp.TheVariants.{Insert, Incr, Remove, Expire}
+use Rattle.graph_types.specs.declared.batches.Outcome.{Outcome, TheVariants.Updated, TheVariants.Overflow}
+use Rattle.graph_types.specs.declared.changes.EdgeChange.TheVariants.{Insert as ToInsert, Incr as ToIncr, Remove as ToRemove}
+use Rattle.graph_types.proofs.{Keys.keys_total, Expiry.fewer}
 use Rattle.batch_apply.specs.Counts.{is_inserted, taken_away}
 
 -- how many edges there are with a stamp at a key

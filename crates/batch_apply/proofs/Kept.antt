@@ -4,8 +4,8 @@ use Rattle.std.proofs.Common.{◌++◌, length, get_or, map, flat_map, count_by,
 use Rattle.std.{specs.List.sum_by, proofs.lemmas.Bool.eq-eqb}
 use Rattle.std.proofs.lemmas.{Bool.eqb-true, Bool.ne_eqb, List.Sums.sum_by-cons, List.Elements.All-head, List.Elements.All-tail}
 use Rattle.edge_block.specs.Slots.{BlockView}
-use Rattle.block_layout.specs.Batches.{sum_below}
-use Rattle.row_pages.specs.Rows.{row_of, blocks_of}
+use Rattle.edge_block.specs.Batches.{sum_below}
+use Rattle.graph_version.specs.Rows.{row_of, blocks_of}
 use Rattle.batch_shards.{specs.Done.Exchanges, proofs.Places.count_by-append, proofs.Closed.count_more}
 use Rattle.batch_apply.{specs.Applied.row_among, proofs.Totals.sum_all}
 use Rattle.batch_apply.proofs.Placed.{times, sources_of, among_none, among_all}

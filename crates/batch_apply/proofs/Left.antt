@@ -3,15 +3,15 @@ use Rattle.std.proofs.Common.{◌≡◌, ℕ, zero, suc, ◌+◌, Bool, true, Li
 use Rattle.std.proofs.Common.{◌++◌, subst, All, map, flat_map, count_by, refl, sym, ap, ap₂, ◌∙◌, arith}
 use Rattle.std.{specs.List.sum_by, specs.List.range_with_len, specs.List.AllZip, proofs.lemmas.List.map-append}
 use Rattle.std.proofs.lemmas.{List.Sums.sum_by-cons, List.Elements.All-nil, List.Elements.All-append, Grind.flat_map-append}
-use Rattle.graph_model.specs.{Graph.Graph, declared.batches.NamedOp.NamedOp, declared.batches.Outcome.Outcome}
+use Rattle.graph_types.specs.{Graph.Graph, declared.batches.NamedOp.NamedOp, declared.batches.Outcome.Outcome}
 use Rattle.edge_block.specs.Slots.{BlockView}
-use Rattle.block_layout.specs.Rows.{Shape, shape_of}
-use Rattle.block_layout.specs.Batches.{Resolved, resolved, opened, layout_after, rows_all}
+use Rattle.edge_block.specs.Rows.{Shape, shape_of}
+use Rattle.edge_block.specs.Batches.{Resolved, resolved, opened, layout_after, rows_all}
 use Rattle.batch_shards.specs.{RowBlocks.blocks_of, RowBlocks.numbers_of, Closing.row_values, Births.births_end, Done.IsShardDone}
 use Rattle.batch_shards.specs.{Done.Exchanges, Done.sources_in, declared.shard.Shard.Shard, declared.shard.ShardDone.ShardDone}
 use Rattle.batch_shards.proofs.Places.{count_by-append}
 use Rattle.graph_version.specs.Versions.{IsBlockOf, is_in}
-use Rattle.batch_plan.specs.Shards.{IsShardOf}
+use Rattle.batch_apply.specs.Shards.{IsShardOf}
 use Rattle.batch_apply.specs.{Plans.written, Plans.written_all, Applied.written_from}
 use Rattle.batch_apply.proofs.{Together.shard_outcomes_at, Together.shard_layout_at, Together.shard_births_at, Placed.sources_of}
 use Rattle.batch_apply.proofs.{BirthCounts.in_left, BirthCounts.in_right}

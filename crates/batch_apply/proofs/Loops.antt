@@ -3,13 +3,13 @@ use Rattle.std.proofs.Common.{◌≡◌, ℕ, ◌+◌, ◌≤◌, ◌==◌, Bool
 use Rattle.std.proofs.Common.{count_by, set, take, drop, refl, sym, ap, ◌∙◌}
 use Rattle.std.specs.declared.{sync.Arc.Arc, alloc.Global.Global, vec.Vec.Vec}
 use Rattle.std.proofs.lemmas.List.{map-append, set_past, take-append-drop}
-use Rattle.graph_model.specs.declared.{ids.VertexId.VertexId, batches.Outcome.Outcome, batches.Outcome.TheVariants.Absent}
+use Rattle.graph_types.specs.declared.{ids.VertexId.VertexId, batches.Outcome.Outcome, batches.Outcome.TheVariants.Absent}
 use Rattle.edge_block.specs.declared.blocks.Block.{Block}
-use Rattle.row_pages.specs.Rows.{row_of}
+use Rattle.graph_version.specs.Rows.{row_of}
 use Rattle.batch_shards.specs.{RowBlocks.block_of, RowBlocks.blocks_of, RowBlocks.numbers_of, Closing.row_values, Groups.told}
 use Rattle.batch_shards.{specs.declared.shard.ShardDone.ShardDone, proofs.Places.count_by-append}
 use Rattle.graph_version.specs.Drafts.{DraftView, ReplacesRow}
-use Rattle.block_layout.specs.Batches.{together}
+use Rattle.edge_block.specs.Batches.{together}
 use Rattle.batch_apply.specs.{Plans.written, Applied.ReplacesRows, Applied.written_from, Applied.row_among}
 use Rattle.batch_apply.proofs.{Placed.among_more}
 

@@ -3,7 +3,7 @@ use Rattle.std.proofs.Common.{◌≡◌, ℕ, zero, suc, ◌+◌, ◌≤◌, ◌
 use Rattle.std.{proofs.Common.refl, proofs.Common.ap, proofs.Common.arith, specs.List.list_any}
 use Rattle.std.proofs.lemmas.{Bool.eqb-true, Bool.true≢false, List.Elements.All-head, List.Elements.All-tail}
 use Rattle.edge_block.specs.Slots.{BlockView}
-use Rattle.row_pages.specs.Rows as rows
+use Rattle.graph_version.specs.Rows as rows
 use Rattle.batch_shards.{specs.Done.Exchanges, proofs.Closed.count_more}
 use Rattle.graph_version.specs.Versions.{is_in}
 use Rattle.batch_apply.proofs.{Placed.times, Kept.count_map}

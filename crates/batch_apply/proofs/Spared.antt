@@ -6,12 +6,12 @@ use Rattle.std.proofs.Math.Nat.{le-max_left, le-max_right}
 use Rattle.std.proofs.lemmas.Bool.{eq-eqb, eqb-true, false_from_ne_true, true≢false, le-ltb, ltb-false, or_parts}
 use Rattle.std.proofs.lemmas.List.{map-id, Sums.sum_by-cons, FromFn.sum_by-map-range_with_len_more}
 use Rattle.std.proofs.lemmas.List.Elements.{All-head, All-tail, All-cons, All-nil}
-use Rattle.graph_model.specs.{Step.is_before, declared.batches.Outcome.Outcome, declared.batches.Outcome.TheVariants.Expired}
+use Rattle.graph_types.specs.{Step.is_before, declared.batches.Outcome.Outcome, declared.batches.Outcome.TheVariants.Expired}
 use Rattle.edge_block.specs.Slots.{Slot, edges_in, has_before, old_in, slots_since}
-use Rattle.block_layout.specs.Rows.{Shape, OpenBlock, untouched, touch, expire_row, old_in_row}
-use Rattle.block_layout.specs.Batches.{Resolved, AtKey, InAll, IsPlaced, key_is_of, shard_of, is_in_shard, shard_ops, sum_below}
-use Rattle.block_layout.specs.Batches.{rows_step, rows_all, row_step, key_outcome, outcomes_all}
-use Rattle.batch_plan.specs.Shards.{latest, is_old_row}
+use Rattle.edge_block.specs.Rows.{Shape, OpenBlock, untouched, touch, expire_row, old_in_row}
+use Rattle.edge_block.specs.Batches.{Resolved, AtKey, InAll, IsPlaced, key_is_of, shard_of, is_in_shard, shard_ops, sum_below}
+use Rattle.edge_block.specs.Batches.{rows_step, rows_all, row_step, key_outcome, outcomes_all}
+use Rattle.batch_apply.specs.Shards.{latest, is_old_row}
 use Rattle.batch_shards.proofs.Closed.{count_more}
 use Rattle.batch_apply.proofs.{Placed.times, Totals.sum_all}
 

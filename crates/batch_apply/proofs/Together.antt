@@ -6,22 +6,22 @@ use Rattle.std.specs.{List.sum_by, List.range_with_len, List.AllZip, List.list_a
 use Rattle.std.proofs.lemmas.Bool.{eq-eqb, eqb-true, eqb-false, false_from_ne_true, true≢false}
 use Rattle.std.proofs.lemmas.List.{length-map, get_or-map, Sums.sum_by-cons, Sums.sum_by-append}
 use Rattle.std.proofs.lemmas.List.Elements.{All-head, All-tail, All-cons, All-nil, All-append, All-map}
-use Rattle.graph_model.specs.{Graph.Graph, Step.after_all, declared.batches.NamedOp.NamedOp, declared.batches.Outcome.Outcome}
-use Rattle.block_layout.specs.Rows.{Shape, OpenBlock, untouched, taken_in, dropped_in, shape_of, row_end}
-use Rattle.block_layout.specs.Batches.{Resolved, AtKey, InAll, resolved, is_in_shard, shard_ops, rows_all, opened, key_is_of}
-use Rattle.block_layout.specs.Batches.{taken_by, dropped_by, outcomes_all, layout_after, sum_below, IsWithin, IsLayoutOf}
+use Rattle.graph_types.specs.{Graph.Graph, Step.after_all, declared.batches.NamedOp.NamedOp, declared.batches.Outcome.Outcome}
+use Rattle.edge_block.specs.Rows.{Shape, OpenBlock, untouched, taken_in, dropped_in, shape_of, row_end}
+use Rattle.edge_block.specs.Batches.{Resolved, AtKey, InAll, resolved, is_in_shard, shard_ops, rows_all, opened, key_is_of}
+use Rattle.edge_block.specs.Batches.{taken_by, dropped_by, outcomes_all, layout_after, sum_below, IsWithin, IsLayoutOf}
 use Rattle.batch_shards.specs.{Births.births_end, Shards.IsAct, Shards.IsPlace, Shards.key_at, Shards.resolved_at}
 use Rattle.batch_shards.specs.declared.shard.{Act.Act, Act.TheVariants.Edge, Act.TheVariants.Expire, Shard.Shard, Step.Step}
 use Rattle.batch_shards.specs.Done.{IsShardDone, sources_in, steps_in, rows_by, layout_by, sum_of}
 use Rattle.batch_shards.specs.declared.shard.{ShardDone.ShardDone, Place.Place}
 use Rattle.batch_shards.{specs.Closing.row_values, proofs.Closed.count_more, proofs.Places.count_by-append}
 use Rattle.graph_version.specs.Versions.{is_in}
-use Rattle.batch_plan.specs.{Shards.acts, Shards.unsourced, Shards.latest, Shards.is_old_row, Shards.IsShardOf, Plan.ends_all}
+use Rattle.batch_apply.specs.{Shards.acts, Shards.unsourced, Shards.latest, Shards.is_old_row, Shards.IsShardOf, Plan.ends_all}
 use Rattle.batch_apply.specs.{Plans.results, Plans.told, Sums.ArePlanned}
 use Rattle.batch_apply.proofs.Spared.{Spares, KeepsOff, rows_spared, over_all, all_spare, off_all}
 use Rattle.batch_apply.proofs.Totals.{sum_all, worker_rows, none_taken, none_dropped, same_outcomes}
 use Rattle.batch_apply.proofs.{Kept.some_times, Placed.times, Merge.same_ops, Merge.shard_places, Merge.kept_all}
-use Rattle.batch_plan.proofs.{Resolving.placed_in, Resolving.resolved_is, Sources.sources_within}
+use Rattle.batch_apply.proofs.{Resolving.placed_in, Resolving.resolved_is, Sources.sources_within}
 use Rattle.edge_block.specs.Slots.{BlockView}
 
 no_times : (m : ℕ) (xs : List ℕ) → All (λ x. x ≡ m → ⊥) xs → times m xs ≡ 0

@@ -3,12 +3,12 @@ use Rattle.std.proofs.Common.{◌≡◌, ℕ, ◌+◌, ◌^◌, ◌<◌, ◌≤�
 use Rattle.std.proofs.{Common.arith, Math.Nat.mod-eq_of_lt}
 use Rattle.std.specs.{Prelude.◌+ℤ◌, Prelude.if◌then◌else◌, FinMap.get, FinMap.len}
 use Rattle.std.specs.declared.option.Option.{Option, TheVariants.None, TheVariants.Some}
-use Rattle.graph_model.{proofs.Expiry.fewer, specs.Graph.Graph, specs.Graph.Stamp, specs.Limits.is_weight, specs.Step.after}
-use Rattle.graph_model.specs.{Step.outcome, Step.outcomes, Step.outcome_at, Step.changed_key, declared.batches.NamedOp.NamedOp}
-use Rattle.graph_model.specs.declared.batches.NamedOp.TheVariants.{Insert, Incr, Remove, Expire}
-use Rattle.graph_model.specs.declared.batches.Outcome.{Outcome, TheVariants.Updated, TheVariants.Overflow, TheVariants.Expired}
-use Rattle.graph_model.specs.declared.changes.EdgeChange.{EdgeChange}
-use Rattle.graph_model.specs.declared.changes.EdgeChange.TheVariants.{Insert as ToInsert, Incr as ToIncr, Remove as ToRemove}
+use Rattle.graph_types.{proofs.Expiry.fewer, specs.Graph.Graph, specs.Graph.Stamp, specs.Limits.is_weight, specs.Step.after}
+use Rattle.graph_types.specs.{Step.outcome, Step.outcomes, Step.outcome_at, Step.changed_key, declared.batches.NamedOp.NamedOp}
+use Rattle.graph_types.specs.declared.batches.NamedOp.TheVariants.{Insert, Incr, Remove, Expire}
+use Rattle.graph_types.specs.declared.batches.Outcome.{Outcome, TheVariants.Updated, TheVariants.Overflow, TheVariants.Expired}
+use Rattle.graph_types.specs.declared.changes.EdgeChange.{EdgeChange}
+use Rattle.graph_types.specs.declared.changes.EdgeChange.TheVariants.{Insert as ToInsert, Incr as ToIncr, Remove as ToRemove}
 use Rattle.batch_shards.specs.Groups.{told}
 use Rattle.batch_apply.{specs.Counts.is_inserted, proofs.EdgeCounts.op_len}
 

@@ -4,11 +4,11 @@ use Rattle.std.proofs.Common.{count_by, Bool, true, false, cond, not, ◌&&◌, 
 use Rattle.std.specs.List.{sum_by}
 use Rattle.std.proofs.lemmas.Bool.{eqb-true, eqb-false, false_from_ne_true}
 use Rattle.std.proofs.lemmas.List.{Sums.sum_by-cons, Elements.All-head, Elements.All-tail, Elements.All-cons, Elements.All-nil}
-use Rattle.graph_model.specs.{Graph.Graph, declared.batches.NamedOp.NamedOp}
-use Rattle.block_layout.specs.Rows.{Shape, OpenBlock, untouched, taken_in, dropped_in, has_none}
-use Rattle.block_layout.specs.Batches.{Resolved, AtKey, InAll, resolved, shard_ops, sum_below, rows_all, rows_step, outcome_in}
-use Rattle.block_layout.{specs.Batches.outcomes_all, proofs.ShardLaws.shard_rows}
-use Rattle.batch_plan.specs.Shards.{acts, unsourced, IsShardOf}
+use Rattle.graph_types.specs.{Graph.Graph, declared.batches.NamedOp.NamedOp}
+use Rattle.edge_block.specs.Rows.{Shape, OpenBlock, untouched, taken_in, dropped_in, has_none}
+use Rattle.edge_block.specs.Batches.{Resolved, AtKey, InAll, resolved, shard_ops, sum_below, rows_all, rows_step, outcome_in}
+use Rattle.edge_block.{specs.Batches.outcomes_all, proofs.ShardLaws.shard_rows}
+use Rattle.batch_apply.specs.Shards.{acts, unsourced, IsShardOf}
 use Rattle.batch_shards.{specs.Done.steps_in, specs.declared.shard.Shard.Shard, proofs.Closed.count_more}
 
 -- rows and outcomes don't depend on the sources' numbers beside the keys

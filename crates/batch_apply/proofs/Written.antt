@@ -4,10 +4,10 @@ use Rattle.std.proofs.Common.{sym, ap, ap₂, ◌∙◌, arith, Option, Some, No
 use Rattle.std.proofs.{Common.replicate, Common.ltb, Math.Nat.add-mod-mod, Math.Nat.mod-add-mod, Math.Nat.mod-mod}
 use Rattle.std.proofs.lemmas.Bool.{eqb-true, eqb-false, lt-ltb, le-ltb, ltb-true, ltb-false}
 use Rattle.std.{proofs.lemmas.List.append_assoc, proofs.lemmas.List.Sums.sum_by-append, specs.List.sum_by}
-use Rattle.graph_model.specs.declared.batches.Outcome.{Outcome}
-use Rattle.graph_model.specs.declared.batches.Outcome.TheVariants.{Inserted, Updated, Removed, Absent, Overflow, Expired}
-use Rattle.block_layout.specs.{Rows.OpenBlock, Rows.old_in_row, Batches.key_outcome}
-use Rattle.block_layout.specs.Batches.{Resolved, AtKey, InAll, shard_of, is_in_shard, together, outcome_in, outcomes_all, rows_step}
+use Rattle.graph_types.specs.declared.batches.Outcome.{Outcome}
+use Rattle.graph_types.specs.declared.batches.Outcome.TheVariants.{Inserted, Updated, Removed, Absent, Overflow, Expired}
+use Rattle.edge_block.specs.{Rows.OpenBlock, Rows.old_in_row, Batches.key_outcome}
+use Rattle.edge_block.specs.Batches.{Resolved, AtKey, InAll, shard_of, is_in_shard, together, outcome_in, outcomes_all, rows_step}
 use Rattle.batch_apply.specs.Plans.{written, results, written_all}
 use Rattle.batch_shards.specs.Groups.{told}
 

@@ -1,16 +1,16 @@
 -- What applying a batch to a version leaves.
 use Rattle.std.specs.Prelude.{◌≡◌, ℕ, ◌+◌, ◌==◌, List, [], ◌∷◌, ◌++◌, length, count_by, Bool, if◌then◌else◌}
-use Rattle.graph_model.specs.Step.{after_all, outcomes}
-use Rattle.graph_model.specs.declared.batches.NamedOp.{NamedOp}
+use Rattle.graph_types.specs.Step.{after_all, outcomes}
+use Rattle.graph_types.specs.declared.batches.NamedOp.{NamedOp}
 use Rattle.edge_block.specs.Slots.{BlockView}
-use Rattle.block_layout.specs.Batches.{layout_after, taken_by, dropped_by}
+use Rattle.edge_block.specs.Batches.{layout_after, taken_by, dropped_by}
 use Rattle.batch_shards.specs.Births.{CarriesBirths}
-use Rattle.row_pages.specs.Rows.{row_of, blocks_of}
+use Rattle.graph_version.specs.Rows.{row_of, blocks_of}
 use Rattle.batch_shards.specs.RowBlocks as shared
 use Rattle.batch_shards.specs.Done.{Exchanges}
 use Rattle.graph_version.specs.Versions.{VersionView, IsVersion, content, layout_of}
 use Rattle.graph_version.specs.Drafts.{DraftView}
-use Rattle.graph_model.specs.declared.batches.Outcome.{Outcome}
+use Rattle.graph_types.specs.declared.batches.Outcome.{Outcome}
 use Rattle.batch_shards.specs.declared.shard.ShardDone.{ShardDone}
 use Rattle.batch_apply.specs.Plans.{written}
 use Rattle.batch_apply.specs.declared.applied.Applied.{Applied}

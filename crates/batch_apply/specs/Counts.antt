@@ -1,7 +1,7 @@
 -- How outcomes change the number of edges.
 use Rattle.std.specs.Prelude.{ℕ, Bool, true, false}
-use Rattle.graph_model.specs.declared.batches.Outcome.{Outcome}
-use Rattle.graph_model.specs.declared.batches.Outcome.TheVariants.{Inserted, Removed, Expired}
+use Rattle.graph_types.specs.declared.batches.Outcome.{Outcome}
+use Rattle.graph_types.specs.declared.batches.Outcome.TheVariants.{Inserted, Removed, Expired}
 
 -- one edge more
 abbrev pub is_inserted : Outcome → Bool

@@ -1,7 +1,7 @@
 -- What shards leave together.
 use Rattle.std.specs.Prelude.{◌≡◌, ℕ, ◌+◌, List, ◌++◌, flat_map, replicate, count_by, Bool}
 use Rattle.std.specs.List.{AllZip}
-use Rattle.graph_model.specs.declared.batches.Outcome.TheVariants.{Absent}
+use Rattle.graph_types.specs.declared.batches.Outcome.TheVariants.{Absent}
 use Rattle.edge_block.specs.Slots.{BlockView}
 use Rattle.batch_shards.specs.RowBlocks as shared
 use Rattle.batch_shards.specs.Closing.{row_values}

@@ -1,12 +1,12 @@
 -- A plan: a batch's operations with the numbers of their names, by shard.
 use Rattle.std.specs.Prelude.{ℕ, ◌+◌, List, [], ◌∷◌, map, filter, get_or, set, Bool}
 use Rattle.std.specs.List.{enumerate_from}
-use Rattle.graph_model.specs.Graph.{Graph}
-use Rattle.graph_model.specs.declared.batches.NamedOp.{NamedOp}
-use Rattle.graph_model.specs.declared.batches.Outcome.{Outcome}
-use Rattle.graph_model.specs.declared.batches.Outcome.TheVariants.{Absent}
-use Rattle.block_layout.specs.Rows.{OpenBlock}
-use Rattle.block_layout.specs.Batches.{Resolved, resolved, is_in_shard, outcomes_all, picked, together}
+use Rattle.graph_types.specs.Graph.{Graph}
+use Rattle.graph_types.specs.declared.batches.NamedOp.{NamedOp}
+use Rattle.graph_types.specs.declared.batches.Outcome.{Outcome}
+use Rattle.graph_types.specs.declared.batches.Outcome.TheVariants.{Absent}
+use Rattle.edge_block.specs.Rows.{OpenBlock}
+use Rattle.edge_block.specs.Batches.{Resolved, resolved, is_in_shard, outcomes_all, picked, together}
 pub use Rattle.batch_shards.specs.Groups.{told}
 
 -- the batch's operations, each with its place

@@ -1,15 +1,32 @@
-//! The work of a batch, by workers.
+//! A batch on its way to the next version: its plan, and the work on it by workers.
+//!
+//! [`plan`] resolves names to numbers, in two passes, the vertex names first, so that too many kinds are met only where every
+//! vertex name fits, as in the batch rule; and it gives each worker the operations of its sources. [`apply`] has all workers do
+//! theirs at once, and puts together what they leave.
 #![tactic(auto)]
 
 mod applied;
+mod dividing;
 mod laws;
+mod naming;
+mod old;
 mod planning;
+mod plans;
+mod resolve;
+mod shards;
+mod source_laws;
 mod workers;
 
 pub use applied::{Applied, apply};
+pub use dividing::plan_with;
 pub use laws::{
     law_all_written, law_batch_totals, law_needs, law_needs_example, law_shard_results,
     law_sum_all, law_worker_rows,
 };
+pub use naming::resolve_batch;
+pub use old::{OldRow, old_rows};
 pub use planning::plan;
+pub use plans::{Plan, PlanError};
+pub use resolve::{EdgeKey, ResolvedOp};
+pub use source_laws::law_sources_within;
 pub use workers::{Gate, Job, PassAll, do_all};

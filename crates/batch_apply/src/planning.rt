@@ -2,16 +2,18 @@
 
 ghost use Rattle.std.specs.Prelude.{◌<◌, IfOk, IfErr, OnOk};
 ghost use Rattle.graph_version.specs.Versions.{content};
-ghost use Rattle.row_pages.specs.Rows.{row_of};
-ghost use Rattle.batch_plan.specs.Planned.{IsPlan, MeetsNeitherLimit, IsPlanRefusal};
+ghost use Rattle.graph_version.specs.Rows.{row_of};
+ghost use Rattle.batch_apply.specs.Planned.{IsPlan, MeetsNeitherLimit, IsPlanRefusal};
 
-use batch_plan::{Plan, PlanError, old_rows};
-use graph_model::Batch;
+use crate::dividing::plan_with;
+use crate::old::old_rows;
+use crate::plans::{Plan, PlanError};
+use graph_types::Batch;
 use graph_version::Version;
 use std::alloc::Global;
 
 /// Plans a batch over a version for so many workers: finds the version's old rows for the batch, and plans with them, as
-/// `batch_plan::plan` does for who has found them before.
+/// [`plan_with`] does for who has found them before.
 ///
 /// `NamesFull` where the batch would leave more than 65,536 vertex names, else `KindsFull` where it would leave more than 64
 /// kinds, and `OutOfMemory` where a growth was refused.
@@ -33,5 +35,5 @@ pub fn plan(
     ensures refused { IfErr result (λ error. IsPlanRefusal error batch.now (content version.now)) }
 {
     let old = old_rows(alloc, version, batch)?;
-    batch_plan::plan(alloc, version, batch, &old, workers)
+    plan_with(alloc, version, batch, &old, workers)
 }

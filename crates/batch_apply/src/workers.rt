@@ -2,7 +2,7 @@
 
 ghost use Rattle.std.specs.Prelude.{◌≡◌, ◌+◌, ◌++◌, ◌<◌, ◌≤◌, map, IfOk, IfSome, MatchBool, vec_len, length, [], All, List, ℕ};
 ghost use Rattle.std.specs.Thread.{IsSync};
-ghost use Rattle.row_pages.specs.Rows.{row_of};
+ghost use Rattle.graph_version.specs.Rows.{row_of};
 ghost use Rattle.batch_shards.specs.Done.{IsShardDone};
 ghost use Rattle.batch_apply.specs.Jobs.{IsShard, AreDone};
 

@@ -3,7 +3,7 @@ use Rattle.std.proofs.Common.{◌≡◌, ℕ, ◌+◌, Bool}
 use Rattle.std.proofs.Common.{true, false, cond, not, ◌&&◌, List, [], ◌∷◌, ◌++◌, map, flat_map, count_by, refl, ap, ◌∙◌, arith}
 use Rattle.std.{specs.Option.option_to_list, proofs.lemmas.List.map-append}
 use Rattle.edge_block.specs.Slots.{BlockView}
-use Rattle.block_layout.specs.Rows.{shape_of, has_none}
+use Rattle.edge_block.specs.Rows.{shape_of, has_none}
 use Rattle.batch_shards.specs.RowBlocks.{block_of, had_here, had_in, own_here, own_in}
 use Rattle.batch_shards.specs.Closing.{after_here, stays_here, written_here, dropped_here, unused_here, after_of, stays_of}
 use Rattle.batch_shards.specs.Closing.{written_of, dropped_of, unused_of, stays_all, written_all, dropped_all, unused_all}

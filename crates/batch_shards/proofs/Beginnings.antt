@@ -3,10 +3,10 @@ use Rattle.std.proofs.Common.{◌≡◌, ℕ, ◌≤◌, true, false, not, List,
 use Rattle.std.proofs.{Common.subst, Common.All, lemmas.Bool.false≢true, lemmas.Bool.le-ltb}
 use Rattle.std.proofs.lemmas.List.{get_or-map, get_or_default, length-map, Elements.All-nil}
 use Rattle.std.specs.declared.{alloc.Global.Global, option.Option.TheVariants.None, option.Option.TheVariants.Some, sync.Arc.Arc}
-use Rattle.graph_model.specs.declared.batches.Outcome.{Outcome}
-use Rattle.block_layout.specs.Batches.{opened, rows_all, outcome_in}
+use Rattle.graph_types.specs.declared.batches.Outcome.{Outcome}
+use Rattle.edge_block.specs.Batches.{opened, rows_all, outcome_in}
 use Rattle.edge_block.specs.{declared.blocks.Block.Block, Slots.BlockView}
-use Rattle.block_layout.specs.Rows.{OpenBlock, shape_of, untouched}
+use Rattle.edge_block.specs.Rows.{OpenBlock, shape_of, untouched}
 use Rattle.batch_shards.specs.RowBlocks.{block_of, blocks_of, kept_of, opens, had_in, numbers_of, IsOf}
 use Rattle.batch_shards.specs.{Closing.row_values, Shards.resolved_at, Shards.resolved_in, Spending.needed, Spending.needed_past}
 use Rattle.batch_shards.specs.{Groups.is_past, Groups.is_expiry, Groups.told, Groups.none_told, Done.layout_by}

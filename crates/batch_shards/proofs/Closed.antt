@@ -6,7 +6,7 @@ use Rattle.std.proofs.lemmas.List.Elements.{All-append}
 use Rattle.std.specs.{Option.is_some, Option.option_to_list, declared.alloc.Global.Global}
 use Rattle.std.specs.declared.{option.Option.Option, option.Option.TheVariants.None, option.Option.TheVariants.Some, sync.Arc.Arc}
 use Rattle.edge_block.specs.{declared.blocks.Block.Block, Slots.BlockView}
-use Rattle.block_layout.specs.Rows.{OpenBlock, shape_of, shapes, has_none, is_kept, row_end, taken_in, dropped_in}
+use Rattle.edge_block.specs.Rows.{OpenBlock, shape_of, shapes, has_none, is_kept, row_end, taken_in, dropped_in}
 use Rattle.batch_shards.specs.RowBlocks.{block_of, open_of, opens, had_here, had_in, IsOf}
 use Rattle.batch_shards.specs.Closing.{written_here, dropped_here, after_of, written_of, dropped_of, closed_rows}
 use Rattle.batch_shards.specs.{Shards.AreOpen, Shards.AreOwn, Shards.sources_of, Shards.had_all, Done.sum_of}

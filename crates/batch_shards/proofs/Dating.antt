@@ -7,7 +7,7 @@ use Rattle.std.proofs.lemmas.Bool.{eq-eqb, or_right}
 use Rattle.std.proofs.lemmas.List.{map-append, Elements.All-head, Elements.All-tail, Elements.All-cons, Elements.All-nil}
 use Rattle.edge_block.specs.{declared.blocks.Block.Block, Slots.BlockView}
 use Rattle.graph_version.specs.Versions.{is_in}
-use Rattle.block_layout.specs.Rows.{OpenBlock, shape_of, has_none}
+use Rattle.edge_block.specs.Rows.{OpenBlock, shape_of, has_none}
 use Rattle.batch_shards.specs.RowBlocks.{block_of, opens, had_here, had_in}
 use Rattle.batch_shards.specs.Closing.{written_here, after_of, written_of, dropped_of, closed_rows, written_all, dropped_all}
 use Rattle.batch_shards.specs.{Shards.AreOpen, Shards.sources_of, Births.first_birth, Births.left_over, Births.births_end}

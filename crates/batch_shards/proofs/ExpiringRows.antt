@@ -4,7 +4,7 @@ use Rattle.std.proofs.{Common.arith, Common.All, lemmas.List.Elements.All-set, l
 use Rattle.std.{proofs.lemmas.List.length-map, specs.List.list_any, specs.List.sum_by}
 use Rattle.std.specs.declared.option.Option.{Option, TheVariants.None, TheVariants.Some}
 use Rattle.edge_block.specs.Slots.{slots_since, has_before, old_in, holds}
-use Rattle.block_layout.specs.Rows.{OpenBlock, touch, expire_block, expire_row}
+use Rattle.edge_block.specs.Rows.{OpenBlock, touch, expire_block, expire_row}
 use Rattle.batch_shards.specs.RowBlocks.{block_of, open_of, opens, IsOf}
 use Rattle.batch_shards.specs.{Notes.IsNoted, Spending.is_unspent, Spending.unspent, declared.notes.Notes.Notes}
 use Rattle.batch_shards.{specs.declared.row_blocks.RowBlock.RowBlock, proofs.Expiring.map_first, proofs.Expiring.map_first_more}

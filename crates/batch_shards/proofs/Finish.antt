@@ -3,8 +3,8 @@ use Rattle.std.proofs.Common.{◌≡◌, ℕ, zero, suc, ◌+◌, ◌<◌, false
 use Rattle.std.proofs.Common.{map, flat_map, count_by, zip, refl, sym, ap, ap₂, ◌∙◌, arith, subst, All}
 use Rattle.std.specs.declared.{option.Option.TheVariants.None, option.Option.TheVariants.Some, sync.Arc.Arc, alloc.Global.Global}
 use Rattle.std.proofs.lemmas.{Bool.lt-ltb, List.get_or-map, List.length-map, List.take_all}
-use Rattle.graph_model.specs.declared.batches.Outcome.{Outcome, TheVariants.Absent}
-use Rattle.block_layout.specs.{Batches.opened, Batches.outcomes_all, Rows.shape_of, Rows.row_end, Rows.taken_in, Rows.dropped_in}
+use Rattle.graph_types.specs.declared.batches.Outcome.{Outcome, TheVariants.Absent}
+use Rattle.edge_block.specs.{Batches.opened, Batches.outcomes_all, Rows.shape_of, Rows.row_end, Rows.taken_in, Rows.dropped_in}
 use Rattle.edge_block.specs.{declared.blocks.Block.Block, Slots.BlockView}
 use Rattle.batch_shards.specs.RowBlocks.{block_of, blocks_of, numbers_of}
 use Rattle.batch_shards.specs.Closing.{written_here, dropped_here, closed_rows, row_values, stays_all, written_all, dropped_all}

@@ -6,7 +6,7 @@ use Rattle.std.specs.declared.{option.Option.Option, option.Option.TheVariants.N
 use Rattle.std.specs.declared.alloc.Global.{Global}
 use Rattle.std.proofs.lemmas.Bool.{false≢true, eqb-true, eqb-false, eq-eqb, or_cases, or_left, or_right, le-leb, and_from}
 use Rattle.std.proofs.lemmas.List.{Elements.All-head, Elements.All-tail, get_or-map, get_or-set_same, get_or-set_other, map-set}
-use Rattle.graph_model.specs.{View.in_view, declared.ids.Filter.Filter}
+use Rattle.graph_types.specs.{View.in_view, declared.ids.Filter.Filter}
 use Rattle.edge_block.specs.Slots.{Slot, BlockView, holds, edges_in, entry_in, IsSlot}
 use Rattle.edge_block.{specs.Lending.LentEdge, specs.Lending.lent_of, proofs.SlotLaws.target_of_edge}
 use Rattle.std.proofs.{lemmas.List.Folds.list_any-append, Math.ListN.length-set}

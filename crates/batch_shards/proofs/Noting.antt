@@ -6,10 +6,10 @@ use Rattle.std.specs.declared.option.Option.{Option, TheVariants.None, TheVarian
 use Rattle.std.proofs.lemmas.Bool.{true≢false, false≢true, false_from_ne_true, lt-ltb, le-ltb, eqb-true, eqb-false, or_cases}
 use Rattle.std.proofs.{lemmas.Bool.or_left, lemmas.Bool.or_right, Math.ListN.length-set}
 use Rattle.std.proofs.lemmas.List.{get_or-set_same, get_or-set_other, get_or_default, get_or_append_left, Sums.position_or_len_is}
-use Rattle.graph_model.specs.{Graph.Stamp, Step.stamp_after, Step.outcome_at, declared.changes.EdgeChange.EdgeChange}
+use Rattle.graph_types.specs.{Graph.Stamp, Step.stamp_after, Step.outcome_at, declared.changes.EdgeChange.EdgeChange}
 use Rattle.edge_block.specs.Slots.{Slot, holds, is_free, put_slot, take_slot, at_first, stamp_at}
 use Rattle.edge_block.proofs.SlotLaws.{target_of_edge}
-use Rattle.block_layout.specs.Rows.{OpenBlock, touch, touches, new_block}
+use Rattle.edge_block.specs.Rows.{OpenBlock, touch, touches, new_block}
 use Rattle.batch_shards.specs.RowBlocks.{block_of, open_of, set_slot, IsTouched, IsChanged}
 use Rattle.batch_shards.specs.Notes.{has_target, may_stand, stands, IsNoted, Gains}
 use Rattle.batch_shards.specs.declared.{notes.Notes.Notes, row_blocks.RowBlock.RowBlock}

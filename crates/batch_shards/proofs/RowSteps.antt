@@ -5,12 +5,12 @@ use Rattle.std.proofs.lemmas.List.{map-append, Elements.All-head, Elements.All-t
 use Rattle.std.specs.{List.list_any, List.position, Option.is_some, Option.option_or}
 use Rattle.std.specs.declared.option.Option.{Option, TheVariants.None, TheVariants.Some}
 use Rattle.std.proofs.lemmas.Bool.{false≢true, and_parts}
-use Rattle.graph_model.specs.{Graph.Stamp, Graph.IsWeight, Graph.IsTime, Step.stamp_after, Step.outcome_at}
-use Rattle.graph_model.specs.declared.changes.EdgeChange.{EdgeChange, TheVariants.Insert, TheVariants.Incr, TheVariants.Remove}
+use Rattle.graph_types.specs.{Graph.Stamp, Graph.IsWeight, Graph.IsTime, Step.stamp_after, Step.outcome_at}
+use Rattle.graph_types.specs.declared.changes.EdgeChange.{EdgeChange, TheVariants.Insert, TheVariants.Incr, TheVariants.Remove}
 use Rattle.edge_block.proofs.{Entries.list_any-holds, Firsts.first_some-by_any}
 use Rattle.edge_block.specs.Slots.{Slot, holds, stamp_at, is_free, put_slot, has_room_for, IsSlot, first_some, at_first}
-use Rattle.block_layout.specs.Rows.{OpenBlock, has_edge, has_room, open_at, edge_at, touch, touches, put_edge, set_edge}
-use Rattle.block_layout.specs.Rows.{new_block, change_row}
+use Rattle.edge_block.specs.Rows.{OpenBlock, has_edge, has_room, open_at, edge_at, touch, touches, put_edge, set_edge}
+use Rattle.edge_block.specs.Rows.{new_block, change_row}
 use Rattle.batch_shards.specs.RowBlocks.{block_of, open_of, opens, had_here, own_here, set_slot, IsChanged}
 use Rattle.batch_shards.specs.OpenRows.{KeepsHere, KeepsIn}
 use Rattle.std.specs.declared.{sync.Arc.Arc, alloc.Global.Global, vec.Vec.Vec}

@@ -5,10 +5,10 @@ use Rattle.std.proofs.lemmas.Bool.{false≢true, or_right, eq-eqb, eqb-true, eqb
 use Rattle.std.proofs.lemmas.List.{get_or-set_same, get_or-set_other, Sums.count_by_more_yes, Sums.count_by_more_no}
 use Rattle.std.{proofs.lemmas.List.Sums.sum_by-cons, specs.List.sum_by, specs.Prelude.slice_index, specs.Prelude.nat_lt}
 use Rattle.std.specs.declared.option.Option.TheVariants.{None, Some}
-use Rattle.graph_model.specs.{Step.outcome_at, declared.batches.Outcome.Outcome, declared.batches.Outcome.TheVariants.Expired}
-use Rattle.graph_model.specs.declared.changes.EdgeChange.{EdgeChange}
-use Rattle.block_layout.specs.Rows.{OpenBlock, change_row, edge_at, old_in_row}
-use Rattle.block_layout.specs.Batches.{key_step, rows_step, rows_all, outcome_in, together}
+use Rattle.graph_types.specs.{Step.outcome_at, declared.batches.Outcome.Outcome, declared.batches.Outcome.TheVariants.Expired}
+use Rattle.graph_types.specs.declared.changes.EdgeChange.{EdgeChange}
+use Rattle.edge_block.specs.Rows.{OpenBlock, change_row, edge_at, old_in_row}
+use Rattle.edge_block.specs.Batches.{key_step, rows_step, rows_all, outcome_in, together}
 use Rattle.batch_shards.specs.{Shards.IsAct, Shards.resolved_at, Shards.resolved_in, Spending.takes}
 use Rattle.batch_shards.specs.Groups.{is_at, is_past, does_act, may_change, key_of, IsNext, LeadsTo, IsSourceRow, IsOneMore}
 use Rattle.batch_shards.specs.Groups.{IsTold, told, outcome_over, act_step, act_outcome}

@@ -6,7 +6,7 @@ use Rattle.std.{proofs.lemmas.List.get_or_default, specs.declared.option.Option.
 use Rattle.batch_shards.specs.Groups.{is_at, is_expiry, IsNext, AreGroups, AreExpiries}
 use Rattle.batch_shards.specs.declared.shard.{Step.Step, Place.Place, Act.Act, Act.TheVariants.Edge}
 use Rattle.batch_shards.proofs.ShardSteps.{first_step, further}
-use Rattle.graph_model.specs.declared.changes.EdgeChange.{EdgeChange}
+use Rattle.graph_types.specs.declared.changes.EdgeChange.{EdgeChange}
 
 -- the next operation of a kind is here, or it is the next behind
 module _ (of : Act → Bool) (steps : List Step) (i : ℕ) (lt : i < length steps) where

@@ -5,9 +5,9 @@ use Rattle.std.proofs.lemmas.Bool.{le-ltb, ltb-true, ltb-false, false≢true}
 use Rattle.std.proofs.lemmas.List.{take_more, get_or_append_left, get_or_push, Elements.All-head, Elements.All-tail}
 use Rattle.std.proofs.lemmas.List.Sums.{sum_by-cons, sum_by-le-sum_by, sum_by_more}
 use Rattle.std.specs.{Prelude.nat_lt, List.list_any, declared.option.Option.Option}
-use Rattle.graph_model.specs.Step.{is_before}
+use Rattle.graph_types.specs.Step.{is_before}
 use Rattle.edge_block.specs.Slots.{Slot, edges_in, old_in, slots_since}
-use Rattle.block_layout.specs.Rows.{OpenBlock, has_old, touch, expire_row, old_in_row}
+use Rattle.edge_block.specs.Rows.{OpenBlock, has_old, touch, expire_row, old_in_row}
 use Rattle.batch_shards.specs.Groups.{is_expiry, is_later, IsNext, LeadsTo}
 use Rattle.batch_shards.specs.Spending.{latest, time_of, AreReached}
 use Rattle.batch_shards.specs.declared.shard.{Act.Act, Act.TheVariants.Edge, Act.TheVariants.Expire, Step.Step}

@@ -4,10 +4,10 @@ use Rattle.std.specs.Option.{option_to_list}
 use Rattle.std.specs.declared.sync.Arc.{Arc}
 use Rattle.std.specs.declared.alloc.Global.{Global}
 use Rattle.std.specs.declared.vec.Vec.{Vec}
-use Rattle.graph_model.specs.declared.ids.VertexId.{VertexId}
+use Rattle.graph_types.specs.declared.ids.VertexId.{VertexId}
 use Rattle.edge_block.specs.declared.blocks.Block.{Block}
 use Rattle.edge_block.specs.Slots.{BlockView}
-use Rattle.block_layout.specs.Rows.{has_none, shape_of}
+use Rattle.edge_block.specs.Rows.{has_none, shape_of}
 use Rattle.batch_shards.specs.declared.row_blocks.RowBlock.{RowBlock}
 use Rattle.batch_shards.specs.declared.shard.OpenRow.{OpenRow}
 use Rattle.batch_shards.specs.RowBlocks.{block_of, blocks_of}

@@ -3,8 +3,8 @@ use Rattle.std.specs.Prelude.{◌≡◌, ℕ, ◌+◌, List, map, flat_map, zip,
 use Rattle.edge_block.specs.Slots.{BlockView}
 use Rattle.graph_version.specs.Versions.{IsBlockOf, is_in}
 use Rattle.batch_shards.specs.Births.{births_end, births_dropped}
-use Rattle.block_layout.specs.Rows.{OpenBlock, Shape, shape_of, row_end, taken_in, dropped_in}
-use Rattle.block_layout.specs.Batches.{Resolved, rows_all, outcomes_all, opened}
+use Rattle.edge_block.specs.Rows.{OpenBlock, Shape, shape_of, row_end, taken_in, dropped_in}
+use Rattle.edge_block.specs.Batches.{Resolved, rows_all, outcomes_all, opened}
 use Rattle.batch_shards.specs.RowBlocks.{blocks_of, numbers_of}
 use Rattle.batch_shards.specs.Closing.{row_values}
 use Rattle.batch_shards.specs.Shards.{resolved_in}

@@ -3,11 +3,11 @@ use Rattle.std.specs.Prelude.{◌≡◌, ◌≢◌, ℕ, ◌+◌, ◌%◌, ◌^�
 use Rattle.std.specs.Prelude.{AllPairs, Bool, true, false, not, ◌||◌}
 use Rattle.std.specs.declared.option.Option.{Option}
 use Rattle.std.specs.declared.option.Option.TheVariants.{None, Some}
-use Rattle.graph_model.specs.Graph.{Key}
-use Rattle.graph_model.specs.declared.batches.Outcome.{Outcome}
-use Rattle.graph_model.specs.declared.batches.Outcome.TheVariants.{Inserted, Updated, Removed, Absent, Overflow, Expired}
-use Rattle.block_layout.specs.Rows.{OpenBlock, expire_row, old_in_row}
-use Rattle.block_layout.specs.Batches.{outcomes_all, together, key_step, key_outcome}
+use Rattle.graph_types.specs.Graph.{Key}
+use Rattle.graph_types.specs.declared.batches.Outcome.{Outcome}
+use Rattle.graph_types.specs.declared.batches.Outcome.TheVariants.{Inserted, Updated, Removed, Absent, Overflow, Expired}
+use Rattle.edge_block.specs.Rows.{OpenBlock, expire_row, old_in_row}
+use Rattle.edge_block.specs.Batches.{outcomes_all, together, key_step, key_outcome}
 use Rattle.batch_shards.specs.Shards.{AreSteps, resolved_in}
 use Rattle.batch_shards.specs.declared.shard.Place.{Place}
 use Rattle.batch_shards.specs.declared.shard.Act.{Act}

@@ -3,12 +3,12 @@ use Rattle.std.specs.Prelude.{◌≡◌, ℕ, ◌+◌, ◌<◌, ◌≤◌, List,
 use Rattle.std.specs.declared.sync.Arc.{Arc}
 use Rattle.std.specs.declared.alloc.Global.{Global}
 use Rattle.std.specs.declared.vec.Vec.{Vec}
-use Rattle.graph_model.specs.declared.ids.VertexId.{VertexId}
-use Rattle.graph_model.specs.declared.batches.Outcome.{Outcome}
+use Rattle.graph_types.specs.declared.ids.VertexId.{VertexId}
+use Rattle.graph_types.specs.declared.batches.Outcome.{Outcome}
 use Rattle.edge_block.specs.declared.blocks.Block.{Block}
 use Rattle.edge_block.specs.Slots.{BlockView}
-use Rattle.block_layout.specs.Rows.{OpenBlock}
-use Rattle.block_layout.specs.Batches.{rows_all}
+use Rattle.edge_block.specs.Rows.{OpenBlock}
+use Rattle.edge_block.specs.Batches.{rows_all}
 use Rattle.batch_shards.specs.RowBlocks.{opens, had_here, had_in, own_here, own_in, numbers_of, HaveSame, IsOf}
 use Rattle.batch_shards.specs.Room.{AreHints}
 use Rattle.batch_shards.specs.Shards.{resolved_in}

@@ -2,10 +2,10 @@
 use Rattle.std.specs.Prelude.{All, ◌≡◌, ℕ, ◌<◌, List, [], map, flat_map, take, length, get_or, false}
 use Rattle.std.specs.declared.sync.Arc.{Arc}
 use Rattle.std.specs.declared.alloc.Global.{Global}
-use Rattle.graph_model.specs.declared.batches.Outcome.{Outcome}
+use Rattle.graph_types.specs.declared.batches.Outcome.{Outcome}
 use Rattle.edge_block.specs.declared.blocks.Block.{Block}
 use Rattle.edge_block.specs.Slots.{BlockView}
-use Rattle.block_layout.specs.Batches.{rows_all, opened}
+use Rattle.edge_block.specs.Batches.{rows_all, opened}
 use Rattle.batch_shards.specs.RowBlocks.{blocks_of, numbers_of, had_in, HaveSame}
 use Rattle.batch_shards.specs.Closing.{row_values, closed_rows, written_all, dropped_all, unused_all}
 use Rattle.batch_shards.specs.Shards.{AreOpen, AreOwn, resolved_in, sources_of, had_all, own_all}

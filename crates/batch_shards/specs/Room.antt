@@ -1,6 +1,6 @@
 -- Where a row may have room, and all that is known of a row before a search.
 use Rattle.std.specs.Prelude.{◌≡◌, ℕ, ◌<◌, List, length, get_or, false}
-use Rattle.block_layout.specs.Rows.{has_room, old_in_row}
+use Rattle.edge_block.specs.Rows.{has_room, old_in_row}
 use Rattle.batch_shards.specs.declared.room.Room.{Room}
 use Rattle.batch_shards.specs.declared.rows.Hints.{Hints}
 use Rattle.batch_shards.specs.declared.row_blocks.RowBlock.{RowBlock}

@@ -6,12 +6,12 @@ use Rattle.std.specs.declared.option.Option.TheVariants.{None, Some}
 use Rattle.std.specs.Arc.{arc_value}
 use Rattle.std.specs.declared.sync.Arc.{Arc}
 use Rattle.std.specs.declared.alloc.Global.{Global}
-use Rattle.graph_model.specs.Graph.{Stamp}
-use Rattle.graph_model.specs.declared.changes.EdgeChange.{EdgeChange}
-use Rattle.graph_model.specs.Step.{stamp_after, outcome_at}
+use Rattle.graph_types.specs.Graph.{Stamp}
+use Rattle.graph_types.specs.declared.changes.EdgeChange.{EdgeChange}
+use Rattle.graph_types.specs.Step.{stamp_after, outcome_at}
 use Rattle.edge_block.specs.declared.blocks.Block.{Block}
 use Rattle.edge_block.specs.Slots.{BlockView, Slot, put_slot, take_slot, stamp_at}
-use Rattle.block_layout.specs.Rows.{OpenBlock, untouched, shape_of, touch, touches}
+use Rattle.edge_block.specs.Rows.{OpenBlock, untouched, shape_of, touch, touches}
 use Rattle.batch_shards.specs.declared.row_blocks.RowBlock.{RowBlock}
 
 abbrev pub block_of : Arc Block Global → BlockView

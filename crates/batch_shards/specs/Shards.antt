@@ -2,11 +2,11 @@
 use Rattle.std.specs.Prelude.{◌≡◌, ℕ, ◌<◌, List, map, flat_map, All, slice_index}
 use Rattle.std.specs.declared.option.Option.{Option}
 use Rattle.std.specs.declared.option.Option.TheVariants.{None, Some}
-use Rattle.graph_model.specs.Graph.{Key}
-use Rattle.graph_model.specs.Changes.{IsChange}
+use Rattle.graph_types.specs.Graph.{Key}
+use Rattle.graph_types.specs.Changes.{IsChange}
 use Rattle.edge_block.specs.Slots.{BlockView}
-use Rattle.block_layout.specs.Rows.{OpenBlock}
-use Rattle.block_layout.specs.Batches.{Resolved, AtKey, InAll}
+use Rattle.edge_block.specs.Rows.{OpenBlock}
+use Rattle.edge_block.specs.Batches.{Resolved, AtKey, InAll}
 use Rattle.batch_shards.specs.RowBlocks.{opens, had_in, own_in, IsOf}
 use Rattle.batch_shards.specs.declared.shard.OpenRow.{OpenRow}
 use Rattle.batch_shards.specs.declared.shard.Place.{Place}

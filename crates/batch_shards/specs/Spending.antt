@@ -3,7 +3,7 @@ use Rattle.std.specs.Prelude.{◌≡◌, ℕ, ◌+◌, ◌<◌, max, List, [], �
 use Rattle.std.specs.declared.option.{Option.Option, Option.TheVariants.None, Option.TheVariants.Some}
 use Rattle.std.specs.List.{sum_by}
 use Rattle.edge_block.specs.Slots.{BlockView, has_before}
-use Rattle.block_layout.specs.Rows.{OpenBlock, has_old}
+use Rattle.edge_block.specs.Rows.{OpenBlock, has_old}
 use Rattle.batch_shards.specs.Groups.{is_past, is_expiry, AreExpiries, AreGroups}
 use Rattle.batch_shards.specs.declared.groups.Groups.{Groups}
 use Rattle.batch_shards.specs.declared.shard.Act.{Act}

@@ -9,7 +9,7 @@ ghost use Rattle.batch_shards.specs.Notes.{may_stand, list_of, places_in, stands
 
 use crate::row_blocks::RowBlock;
 use edge_block::Block;
-use graph_model::Filter;
+use graph_types::Filter;
 use std::alloc::{AllocError, Global};
 
 /// The number of no list.

@@ -2,11 +2,11 @@
 
 ghost use Rattle.std.specs.Prelude.{◌≡◌, ◌+◌, ◌++◌, ◌<◌, ◌≤◌, ℕ, List, [], IfOk, OnOk, All};
 ghost use Rattle.std.specs.Prelude.{vec_len, length, map, count_by, ◌%◌, ◌^◌};
-ghost use Rattle.graph_model.specs.declared.batches.Outcome.TheVariants.{Expired};
-ghost use Rattle.graph_model.specs.Changes.{IsChange};
-ghost use Rattle.block_layout.specs.Rows as layout;
-ghost use Rattle.block_layout.specs.Rows.{OpenBlock, has_none, shape_of};
-ghost use Rattle.block_layout.specs.Batches.{key_step, key_outcome, together};
+ghost use Rattle.graph_types.specs.declared.batches.Outcome.TheVariants.{Expired};
+ghost use Rattle.graph_types.specs.Changes.{IsChange};
+ghost use Rattle.edge_block.specs.Rows as layout;
+ghost use Rattle.edge_block.specs.Rows.{OpenBlock, has_none, shape_of};
+ghost use Rattle.edge_block.specs.Batches.{key_step, key_outcome, together};
 ghost use Rattle.batch_shards.specs.RowBlocks.{block_of, blocks_of, kept_of, opens, had_in, own_in, numbers_of};
 ghost use Rattle.batch_shards.specs.OpenRows.{IsRowOf, KeepsIn, LeavesEnough, AreDone, KeepsOthers};
 ghost use Rattle.batch_shards.specs.Closing.{after_here, written_here, dropped_here, unused_here, after_of, written_of};
@@ -23,7 +23,7 @@ use crate::row_blocks::RowBlock;
 use crate::rows::{Hints, apply_step, expire_blocks, least_time};
 use crate::shard::{Act, Leavings, OpenRow, Place, Step};
 use edge_block::Block;
-use graph_model::{EdgeChange, KindId, Outcome, VertexId};
+use graph_types::{EdgeChange, KindId, Outcome, VertexId};
 use std::alloc::{AllocError, Global};
 use std::sync::Arc;
 

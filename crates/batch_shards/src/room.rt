@@ -2,12 +2,12 @@
 
 ghost use Rattle.std.specs.Prelude.{◌≡◌, ℕ, List, ◌<◌, set};
 ghost use Rattle.std.specs.List.{position};
-ghost use Rattle.block_layout.specs.Rows as layout;
+ghost use Rattle.edge_block.specs.Rows as layout;
 ghost use Rattle.batch_shards.specs.RowBlocks.{open_of};
 ghost use Rattle.batch_shards.specs.Room.{IsRoom};
 
 use crate::row_blocks::RowBlock;
-use graph_model::KindId;
+use graph_types::KindId;
 
 /// No block of the kind before the place has a free slot.
 #[derive(Clone, Copy)]

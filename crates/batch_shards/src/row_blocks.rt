@@ -1,12 +1,12 @@
 //! One block of a row.
 
 ghost use Rattle.std.specs.Prelude.{◌≡◌, ◌+◌, ◌<◌, ◌≤◌, IsTrue, OnOk, IfOk, vec_len, true, false, cond};
-ghost use Rattle.graph_model.specs.Graph.{IsWeight, IsTime};
+ghost use Rattle.graph_types.specs.Graph.{IsWeight, IsTime};
 ghost use Rattle.edge_block.specs.Slots.{has_room_for, put_slot, take_slot, edge_slot, slots_since, old_in};
-ghost use Rattle.block_layout.specs.Rows as layout;
+ghost use Rattle.edge_block.specs.Rows as layout;
 
 use edge_block::Block;
-use graph_model::KindId;
+use graph_types::KindId;
 use std::alloc::AllocError;
 use std::sync::Arc;
 

@@ -5,23 +5,23 @@ ghost use Rattle.std.specs.Prelude.{IfSome, OnOk, All, vec_len, length, [], ◌�
 ghost use Rattle.std.specs.Prelude.{get_or, min, MatchOption, ◌%◌, ◌^◌};
 ghost use Rattle.std.specs.List.{list_any, position};
 ghost use Rattle.std.specs.Option.{is_some};
-ghost use Rattle.graph_model.specs.Graph.{IsWeight, IsTime};
-ghost use Rattle.graph_model.specs.Step.{stamp_after, outcome_at};
+ghost use Rattle.graph_types.specs.Graph.{IsWeight, IsTime};
+ghost use Rattle.graph_types.specs.Step.{stamp_after, outcome_at};
 ghost use Rattle.edge_block.specs.Slots.{has_room_for, stamp_at, edge_slot};
-ghost use Rattle.block_layout.specs.Rows as layout;
-ghost use Rattle.block_layout.specs.Rows.{touch, touches, change_row, edge_at, put_edge};
+ghost use Rattle.edge_block.specs.Rows as layout;
+ghost use Rattle.edge_block.specs.Rows.{touch, touches, change_row, edge_at, put_edge};
 ghost use Rattle.batch_shards.specs.RowBlocks.{block_of, open_of, opens, set_slot, IsOf, IsChanged, IsTouched};
 ghost use Rattle.batch_shards.specs.OpenRows.{KeepsHere, KeepsIn, LeavesEnough};
 ghost use Rattle.batch_shards.specs.Spending.{unspent};
 ghost use Rattle.batch_shards.specs.Notes.{stands, Gains, IsNoted};
 ghost use Rattle.batch_shards.specs.Room.{IsFull, IsRoom, AreHints};
-ghost use Rattle.graph_model.specs.Changes.{option_stamp, AreMarks, IsChange};
+ghost use Rattle.graph_types.specs.Changes.{option_stamp, AreMarks, IsChange};
 
 use crate::notes::Notes;
 use crate::room::Room;
 use crate::row_blocks::RowBlock;
 use edge_block::Block;
-use graph_model::{EdgeChange, EdgeMarks, KindId, Outcome, VertexId, change_edge};
+use graph_types::{EdgeChange, EdgeMarks, KindId, Outcome, VertexId, change_edge};
 use std::alloc::{AllocError, Global};
 use std::sync::Arc;
 

@@ -2,7 +2,7 @@
 
 ghost use Rattle.std.specs.Prelude.{◌≡◌, ◌≢◌, ◌+◌, ◌<◌, ◌≤◌, ℕ, List, [], IfOk, OnOk, All, AllPairs};
 ghost use Rattle.std.specs.Prelude.{vec_len, length, map};
-ghost use Rattle.row_pages.specs.Rows.{row_of};
+ghost use Rattle.graph_version.specs.Rows.{row_of};
 ghost use Rattle.batch_shards.specs.RowBlocks.{block_of, blocks_of};
 ghost use Rattle.batch_shards.specs.Done.{AreBlockRows, IsShardDone};
 ghost use Rattle.batch_shards.specs.Groups.{is_at, is_expiry, none_told};
@@ -15,7 +15,7 @@ use crate::open_rows::{LONG_ROW, close_row, do_steps, open_row};
 use crate::row_blocks::RowBlock;
 use crate::rows::Hints;
 use edge_block::Block;
-use graph_model::{EdgeChange, KindId, Outcome, VertexId};
+use graph_types::{EdgeChange, KindId, Outcome, VertexId};
 use graph_version::Version;
 use std::alloc::{AllocError, Global};
 use std::sync::Arc;

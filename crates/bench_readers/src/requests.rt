@@ -1,7 +1,7 @@
 //! Requests over all edges of a version, and the processor time that each takes.
 
 use crate::edges::vertex_name;
-use graph_model::{NamedFilter, Request};
+use graph_types::{NamedFilter, Request};
 use std::alloc::Global;
 use std::time::CpuClock;
 use stream_store::Session;

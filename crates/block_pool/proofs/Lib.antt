@@ -4,3 +4,4 @@ pub mod BodyLaws
 pub mod Stacking
 pub mod Needs
 pub mod StatusReads
+pub mod Links

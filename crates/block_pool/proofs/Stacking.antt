@@ -8,7 +8,7 @@ use Rattle.std.proofs.lemmas.List.Sums.{sum_by-cons, sum_by-set, get_or-le-sum_b
 use Rattle.std.proofs.Math.ListN.{length-set}
 use Rattle.block_reclamation.specs.declared.copies.PinCopy.{PinCopy}
 use Rattle.block_reclamation.specs.declared.copies.TheConstants.{SEATS}
-use Rattle.linked_stacks.specs.Stacks.{stack_of, below_top, AreAbsent}
+use Rattle.block_pool.specs.Stacks.{stack_of, below_top, AreAbsent}
 use Rattle.block_reclamation.specs.Status.{is_listed, is_retired, is_reclaimable}
 use Rattle.block_pool.specs.declared.numbers.TheConstants.{LOOSE, LATE}
 use Rattle.block_reclamation.specs.declared.status.BlockStatus.{BlockStatus}

@@ -6,7 +6,7 @@ use Rattle.block_pool.specs.declared.numbers.Numbers.{Numbers}
 use Rattle.block_reclamation.specs.declared.copies.PinCopy.{PinCopy}
 use Rattle.block_reclamation.specs.declared.copies.TheConstants.{SEATS}
 use Rattle.block_reclamation.specs.Copies.{reach_of}
-use Rattle.linked_stacks.specs.Stacks.{stack_of, below_top}
+use Rattle.block_pool.specs.Stacks.{stack_of, below_top}
 use Rattle.block_reclamation.specs.Status.{is_listed, is_free, is_retired, is_reclaimable}
 use Rattle.block_pool.specs.declared.numbers.TheConstants.{LATE}
 use Rattle.block_reclamation.specs.declared.status.BlockStatus.{BlockStatus}

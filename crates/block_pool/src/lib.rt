@@ -9,5 +9,7 @@
 
 mod numbers;
 mod pool;
+mod stacks;
 
 pub use pool::{Grant, GrantError, Pool};
+pub use stacks::LinkedStacks;

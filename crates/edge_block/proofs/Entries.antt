@@ -5,7 +5,7 @@ use Rattle.std.specs.{Prelude.◌||◌, Prelude.Contains, List.list_any, Option.
 use Rattle.std.specs.declared.option.Option.{Option, TheVariants.None, TheVariants.Some}
 use Rattle.std.proofs.lemmas.Bool.{false≢true, eqb-true, eq-eqb, ne_eqb, cases_eq}
 use Rattle.std.proofs.lemmas.List.{length-map, get_or-map, Elements.Contains-get_or}
-use Rattle.graph_model.specs.Graph.{Key, Stamp}
+use Rattle.graph_types.specs.Graph.{Key, Stamp}
 use Rattle.edge_block.specs.Slots.{Slot, BlockView, at_first, slot_at, stamp_at, holds, is_free, has_room_for, AreDistinct}
 use Rattle.edge_block.specs.{Slots.put_slot, Slots.take_slot, Slots.edges_in, Slots.entry_in, Slots.entries_of, Laws.StandsIn}
 use Rattle.edge_block.proofs.Firsts.{at_first-none}

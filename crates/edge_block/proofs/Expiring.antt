@@ -5,7 +5,7 @@ use Rattle.std.specs.{Option.option_or, Prelude.nat_le, Prelude.nat_lt, List.lis
 use Rattle.std.proofs.lemmas.Bool.{false≢true, eq-eqb, Decides.nat_tests}
 use Rattle.std.proofs.lemmas.List.{Sums.sum_by-cons, Folds.list_any_at, Folds.list_any_none}
 use Rattle.lane_scan.specs.Masks.{IsLeastOf}
-use Rattle.graph_model.specs.{Graph.Key, Graph.Stamp, Step.is_before, View.in_view, declared.ids.Filter.Filter}
+use Rattle.graph_types.specs.{Graph.Key, Graph.Stamp, Step.is_before, View.in_view, declared.ids.Filter.Filter}
 use Rattle.edge_block.specs.Slots.{Slot, stamp_at, take_slot, edges_in, AreDistinct, BlockView, entry_in}
 use Rattle.edge_block.specs.Slots.{slots_since, old_in, has_before, entries_of}
 use Rattle.edge_block.specs.Lending.{LentEdge, lent_of}

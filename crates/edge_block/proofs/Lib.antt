@@ -13,3 +13,9 @@ pub mod Copies
 pub mod Changes
 pub mod Entries
 pub mod Expiring
+pub mod RowLaws
+pub mod ExpiryLaws
+pub mod ListedRows
+pub mod OperationLaws
+pub mod GraphLaws
+pub mod ShardLaws

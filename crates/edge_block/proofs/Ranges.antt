@@ -3,7 +3,7 @@ use Rattle.std.proofs.Common.{◌≡◌, ℕ, ◌<◌, List, [], ◌∷◌, leng
 use Rattle.std.specs.Prelude.{filter, All}
 use Rattle.std.specs.declared.option.Option.{Option, TheVariants.None, TheVariants.Some}
 use Rattle.std.proofs.lemmas.List.Elements.{All-cons, All-head, All-tail, All-map, All-filter}
-use Rattle.graph_model.specs.{View.in_view, declared.ids.Filter.Filter}
+use Rattle.graph_types.specs.{View.in_view, declared.ids.Filter.Filter}
 use Rattle.edge_block.specs.Slots.{Slot, BlockView, IsSlot, IsStamp, edges_in, entry_in, entries_of}
 use Rattle.edge_block.specs.Lending.{lent_of}
 

@@ -4,7 +4,7 @@ use Rattle.std.proofs.{Common.refl, Common.sym, Common.ap, Common.◌∙◌, Com
 use Rattle.std.specs.{Int.bit_at, Int.RustNames.bit_and, Option.option_map}
 use Rattle.std.specs.declared.option.Option.{Option, TheVariants.None, TheVariants.Some}
 use Rattle.std.proofs.lemmas.{Bool.eq-eqb, Bool.ne_eqb, Bool.cases_lt, Nat.Bits.bit_at_ones, Nat.Bits.bit_at_ones_above}
-use Rattle.graph_model.specs.Graph.{Key, Stamp}
+use Rattle.graph_types.specs.Graph.{Key, Stamp}
 use Rattle.lane_scan.specs.Masks.{InMask, selected_from, selected}
 use Rattle.edge_block.specs.{Slots.Slot, Slots.BlockView, Slots.edges_in, Columns.slots_of}
 use Rattle.edge_block.specs.Lending.{LentEdge, lent_in, lent_of}

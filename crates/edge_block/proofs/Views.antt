@@ -8,7 +8,7 @@ use Rattle.std.proofs.lemmas.Bool.{eq-eqb, ne_eqb, le-leb, lt-leb, cases_lt, tru
 use Rattle.std.proofs.lemmas.Nat.Bits.{bit_at-zero, bit_at-lt, bit_at_and, bit_at-trailing_zeros, bit_at_clear_same}
 use Rattle.std.proofs.lemmas.{Nat.Bits.bit_at_clear_other, List.length-map, List.Sums.length-filter, List.Sums.count_by-le-length}
 use lib.Bits.{and_le_r}
-use Rattle.graph_model.specs.{Graph.Key, Graph.Stamp, View.in_view, View.takes_kind, declared.ids.Filter.Filter}
+use Rattle.graph_types.specs.{Graph.Key, Graph.Stamp, View.in_view, View.takes_kind, declared.ids.Filter.Filter}
 use Rattle.lane_scan.specs.Masks.{InMask, IsPlaceWithin, selected_from, selected}
 use Rattle.edge_block.specs.Slots.{Slot, BlockView, edges_in, entry_in, entries_of}
 use Rattle.edge_block.specs.{Columns.slots_of, Columns.column_slot, Lending.LentEdge, Lending.lent_of, Lending.lent_in}

@@ -3,7 +3,7 @@ use Rattle.std.specs.Prelude.{◌≡◌, ℕ, ◌==◌, ◌↔◌, List, false, 
 use Rattle.std.specs.List.{list_any}
 use Rattle.std.specs.declared.option.Option.{Option}
 use Rattle.std.specs.declared.option.Option.TheVariants.{None, Some}
-use Rattle.graph_model.specs.Graph.{Key, Stamp}
+use Rattle.graph_types.specs.Graph.{Key, Stamp}
 use Rattle.edge_block.specs.Slots.{Slot, BlockView, AreDistinct, holds, has_room_for, stamp_at, put_slot, take_slot, entries_of}
 
 -- after a put the target has the edge, and every other target has what it had

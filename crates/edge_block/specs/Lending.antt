@@ -1,7 +1,7 @@
 -- Edges as a block lends them.
 use Rattle.std.specs.Prelude.{◌≡◌, ℕ, List, map}
 use Rattle.std.specs.declared.option.Option.TheVariants.{Some}
-use Rattle.graph_model.specs.Graph.{Key, Stamp}
+use Rattle.graph_types.specs.Graph.{Key, Stamp}
 use Rattle.lane_scan.specs.Masks.{selected}
 use Rattle.edge_block.specs.declared.blocks.EdgeRef.{EdgeRef}
 use Rattle.edge_block.specs.declared.blocks.BlockIter.{BlockIter}

@@ -2,3 +2,8 @@ pub mod Slots
 pub mod Columns
 pub mod Lending
 pub mod Laws
+pub mod Operations
+pub mod Rows
+pub mod Batches
+pub mod Listed
+pub mod Examples

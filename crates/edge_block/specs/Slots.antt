@@ -5,8 +5,8 @@ use Rattle.std.specs.List.{list_any}
 use Rattle.std.specs.Option.{is_some, option_or}
 use Rattle.std.specs.declared.option.Option.{Option}
 use Rattle.std.specs.declared.option.Option.TheVariants.{None, Some}
-use Rattle.graph_model.specs.Graph.{Key, Stamp, IsWeight, IsTime}
-use Rattle.graph_model.specs.Step.{is_before}
+use Rattle.graph_types.specs.Graph.{Key, Stamp, IsWeight, IsTime}
+use Rattle.graph_types.specs.Step.{is_before}
 
 -- what the first element has that has something
 abbrev pub first_some : {A B : Type 0} → (A → Option B) → List A → Option B

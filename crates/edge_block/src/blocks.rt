@@ -4,15 +4,15 @@ ghost use Rattle.std.specs.Prelude.{◌≡◌, ℕ, ℤ, ◌<◌, ◌≤◌, ◌
 ghost use Rattle.std.specs.Prelude.{OnOk};
 ghost use Rattle.std.specs.Prelude.{slice_index_or, slice_set, false};
 ghost use Rattle.std.specs.List.{list_any};
-ghost use Rattle.graph_model.specs.Graph.{IsWeight, IsTime};
-ghost use Rattle.graph_model.specs.View.{in_view, takes_kind};
+ghost use Rattle.graph_types.specs.Graph.{IsWeight, IsTime};
+ghost use Rattle.graph_types.specs.View.{in_view, takes_kind};
 ghost use Rattle.lane_scan.specs.Masks.{AreBoundsOf};
 ghost use Rattle.edge_block.specs.Slots.{IsBlock, IsStamp, edges_in, edge_slot, is_free, empty_block, entries_of, holds};
 ghost use Rattle.edge_block.specs.Slots.{slots_since, old_in, has_before, IsOld};
 ghost use Rattle.edge_block.specs.Slots.{has_room_for, put_slot, take_slot, stamp_at, targets_in, with_slots};
 
 use crate::columns::{SLOTS, bounds_without, first_places, places_within, used_places};
-use graph_model::{Filter, KindId, VertexId};
+use graph_types::{Filter, KindId, VertexId};
 use lane_scan::{equal_columns, find_target, widened};
 use std::alloc::AllocError;
 use std::marker::Model;

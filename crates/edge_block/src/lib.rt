@@ -7,6 +7,11 @@
 mod blocks;
 mod columns;
 mod laws;
+mod layout_laws;
 
 pub use blocks::{Block, BlockIter, EdgeRef};
 pub use laws::{law_absent, law_entries, law_put_slot, law_take_slot};
+pub use layout_laws::{
+    law_batch_layout, law_examples, law_expiry_layout, law_listed_once, law_shard_outcomes,
+    law_shard_rows, law_source_row, law_together,
+};

@@ -5,26 +5,26 @@ use Rattle.std.specs.{Prelude.slice_get, Prelude.if◌then◌else◌, Prelude.�
 use Rattle.std.specs.Option.{option_map, option_to_list, unwrap_or, option_and_then}
 use Rattle.std.specs.declared.option.Option.{Option, TheVariants.None, TheVariants.Some}
 use Rattle.std.proofs.lemmas.{Bool.eq-eqb, Bool.cases_eq, List.take_all, List.length-replicate}
-use Rattle.graph_model.specs.{Graph.Graph, Graph.map_of, declared.ids.Edge.Edge, declared.requests.Request.Request}
-use Rattle.epoch_blocks.specs.declared.states.Version.{Version}
-use Rattle.epoch_blocks.specs.declared.states.Opening.{Opening}
+use Rattle.graph_types.specs.{Graph.Graph, Graph.map_of, declared.ids.Edge.Edge, declared.requests.Request.Request}
+use Rattle.epoch_core.specs.declared.states.Version.{Version}
+use Rattle.epoch_core.specs.declared.states.Opening.{Opening}
 use Rattle.block_reclamation.specs.declared.status.BlockStatus.{BlockStatus}
-use Rattle.epoch_core.specs.declared.states.{Hold.Hold, Inquiry.Inquiry, SessionState.SessionState}
-use Rattle.epoch_core.specs.declared.states.SessionState.TheVariants.{Idle, Pinned, Holding as Holds, Asking}
+use Rattle.epoch_core.specs.declared.session_states.{Hold.Hold, Inquiry.Inquiry, SessionState.SessionState}
+use Rattle.epoch_core.specs.declared.session_states.SessionState.TheVariants.{Idle, Pinned, Holding as Holds, Asking}
 use Rattle.epoch_core.specs.declared.events.Event.{Event, TheVariants.Reply, TheVariants.Release}
 use Rattle.epoch_core.specs.declared.events.Event.TheVariants.{Take, Fill, Post, Floor, Recycle, Pin, Enter, Settle, Ask, Read}
-use Rattle.epoch_blocks.specs.Blocks.{changed_at, filled, put, taken}
-use Rattle.epoch_blocks.specs.Blocks.{reclaimed}
+use Rattle.epoch_core.specs.Blocks.{changed_at, filled, put, taken}
+use Rattle.epoch_core.specs.Blocks.{reclaimed}
 use Rattle.epoch_core.specs.Worlds.{Answer, IsStart, MachineState, World, graph_with, held_in, last_graph, last_number, replies_of}
 use Rattle.epoch_core.specs.{Worlds.session_of, Worlds.start, Posts.posted, Machine.with_status}
-use Rattle.epoch_blocks.specs.Versions.{blocks_at, edges_of, graph_at, version_at}
-use Rattle.epoch_blocks.specs.Posting.{can_post, version_by}
+use Rattle.epoch_core.specs.Versions.{blocks_at, edges_of, graph_at, version_at}
+use Rattle.epoch_core.specs.Posting.{can_post, version_by}
 use Rattle.epoch_core.specs.Machine.{Answers, Question, is_all_read, move, question_in, question_of, read_on, settled_at, to_ask}
 use Rattle.epoch_core.specs.Machine.{to_enter, to_pin, to_read, to_release, to_reply, to_settle, with_heap, with_sessions}
 use Rattle.epoch_core.specs.{Runs.Runs, Runs.is_done, Runs.next_world, Sound.IsNamed, Sound.IsSessionSound, Sound.IsSound}
 use Rattle.epoch_core.specs.Holdings.{Entered, Observation, Released, Replied, answered_first, holdings}
 use Rattle.epoch_core.specs.Holdings.{holdings_of, observations, observed_at, questions, request_in}
-use Rattle.epoch_blocks.proofs.Lists.{option_map_some}
+use Rattle.epoch_core.proofs.Lists.{option_map_some}
 use Rattle.epoch_core.proofs.{Changes.graph_before, Steps.sound_next, Steps.sound_start, Steps.idle_at}
 use Rattle.epoch_core.proofs.Moves.{Moved, moved, session_after, session_else, replying}
 use Rattle.epoch_core.proofs.Answering.{asked, all_asked, Adds, adds_all, same_answers, other}

@@ -6,12 +6,12 @@ use Rattle.std.specs.{Option.option_to_list, declared.option.Option.TheVariants.
 use Rattle.std.proofs.lemmas.Bool.{eq-eqb, cases_eq, Decides.Decides-eqb}
 use Rattle.std.proofs.lemmas.List.{append-nil, append_assoc, get_or-set_same, get_or-set_other, length-set}
 use Rattle.std.proofs.lemmas.Option.{slice_get_within}
-use Rattle.graph_model.proofs.OneAnswer.{one_answer}
+use Rattle.graph_types.proofs.OneAnswer.{one_answer}
 use Rattle.epoch_core.specs.declared.events.Event.{Event, TheVariants.Reply, TheVariants.Release}
 use Rattle.epoch_core.specs.declared.events.Event.TheVariants.{Take, Fill, Post, Floor, Recycle, Pin, Enter, Settle, Ask, Read}
 use Rattle.epoch_core.specs.{Worlds.Answer, Worlds.World, Runs.AllReplies, Runs.next_world}
 use Rattle.epoch_core.specs.Machine.{Answers, IsAnswered, Question, Replies, question_in, question_of}
-use Rattle.epoch_blocks.proofs.Lists.{and_then_some}
+use Rattle.epoch_core.proofs.Lists.{and_then_some}
 use Rattle.epoch_core.proofs.Sizes.{size_next}
 
 pub same_answers : (qs : List Question) (xs ys : List Answer) → AllZip Answers qs xs → AllZip Answers qs ys → xs ≡ ys

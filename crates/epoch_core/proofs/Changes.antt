@@ -2,9 +2,9 @@
 use Rattle.std.proofs.Common.{◌≡◌, ℕ, zero, suc, ◌<◌, ◌≤◌, List, [], ◌∷◌, ◌++◌, length, map, refl, sym, ap, ◌∙◌, arith, add-one}
 use Rattle.std.specs.{Prelude.slice_get, Option.unwrap_or, declared.option.Option.TheVariants.Some}
 use Rattle.std.proofs.lemmas.List.{take-append-le, take_all, map-append, length_push}
-use Rattle.graph_model.specs.{Graph.Graph, Step.left_by, Step.after_all, declared.batches.NamedOp.NamedOp}
-use Rattle.epoch_blocks.specs.declared.states.{Version.Version, Opening.Opening}
-use Rattle.epoch_blocks.specs.Versions.{opening_graph, batches_at, graph_at, left, version_at, version_zero}
+use Rattle.graph_types.specs.{Graph.Graph, Step.left_by, Step.after_all, declared.batches.NamedOp.NamedOp}
+use Rattle.epoch_core.specs.declared.states.{Version.Version, Opening.Opening}
+use Rattle.epoch_core.specs.Versions.{opening_graph, batches_at, graph_at, left, version_at, version_zero}
 
 pub length_next : (vs : List Version) (v : Version) → length (vs ++ v ∷ []) ≡ suc (length vs)
 length_next vs v = length_push vs v ∙ add-one (length vs)

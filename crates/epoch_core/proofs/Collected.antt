@@ -10,17 +10,17 @@ use Rattle.block_reclamation.specs.declared.copies.Pin.{Pin}
 use Rattle.block_reclamation.specs.Copies.{needs, is_between, is_before, settled_number, unsettled_number}
 use Rattle.block_reclamation.specs.declared.status.BlockStatus.{BlockStatus}
 use Rattle.block_reclamation.specs.declared.status.BlockStatus.TheVariants.{Free, Granted, Used, Retired}
-use Rattle.epoch_core.specs.declared.{states.SessionState.SessionState, events.Event.TheVariants.Recycle}
-use Rattle.epoch_core.specs.declared.states.SessionState.TheVariants.{Idle, Pinned, Holding, Asking}
+use Rattle.epoch_core.specs.declared.{session_states.SessionState.SessionState, events.Event.TheVariants.Recycle}
+use Rattle.epoch_core.specs.declared.session_states.SessionState.TheVariants.{Idle, Pinned, Holding, Asking}
 use Rattle.epoch_core.specs.Worlds.{World, last_number, session_of, pin_in, settled_in, unsettled_in}
 use Rattle.epoch_core.specs.Worlds.{present_copy, seat_pin}
 use Rattle.epoch_core.specs.{Machine.step, Machine.with_status, Runs.next_world, Runs.run, Sound.IsDatedAt, Sound.IsSound}
-use Rattle.epoch_blocks.specs.Blocks.{put}
+use Rattle.epoch_core.specs.Blocks.{put}
 use Rattle.block_reclamation.specs.Status.{is_at, is_listed, is_retired}
-use Rattle.epoch_blocks.specs.Blocks.{reclaimed}
+use Rattle.epoch_core.specs.Blocks.{reclaimed}
 use Rattle.epoch_core.specs.Collections.{IsSettledNeed, IsUnsettledNeed, IsPinned, collecting}
 use Rattle.epoch_core.specs.Collections.{LeavesWhatPinsNeed, LeavesNoneUnpinned}
-use Rattle.epoch_blocks.proofs.Lists.{option_map_some, ChangedAt, changed_at-some, set_same, set_else}
+use Rattle.epoch_core.proofs.Lists.{option_map_some, ChangedAt, changed_at-some, set_same, set_else}
 use Rattle.epoch_core.proofs.Moves.{floored, settled_needs, unsettled_needs}
 
 -- a block was born and retired with these numbers

@@ -3,14 +3,14 @@ use Rattle.std.proofs.Common.{◌≡◌, ℕ, zero, suc, ◌+◌, ◌≤◌, min
 use Rattle.std.proofs.{Common.arith, lemmas.Bool.cases_eq, lemmas.List.length-replicate}
 use Rattle.std.specs.{Prelude.if◌then◌else◌, Prelude.is_some, Option.unwrap_or}
 use Rattle.std.specs.declared.option.Option.{Option, TheVariants.None, TheVariants.Some}
-use Rattle.graph_model.specs.{Graph.IsContent, declared.batches.NamedOp.NamedOp, declared.contents.Content.Content}
-use Rattle.epoch_blocks.specs.declared.{states.Version.Version, states.Opening.Opening, steps.Step.Step}
-use Rattle.epoch_core.specs.declared.{states.SessionState.TheVariants.Idle, events.Event.Event}
+use Rattle.graph_types.specs.{Graph.IsContent, declared.batches.NamedOp.NamedOp, declared.contents.Content.Content}
+use Rattle.epoch_core.specs.declared.{states.Version.Version, states.Opening.Opening, step.Step.Step}
+use Rattle.epoch_core.specs.declared.{session_states.SessionState.TheVariants.Idle, events.Event.Event}
 use Rattle.epoch_core.specs.Worlds.{Answer, HasContents, MachineState, World, empty_opening, start}
-use Rattle.epoch_blocks.specs.{Versions.IsContentGraph, Versions.graph_at, Posting.graph_after, Posting.version_by}
+use Rattle.epoch_core.specs.{Versions.IsContentGraph, Versions.graph_at, Posting.graph_after, Posting.version_by}
 use Rattle.epoch_core.specs.{Machine.Replies, Machine.step, Sound.IsCore, Sound.IsSound}
 use Rattle.epoch_core.specs.Runs.{AllReplies, Runs, Steps, count_of, done_in, is_done, next_world, run}
-use Rattle.epoch_blocks.specs.Blocks.{Stepped}
+use Rattle.epoch_core.specs.Blocks.{Stepped}
 use Rattle.epoch_core.proofs.{Changes.graph_before, Changes.graph_next, Changes.length_next, Sizes.size_next}
 use Rattle.epoch_core.proofs.Steps.{sound_next, sound_start, start_is_start}
 use Rattle.epoch_core.proofs.Answering.{Adds, asked, adds}

@@ -3,17 +3,17 @@ use Rattle.std.proofs.Common.{◌≡◌, ℕ, zero, suc, ◌≤◌, true, inl, i
 use Rattle.std.proofs.{Common.ap, Common.subst, Common.◌∙◌, Common.arith, Common.ltb, lemmas.Bool.Decides.nat_tests}
 use Rattle.std.specs.{Prelude.slice_get, Prelude.if◌then◌else◌, Prelude.count_by, Prelude.is_some, Option.option_map}
 use Rattle.std.specs.declared.option.Option.{Option, TheVariants.None, TheVariants.Some}
-use Rattle.epoch_blocks.specs.Versions.{blocks_at}
+use Rattle.epoch_core.specs.Versions.{blocks_at}
 use Rattle.block_reclamation.specs.declared.status.BlockStatus.{BlockStatus}
 use Rattle.block_reclamation.specs.declared.status.BlockStatus.TheVariants.{Free, Granted, Used, Retired}
-use Rattle.epoch_core.specs.{declared.states.SessionState.SessionState, Machine.with_heap}
-use Rattle.epoch_core.specs.declared.states.SessionState.TheVariants.{Idle, Pinned, Holding, Asking}
-use Rattle.epoch_blocks.specs.Blocks.{filled}
+use Rattle.epoch_core.specs.{declared.session_states.SessionState.SessionState, Machine.with_heap}
+use Rattle.epoch_core.specs.declared.session_states.SessionState.TheVariants.{Idle, Pinned, Holding, Asking}
+use Rattle.epoch_core.specs.Blocks.{filled}
 use Rattle.block_reclamation.specs.Status.{is_at, is_free, is_granted, is_listed, is_retired, is_used}
 use Rattle.epoch_core.specs.Worlds.{World, held_in, pin_in, session_of}
 use Rattle.epoch_core.specs.Epochs.{FillsNoHeldBlock, IsPartition, PinsInOrder}
 use Rattle.epoch_core.specs.Sound.{IsKeptAt, IsSessionSound, IsSound}
-use Rattle.epoch_blocks.proofs.Lists.{true_or_false}
+use Rattle.epoch_core.proofs.Lists.{true_or_false}
 use Rattle.epoch_core.proofs.Keeping.{Fills, fills}
 
 some_of_map : {A B : Type 0} (f : A → B) (o : Option A) → is_some (option_map f o) ≡ true → (x : A) × (o ≡ Some x)

@@ -3,18 +3,18 @@ use Rattle.std.proofs.Common.{◌≡◌, ℕ, true, false, cond, List, [], ◌�
 use Rattle.std.specs.{Prelude.ℤ, Prelude.if◌then◌else◌, Prelude.is_some, Option.unwrap_or, Ordering.eq_by_cmp}
 use Rattle.std.specs.FinMap.{FinMap, get, insert, empty, get-empty, get-insert, same_map}
 use Rattle.std.specs.declared.option.Option.TheVariants.{None, Some}
-use Rattle.graph_model.specs.{Graph.Graph, Graph.Key, Graph.Stamp, Graph.key_cmp, Step.after_all, Step.set_at, Step.stamp_after}
-use Rattle.graph_model.specs.declared.{ids.Edge.Edge, batches.NamedOp.NamedOp}
-use Rattle.graph_model.specs.declared.changes.EdgeChange.TheVariants.{Insert, Incr}
-use Rattle.graph_model.proofs.Keys.{keys_total, exact_keys, once_none, once_cons, HasKeysOnce}
+use Rattle.graph_types.specs.{Graph.Graph, Graph.Key, Graph.Stamp, Graph.key_cmp, Step.after_all, Step.set_at, Step.stamp_after}
+use Rattle.graph_types.specs.declared.{ids.Edge.Edge, batches.NamedOp.NamedOp}
+use Rattle.graph_types.specs.declared.changes.EdgeChange.TheVariants.{Insert, Incr}
+use Rattle.graph_types.proofs.Keys.{keys_total, exact_keys, once_none, once_cons, HasKeysOnce}
 use Rattle.epoch_core.specs.{declared.events.Event.Event, declared.events.Event.TheVariants.Release, Posts.posted, Runs.run}
 use Rattle.epoch_core.specs.declared.events.Event.TheVariants.{Take, Fill, Post, Floor, Pin, Enter, Settle, Ask, Read, Reply}
 use Rattle.epoch_core.specs.Worlds.{World, empty_opening, start_world}
-use Rattle.epoch_blocks.specs.{Versions.left, Posting.can_post, Posting.are_edges_of}
+use Rattle.epoch_core.specs.{Versions.left, Posting.can_post, Posting.are_edges_of}
 use Rattle.epoch_core.specs.Holdings.{Holding, holdings_of, observations}
 use Rattle.epoch_core.specs.Examples.{AreExamples, name_a, name_b, kind_k, put_edge, add_to_edge, edge_of, ask_edge}
 use Rattle.epoch_core.specs.Examples.{short_batches, long_batches, of_short, of_long}
-use Rattle.epoch_blocks.proofs.Edges.{Decides-edges}
+use Rattle.epoch_core.proofs.Edges.{Decides-edges}
 
 -- The graph of one edge, and what batches make of it
 

@@ -3,22 +3,22 @@ use Rattle.std.proofs.Common.{◌≡◌, ◌≢◌, ℕ, ◌≤◌, Bool, true, 
 use Rattle.std.proofs.{Common.arith, lemmas.Bool.cases_eq, lemmas.List.get_or-set_other, lemmas.List.length-set}
 use Rattle.std.specs.Prelude.{slice_get, if◌then◌else◌}
 use Rattle.std.specs.declared.option.Option.{Option, TheVariants.None, TheVariants.Some}
-use Rattle.graph_model.specs.declared.ids.Edge.{Edge}
+use Rattle.graph_types.specs.declared.ids.Edge.{Edge}
 use Rattle.block_reclamation.specs.declared.status.BlockStatus.{BlockStatus}
 use Rattle.block_reclamation.specs.declared.status.BlockStatus.TheVariants.{Free, Granted, Used, Retired}
-use Rattle.epoch_core.specs.declared.states.{Hold.Hold, SessionState.SessionState}
-use Rattle.epoch_core.specs.declared.states.SessionState.TheVariants.{Idle, Pinned, Holding, Asking}
+use Rattle.epoch_core.specs.declared.session_states.{Hold.Hold, SessionState.SessionState}
+use Rattle.epoch_core.specs.declared.session_states.SessionState.TheVariants.{Idle, Pinned, Holding, Asking}
 use Rattle.block_reclamation.specs.declared.copies.PinCopy.{PinCopy}
 use Rattle.block_reclamation.specs.Copies.{needs}
-use Rattle.epoch_blocks.specs.Blocks.{filled, taken}
+use Rattle.epoch_core.specs.Blocks.{filled, taken}
 use Rattle.block_reclamation.specs.Status.{is_at, is_granted, is_listed, is_used}
-use Rattle.epoch_blocks.specs.Blocks.{reclaimed}
-use Rattle.epoch_blocks.specs.Versions.{AreEdgesOf, blocks_at, edges_at, edges_of, graph_at, version_at}
+use Rattle.epoch_core.specs.Blocks.{reclaimed}
+use Rattle.epoch_core.specs.Versions.{AreEdgesOf, blocks_at, edges_at, edges_of, graph_at, version_at}
 use Rattle.epoch_core.specs.Worlds.{World, last_blocks, last_graph, last_number, session_of}
 use Rattle.epoch_core.specs.Machine.{with_heap, with_status}
 use Rattle.epoch_core.specs.Sound.{IsCovered, IsDatedAt, IsHeld, IsKeptAt, IsNamed, IsSessionSound, IsSound}
 use Rattle.block_reclamation.specs.Status.{IsDated, IsKept}
-use Rattle.epoch_blocks.proofs.Lists.{and_then_some, set_same, set_else, same_pieces, listed_take}
+use Rattle.epoch_core.proofs.Lists.{and_then_some, set_same, set_else, same_pieces, listed_take}
 
 -- what a change of the world owes to each holder
 pub record Carries (old new : World) : Type 0 where

@@ -15,3 +15,5 @@ pub mod Read
 pub mod Cores
 pub mod Examples
 pub mod OpenedStart
+pub mod Lists
+pub mod Edges

@@ -6,12 +6,12 @@ use Rattle.std.proofs.Math.ListN.{get_or-map}
 use Rattle.std.specs.declared.option.Option.{Option, TheVariants.None, TheVariants.Some}
 use Rattle.std.proofs.lemmas.{Bool.cases_eq, Grind.flat_map-append, List.get_or-set_same, List.get_or-set_other, List.append-nil}
 use Rattle.std.proofs.lemmas.Option.{slice_get_within, get_or_from_slice_get}
-use Rattle.graph_model.specs.declared.{ids.Edge.Edge, requests.Request.Request}
+use Rattle.graph_types.specs.declared.{ids.Edge.Edge, requests.Request.Request}
 use Rattle.block_reclamation.specs.declared.status.BlockStatus.{BlockStatus}
 use Rattle.block_reclamation.specs.Status.{is_at, is_listed, is_used}
 use Rattle.block_reclamation.specs.declared.status.BlockStatus.TheVariants.{Free, Granted, Used, Retired}
-use Rattle.epoch_core.specs.declared.states.{Hold.Hold, Inquiry.Inquiry, SessionState.SessionState}
-use Rattle.epoch_core.specs.declared.states.SessionState.TheVariants.{Idle, Pinned, Holding, Asking}
+use Rattle.epoch_core.specs.declared.session_states.{Hold.Hold, Inquiry.Inquiry, SessionState.SessionState}
+use Rattle.epoch_core.specs.declared.session_states.SessionState.TheVariants.{Idle, Pinned, Holding, Asking}
 use Rattle.block_reclamation.specs.declared.copies.{Pin.Pin, TheConstants.SEATS}
 use Rattle.block_reclamation.specs.Copies.{floor_of, needs, number_if, pin_at, settled_number, unsettled_number}
 use Rattle.block_reclamation.proofs.Least.{late_needed, settled_needed, unsettled_needed}
@@ -19,10 +19,10 @@ use Rattle.block_reclamation.proofs.Copied.{floor_is_least}
 use Rattle.epoch_core.specs.Worlds.{World, last_blocks, last_number, pin_in, session_of, settled_in}
 use Rattle.epoch_core.specs.Worlds.{present_copy, seat_pin, seat_pins}
 use Rattle.epoch_core.specs.{Worlds.unsettled_in, Machine.to_release, Machine.to_reply, Machine.to_settle, Machine.with_sessions}
-use Rattle.epoch_blocks.specs.Versions.{blocks_at, edges_at, edges_of}
+use Rattle.epoch_core.specs.Versions.{blocks_at, edges_at, edges_of}
 use Rattle.epoch_core.specs.Machine.{is_all_read, move, read_on, settled_at, to_ask, to_enter, to_pin, to_read}
 use Rattle.epoch_core.specs.Sound.{IsCovered, IsDatedAt, IsHeld, IsKeptAt, IsNamed, IsSessionSound, IsSound}
-use Rattle.epoch_blocks.proofs.Lists.{option_map_some, ChangedAt, changed_at-some, take_one_more}
+use Rattle.epoch_core.proofs.Lists.{option_map_some, ChangedAt, changed_at-some, take_one_more}
 use Rattle.epoch_core.proofs.Keeping.{Carries, carry}
 
 -- a session's pin is that of its seat

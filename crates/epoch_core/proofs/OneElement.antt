@@ -3,8 +3,8 @@ use Rattle.std.proofs.Common.{◌≡◌, ℕ, ◌<◌, ◌≤◌, List, length, 
 use Rattle.std.specs.{Prelude.slice_get, Option.option_and_then}
 use Rattle.std.specs.declared.option.Option.{Option, TheVariants.None, TheVariants.Some}
 use Rattle.std.proofs.lemmas.{List.set-get_or, Option.slice_get_past, Option.slice_get-get_or}
-use Rattle.epoch_blocks.specs.{Blocks.changed_at, Blocks.put, Blocks.Stepped, declared.steps.Step.Step}
-use Rattle.epoch_blocks.specs.declared.steps.Step.TheVariants.{Done, Skipped}
+use Rattle.epoch_core.specs.{Blocks.changed_at, Blocks.put, Blocks.Stepped, declared.step.Step.Step}
+use Rattle.epoch_core.specs.declared.step.Step.TheVariants.{Done, Skipped}
 
 put_at : {A : Type 0} (o : Option A) (xs : List A) (i : ℕ) (d : A) (outcome : Step) (new : A)
     → Stepped o outcome (get_or xs i d) new → Stepped (put xs i o) outcome xs (set xs i new)

@@ -6,14 +6,15 @@ use Rattle.std.proofs.lemmas.Bool.{eqb-true, eqb-false}
 use Rattle.std.proofs.lemmas.List.{length-replicate, length-set, get_or-set_same, get_or-set_other}
 use Rattle.std.proofs.lemmas.List.Elements.{All-head, All-tail, All-nil, All-cons}
 use Rattle.epoch_core.proofs.PostRule.{differ_head}
-use Rattle.graph_model.proofs.Counts.{apart_tail}
-use Rattle.graph_model.specs.{Graph.graph_of, declared.ids.Edge.Edge, declared.contents.Content.Content}
+use Rattle.graph_types.proofs.Counts.{apart_tail}
+use Rattle.graph_types.specs.{Graph.graph_of, declared.ids.Edge.Edge, declared.contents.Content.Content}
 use Rattle.block_reclamation.specs.declared.status.BlockStatus.{BlockStatus}
 use Rattle.block_reclamation.specs.declared.status.BlockStatus.TheVariants.{Free, Used}
-use Rattle.epoch_blocks.specs.Versions.{AreEdgesOf, edges_at}
+use Rattle.epoch_core.specs.Versions.{AreEdgesOf, edges_at}
 use Rattle.block_reclamation.specs.Status.{is_listed}
-use Rattle.epoch_blocks.proofs.Lists.{set_same, set_else}
-use Rattle.epoch_core.specs.{declared.states.SessionState.TheVariants.Idle, Worlds.IsStart, Worlds.HasContents, Sound.IsCore}
+use Rattle.epoch_core.proofs.Lists.{set_same, set_else}
+use Rattle.epoch_core.specs.{declared.session_states.SessionState.TheVariants.Idle, Worlds.IsStart, Worlds.HasContents}
+use Rattle.epoch_core.specs.{Sound.IsCore}
 use Rattle.epoch_core.specs.Opened.{Lists, numbers_in, heap_with, status_with, opened_state, IsOpening}
 use Rattle.epoch_core.proofs.Steps.{sound_start, free_at}
 

@@ -5,17 +5,17 @@ use Rattle.std.specs.Prelude.{slice_get, if◌then◌else◌, is_some, All, AllP
 use Rattle.std.specs.declared.option.Option.{Option, TheVariants.None, TheVariants.Some}
 use Rattle.std.proofs.lemmas.Bool.Decides.{Decides-and, Decides-or, Decides-not, Decides-like, Decides-by_and, Decides-eqb}
 use Rattle.std.proofs.lemmas.{Bool.Decides.Decides-ltb, Bool.Decides.leb_tells, List.Kept.AllPairs-cons}
-use Rattle.graph_model.proofs.Counts.{apart_tail}
-use Rattle.graph_model.specs.{Limits.batch_limit, Limits.name_limit, Limits.kind_limit, declared.batches.NamedOp.NamedOp}
-use Rattle.epoch_blocks.specs.Blocks.{all_differ}
+use Rattle.graph_types.proofs.Counts.{apart_tail}
+use Rattle.graph_types.specs.{Limits.batch_limit, Limits.name_limit, Limits.kind_limit, declared.batches.NamedOp.NamedOp}
+use Rattle.epoch_core.specs.Blocks.{all_differ}
 use Rattle.block_reclamation.specs.declared.status.BlockStatus.{BlockStatus}
 use Rattle.block_reclamation.specs.Status.{is_at, is_granted, is_listed}
 use Rattle.block_reclamation.specs.declared.status.BlockStatus.TheVariants.{Free, Granted, Used, Retired}
 use Rattle.epoch_core.specs.{declared.events.Event.TheVariants.Post, Worlds.World, Worlds.last_blocks, Worlds.last_number}
-use Rattle.epoch_blocks.specs.Versions.{edges_of}
+use Rattle.epoch_core.specs.Versions.{edges_of}
 use Rattle.epoch_core.specs.{Posts.MayPost, Posts.posted, Runs.is_done}
-use Rattle.epoch_blocks.specs.Posting.{all_listable, can_post, graph_after, is_listable}
-use Rattle.epoch_blocks.proofs.{Lists.and_left, Lists.and_right, Lists.neither, Edges.Decides-edges}
+use Rattle.epoch_core.specs.Posting.{all_listable, can_post, graph_after, is_listable}
+use Rattle.epoch_core.proofs.{Lists.and_left, Lists.and_right, Lists.neither, Edges.Decides-edges}
 
 Decides-granted : (o : Option BlockStatus) → Decides (is_at is_granted o) (o ≡ Some Granted)
 Decides-granted None = (λ e. cc, λ e. cc)

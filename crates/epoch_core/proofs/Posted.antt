@@ -4,17 +4,17 @@ use Rattle.std.proofs.Common.{length, refl, sym, ap, subst, ◌∙◌, arith}
 use Rattle.std.specs.{Prelude.slice_get, Prelude.AllPairs, Option.option_map}
 use Rattle.std.specs.declared.option.Option.{Option, TheVariants.None, TheVariants.Some}
 use Rattle.std.proofs.lemmas.Bool.{cases_eq}
-use Rattle.graph_model.specs.declared.batches.NamedOp.{NamedOp}
-use Rattle.epoch_blocks.specs.declared.states.Version.{Version}
+use Rattle.graph_types.specs.declared.batches.NamedOp.{NamedOp}
+use Rattle.epoch_core.specs.declared.states.Version.{Version}
 use Rattle.block_reclamation.specs.declared.status.BlockStatus.{BlockStatus}
 use Rattle.block_reclamation.specs.declared.status.BlockStatus.TheVariants.{Free, Granted, Used, Retired}
-use Rattle.epoch_blocks.specs.Blocks.{after_post, status_after}
+use Rattle.epoch_core.specs.Blocks.{after_post, status_after}
 use Rattle.block_reclamation.specs.Status.{is_at, is_granted, is_listed, is_used}
-use Rattle.epoch_blocks.specs.Versions.{AreEdgesOf, edges_of, graph_at, version_at}
+use Rattle.epoch_core.specs.Versions.{AreEdgesOf, edges_of, graph_at, version_at}
 use Rattle.epoch_core.specs.Worlds.{World, last_blocks, last_graph, last_number, session_of}
 use Rattle.epoch_core.specs.{Posts.MayPost, Posts.posted, Sound.IsDatedAt, Sound.IsKeptAt, Sound.IsNamed, Sound.IsSound}
-use Rattle.epoch_blocks.specs.Posting.{all_listable, can_post, graph_after, is_listable, version_by}
-use Rattle.epoch_blocks.proofs.Lists.{get_enumerated, length_enumerated, all_listed}
+use Rattle.epoch_core.specs.Posting.{all_listable, can_post, graph_after, is_listable, version_by}
+use Rattle.epoch_core.proofs.Lists.{get_enumerated, length_enumerated, all_listed}
 use Rattle.epoch_core.proofs.Changes.{length_next, version_before, graph_before, version_next, graph_next}
 use Rattle.epoch_core.proofs.{PostRule.Decides-post, PostRule.listable_of, Keeping.Carries, Keeping.carry}
 

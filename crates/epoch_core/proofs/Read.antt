@@ -2,14 +2,14 @@
 use Rattle.std.proofs.Common.{◌≡◌, ◌≢◌, ℕ, ◌<◌, ◌≤◌, List, length, get_or, sym, ap, subst, ◌∙◌, arith}
 use Rattle.std.specs.{Prelude.AllPairs, FinMap.get}
 use Rattle.std.proofs.lemmas.List.{take_all}
-use Rattle.graph_model.specs.Graph.{Graph, key_of, stamp_of, map_of, IsContent, IsEdgeWithin, IsWeight, IsTime}
-use Rattle.graph_model.specs.declared.ids.Edge.{Edge}
-use Rattle.graph_model.proofs.Keys.{get_is, get_listed, find_listed}
-use Rattle.epoch_blocks.specs.{declared.states.Version.Version, Posting.last_content}
-use Rattle.epoch_core.specs.{declared.states.SessionState.SessionState, Machine.ReadsContent}
-use Rattle.epoch_core.specs.declared.states.SessionState.TheVariants.{Idle, Pinned, Holding, Asking}
+use Rattle.graph_types.specs.Graph.{Graph, key_of, stamp_of, map_of, IsContent, IsEdgeWithin, IsWeight, IsTime}
+use Rattle.graph_types.specs.declared.ids.Edge.{Edge}
+use Rattle.graph_types.proofs.Keys.{get_is, get_listed, find_listed}
+use Rattle.epoch_core.specs.{declared.states.Version.Version, Posting.last_content}
+use Rattle.epoch_core.specs.{declared.session_states.SessionState.SessionState, Machine.ReadsContent}
+use Rattle.epoch_core.specs.declared.session_states.SessionState.TheVariants.{Idle, Pinned, Holding, Asking}
 use Rattle.epoch_core.specs.Worlds.{HasContents, World, last_blocks, last_graph, last_number, session_of}
-use Rattle.epoch_blocks.specs.Versions.{IsContentGraph, AreEdgesOf, blocks_at, content_with, edges_of, graph_at, version_at}
+use Rattle.epoch_core.specs.Versions.{IsContentGraph, AreEdgesOf, blocks_at, content_with, edges_of, graph_at, version_at}
 use Rattle.epoch_core.specs.Sound.{IsNamed, IsSessionSound, IsSound}
 
 same_within : (n m : ℕ) (x e : Edge) → key_of e ≡ key_of x → stamp_of e ≡ stamp_of x → IsEdgeWithin n m x → IsEdgeWithin n m e

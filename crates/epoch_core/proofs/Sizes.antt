@@ -3,17 +3,17 @@ use Rattle.std.proofs.Common.{◌≡◌, ℕ, ◌+◌, Bool, true, false, List, 
 use Rattle.std.specs.{Prelude.if◌then◌else◌, Option.option_map, Option.unwrap_or}
 use Rattle.std.specs.declared.option.Option.{Option, TheVariants.None, TheVariants.Some}
 use Rattle.std.proofs.lemmas.List.{length-set}
-use Rattle.epoch_blocks.specs.Posting.{can_post}
+use Rattle.epoch_core.specs.Posting.{can_post}
 use Rattle.block_reclamation.specs.declared.status.BlockStatus.{BlockStatus}
-use Rattle.epoch_core.specs.{declared.states.SessionState.SessionState, Worlds.World, Worlds.last_number, Posts.posted}
+use Rattle.epoch_core.specs.{declared.session_states.SessionState.SessionState, Worlds.World, Worlds.last_number, Posts.posted}
 use Rattle.epoch_core.specs.declared.events.Event.{Event, TheVariants.Reply, TheVariants.Release}
 use Rattle.epoch_core.specs.declared.events.Event.TheVariants.{Take, Fill, Post, Floor, Recycle, Pin, Enter, Settle, Ask, Read}
-use Rattle.epoch_blocks.specs.Blocks.{after_post, changed_at, filled, taken}
+use Rattle.epoch_core.specs.Blocks.{after_post, changed_at, filled, taken}
 use Rattle.block_reclamation.specs.Status.{is_listed}
-use Rattle.epoch_blocks.specs.Blocks.{reclaimed}
+use Rattle.epoch_core.specs.Blocks.{reclaimed}
 use Rattle.epoch_core.specs.Machine.{move, step, to_ask, to_enter, to_pin, to_read, to_release, to_reply, to_settle, with_heap}
 use Rattle.epoch_core.specs.{Machine.with_status, Runs.next_world, Runs.run}
-use Rattle.epoch_blocks.proofs.Lists.{option_map_some, ChangedAt, changed_at-some, length_enumerated}
+use Rattle.epoch_core.proofs.Lists.{option_map_some, ChangedAt, changed_at-some, length_enumerated}
 use Rattle.epoch_core.proofs.Moves.{Moved, moved}
 
 pub record SameSizes (old new : World) : Type 0 where

@@ -3,10 +3,10 @@ use Rattle.std.proofs.Common.{◌≡◌, ℕ, List, refl, sym, ap, subst}
 use Rattle.std.specs.{Prelude.IfOk, Prelude.OnErr, Option.option_map}
 use Rattle.std.specs.declared.option.Option.{Option, TheVariants.None, TheVariants.Some}
 use Rattle.std.specs.declared.result.Result.{Result, TheVariants.Ok, TheVariants.Err}
-use Rattle.epoch_blocks.specs.Blocks.{Stepped, changed_at}
-use Rattle.epoch_blocks.specs.declared.steps.Step.{Step}
+use Rattle.epoch_core.specs.Blocks.{Stepped, changed_at}
+use Rattle.epoch_core.specs.declared.step.Step.{Step}
 use Rattle.block_reclamation.specs.declared.status.BlockStatus.{BlockStatus}
-use Rattle.epoch_core.specs.declared.{events.Event.Event, states.SessionState.SessionState}
+use Rattle.epoch_core.specs.declared.{events.Event.Event, session_states.SessionState.SessionState}
 use Rattle.epoch_core.specs.{Worlds.MachineState, Worlds.World, Runs.Steps}
 use Rattle.epoch_core.specs.Machine.{Replies, move, step, with_sessions, with_status}
 

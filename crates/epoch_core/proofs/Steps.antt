@@ -6,23 +6,23 @@ use Rattle.std.specs.Option.{option_map, unwrap_or}
 use Rattle.std.specs.declared.option.Option.{Option, TheVariants.None, TheVariants.Some}
 use Rattle.std.proofs.lemmas.{List.length-replicate, Option.slice_get_past}
 use Rattle.std.proofs.lemmas.Bool.{cases_lt}
-use Rattle.graph_model.specs.declared.ids.Edge.{Edge}
+use Rattle.graph_types.specs.declared.ids.Edge.{Edge}
 use Rattle.block_reclamation.specs.declared.status.BlockStatus.{BlockStatus}
 use Rattle.block_reclamation.specs.declared.status.BlockStatus.TheVariants.{Free, Used}
-use Rattle.epoch_core.specs.{declared.states.SessionState.TheVariants.Idle, Posts.posted, Runs.next_world, Runs.run}
+use Rattle.epoch_core.specs.{declared.session_states.SessionState.TheVariants.Idle, Posts.posted, Runs.next_world, Runs.run}
 use Rattle.epoch_core.specs.declared.events.Event.{Event, TheVariants.Reply, TheVariants.Release}
 use Rattle.epoch_core.specs.declared.events.Event.TheVariants.{Take, Fill, Post, Floor, Recycle, Pin, Enter, Settle, Ask, Read}
-use Rattle.epoch_blocks.specs.Blocks.{changed_at, taken}
+use Rattle.epoch_core.specs.Blocks.{changed_at, taken}
 use Rattle.block_reclamation.specs.Status.{is_at, is_listed, is_used}
-use Rattle.epoch_blocks.specs.Blocks.{reclaimed}
-use Rattle.epoch_blocks.specs.Versions.{opening_graph, blocks_at, edges_of, graph_at, AreEdgesOf}
+use Rattle.epoch_core.specs.Blocks.{reclaimed}
+use Rattle.epoch_core.specs.Versions.{opening_graph, blocks_at, edges_of, graph_at, AreEdgesOf}
 use Rattle.epoch_core.specs.Worlds.{IsStart, World, last_blocks, last_graph, last_number, session_of, start, MachineState}
-use Rattle.epoch_blocks.specs.Posting.{can_post}
+use Rattle.epoch_core.specs.Posting.{can_post}
 use Rattle.epoch_core.specs.Machine.{step, with_heap, with_status}
 use Rattle.epoch_core.specs.Sound.{IsDatedAt, IsNamed, IsSessionSound, IsSound}
 use Rattle.block_reclamation.specs.Status.{IsDated}
-use Rattle.epoch_blocks.proofs.Lists.{true_or_false, option_map_some, ChangedAt, changed_at-some}
-use Rattle.graph_model.proofs.Keys.{once_none}
+use Rattle.epoch_core.proofs.Lists.{true_or_false, option_map_some, ChangedAt, changed_at-some}
+use Rattle.graph_types.proofs.Keys.{once_none}
 use Rattle.epoch_core.proofs.Keeping.{FreesNone, frees_taken, frees_recycled, sound_status, Fills, fills, sound_fill}
 use Rattle.epoch_core.proofs.{Posted.sound_posted, Moves.keeps_read, Moves.keeps_reply, Moves.keeps_release}
 use Rattle.epoch_core.proofs.Moves.{sound_floor, floored, sound_move, keeps_pin, keeps_enter, keeps_settle, keeps_ask}

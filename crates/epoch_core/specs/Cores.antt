@@ -1,5 +1,5 @@
 -- What the fields of the machine show.
-use Rattle.epoch_core.specs.declared.states.Parts.{Parts}
+use Rattle.epoch_core.specs.declared.session_states.Parts.{Parts}
 use Rattle.epoch_core.specs.Worlds.{MachineState}
 
 abbrev pub state_of : Parts → MachineState

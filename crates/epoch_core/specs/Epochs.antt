@@ -2,11 +2,11 @@
 use Rattle.std.specs.Prelude.{◌≡◌, ◌≢◌, ℕ, ◌≤◌, nat_lt, List, [], ◌∷◌, count_by, if◌then◌else◌, slice_get, IsTrue, IsFalse}
 use Rattle.std.specs.Prelude.{AllPairs}
 use Rattle.std.specs.declared.option.Option.TheVariants.{Some}
-use Rattle.graph_model.specs.declared.ids.Edge.{Edge}
+use Rattle.graph_types.specs.declared.ids.Edge.{Edge}
 use Rattle.epoch_core.specs.declared.events.Event.TheVariants.{Fill}
 use Rattle.block_reclamation.specs.Status.{is_at, is_free, is_granted, is_retired, is_listed}
 use Rattle.epoch_core.specs.Worlds.{World, last_number, last_blocks, pin_in, held_in, session_of}
-use Rattle.epoch_blocks.specs.Versions.{blocks_at}
+use Rattle.epoch_core.specs.Versions.{blocks_at}
 use Rattle.epoch_core.specs.Runs.{is_done}
 
 -- no Fill that is done names a block in the list of a version that some session holds

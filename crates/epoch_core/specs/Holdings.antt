@@ -1,10 +1,10 @@
 -- What befalls a session in a list of events, and when two lists are the same to it.
 use Rattle.std.specs.Prelude.{ℕ, ◌==◌, List, [], ◌∷◌, ◌++◌, map, if◌then◌else◌}
 use Rattle.std.specs.List.{flat_map}
-use Rattle.graph_model.specs.Graph.{Graph}
-use Rattle.graph_model.specs.declared.requests.Request.{Request}
-use Rattle.epoch_core.specs.declared.states.SessionState.{SessionState}
-use Rattle.epoch_core.specs.declared.states.SessionState.TheVariants.{Asking}
+use Rattle.graph_types.specs.Graph.{Graph}
+use Rattle.graph_types.specs.declared.requests.Request.{Request}
+use Rattle.epoch_core.specs.declared.session_states.SessionState.{SessionState}
+use Rattle.epoch_core.specs.declared.session_states.SessionState.TheVariants.{Asking}
 use Rattle.epoch_core.specs.declared.events.Event.{Event}
 use Rattle.epoch_core.specs.declared.events.Event.TheVariants.{Enter, Reply, Release}
 use Rattle.epoch_core.specs.Worlds.{World, last_graph, session_of}

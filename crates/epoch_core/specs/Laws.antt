@@ -1,7 +1,7 @@
 -- The laws of the machine: snapshot isolation, blocks and pins, and the rule of a Post.
 use Rattle.std.specs.Prelude.{◌≡◌, ◌↔◌, ℕ, List, length, IsTrue}
 use Rattle.std.specs.List.{AllZip}
-use Rattle.graph_model.specs.declared.batches.NamedOp.{NamedOp}
+use Rattle.graph_types.specs.declared.batches.NamedOp.{NamedOp}
 use Rattle.epoch_core.specs.declared.events.Event.{Event}
 use Rattle.epoch_core.specs.declared.events.Event.TheVariants.{Post}
 use Rattle.epoch_core.specs.Worlds.{World, MachineState, IsStart, replies_of}

@@ -10,3 +10,6 @@ pub mod Laws
 pub mod Sound
 pub mod Cores
 pub mod Examples
+pub mod Blocks
+pub mod Versions
+pub mod Posting

@@ -4,27 +4,27 @@ use Rattle.std.specs.Prelude.{slice_set, slice_index_or, MatchOption}
 use Rattle.std.specs.Option.{option_and_then, option_map}
 use Rattle.std.specs.declared.option.Option.{Option}
 use Rattle.std.specs.declared.option.Option.TheVariants.{None, Some}
-use Rattle.graph_model.specs.Graph.{Graph, IsContent}
-use Rattle.graph_model.specs.Answer.{IsAnswer}
-use Rattle.graph_model.specs.declared.ids.Edge.{Edge}
-use Rattle.graph_model.specs.declared.requests.Request.{Request}
+use Rattle.graph_types.specs.Graph.{Graph, IsContent}
+use Rattle.graph_types.specs.Answer.{IsAnswer}
+use Rattle.graph_types.specs.declared.ids.Edge.{Edge}
+use Rattle.graph_types.specs.declared.requests.Request.{Request}
 use Rattle.block_reclamation.specs.declared.status.BlockStatus.{BlockStatus}
-use Rattle.epoch_blocks.specs.declared.states.Version.{Version}
-use Rattle.epoch_core.specs.declared.states.Hold.{Hold}
-use Rattle.epoch_core.specs.declared.states.Inquiry.{Inquiry}
-use Rattle.epoch_core.specs.declared.states.SessionState.{SessionState}
-use Rattle.epoch_core.specs.declared.states.SessionState.TheVariants.{Idle, Pinned, Holding, Asking}
+use Rattle.epoch_core.specs.declared.states.Version.{Version}
+use Rattle.epoch_core.specs.declared.session_states.Hold.{Hold}
+use Rattle.epoch_core.specs.declared.session_states.Inquiry.{Inquiry}
+use Rattle.epoch_core.specs.declared.session_states.SessionState.{SessionState}
+use Rattle.epoch_core.specs.declared.session_states.SessionState.TheVariants.{Idle, Pinned, Holding, Asking}
 use Rattle.epoch_core.specs.declared.events.Event.{Event}
 use Rattle.epoch_core.specs.declared.events.Event.TheVariants.{Take, Fill, Post, Floor, Recycle, Pin, Enter, Settle, Ask, Read}
 use Rattle.epoch_core.specs.declared.events.Event.TheVariants.{Reply, Release}
-use Rattle.epoch_blocks.specs.Blocks.{changed_at, taken, filled}
-use Rattle.epoch_blocks.specs.Blocks.{reclaimed}
-use Rattle.epoch_blocks.specs.declared.states.Opening.{Opening}
+use Rattle.epoch_core.specs.Blocks.{changed_at, taken, filled}
+use Rattle.epoch_core.specs.Blocks.{reclaimed}
+use Rattle.epoch_core.specs.declared.states.Opening.{Opening}
 use Rattle.block_reclamation.specs.Copies.{floor_of}
 use Rattle.epoch_core.specs.Worlds.{Answer, World, last_number, graph_with}
 use Rattle.epoch_core.specs.Worlds.{present_copy}
-use Rattle.epoch_blocks.specs.Versions.{version_at, blocks_at, edges_at, content_with}
-use Rattle.epoch_blocks.specs.Posting.{can_post}
+use Rattle.epoch_core.specs.Versions.{version_at, blocks_at, edges_at, content_with}
+use Rattle.epoch_core.specs.Posting.{can_post}
 use Rattle.epoch_core.specs.Posts.{posted}
 
 -- Sessions
@@ -133,7 +133,7 @@ question_in opening versions _ = None
 abbrev pub question_of : World → ℕ → Option Question
 question_of w s = option_and_then (question_in w.opening w.versions) (slice_get w.sessions s)
 
--- the answer to a question, as graph_model has it
+-- the answer to a question, as graph_types has it
 abbrev pub Answers : Question → Answer → Type 0
 Answers q answer = IsAnswer q.request q.graph answer
 

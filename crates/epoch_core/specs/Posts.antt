@@ -1,14 +1,14 @@
 -- Post in a world: what its rule asks, and the world that it makes.
 use Rattle.std.specs.Prelude.{◌≡◌, ◌≢◌, ◌⊎◌, ℕ, ◌<◌, List, [], ◌∷◌, ◌++◌, ◌+◌, slice_get, All, AllPairs, IsTrue}
 use Rattle.std.specs.declared.option.Option.TheVariants.{Some}
-use Rattle.graph_model.specs.Limits.{batch_limit}
-use Rattle.graph_model.specs.GraphLimits.{MeetsNameLimit, MeetsKindLimit}
-use Rattle.graph_model.specs.declared.batches.NamedOp.{NamedOp}
+use Rattle.graph_types.specs.Limits.{batch_limit}
+use Rattle.graph_types.specs.GraphLimits.{MeetsNameLimit, MeetsKindLimit}
+use Rattle.graph_types.specs.declared.batches.NamedOp.{NamedOp}
 use Rattle.block_reclamation.specs.declared.status.BlockStatus.TheVariants.{Granted}
-use Rattle.epoch_blocks.specs.Blocks.{status_after}
+use Rattle.epoch_core.specs.Blocks.{status_after}
 use Rattle.block_reclamation.specs.Status.{is_listed}
-use Rattle.epoch_blocks.specs.Versions.{AreEdgesOf, edges_of}
-use Rattle.epoch_blocks.specs.Posting.{graph_after, version_by}
+use Rattle.epoch_core.specs.Versions.{AreEdgesOf, edges_of}
+use Rattle.epoch_core.specs.Posting.{graph_after, version_by}
 use Rattle.epoch_core.specs.Worlds.{World, last_number, last_blocks, last_graph}
 
 -- a Post is done only where all this holds

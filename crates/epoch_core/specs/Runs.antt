@@ -2,11 +2,11 @@
 use Rattle.std.specs.Prelude.{◌≡◌, ℕ, Bool, List, [], ◌∷◌, ◌+◌, if◌then◌else◌, is_some}
 use Rattle.std.specs.Option.{unwrap_or}
 use Rattle.epoch_core.specs.declared.events.Event.{Event}
-use Rattle.epoch_blocks.specs.declared.steps.Step.{Step}
-use Rattle.epoch_blocks.specs.declared.steps.Step.TheVariants.{Done, Skipped}
+use Rattle.epoch_core.specs.declared.step.Step.{Step}
+use Rattle.epoch_core.specs.declared.step.Step.TheVariants.{Done, Skipped}
 use Rattle.epoch_core.specs.Worlds.{Answer, World, MachineState}
 use Rattle.epoch_core.specs.Machine.{step, Replies}
-use Rattle.epoch_blocks.specs.Blocks.{Stepped}
+use Rattle.epoch_core.specs.Blocks.{Stepped}
 
 -- whether an event is done in this world
 abbrev pub is_done : World → Event → Bool

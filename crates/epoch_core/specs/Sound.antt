@@ -2,14 +2,14 @@
 use Rattle.std.specs.Prelude.{true, ◌≡◌, ◌≢◌, ℕ, ◌≤◌, ◌<◌, length, take, slice_get, AllPairs, MatchOption, IsTrue}
 use Rattle.std.specs.declared.option.Option.{Option}
 use Rattle.block_reclamation.specs.declared.status.BlockStatus.{BlockStatus}
-use Rattle.epoch_core.specs.declared.states.Hold.{Hold}
-use Rattle.epoch_core.specs.declared.states.SessionState.{SessionState}
-use Rattle.epoch_core.specs.declared.states.SessionState.TheVariants.{Idle, Pinned, Holding, Asking}
+use Rattle.epoch_core.specs.declared.session_states.Hold.{Hold}
+use Rattle.epoch_core.specs.declared.session_states.SessionState.{SessionState}
+use Rattle.epoch_core.specs.declared.session_states.SessionState.TheVariants.{Idle, Pinned, Holding, Asking}
 use Rattle.block_reclamation.specs.declared.copies.PinCopy.{PinCopy}
 use Rattle.block_reclamation.specs.Copies.{needs}
 use Rattle.block_reclamation.specs.Status.{is_at, is_used, is_listed, IsDated, IsKept}
 use Rattle.epoch_core.specs.Worlds.{World, MachineState, HasContents, last_number, last_blocks, last_graph, session_of}
-use Rattle.epoch_blocks.specs.Versions.{AreEdgesOf, graph_at, version_at, blocks_at, edges_of}
+use Rattle.epoch_core.specs.Versions.{AreEdgesOf, graph_at, version_at, blocks_at, edges_of}
 
 -- what a status says of its dates, said of the block of a number, if there is one
 abbrev pub IsDatedAt : ℕ → Option BlockStatus → Type 0

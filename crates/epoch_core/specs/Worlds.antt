@@ -7,22 +7,22 @@ use Rattle.std.specs.Option.{option_map}
 use Rattle.std.specs.declared.option.Option.{Option}
 use Rattle.std.specs.declared.option.Option.TheVariants.{None, Some}
 use Rattle.std.specs.declared.result.Result.{Result}
-use Rattle.graph_model.specs.Graph.{Graph, map_of, content_of}
-use Rattle.graph_model.specs.declared.ids.Edge.{Edge}
-use Rattle.graph_model.specs.declared.requests.Reply.{Reply}
-use Rattle.graph_model.specs.declared.requests.AskError.{AskError}
+use Rattle.graph_types.specs.Graph.{Graph, map_of, content_of}
+use Rattle.graph_types.specs.declared.ids.Edge.{Edge}
+use Rattle.graph_types.specs.declared.requests.Reply.{Reply}
+use Rattle.graph_types.specs.declared.requests.AskError.{AskError}
 use Rattle.block_reclamation.specs.declared.status.BlockStatus.{BlockStatus}
 use Rattle.block_reclamation.specs.declared.status.BlockStatus.TheVariants.{Free, Used}
-use Rattle.epoch_blocks.specs.declared.states.Version.{Version}
-use Rattle.epoch_blocks.specs.declared.states.Opening.{Opening}
-use Rattle.epoch_core.specs.declared.states.SessionState.{SessionState}
-use Rattle.epoch_core.specs.declared.states.SessionState.TheVariants.{Idle, Pinned, Holding, Asking}
+use Rattle.epoch_core.specs.declared.states.Version.{Version}
+use Rattle.epoch_core.specs.declared.states.Opening.{Opening}
+use Rattle.epoch_core.specs.declared.session_states.SessionState.{SessionState}
+use Rattle.epoch_core.specs.declared.session_states.SessionState.TheVariants.{Idle, Pinned, Holding, Asking}
 use Rattle.block_reclamation.specs.Status.{is_listed}
 use Rattle.block_reclamation.specs.declared.copies.PinCopy.{PinCopy}
 use Rattle.block_reclamation.specs.declared.copies.TheConstants.{SEATS}
 use Rattle.block_reclamation.specs.declared.copies.Pin.{Pin}
 use Rattle.block_reclamation.specs.Copies.{no_copy, copy_of, unsettled, settled_number, unsettled_number}
-use Rattle.epoch_blocks.specs.Versions.{IsContentGraph, AreEdgesOf, blocks_at, edges_of, graph_at, opening_graph}
+use Rattle.epoch_core.specs.Versions.{IsContentGraph, AreEdgesOf, blocks_at, edges_of, graph_at, opening_graph}
 
 -- a reply, or the refusal that stands in its place
 abbrev pub Answer : Type 0

@@ -8,11 +8,13 @@ ghost use Rattle.epoch_core.specs.Sound.{IsCore};
 ghost use Rattle.epoch_core.specs.Cores.{state_of};
 
 use crate::Event;
+use crate::blocks::{fill_block, recycle_block, take_block};
+use crate::posting::plan_post;
 use crate::replying::reply;
+use crate::session_states::Parts;
 use crate::sessions::{ask, copy_pins, enter, pin, read, release, settle};
-use crate::states::Parts;
-use epoch_blocks::{Step, fill_block, plan_post, recycle_block, take_block};
-use graph_model::{Batch, Edge};
+use crate::step::Step;
+use graph_types::{Batch, Edge};
 use std::alloc::AllocError;
 
 /// An event, and what stays true at every moment.

@@ -1,6 +1,6 @@
 //! The events of the machine.
 
-use graph_model::{Batch, Edge, List, Request};
+use graph_types::{Batch, Edge, List, Request};
 
 /// An event of the machine: one atomic step of the writer, the collector or a session.
 #[derive(Drop)]

@@ -4,27 +4,40 @@
 //! each asks and does, `specs/Runs.antt` what a list of them does, and `specs/Holdings.antt` what befalls a
 //! session in it. [`Core`] takes exactly these steps. [`law_isolation`], [`law_epoch`] and [`law_collection`] are
 //! laws about them: snapshot isolation; that no block is filled again while a session may read it; and that a
-//! collection leaves no more blocks retired than pins need. [`law_post`] is the rule of a Post. What a Post asks and
-//! sets, and what becomes of blocks, is `epoch_blocks`.
+//! collection leaves no more blocks retired than pins need. [`law_post`] is the rule of a Post.
+//! A block has a number and is free, fresh, used or retired ([`Status`]); a table from these numbers to lists of edges, the heap,
+//! has what is in it. `specs/Blocks.antt` says what becomes of blocks, `specs/Versions.antt` what a version is and which edges it
+//! has, and `specs/Posting.antt` what a Post asks and sets.
 //! The store that it models is STINGER's (Ediger, McColl, Riedy, Bader; IEEE HPEC 2012) with held snapshots as
 //! Aspen has them (Dhulipala, Blelloch, Shun; PLDI 2019).
 #![tactic(auto)]
 
 mod advancing;
+mod blocks;
+mod contents;
 mod events;
 mod laws;
 mod machine;
+mod posting;
 mod replying;
+mod session_states;
 mod sessions;
 mod start;
 mod states;
+mod step;
+mod versions;
 
 pub use block_reclamation::PinCopy;
-pub use epoch_blocks::Step;
+pub use blocks::{fill_block, recycle_block, take_block};
+pub use contents::edges_at;
 pub use events::Event;
 pub use laws::{law_collection, law_epoch, law_examples, law_isolation, law_post};
 pub use machine::{Core, run};
+pub use posting::plan_post;
+pub use states::{Opening, Version};
 use std::alloc::AllocError;
+pub use step::Step;
+pub use versions::{blocks_at, content_with};
 
 /// Want of memory.
 pub type OutOfMemory = AllocError;

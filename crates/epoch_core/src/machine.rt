@@ -9,13 +9,13 @@ ghost use Rattle.epoch_core.specs.Opened.{IsOpening, opened_state};
 
 use crate::advancing::keep;
 use crate::replying::replies_at;
+use crate::session_states::Parts;
 use crate::sessions::{held_in, pin_in, state_at};
 use crate::start::{opened_parts, parts_at_start};
-use crate::states::Parts;
+use crate::step::Step;
 use crate::{Event, OutOfMemory};
 use block_reclamation::PinCopy;
-use epoch_blocks::Step;
-use graph_model::{AskError, Content, Edge, List, Reply};
+use graph_types::{AskError, Content, Edge, List, Reply};
 use std::alloc::Global;
 use std::marker::Model;
 

@@ -4,13 +4,15 @@ ghost use Rattle.std.specs.Prelude.{◌≡◌, ◌<◌, ◌++◌, ◌∷◌, [],
 ghost use Rattle.std.specs.Prelude.{slice_get, slice_set, slice_index_or};
 ghost use Rattle.std.specs.Option.{option_and_then};
 ghost use Rattle.epoch_core.specs.Machine as machine;
-ghost use Rattle.epoch_blocks.specs.Blocks.{Stepped, changed_at};
-ghost use Rattle.epoch_core.specs.declared.states.SessionState.TheVariants.{Idle};
+ghost use Rattle.epoch_core.specs.Blocks.{Stepped, changed_at};
+ghost use Rattle.epoch_core.specs.declared.session_states.SessionState.TheVariants.{Idle};
 
-use crate::states::{Answer, Hold, Inquiry, SessionState, no_items};
-use epoch_blocks::{Opening, Step, Version, blocks_at, content_with};
-use graph_model::{AskError, List, Reply};
-use reference_graph::plain_reply;
+use crate::session_states::{Answer, Hold, Inquiry, SessionState, no_items};
+use crate::states::{Opening, Version};
+use crate::step::Step;
+use crate::versions::{blocks_at, content_with};
+use graph_model::plain_reply;
+use graph_types::{AskError, List, Reply};
 use std::alloc::{AllocError, Global};
 use std::mem;
 

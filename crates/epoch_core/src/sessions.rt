@@ -4,13 +4,16 @@ ghost use Rattle.std.specs.Prelude.{◌≡◌, ◌<◌, ◌≤◌, ◌++◌, IfO
 ghost use Rattle.epoch_core.specs.Machine as machine;
 ghost use Rattle.epoch_core.specs.Worlds as worlds;
 ghost use Rattle.block_reclamation.specs.Copies.{copy_of};
-ghost use Rattle.epoch_blocks.specs.Blocks.{Stepped, changed_at};
-ghost use Rattle.epoch_core.specs.declared.states.SessionState.TheVariants.{Idle};
+ghost use Rattle.epoch_core.specs.Blocks.{Stepped, changed_at};
+ghost use Rattle.epoch_core.specs.declared.session_states.SessionState.TheVariants.{Idle};
 
-use crate::states::{Hold, Inquiry, SessionState, no_items};
+use crate::contents::edges_at;
+use crate::session_states::{Hold, Inquiry, SessionState, no_items};
+use crate::states::{Opening, Version};
+use crate::step::Step;
+use crate::versions::blocks_at;
 use block_reclamation::{Pin, PinCopy, SEATS};
-use epoch_blocks::{Opening, Step, Version, blocks_at, edges_at};
-use graph_model::{Edge, List, Request};
+use graph_types::{Edge, List, Request};
 use std::alloc::{AllocError, Global};
 
 /// Where a session stands. It takes no memory.

@@ -5,12 +5,12 @@ ghost use Rattle.epoch_core.specs.Worlds as worlds;
 ghost use Rattle.epoch_core.specs.Cores.{state_of};
 ghost use Rattle.epoch_core.specs.Opened.{opened_over, opened_state, numbers_in, heap_with, status_with};
 ghost use Rattle.block_reclamation.specs.declared.status.BlockStatus.TheVariants.{Free};
-ghost use Rattle.epoch_core.specs.declared.states.SessionState.TheVariants.{Idle};
+ghost use Rattle.epoch_core.specs.declared.session_states.SessionState.TheVariants.{Idle};
 
-use crate::states::{Parts, SessionState, no_items};
+use crate::session_states::{Parts, SessionState, no_items};
+use crate::states::Opening;
 use block_reclamation::{BlockStatus, PinCopy};
-use epoch_blocks::Opening;
-use graph_model::{Content, Edge, List};
+use graph_types::{Content, Edge, List};
 use std::alloc::{AllocError, Global};
 
 /// The fields of the machine at its start.

@@ -2,7 +2,7 @@
 use Rattle.std.proofs.Common.{◌≡◌, ◌≢◌, ℕ, ◌+◌, ◌≤◌, ℤ, pos, neg_ℤ, Bool, true, false, cond, codes, List, Option, Some, None}
 use Rattle.std.proofs.Common.{Result, Ok, Err, IsTrue, length, nat_eq, IfOk, IfSome, option_map, drop, refl, subst, arith, rules}
 use Rattle.std.{proofs.lemmas.Grind.common_steps, specs.Str.bytes_eq}
-use Rattle.graph_model.specs.{Limits.is_time, Limits.is_weight, Valid.are_names, Valid.is_kind_name, Valid.is_name}
+use Rattle.graph_types.specs.{Limits.is_time, Limits.is_weight, Valid.are_names, Valid.is_kind_name, Valid.is_name}
 use Rattle.feed_csv.specs.Commands.{HasValidOp, Refuses, close_of, commit_of, cores_of, degrees_of, edge_of, edge_fields}
 use Rattle.feed_csv.specs.Commands.{expire_of, filter_at, filter_fields, incr_of, names_at}
 use Rattle.feed_csv.specs.Commands.{collect_of, insert_of, item_of, labels_of, levels_of, open_of, rebase_of, remove_of, stat_of}

@@ -1,10 +1,10 @@
 -- The command of a record, or the word of its refusal: one rule for each command. A rule takes the fields in the
 -- order of refusals: how many there are, names and kinds, the weight, times, the slot.
 use Rattle.std.specs.Prelude.{◌≡◌, ℕ, ◌+◌, bytes_eq, codes, List, if◌then◌else◌, Result, Ok, Err}
-use Rattle.graph_model.specs.Valid.{IsValid}
-use Rattle.graph_model.specs.declared.batches.NamedOp.TheVariants.{Insert, Incr, Remove, Expire}
-use Rattle.graph_model.specs.declared.requests.NamedFilter.{NamedFilter}
-use Rattle.graph_model.specs.declared.requests.Request.TheVariants.{Levels, Labels, Cores, Degrees, OneEdge}
+use Rattle.graph_types.specs.Valid.{IsValid}
+use Rattle.graph_types.specs.declared.batches.NamedOp.TheVariants.{Insert, Incr, Remove, Expire}
+use Rattle.graph_types.specs.declared.requests.NamedFilter.{NamedFilter}
+use Rattle.graph_types.specs.declared.requests.Request.TheVariants.{Levels, Labels, Cores, Degrees, OneEdge}
 use Rattle.feed_csv.specs.Fields.{◌>>=◌, any_kind_at, field, kind_at, name_at, of_length, slot_at, time_at, weight_at}
 use Rattle.feed_csv.specs.Records.{Row}
 use Rattle.feed_csv.specs.declared.command.Command.{Command}

@@ -5,7 +5,7 @@ use Rattle.csv.specs.Reading.{records_from, source_of, strip_bom}
 use Rattle.csv.specs.declared.reader.Reader.{Reader}
 use Rattle.csv.specs.declared.reader.Trim.TheVariants as trim
 -- a feed gives no more records than these
-pub use Rattle.graph_model.specs.Limits.{record_limit}
+pub use Rattle.graph_types.specs.Limits.{record_limit}
 
 -- a record is its fields, and a field is its bytes
 abbrev pub Row : Type 0

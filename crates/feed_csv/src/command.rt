@@ -3,7 +3,7 @@
 ghost use Rattle.std.specs.Prelude.{◌≡◌};
 ghost use Rattle.feed_csv.specs.Commands.{word_text};
 
-use graph_model::{NamedOp, Request};
+use graph_types::{NamedOp, Request};
 use std::alloc::AllocError;
 use thiserror::Error;
 

@@ -6,7 +6,7 @@ ghost use Rattle.feed_csv.specs.Fields as spec;
 
 use crate::{FeedWord, number};
 use csv::ByteRecord;
-use graph_model::{is_kind_name_bytes, is_name_bytes};
+use graph_types::{is_kind_name_bytes, is_name_bytes};
 
 // The field at a place counted from 0; where the record has no such field, no bytes.
 pub(crate) fn field(row: &ByteRecord, place: usize) -> &[u8]

@@ -9,7 +9,7 @@ ghost use Rattle.feed_csv.specs.Fields as fields;
 use crate::fields::{any_kind_at, field, kind_at, name_at, slot_at, time_at, weight_at};
 use crate::{Command, FeedWord};
 use csv::ByteRecord;
-use graph_model::{Name, NamedFilter, NamedOp, Request};
+use graph_types::{Name, NamedFilter, NamedOp, Request};
 use std::alloc::Global;
 
 /// The command of a record.

@@ -4,3 +4,8 @@ pub mod PeelSteps
 pub mod Placing
 pub mod RowSteps
 pub mod Times
+pub mod Parts
+pub mod Counting
+pub mod Blocks
+pub mod Turns
+pub mod Whole

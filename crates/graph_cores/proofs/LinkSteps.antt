@@ -3,7 +3,7 @@ use Rattle.std.proofs.Common.{◌≡◌, ◌≢◌, ℕ, ◌+◌, ◌<◌, ◌�
 use Rattle.std.proofs.{Common.get_or, Common.take, lemmas.Bool.cases_eq, lemmas.List.take_more}
 use Rattle.std.specs.{Prelude.◌↔◌, List.Contains}
 use Rattle.std.proofs.lemmas.List.Elements.{Contains-push, Contains-push_cases, Contains-append_left, Contains-get_or}
-use Rattle.graph_model.specs.{Graph.Graph, Analyses.LeadsTo, Arcs.AreWithin, declared.ids.Filter.Filter}
+use Rattle.graph_types.specs.{Graph.Graph, Analyses.LeadsTo, Arcs.AreWithin, declared.ids.Filter.Filter}
 use Rattle.graph_cores.specs.Links.{AreLinks, IsLinked}
 
 -- one more pair

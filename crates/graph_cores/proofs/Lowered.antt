@@ -5,7 +5,7 @@ use Rattle.std.specs.{Prelude.◌==◌, Prelude.All, Prelude.sum, List.Contains}
 use Rattle.std.proofs.lemmas.Bool.{cases_eq, Decides.Decides-eqb}
 use Rattle.std.proofs.lemmas.List.{get_or-set_same, get_or-set_other, length-set, length-append, Sums.sum_by-set}
 use Rattle.std.proofs.lemmas.List.Elements.{All-weaker, All-push, All-tail, Contains-push, Contains-append_left}
-use Rattle.graph_model.specs.Arcs.{at}
+use Rattle.graph_types.specs.Arcs.{at}
 use Rattle.graph_cores.specs.Peel.{lowered}
 use Rattle.graph_cores.proofs.Times.{times, times_yes, times_no}
 

@@ -9,10 +9,10 @@ use Rattle.std.proofs.lemmas.List.{length-set, length-replicate, get_or-replicat
 use Rattle.std.proofs.lemmas.Option.{get_or_from_slice_get, slice_get_within}
 use Rattle.std.proofs.lemmas.List.{Kept.AllPairs-filter, Elements.filter_passes, Elements.All-weaker}
 use Rattle.std.proofs.lemmas.List.Elements.{All-contains, All-tail, Contains-get_or, Contains-push, Contains-append_cases}
-use Rattle.graph_model.specs.{Graph.Graph, Analyses.IsTable, Analyses.Joins, Analyses.IsCoreNumber, Arcs.AreNeighbors, Arcs.at}
-use Rattle.graph_model.specs.declared.ids.Filter.{Filter}
-use Rattle.graph_model.proofs.Counts.{Contains-cons_cases, Contains-nil, Contains-cons, count_yes, contains_filter}
-use Rattle.graph_model.proofs.Counts.{filter_contains, passing_length}
+use Rattle.graph_types.specs.{Graph.Graph, Analyses.IsTable, Analyses.Joins, Analyses.IsCoreNumber, Arcs.AreNeighbors, Arcs.at}
+use Rattle.graph_types.specs.declared.ids.Filter.{Filter}
+use Rattle.graph_types.proofs.Counts.{Contains-cons_cases, Contains-nil, Contains-cons, count_yes, contains_filter}
+use Rattle.graph_types.proofs.Counts.{filter_contains, passing_length}
 use Rattle.graph_cores.specs.Peel.{is_alive, lowered, IsPeeling, IsBetween, is_low, is_high}
 use Rattle.graph_cores.proofs.Times.{times, has_times, times_has, apart_times, count_taken}
 use Rattle.graph_cores.proofs.Lowered.{lowered_at, lowered_keeps, lowered_pushes, lowered_low}

@@ -1,3 +1,4 @@
 pub mod Links
 pub mod Peel
 pub mod Rows
+pub mod Tallies

@@ -2,10 +2,10 @@
 
 ghost use Rattle.std.specs.Prelude.{◌≡◌, ◌⊎◌, ◌↔◌, ℕ, length, IfOk, OnOk};
 ghost use Rattle.std.specs.List.{Contains};
-ghost use Rattle.graph_model.specs.Arcs.{AreWithin};
+ghost use Rattle.graph_types.specs.Arcs.{AreWithin};
 ghost use Rattle.graph_cores.specs.Links.{AreLinks, IsLinked};
 
-use graph_views::ViewEdges;
+use graph_version::ViewEdges;
 use std::alloc::{AllocError, Global};
 
 /// Links the source and each of the targets, both ways. A loop links nothing. Room is made once, so that no push looks for it.

@@ -2,15 +2,15 @@
 
 ghost use Rattle.std.specs.Prelude.{◌≡◌, ◌<◌, ◌≤◌, ◌++◌, ℕ, [], length, All, IfOk, OnOk, IsTrue, filter, replicate, true};
 ghost use Rattle.std.specs.List.{Contains};
-ghost use Rattle.graph_model.specs.Analyses.{AreCoreNumbers, IsCoreNumber, IsTable};
-ghost use Rattle.graph_model.specs.Arcs.{AreNeighbors, at};
-ghost use Rattle.graph_model.specs.Graph.{Graph};
-ghost use Rattle.graph_model.specs.declared.ids.Filter.{Filter};
+ghost use Rattle.graph_types.specs.Analyses.{AreCoreNumbers, IsCoreNumber, IsTable};
+ghost use Rattle.graph_types.specs.Arcs.{AreNeighbors, at};
+ghost use Rattle.graph_types.specs.Graph.{Graph};
+ghost use Rattle.graph_types.specs.declared.ids.Filter.{Filter};
 ghost use Rattle.graph_cores.specs.Rows.{IsRows, row_of};
 ghost use Rattle.graph_cores.specs.Peel.{IsPeeling, is_alive, is_high, is_low, lowered};
 
 use crate::rows::{Rows, neighbor_rows};
-use graph_views::ViewEdges;
+use graph_version::ViewEdges;
 use std::alloc::{AllocError, Global};
 use std::mem;
 

@@ -1,13 +1,12 @@
 //! Core numbers of a version.
 
 ghost use Rattle.std.specs.Prelude.{IfOk};
-ghost use Rattle.graph_model.specs.Analyses.{AreCoreNumbers};
+ghost use Rattle.graph_types.specs.Analyses.{AreCoreNumbers};
 ghost use Rattle.graph_version.specs.Versions.{content};
 
 use crate::peeling::cores_over;
-use graph_model::Filter;
-use graph_version::Version;
-use graph_views::VersionEdges;
+use graph_types::Filter;
+use graph_version::{Version, VersionEdges};
 use std::alloc::{AllocError, Global};
 
 /// The core number of each vertex of a version, in number order, over the edges of the view: direction, kind and loops don't

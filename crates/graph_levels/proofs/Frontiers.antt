@@ -5,8 +5,8 @@ use Rattle.std.specs.{Prelude.All, Prelude.replicate, List.Contains}
 use Rattle.std.proofs.lemmas.{Bool.cases_eq, Bool.cases_lt, Option.get_or_from_slice_get}
 use Rattle.std.proofs.lemmas.List.{get_or-set_same, get_or-set_other, get_or_past, length-set, length-append, length-replicate}
 use Rattle.std.proofs.lemmas.List.{get_or-replicate, Sums.sum_by-set, Sums.count_by-le-length, Elements.All-tail}
-use Rattle.graph_model.specs.{Graph.Graph, Analyses.LeadsTo, Analyses.Walk, Analyses.IsLevel, Analyses.IsTable}
-use Rattle.graph_model.specs.declared.ids.Filter.{Filter}
+use Rattle.graph_types.specs.{Graph.Graph, Analyses.LeadsTo, Analyses.Walk, Analyses.IsLevel, Analyses.IsTable}
+use Rattle.graph_types.specs.declared.ids.Filter.{Filter}
 use Rattle.graph_levels.specs.Visit.{visited, has_none}
 use Rattle.graph_levels.specs.Search.{level_of, HasLevel, IsReached, IsSearch, unreached}
 use Rattle.std.proofs.lemmas.List.Elements.{All-weaker, All-push, All-nil, All-cons, Contains-push, Contains-append_left}

@@ -4,7 +4,7 @@ use Rattle.std.proofs.{Common.[], lemmas.Bool.cases_eq, lemmas.Bool.cases_lt}
 use Rattle.std.proofs.lemmas.List.{get_or-set_same, get_or-set_other, get_or_default, get_or_past, map-id}
 use Rattle.std.specs.List.{range_with_len}
 use Rattle.std.proofs.lemmas.List.FromFn.{length-range_with_len, get_or-range_with_len, map-range_with_len_more}
-use Rattle.graph_model.specs.{Graph.Graph, Analyses.Connects, declared.ids.Filter.Filter}
+use Rattle.graph_types.specs.{Graph.Graph, Analyses.Connects, declared.ids.Filter.Filter}
 use Rattle.graph_levels.specs.Forest.{parent, IsForest, IsSound, Respects}
 use Rattle.graph_levels.proofs.Walks.{itself, then}
 

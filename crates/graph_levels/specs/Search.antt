@@ -1,9 +1,9 @@
 -- A search by frontiers, as it goes on.
 use Rattle.std.specs.Prelude.{◌≡◌, ℕ, ◌+◌, ◌≤◌, List, slice_index_or, Option, Some, None, All, count_by, ◌⊎◌}
 use Rattle.std.specs.List.{Contains}
-use Rattle.graph_model.specs.Graph.{Graph}
-use Rattle.graph_model.specs.Analyses.{LeadsTo, Walk}
-use Rattle.graph_model.specs.declared.ids.Filter.{Filter}
+use Rattle.graph_types.specs.Graph.{Graph}
+use Rattle.graph_types.specs.Analyses.{LeadsTo, Walk}
+use Rattle.graph_types.specs.declared.ids.Filter.{Filter}
 use Rattle.graph_levels.specs.Visit.{has_none}
 
 abbrev pub level_of : List (Option ℕ) → ℕ → Option ℕ

@@ -1,12 +1,12 @@
 //! Levels, by frontiers.
 
 ghost use Rattle.std.specs.Prelude.{◌≡◌, ◌<◌, ◌≤◌, ◌+◌, ℕ, [], length, replicate, All, IfOk, OnOk};
-ghost use Rattle.graph_model.specs.Analyses.{AreLevels, LeadsTo};
+ghost use Rattle.graph_types.specs.Analyses.{AreLevels, LeadsTo};
 ghost use Rattle.graph_levels.specs.Visit.{visited};
 ghost use Rattle.graph_levels.specs.Search.{IsSearch, unreached};
 
-use graph_model::VertexId;
-use graph_views::ViewEdges;
+use graph_types::VertexId;
+use graph_version::ViewEdges;
 use std::alloc::{AllocError, Global};
 
 /// Gives the level to each target that has none, and adds it to the next frontier.

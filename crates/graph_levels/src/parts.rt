@@ -2,12 +2,12 @@
 
 ghost use Rattle.std.specs.Prelude.{◌≡◌, ◌<◌, ◌≤◌, ℕ, length, All, IfOk, OnOk};
 ghost use Rattle.std.specs.List.{range_with_len};
-ghost use Rattle.graph_model.specs.Analyses.{AreLabels, Joins, Connects};
-ghost use Rattle.graph_model.specs.Graph.{Graph};
-ghost use Rattle.graph_model.specs.declared.ids.Filter.{Filter};
+ghost use Rattle.graph_types.specs.Analyses.{AreLabels, Joins, Connects};
+ghost use Rattle.graph_types.specs.Graph.{Graph};
+ghost use Rattle.graph_types.specs.declared.ids.Filter.{Filter};
 ghost use Rattle.graph_levels.specs.Forest.{parent, IsForest, IsSound, Respects};
 
-use graph_views::ViewEdges;
+use graph_version::ViewEdges;
 use std::alloc::{AllocError, Global};
 
 /// The root of a vertex. The path to it gets shorter: each vertex on it is put below its parent's parent.

@@ -1,16 +1,15 @@
 //! Levels and labels of a version.
 
 ghost use Rattle.std.specs.Prelude.{◌≡◌, ◌<◌, ◌≤◌, ◌↔◌, length, IfOk, IfErr, OnOk};
-ghost use Rattle.graph_model.specs.Analyses.{AreLevels, AreLabels};
+ghost use Rattle.graph_types.specs.Analyses.{AreLevels, AreLabels};
 ghost use Rattle.graph_version.specs.Versions.{content};
 ghost use Rattle.graph_levels.specs.Vertices.{numbers_of};
 ghost use Rattle.graph_levels.specs.declared.versions.LevelError.TheVariants.{OutOfMemory};
 
 use crate::distances::levels_over;
 use crate::parts::labels_over;
-use graph_model::{Filter, VertexId};
-use graph_version::Version;
-use graph_views::{VersionEdges, ViewEdges};
+use graph_types::{Filter, VertexId};
+use graph_version::{Version, VersionEdges, ViewEdges};
 use std::alloc::{AllocError, Global};
 use thiserror::Error;
 

@@ -1,31 +1,34 @@
-//! The graph that the whole workspace speaks of: names, edges with a weight and two times, batches of
-//! operations, contents and the answers to requests, as STINGER has them (Ediger, McColl, Riedy, Bader;
-//! IEEE HPEC 2012). The definitions stand in `specs/`; the crate `reference_graph` has slow functions that do what
-//! they say, with which the fast layers are compared.
+//! The graph that the whole workspace speaks of, and slow functions that do to plain lists what its definitions say:
+//! [`plain_apply`] applies a batch, [`plain_reply`] answers a request. The fast layers are compared with them.
+//!
+//! The types and definitions stand in `graph_types`, which names no algorithm, and are handed on here. Levels, labels and core
+//! numbers over a content are each computed in a simple way. Their contracts are the definitions: the least length of a walk,
+//! the least vertex that a walk joins, and core numbers as Seidman has them (Network structure and minimum degree, 1983), over
+//! the edges that a filter lets through.
 #![tactic(auto)]
 
-mod batches;
-mod changes;
-mod compared;
-mod contents;
-mod ids;
+mod analyses;
+mod apply;
+mod arcs;
+mod cores;
+mod drafts;
+mod edges;
 mod laws;
-mod lists;
-mod operations;
-mod questions;
-mod requests;
-mod tables;
-mod texts;
+mod names;
+mod reply;
+mod settling;
+mod walks;
 
-pub use batches::{Batch, NamedOp, Outcome, PushError};
-pub use changes::{EdgeChange, EdgeMarks, change_edge};
-pub use contents::Content;
-pub use ids::{Degree, Edge, Filter, KindId, VertexId};
-pub use laws::{
-    law_edge_order, law_expiry, law_first_time_stays, law_names_stay_names, law_one_answer,
-    law_some_answer, law_within_limits,
+pub use apply::{PlainError, plain_apply};
+pub use arcs::shows;
+pub use cores::plain_cores;
+pub use graph_types::{
+    AskError, Batch, Content, Degree, Edge, EdgeChange, EdgeMarks, Filter, KindId, List, Name,
+    NamedFilter, NamedOp, Outcome, PushError, Reply, Request, VertexId, change_edge, is_kind_name,
+    is_kind_name_bytes, is_name, is_name_bytes, law_edge_order, law_expiry, law_first_time_stays,
+    law_names_stay_names, law_one_answer, law_one_table, law_some_answer, law_some_table,
+    law_within_limits,
 };
-pub use lists::List;
-pub use requests::{AskError, NamedFilter, Reply, Request};
-pub use tables::{law_one_table, law_some_table};
-pub use texts::{Name, is_kind_name, is_kind_name_bytes, is_name, is_name_bytes};
+pub use laws::law_names_before_kinds;
+pub use reply::plain_reply;
+pub use walks::{plain_labels, plain_levels};

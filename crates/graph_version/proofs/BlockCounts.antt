@@ -4,7 +4,7 @@ use Rattle.std.proofs.Common.{arith, All, length-append}
 use Rattle.std.specs.List.{list_all}
 use Rattle.std.proofs.lemmas.List.Elements.{All-head, All-tail, All-append}
 use Rattle.edge_block.specs.Slots.{Slot, BlockView, is_free, edges_in}
-use Rattle.row_pages.specs.Rows.{row_of, blocks_of}
+use Rattle.version_pages.specs.Rows.{row_of, blocks_of}
 use Rattle.graph_version.specs.{Versions.VersionView, Versions.IsVersion, Edges.edges_in_block, Edges.edges_in_blocks}
 use Rattle.graph_version.proofs.{Few.count_is_total, Few.few_total, Totals.count_one}
 

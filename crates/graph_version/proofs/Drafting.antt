@@ -1,6 +1,6 @@
 -- A draft's beginning and end.
 use Rattle.std.proofs.Common.{◌≡◌, ℕ, ◌%◌, ◌^◌, List, refl, arith}
-use Rattle.graph_model.specs.{Graph.Graph, declared.batches.NamedOp.NamedOp}
+use Rattle.graph_types.specs.{Graph.Graph, declared.batches.NamedOp.NamedOp}
 use Rattle.edge_block.specs.Slots.{BlockView}
 use Rattle.vertex_names.specs.Book.{Book}
 use Rattle.graph_version.specs.Kept.{version_of, edge_total, IsSummary}

@@ -2,11 +2,11 @@
 use Rattle.std.proofs.Common.{◌≡◌, ℕ, ◌^◌, ◌<◌, ◌≤◌, Bool, true, false, cond, ◌&&◌, eqb, List, [], ◌∷◌, refl, length, get_or}
 use Rattle.std.proofs.Common.{subst, sym, ap, ◌∙◌, arith, All}
 use Rattle.std.specs.{Prelude.count_by, Option.is_some, FinMap.get, FinMap.len}
-use Rattle.graph_model.specs.{Graph.Key, Graph.key_of, declared.ids.Edge.Edge}
+use Rattle.graph_types.specs.{Graph.Key, Graph.key_of, declared.ids.Edge.Edge}
 use Rattle.std.proofs.lemmas.{Bool.and_parts, Bool.eqb-true, List.Sums.sum_by-cons, List.Sums.sum_by-le-sum_by}
-use Rattle.graph_model.proofs.DegreeBounds.{crowd}
-use Rattle.graph_model.proofs.Keys.{HasKeysOnce, is_key_of, is_key_of_at, count_key, get_listed, len_once}
-use Rattle.row_pages.specs.Rows.{blocks_of}
+use Rattle.graph_types.proofs.DegreeBounds.{crowd}
+use Rattle.graph_types.proofs.Keys.{HasKeysOnce, is_key_of, is_key_of_at, count_key, get_listed, len_once}
+use Rattle.version_pages.specs.Rows.{blocks_of}
 use Rattle.graph_version.specs.{Versions.VersionView, Versions.content, Versions.IsVersion, Edges.edges_in_blocks}
 use Rattle.graph_version.specs.Kept.{edge_total}
 use Rattle.graph_version.proofs.Shown.{rows_each_once}

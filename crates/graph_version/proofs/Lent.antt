@@ -2,7 +2,7 @@
 use Rattle.std.proofs.Common.{◌≡◌, ◌-◌, ◌<◌, ◌^◌, Bool, true, List, [], ◌∷◌, map, refl, ap, arith, All, Option, None, Some}
 use Rattle.std.specs.Prelude.{filter}
 use Rattle.std.proofs.lemmas.{Bool.le-leb, List.Elements.All-head, List.Elements.All-tail}
-use Rattle.graph_model.specs.{Graph.Key, Graph.Stamp, View.in_view, declared.ids.Filter.Filter}
+use Rattle.graph_types.specs.{Graph.Key, Graph.Stamp, View.in_view, declared.ids.Filter.Filter}
 use Rattle.edge_block.specs.Slots.{Slot, BlockView, IsBlock, IsSlot, IsStamp, edges_in, entry_in, entries_of}
 use Rattle.edge_block.specs.Lending.{lent_of}
 

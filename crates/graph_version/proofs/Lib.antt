@@ -7,3 +7,7 @@ pub mod Drafting
 pub mod Lent
 pub mod BlockCounts
 pub mod Rebased
+pub mod Arcs
+pub mod Members
+pub mod Rows
+pub mod Targets

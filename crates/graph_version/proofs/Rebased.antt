@@ -6,17 +6,17 @@ use Rattle.std.proofs.lemmas.List.{append-nil, take-append-drop, take_all, drop_
 use Rattle.std.specs.{List.list_all, declared.sync.Arc.Arc, declared.alloc.Global.Global, FinMap.len}
 use Rattle.std.proofs.lemmas.Bool.{cases_lt, Decides.eqb_tells}
 use Rattle.std.proofs.lemmas.List.Elements.{All-head, All-tail, All-cons}
-use Rattle.graph_model.specs.{Graph.key_of, Graph.stamp_of, Graph.IsContent}
-use Rattle.graph_model.proofs.Keys.{get_listed}
+use Rattle.graph_types.specs.{Graph.key_of, Graph.stamp_of, Graph.IsContent}
+use Rattle.graph_types.proofs.Keys.{get_listed}
 use Rattle.std.specs.{Option.is_some, FinMap.get}
-use Rattle.graph_model.specs.{Graph.Graph, Graph.graph_of, Graph.map_of, Limits.name_limit, Limits.kind_limit, Limits.IsWeight}
-use Rattle.graph_model.specs.declared.{batches.NamedOp.NamedOp, contents.Content.Content, ids.Edge.Edge}
+use Rattle.graph_types.specs.{Graph.Graph, Graph.graph_of, Graph.map_of, Limits.name_limit, Limits.kind_limit, Limits.IsWeight}
+use Rattle.graph_types.specs.declared.{batches.NamedOp.NamedOp, contents.Content.Content, ids.Edge.Edge}
 use Rattle.edge_block.specs.Slots.{IsStamp, Slot, BlockView, is_free, entry_in, entries_of, edges_in}
 use Rattle.edge_block.specs.{Lending.LentEdge, Lending.lent_of, declared.blocks.Block.Block}
-use Rattle.block_layout.specs.{Rows.shape_of, Batches.IsLayoutOf, Batches.IsWithin}
+use Rattle.edge_block.specs.{Rows.shape_of, Batches.IsLayoutOf, Batches.IsWithin}
 use Rattle.vertex_names.specs.Book.{Book}
-use Rattle.row_pages.specs.Rows.{row_of, blocks_of, numbers_of, Replaces}
-use Rattle.row_pages.specs.Sharing.{block_value, block_values}
+use Rattle.version_pages.specs.Rows.{row_of, blocks_of, numbers_of, Replaces}
+use Rattle.version_pages.specs.Sharing.{block_value, block_values}
 use Rattle.graph_version.specs.Versions.{VersionView, IsBlockOf, AreRowsOf, IsVersion, content, layout_of}
 use Rattle.graph_version.specs.Edges.{edge_from, edges_in_block, edges_in_blocks}
 use Rattle.graph_version.specs.Kept.{vertex_book, kind_book, version_of, IsSummary}

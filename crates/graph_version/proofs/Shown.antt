@@ -4,12 +4,12 @@ use Rattle.std.proofs.Common.{subst, arith, inl, inr, All, true, None}
 use Rattle.std.specs.{Option.is_some, FinMap.get}
 use Rattle.std.proofs.lemmas.{Bool.false≢true, Bool.Decides.leb_tells, Grind.flat_map-append}
 use Rattle.std.proofs.lemmas.List.{map-append, Elements.All-head, Elements.All-tail}
-use Rattle.graph_model.specs.{Graph.Graph, Graph.Key, Graph.Stamp, declared.ids.Edge.Edge}
+use Rattle.graph_types.specs.{Graph.Graph, Graph.Key, Graph.Stamp, declared.ids.Edge.Edge}
 use Rattle.edge_block.specs.Slots.{Slot, BlockView, edges_in}
-use Rattle.block_layout.specs.Rows.{Shape, shape_of, row_at, row_entries}
-use Rattle.block_layout.specs.Listed.{edge_from, edges_in_row, edges_in_rows}
-use Rattle.block_layout.proofs.ListedRows.{listed_once}
-use Rattle.row_pages.specs.Rows.{row_of, blocks_of}
+use Rattle.edge_block.specs.Rows.{Shape, shape_of, row_at, row_entries}
+use Rattle.edge_block.specs.Listed.{edge_from, edges_in_row, edges_in_rows}
+use Rattle.edge_block.proofs.ListedRows.{listed_once}
+use Rattle.version_pages.specs.Rows.{row_of, blocks_of}
 use Rattle.graph_version.specs.Versions.{layout_of, AreRowsOf}
 use Rattle.graph_version.specs.Edges.{edges_in_block, edges_in_blocks, AreEachOnce}
 

@@ -4,7 +4,7 @@ use Rattle.std.proofs.Common.{refl, sym, ap, ◌∙◌, arith, length-append, in
 use Rattle.std.specs.declared.{sync.Arc.Arc, alloc.Global.Global}
 use Rattle.std.proofs.lemmas.{Grind.flat_map-append, List.length-map, Bool.Decides.eqb_tells}
 use Rattle.edge_block.specs.{Slots.BlockView, Slots.entry_in, Slots.entries_of, Slots.edges_in, declared.blocks.Block.Block}
-use Rattle.row_pages.specs.{Rows.row_of, Rows.blocks_of, Sharing.block_value, Sharing.block_values}
+use Rattle.version_pages.specs.{Rows.row_of, Rows.blocks_of, Sharing.block_value, Sharing.block_values}
 use Rattle.graph_version.specs.Edges.{edge_from, edges_in_block, edges_in_blocks}
 
 abbrev pub count_in : List BlockView → ℕ

@@ -1,9 +1,9 @@
 -- A version that is being made.
 use Rattle.std.specs.Prelude.{◌≡◌, List, ℕ, ◌++◌, ◌∷◌, []}
-use Rattle.graph_model.specs.declared.batches.NamedOp.{NamedOp}
+use Rattle.graph_types.specs.declared.batches.NamedOp.{NamedOp}
 use Rattle.edge_block.specs.Slots.{BlockView}
 use Rattle.vertex_names.specs.Book.{Book}
-use Rattle.row_pages.specs.Rows.{Replaces}
+use Rattle.version_pages.specs.Rows.{Replaces}
 use Rattle.graph_version.specs.Versions.{VersionView, content, IsVersion}
 use Rattle.graph_version.specs.Kept.{vertex_book, kind_book}
 

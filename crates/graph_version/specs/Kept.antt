@@ -2,10 +2,10 @@
 use Rattle.std.specs.Prelude.{◌≡◌, ℕ, List}
 use Rattle.std.specs.Arc.{arc_value}
 use Rattle.std.specs.FinMap.{len}
-use Rattle.graph_model.specs.Limits.{name_limit, kind_limit}
-use Rattle.graph_model.specs.Graph.{Graph, graph_of}
-use Rattle.graph_model.specs.declared.batches.NamedOp.{NamedOp}
-use Rattle.graph_model.specs.declared.contents.Content.{Content}
+use Rattle.graph_types.specs.Limits.{name_limit, kind_limit}
+use Rattle.graph_types.specs.Graph.{Graph, graph_of}
+use Rattle.graph_types.specs.declared.batches.NamedOp.{NamedOp}
+use Rattle.graph_types.specs.declared.contents.Content.{Content}
 use Rattle.edge_block.specs.Slots.{BlockView}
 use Rattle.vertex_names.specs.Book.{Book}
 use Rattle.graph_version.specs.Versions.{VersionView, content, IsVersion}

@@ -6,8 +6,8 @@ use Rattle.std.specs.declared.option.Option.TheVariants.{None, Some}
 use Rattle.edge_block.specs.Slots.{BlockView, entries_of}
 use Rattle.edge_block.specs.Lending.{LentEdge, lent_of, edges_left}
 use Rattle.edge_block.specs.declared.blocks.BlockIter.{BlockIter}
-use Rattle.row_pages.specs.Rows.{blocks_of, numbers_of}
-use Rattle.row_pages.specs.Sharing.{block_values}
+use Rattle.version_pages.specs.Rows.{blocks_of, numbers_of}
+use Rattle.version_pages.specs.Sharing.{block_values}
 use Rattle.graph_version.specs.Versions.{VersionView, content}
 use Rattle.graph_version.specs.Edges.{lent_to}
 use Rattle.graph_version.specs.declared.lending.RowIter.{RowIter}

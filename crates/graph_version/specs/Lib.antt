@@ -4,4 +4,10 @@ pub mod Kept
 pub mod Drafts
 pub mod Lending
 pub mod Rebased
-pub use Rattle.row_pages.specs.Rows
+pub use Rattle.version_pages.specs.Rows
+pub mod Listed
+pub mod Shown
+pub use Rattle.version_pages.specs.BatchLending
+pub use Rattle.version_pages.specs.Batches
+pub use Rattle.version_pages.specs.Rows
+pub use Rattle.version_pages.specs.Sharing

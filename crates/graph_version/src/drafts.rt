@@ -1,22 +1,21 @@
 //! The draft of a version.
 
 ghost use Rattle.std.specs.Prelude.{◌≡◌, ◌%◌, ◌^◌, ◌<◌, length, IfOk};
-ghost use Rattle.batch_pages.specs.Batches.{batch_value};
-ghost use Rattle.row_pages.specs.Rows.{blocks_of};
-ghost use Rattle.row_pages.specs.Sharing.{block_values};
+ghost use Rattle.version_pages.specs.Batches.{batch_value};
+ghost use Rattle.version_pages.specs.Rows.{blocks_of};
+ghost use Rattle.version_pages.specs.Sharing.{block_values};
 ghost use Rattle.graph_version.specs.Edges.{edges_in_blocks};
 ghost use Rattle.graph_version.specs.Kept.{edge_total};
 ghost use Rattle.graph_version.specs.Drafts.{drafted_over, with_batch, ReplacesRow, IsWhole};
 
 use crate::opening::Opening;
 use crate::versions::Version;
-use batch_pages::BatchList;
 use edge_block::Block;
-use graph_model::{Batch, VertexId};
-use row_pages::Rows;
+use graph_types::{Batch, VertexId};
 use std::alloc::AllocError;
 use std::marker::Model;
 use std::sync::Arc;
+use version_pages::{BatchList, Rows};
 use vertex_names::NameBook;
 
 /// A version that is being made over another one, from which it takes all that isn't set or replaced.
@@ -35,7 +34,7 @@ impl Model for VersionDraft {
     ghost use Rattle.graph_version.specs.Kept.{version_of, opening_graph};
     ghost use Rattle.graph_version.specs.Drafts.{DraftView};
     ghost use Rattle.std.specs.Coded.{codes};
-    ghost use Rattle.graph_model.specs.Coded.{graph_code};
+    ghost use Rattle.graph_types.specs.Coded.{graph_code};
 
     ghost Value = { DraftView };
 

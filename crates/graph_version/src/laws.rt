@@ -1,9 +1,9 @@
 //! Laws of versions.
 
 ghost use Rattle.std.specs.Prelude.{List};
-ghost use Rattle.graph_model.specs.Graph.{Graph};
+ghost use Rattle.graph_types.specs.Graph.{Graph};
 ghost use Rattle.edge_block.specs.Slots.{BlockView};
-ghost use Rattle.row_pages.specs.Rows.{blocks_of};
+ghost use Rattle.version_pages.specs.Rows.{blocks_of};
 ghost use Rattle.graph_version.specs.Versions.{AreRowsOf, IsVersion, empty_version};
 ghost use Rattle.graph_version.specs.Edges.{AreEachOnce, edges_in_blocks};
 

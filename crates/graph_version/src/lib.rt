@@ -3,17 +3,26 @@
 //! A version never changes once it is built; the next one is drafted over it and shares every row, batch and name
 //! that the batch didn't touch. That is how Aspen holds snapshots (Dhulipala, Blelloch, Shun; PLDI 2019), here over
 //! STINGER's edge blocks (Ediger, McColl, Riedy, Bader; IEEE HPEC 2012).
+//!
+//! What the analyses ask of a graph is the edges of a view, by their sources: [`ViewEdges`]. A version has them in its blocks
+//! ([`VersionEdges`]), and a plain list of arcs serves tests and examples ([`ListedArcs`]).
 #![tactic(auto)]
 
 mod drafts;
 mod laws;
 mod lending;
 mod listed;
+mod listed_arcs;
 mod opening;
 mod rebase;
+mod source;
+mod version_edges;
 mod versions;
 
 pub use drafts::VersionDraft;
 pub use laws::{law_empty_version, law_rows_each_once};
 pub use lending::{BlockNumbers, RowIter};
+pub use listed_arcs::ListedArcs;
+pub use source::ViewEdges;
+pub use version_edges::VersionEdges;
 pub use versions::Version;

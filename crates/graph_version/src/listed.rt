@@ -1,9 +1,9 @@
 //! A content of which it is known that it is one.
 
 ghost use Rattle.std.specs.Prelude.{◌≡◌, IfOk};
-ghost use Rattle.graph_model.specs.Graph.{IsContent};
+ghost use Rattle.graph_types.specs.Graph.{IsContent};
 
-use graph_model::Content;
+use graph_types::Content;
 use std::alloc::AllocError;
 
 /// A content within the limits: its names and kinds are distinct, and it lists each edge once.

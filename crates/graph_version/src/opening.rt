@@ -1,11 +1,11 @@
 //! What versions began with.
 
 ghost use Rattle.std.specs.Prelude.{◌≡◌, IfOk};
-ghost use Rattle.graph_model.specs.Graph.{IsContent, content_of};
+ghost use Rattle.graph_types.specs.Graph.{IsContent, content_of};
 ghost use Rattle.graph_version.specs.Kept.{opening_content};
 
 use crate::listed::ListedContent;
-use graph_model::{Content, List};
+use graph_types::{Content, List};
 use std::alloc::{AllocError, Global};
 use std::sync::Arc;
 

@@ -1,10 +1,10 @@
 //! Version 0 of a store that opens with what a version holds.
 
 ghost use Rattle.std.specs.Prelude.{◌≡◌, ◌≢◌, ◌++◌, ℕ, [], length, map, slice_index_or, All, AllPairs, IfOk, OnOk};
-ghost use Rattle.graph_model.specs.Graph.{graph_of, stamp_of};
+ghost use Rattle.graph_types.specs.Graph.{graph_of, stamp_of};
 ghost use Rattle.edge_block.specs.Slots.{IsStamp};
-ghost use Rattle.row_pages.specs.Rows.{row_of, blocks_of, numbers_of, Replaces};
-ghost use Rattle.row_pages.specs.Sharing.{block_value, block_values};
+ghost use Rattle.version_pages.specs.Rows.{row_of, blocks_of, numbers_of, Replaces};
+ghost use Rattle.version_pages.specs.Sharing.{block_value, block_values};
 ghost use Rattle.graph_version.specs.Versions.{content};
 ghost use Rattle.graph_version.specs.Edges.{edges_in_block, edges_in_blocks};
 ghost use Rattle.graph_version.specs.Rebased.{AreCopies, IsRebased, rows_like, unnumbered};
@@ -13,12 +13,11 @@ use crate::lending::all_edges;
 use crate::listed::ListedContent;
 use crate::opening::Opening;
 use crate::versions::Version;
-use batch_pages::BatchList;
 use edge_block::Block;
-use graph_model::{Content, Edge, List, Name, VertexId};
-use row_pages::Rows;
+use graph_types::{Content, Edge, List, Name, VertexId};
 use std::alloc::{AllocError, Global};
 use std::sync::Arc;
+use version_pages::{BatchList, Rows};
 use vertex_names::NameBook;
 
 impl Version {

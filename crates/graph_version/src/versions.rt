@@ -2,25 +2,24 @@
 
 ghost use Rattle.std.specs.Prelude.{◌≡◌, ◌%◌, ◌^◌, ◌++◌, ◌∷◌, [], List, length, MatchOption};
 ghost use Rattle.std.specs.Option.{option_map};
-ghost use Rattle.graph_model.specs.Graph.{IsContent, graph_of};
-ghost use Rattle.graph_model.specs.declared.batches.NamedOp.{NamedOp};
+ghost use Rattle.graph_types.specs.Graph.{IsContent, graph_of};
+ghost use Rattle.graph_types.specs.declared.batches.NamedOp.{NamedOp};
 ghost use Rattle.edge_block.specs.Lending.{lent_edge};
-ghost use Rattle.row_pages.specs.Rows.{row_of, blocks_of, numbers_of};
-ghost use Rattle.row_pages.specs.Sharing.{block_values};
+ghost use Rattle.version_pages.specs.Rows.{row_of, blocks_of, numbers_of};
+ghost use Rattle.version_pages.specs.Sharing.{block_values};
 ghost use Rattle.graph_version.specs.Versions.{IsVersion, empty_version, content};
-ghost use Rattle.block_layout.specs.Rows.{shape_of, block_at};
+ghost use Rattle.edge_block.specs.Rows.{shape_of, block_at};
 ghost use Rattle.graph_version.specs.Edges.{lent_to};
 ghost use Rattle.graph_version.specs.Kept.{vertex_book, kind_book, edge_total};
 
 use crate::lending::{BlockNumbers, RowIter};
 use crate::opening::Opening;
-use batch_pages::{BatchIter, BatchList};
 use edge_block::{Block, EdgeRef};
-use graph_model::{Batch, Content, KindId, VertexId};
-use row_pages::Rows;
+use graph_types::{Batch, Content, KindId, VertexId};
 use std::alloc::Global;
 use std::marker::Model;
 use std::sync::Arc;
+use version_pages::{BatchIter, BatchList, Rows};
 use vertex_names::NameBook;
 
 /// How many vertices a graph may have.
@@ -60,7 +59,7 @@ impl Model for Version {
     ghost use Rattle.graph_version.specs.Versions.{VersionView};
     ghost use Rattle.graph_version.specs.Kept.{version_of, opening_graph, IsSummary};
     ghost use Rattle.std.specs.Coded.{codes};
-    ghost use Rattle.graph_model.specs.Coded.{graph_code};
+    ghost use Rattle.graph_types.specs.Coded.{graph_code};
 
     ghost Value = { VersionView };
 
@@ -72,7 +71,7 @@ impl Model for Version {
 }
 
 impl Version {
-    ghost use Rattle.batch_pages.specs.Lending.{batches_left};
+    ghost use Rattle.version_pages.specs.BatchLending.{batches_left};
     ghost use Rattle.graph_version.specs.Lending.{lent_at, lent_in_blocks, row_left, numbers_left};
 
     /// The version without batches: no name, no kind, no edge. It takes no memory.

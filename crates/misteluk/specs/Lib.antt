@@ -1,9 +1,9 @@
 -- What the contracts of what is handed on are said in.
-pub use Rattle.graph_model.specs.Answer
-pub use Rattle.graph_model.specs.Graph
-pub use Rattle.graph_model.specs.Limits
-pub use Rattle.graph_model.specs.Step
-pub use Rattle.graph_model.specs.Valid
+pub use Rattle.graph_types.specs.Answer
+pub use Rattle.graph_types.specs.Graph
+pub use Rattle.graph_types.specs.Limits
+pub use Rattle.graph_types.specs.Step
+pub use Rattle.graph_types.specs.Valid
 pub use Rattle.graph_version.specs.Versions
 pub use Rattle.block_reclamation.specs.Board
 pub use Rattle.block_reclamation.specs.Copies

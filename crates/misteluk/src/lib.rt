@@ -4,7 +4,7 @@
 pub use batch_apply::{Gate, PassAll};
 pub use block_reclamation::{Board, Pin, SeatNo};
 pub use edge_block::EdgeRef;
-pub use graph_model::{
+pub use graph_types::{
     AskError, Batch, Content, Degree, Edge, Filter, KindId, List, Name, NamedFilter, NamedOp,
     Outcome, PinCopy, PushError, Reply, Request, VertexId, is_kind_name, is_name,
 };

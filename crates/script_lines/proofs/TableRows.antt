@@ -7,8 +7,8 @@ use Rattle.std.specs.Prelude.{IsTrue, Option, None, Some, sum_by, count_by, zip,
 use Rattle.std.specs.{List.flat_map, List.filter_map, Option.option_to_list}
 use Rattle.std.proofs.lemmas.{Bool.cases_lt, Bool.false≢true, Bool.Decides.eqb_tells, Grind.flat_map-append}
 use Rattle.std.proofs.lemmas.List.{get_or_default, get_or_past, Elements.All-get_or, Sums.fold-append, Sums.sum_by-append}
-use Rattle.graph_model.specs.{Answer.level_row, Answer.names_of, Valid.is_name}
-use Rattle.graph_model.specs.declared.ids.{Degree.Degree, VertexId.VertexId}
+use Rattle.graph_types.specs.{Answer.level_row, Answer.names_of, Valid.is_name}
+use Rattle.graph_types.specs.declared.ids.{Degree.Degree, VertexId.VertexId}
 use Rattle.graph_levels.specs.Vertices.{numbers_of}
 use Rattle.vertex_names.specs.Book.{Book, IsBook}
 use Rattle.version_answers.proofs.NamedRows.{label_at, length-labels, level_rows_more, next_row, rows_all}

@@ -3,12 +3,12 @@ use Rattle.std.specs.Prelude.{ℕ, ℤ, Bool, true, false, codes, decimal, zero,
 use Rattle.std.specs.Prelude.{Option, None, Some, bytes_eq, sum_by, ◌==◌, if◌then◌else◌}
 use Rattle.std.specs.Fmt.{signed_decimal}
 use Rattle.std.specs.List.{flat_map, list_any}
-use Rattle.graph_model.specs.Step.{with_name}
-use Rattle.graph_model.specs.declared.ids.Degree.{Degree}
-use Rattle.graph_model.specs.declared.batches.Outcome.{Outcome}
-use Rattle.graph_model.specs.declared.batches.Outcome.TheVariants.{Inserted, Updated, Removed, Absent, Overflow, Expired}
-use Rattle.graph_model.specs.declared.requests.Reply.{Reply}
-use Rattle.graph_model.specs.declared.requests.Reply.TheVariants.{Cores, Degrees, Labels, Levels, OneEdge}
+use Rattle.graph_types.specs.Step.{with_name}
+use Rattle.graph_types.specs.declared.ids.Degree.{Degree}
+use Rattle.graph_types.specs.declared.batches.Outcome.{Outcome}
+use Rattle.graph_types.specs.declared.batches.Outcome.TheVariants.{Inserted, Updated, Removed, Absent, Overflow, Expired}
+use Rattle.graph_types.specs.declared.requests.Reply.{Reply}
+use Rattle.graph_types.specs.declared.requests.Reply.TheVariants.{Cores, Degrees, Labels, Levels, OneEdge}
 use Rattle.feed_csv.specs.Commands.{word_text as feed_word_text}
 use Rattle.script_lines.specs.declared.words.Word.{Word}
 use Rattle.script_lines.specs.declared.words.Word.TheVariants.{Feed, NotOpen, AlreadyOpen, BadWindow, NoKind, NoVertex}

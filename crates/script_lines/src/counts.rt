@@ -2,10 +2,10 @@
 
 ghost use Rattle.std.specs.Prelude.{◌≡◌, ◌+◌, ◌<◌, ◌^◌, ◌||◌, count_by, if◌then◌else◌, sum_by};
 ghost use Rattle.std.specs.List.{list_any};
-ghost use Rattle.graph_model.specs.declared.batches.Outcome.TheVariants.{Inserted, Updated, Removed, Absent, Overflow};
+ghost use Rattle.graph_types.specs.declared.batches.Outcome.TheVariants.{Inserted, Updated, Removed, Absent, Overflow};
 ghost use Rattle.script_lines.specs.Lines.{expired_in, is_expired, is_outcome};
 
-use graph_model::Outcome;
+use graph_types::Outcome;
 
 /// How many outcomes there are of each kind, and how many edges expiries removed.
 #[derive(Clone, Copy)]

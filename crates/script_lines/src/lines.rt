@@ -5,7 +5,7 @@ ghost use Rattle.std.specs.Prelude.{◌≡◌, ◌++◌, [], OnOk, codes, decima
 ghost use Rattle.script_lines.specs.Lines as lines_of;
 
 use crate::counts::counts_in;
-use graph_model::Outcome;
+use graph_types::Outcome;
 use itoa::Buffer;
 use std::alloc::AllocError;
 use stream_store::{Collected, Stat};

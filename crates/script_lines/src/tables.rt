@@ -6,7 +6,7 @@ ghost use Rattle.std.specs.Prelude.{sum_by, zip};
 ghost use Rattle.std.specs.List.{flat_map};
 ghost use Rattle.std.specs.Option.{option_to_list};
 ghost use Rattle.graph_levels.specs.Vertices.{numbers_of};
-ghost use Rattle.graph_model.specs.Answer.{level_row, names_of, reached};
+ghost use Rattle.graph_types.specs.Answer.{level_row, names_of, reached};
 ghost use Rattle.script_lines.specs.Lines as lines_of;
 ghost use Rattle.version_answers.specs.Numbered.{named};
 
@@ -14,7 +14,7 @@ use crate::ends::RowEnd;
 use crate::lines::edge_line;
 use crate::page::{PAGE, flush, put};
 use arrayvec::ArrayString;
-use graph_model::{Degree, VertexId};
+use graph_types::{Degree, VertexId};
 use std::alloc::AllocError;
 use version_answers::NumberedReply;
 use vertex_names::NameBook;

@@ -1,7 +1,6 @@
 //! `stinger run < script`: serves a script on standard input, and writes its lines on standard output.
 #![tactic(auto)]
 
-use progress_reader::ProgressReader;
 use std::alloc::AllocError;
 use std::env::Env;
 use std::io::{ErrorKind, IsTerminal, Write};
@@ -11,7 +10,7 @@ use std::sync::Wait;
 use std::thread::Threads;
 use std::time::Clock;
 use std::{env, io};
-use stinger_cli::{refuse_arguments, serves, shows_progress, stinger};
+use stinger_server::{ProgressReader, refuse_arguments, serves, shows_progress, stinger};
 
 // What stands on standard error where somebody at a terminal is to give the script.
 const AWAITED: &str = "\

@@ -1,6 +1,7 @@
-pub mod Writing
-pub mod Flushed
-pub mod OneRecord
-pub mod RunSoFar
-pub mod RunTexts
-pub mod RunEnd
+pub mod Options
+pub mod OneFault
+pub mod Levels
+pub mod Asked
+pub mod Served
+pub mod HelpText
+pub mod Driven

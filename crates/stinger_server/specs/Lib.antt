@@ -1,3 +1,1 @@
-pub mod Texts
-pub mod Writes
-pub mod Runs
+pub mod Program

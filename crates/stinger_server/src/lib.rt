@@ -1,13 +1,21 @@
-//! A script of batches and requests to lines: [`serve`] reads comma-separated records and writes what
-//! `specs/Texts.antt` says of them. [`run_script`] does the same over a feed and a [`Sink`], and its contract says why it ended.
+//! The program over its arguments: [`stinger`] reads what they ask for, serves a script or tells a text, and answers the exit
+//! status, as `specs/Program.antt` says. Its commands are [`serve`], a script of batches and requests to lines, and [`drive`], a
+//! check of the running store in threads; both stand in crates below. [`ProgressReader`] passes on what another reader gives, and
+//! meanwhile shows how far it has come.
 #![tactic(auto)]
 
-mod output;
-mod script;
-mod sink;
+mod arguments;
+mod command_line;
+mod count;
+mod laws;
+mod line;
+mod meter;
+mod program;
+mod reader;
+mod texts;
 
-pub use output::write_text;
-pub use script::{ServeFault, Summary, run_script, serve};
-pub use script_commands::{law_examples, law_one_text, law_some_text};
-pub use sink::{Sink, Unwritten};
-pub use stream_store::{BadConfig, Config};
+pub use laws::{law_arguments, law_options};
+pub use program::{refuse_arguments, serves, shows_progress, stinger};
+pub use reader::ProgressReader;
+pub use script_server::{BadConfig, Config, ServeFault, Summary, serve};
+pub use store_drive::{DriveFault, DriveReport, drive};

@@ -1,6 +1,6 @@
 -- The content without names and edges.
 use Rattle.std.proofs.Common.{[], arith}
-use Rattle.graph_model.specs.Graph.{IsContent}
+use Rattle.graph_types.specs.Graph.{IsContent}
 
 pub empty_content : IsContent (record { names = []; kinds = []; edges = [] })
 empty_content = record {

@@ -4,11 +4,11 @@ use Rattle.std.specs.Prelude.{ℕ, ◌+◌, ◌*◌, ◌%◌, ◌==◌, ◌||◌
 use Rattle.std.specs.List.{range_with_len}
 use Rattle.std.specs.declared.option.Option.{Option}
 use Rattle.std.specs.declared.option.Option.TheVariants.{None, Some}
-use Rattle.graph_model.specs.declared.batches.NamedOp.{NamedOp}
-use Rattle.graph_model.specs.declared.batches.NamedOp.TheVariants.{Insert, Incr, Remove}
-use Rattle.graph_model.specs.declared.requests.NamedFilter.{NamedFilter}
-use Rattle.graph_model.specs.declared.requests.Request.{Request}
-use Rattle.graph_model.specs.declared.requests.Request.TheVariants.{Levels, Labels, Cores, Degrees, OneEdge}
+use Rattle.graph_types.specs.declared.batches.NamedOp.{NamedOp}
+use Rattle.graph_types.specs.declared.batches.NamedOp.TheVariants.{Insert, Incr, Remove}
+use Rattle.graph_types.specs.declared.requests.NamedFilter.{NamedFilter}
+use Rattle.graph_types.specs.declared.requests.Request.{Request}
+use Rattle.graph_types.specs.declared.requests.Request.TheVariants.{Levels, Labels, Cores, Degrees, OneEdge}
 
 -- the name of a vertex and of a kind: a letter and a number
 abbrev pub vertex_name : ℕ → List ℕ

@@ -1,13 +1,13 @@
 //! What the plain application leaves of a version's batches.
 
 ghost use Rattle.std.specs.Prelude.{◌≡◌, IfOk, OnOk};
-ghost use Rattle.graph_model.specs.Graph.{graph_of, IsContent};
-ghost use Rattle.graph_model.specs.Step.{empty_graph, left_by};
+ghost use Rattle.graph_types.specs.Graph.{graph_of, IsContent};
+ghost use Rattle.graph_types.specs.Step.{empty_graph, left_by};
 
 use crate::reports::DriveWord;
-use graph_model::{Batch, Content, List};
+use graph_model::{PlainError, plain_apply};
+use graph_types::{Batch, Content, List};
 use graph_version::Version;
-use reference_graph::{PlainError, plain_apply};
 use std::alloc::Global;
 
 impl From<PlainError> for DriveWord {

@@ -1,7 +1,7 @@
 //! The drive over a new store.
 
 ghost use Rattle.std.specs.Prelude.{◌≡◌, ◌≤◌, ◌*◌, All, length, IfOk};
-ghost use Rattle.graph_model.specs.Step.{empty_graph};
+ghost use Rattle.graph_types.specs.Step.{empty_graph};
 ghost use Rattle.stream_store.specs.Stores.{IsOfOpening, IsSeatOf};
 ghost use Rattle.store_drive.specs.Reports.{AreCounts, IsReaderCount, IsReport};
 

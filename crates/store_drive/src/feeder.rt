@@ -2,7 +2,7 @@
 
 ghost use Rattle.std.specs.Prelude.{◌≡◌, ◌≤◌, length, IfOk};
 ghost use Rattle.std.specs.Coded.{codes};
-ghost use Rattle.graph_model.specs.Coded.{graph_code};
+ghost use Rattle.graph_types.specs.Coded.{graph_code};
 ghost use Rattle.stream_store.specs.Stores.{IsReceiptOf};
 ghost use Rattle.store_drive.specs.Feeds.{AreAnswered, IsAnswered};
 ghost use Rattle.store_drive.specs.Load as load;
@@ -11,7 +11,7 @@ use crate::load::{BATCHES, batch_of};
 use crate::pace::Pace;
 use crate::reports::DriveWord;
 use batch_apply::PassAll;
-use graph_model::{List, Outcome};
+use graph_types::{List, Outcome};
 use std::alloc::Global;
 use std::marker::PhantomData;
 use std::sync::Wait;

@@ -1,5 +1,5 @@
 //! A check of the running store in threads: [`drive`] has one thread feed batches to a store while readers acquire versions of it,
-//! ask them, and compare each answer with that of the slow functions of `reference_graph`. The load that is fed, and what is asked,
+//! ask them, and compare each answer with that of the slow functions of `graph_model`. The load that is fed, and what is asked,
 //! stand in `specs/Load.antt`.
 #![tactic(auto)]
 

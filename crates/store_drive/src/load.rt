@@ -3,7 +3,7 @@
 ghost use Rattle.std.specs.Prelude.{◌≡◌, ◌<◌, ◌≤◌, ◌++◌, ◌∷◌, [], codes, decimal, length, IfOk, OnOk};
 ghost use Rattle.store_drive.specs.Load as load;
 
-use graph_model::{Batch, Name, NamedFilter, NamedOp, Request};
+use graph_types::{Batch, Name, NamedFilter, NamedOp, Request};
 use std::alloc::{AllocError, Global};
 
 /// How many batches there are; the first has the number 1.

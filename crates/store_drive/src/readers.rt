@@ -2,10 +2,10 @@
 
 ghost use Rattle.std.specs.Prelude.{◌≡◌, ◌≢◌, ◌+◌, ◌≤◌, length, IfOk, OnOk, Err};
 ghost use Rattle.std.specs.Coded.{codes};
-ghost use Rattle.graph_model.specs.Answer.{IsAnswer};
-ghost use Rattle.graph_model.specs.Coded.{graph_code};
-ghost use Rattle.graph_model.specs.Graph.{graph_of, IsContent};
-ghost use Rattle.graph_model.specs.Step.{empty_graph};
+ghost use Rattle.graph_types.specs.Answer.{IsAnswer};
+ghost use Rattle.graph_types.specs.Coded.{graph_code};
+ghost use Rattle.graph_types.specs.Graph.{graph_of, IsContent};
+ghost use Rattle.graph_types.specs.Step.{empty_graph};
 ghost use Rattle.stream_store.specs.Seats.{held_graph, held_version};
 ghost use Rattle.stream_store.specs.Stores.{IsOfOpening};
 ghost use Rattle.store_drive.specs.Counts.{between_of};
@@ -16,8 +16,8 @@ use crate::pace::Pace;
 use crate::reports::DriveWord;
 use crate::sames::Answer;
 use crate::tally::Tally;
-use graph_model::{AskError, Content, Request};
-use reference_graph::plain_reply;
+use graph_model::plain_reply;
+use graph_types::{AskError, Content, Request};
 use std::alloc::{AllocError, Global};
 use std::marker::PhantomData;
 use std::sync::Wait;

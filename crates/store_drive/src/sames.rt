@@ -2,7 +2,7 @@
 
 ghost use Rattle.std.specs.Prelude.{◌≡◌, ◌↔◌, IsTrue};
 
-use graph_model::{AskError, Degree, Name, Reply};
+use graph_types::{AskError, Degree, Name, Reply};
 
 /// A reply, or the refusal of a request.
 pub(crate) type Answer = Result<Reply, AskError>;

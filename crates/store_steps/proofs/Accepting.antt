@@ -5,11 +5,11 @@ use Rattle.std.specs.{List.list_all, Option.option_and_then, Prelude.slice_get, 
 use Rattle.std.specs.declared.option.Option.{Option, TheVariants.None, TheVariants.Some}
 use Rattle.block_pool.proofs.Grants.{length-marked}
 use Rattle.edge_block.specs.Slots.{BlockView}
-use Rattle.row_pages.specs.Rows.{row_of, blocks_of, numbers_of}
+use Rattle.graph_version.specs.Rows.{row_of, blocks_of, numbers_of}
 use Rattle.block_reclamation.specs.Status.{is_listed, is_used, is_at}
 use Rattle.block_pool.specs.Pools.{retired, is_free_at, marked, is_used_at}
 use Rattle.block_reclamation.specs.declared.status.BlockStatus.TheVariants.{Used}
-use Rattle.epoch_blocks.specs.Blocks.{all_differ}
+use Rattle.epoch_core.specs.Blocks.{all_differ}
 use Rattle.store_steps.specs.Journal.{Entry, Ledger, opened_ledger, is_legal, after_entry, entered, replay}
 use Rattle.store_steps.specs.Desks.{IsDesk, IsAccepted, FollowsBirths, birth_at, last_numbers, ledger_of}
 use Rattle.store_steps.proofs.{NumberLists.all_by, NumberLists.number_in, ChangedLists.length-changed}

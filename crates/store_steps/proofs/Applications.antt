@@ -1,15 +1,15 @@
 -- A batch that was applied to a desk with granted blocks: how often it has a number, and what it leaves of the pool.
 use Rattle.std.proofs.Common.{◌≡◌, ℕ, zero, suc, ◌+◌, ◌≤◌, ◌==◌, true, List, length, count_by, sym, ap, ◌∙◌, arith}
 use Rattle.std.specs.{Prelude.slice_get, Prelude.if◌then◌else◌, Option.option_map}
-use Rattle.graph_model.specs.declared.batches.NamedOp.{NamedOp}
+use Rattle.graph_types.specs.declared.batches.NamedOp.{NamedOp}
 use Rattle.edge_block.specs.Slots.{BlockView}
-use Rattle.row_pages.specs.Rows.{blocks_of, numbers_of}
+use Rattle.graph_version.specs.Rows.{blocks_of, numbers_of}
 use Rattle.graph_version.specs.Versions.{VersionView}
 use Rattle.block_reclamation.specs.Status.{is_listed}
 use Rattle.block_pool.specs.Pools.{retired, is_free_at, marked, changed, AreFree, is_used_at}
 use Rattle.block_reclamation.specs.declared.status.BlockStatus.{BlockStatus}
 use Rattle.block_reclamation.specs.declared.status.BlockStatus.TheVariants.{Free, Granted, Used}
-use Rattle.epoch_blocks.{specs.Blocks.all_differ, proofs.Lists.all_listed}
+use Rattle.epoch_core.{specs.Blocks.all_differ, proofs.Lists.all_listed}
 use Rattle.store_steps.specs.{Journal.Entry, Journal.Applied, Journal.exchanged, Desks.DeskView, Desks.IsDesk, Desks.IsAppliedTo}
 use Rattle.store_steps.{specs.Desks.desk_after, specs.Desks.last_numbers, proofs.NumberLists.all_from}
 use Rattle.store_steps.proofs.{NumberLists.differ_from, ChangedLists.marked_at, ChangedLists.changed_at, ChangedLists.same_list}

@@ -4,7 +4,7 @@ use Rattle.std.proofs.{Common.ap, Common.arith, lemmas.Bool.eq-eqb, lemmas.Bool.
 use Rattle.std.specs.Prelude.{slice_get}
 use Rattle.std.specs.declared.option.Option.{Option, TheVariants.None, TheVariants.Some}
 use Rattle.edge_block.specs.Slots.{BlockView}
-use Rattle.row_pages.specs.Rows.{row_of, blocks_of, numbers_of}
+use Rattle.graph_version.specs.Rows.{row_of, blocks_of, numbers_of}
 use Rattle.block_reclamation.specs.Status.{is_listed, is_free, is_at}
 use Rattle.block_reclamation.specs.declared.status.BlockStatus.{BlockStatus}
 use Rattle.block_reclamation.specs.declared.status.BlockStatus.TheVariants.{Free}

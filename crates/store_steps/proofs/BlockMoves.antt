@@ -4,8 +4,8 @@ use Rattle.std.specs.{List.list_all, Prelude.slice_get, Prelude.Bool}
 use Rattle.std.proofs.lemmas.Bool.{eq-eqb, true≢false}
 use Rattle.block_reclamation.specs.declared.status.BlockStatus.{BlockStatus}
 use Rattle.block_reclamation.specs.Status.{is_at, is_listed}
-use Rattle.epoch_blocks.specs.Blocks.{all_differ}
-use Rattle.epoch_blocks.proofs.Lists.{set_else, and_left, and_right, or_false}
+use Rattle.epoch_core.specs.Blocks.{all_differ}
+use Rattle.epoch_core.proofs.Lists.{set_else, and_left, and_right, or_false}
 use Rattle.store_steps.proofs.NumberLists.{differ_head, differ_tail}
 
 -- numbers whose statuses pass a test, and that are each there once: they may be moved one after another

@@ -6,8 +6,8 @@ use Rattle.std.proofs.lemmas.{Bool.cases_eq, List.get_or-set_same, List.get_or-s
 use Rattle.block_reclamation.specs.declared.copies.{Pin.Pin, TheConstants.SEATS}
 use Rattle.block_reclamation.specs.Board.{BoardState, IsBoard, with_pin}
 use Rattle.block_reclamation.specs.Copies.{pin_at, unsettled, settled, copy_of, floor_of}
-use Rattle.epoch_core.specs.declared.states.SessionState.{SessionState}
-use Rattle.epoch_core.specs.declared.states.SessionState.TheVariants.{Idle, Pinned, Holding, Asking}
+use Rattle.epoch_core.specs.declared.session_states.SessionState.{SessionState}
+use Rattle.epoch_core.specs.declared.session_states.SessionState.TheVariants.{Idle, Pinned, Holding, Asking}
 use Rattle.epoch_core.specs.Worlds.{World, session_of, seat_pin, seat_pins, pin_in, held_in, last_number, present_copy}
 use Rattle.epoch_core.specs.Machine.{to_pin, to_settle, to_release}
 use Rattle.epoch_core.proofs.Moves.{Moved, moved, floored, seated_at, session_after, session_else}

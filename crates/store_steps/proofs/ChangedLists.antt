@@ -7,7 +7,7 @@ use Rattle.block_reclamation.specs.Status.{is_listed}
 use Rattle.block_pool.specs.Pools.{marked, changed}
 use Rattle.block_reclamation.specs.declared.status.BlockStatus.{BlockStatus}
 use Rattle.block_reclamation.specs.declared.status.BlockStatus.TheVariants.{Granted}
-use Rattle.epoch_blocks.specs.Blocks.{all_differ}
+use Rattle.epoch_core.specs.Blocks.{all_differ}
 use Rattle.store_steps.proofs.NumberLists.{apart_test, differ_head, differ_tail}
 
 suc_test : (m n : ℕ) → (suc m == suc n) ≡ (m == n)

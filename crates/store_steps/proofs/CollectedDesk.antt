@@ -6,7 +6,7 @@ use Rattle.std.specs.{Option.option_and_then, declared.option.Option.Option, dec
 use Rattle.std.{specs.declared.option.Option.TheVariants.Some, proofs.lemmas.List.append-nil}
 use Rattle.std.proofs.lemmas.{List.length-map, Bool.eq-eqb, Bool.or_right, Bool.Decides.nat_tests, Option.slice_get-map}
 use Rattle.edge_block.specs.Slots.{BlockView}
-use Rattle.row_pages.specs.Rows.{row_of, numbers_of}
+use Rattle.graph_version.specs.Rows.{row_of, numbers_of}
 use Rattle.graph_version.specs.Versions.{VersionView}
 use Rattle.block_reclamation.specs.Status.{is_listed, is_retired, is_reclaimable, is_used, is_at, recycled}
 use Rattle.block_reclamation.specs.declared.copies.PinCopy.{PinCopy}

@@ -11,9 +11,9 @@ use Rattle.block_reclamation.specs.declared.status.BlockStatus.{BlockStatus}
 use Rattle.block_reclamation.specs.declared.status.BlockStatus.TheVariants.{Free}
 use Rattle.block_pool.specs.Pools.{marked}
 use Rattle.block_reclamation.specs.declared.copies.PinCopy.{PinCopy}
-use Rattle.epoch_blocks.specs.Blocks.{put, all_differ, reclaimed}
+use Rattle.epoch_core.specs.Blocks.{put, all_differ, reclaimed}
 use Rattle.epoch_core.specs.{declared.events.Event.TheVariants.Recycle, Worlds.World, Machine.step, Machine.with_status}
-use Rattle.epoch_blocks.proofs.Lists.{set_else}
+use Rattle.epoch_core.proofs.Lists.{set_else}
 use Rattle.store_steps.specs.{Desks.DeskView, Desks.IsCollected, Shown.ShowsWorld, Steps.all_done}
 use Rattle.store_steps.{specs.Steps.past_numbers, specs.Steps.recycling, specs.Steps.TakesAt, proofs.NumberLists.apart_test}
 use Rattle.store_steps.proofs.{NumberLists.differ_head, NumberLists.differ_tail, Filling.step_then}

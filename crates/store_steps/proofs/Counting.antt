@@ -5,9 +5,9 @@ use Rattle.std.specs.{Prelude.Contains, Cmp.Lexicographic.pointwise}
 use Rattle.std.specs.declared.option.Option.{Option, TheVariants.None, TheVariants.Some}
 use Rattle.std.proofs.lemmas.{Bool.eq-eqb, Bool.eqb-true, Slice.Eq.slice_eq-Decides}
 use Rattle.std.proofs.lemmas.Bool.Decides.{Decides-and, Decides-eqb, Decides-int_eq, Decides-like}
-use Rattle.epoch_blocks.{proofs.Edges.Decides-same_stamp, specs.Blocks.all_differ, specs.Posting.same_stamp}
+use Rattle.epoch_core.{proofs.Edges.Decides-same_stamp, specs.Blocks.all_differ, specs.Posting.same_stamp}
 use Rattle.edge_block.specs.Slots.{BlockView, Slot}
-use Rattle.row_pages.specs.Rows.{numbers_of}
+use Rattle.graph_version.specs.Rows.{numbers_of}
 use Rattle.block_reclamation.specs.Status.{is_listed}
 use Rattle.block_pool.proofs.Tallies.{count_more}
 use Rattle.store_steps.proofs.NumberLists.{differ_head, differ_tail}

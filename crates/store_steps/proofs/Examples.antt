@@ -4,8 +4,8 @@ use Rattle.std.specs.Prelude.{All, slice_get, Option, Some, None}
 use Rattle.std.proofs.lemmas.{Bool.true≢false, List.Elements.All-cons}
 use Rattle.graph_version.specs.Edges.{edges_in_block}
 use Rattle.epoch_core.specs.Worlds.{seat_pin, start_world, session_of}
-use Rattle.epoch_core.specs.declared.{states.SessionState.TheVariants.Idle, events.Event.TheVariants.Pin}
-use Rattle.epoch_blocks.specs.Versions.{edges_at}
+use Rattle.epoch_core.specs.declared.{session_states.SessionState.TheVariants.Idle, events.Event.TheVariants.Pin}
+use Rattle.epoch_core.specs.Versions.{edges_at}
 use Rattle.block_reclamation.specs.Copies.{pin_at, unsettled}
 use Rattle.block_reclamation.specs.Board.{no_pins, with_pin}
 use Rattle.block_reclamation.specs.Status.{is_at, is_granted}

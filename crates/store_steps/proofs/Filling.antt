@@ -4,19 +4,19 @@ use Rattle.std.proofs.{Common.get_or-set_same, Common.get_or-set_other, lemmas.B
 use Rattle.std.specs.{Prelude.slice_get, Prelude.if◌then◌else◌, Prelude.All, List.flat_map, Option.option_map}
 use Rattle.std.specs.{Option.option_and_then, declared.option.Option.TheVariants.None, declared.option.Option.TheVariants.Some}
 use Rattle.std.proofs.lemmas.List.{length-set, Elements.All-head, Elements.All-tail, Elements.All-cons}
-use Rattle.graph_model.specs.declared.ids.Edge.{Edge}
+use Rattle.graph_types.specs.declared.ids.Edge.{Edge}
 use Rattle.edge_block.specs.Slots.{BlockView}
-use Rattle.row_pages.specs.Rows.{numbers_of}
+use Rattle.graph_version.specs.Rows.{numbers_of}
 use Rattle.graph_version.specs.Edges.{edges_in_block, edges_in_blocks}
 use Rattle.block_reclamation.specs.Status.{is_listed, is_granted}
 use Rattle.block_pool.specs.Pools.{marked}
 use Rattle.block_reclamation.specs.declared.status.BlockStatus.{BlockStatus}
 use Rattle.block_reclamation.specs.declared.status.BlockStatus.TheVariants.{Free, Granted}
 use Rattle.epoch_core.specs.declared.events.Event.{Event, TheVariants.Take, TheVariants.Fill}
-use Rattle.epoch_blocks.specs.Blocks.{taken, put, all_differ}
-use Rattle.epoch_blocks.specs.Versions.{edges_at, edges_of}
+use Rattle.epoch_core.specs.Blocks.{taken, put, all_differ}
+use Rattle.epoch_core.specs.Versions.{edges_at, edges_of}
 use Rattle.epoch_core.specs.{Worlds.World, Machine.step, Machine.with_status, Machine.with_heap}
-use Rattle.epoch_blocks.proofs.Lists.{set_same, set_else, or_false}
+use Rattle.epoch_core.proofs.Lists.{set_same, set_else, or_false}
 use Rattle.store_steps.{specs.Steps.all_done, specs.Steps.filling, proofs.NumberLists.differ_head, proofs.NumberLists.differ_tail}
 
 -- the heap with the edges of these blocks at their numbers

@@ -2,16 +2,16 @@
 use Rattle.std.proofs.Common.{◌≡◌, ℕ, not, false, take, refl, sym, ap, subst, ◌∙◌, arith, List}
 use Rattle.std.specs.{Prelude.slice_get, declared.option.Option.Option, declared.option.Option.TheVariants.Some}
 use Rattle.std.proofs.lemmas.List.{take-map}
-use Rattle.graph_model.specs.Step.{left_by}
+use Rattle.graph_types.specs.Step.{left_by}
 use Rattle.block_reclamation.specs.declared.status.BlockStatus.{BlockStatus}
 use Rattle.block_reclamation.specs.declared.status.BlockStatus.TheVariants.{Free, Retired}
 use Rattle.block_reclamation.specs.Status.{is_free, is_reclaimable, is_at, is_listed}
 use Rattle.block_reclamation.specs.declared.copies.PinCopy.{PinCopy}
-use Rattle.epoch_core.specs.declared.states.{Hold.Hold, SessionState.SessionState}
-use Rattle.epoch_core.specs.declared.states.SessionState.TheVariants.{Idle, Pinned, Holding, Asking}
+use Rattle.epoch_core.specs.declared.session_states.{Hold.Hold, SessionState.SessionState}
+use Rattle.epoch_core.specs.declared.session_states.SessionState.TheVariants.{Idle, Pinned, Holding, Asking}
 use Rattle.epoch_core.specs.Sound.{IsSound, IsSessionSound, IsHeld, IsCovered, IsKeptAt}
 use Rattle.epoch_core.{specs.Worlds.World, specs.Worlds.session_of, specs.Worlds.held_in, proofs.Steps.always_sound}
-use Rattle.epoch_blocks.specs.Versions.{AreEdgesOf, opening_graph, blocks_at, edges_of, graph_at}
+use Rattle.epoch_core.specs.Versions.{AreEdgesOf, opening_graph, blocks_at, edges_of, graph_at}
 use Rattle.store_steps.specs.{Desks.DeskView, Shown.ShowsWorld, Reached.world_by, Held.IsSnapshot}
 use Rattle.store_steps.{specs.Held.HeldIsSnapshot, proofs.Reached.same_count}
 

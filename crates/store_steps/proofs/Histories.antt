@@ -3,11 +3,11 @@ use Rattle.std.proofs.Common.{◌≡◌, ℕ, inl, inr, true, false, List, [], �
 use Rattle.std.specs.{Prelude.if◌then◌else◌, Prelude.slice_get, Option.unwrap_or, Option.option_and_then, Option.option_map}
 use Rattle.std.specs.declared.option.Option.{Option, TheVariants.None, TheVariants.Some}
 use Rattle.std.proofs.lemmas.Bool.{cases_eq}
-use Rattle.graph_model.specs.declared.requests.Request.{Request}
-use Rattle.epoch_blocks.specs.{declared.states.Version.Version, declared.states.Opening.Opening, Versions.blocks_at}
+use Rattle.graph_types.specs.declared.requests.Request.{Request}
+use Rattle.epoch_core.specs.{declared.states.Version.Version, declared.states.Opening.Opening, Versions.blocks_at}
 use Rattle.epoch_core.specs.Worlds.{seat_pin}
-use Rattle.epoch_core.specs.declared.states.{Hold.Hold, Inquiry.Inquiry, SessionState.SessionState}
-use Rattle.epoch_core.specs.declared.states.SessionState.TheVariants.{Idle, Pinned, Holding, Asking}
+use Rattle.epoch_core.specs.declared.session_states.{Hold.Hold, Inquiry.Inquiry, SessionState.SessionState}
+use Rattle.epoch_core.specs.declared.session_states.SessionState.TheVariants.{Idle, Pinned, Holding, Asking}
 use Rattle.epoch_core.specs.{Worlds.World, Worlds.session_of, Worlds.last_number, Runs.run}
 use Rattle.epoch_core.specs.Machine.{step, read_on, is_all_read, to_enter, to_ask, to_read, to_reply}
 use Rattle.epoch_core.proofs.Moves.{Moved, moved, session_after, session_else}

@@ -4,11 +4,11 @@ use Rattle.std.proofs.Common.{get_or, refl, sym, ap, ◌∙◌, arith}
 use Rattle.std.specs.{Prelude.if◌then◌else◌, Prelude.All, Prelude.AllPairs, Prelude.filter, List.list_all}
 use Rattle.std.proofs.lemmas.List.Elements.{All-head, All-tail, All-cons}
 use Rattle.std.proofs.lemmas.Bool.{eq-eqb, eqb-true, true≢false, or_right}
-use Rattle.graph_model.proofs.Counts.{apart_tail}
+use Rattle.graph_types.proofs.Counts.{apart_tail}
 use Rattle.edge_block.specs.Slots.{BlockView}
-use Rattle.row_pages.specs.Rows.{numbers_of}
+use Rattle.graph_version.specs.Rows.{numbers_of}
 use Rattle.block_reclamation.specs.Status.{is_listed}
-use Rattle.epoch_blocks.specs.Blocks.{all_differ}
+use Rattle.epoch_core.specs.Blocks.{all_differ}
 
 -- the test of two numbers that differ
 pub apart_test : (m n : ℕ) → m ≢ n → (m == n) ≡ false

@@ -5,7 +5,7 @@ use Rattle.std.specs.declared.option.Option.{Option, TheVariants.None, TheVarian
 use Rattle.block_reclamation.specs.declared.status.BlockStatus.{BlockStatus}
 use Rattle.block_reclamation.specs.declared.status.BlockStatus.TheVariants.{Free, Granted, Used, Retired}
 use Rattle.block_reclamation.specs.Status.{is_free, is_used, is_at}
-use Rattle.epoch_blocks.specs.Blocks.{after_post}
+use Rattle.epoch_core.specs.Blocks.{after_post}
 use Rattle.store_steps.proofs.OneNumber.{number_after}
 
 -- what Take, and the Post of version n, make of a status

@@ -6,10 +6,10 @@ use Rattle.std.specs.declared.option.Option.TheVariants.{None, Some}
 use Rattle.std.proofs.lemmas.Bool.{eqb-true}
 use Rattle.std.proofs.lemmas.List.{length-replicate, Elements.All-head, Elements.All-tail, Elements.All-cons}
 use Rattle.block_pool.proofs.Grants.{length-marked}
-use Rattle.graph_model.specs.{Graph.Graph, Graph.graph_of, Graph.content_of, Graph.IsContent, Step.left_by}
-use Rattle.graph_model.specs.declared.{ids.Edge.Edge, contents.Content.Content}
+use Rattle.graph_types.specs.{Graph.Graph, Graph.graph_of, Graph.content_of, Graph.IsContent, Step.left_by}
+use Rattle.graph_types.specs.declared.{ids.Edge.Edge, contents.Content.Content}
 use Rattle.edge_block.specs.Slots.{BlockView}
-use Rattle.row_pages.specs.Rows.{blocks_of, numbers_of}
+use Rattle.graph_version.specs.Rows.{blocks_of, numbers_of}
 use Rattle.graph_version.specs.Versions.{VersionView, content, empty_version}
 use Rattle.block_reclamation.specs.Status.{is_listed, is_used, is_at}
 use Rattle.graph_version.specs.Edges.{edges_in_block, edges_in_blocks, AreEachOnce}
@@ -17,10 +17,10 @@ use Rattle.graph_version.proofs.{Empty.is_empty_version, Shown.rows_each_once}
 use Rattle.block_pool.specs.Pools.{marked, is_used_at}
 use Rattle.block_reclamation.specs.declared.status.BlockStatus.{BlockStatus}
 use Rattle.block_reclamation.specs.declared.status.BlockStatus.TheVariants.{Free, Used}
-use Rattle.epoch_blocks.specs.Versions.{AreEdgesOf, edges_at, edges_of}
+use Rattle.epoch_core.specs.Versions.{AreEdgesOf, edges_at, edges_of}
 use Rattle.epoch_core.specs.Worlds.{seat_pin}
 use Rattle.epoch_core.specs.Opened.{Lists, numbers_in, heap_with, status_with, IsOpening}
-use Rattle.epoch_core.specs.{Worlds.IsStart, declared.states.SessionState.TheVariants.Idle}
+use Rattle.epoch_core.specs.{Worlds.IsStart, declared.session_states.SessionState.TheVariants.Idle}
 use Rattle.epoch_core.proofs.Steps.{all_idle, free_at}
 use Rattle.block_reclamation.specs.Copies.{pin_at}
 use Rattle.store_steps.specs.{Desks.IsDesk, Shown.ShowsWorld}

@@ -6,22 +6,22 @@ use Rattle.std.specs.declared.option.Option.TheVariants.{None, Some}
 use Rattle.std.proofs.lemmas.{List.map-append, List.length-map, Bool.and_from, Bool.or_right}
 use Rattle.std.proofs.lemmas.{Bool.lt-ltb, Bool.le-leb, Bool.or_left, Bool.Decides.nat_tests, Option.slice_get_within}
 use Rattle.block_pool.proofs.Grants.{length-marked}
-use Rattle.graph_model.specs.{Limits.batch_limit, GraphLimits.is_within_limits, Step.left_by, Step.after_all}
-use Rattle.graph_model.specs.declared.batches.NamedOp.{NamedOp}
+use Rattle.graph_types.specs.{Limits.batch_limit, GraphLimits.is_within_limits, Step.left_by, Step.after_all}
+use Rattle.graph_types.specs.declared.batches.NamedOp.{NamedOp}
 use Rattle.edge_block.specs.Slots.{BlockView}
-use Rattle.row_pages.specs.Rows.{blocks_of, numbers_of}
+use Rattle.graph_version.specs.Rows.{blocks_of, numbers_of}
 use Rattle.graph_version.specs.Versions.{content}
 use Rattle.graph_version.specs.Edges.{edges_in_block, edges_in_blocks, AreEachOnce}
 use Rattle.block_reclamation.specs.Status.{is_listed, is_used, is_at, is_granted}
 use Rattle.graph_version.proofs.Shown.{rows_each_once}
 use Rattle.block_pool.specs.Pools.{is_free_at, is_used_at}
 use Rattle.block_reclamation.specs.declared.status.BlockStatus.{BlockStatus}
-use Rattle.epoch_blocks.specs.declared.states.Version.{Version}
+use Rattle.epoch_core.specs.declared.states.Version.{Version}
 use Rattle.block_reclamation.specs.declared.status.BlockStatus.TheVariants.{Free, Granted}
-use Rattle.epoch_blocks.specs.Blocks.{all_differ, after_post}
-use Rattle.epoch_blocks.specs.Versions.{AreEdgesOf, opening_graph, edges_at, edges_of}
-use Rattle.epoch_blocks.specs.Posting.{is_listable, version_by, can_post, graph_after, are_edges_of}
-use Rattle.epoch_blocks.proofs.{Edges.Decides-edges, Lists.and_left, Lists.and_right, Lists.all_listed, Lists.length_enumerated}
+use Rattle.epoch_core.specs.Blocks.{all_differ, after_post}
+use Rattle.epoch_core.specs.Versions.{AreEdgesOf, opening_graph, edges_at, edges_of}
+use Rattle.epoch_core.specs.Posting.{is_listable, version_by, can_post, graph_after, are_edges_of}
+use Rattle.epoch_core.proofs.{Edges.Decides-edges, Lists.and_left, Lists.and_right, Lists.all_listed, Lists.length_enumerated}
 use Rattle.epoch_core.specs.{declared.events.Event.TheVariants.Post, Worlds.World, Worlds.last_blocks, Posts.posted}
 use Rattle.epoch_core.proofs.{Changes.version_next, Changes.batches_all, Changes.left_more, Posted.status_at}
 use Rattle.store_steps.specs.{Journal.Applied, Journal.Ledger, Journal.is_legal, Shown.ShowsWorld}

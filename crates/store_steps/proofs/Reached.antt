@@ -4,10 +4,10 @@ use Rattle.std.proofs.{Common.◌∙◌, Common.arith, lemmas.List.length-map, l
 use Rattle.std.specs.{Option.unwrap_or, Option.option_map, Option.option_and_then, Prelude.slice_get, Prelude.is_some}
 use Rattle.std.specs.declared.option.Option.{Option, TheVariants.None, TheVariants.Some}
 use Rattle.epoch_core.specs.Worlds.{seat_pin, World, MachineState, IsStart, start_world, last_number, session_of, held_in}
-use Rattle.epoch_core.specs.{declared.events.Event.Event, declared.states.SessionState.SessionState, Epochs.PinsInOrder}
+use Rattle.epoch_core.specs.{declared.events.Event.Event, declared.session_states.SessionState.SessionState, Epochs.PinsInOrder}
 use Rattle.epoch_core.specs.declared.events.Event.TheVariants.{Floor, Pin, Enter, Settle, Ask, Read, Reply, Release}
-use Rattle.epoch_core.specs.declared.states.SessionState.TheVariants.{Idle, Pinned, Holding, Asking}
-use Rattle.epoch_blocks.specs.Blocks.{put}
+use Rattle.epoch_core.specs.declared.session_states.SessionState.TheVariants.{Idle, Pinned, Holding, Asking}
+use Rattle.epoch_core.specs.Blocks.{put}
 use Rattle.epoch_core.specs.Machine.{step, move, to_pin, to_enter, to_settle, with_sessions}
 use Rattle.epoch_core.specs.Runs.{run, next_world, is_done}
 use Rattle.epoch_core.proofs.{Moves.Moved, Moves.moved, Moves.floored, Moves.session_after, Steps.always_sound, Steps.idle_at}

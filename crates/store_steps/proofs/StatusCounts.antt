@@ -5,14 +5,14 @@ use Rattle.std.specs.{Prelude.slice_get, Prelude.if◌then◌else◌, Option.opt
 use Rattle.std.proofs.lemmas.{List.length-map, Bool.eq-eqb, Bool.true≢false, Bool.or_right, Option.slice_get_within}
 use Rattle.std.proofs.lemmas.Option.{get_or_from_slice_get}
 use Rattle.block_pool.proofs.{Grants.length-marked, Tallies.count_here, Tallies.count_more}
-use Rattle.graph_model.specs.declared.batches.NamedOp.{NamedOp}
+use Rattle.graph_types.specs.declared.batches.NamedOp.{NamedOp}
 use Rattle.block_reclamation.specs.Status.{is_listed, is_free, is_retired, is_reclaimable, recycled}
 use Rattle.block_reclamation.specs.declared.copies.PinCopy.{PinCopy}
 use Rattle.block_reclamation.specs.Copies.{needs}
 use Rattle.block_pool.specs.Pools.{retired, is_free_at, marked, changed, is_used_at}
 use Rattle.block_reclamation.specs.declared.status.BlockStatus.{BlockStatus}
 use Rattle.block_reclamation.specs.declared.status.BlockStatus.TheVariants.{Free, Granted, Used, Retired}
-use Rattle.epoch_blocks.{specs.Blocks.all_differ, proofs.Lists.set_else, proofs.Lists.all_listed}
+use Rattle.epoch_core.{specs.Blocks.all_differ, proofs.Lists.set_else, proofs.Lists.all_listed}
 use Rattle.store_steps.specs.Desks.{DeskView, IsAccepted, IsCollected, AcceptedCounts, CollectedCounts, is_retired_by, birth_of, birth_at}
 use Rattle.store_steps.specs.Desks.{ledger_of}
 use Rattle.store_steps.proofs.{NumberLists.differ_head, NumberLists.differ_tail, CollectedDesk.past_and_left}

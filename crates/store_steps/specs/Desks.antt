@@ -3,11 +3,11 @@
 use Rattle.std.specs.Prelude.{◌≡◌, ℕ, ◌+◌, ◌==◌, List, [], ◌∷◌, ◌++◌, length, map, count_by, slice_index_or, All, Contains}
 use Rattle.std.specs.Prelude.{Bool, true, false, ◌&&◌, if◌then◌else◌}
 use Rattle.std.specs.declared.option.Option.TheVariants.{Some}
-use Rattle.graph_model.specs.declared.batches.NamedOp.{NamedOp}
-use Rattle.graph_model.specs.Step.{after_all}
+use Rattle.graph_types.specs.declared.batches.NamedOp.{NamedOp}
+use Rattle.graph_types.specs.Step.{after_all}
 use Rattle.edge_block.specs.Slots.{BlockView}
-use Rattle.block_layout.specs.Batches.{layout_after, taken_by, dropped_by}
-use Rattle.row_pages.specs.Rows.{row_of, blocks_of, numbers_of}
+use Rattle.edge_block.specs.Batches.{layout_after, taken_by, dropped_by}
+use Rattle.graph_version.specs.Rows.{row_of, blocks_of, numbers_of}
 use Rattle.graph_version.specs.Versions.{VersionView, IsVersion, content, layout_of}
 use Rattle.block_reclamation.specs.Status.{is_listed, is_free, is_retired, is_reclaimable, recycled}
 use Rattle.block_reclamation.specs.declared.copies.PinCopy.{PinCopy}

@@ -2,19 +2,19 @@
 -- events of a batch and of a collection, and a board beside sessions.
 use Rattle.std.specs.Prelude.{◌≡◌, pos, ℕ, List, [], ◌∷◌, ◌++◌, map, replicate, true, false, Some, None}
 use Rattle.std.specs.List.{range_with_len}
-use Rattle.graph_model.specs.Graph.{graph_of, content_of}
-use Rattle.graph_model.specs.Step.{empty_graph}
-use Rattle.graph_model.specs.declared.contents.Content.{Content}
+use Rattle.graph_types.specs.Graph.{graph_of, content_of}
+use Rattle.graph_types.specs.Step.{empty_graph}
+use Rattle.graph_types.specs.declared.contents.Content.{Content}
 use Rattle.edge_block.specs.Slots.{BlockView, edge_slot}
-use Rattle.block_layout.specs.Rows.{OpenBlock, Shape, row_end}
-use Rattle.block_layout.specs.Examples.{insert_at, remove_at, row_by, many}
+use Rattle.edge_block.specs.Rows.{OpenBlock, Shape, row_end}
+use Rattle.edge_block.specs.Examples.{insert_at, remove_at, row_by, many}
 use Rattle.graph_version.specs.Versions.{VersionView, empty_version}
 use Rattle.batch_shards.specs.Births.{births_end, births_dropped}
 use Rattle.block_reclamation.specs.declared.status.BlockStatus.{BlockStatus}
 use Rattle.block_reclamation.specs.declared.status.BlockStatus.TheVariants.{Free, Used, Retired, Granted}
 use Rattle.block_reclamation.specs.declared.copies.PinCopy.{PinCopy}
 use Rattle.block_reclamation.specs.Copies.{no_copy, unsettled}
-use Rattle.epoch_core.specs.declared.states.SessionState.TheVariants.{Idle, Pinned, Holding}
+use Rattle.epoch_core.specs.declared.session_states.SessionState.TheVariants.{Idle, Pinned, Holding}
 use Rattle.epoch_core.specs.declared.events.Event.TheVariants.{Take, Fill, Post, Recycle, Pin, Enter}
 use Rattle.epoch_core.specs.Examples.{name_a, name_b, kind_k, put_edge, edge_of}
 use Rattle.epoch_core.specs.Worlds.{World, empty_opening, start_world, session_of, held_in}

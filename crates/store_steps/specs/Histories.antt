@@ -6,7 +6,7 @@ use Rattle.epoch_core.specs.declared.events.Event.TheVariants.{Enter, Ask, Read,
 use Rattle.epoch_core.specs.Worlds.{World}
 use Rattle.epoch_core.specs.Machine.{step}
 use Rattle.epoch_core.specs.Runs.{run}
-use Rattle.graph_model.specs.declared.requests.Request.{Request}
+use Rattle.graph_types.specs.declared.requests.Request.{Request}
 use Rattle.block_reclamation.specs.Board.{BoardState}
 use Rattle.store_steps.specs.Desks.{DeskView}
 use Rattle.store_steps.specs.Shown.{ShowsWorld}

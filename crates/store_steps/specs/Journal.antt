@@ -5,8 +5,8 @@ use Rattle.std.specs.List.{list_all}
 use Rattle.std.specs.Option.{option_and_then}
 use Rattle.std.specs.declared.option.Option.{Option}
 use Rattle.std.specs.declared.option.Option.TheVariants.{None, Some}
-use Rattle.graph_model.specs.declared.batches.NamedOp.{NamedOp}
-use Rattle.epoch_blocks.specs.Blocks.{all_differ}
+use Rattle.graph_types.specs.declared.batches.NamedOp.{NamedOp}
+use Rattle.epoch_core.specs.Blocks.{all_differ}
 use Rattle.block_reclamation.specs.declared.copies.PinCopy.{PinCopy}
 use Rattle.block_pool.specs.Pools.{is_free_at, retired, marked, changed, is_used_at}
 use Rattle.block_reclamation.specs.declared.status.BlockStatus.{BlockStatus}

@@ -1,8 +1,8 @@
 -- A store at its opening, over a version that becomes its version 0.
 use Rattle.std.specs.Prelude.{◌≡◌, ℕ, ◌<◌, [], map, replicate, All}
-use Rattle.graph_model.specs.Graph.{IsContent}
-use Rattle.graph_model.specs.declared.contents.Content.{Content}
-use Rattle.row_pages.specs.Rows.{blocks_of, numbers_of}
+use Rattle.graph_types.specs.Graph.{IsContent}
+use Rattle.graph_types.specs.declared.contents.Content.{Content}
+use Rattle.graph_version.specs.Rows.{blocks_of, numbers_of}
 use Rattle.graph_version.specs.Versions.{VersionView, IsVersion, empty_version}
 use Rattle.graph_version.specs.Edges.{edges_in_block}
 use Rattle.block_pool.specs.Pools.{marked}

@@ -4,7 +4,7 @@ use Rattle.epoch_core.specs.declared.events.Event.{Event}
 use Rattle.epoch_core.specs.declared.events.Event.TheVariants.{Floor, Pin, Enter, Settle, Ask, Read, Reply, Release}
 use Rattle.epoch_core.specs.Worlds.{World, session_of, held_in}
 use Rattle.epoch_core.specs.Runs.{run, is_done}
-use Rattle.graph_model.specs.declared.requests.Request.{Request}
+use Rattle.graph_types.specs.declared.requests.Request.{Request}
 use Rattle.block_reclamation.specs.declared.copies.PinCopy.{PinCopy}
 use Rattle.block_reclamation.specs.Copies.{no_copy, pin_at, unsettled, settled, copy_of}
 use Rattle.block_reclamation.specs.Board.{BoardState, IsBoard, no_pins, with_pin}

@@ -2,11 +2,11 @@
 
 ghost use Rattle.std.specs.Prelude.{◌≡◌, ℕ, ◌+◌, ◌≤◌, List, [], ◌∷◌, ◌++◌, length, true, false, None};
 ghost use Rattle.std.specs.Option.{option_and_then};
-ghost use Rattle.graph_model.specs.Graph.{graph_of};
-ghost use Rattle.graph_model.specs.declared.contents.Content.{Content};
-ghost use Rattle.graph_model.specs.declared.batches.NamedOp.{NamedOp};
+ghost use Rattle.graph_types.specs.Graph.{graph_of};
+ghost use Rattle.graph_types.specs.declared.contents.Content.{Content};
+ghost use Rattle.graph_types.specs.declared.batches.NamedOp.{NamedOp};
 ghost use Rattle.edge_block.specs.Slots.{BlockView};
-ghost use Rattle.row_pages.specs.Rows.{numbers_of};
+ghost use Rattle.graph_version.specs.Rows.{numbers_of};
 ghost use Rattle.graph_version.specs.Versions.{VersionView, empty_version};
 ghost use Rattle.block_reclamation.specs.Status.{is_listed};
 ghost use Rattle.block_reclamation.specs.declared.copies.PinCopy.{PinCopy};

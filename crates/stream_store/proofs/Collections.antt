@@ -2,7 +2,7 @@
 use Rattle.std.proofs.Common.{◌≡◌, ℕ, zero, suc, ◌+◌, ◌≤◌, List, [], ◌∷◌, replicate, length, refl, sym, ap, ◌∙◌, arith, count_by}
 use Rattle.std.specs.Prelude.{slice_set}
 use Rattle.logbook.specs.Pages.{Book}
-use Rattle.row_pages.specs.Rows.{blocks_of, numbers_of}
+use Rattle.graph_version.specs.Rows.{blocks_of, numbers_of}
 use Rattle.graph_version.specs.Versions.{VersionView}
 use Rattle.block_pool.specs.Pools.{marked}
 use Rattle.block_reclamation.specs.declared.status.BlockStatus.{BlockStatus}

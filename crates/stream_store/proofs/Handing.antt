@@ -3,9 +3,9 @@ use Rattle.std.proofs.Common.{◌≡◌, ℕ, zero, suc, ◌+◌, ◌<◌, ◌�
 use Rattle.std.proofs.Common.{refl, sym, ap, subst, ◌∙◌, arith, count_by, vec_len}
 use Rattle.std.specs.{Prelude.All, List.sum_by, Arc.arc_value, declared.sync.Arc.Arc, declared.alloc.Global.Global}
 use Rattle.std.proofs.lemmas.{List.map-append, List.length-map, Bool.eq-eqb, Bool.or_right}
-use Rattle.graph_model.specs.{Limits.batch_limit, declared.batches.NamedOp.NamedOp}
+use Rattle.graph_types.specs.{Limits.batch_limit, declared.batches.NamedOp.NamedOp}
 use Rattle.edge_block.specs.declared.blocks.Block.{Block}
-use Rattle.row_pages.specs.Rows as rows
+use Rattle.graph_version.specs.Rows as rows
 use Rattle.batch_shards.specs.RowBlocks.{block_of, blocks_of, numbers_of}
 use Rattle.graph_version.specs.declared.versions.Version.{Version}
 use Rattle.graph_version.specs.Versions.{VersionView, content}
@@ -20,7 +20,7 @@ use Rattle.store_steps.proofs.Applications.{Application, next_desk, born_pool, r
 use Rattle.store_steps.proofs.{Accepting.made_accepted, Accepting.made_desk, BatchLaws.accepted_steps, RetiredCounts.retired_room}
 use Rattle.store_steps.proofs.GrantedBlocks.{taken_granted, taken_movable, dropped_movable, unused_movable}
 use Rattle.store_steps.proofs.GrantedBlocks.{granted_movable, given_back, born_movable, born_given_back, granted_unlisted}
-use Rattle.batch_plan.specs.{Planned.MeetsNeitherLimit, declared.plans.Plan.Plan}
+use Rattle.batch_apply.specs.{Planned.MeetsNeitherLimit, declared.plans.Plan.Plan}
 use Rattle.batch_apply.proofs.Asked.{needs_within}
 use Rattle.stream_store.specs.declared.entries.JournalEntry.{JournalEntry}
 use Rattle.stream_store.specs.declared.entries.JournalEntry.TheVariants as entries

@@ -10,8 +10,8 @@ use Rattle.block_pool.specs.Pools.{marked, changed, retired, is_in_use_at, is_us
 use Rattle.block_reclamation.specs.declared.status.BlockStatus.{BlockStatus}
 use Rattle.block_reclamation.specs.declared.status.BlockStatus.TheVariants.{Granted}
 use Rattle.block_pool.proofs.Tallies.{count_more, count_last}
-use Rattle.epoch_blocks.specs.Blocks.{all_differ}
-use Rattle.epoch_blocks.proofs.Lists.{all_listed}
+use Rattle.epoch_core.specs.Blocks.{all_differ}
+use Rattle.epoch_core.proofs.Lists.{all_listed}
 use Rattle.store_steps.proofs.{NumberLists.all_by, ChangedLists.marked_at, ChangedLists.changed_at, ChangedLists.same_list}
 use Rattle.store_steps.proofs.Counting.{times, is_some_times, in_times, once_at_most, apart_if}
 use Rattle.store_steps.proofs.BlockMoves.{AreMovable, moving}

@@ -1,9 +1,9 @@
 -- What a store's receipts and refusals say where the desk behind the lock is not known.
 use Rattle.std.proofs.Common.{◌≡◌, ℕ, List, length, sym, ap, subst, ◌∙◌, Result, Ok, Err}
 use Rattle.std.specs.Prelude.{IfOk, OnOk}
-use Rattle.graph_model.specs.{Graph.Graph, Step.outcomes, Step.left_by}
-use Rattle.graph_model.specs.declared.batches.{NamedOp.NamedOp, Outcome.Outcome}
-use Rattle.batch_plan.specs.Planned.{MeetsNeitherLimit}
+use Rattle.graph_types.specs.{Graph.Graph, Step.outcomes, Step.left_by}
+use Rattle.graph_types.specs.declared.batches.{NamedOp.NamedOp, Outcome.Outcome}
+use Rattle.batch_apply.specs.Planned.{MeetsNeitherLimit}
 use Rattle.version_shelf.specs.Shelves.{ToldView}
 use Rattle.store_steps.specs.{Journal.Ledger, Steps.Accepts}
 use Rattle.stream_store.specs.{Applying.IsReceipt, Kept.DeskState, Refusals.IsWithin, Stores.IsReceiptOf}

@@ -2,7 +2,7 @@
 -- empty batch before that one. They hold equal contents; a session before any batch holds another.
 use Rattle.std.specs.Prelude.{◌≡◌, List, [], ◌∷◌, length, refl, None, Some}
 use Rattle.logbook.specs.Pages.{Book}
-use Rattle.graph_model.specs.{Step.empty_graph, declared.batches.NamedOp.NamedOp}
+use Rattle.graph_types.specs.{Step.empty_graph, declared.batches.NamedOp.NamedOp}
 use Rattle.graph_version.specs.Versions.{VersionView, empty_version}
 use Rattle.epoch_core.specs.Examples.{short_batches}
 use Rattle.stream_store.specs.Seats.{SessionView, held_graph}

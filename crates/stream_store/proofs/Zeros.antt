@@ -3,7 +3,7 @@ use Rattle.std.proofs.Common.{◌≡◌, ℕ, zero, suc, ◌<◌, true, false, L
 use Rattle.std.proofs.Common.{refl, sym, ap, subst, ◌∙◌, arith, All, if◌then◌else◌, Bool}
 use Rattle.std.specs.{Prelude.slice_get, Option.option_map, Arc.arc_value}
 use Rattle.std.specs.declared.option.Option.{Option, TheVariants.None, TheVariants.Some}
-use Rattle.row_pages.specs.Rows.{blocks_of, numbers_of}
+use Rattle.graph_version.specs.Rows.{blocks_of, numbers_of}
 use Rattle.graph_version.specs.Versions.{VersionView, IsVersion}
 use Rattle.graph_version.specs.Rebased.{IsRebased}
 use Rattle.block_reclamation.specs.Status.{is_listed}

@@ -1,11 +1,11 @@
 -- What is made of a batch, and what its receipt says.
 use Rattle.std.specs.Prelude.{◌≡◌, ℕ, ◌+◌, List, [], ◌∷◌, ◌++◌, length, count_by, Bool}
 use Rattle.std.specs.Arc.{arc_value}
-use Rattle.graph_model.specs.Step.{outcomes}
-use Rattle.graph_model.specs.declared.batches.Batch.{Batch}
-use Rattle.graph_model.specs.declared.batches.NamedOp.{NamedOp}
-use Rattle.graph_model.specs.declared.batches.Outcome.{Outcome}
-use Rattle.row_pages.specs.Rows as rows
+use Rattle.graph_types.specs.Step.{outcomes}
+use Rattle.graph_types.specs.declared.batches.Batch.{Batch}
+use Rattle.graph_types.specs.declared.batches.NamedOp.{NamedOp}
+use Rattle.graph_types.specs.declared.batches.Outcome.{Outcome}
+use Rattle.graph_version.specs.Rows as rows
 use Rattle.batch_shards.specs.RowBlocks.{blocks_of, numbers_of}
 use Rattle.batch_shards.specs.Births.{CarriesBirths}
 use Rattle.batch_shards.specs.Done.{Exchanges}

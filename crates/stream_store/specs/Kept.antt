@@ -2,7 +2,7 @@
 use Rattle.std.specs.Prelude.{◌≡◌, ℕ, ◌+◌, ◌≤◌, List, map, count_by}
 use Rattle.std.specs.Arc.{arc_value}
 use Rattle.logbook.specs.Pages.{Book}
-use Rattle.graph_model.specs.declared.batches.Batch.{Batch}
+use Rattle.graph_types.specs.declared.batches.Batch.{Batch}
 use Rattle.graph_version.specs.Versions.{VersionView}
 use Rattle.block_reclamation.specs.declared.status.BlockStatus.{BlockStatus}
 use Rattle.block_reclamation.specs.Status.{is_retired}

@@ -1,7 +1,7 @@
 -- Blocks that are moved between the pool's sets.
 use Rattle.std.specs.Prelude.{◌≡◌, ℕ, List, Bool, true, slice_get}
 use Rattle.std.specs.List.{list_all}
-use Rattle.epoch_blocks.specs.Blocks.{all_differ}
+use Rattle.epoch_core.specs.Blocks.{all_differ}
 use Rattle.block_reclamation.specs.declared.status.BlockStatus.{BlockStatus}
 use Rattle.block_reclamation.specs.Status.{is_in_use, is_used, is_at}
 

@@ -1,7 +1,7 @@
 -- A store that was opened and has no name yet.
 use Rattle.std.specs.Prelude.{◌≡◌, List, All}
 use Rattle.logbook.specs.Pages.{Book}
-use Rattle.graph_model.specs.Graph.{Graph}
+use Rattle.graph_types.specs.Graph.{Graph}
 use Rattle.block_reclamation.specs.Board.{BoardState}
 use Rattle.stream_store.specs.Kept.{DeskState}
 use Rattle.stream_store.specs.Seats.{SeatView, HasSeen}

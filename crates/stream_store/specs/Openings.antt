@@ -1,7 +1,7 @@
 -- What a store opens with, and why none opens.
 use Rattle.std.specs.Prelude.{◌≡◌, ℕ, ◌<◌}
 use Rattle.std.specs.Arc.{arc_value}
-use Rattle.row_pages.specs.Rows.{blocks_of, numbers_of}
+use Rattle.graph_version.specs.Rows.{blocks_of, numbers_of}
 use Rattle.graph_version.specs.declared.versions.Version.{Version}
 use Rattle.store_steps.specs.Opening.{IsVersionZero, opened_desk}
 use Rattle.stream_store.specs.declared.zero.Zero.{Zero}

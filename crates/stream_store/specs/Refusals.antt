@@ -1,17 +1,17 @@
 -- When the desk refuses a batch.
 use Rattle.std.specs.Prelude.{◌≡◌, ℕ, ◌+◌, ◌<◌, ◌≤◌, nat_lt, if◌then◌else◌, List, length}
-use Rattle.graph_model.specs.Limits.{batch_limit}
+use Rattle.graph_types.specs.Limits.{batch_limit}
 use Rattle.std.specs.List.{list_any}
-use Rattle.graph_model.specs.Graph.{Graph}
-use Rattle.graph_model.specs.Step.{is_expire}
-use Rattle.graph_model.specs.declared.batches.NamedOp.{NamedOp}
-use Rattle.row_pages.specs.Rows.{blocks_of, row_of}
+use Rattle.graph_types.specs.Graph.{Graph}
+use Rattle.graph_types.specs.Step.{is_expire}
+use Rattle.graph_types.specs.declared.batches.NamedOp.{NamedOp}
+use Rattle.graph_version.specs.Rows.{blocks_of, row_of}
 use Rattle.graph_version.specs.Versions.{VersionView, content}
-use Rattle.batch_plan.specs.OldRows.{AreOldRows, expiry_time}
-use Rattle.batch_plan.specs.Planned.{IsPlan, IsPlanRefusal, MeetsNeitherLimit}
-use Rattle.batch_plan.specs.declared.old.OldRow.{OldRow}
-use Rattle.batch_plan.specs.declared.plans.Plan.{Plan}
-use Rattle.batch_plan.specs.declared.plans.PlanError.TheVariants as plan
+use Rattle.batch_apply.specs.OldRows.{AreOldRows, expiry_time}
+use Rattle.batch_apply.specs.Planned.{IsPlan, IsPlanRefusal, MeetsNeitherLimit}
+use Rattle.batch_apply.specs.declared.old.OldRow.{OldRow}
+use Rattle.batch_apply.specs.declared.plans.Plan.{Plan}
+use Rattle.batch_apply.specs.declared.plans.PlanError.TheVariants as plan
 use Rattle.stream_store.specs.declared.receipts.ApplyError.{ApplyError}
 use Rattle.stream_store.specs.declared.receipts.ApplyError.TheVariants.{BatchLimit, NamesFull, KindsFull, PoolEmpty, OutOfMemory}
 

@@ -1,7 +1,7 @@
 -- Seats and sessions.
 use Rattle.std.specs.Prelude.{◌≡◌, ℕ, Option, Some, None}
 use Rattle.logbook.specs.Pages.{Book}
-use Rattle.graph_model.specs.Graph.{Graph}
+use Rattle.graph_types.specs.Graph.{Graph}
 use Rattle.graph_version.specs.Versions.{VersionView, content, empty_version}
 use Rattle.version_shelf.specs.Shelves.{ToldView}
 

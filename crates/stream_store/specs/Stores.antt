@@ -1,13 +1,13 @@
 -- A store behind locks: what its calls answer, where what the locks held is not known.
 use Rattle.std.specs.Prelude.{◌≡◌, ℕ, ◌<◌, List, [], ◌∷◌, ◌++◌, length}
 use Rattle.logbook.specs.Pages.{Book}
-use Rattle.graph_model.specs.Graph.{Graph}
-use Rattle.graph_model.specs.Limits.{batch_limit}
-use Rattle.graph_model.specs.Step.{outcomes, left_by}
-use Rattle.graph_model.specs.declared.batches.NamedOp.{NamedOp}
-use Rattle.graph_model.specs.declared.batches.Outcome.{Outcome}
+use Rattle.graph_types.specs.Graph.{Graph}
+use Rattle.graph_types.specs.Limits.{batch_limit}
+use Rattle.graph_types.specs.Step.{outcomes, left_by}
+use Rattle.graph_types.specs.declared.batches.NamedOp.{NamedOp}
+use Rattle.graph_types.specs.declared.batches.Outcome.{Outcome}
 use Rattle.graph_version.specs.Versions.{VersionView, IsVersion}
-use Rattle.batch_plan.specs.Planned.{MeetsNeitherLimit}
+use Rattle.batch_apply.specs.Planned.{MeetsNeitherLimit}
 use Rattle.version_shelf.specs.Shelves.{ToldView}
 use Rattle.block_reclamation.specs.declared.copies.PinCopy.{PinCopy}
 use Rattle.block_reclamation.specs.Board.{BoardState}

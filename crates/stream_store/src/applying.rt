@@ -5,8 +5,8 @@ ghost use Rattle.std.specs.Prelude.{◌≡◌, ◌≢◌, ◌+◌, ◌<◌, ◌�
 ghost use Rattle.std.specs.Prelude.{All, false, count_by, vec_capacity, vec_len};
 ghost use Rattle.std.specs.List.{sum_by};
 ghost use Rattle.std.specs.Arc.{arc_value};
-ghost use Rattle.graph_model.specs.Limits.{batch_limit};
-ghost use Rattle.row_pages.specs.Rows as rows;
+ghost use Rattle.graph_types.specs.Limits.{batch_limit};
+ghost use Rattle.graph_version.specs.Rows as rows;
 ghost use Rattle.batch_shards.specs.RowBlocks.{numbers_of};
 ghost use Rattle.graph_version.specs.declared.versions.Version.{Version};
 ghost use Rattle.block_reclamation.specs.Status.{is_listed, is_free, is_in_use};
@@ -18,11 +18,10 @@ ghost use Rattle.stream_store.specs.Refusals.{Refuses, RefusesGrant, IsAdmitted,
 
 use crate::entries::{JournalEntry, enter};
 use crate::receipts::ApplyError;
-use batch_apply::{Applied, Gate};
-use batch_plan::{Plan, PlanError, old_rows, plan};
+use batch_apply::{Applied, Gate, Plan, PlanError, old_rows, plan_with};
 use block_pool::{Grant, Pool};
 use edge_block::Block;
-use graph_model::{Batch, List, Outcome};
+use graph_types::{Batch, List, Outcome};
 use graph_version::Version;
 use std::alloc::{AllocError, Global};
 use std::sync::{Arc, Wait};
@@ -61,7 +60,7 @@ pub(crate) fn plan_next(
     }
     let old = old_rows(alloc, last, batch)?;
     let workers = workers_for(workers, batch.len(), old.len());
-    match plan(alloc, last, batch, &old, workers) {
+    match plan_with(alloc, last, batch, &old, workers) {
         Ok(plan) => Ok(plan),
         Err(PlanError::NamesFull) => Err(ApplyError::NamesFull),
         Err(PlanError::KindsFull) => Err(ApplyError::KindsFull),

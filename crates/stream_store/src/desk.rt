@@ -29,7 +29,7 @@ use crate::zero::Zero;
 use batch_apply::Gate;
 use block_pool::{Grant, Pool};
 use block_reclamation::PinCopy;
-use graph_model::{Batch, List};
+use graph_types::{Batch, List};
 use graph_version::Version;
 use std::alloc::Global;
 use std::marker::Model;
@@ -77,7 +77,7 @@ impl Model for Desk {
     ghost use Rattle.graph_version.specs.declared.versions.Version.{Version};
     ghost use Rattle.stream_store.specs.Kept.{DeskState, state_of, IsDeskState};
     ghost use Rattle.std.specs.Coded.{codes};
-    ghost use Rattle.graph_model.specs.Coded.{graph_code};
+    ghost use Rattle.graph_types.specs.Coded.{graph_code};
 
     ghost Value = { DeskState };
 

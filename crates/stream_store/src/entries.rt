@@ -3,7 +3,7 @@
 ghost use Rattle.std.specs.Prelude.{◌≡◌, ◌+◌, ◌<◌, ◌≤◌, ◌++◌, ◌∷◌, [], vec_capacity, vec_len};
 
 use block_reclamation::PinCopy;
-use graph_model::{Batch, List};
+use graph_types::{Batch, List};
 use std::sync::Arc;
 
 /// What the desk did: it accepted a batch, or it collected.

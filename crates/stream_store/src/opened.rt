@@ -49,7 +49,7 @@ impl Drop for Opened {
 impl Model for Opened {
     ghost use Rattle.stream_store.specs.Opened.{OpenedView, IsOpened};
     ghost use Rattle.std.specs.Coded.{codes};
-    ghost use Rattle.graph_model.specs.Coded.{graph_code};
+    ghost use Rattle.graph_types.specs.Coded.{graph_code};
 
     ghost Value = { OpenedView };
 

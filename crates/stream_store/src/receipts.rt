@@ -1,6 +1,6 @@
 //! What an accepted batch is answered with, and why one is refused.
 
-use graph_model::{List, Outcome};
+use graph_types::{List, Outcome};
 use std::alloc::AllocError;
 use thiserror::Error;
 use version_shelf::Told;

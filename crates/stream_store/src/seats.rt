@@ -3,8 +3,8 @@
 
 ghost use Rattle.std.specs.Prelude.{◌≡◌, ◌⊎◌, ℕ, List, max, length, IfOk, IfErr, OnOk, OnErr, MatchResult, Some, None, true};
 ghost use Rattle.std.specs.Prelude.{Err, option_map};
-ghost use Rattle.graph_model.specs.Answer.{IsAnswer};
-ghost use Rattle.graph_model.specs.declared.requests.Request.TheVariants.{OneEdge};
+ghost use Rattle.graph_types.specs.Answer.{IsAnswer};
+ghost use Rattle.graph_types.specs.declared.requests.Request.TheVariants.{OneEdge};
 ghost use Rattle.block_reclamation.specs.Board.{with_pin};
 ghost use Rattle.block_reclamation.specs.Copies.{pin_at, unsettled, settled};
 ghost use Rattle.version_shelf.specs.Shelves.{Begins, IsOfOneShelf};
@@ -15,7 +15,7 @@ use crate::desk::Desk;
 use crate::receipts::Receipt;
 use crate::store::{Naming, Store};
 use block_reclamation::{Board, SeatNo};
-use graph_model::{AskError, Reply, Request};
+use graph_types::{AskError, Reply, Request};
 use graph_version::Version;
 use std::alloc::AllocError;
 use std::marker::Model;
@@ -48,7 +48,7 @@ impl Drop for Seat {
 impl Model for Seat {
     ghost use Rattle.stream_store.specs.Seats.{SeatView};
     ghost use Rattle.std.specs.Coded.{codes};
-    ghost use Rattle.graph_model.specs.Coded.{graph_code};
+    ghost use Rattle.graph_types.specs.Coded.{graph_code};
 
     ghost Value = { SeatView };
 
@@ -82,7 +82,7 @@ impl Drop for PinnedSeat {
 impl Model for PinnedSeat {
     ghost use Rattle.stream_store.specs.Seats.{SeatView};
     ghost use Rattle.std.specs.Coded.{codes};
-    ghost use Rattle.graph_model.specs.Coded.{graph_code};
+    ghost use Rattle.graph_types.specs.Coded.{graph_code};
 
     ghost Value = { SeatView };
 
@@ -123,7 +123,7 @@ impl Model for Session {
     ghost use Rattle.graph_version.specs.declared.versions.Version.{Version};
     ghost use Rattle.stream_store.specs.Seats.{SessionView};
     ghost use Rattle.std.specs.Coded.{codes};
-    ghost use Rattle.graph_model.specs.Coded.{graph_code};
+    ghost use Rattle.graph_types.specs.Coded.{graph_code};
 
     ghost Value = { SessionView };
 

@@ -6,8 +6,8 @@ ghost use Rattle.std.specs.Arc.{arc_value};
 ghost use Rattle.std.specs.Coded.{codes};
 ghost use Rattle.std.specs.Sync.Mutex.{mutex_guard_value};
 ghost use mathlib.Core.List.{IsPrefix};
-ghost use Rattle.graph_model.specs.Coded.{graph_code};
-ghost use Rattle.graph_model.specs.Step.{empty_graph};
+ghost use Rattle.graph_types.specs.Coded.{graph_code};
+ghost use Rattle.graph_types.specs.Step.{empty_graph};
 ghost use Rattle.graph_version.specs.declared.versions.Version.{Version};
 ghost use Rattle.graph_version.specs.Versions.{content};
 ghost use Rattle.graph_version.specs.Kept.{edge_total};
@@ -24,7 +24,7 @@ use crate::desk::{Collected, Desk, Stat};
 use crate::receipts::{ApplyError, Receipt};
 use batch_apply::Gate;
 use block_reclamation::{Board, PinCopy, SeatNo};
-use graph_model::Batch;
+use graph_types::Batch;
 use graph_version::Version;
 use std::alloc::AllocError;
 use std::marker::{Brand, Model, PhantomData};
@@ -36,7 +36,7 @@ use version_shelf::Told;
 /// so what comes out of a lock is known to be of that opening.
 pub trait Naming {
     ghost use Rattle.logbook.specs.Pages.{Book};
-    ghost use Rattle.graph_model.specs.Graph.{Graph};
+    ghost use Rattle.graph_types.specs.Graph.{Graph};
 
     ghost book: { Book };
 

@@ -10,7 +10,7 @@ ghost use Rattle.stream_store.specs.Refusals.{block_count};
 
 use crate::moves::born_blocks;
 use block_pool::{Grant, Pool};
-use graph_model::List;
+use graph_types::List;
 use graph_version::Version;
 use std::alloc::{AllocError, Global};
 use std::sync::Arc;

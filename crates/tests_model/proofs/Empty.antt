@@ -1,7 +1,7 @@
 -- The opening without names, kinds, edges and blocks.
 use Rattle.std.proofs.Common.{◌≡◌, List, [], refl, arith}
-use Rattle.graph_model.specs.{Graph.IsContent, Graph.graph_of, declared.ids.Edge.Edge}
-use Rattle.epoch_blocks.specs.{Versions.graph_at, Posting.last_content}
+use Rattle.graph_types.specs.{Graph.IsContent, Graph.graph_of, declared.ids.Edge.Edge}
+use Rattle.epoch_core.specs.{Versions.graph_at, Posting.last_content}
 use Rattle.epoch_core.specs.Worlds.{empty_opening}
 
 pub no_content : IsContent (record { names = []; kinds = []; edges = [] })

@@ -1,8 +1,8 @@
 -- Contents whose edges stand in one block.
 use Rattle.std.proofs.Common.{◌≡◌, ℕ, ◌<◌, List, [], ◌∷◌, ◌++◌, append-nil, refl, sym, subst, ◌∙◌, arith}
 use Rattle.std.proofs.lemmas.List.Elements.{All-nil, All-cons}
-use Rattle.graph_model.specs.{Graph.IsContent, Graph.graph_of, declared.ids.Edge.Edge, declared.contents.Content.Content}
-use Rattle.epoch_blocks.specs.Versions.{AreEdgesOf}
+use Rattle.graph_types.specs.{Graph.IsContent, Graph.graph_of, declared.ids.Edge.Edge, declared.contents.Content.Content}
+use Rattle.epoch_core.specs.Versions.{AreEdgesOf}
 use Rattle.epoch_core.specs.Opened.{IsOpening}
 
 shows_all : (content : Content) (edges : List Edge) → IsContent content → edges ≡ content.edges → AreEdgesOf edges (graph_of content)

@@ -12,13 +12,13 @@ mod progress;
 mod scripts;
 
 use self::checks::{check_so, check_text};
+use script_server::{Config, ServeFault, Summary, serve};
 use std::io;
 use std::io::{ErrorKind, Read, Write};
 use std::process::Abort;
 use std::sync::Wait;
 use std::thread::Threads;
-use stinger_cli::stinger;
-use stinger_server::{Config, ServeFault, Summary, serve};
+use stinger_server::stinger;
 
 const FIRST: &str = "\
 i,knows,ann,bob,5,10

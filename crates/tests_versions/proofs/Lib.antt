@@ -1,3 +1,4 @@
 mod Empty
 mod TakenBack
 pub mod NoRows
+mod Numbers

@@ -2,7 +2,7 @@
 use Rattle.std.proofs.Common.{◌≡◌, ℕ, ◌+◌, ◌≤◌, not, List, [], ◌∷◌, length, refl, arith}
 use Rattle.std.specs.List.{sum_by}
 use Rattle.std.proofs.lemmas.List.Sums.{sum_by-cons, count_by-le-length}
-use Rattle.row_pages.specs.Rows.{row_of}
+use Rattle.graph_version.specs.Rows.{row_of}
 use Rattle.batch_shards.specs.{Groups.is_expiry, Spending.needed, Spending.old_blocks, Spending.latest, declared.shard.Step.Step}
 
 none_old : (time : ℕ) (sources : List ℕ) → sum_by (λ source. old_blocks time (row_of [] source)) sources ≡ 0

@@ -2,9 +2,12 @@
 //! them: a crate with tests of its own is proved once more for these.
 #![tactic(auto)]
 
+mod blocks;
 #[cfg(test)]
 mod layers;
 #[cfg(test)]
 mod texts;
 #[cfg(test)]
 mod versions;
+
+pub use blocks::fresh_blocks;

@@ -2,7 +2,7 @@
 // which is proved once, and so does each text that is compared.
 
 use edge_block::Block;
-use graph_model::{Filter, Outcome};
+use graph_types::{Filter, Outcome};
 use std::alloc::AllocError;
 use std::fmt::Display;
 use std::io::Print;

@@ -1,8 +1,8 @@
 -- What a book answers of a name, and refusals that stay what they are where a vertex is asked for as well.
 use Rattle.std.proofs.Common.{◌≡◌, ℕ, ◌<◌, Bool, true, false, List, length, Some, None, subst, sym, ap, ◌∙◌}
-use Rattle.graph_model.specs.{Step.number_of, Answer.is_listed, Answer.first_refusal}
-use Rattle.graph_model.specs.declared.requests.AskError.{AskError, TheVariants.NoVertex}
-use Rattle.graph_model.proofs.NameLists.{number_of-lt}
+use Rattle.graph_types.specs.{Step.number_of, Answer.is_listed, Answer.first_refusal}
+use Rattle.graph_types.specs.declared.requests.AskError.{AskError, TheVariants.NoVertex}
+use Rattle.graph_types.proofs.NameLists.{number_of-lt}
 
 -- the number of a listed name is below their count
 pub listed_below : (names : List (List ℕ)) (name : List ℕ) (number : ℕ) → is_listed names name ≡ true

@@ -4,7 +4,7 @@ use Rattle.std.proofs.Common.{◌∙◌, arith}
 use Rattle.std.specs.{Prelude.zip, List.filter_map, List.cons_option, List.slice_get, Option.option_to_list, Option.unwrap_or}
 use Rattle.std.proofs.lemmas.List.{take_more, take_all, get_or-map, length-map, get_or_default, Elements.filter_map-append}
 use Rattle.std.proofs.lemmas.{Option.unwrap_or-slice_get, Slice.Zip.length-zip, Slice.Zip.get_or-zip}
-use Rattle.graph_model.specs.{Answer.names_of, Answer.level_row, declared.ids.VertexId.VertexId}
+use Rattle.graph_types.specs.{Answer.names_of, Answer.level_row, declared.ids.VertexId.VertexId}
 use Rattle.graph_levels.specs.Vertices.{numbers_of}
 
 -- a vertex's name, and the empty one past the last vertex

@@ -4,17 +4,17 @@ use Rattle.std.specs.FinMap.{get}
 use Rattle.std.specs.Option.{option_map}
 use Rattle.std.specs.declared.option.Option.{Option}
 use Rattle.std.specs.declared.option.Option.TheVariants.{None, Some}
-use Rattle.graph_model.specs.Graph.{Graph}
-use Rattle.graph_model.specs.Step.{number_of, key_in}
-use Rattle.graph_model.specs.Analyses.{AreLevels, AreLabels, AreCoreNumbers}
-use Rattle.graph_model.specs.Answer.{refusal, resolved, degree_table, shown, reached, names_of}
-use Rattle.graph_model.specs.declared.ids.VertexId.{VertexId}
-use Rattle.graph_model.specs.declared.requests.Request.{Request}
-use Rattle.graph_model.specs.declared.requests.Request.TheVariants.{Levels as AskLevels, Labels as AskLabels, Cores as AskCores}
-use Rattle.graph_model.specs.declared.requests.Request.TheVariants.{Degrees as AskDegrees, OneEdge as AskOneEdge}
-use Rattle.graph_model.specs.declared.requests.Reply.{Reply}
-use Rattle.graph_model.specs.declared.requests.Reply.TheVariants as replies
-use Rattle.graph_model.specs.declared.requests.AskError.{AskError}
+use Rattle.graph_types.specs.Graph.{Graph}
+use Rattle.graph_types.specs.Step.{number_of, key_in}
+use Rattle.graph_types.specs.Analyses.{AreLevels, AreLabels, AreCoreNumbers}
+use Rattle.graph_types.specs.Answer.{refusal, resolved, degree_table, shown, reached, names_of}
+use Rattle.graph_types.specs.declared.ids.VertexId.{VertexId}
+use Rattle.graph_types.specs.declared.requests.Request.{Request}
+use Rattle.graph_types.specs.declared.requests.Request.TheVariants.{Levels as AskLevels, Labels as AskLabels, Cores as AskCores}
+use Rattle.graph_types.specs.declared.requests.Request.TheVariants.{Degrees as AskDegrees, OneEdge as AskOneEdge}
+use Rattle.graph_types.specs.declared.requests.Reply.{Reply}
+use Rattle.graph_types.specs.declared.requests.Reply.TheVariants as replies
+use Rattle.graph_types.specs.declared.requests.AskError.{AskError}
 use Rattle.graph_levels.specs.Vertices.{numbers_of}
 use Rattle.version_answers.specs.declared.numbered.NumberedReply.{NumberedReply}
 use Rattle.version_answers.specs.declared.numbered.NumberedReply.TheVariants.{Levels, Labels, Cores, Degrees, OneEdge}

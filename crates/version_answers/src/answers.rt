@@ -1,13 +1,13 @@
 //! The answer with names.
 
 ghost use Rattle.std.specs.Prelude.{◌≡◌, ◌⊎◌, ℕ, List, Err};
-ghost use Rattle.graph_model.specs.Answer.{IsAnswer};
-ghost use Rattle.graph_model.specs.declared.requests.Request.TheVariants.{OneEdge};
+ghost use Rattle.graph_types.specs.Answer.{IsAnswer};
+ghost use Rattle.graph_types.specs.declared.requests.Request.TheVariants.{OneEdge};
 ghost use Rattle.graph_version.specs.Versions.{content};
 
 use crate::naming::name_reply;
 use crate::numbered::answer_in_numbers;
-use graph_model::{AskError, Reply, Request};
+use graph_types::{AskError, Reply, Request};
 use graph_version::Version;
 use std::alloc::Global;
 

@@ -3,14 +3,14 @@
 ghost use Rattle.std.specs.Prelude.{◌≡◌, ◌++◌, ℕ, ℤ, [], length, zip, IfOk, OnOk, OnErr, slice_index_or};
 ghost use Rattle.std.specs.declared.option.Option.{Option};
 ghost use Rattle.std.specs.Option.{option_to_list};
-ghost use Rattle.graph_model.specs.Answer.{reached, level_row, names_of};
+ghost use Rattle.graph_types.specs.Answer.{reached, level_row, names_of};
 ghost use Rattle.graph_levels.specs.Vertices.{numbers_of};
 ghost use Rattle.graph_version.specs.Versions.{content};
 ghost use Rattle.version_answers.specs.Numbered.{named};
 ghost use Rattle.version_answers.specs.declared.numbered.NumberedReply.TheVariants.{OneEdge};
 
 use crate::numbered::NumberedReply;
-use graph_model::{List, Name, Reply, VertexId};
+use graph_types::{List, Name, Reply, VertexId};
 use graph_version::Version;
 use std::alloc::{AllocError, Global};
 use vertex_names::NameBook;

@@ -3,16 +3,15 @@
 ghost use Rattle.std.specs.Prelude.{◌≡◌, ◌⊎◌, ℕ, List, Err, IfOk, MatchResult, None, Some, true};
 ghost use Rattle.std.specs.Option.{SomeIff, option_map};
 ghost use Rattle.std.specs.FinMap.{get};
-ghost use Rattle.graph_model.specs.Answer.{filter_refusal, resolved, shown, is_listed};
-ghost use Rattle.graph_model.specs.Step.{number_of};
-ghost use Rattle.graph_model.specs.declared.requests.Request.TheVariants.{Levels, Labels, Cores, Degrees, OneEdge};
+ghost use Rattle.graph_types.specs.Answer.{filter_refusal, resolved, shown, is_listed};
+ghost use Rattle.graph_types.specs.Step.{number_of};
+ghost use Rattle.graph_types.specs.declared.requests.Request.TheVariants.{Levels, Labels, Cores, Degrees, OneEdge};
 ghost use Rattle.graph_version.specs.Versions.{content};
 ghost use Rattle.version_answers.specs.Numbered.{IsNumberedAnswer};
 
-use graph_cores::cores;
-use graph_degrees::degrees;
+use graph_cores::{cores, degrees};
 use graph_levels::{labels, levels};
-use graph_model::{AskError, Degree, Filter, KindId, List, Name, NamedFilter, Request, VertexId};
+use graph_types::{AskError, Degree, Filter, KindId, List, Name, NamedFilter, Request, VertexId};
 use graph_version::Version;
 use std::alloc::Global;
 

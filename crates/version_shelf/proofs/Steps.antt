@@ -1,5 +1,5 @@
 -- The steps of the shelf keep its rule.
-use Rattle.graph_model.specs.declared.batches.NamedOp.{NamedOp}
+use Rattle.graph_types.specs.declared.batches.NamedOp.{NamedOp}
 use Rattle.std.proofs.Common.{◌≡◌, ℕ, ◌≢◌, ◌⊎◌, Bool, true, false, MatchBool, List, [], ◌∷◌, ◌++◌, set, refl, sym, ap}
 use Rattle.std.proofs.Common.{subst, ◌∙◌, ⊎_elim, Option, Some, None, IfSome, IfOk, Result, Ok, Err}
 use Rattle.std.specs.Result.{result_ok}

@@ -3,7 +3,7 @@
 -- Who adds a batch uses up a right. A right is a cell of the book that isn't at home, with the one pen that may bring it
 -- home: the rights stand in the order in which they were made, and each batch takes the first that is left. So who has the
 -- right behind as many batches as it knows of knows all batches.
-use Rattle.graph_model.specs.declared.batches.NamedOp.{NamedOp}
+use Rattle.graph_types.specs.declared.batches.NamedOp.{NamedOp}
 use Rattle.std.specs.Prelude.{ℕ, suc, ◌≡◌, ◌+◌, ◌==◌, true, false, List, [], ◌∷◌, ◌++◌, length, replicate}
 use Rattle.logbook.specs.Pages.{Cell, Step, View, Book, Named, Nib, nib, may_write, may_make}
 

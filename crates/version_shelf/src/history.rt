@@ -4,7 +4,7 @@ ghost use Rattle.std.specs.Prelude.{◌≡◌, ◌<◌, ◌+◌, ◌^◌, ◌++�
 ghost use mathlib.Core.List.{IsPrefix};
 ghost use Rattle.version_shelf.specs.Histories.{IsEnd, end_of, right_at};
 
-use graph_model::Batch;
+use graph_types::Batch;
 use logbook::{Gain, Offer, Pen, Plain, Play, Rule, Seen, Start, Word};
 use std::marker::Model;
 

@@ -13,6 +13,7 @@ mod rules;
 mod told;
 mod writers;
 
+pub use block_reclamation::{Board, SeatNo};
 pub use readers::ShelfReader;
 pub use told::Told;
 pub use writers::{ShelfError, ShelfWriter, shelf};

@@ -38,7 +38,7 @@ impl Model for ShelfReader {
     ghost use Rattle.left_right.specs.Sides.{view as seen_at};
     ghost use Rattle.version_shelf.specs.Shelves.{ToldView, IsOfOneShelf};
     ghost use Rattle.std.specs.Coded.{codes};
-    ghost use Rattle.graph_model.specs.Coded.{graph_code};
+    ghost use Rattle.graph_types.specs.Coded.{graph_code};
 
     ghost Value = { ToldView };
 

@@ -25,7 +25,7 @@ impl Model for Told {
     ghost use Rattle.graph_version.specs.declared.versions.Version.{Version};
     ghost use Rattle.version_shelf.specs.Shelves.{ToldView};
     ghost use Rattle.std.specs.Coded.{codes};
-    ghost use Rattle.graph_model.specs.Coded.{graph_code};
+    ghost use Rattle.graph_types.specs.Coded.{graph_code};
 
     ghost Value = { ToldView };
 

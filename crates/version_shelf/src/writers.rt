@@ -12,7 +12,7 @@ use crate::readers::ShelfReader;
 use crate::rules::{Look, Notes, WriterPlace};
 use crate::told::Told;
 use core::mem::replace_with;
-use graph_model::Batch;
+use graph_types::Batch;
 use graph_version::Version;
 use left_right::writer::Writer;
 use std::alloc::{AllocError, Global};
@@ -55,7 +55,7 @@ impl Model for ShelfWriter {
     ghost use Rattle.version_shelf.specs.Histories.{IsEnd};
     ghost use Rattle.version_shelf.specs.Shelves.{shelf_of, IsShowing};
     ghost use Rattle.std.specs.Coded.{codes};
-    ghost use Rattle.graph_model.specs.Coded.{graph_code};
+    ghost use Rattle.graph_types.specs.Coded.{graph_code};
 
     ghost Value = { ShelfView };
 

@@ -6,7 +6,7 @@ use Rattle.std.specs.{Option.SomeIff, Option.IfSome, Option.IfNone, Option.is_so
 use Rattle.std.proofs.lemmas.{Bool.false_from_ne_true, Bool.Decides.eqb_tells, Slice.Eq.bytes_eq-Decides}
 use Rattle.std.proofs.lemmas.List.{Folds.list_any_at, Elements.All-push, Quantifiers.all_pairs_push, get_or_append_left}
 use Rattle.std.proofs.lemmas.Option.{slice_get_within, get_or_from_slice_get}
-use Rattle.graph_model.specs.{Step.number_of, Answer.is_listed, Valid.is_name}
+use Rattle.graph_types.specs.{Step.number_of, Answer.is_listed, Valid.is_name}
 use Rattle.vertex_names.specs.{Index.text_hash, Index.found_at, Index.Stands, Index.IsIndexed, Book.Book, Book.IsBook}
 
 -- a name that the book as it is shown doesn't list

@@ -1,9 +1,9 @@
 ghost use Rattle.std.specs.Prelude.{◌≡◌, ◌≤◌, ◌↔◌, ℕ, Some, length, slice_get, option_copied, IsTrue, IsOk, IfOk, IfErr, OnOk};
 ghost use Rattle.std.specs.Prelude.{OnErr, IfSome};
 ghost use Rattle.std.specs.Option.{SomeIff};
-ghost use Rattle.graph_model.specs.Step.{with_name, number_of};
-ghost use Rattle.graph_model.specs.Answer.{is_listed};
-ghost use Rattle.graph_model.specs.Valid.{is_name};
+ghost use Rattle.graph_types.specs.Step.{with_name, number_of};
+ghost use Rattle.graph_types.specs.Answer.{is_listed};
+ghost use Rattle.graph_types.specs.Valid.{is_name};
 ghost use Rattle.vertex_names.specs.Book.{empty_book, with_entry, IsBook, MeetsLimit, Refuses};
 ghost use Rattle.vertex_names.specs.Index.{text_hash};
 

@@ -1,8 +1,8 @@
 ghost use Rattle.std.specs.Prelude.{◌≡◌, ◌≢◌, ◌<◌, ◌^◌, ◌++◌, ◌∷◌, ◌↔◌, ℕ, [], length, slice_get, option_copied, Some, IsTrue};
 ghost use Rattle.std.specs.Prelude.{AllPairs, IfOk, OnOk, OnErr};
 ghost use Rattle.std.specs.Option.{SomeIff};
-ghost use Rattle.graph_model.specs.Step.{number_of};
-ghost use Rattle.graph_model.specs.Answer.{is_listed};
+ghost use Rattle.graph_types.specs.Step.{number_of};
+ghost use Rattle.graph_types.specs.Answer.{is_listed};
 ghost use Rattle.vertex_names.specs.Index.{text_hash, Stands};
 ghost use Rattle.vertex_names.specs.Tables.{names_of};
 

@@ -2,7 +2,7 @@
 
 use super::checks::{only_refused, same};
 use super::parts::{LineError, batch, push_op, push_record};
-use graph_model::{Batch, PushError};
+use graph_types::{Batch, PushError};
 use std::alloc::Global;
 use std::process::Abort;
 use std::test::Fail;

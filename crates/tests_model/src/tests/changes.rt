@@ -1,10 +1,10 @@
 // Tests of what an operation changes at the key of an edge.
 
 ghost use Rattle.std.specs.Prelude.{◌≡◌, IfSome};
-ghost use Rattle.graph_model.specs.Changes.{AreMarks, IsChange};
+ghost use Rattle.graph_types.specs.Changes.{AreMarks, IsChange};
 
 use super::checks::same;
-use graph_model::{EdgeChange, EdgeMarks, Outcome, change_edge};
+use graph_types::{EdgeChange, EdgeMarks, Outcome, change_edge};
 use std::process::Abort;
 
 /// Marks of this weight, first seen at 10 and last touched at this time.

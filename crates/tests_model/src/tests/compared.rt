@@ -2,7 +2,7 @@
 
 use super::checks::same;
 use super::parts::{LineError, request};
-use graph_model::{List, Name, Reply, Request};
+use graph_types::{List, Name, Reply, Request};
 use std::alloc::{AllocError, Global};
 use std::cmp::Ordering;
 use std::convert::AsStr;

@@ -5,7 +5,7 @@ use super::checks::{only_refused, refused, same};
 use super::graphs::content_of;
 use super::parts::{batch, request};
 use super::texts::push_shown;
-use graph_model::{Batch, List};
+use graph_types::{Batch, List};
 use std::alloc::{AllocError, Global};
 use std::fmt::Debug;
 use std::process::Abort;

@@ -2,15 +2,15 @@
 // compares what they come to, the names, the kinds and how many edges they leave, and `REQUEST => REPLY` asks.
 
 ghost use Rattle.std.specs.Prelude.{◌≡◌, IfOk};
-ghost use Rattle.graph_model.specs.Graph.{IsContent};
+ghost use Rattle.graph_types.specs.Graph.{IsContent};
 ghost use Rattle.epoch_core.specs.Worlds.{empty_opening};
 
 use super::checks::{check_told, refused, same};
 use super::graph_stories::{KINDS, REFUSED_STORIES, STORIES, TOO_MANY_KINDS};
 use super::parts::{LineError, batch, request};
 use super::texts::{push_item, push_names, push_reply, push_shown};
-use graph_model::{Batch, Content, List, Request};
-use reference_graph::{PlainError, plain_apply, plain_reply};
+use graph_model::{PlainError, plain_apply, plain_reply};
+use graph_types::{Batch, Content, List, Request};
 use std::alloc::{AllocError, Global};
 use std::process::Abort;
 use std::test::Fail;

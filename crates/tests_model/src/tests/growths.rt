@@ -8,7 +8,7 @@ use super::events::events;
 use super::machines::step;
 use super::parts::LineError;
 use epoch_core::{Core, Event, Step, run};
-use graph_model::Reply;
+use graph_types::Reply;
 use std::alloc::Global;
 use std::process::Abort;
 use std::test::Fail;

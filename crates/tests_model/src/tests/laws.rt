@@ -1,11 +1,11 @@
 // The laws of the model are there to be called.
 
 use epoch_core::{law_collection, law_epoch, law_isolation, law_post};
-use graph_model::{
+use graph_model::law_names_before_kinds;
+use graph_types::{
     law_edge_order, law_expiry, law_first_time_stays, law_names_stay_names, law_one_answer,
     law_one_table, law_some_answer, law_some_table, law_within_limits,
 };
-use reference_graph::law_names_before_kinds;
 
 #[test]
 fn laws_can_be_called() {

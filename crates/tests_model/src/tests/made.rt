@@ -2,7 +2,7 @@
 
 use super::checks::{refused, same};
 use super::texts::push_shown;
-use graph_model::{Batch, Name, NamedFilter, NamedOp, PushError, Request};
+use graph_types::{Batch, Name, NamedFilter, NamedOp, PushError, Request};
 use std::alloc::{AllocError, Global};
 use std::fmt::Debug;
 use std::process::Abort;

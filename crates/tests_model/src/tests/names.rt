@@ -1,7 +1,7 @@
 // Tests of names.
 
 use super::checks::same;
-use graph_model::{Name, is_kind_name, is_kind_name_bytes, is_name, is_name_bytes};
+use graph_types::{Name, is_kind_name, is_kind_name_bytes, is_name, is_name_bytes};
 use std::process::Abort;
 use std::test::Fail;
 

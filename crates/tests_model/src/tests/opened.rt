@@ -1,14 +1,14 @@
 // A machine over an opening content: what a batch leaves, in one block.
 
 ghost use Rattle.std.specs.Prelude.{◌≡◌, ◌<◌, ◌≤◌, IfOk, length};
-ghost use Rattle.graph_model.specs.Graph.{IsContent};
+ghost use Rattle.graph_types.specs.Graph.{IsContent};
 
 use super::checks::{only_refused, refused, same};
 use super::graphs::content_of;
 use super::growths::shown;
 use super::machines::check_table;
 use epoch_core::{Core, OutOfMemory};
-use graph_model::{Content, List};
+use graph_types::{Content, List};
 use std::alloc::Global;
 use std::process::Abort;
 use std::test::Fail;

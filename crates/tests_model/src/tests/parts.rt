@@ -4,7 +4,7 @@ ghost use Rattle.std.specs.Prelude.{◌≡◌, ◌++◌, ◌∷◌, [], IfOk, On
 ghost use Rattle.feed_csv.specs.Commands.{HasValidOp};
 
 use feed_csv::{Command, Feed, FeedFault, FeedWord};
-use graph_model::{Batch, Edge, KindId, List, NamedOp, PushError, Request, VertexId};
+use graph_types::{Batch, Edge, KindId, List, NamedOp, PushError, Request, VertexId};
 use std::alloc::{AllocError, Global};
 use std::num::ParseIntError;
 

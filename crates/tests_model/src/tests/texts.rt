@@ -1,7 +1,7 @@
 // Values as text.
 
 use super::parts::LineError;
-use graph_model::{AskError, Degree, Name, Reply};
+use graph_types::{AskError, Degree, Name, Reply};
 use std::alloc::AllocError;
 use std::fmt::{Debug, Display};
 

@@ -1,13 +1,13 @@
 // Lists of batches.
 
 use super::checks::{same, tell_refused};
-use batch_pages::BatchList;
-use graph_model::{Batch, NamedOp};
+use graph_types::{Batch, NamedOp};
 use std::alloc::{AllocError, Global};
 use std::io::Print;
 use std::process::Abort;
 use std::sync::Arc;
 use std::test::Fail;
+use version_pages::BatchList;
 
 // A batch of one expiry, of what was touched before this time.
 fn batch(alloc: Global, time: u64) -> Result<Arc<Batch>, AllocError> {

@@ -1,11 +1,11 @@
 // Edge blocks.
 
 ghost use Rattle.std.specs.Prelude.{◌≡◌, IfOk};
-ghost use Rattle.graph_model.specs.Graph.{IsTime, IsWeight};
+ghost use Rattle.graph_types.specs.Graph.{IsTime, IsWeight};
 
 use super::checks::{same, tell_refused};
 use edge_block::{Block, EdgeRef};
-use graph_model::{Filter, KindId, VertexId};
+use graph_types::{Filter, KindId, VertexId};
 use std::alloc::{AllocError, Global};
 use std::process::Abort;
 use std::sync::Arc;

@@ -1,7 +1,7 @@
 // Books of names.
 
 use super::checks::{same, tell_refused};
-use graph_model::is_name;
+use graph_types::is_name;
 use std::alloc::{AllocError, Global};
 use std::io::Print;
 use std::process::Abort;

@@ -2,13 +2,13 @@
 
 use super::checks::{same, tell_refused};
 use edge_block::Block;
-use graph_model::VertexId;
-use row_pages::Rows;
+use graph_types::VertexId;
 use std::alloc::{AllocError, Global};
 use std::io::Print;
 use std::process::Abort;
 use std::sync::Arc;
 use std::test::Fail;
+use version_pages::Rows;
 
 // So many blank blocks, numbered from the first.
 fn blocks_from(alloc: Global, first: u32, count: u32) -> Result<Vec<Arc<Block>>, AllocError> {

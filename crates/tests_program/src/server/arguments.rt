@@ -7,7 +7,7 @@ use std::alloc::AllocError;
 use std::process::Abort;
 use std::sync::Wait;
 use std::thread::Threads;
-use stinger_cli::{law_arguments, law_options, refuse_arguments, serves, shows_progress};
+use stinger_server::{law_arguments, law_options, refuse_arguments, serves, shows_progress};
 
 pub(super) const HELP: &str = "\
 A store of a directed graph that changes by batches, with held snapshots (STINGER, HPEC 2012).

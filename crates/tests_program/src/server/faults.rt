@@ -1,6 +1,6 @@
 // Readers and writers that fail, and what a run counts.
 
-ghost use Rattle.stinger_server.specs.Runs.{IsFresh};
+ghost use Rattle.script_server.specs.Runs.{IsFresh};
 
 use super::checks::{check_at, check_so, check_text};
 use super::{
@@ -8,14 +8,14 @@ use super::{
     REFUSED_TEXT, count_of, is_cut_of, served,
 };
 use feed_csv::Feed;
+use script_server::{
+    Config, ServeFault, Sink, Summary, Unwritten, law_examples, law_one_text, law_some_text,
+    run_script, write_text,
+};
 use std::io::ErrorKind;
 use std::process::Abort;
 use std::sync::Wait;
 use std::thread::Threads;
-use stinger_server::{
-    Config, ServeFault, Sink, Summary, Unwritten, law_examples, law_one_text, law_some_text,
-    run_script, write_text,
-};
 
 // A run of the script into the writer comes to this, and leaves the writer holding the text.
 fn runs_so(

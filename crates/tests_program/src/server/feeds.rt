@@ -3,7 +3,7 @@
 use super::checks::{check_at, check_text, tell_refused};
 use super::{FakeReader, count_of};
 use feed_csv::{Command, Feed, FeedFault, FeedWord};
-use graph_model::{Name, NamedFilter, NamedOp, Request};
+use graph_types::{Name, NamedFilter, NamedOp, Request};
 use std::io::ErrorKind;
 use std::process::Abort;
 use std::test::Fail;

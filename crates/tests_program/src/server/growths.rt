@@ -6,11 +6,11 @@ use super::{
     FIRST, FIRST_ENDS, FIRST_TEXT, FakeReader, FakeWriter, ROOMY, Ran, TABLES, TABLES_ENDS,
     TABLES_TEXT, check_ran, is_cut_of, ran_at, served,
 };
+use script_server::ServeFault;
 use std::io::Print;
 use std::process::Abort;
 use std::sync::Wait;
 use std::thread::Threads;
-use stinger_server::ServeFault;
 
 // Whether a run with this text, of which so many bytes stand before each record, was ended by a refused growth.
 fn is_cut_by_memory(text: &str, ends: &[usize], output: &str) -> bool {

@@ -2,7 +2,7 @@
 
 use super::checks::{check_so, check_text, tell_refused};
 use feed_csv::FeedWord;
-use graph_model::{List, Outcome, VertexId, is_name};
+use graph_types::{List, Outcome, VertexId, is_name};
 use script_lines::{
     Word, close_line, collect_line, commit_line, open_line, rebase_line, reply_lines, stat_line,
 };

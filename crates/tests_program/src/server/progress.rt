@@ -2,12 +2,12 @@
 
 use super::checks::check_text;
 use super::{FIRST, FIRST_TEXT, FakeReader, FakeWriter, ROOMY, check_ran, count_of, ran_at};
-use progress_reader::ProgressReader;
 use std::cell::Cell;
 use std::io;
 use std::io::{ErrorKind, Read};
 use std::process::Abort;
 use std::time::{Clock, Duration};
+use stinger_server::ProgressReader;
 
 // Each reading is so many milliseconds after the one before; without a step it can't be read.
 #[derive(Drop)]

@@ -1,7 +1,7 @@
 // What sessions answer.
 
 use super::texts::{push_item, push_numbers, split_word};
-use graph_model::{AskError, Degree, Name, NamedFilter, Reply, Request};
+use graph_types::{AskError, Degree, Name, NamedFilter, Reply, Request};
 use std::alloc::{AllocError, Global};
 use stream_store::Session;
 

@@ -1,7 +1,7 @@
 // Batches of operations, all of them of kind `k`: an operation as a plain value, and batches of them by name.
 
 use super::texts::{push_numbers, split_at, split_word};
-use graph_model::{Batch, Name, NamedOp};
+use graph_types::{Batch, Name, NamedOp};
 use std::alloc::{AllocError, Global};
 
 /// An operation: `i` inserts, `a` adds to the weight, `r` removes, `x` expires; its source and target, its weight or amount, its

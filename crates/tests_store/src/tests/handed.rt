@@ -2,12 +2,12 @@
 
 ghost use Rattle.std.specs.Prelude.{◌≡◌};
 ghost use Rattle.std.specs.Coded.{codes};
-ghost use Rattle.graph_model.specs.Coded.{graph_code};
+ghost use Rattle.graph_types.specs.Coded.{graph_code};
 ghost use Rattle.stream_store.specs.Stores.{IsOfOpening};
 
 use super::stages::apply_to;
 use batch_apply::PassAll;
-use graph_model::Batch;
+use graph_types::Batch;
 use std::alloc::AllocError;
 use std::marker::PhantomData;
 use std::sync::{OnceLock, Wait};

@@ -10,7 +10,7 @@ use super::opened::{Opened, new_store};
 use super::stages::apply_to;
 use batch_apply::PassAll;
 use block_reclamation::Board;
-use graph_model::Batch;
+use graph_types::Batch;
 use std::alloc::{AllocError, Global};
 use std::io::Print;
 use std::marker::Brand;

@@ -2,7 +2,7 @@
 
 ghost use Rattle.std.specs.Prelude.{◌≡◌, All};
 ghost use Rattle.std.specs.Coded.{codes};
-ghost use Rattle.graph_model.specs.Coded.{graph_code};
+ghost use Rattle.graph_types.specs.Coded.{graph_code};
 ghost use Rattle.graph_version.specs.Versions.{empty_version};
 ghost use Rattle.stream_store.specs.Seats.{IsNewSeat};
 

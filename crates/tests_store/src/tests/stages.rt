@@ -11,7 +11,7 @@ use super::texts::push_item;
 use super::told::{push_collected, push_journal, push_kept, push_pin, push_stat, push_told};
 use batch_apply::{Gate, PassAll};
 use block_reclamation::{Board, SeatNo};
-use graph_model::Batch;
+use graph_types::Batch;
 use std::alloc::{AllocError, Global};
 use std::sync::Wait;
 use std::thread::Threads;

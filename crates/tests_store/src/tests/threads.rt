@@ -11,7 +11,7 @@ use super::stages::apply_to;
 use super::waits::is_set;
 use batch_apply::Gate;
 use block_reclamation::Board;
-use graph_model::Batch;
+use graph_types::Batch;
 use std::alloc::{AllocError, Global};
 use std::marker::Brand;
 use std::process::Abort;

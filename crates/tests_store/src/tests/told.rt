@@ -2,7 +2,7 @@
 
 use super::texts::{push_item, push_numbers};
 use block_reclamation::{Board, Pin, SeatNo};
-use graph_model::Outcome;
+use graph_types::Outcome;
 use graph_version::Version;
 use std::alloc::AllocError;
 use stream_store::{ApplyError, Collected, Desk, JournalEntry, Receipt, Stat};

@@ -9,7 +9,7 @@ use super::batches::{Op, batch_of, is_op};
 use super::handed::{Handed, feed, learns_of};
 use super::waits::{has_reached, is_set};
 use block_reclamation::Board;
-use graph_model::Batch;
+use graph_types::Batch;
 use graph_version::Version;
 use std::alloc::{AllocError, Global};
 use std::marker::Brand;

@@ -1,8 +1,8 @@
 // Blank blocks for a version.
 
+use crate::blocks::fresh_blocks;
 use crate::texts::tell_refused;
 use graph_version::Version;
-use tests_blocks::fresh_blocks;
 
 /// Over a version without blocks they are numbered from 0, and empty; or memory was refused.
 #[test]

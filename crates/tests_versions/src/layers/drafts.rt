@@ -1,11 +1,11 @@
 ghost use Rattle.std.specs.Prelude.{◌≡◌, [], IfOk};
-ghost use Rattle.row_pages.specs.Sharing.{block_values};
+ghost use Rattle.graph_version.specs.Sharing.{block_values};
 ghost use Rattle.graph_version.specs.Drafts.{ReplacesRow, IsWhole, drafted_over, with_batch};
 ghost use Rattle.graph_version.specs.Versions.{empty_version};
 
 use crate::texts::tell_refused;
 use edge_block::Block;
-use graph_model::{Batch, KindId, VertexId};
+use graph_types::{Batch, KindId, VertexId};
 use graph_version::{Version, VersionDraft};
 use std::alloc::{AllocError, Global};
 use std::process::Abort;

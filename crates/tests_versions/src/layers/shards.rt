@@ -1,13 +1,13 @@
 ghost use Rattle.std.specs.Prelude.{◌≡◌, [], IfOk, length};
-ghost use Rattle.row_pages.specs.Rows.{row_of};
+ghost use Rattle.graph_version.specs.Rows.{row_of};
 ghost use Rattle.batch_shards.specs.Shards.{IsAct, AreSteps};
 ghost use Rattle.batch_apply.specs.Jobs.{IsShard};
-ghost use Rattle.graph_model.specs.Changes.{IsChange};
+ghost use Rattle.graph_types.specs.Changes.{IsChange};
 
 use crate::texts::{check_text, push_item, tell_refused, write_blocks, write_outcome};
 use batch_shards::{Act, Place, Shard, ShardDone, Step, work_on};
 use edge_block::Block;
-use graph_model::{EdgeChange, KindId, Outcome, VertexId};
+use graph_types::{EdgeChange, KindId, Outcome, VertexId};
 use graph_version::Version;
 use std::alloc::{AllocError, Global};
 use std::process::Abort;

@@ -6,7 +6,7 @@ ghost use Rattle.version_shelf.specs.Shelves.{ToldView, opened_shelf, IsNext, Is
 
 use super::drafts::finished;
 use crate::texts::tell_refused;
-use graph_model::Batch;
+use graph_types::Batch;
 use graph_version::{Version, VersionDraft};
 use std::alloc::{AllocError, Global};
 use std::process::Abort;

@@ -4,8 +4,8 @@
 use crate::texts::{check_so, push_item, tell_refused};
 use graph_cores::cores_over;
 use graph_levels::{labels_over, levels_over};
-use graph_model::VertexId;
-use graph_views::{ListedArcs, ViewEdges};
+use graph_types::VertexId;
+use graph_version::{ListedArcs, ViewEdges};
 use std::alloc::{AllocError, Global};
 use std::io::Print;
 use std::process::Abort;

@@ -1,5 +1,5 @@
 ghost use Rattle.std.specs.Prelude.{[], IfOk, All};
-ghost use Rattle.row_pages.specs.Rows.{row_of};
+ghost use Rattle.graph_version.specs.Rows.{row_of};
 ghost use Rattle.batch_apply.specs.Jobs.{IsShard};
 
 use super::shards::{shard_of, write_done};

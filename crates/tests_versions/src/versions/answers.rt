@@ -1,14 +1,14 @@
 // Requests answered over versions, by name: as the plain application answers, and where it is told, as worked by hand from
 // the definitions.
 
-ghost use Rattle.graph_model.specs.Graph.{IsContent};
+ghost use Rattle.graph_types.specs.Graph.{IsContent};
 
 use super::ops::request_of;
 use super::replies::answer_text;
 use crate::texts::{check_so, check_text};
-use graph_model::Content;
+use graph_model::plain_reply;
+use graph_types::Content;
 use graph_version::Version;
-use reference_graph::plain_reply;
 use std::alloc::Global;
 use std::process::Abort;
 use version_answers::answer;

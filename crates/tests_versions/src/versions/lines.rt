@@ -2,7 +2,7 @@
 // `? REQUEST => ANSWER` is a request; `rebase` begins anew with what the version holds.
 
 ghost use Rattle.std.specs.Prelude.{◌<◌};
-ghost use Rattle.graph_model.specs.Graph.{IsContent};
+ghost use Rattle.graph_types.specs.Graph.{IsContent};
 
 use super::answers::{check_answer, check_answers};
 use super::rebased::begun_anew;
@@ -10,7 +10,7 @@ use super::sames::{check_same, write_row};
 use super::steps::{empty, next};
 use crate::texts::{check_text, push_item, write_outcome};
 use batch_apply::Applied;
-use graph_model::{Content, Outcome, VertexId};
+use graph_types::{Content, Outcome, VertexId};
 use graph_version::Version;
 use std::alloc::{AllocError, Global};
 use std::process::Abort;

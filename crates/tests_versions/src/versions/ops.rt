@@ -2,7 +2,7 @@
 
 use crate::texts::push_item;
 use feed_csv::{Command, Feed};
-use graph_model::{Batch, Request};
+use graph_types::{Batch, Request};
 use std::alloc::{AllocError, Global};
 
 // A feed's next command; nothing where memory is refused.

@@ -1,11 +1,11 @@
 // Versions 0 that begin with what another version holds, over copies of its blocks.
 
 use super::sames::{check_same, write_row};
-use graph_model::{Content, VertexId};
+use crate::blocks::fresh_blocks;
+use graph_types::{Content, VertexId};
 use graph_version::Version;
 use std::alloc::{AllocError, Global};
 use std::process::Abort;
-use tests_blocks::fresh_blocks;
 
 /// The version 0 over copies of a version's blocks; nothing where memory is refused.
 pub(super) fn rebased(alloc: Global, version: &Version) -> Option<Version> {

@@ -6,7 +6,7 @@ use super::sames::has_edge;
 use super::steps::{applied, first};
 use crate::texts::{check_so, tell_refused};
 use batch_apply::{Applied, PassAll};
-use graph_model::{Edge, KindId, Outcome, VertexId};
+use graph_types::{Edge, KindId, Outcome, VertexId};
 use graph_version::Version;
 use std::alloc::Global;
 use std::io::Print;

@@ -1,7 +1,7 @@
 // Replies as text.
 
 use crate::texts::push_item;
-use graph_model::{AskError, Degree, Name, Reply};
+use graph_types::{AskError, Degree, Name, Reply};
 use std::alloc::{AllocError, Global};
 
 fn write_numbers(text: &mut String, rows: &[(Name, u32)]) -> Result<(), AllocError> {

@@ -1,7 +1,7 @@
 // A version against the content that the plain application leaves.
 
 use crate::texts::write_blocks;
-use graph_model::{Content, Edge, Name, VertexId};
+use graph_types::{Content, Edge, Name, VertexId};
 use graph_version::Version;
 use std::alloc::{AllocError, Global};
 use std::process::Abort;

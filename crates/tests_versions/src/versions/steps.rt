@@ -2,24 +2,23 @@
 
 ghost use Rattle.std.specs.Prelude.{◌≡◌, ◌≢◌, ◌<◌, ◌≤◌, length, false, IfSome, All, AllPairs};
 ghost use Rattle.std.specs.List.{sum_by};
-ghost use Rattle.row_pages.specs.Rows as rows;
+ghost use Rattle.graph_version.specs.Rows as rows;
 ghost use Rattle.batch_shards.specs.RowBlocks.{numbers_of};
 ghost use Rattle.graph_version.specs.Versions.{content, is_in};
-ghost use Rattle.graph_model.specs.Graph.{IsContent};
+ghost use Rattle.graph_types.specs.Graph.{IsContent};
 
 use super::ops::batch_of;
 use super::sames::check_same;
-use batch_apply::{Applied, Gate, PassAll, apply, plan};
-use batch_plan::{Plan, PlanError};
+use crate::blocks::fresh_blocks;
+use batch_apply::{Applied, Gate, PassAll, Plan, PlanError, apply, plan};
 use edge_block::Block;
-use graph_model::{Batch, Content, List, Outcome};
+use graph_model::plain_apply;
+use graph_types::{Batch, Content, List, Outcome};
 use graph_version::Version;
-use reference_graph::plain_apply;
 use std::alloc::Global;
 use std::process::Abort;
 use std::sync::Arc;
 use std::thread::Threads;
-use tests_blocks::fresh_blocks;
 
 /// The content without names and edges.
 #[tactic(auto, using(crate::proofs::Empty::empty_content))]

@@ -3,12 +3,10 @@
 
 use super::steps::first;
 use batch_apply::PassAll;
-use graph_cores::cores;
-use graph_degrees::degrees;
+use graph_cores::{cores, degrees};
 use graph_levels::{LevelError, labels, levels};
-use graph_model::{Degree, Filter, VertexId};
-use graph_version::Version;
-use graph_views::{VersionEdges, ViewEdges};
+use graph_types::{Degree, Filter, VertexId};
+use graph_version::{Version, VersionEdges, ViewEdges};
 use std::alloc::Global;
 use std::process::Abort;
 

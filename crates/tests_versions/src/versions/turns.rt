@@ -1,11 +1,11 @@
 // Many versions one after another, at the ends of the pages of 32 batches that they share.
 
-ghost use Rattle.graph_model.specs.Graph.{IsContent};
+ghost use Rattle.graph_types.specs.Graph.{IsContent};
 
 use super::lines::stepped;
 use super::ops::write_filled;
 use super::steps::empty;
-use graph_model::{Batch, Content, NamedOp};
+use graph_types::{Batch, Content, NamedOp};
 use graph_version::Version;
 use std::alloc::Global;
 use std::process::Abort;

@@ -1,17 +1,17 @@
 use Rattle.std.proofs.Common.{◌≡◌, ℕ, ◌+◌, ◌%◌, ◌^◌, ◌≤◌, List, length, replicate, refl, sym, ap, ◌∙◌, subst}
 use Rattle.std.{specs.Prelude.count_by, specs.List.sum_by, specs.FinMap.len, proofs.lemmas.List.length-map}
-use Rattle.graph_model.specs.{Graph.Graph, Limits.operation_limit, Step.after_all, Step.outcomes}
-use Rattle.graph_model.specs.declared.batches.{NamedOp.NamedOp, Outcome.TheVariants.Absent}
-use Rattle.block_layout.specs.Batches.{resolved}
-use Rattle.row_pages.specs.Rows.{row_of}
-use Rattle.batch_pages.specs.Batches.{batch_value}
+use Rattle.graph_types.specs.{Graph.Graph, Limits.operation_limit, Step.after_all, Step.outcomes}
+use Rattle.graph_types.specs.declared.batches.{NamedOp.NamedOp, Outcome.TheVariants.Absent}
+use Rattle.edge_block.specs.Batches.{resolved}
+use Rattle.graph_version.specs.Rows.{row_of}
+use Rattle.graph_version.specs.Batches.{batch_value}
 use Rattle.batch_shards.specs.RowBlocks.{blocks_of, numbers_of}
 use Rattle.graph_version.specs.{Versions.VersionView, Versions.content, Versions.layout_of, Kept.edge_total}
 use Rattle.graph_version.specs.Drafts.{DraftView, IsWhole}
 use Rattle.batch_apply.specs.{Counts.is_inserted, Counts.taken_away, declared.applied.Applied.Applied}
 use Rattle.batch_apply.specs.Applied.{IsApplied, ReplacesRows, written_from}
 use Rattle.batch_apply.proofs.{EdgeCounts.len_after_all, Dealt.needs_of, Dealt.dealt_ready, Left.rows_left}
-use Rattle.batch_plan.{specs.Planned.MeetsNeitherLimit, proofs.Leaving.neither_limit}
+use Rattle.batch_apply.{specs.Planned.MeetsNeitherLimit, proofs.Leaving.neither_limit}
 use Rattle.batch_apply.proofs.Applying.{next_made, draft_is, draft_among, draft_whole, edges_left}
 use Rattle.batch_apply.proofs.applied.apply.{Given.Over, Goals.In_ok-draft-2}
 use Rattle.batch_apply.proofs.applied.apply.Goals as goal

@@ -1,5 +1,5 @@
 use Rattle.std.proofs.{Common.◌++◌, Common.List, Common.replicate, Common.sym, Common.ap, Common.◌∙◌, lemmas.List.append_assoc}
-use Rattle.graph_model.specs.declared.batches.Outcome.TheVariants.{Absent}
+use Rattle.graph_types.specs.declared.batches.Outcome.TheVariants.{Absent}
 use Rattle.batch_shards.specs.{RowBlocks.blocks_of, RowBlocks.numbers_of, Closing.row_values, declared.shard.ShardDone.ShardDone}
 use Rattle.batch_apply.{specs.Plans.written, proofs.Loops.from_more}
 use Rattle.batch_shards.proofs.Places.{one_piece}

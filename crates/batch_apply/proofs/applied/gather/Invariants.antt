@@ -1,5 +1,5 @@
 use Rattle.std.proofs.Common.{◌≡◌, ◌++◌, flat_map, replicate}
-use Rattle.graph_model.specs.declared.batches.Outcome.TheVariants.{Absent}
+use Rattle.graph_types.specs.declared.batches.Outcome.TheVariants.{Absent}
 use Rattle.batch_shards.specs.{RowBlocks.blocks_of, RowBlocks.numbers_of, Closing.row_values}
 use Rattle.batch_apply.specs.Applied.{written_from}
 use Rattle.batch_apply.proofs.applied.gather.Given as goal

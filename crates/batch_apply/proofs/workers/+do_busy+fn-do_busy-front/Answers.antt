@@ -1,6 +1,6 @@
 use Rattle.std.proofs.Common.{rules, All, sym, subst}
 use Rattle.std.proofs.lemmas.{Result.IfOk-at_ok, List.Elements.All-take, List.Elements.All-drop}
-use Rattle.row_pages.specs.Rows.{row_of}
+use Rattle.graph_version.specs.Rows.{row_of}
 use Rattle.batch_shards.specs.{Done.IsShardDone, declared.shard.ShardDone.ShardDone}
 use Rattle.batch_apply.{specs.Jobs.IsShard, specs.Jobs.AreDone, specs.declared.workers.Job.Job, proofs.Halves.zip_halves}
 use Rattle.batch_apply.proofs.workers.+do_busy+fn-do_busy-front.Goals as goal

@@ -1,6 +1,6 @@
 use Rattle.std.proofs.Common.{◌++◌, ◌∷◌, [], length, sym, ◌∙◌, subst}
 use Rattle.std.proofs.lemmas.Iterator.{Adapters.YieldsList-from_vec, Consumers.YieldsList-turn}
-use Rattle.row_pages.specs.Rows.{row_of}
+use Rattle.graph_version.specs.Rows.{row_of}
 use Rattle.batch_shards.specs.{Done.IsShardDone, declared.shard.ShardDone.ShardDone}
 use Rattle.batch_apply.{specs.Jobs.IsShard, specs.Jobs.AreDone, specs.declared.workers.Job.Job, proofs.Halves.zip_more}
 use Rattle.batch_apply.proofs.workers.do_each.Goals as goal

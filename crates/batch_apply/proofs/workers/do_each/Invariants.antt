@@ -1,4 +1,4 @@
-use Rattle.row_pages.specs.Rows.{row_of}
+use Rattle.graph_version.specs.Rows.{row_of}
 use Rattle.batch_apply.specs.Jobs.{AreDone}
 use Rattle.batch_apply.proofs.workers.do_each.Given as goal
 

@@ -1,6 +1,6 @@
 use Rattle.std.proofs.Common.{◌≡◌, ◌+◌, ◌-◌, ◌≤◌, ◌<◌, ℕ, List, length, get_or, map, take, count_by, vec_len, true, false}
-use Rattle.block_layout.specs.{Rows.OpenBlock, Batches.rows_all}
-use Rattle.graph_model.specs.declared.batches.Outcome.{Outcome}
+use Rattle.edge_block.specs.{Rows.OpenBlock, Batches.rows_all}
+use Rattle.graph_types.specs.declared.batches.Outcome.{Outcome}
 use Rattle.batch_shards.specs.RowBlocks.{opens, had_in, own_in, numbers_of, HaveSame}
 use Rattle.batch_shards.specs.{OpenRows.IsRowOf, Shards.resolved_in, Spending.latest, Spending.unspent, declared.shard.Step.Step}
 use Rattle.batch_shards.specs.Groups.{is_at, does_act, IsNext, IsSourceRow, IsOneMore, IsTold}

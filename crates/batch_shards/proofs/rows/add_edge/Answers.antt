@@ -1,7 +1,7 @@
 use Rattle.std.proofs.Common.{◌≡◌, true, get_or, length, arith, [], ◌∷◌, ◌++◌, sym, ap, ◌∙◌, subst, w64}
 use Rattle.std.proofs.lemmas.Int.{to_z-of_z}
 use Rattle.edge_block.specs.Slots.{Slot, has_room_for, edge_slot, put_slot}
-use Rattle.block_layout.specs.Rows.{touch}
+use Rattle.edge_block.specs.Rows.{touch}
 use Rattle.batch_shards.specs.RowBlocks.{block_of, open_of, IsTouched}
 use Rattle.batch_shards.specs.{declared.row_blocks.RowBlock.RowBlock, Notes.Gains, Room.IsFull}
 use Rattle.batch_shards.proofs.Rooms.{full_set, full_before, full_all}

@@ -1,6 +1,6 @@
 use Rattle.std.proofs.Common.{◌≡◌, ◌<◌, List, true, sym, ap, ◌∙◌, subst, get_or, set, length}
 use Rattle.std.specs.{Option.is_some, declared.option.Option.TheVariants.None, declared.option.Option.TheVariants.Some}
-use Rattle.graph_model.specs.{Step.stamp_after, Changes.option_stamp, Changes.stamp_in}
+use Rattle.graph_types.specs.{Step.stamp_after, Changes.option_stamp, Changes.stamp_in}
 use Rattle.edge_block.{specs.Slots.stamp_at, proofs.Entries.list_any-holds}
 use Rattle.batch_shards.specs.RowBlocks.{block_of, opens, IsChanged}
 use Rattle.batch_shards.specs.{declared.row_blocks.RowBlock.RowBlock, Notes.has_target, Room.IsRoom}

@@ -1,6 +1,6 @@
 use Rattle.std.proofs.Common.{◌≡◌, ℕ, ◌+◌, ◌<◌, ◌≤◌, List, refl, ◌∙◌, arith, rules, get_or, length, vec_len}
 use Rattle.std.proofs.lemmas.List.{length-map}
-use Rattle.block_layout.specs.Rows.{OpenBlock, expire_block}
+use Rattle.edge_block.specs.Rows.{OpenBlock, expire_block}
 use Rattle.batch_shards.specs.RowBlocks.{open_of, opens}
 use Rattle.batch_shards.specs.{Spending.unspent, declared.row_blocks.RowBlock.RowBlock}
 use Rattle.batch_shards.proofs.{RowSteps.keeps_set, Expiring.map_first_all}

@@ -1,5 +1,5 @@
 use Rattle.std.proofs.Common.{◌≡◌, take}
-use Rattle.block_layout.specs.Rows.{old_in_row}
+use Rattle.edge_block.specs.Rows.{old_in_row}
 use Rattle.batch_shards.specs.RowBlocks.{opens}
 use Rattle.batch_shards.proofs.rows.least_time.Given as goal
 

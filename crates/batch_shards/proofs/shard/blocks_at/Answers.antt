@@ -1,4 +1,4 @@
-use Rattle.row_pages.specs.Rows.{row_of}
+use Rattle.graph_version.specs.Rows.{row_of}
 use Rattle.batch_shards.proofs.Beginnings.{own_blocks}
 use Rattle.batch_shards.proofs.shard.blocks_at.Goals as goal
 

@@ -1,5 +1,5 @@
 use Rattle.std.proofs.Common.{◌≤◌, map, vec_len}
-use Rattle.row_pages.specs.Rows.{row_of}
+use Rattle.graph_version.specs.Rows.{row_of}
 use Rattle.batch_shards.specs.{RowBlocks.numbers_of, Spending.needed_past, Progress.AreRowsDone}
 use Rattle.batch_shards.proofs.shard.work_on.Given as goal
 

@@ -1,9 +1,9 @@
 use Rattle.std.proofs.Common.{List, refl, sym, ap, subst, ◌∙◌}
 use Rattle.std.specs.Prelude.{IfOk, OnErr, IsTrue, ◌≡◌}
 use Rattle.std.proofs.lemmas.Result.{on_err_weaker}
-use Rattle.epoch_blocks.specs.Blocks.{Stepped, changed_at, taken}
-use Rattle.epoch_blocks.specs.Blocks.{reclaimed}
-use Rattle.epoch_core.specs.declared.{events.Event.Event, states.SessionState.SessionState}
+use Rattle.epoch_core.specs.Blocks.{Stepped, changed_at, taken}
+use Rattle.epoch_core.specs.Blocks.{reclaimed}
+use Rattle.epoch_core.specs.declared.{events.Event.Event, session_states.SessionState.SessionState}
 use Rattle.epoch_core.specs.declared.events.Event.TheVariants.{Take, Fill, Post, Recycle, Pin, Settle, Ask}
 use Rattle.epoch_core.specs.declared.events.Event.TheVariants.{Release}
 use Rattle.epoch_core.specs.{Worlds.MachineState, Runs.Steps, Cores.state_of}

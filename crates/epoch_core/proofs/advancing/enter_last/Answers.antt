@@ -1,5 +1,5 @@
 use Rattle.std.proofs.Common.{◌≡◌, length, refl, subst, arith}
-use Rattle.epoch_blocks.specs.Blocks.{Stepped, changed_at}
+use Rattle.epoch_core.specs.Blocks.{Stepped, changed_at}
 use Rattle.epoch_core.specs.declared.events.Event.TheVariants.{Enter}
 use Rattle.epoch_core.specs.{Worlds.MachineState, Cores.state_of, Machine.to_enter}
 use Rattle.epoch_core.proofs.Stepping.{moved_by}

@@ -1,5 +1,5 @@
 use Rattle.std.proofs.Common.{refl, subst}
-use Rattle.epoch_blocks.specs.Blocks.{Stepped, filled}
+use Rattle.epoch_core.specs.Blocks.{Stepped, filled}
 use Rattle.epoch_core.specs.declared.events.Event.TheVariants.{Fill}
 use Rattle.epoch_core.specs.{Worlds.MachineState, Cores.state_of, Machine.with_heap}
 use Rattle.epoch_core.proofs.Stepping.{steps_by}

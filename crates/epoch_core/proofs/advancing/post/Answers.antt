@@ -1,14 +1,14 @@
 use Rattle.std.proofs.Common.{◌≡◌, ℕ, List, ◌∷◌, [], ◌++◌, refl, sym, ap, subst, ◌∙◌}
 use Rattle.std.specs.{Prelude.if◌then◌else◌, Option.option_map}
 use Rattle.std.specs.declared.option.Option.{Option, TheVariants.None, TheVariants.Some}
-use Rattle.graph_model.specs.{Graph.IsContent, declared.ids.Edge.Edge, declared.batches.NamedOp.NamedOp}
-use Rattle.epoch_blocks.specs.{declared.states.Version.Version, declared.states.Opening.Opening, Versions.IsContentGraph}
-use Rattle.epoch_blocks.specs.Blocks.{Stepped}
+use Rattle.graph_types.specs.{Graph.IsContent, declared.ids.Edge.Edge, declared.batches.NamedOp.NamedOp}
+use Rattle.epoch_core.specs.{declared.states.Version.Version, declared.states.Opening.Opening, Versions.IsContentGraph}
+use Rattle.epoch_core.specs.Blocks.{Stepped}
 use Rattle.block_reclamation.specs.declared.status.BlockStatus.{BlockStatus}
-use Rattle.epoch_blocks.specs.declared.steps.Step.TheVariants.{Done, Skipped}
+use Rattle.epoch_core.specs.declared.step.Step.TheVariants.{Done, Skipped}
 use Rattle.epoch_core.specs.{Worlds.HasContents, Worlds.World, Cores.state_of, Machine.step, Posts.posted}
 use Rattle.epoch_core.specs.declared.events.Event.TheVariants.{Post}
-use Rattle.epoch_blocks.specs.Posting.{IsPlanOf, graph_after, last_content, version_by}
+use Rattle.epoch_core.specs.Posting.{IsPlanOf, graph_after, last_content, version_by}
 use Rattle.epoch_core.proofs.{Read.last_is_content, Cores.contents_posted}
 use Rattle.epoch_core.proofs.advancing.post.Goals as goal
 

@@ -1,8 +1,8 @@
 use Rattle.std.proofs.Common.{◌≡◌, ◌<◌, ◌≤◌, List, length, refl, arith}
 use Rattle.std.specs.declared.option.Option.TheVariants.{None}
-use Rattle.epoch_blocks.specs.declared.states.{Opening.Opening, Version.Version}
-use Rattle.epoch_core.specs.declared.states.{Hold.Hold, Inquiry.Inquiry, SessionState.SessionState}
-use Rattle.epoch_core.specs.declared.states.SessionState.TheVariants.{Idle, Pinned, Holding, Asking}
+use Rattle.epoch_core.specs.declared.states.{Opening.Opening, Version.Version}
+use Rattle.epoch_core.specs.declared.session_states.{Hold.Hold, Inquiry.Inquiry, SessionState.SessionState}
+use Rattle.epoch_core.specs.declared.session_states.SessionState.TheVariants.{Idle, Pinned, Holding, Asking}
 use Rattle.epoch_core.specs.Machine.{to_reply}
 use Rattle.epoch_core.proofs.OneElement.{stepped_past, stays_at}
 use Rattle.epoch_core.proofs.replying.conclude.Goals as goal

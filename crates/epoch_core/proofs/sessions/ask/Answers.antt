@@ -1,8 +1,8 @@
 use Rattle.std.proofs.Common.{◌≡◌, ◌<◌, ◌≤◌, length, refl, arith}
 use Rattle.std.specs.declared.option.Option.TheVariants.{None}
-use Rattle.graph_model.specs.declared.requests.Request.{Request}
-use Rattle.epoch_core.specs.declared.states.{Hold.Hold, SessionState.SessionState}
-use Rattle.epoch_core.specs.declared.states.SessionState.TheVariants.{Idle, Pinned, Holding, Asking}
+use Rattle.graph_types.specs.declared.requests.Request.{Request}
+use Rattle.epoch_core.specs.declared.session_states.{Hold.Hold, SessionState.SessionState}
+use Rattle.epoch_core.specs.declared.session_states.SessionState.TheVariants.{Idle, Pinned, Holding, Asking}
 use Rattle.epoch_core.specs.Machine.{to_ask}
 use Rattle.epoch_core.proofs.OneElement.{stepped_past, stays_at}
 use Rattle.epoch_core.proofs.sessions.ask.Goals as goal

@@ -1,5 +1,5 @@
 use Rattle.std.proofs.Common.{◌≡◌, ◌≤◌, ◌-◌, length, replicate}
-use Rattle.epoch_core.specs.declared.states.SessionState.TheVariants.{Idle}
+use Rattle.epoch_core.specs.declared.session_states.SessionState.TheVariants.{Idle}
 use Rattle.epoch_core.proofs.start.idle_sessions.Given as goal
 
 abbrev pub invariant-loop-sessions : goal.invariant-loop-sessions

@@ -1,6 +1,6 @@
 use Rattle.std.proofs.Common.{◌≡◌, ◌++◌, ◌∷◌, [], arith, length, ◌∙◌, sym, ap, inl, inr}
 use Rattle.std.proofs.lemmas.{Bool.cases_lt, List.get_or_append_left, List.get_or_at, List.length-append}
-use Rattle.graph_model.specs.Arcs.{at}
+use Rattle.graph_types.specs.Arcs.{at}
 use Rattle.graph_cores.specs.Rows.{row_of}
 use Rattle.graph_cores.proofs.peeling.lengths.Goals as goal
 

@@ -1,5 +1,5 @@
 use Rattle.std.proofs.Common.{◌≡◌, ◌<◌, ℕ, length}
-use Rattle.graph_model.specs.Arcs.{at}
+use Rattle.graph_types.specs.Arcs.{at}
 use Rattle.graph_cores.specs.Rows.{row_of}
 use Rattle.graph_cores.proofs.peeling.lengths.Given as goal
 

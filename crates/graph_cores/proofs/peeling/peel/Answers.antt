@@ -1,5 +1,5 @@
 use Rattle.std.proofs.Common.{arith, ◌∙◌, ap}
-use Rattle.graph_model.specs.Arcs.{at}
+use Rattle.graph_types.specs.Arcs.{at}
 use Rattle.graph_cores.proofs.{RowSteps.all_lengths, PeelSteps.numbers_within, PeelSteps.numbers_all}
 use Rattle.graph_cores.proofs.peeling.peel.Goals as goal
 

@@ -1,7 +1,7 @@
 use Rattle.std.proofs.Common.{◌≡◌, ◌<◌, ◌≤◌, ◌+◌, ◌++◌, ◌∷◌, [], ℕ, List, arith, length, set, ◌∙◌, sym, ap, subst, false}
 use Rattle.std.specs.Prelude.{All, sum}
 use Rattle.std.proofs.lemmas.List.{length-append, Elements.All-contains, Elements.Contains-push}
-use Rattle.graph_model.specs.Arcs.{at}
+use Rattle.graph_types.specs.Arcs.{at}
 use Rattle.graph_cores.specs.{Rows.row_of, Peel.lowered, Peel.IsPeeling}
 use Rattle.graph_cores.proofs.{RowSteps.row_within, Lowered.lowered_sum, Lowered.lowered_all, Lowered.lowered_at}
 use Rattle.graph_cores.proofs.PeelSteps.{take_out, skip, front_low, still}

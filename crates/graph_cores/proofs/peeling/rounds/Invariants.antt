@@ -1,5 +1,5 @@
 use Rattle.std.proofs.Common.{◌≡◌, ◌<◌, All, [], length}
-use Rattle.graph_model.specs.{Graph.Graph, Arcs.AreNeighbors, declared.ids.Filter.Filter}
+use Rattle.graph_types.specs.{Graph.Graph, Arcs.AreNeighbors, declared.ids.Filter.Filter}
 use Rattle.graph_cores.specs.{Rows.row_of, Peel.IsBetween}
 use Rattle.graph_cores.proofs.peeling.rounds.Given as goal
 

@@ -1,7 +1,7 @@
 use Rattle.std.proofs.Common.{◌≡◌, ◌<◌, ◌+◌, ◌∷◌, List, Option, arith, length, ◌∙◌, sym, get_or, ℕ, subst, drop, drop-cons}
 use Rattle.std.proofs.Common.{add-one}
 use Rattle.std.specs.Prelude.{All}
-use Rattle.graph_model.specs.Analyses.{LeadsTo}
+use Rattle.graph_types.specs.Analyses.{LeadsTo}
 use Rattle.graph_levels.specs.{Search.IsSearch, Search.IsReached, Search.unreached, Visit.visited}
 use Rattle.graph_levels.proofs.Targets.{told, each_target}
 use Rattle.graph_levels.proofs.Frontiers.{Visited, visit_all, visited_count, done}

@@ -1,5 +1,5 @@
 use Rattle.std.proofs.Common.{◌≡◌, ◌≤◌, ℕ}
-use Rattle.graph_model.specs.{Analyses.Connects, Graph.Graph, declared.ids.Filter.Filter}
+use Rattle.graph_types.specs.{Analyses.Connects, Graph.Graph, declared.ids.Filter.Filter}
 use Rattle.graph_levels.specs.Forest.{parent, IsForest, IsSound, Respects}
 use Rattle.graph_levels.proofs.parts.find.Given as goal
 

@@ -1,5 +1,5 @@
 use Rattle.std.proofs.Common.{ℕ}
-use Rattle.graph_model.specs.{Graph.Graph, declared.ids.Filter.Filter}
+use Rattle.graph_types.specs.{Graph.Graph, declared.ids.Filter.Filter}
 use Rattle.graph_levels.specs.Forest.{IsForest, IsSound, Respects}
 use Rattle.graph_levels.proofs.Trees.{FlatBelow}
 use Rattle.graph_levels.proofs.parts.flatten.Given as goal

@@ -1,5 +1,5 @@
 use Rattle.std.proofs.Common.{ℕ, ◌≡◌, take, All}
-use Rattle.graph_model.specs.{Graph.Graph, Analyses.Joins, declared.ids.Filter.Filter}
+use Rattle.graph_types.specs.{Graph.Graph, Analyses.Joins, declared.ids.Filter.Filter}
 use Rattle.graph_levels.specs.Forest.{IsForest, IsSound, Respects}
 use Rattle.graph_levels.proofs.parts.join_all.Given as goal
 

@@ -1,5 +1,5 @@
 use Rattle.std.proofs.Common.{ℕ, ◌≡◌, ◌<◌, length}
-use Rattle.graph_model.specs.Analyses.{LeadsTo}
+use Rattle.graph_types.specs.Analyses.{LeadsTo}
 use Rattle.graph_levels.specs.Forest.{IsForest, IsSound, Respects}
 use Rattle.graph_levels.proofs.parts.settle.Given as goal
 

@@ -1,5 +1,5 @@
 use Rattle.std.proofs.Common.{◌∙◌, refl, None}
-use Rattle.graph_model.specs.declared.ids.Filter.{Filter}
+use Rattle.graph_types.specs.declared.ids.Filter.{Filter}
 use Rattle.graph_version.proofs.Lent.{all_lent}
 use Rattle.graph_version.proofs.lending.all_edges.Goals as goal
 

@@ -1,5 +1,5 @@
 use Rattle.std.proofs.Common.{◌≡◌, ◌++◌, map, All}
-use Rattle.graph_model.specs.Graph.{stamp_of}
+use Rattle.graph_types.specs.Graph.{stamp_of}
 use Rattle.edge_block.specs.{Slots.IsStamp, Lending.edges_left}
 use Rattle.graph_version.specs.Edges.{edges_in_block}
 use Rattle.graph_version.proofs.Rebased.{edge_lent}

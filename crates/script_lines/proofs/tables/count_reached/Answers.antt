@@ -1,7 +1,7 @@
 use mir.Val.{bool_byte}
 use Rattle.std.proofs.Common.{◌+◌, ◌<◌, ◌≤◌, ◌∙◌, length, ap, arith}
 use Rattle.std.specs.List.{filter_map}
-use Rattle.graph_model.specs.Answer.{level_row}
+use Rattle.graph_types.specs.Answer.{level_row}
 use Rattle.script_lines.proofs.TableRows.{at_most_one, reached_more}
 use Rattle.version_answers.proofs.NamedRows.{rows_all}
 use Rattle.script_lines.proofs.tables.count_reached.Goals as goal

@@ -1,6 +1,6 @@
 use Rattle.std.proofs.Common.{◌<◌, ◌++◌, ◌∙◌, length, ap, arith, string_bytes}
 use Rattle.std.specs.List.{filter_map, flat_map}
-use Rattle.graph_model.specs.Answer.{level_row}
+use Rattle.graph_types.specs.Answer.{level_row}
 use Rattle.script_lines.specs.Lines.{number_line}
 use Rattle.script_lines.proofs.TableRows.{level_lines_more}
 use Rattle.version_answers.proofs.NamedRows.{rows_all}

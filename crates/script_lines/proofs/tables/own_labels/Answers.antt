@@ -1,6 +1,6 @@
 use Rattle.std.proofs.Common.{◌+◌, ◌<◌, ◌∙◌, length, ap, arith, bytes_eq, count_by}
 use Rattle.graph_levels.specs.Vertices.{numbers_of}
-use Rattle.graph_model.specs.Answer.{names_of}
+use Rattle.graph_types.specs.Answer.{names_of}
 use Rattle.script_lines.proofs.TableRows.{own_more}
 use Rattle.version_answers.proofs.NamedRows.{length-labels, rows_all}
 use Rattle.script_lines.proofs.tables.own_labels.Goals as goal

@@ -1,7 +1,7 @@
 -- The batches that are left leave of the content so far what all of them leave of the empty one.
 use Rattle.std.proofs.Common.{◌≡◌}
-use Rattle.graph_model.specs.{Graph.graph_of, Graph.IsContent, Step.empty_graph, Step.left_by}
-use Rattle.batch_pages.specs.Lending.{batches_left}
+use Rattle.graph_types.specs.{Graph.graph_of, Graph.IsContent, Step.empty_graph, Step.left_by}
+use Rattle.graph_version.specs.BatchLending.{batches_left}
 use Rattle.store_drive.proofs.contents.content_of.Given as goal
 
 abbrev pub invariant-loop-batch : goal.invariant-loop-batch

@@ -1,5 +1,5 @@
 use Rattle.std.proofs.Common.{◌≡◌, ◌*◌}
-use Rattle.graph_model.specs.Step.{empty_graph}
+use Rattle.graph_types.specs.Step.{empty_graph}
 use Rattle.stream_store.specs.Stores.{IsOfOpening}
 use Rattle.store_drive.proofs.readers.read_each.Given as goal
 

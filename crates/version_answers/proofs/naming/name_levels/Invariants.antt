@@ -1,6 +1,6 @@
 use Rattle.std.proofs.Common.{◌≡◌, take}
 use Rattle.std.specs.{Prelude.zip, List.filter_map}
-use Rattle.graph_model.specs.Answer.{level_row}
+use Rattle.graph_types.specs.Answer.{level_row}
 use Rattle.version_answers.proofs.naming.name_levels.Given as goal
 
 abbrev pub invariant-loop-vertex : goal.invariant-loop-vertex

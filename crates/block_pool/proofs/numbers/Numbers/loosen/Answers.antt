@@ -1,5 +1,5 @@
 use Rattle.std.proofs.Common.{◌∙◌, List, ℕ, length, ap, arith}
-use Rattle.linked_stacks.specs.Stacks.{stack_of}
+use Rattle.block_pool.specs.Stacks.{stack_of}
 use Rattle.block_pool.{specs.declared.numbers.TheConstants.LOOSE, proofs.Stacking.shorter_moved, proofs.Stacking.no_number}
 use Rattle.block_pool.proofs.numbers.Numbers.loosen.Goals as goal
 

@@ -1,5 +1,5 @@
 use Rattle.std.proofs.Common.{◌≡◌, length}
-use Rattle.linked_stacks.specs.Stacks.{stack_of}
+use Rattle.block_pool.specs.Stacks.{stack_of}
 use Rattle.block_pool.specs.Kept.{IsNumbers, IsSame}
 use Rattle.block_pool.proofs.numbers.Numbers.loosen.Given as goal
 

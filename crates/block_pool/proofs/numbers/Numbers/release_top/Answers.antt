@@ -1,7 +1,7 @@
 use Rattle.std.proofs.Common.{◌≡◌, ◌∙◌, ◌+◌, ◌<◌, ℕ, length, get_or, set, count_by, sym, ap, subst, refl, take, arith}
 use Rattle.std.proofs.{Common.length-take, Common.true, Math.ListN.length-set}
 use Rattle.std.proofs.lemmas.List.{get_or_read}
-use Rattle.linked_stacks.specs.Stacks.{Stacks, stack_of}
+use Rattle.block_pool.specs.Stacks.{Stacks, stack_of}
 use Rattle.block_pool.specs.declared.numbers.{Numbers.Numbers, TheConstants.LOOSE}
 use Rattle.block_reclamation.specs.declared.status.BlockStatus.TheVariants.{Free, Granted}
 use Rattle.block_reclamation.specs.Status.{is_free, is_retired}

@@ -1,6 +1,6 @@
 use Rattle.std.proofs.Common.{◌∙◌, sym, subst, refl, arith}
 use Rattle.std.proofs.lemmas.List.{Sums.count_by-le-length}
-use Rattle.linked_stacks.specs.Stacks.{stack_of}
+use Rattle.block_pool.specs.Stacks.{stack_of}
 use Rattle.block_pool.specs.declared.numbers.TheConstants.{LOOSE}
 use Rattle.block_pool.specs.Kept.{statuses, HasPins}
 use Rattle.block_reclamation.specs.Status.{is_reclaimable}

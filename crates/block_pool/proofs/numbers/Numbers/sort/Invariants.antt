@@ -1,5 +1,5 @@
 use Rattle.std.proofs.Common.{◌≡◌, ◌≤◌, ◌+◌, map, count_by, length}
-use Rattle.linked_stacks.specs.Stacks.{stack_of}
+use Rattle.block_pool.specs.Stacks.{stack_of}
 use Rattle.block_pool.specs.declared.numbers.TheConstants.{LOOSE, LATE}
 use Rattle.block_pool.specs.Kept.{statuses, AreNeeded, HasPins, IsNumbers}
 use Rattle.block_reclamation.specs.Status.{recycled, is_reclaimable}

@@ -1,5 +1,5 @@
 use Rattle.std.proofs.Common.{◌≡◌, ◌∙◌, ℕ, map, count_by, true, sym, ap, subst, arith}
-use Rattle.linked_stacks.specs.Stacks.{stack_of}
+use Rattle.block_pool.specs.Stacks.{stack_of}
 use Rattle.block_pool.specs.declared.numbers.TheConstants.{LOOSE, LATE}
 use Rattle.block_reclamation.specs.declared.status.BlockStatus.TheVariants.{Retired}
 use Rattle.block_pool.specs.Kept.{statuses, status_of}

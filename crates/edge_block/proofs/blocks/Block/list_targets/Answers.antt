@@ -1,6 +1,6 @@
 use Rattle.std.proofs.Common.{◌≡◌, ◌∙◌, ◌++◌, ◌-◌, ◌^◌, ap, sym, arith, map, filter}
 use Rattle.std.specs.Int.RustNames.{bit_and}
-use Rattle.graph_model.specs.View.{in_view}
+use Rattle.graph_types.specs.View.{in_view}
 use Rattle.lane_scan.specs.Masks.{selected}
 use Rattle.edge_block.specs.{Slots.edges_in, Slots.entries_of, Lending.edges_left}
 use Rattle.edge_block.proofs.Runs.{lent_targets, run_targets, targets_in_slots, targets_of_entries}

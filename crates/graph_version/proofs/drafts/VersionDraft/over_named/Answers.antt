@@ -1,5 +1,5 @@
 use Rattle.std.proofs.Common.{ap}
-use Rattle.graph_model.specs.Graph.{graph_of}
+use Rattle.graph_types.specs.Graph.{graph_of}
 use Rattle.graph_version.proofs.Drafting.{drafted}
 use Rattle.graph_version.proofs.drafts.VersionDraft.over_named.Goals as goal
 

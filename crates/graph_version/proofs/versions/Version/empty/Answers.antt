@@ -1,5 +1,5 @@
 use Rattle.std.proofs.Common.{refl, ap}
-use Rattle.graph_model.specs.Graph.{graph_of}
+use Rattle.graph_types.specs.Graph.{graph_of}
 use Rattle.graph_version.proofs.Empty.{is_kept_empty}
 use Rattle.graph_version.proofs.versions.Version.empty.Goals as goal
 

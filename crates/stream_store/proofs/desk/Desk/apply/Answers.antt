@@ -2,11 +2,11 @@ use Rattle.std.proofs.Common.{◌≡◌, ◌≢◌, ◌+◌, AllPairs, length, l
 use Rattle.std.specs.Arc.{arc_value}
 use Rattle.graph_version.specs.{declared.versions.Version.Version, Versions.VersionView, Versions.content}
 use Rattle.logbook.specs.Pages.{Book}
-use Rattle.graph_model.specs.Step.{outcomes}
+use Rattle.graph_types.specs.Step.{outcomes}
 use Rattle.block_pool.specs.Pools.{marked}
 use Rattle.block_reclamation.specs.declared.status.BlockStatus.TheVariants.{Used}
 use Rattle.block_reclamation.specs.Status.{is_free}
-use Rattle.batch_plan.proofs.Names.{err_then}
+use Rattle.batch_apply.proofs.Names.{err_then}
 use Rattle.version_shelf.specs.Shelves.{ToldView}
 use Rattle.store_steps.specs.Steps.{Accepts}
 use Rattle.stream_store.specs.{Kept.DeskState, Kept.state_of, Moves.AreUsedOnce, Refusals.Refuses, Refusals.IsWithin, Refusals.IsAdmitted}

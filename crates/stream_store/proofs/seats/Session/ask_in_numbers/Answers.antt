@@ -1,5 +1,5 @@
 use Rattle.std.proofs.Common.{◌≡◌, ◌⊎◌, ℕ, List, Err, subst}
-use Rattle.graph_model.specs.declared.requests.{AskError.TheVariants.OutOfMemory, Request.TheVariants.OneEdge}
+use Rattle.graph_types.specs.declared.requests.{AskError.TheVariants.OutOfMemory, Request.TheVariants.OneEdge}
 use Rattle.graph_version.specs.Versions.{VersionView, content}
 use Rattle.version_answers.specs.Numbered.{IsNumberedAnswer}
 use Rattle.stream_store.proofs.seats.Session.ask_in_numbers.Goals as goal

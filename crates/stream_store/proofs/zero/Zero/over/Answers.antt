@@ -1,7 +1,7 @@
 use Rattle.std.proofs.Common.{rules, ◌≡◌, ℕ, List, length, replicate, sym, ap, subst, ◌∙◌}
 use Rattle.std.specs.Arc.{arc_value}
 use Rattle.graph_version.specs.{declared.versions.Version.Version, Versions.VersionView}
-use Rattle.row_pages.specs.{Rows.blocks_of, Rows.numbers_of, Sharing.block_values}
+use Rattle.graph_version.specs.{Rows.blocks_of, Rows.numbers_of, Sharing.block_values}
 use Rattle.block_pool.specs.Pools.{AreFree, marked}
 use Rattle.block_reclamation.specs.declared.status.BlockStatus.TheVariants.{Free, Used}
 use Rattle.stream_store.specs.Moves.{AreUsedOnce}

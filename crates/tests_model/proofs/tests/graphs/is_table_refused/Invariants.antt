@@ -1,4 +1,4 @@
-use Rattle.graph_model.specs.Graph.{IsContent}
+use Rattle.graph_types.specs.Graph.{IsContent}
 use Rattle.tests_model.proofs.tests.graphs.is_table_refused.Given as goal
 
 -- the content stays one

@@ -1,4 +1,4 @@
-use Rattle.graph_model.specs.Step.{empty_graph}
+use Rattle.graph_types.specs.Step.{empty_graph}
 use Rattle.tests_store.proofs.tests.told_readers.over_a_new_store.Given as goal
 
 -- the store is of the opening that was just made, which began with nothing

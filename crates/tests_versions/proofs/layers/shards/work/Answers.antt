@@ -1,5 +1,5 @@
 use Rattle.std.proofs.Common.{arith, sym, subst}
-use Rattle.row_pages.specs.Rows.{row_of}
+use Rattle.graph_version.specs.Rows.{row_of}
 use Rattle.graph_version.specs.Versions.{VersionView}
 use Rattle.batch_apply.specs.Jobs.{IsShard}
 use Rattle.tests_versions.proofs.layers.shards.work.Goals as goal

@@ -1,5 +1,5 @@
 use Rattle.std.proofs.Common.{[], All}
-use Rattle.row_pages.specs.Rows.{row_of}
+use Rattle.graph_version.specs.Rows.{row_of}
 use Rattle.batch_apply.specs.Jobs.{IsShard}
 use Rattle.tests_versions.proofs.layers.workers.jobs.Given as goal
 

@@ -1,4 +1,4 @@
-use Rattle.graph_model.specs.Graph.{IsContent}
+use Rattle.graph_types.specs.Graph.{IsContent}
 use Rattle.tests_versions.proofs.versions.lines.check_lines.Given as goal
 
 abbrev pub invariant-loop-line : goal.invariant-loop-line

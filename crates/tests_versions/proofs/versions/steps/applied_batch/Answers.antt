@@ -1,8 +1,8 @@
 use Rattle.std.proofs.Common.{List, sym, subst, rules}
-use Rattle.graph_model.specs.declared.batches.NamedOp.{NamedOp}
-use Rattle.row_pages.specs.Rows.{row_of}
+use Rattle.graph_types.specs.declared.batches.NamedOp.{NamedOp}
+use Rattle.graph_version.specs.Rows.{row_of}
 use Rattle.graph_version.specs.Versions.{content}
-use Rattle.batch_plan.specs.Planned.{IsPlan}
+use Rattle.batch_apply.specs.Planned.{IsPlan}
 use Rattle.tests_versions.proofs.versions.steps.applied_batch.Goals as goal
 
 pub apply-requires-clause-plan : goal.apply-requires-clause-plan

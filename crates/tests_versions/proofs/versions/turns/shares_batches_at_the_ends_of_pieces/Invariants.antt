@@ -1,4 +1,4 @@
-use Rattle.graph_model.specs.Graph.{IsContent}
+use Rattle.graph_types.specs.Graph.{IsContent}
 use Rattle.tests_versions.proofs.versions.turns.shares_batches_at_the_ends_of_pieces.Given as goal
 
 abbrev pub invariant-loop-number : goal.invariant-loop-number

@@ -1,4 +1,4 @@
-use Rattle.graph_model.specs.declared.batches.NamedOp.{NamedOp}
+use Rattle.graph_types.specs.declared.batches.NamedOp.{NamedOp}
 use Rattle.std.proofs.Common.{ap, subst, List, refl}
 use mathlib.Core.List.{IsPrefix}
 use Rattle.version_shelf.proofs.Beginnings.{below_by}

@@ -1,7 +1,7 @@
 use Rattle.std.proofs.Common.{◌≡◌, ◌∙◌, ◌++◌, ◌∷◌, ◌<◌, [], ℕ, List, length, false, sym, ap, arith}
-use Rattle.graph_model.specs.Answer.{is_listed}
+use Rattle.graph_types.specs.Answer.{is_listed}
 use Rattle.vertex_names.specs.{Book.Book, Tables.names_of}
-use Rattle.graph_model.proofs.NameNumbers.{number_absent}
+use Rattle.graph_types.proofs.NameNumbers.{number_absent}
 use Rattle.vertex_names.proofs.Names.{not_listed, IsBook-pushed}
 use Rattle.vertex_names.proofs.book.NameBook.add.Goals as goal
 

@@ -1,0 +1,289 @@
+-- The old rows of a worker are listed before its first operation.
+use Rattle.std.proofs.Common.{◌≡◌, ◌≢◌, ℕ, zero, suc, ◌+◌, ◌<◌, ◌≤◌, ◌%◌, ◌==◌, ◌||◌, Bool, true, false, cond, List, [], ◌∷◌, ◌++◌}
+use Rattle.std.proofs.Common.{length, map, take, get_or, refl, sym, ap, ◌∙◌, arith, subst, All, AllPairs, nat_eq, max}
+use Rattle.std.specs.List.{list_any, sum_by}
+use Rattle.std.proofs.lemmas.Bool.{true≢false, eq-eqb, eqb-true, ne_eqb}
+use Rattle.std.proofs.lemmas.List.Folds.{list_any_none, list_any_at}
+use Rattle.std.proofs.lemmas.List.{append-nil, map-append, length-map, length-take-le, get_or-take, get_or-map}
+use Rattle.std.proofs.lemmas.List.Sums.{sum_by-cons, sum_by_push, length-filter, count_by-le-length}
+use Rattle.std.proofs.lemmas.List.Elements.{All-nil, All-head, All-tail, All-map, All-filter, All-weaker, filter_more, filter_passes}
+use Rattle.edge_block.specs.Slots.{BlockView, has_before}
+use Rattle.edge_block.specs.Rows.{shape_of}
+use Rattle.edge_block.specs.Batches.{Resolved, AtKey, InAll, is_in_shard, shard_ops}
+use Rattle.batch_shards.specs.Shards.{IsAct, resolved_at, resolved_in}
+use Rattle.batch_shards.specs.Spending.{time_of, old_blocks, latest as latest_step}
+use Rattle.batch_shards.specs.declared.shard.{Act.Act, Act.TheVariants.Edge, Act.TheVariants.Expire, Step.Step}
+use Rattle.batch_apply.specs.{Shards.acts, Shards.is_old_row, Shards.latest, Shards.AreShardSteps, declared.old.OldRow.OldRow}
+use Rattle.batch_apply.specs.OldRows.{AreOldRows, old_sources, own_rows, blocks_in}
+
+-- whether a source's row is one of these, and its old blocks, none where it isn't
+abbrev pub is_listed : List OldRow → ℕ → Bool
+is_listed old s = list_any (nat_eq s) (old_sources old)
+
+abbrev pub listed_blocks : List OldRow → ℕ → ℕ
+listed_blocks [] s = 0
+listed_blocks (r ∷ old) s = cond (s == r.source.0) r.blocks (listed_blocks old s)
+
+pairs_cons : (x : ℕ) (xs : List ℕ) → All (λ y. x ≢ y) xs → AllPairs (λ a b. a ≢ b) xs → AllPairs (λ a b. a ≢ b) (x ∷ xs)
+pairs_cons x xs first rest zero zero d lt within = absurd (omega arith)
+pairs_cons x xs first rest zero (suc j) d lt within = first j d (omega arith)
+pairs_cons x xs first rest (suc i) zero d lt within = absurd (omega arith)
+pairs_cons x xs first rest (suc i) (suc j) d lt within = rest i j d (omega arith) (omega arith)
+
+pub pairs_head : (x : ℕ) (xs : List ℕ) → AllPairs (λ a b. a ≢ b) (x ∷ xs) → All (λ y. x ≢ y) xs
+pairs_head x xs pairs j d lt = pairs 0 (suc j) d (omega arith) (omega arith)
+
+pub pairs_tail : (x : ℕ) (xs : List ℕ) → AllPairs (λ a b. a ≢ b) (x ∷ xs) → AllPairs (λ a b. a ≢ b) xs
+pairs_tail x xs pairs i j d lt within = pairs (suc i) (suc j) d (omega arith) (omega arith)
+
+own_distinct : (workers w : ℕ) (old : List OldRow) → AllPairs (λ a b. a ≢ b) (old_sources old)
+    → AllPairs (λ a b. a ≢ b) (old_sources (own_rows workers w old))
+own_distinct workers w [] pairs = pairs
+own_distinct workers w (r ∷ old) pairs =
+    let own : List OldRow = own_rows workers w old in
+    let rest : AllPairs (λ a b. a ≢ b) (old_sources own) =
+    own_distinct workers w old (pairs_tail r.source.0 (old_sources old) pairs) in
+    let others : All (λ (q : OldRow). r.source.0 ≢ q.source.0) old = λ i d lt e.
+    pairs_head r.source.0 (old_sources old) pairs i 0 (omega (arith, length-map old (λ (q : OldRow). q.source.0)))
+    (e ∙ sym (get_or-map (λ (q : OldRow). q.source.0) old i d 0 lt)) in
+    let first : All (λ y. r.source.0 ≢ y) (old_sources own) =
+    All-map (λ y. r.source.0 ≢ y) (λ (q : OldRow). q.source.0) own
+    (All-filter (λ (q : OldRow). q.source.0 % workers == w) (λ (q : OldRow). r.source.0 ≢ q.source.0) old others) in
+    elim (r.source.0 % workers == w) as (λ b. AllPairs (λ a c. a ≢ c) (old_sources (cond b (r ∷ own) own))) [
+      | true ↦ pairs_cons r.source.0 (old_sources own) first rest
+      | false ↦ rest
+    ]
+
+own_listed : (workers w : ℕ) (old : List OldRow) (s : ℕ) → s % workers ≡ w → is_listed old s ≡ true
+    → list_any (nat_eq s) (old_sources (own_rows workers w old)) ≡ true
+own_listed workers w [] s mine listed = absurd (true≢false (sym listed))
+own_listed workers w (r ∷ old) s mine listed =
+    let own : List OldRow = own_rows workers w old in
+    elim (s == r.source.0) as (λ b. s == r.source.0 ≡ b → (b || is_listed old s) ≡ true
+    → list_any (nat_eq s) (old_sources (cond (r.source.0 % workers == w) (r ∷ own) own)) ≡ true) [
+      | true ↦ λ same _.
+          let here : r.source.0 % workers ≡ w = ap (λ q. q % workers) (sym (eqb-true s r.source.0 same)) ∙ mine in
+          let passes : (r.source.0 % workers == w) ≡ true = ap (λ q. q == w) here ∙ eq-eqb w w refl in
+          ap (λ b. list_any (nat_eq s) (old_sources (cond b (r ∷ own) own))) passes
+          ∙ ap (λ b. b || list_any (nat_eq s) (old_sources own)) same
+      | false ↦ λ other rest.
+          let further : list_any (nat_eq s) (old_sources own) ≡ true = own_listed workers w old s mine rest in
+          elim (r.source.0 % workers == w) as (λ b. list_any (nat_eq s) (old_sources (cond b (r ∷ own) own)) ≡ true) [
+            | true ↦ ap (λ b. b || list_any (nat_eq s) (old_sources own)) other ∙ further
+            | false ↦ further
+          ]
+    ] refl listed
+
+-- a worker's rows before its first operation
+pub start : (workers w : ℕ) (old : List OldRow) → AllPairs (λ a b. a ≢ b) (old_sources old)
+    → AreShardSteps workers [] w (is_listed old) (old_sources (own_rows workers w old)) []
+start workers w old pairs =
+    let own : List OldRow = own_rows workers w old in
+    let mine : OldRow → Bool = λ (r : OldRow). r.source.0 % workers == w in
+    let source : OldRow → ℕ = λ (r : OldRow). r.source.0 in
+    let listed : (k : ℕ) (d : OldRow) → k < length old → is_listed old (source (get_or old k d)) ≡ true = λ k d lt.
+    list_any_at (nat_eq (source (get_or old k d))) (old_sources old) k 0 (omega (arith, length-map old source))
+    (ap (nat_eq (source (get_or old k d))) (get_or-map source old k d 0 lt) ∙ eq-eqb (source (get_or old k d)) (source (get_or old k d)) refl) in
+    record {
+      places = refl;
+      acts_are = refl;
+      in_range = All-nil (λ (s : Step). IsAct (length (old_sources own)) s.act);
+      distinct = own_distinct workers w old pairs;
+      own = All-map (λ s. s % workers ≡ w) source own
+          (All-weaker (λ (r : OldRow). mine r ≡ true) (λ (r : OldRow). source r % workers ≡ w)
+          (λ r passes. eqb-true (source r % workers) w passes) own (filter_passes mine old));
+      within = λ n all below. All-map (λ s. s < n) source own
+          (All-filter mine (λ (r : OldRow). source r < n) old (λ k d lt. below (source (get_or old k d)) (listed k d lt)));
+      old_rows = λ s own old_is. own_listed workers w old s own old_is;
+    }
+
+pub own_few : (workers w : ℕ) (old : List OldRow) → length (old_sources (own_rows workers w old)) ≤ length old
+own_few workers w old =
+    let mine : OldRow → Bool = λ (r : OldRow). r.source.0 % workers == w in
+    omega (
+      arith,
+      length-map (own_rows workers w old) (λ (r : OldRow). r.source.0),
+      length-filter mine old,
+      count_by-le-length mine old,
+    )
+
+-- an old row's source isn't that of one before it
+pub not_before : (workers w : ℕ) (old : List OldRow) (i : ℕ) (d : OldRow) → AllPairs (λ a b. a ≢ b) (old_sources old)
+    → i < length old
+    → list_any (nat_eq (get_or old i d).source.0) (old_sources (own_rows workers w (take i old))) ≡ false
+not_before workers w old i d pairs lt =
+    let source : OldRow → ℕ = λ (r : OldRow). r.source.0 in
+    let s : ℕ = source (get_or old i d) in
+    let front : All (λ (r : OldRow). nat_eq s (source r) ≡ false) (take i old) = λ k e within.
+    let short = length-take-le i old (omega arith) in
+    let before : k < i = omega arith in
+    let long = length-map old source in
+    let there : source (get_or (take i old) k e) ≡ get_or (old_sources old) k 0 =
+    ap source (get_or-take i old k e before) ∙ sym (get_or-map source old k e 0 (omega arith)) in
+    let here : get_or (old_sources old) i 0 ≡ s = get_or-map source old i d 0 lt in
+    ne_eqb s (source (get_or (take i old) k e))
+    (λ same. pairs k i 0 before (omega arith) (sym there ∙ sym same ∙ sym here)) in
+    list_any_none (nat_eq s) (old_sources (own_rows workers w (take i old)))
+    (All-map (λ x. nat_eq s x ≡ false) source (own_rows workers w (take i old))
+    (All-filter (λ (r : OldRow). source r % workers == w) (λ (r : OldRow). nat_eq s (source r) ≡ false) (take i old) front))
+
+-- one row more of a worker's own, or of another's
+own_more : (workers w : ℕ) (old : List OldRow) (i : ℕ) (d : OldRow) (b : Bool) → i < length old
+    → (get_or old i d).source.0 % workers == w ≡ b
+    → own_rows workers w (take (i + 1) old) ≡ own_rows workers w (take i old) ++ cond b (get_or old i d ∷ []) []
+own_more workers w old i d b lt is =
+    filter_more (λ (r : OldRow). r.source.0 % workers == w) old i d lt
+    ∙ ap (λ t. own_rows workers w (take i old) ++ cond t (get_or old i d ∷ []) []) is
+
+pub one_other : (workers w : ℕ) (old : List OldRow) (i : ℕ) (d : OldRow) → i < length old
+    → (get_or old i d).source.0 % workers == w ≡ false
+    → own_rows workers w (take (i + 1) old) ≡ own_rows workers w (take i old)
+one_other workers w old i d lt is = own_more workers w old i d false lt is ∙ append-nil (own_rows workers w (take i old))
+
+pub one_source : (workers w : ℕ) (old : List OldRow) (i : ℕ) (d : OldRow) → i < length old
+    → (get_or old i d).source.0 % workers == w ≡ true
+    → old_sources (own_rows workers w (take (i + 1) old))
+    ≡ old_sources (own_rows workers w (take i old)) ++ (get_or old i d).source.0 ∷ []
+one_source workers w old i d lt is =
+    ap old_sources (own_more workers w old i d true lt is)
+    ∙ map-append (λ (r : OldRow). r.source.0) (own_rows workers w (take i old)) (get_or old i d ∷ [])
+
+pub one_row : (workers w : ℕ) (old : List OldRow) (i : ℕ) (d : OldRow) → i < length old
+    → (get_or old i d).source.0 % workers == w ≡ true
+    → blocks_in (own_rows workers w (take (i + 1) old)) ≡ blocks_in (own_rows workers w (take i old)) + (get_or old i d).blocks
+one_row workers w old i d lt is =
+    ap blocks_in (own_more workers w old i d true lt is)
+    ∙ sum_by_push (λ (r : OldRow). r.blocks) (own_rows workers w (take i old)) (get_or old i d)
+
+-- the greatest time of a shard's expiries is the batch's
+max_zero : (n : ℕ) → max 0 n ≡ n
+max_zero n = omega arith
+
+latest_acts : (rs : List Resolved) → latest (acts rs) ≡ latest rs
+latest_acts [] = refl
+latest_acts (AtKey source key change ∷ rs) = ap (max 0) (latest_acts rs)
+latest_acts (InAll time ∷ rs) = ap (max time) (latest_acts rs)
+
+one_act : (sources : List ℕ) (act : Act) (rest : List Resolved) (n : ℕ) → latest rest ≡ n
+    → latest (resolved_at sources act ∷ rest) ≡ max (time_of act) n
+one_act sources (Edge place change) rest n same = ap (max 0) same
+one_act sources (Expire time) rest n same = ap (max time) same
+
+latest_in : (sources : List ℕ) (steps : List Step) → latest (resolved_in sources steps) ≡ latest_step steps
+latest_in sources [] = refl
+latest_in sources (s ∷ steps) =
+    one_act sources s.act (resolved_in sources steps) (latest_step steps) (latest_in sources steps)
+
+latest_own : (workers w : ℕ) (rs : List Resolved) → latest (shard_ops workers w rs) ≡ latest rs
+latest_own workers w [] = refl
+latest_own workers w (AtKey source key change ∷ rs) =
+    let own : List Resolved = shard_ops workers w rs in
+    elim (is_in_shard workers w (AtKey source key change)) as
+    (λ b. latest (cond b (AtKey source key change ∷ own) own) ≡ max 0 (latest rs)) [
+      | true ↦ ap (max 0) (latest_own workers w rs)
+      | false ↦ latest_own workers w rs ∙ sym (max_zero (latest rs))
+    ]
+latest_own workers w (InAll time ∷ rs) = ap (max time) (latest_own workers w rs)
+
+pub same_latest : (workers w : ℕ) (rs : List Resolved) (is_old : ℕ → Bool) (sources : List ℕ) (steps : List Step)
+    → AreShardSteps workers rs w is_old sources steps → latest_step steps ≡ latest rs
+same_latest workers w rs is_old sources steps is =
+    sym (latest_in sources steps) ∙ sym (latest_acts (resolved_in sources steps)) ∙ ap latest is.acts_are
+    ∙ latest_acts (shard_ops workers w rs) ∙ latest_own workers w rs
+
+-- what holds for a test of rows holds for one that agrees
+pub same_old : (workers w : ℕ) (rs : List Resolved) (a b : ℕ → Bool) (sources : List ℕ) (steps : List Step)
+    → ((s : ℕ) → a s ≡ b s) → AreShardSteps workers rs w a sources steps → AreShardSteps workers rs w b sources steps
+same_old workers w rs a b sources steps agree is =
+    let same : a ≡ b = λ i s. agree s i in
+    subst (λ (f : ℕ → Bool). AreShardSteps workers rs w f sources steps) same is
+
+counted : (time : ℕ) (row : List BlockView) (b : BlockView)
+    → old_blocks time (b ∷ row) ≡ cond (has_before time b.slots) 1 0 + old_blocks time row
+counted time row b = sum_by-cons (λ (x : BlockView). cond (has_before time x.slots) 1 0) b row
+
+pub some_old : (time : ℕ) (row : List BlockView) → is_old_row time (map shape_of row) ≡ true → 0 < old_blocks time row
+some_old time [] old = absurd (true≢false (sym old))
+some_old time (b ∷ row) old =
+    let one = counted time row b in
+    elim (has_before time b.slots) as (λ t. old_blocks time (b ∷ row) ≡ cond t 1 0 + old_blocks time row
+    → (t || is_old_row time (map shape_of row)) ≡ true → 0 < old_blocks time (b ∷ row)) [
+      | true ↦ λ count _. omega arith
+      | false ↦ λ count rest. let more = some_old time row rest in omega arith
+    ] one old
+
+pub none_old_blocks : (time : ℕ) (row : List BlockView) → is_old_row time (map shape_of row) ≡ false → old_blocks time row ≡ 0
+none_old_blocks time [] none = refl
+none_old_blocks time (b ∷ row) none =
+    let one = counted time row b in
+    elim (has_before time b.slots) as (λ t. old_blocks time (b ∷ row) ≡ cond t 1 0 + old_blocks time row
+    → (t || is_old_row time (map shape_of row)) ≡ false → old_blocks time (b ∷ row) ≡ 0) [
+      | true ↦ λ count some. absurd (true≢false some)
+      | false ↦ λ count rest. let more = none_old_blocks time row rest in omega arith
+    ] one none
+
+pub not_listed : (old : List OldRow) (s : ℕ) → is_listed old s ≡ false → listed_blocks old s ≡ 0
+not_listed [] s none = refl
+not_listed (r ∷ old) s none =
+    elim (s == r.source.0) as (λ b. (b || is_listed old s) ≡ false → cond b r.blocks (listed_blocks old s) ≡ 0) [
+      | true ↦ λ some. absurd (true≢false some)
+      | false ↦ λ rest. not_listed old s rest
+    ] none
+
+-- these are the old rows of the rows
+module _ (time : ℕ) (rows : ℕ → List BlockView) where
+  abbrev IsRight : OldRow → Type 0
+  IsRight r = (r.blocks ≡ old_blocks time (rows r.source.0)) × (0 < r.blocks)
+
+  found : (old : List OldRow) → All IsRight old → (s : ℕ) → is_listed old s ≡ true
+      → (listed_blocks old s ≡ old_blocks time (rows s)) × (0 < listed_blocks old s)
+  found [] right s listed = absurd (true≢false (sym listed))
+  found (r ∷ old) right s listed =
+      let first : IsRight r = All-head IsRight r old right in
+      elim (s == r.source.0) as (λ b. s == r.source.0 ≡ b → (b || is_listed old s) ≡ true
+      → (cond b r.blocks (listed_blocks old s) ≡ old_blocks time (rows s)) × (0 < cond b r.blocks (listed_blocks old s))) [
+        | true ↦ λ same _. (first.0 ∙ ap (λ x. old_blocks time (rows x)) (sym (eqb-true s r.source.0 same)), first.1)
+        | false ↦ λ _ rest. found old (All-tail IsRight r old right) s rest
+      ] refl listed
+
+  module _ (old : List OldRow) (are : AreOldRows time rows old) where
+    pub listed_agrees : (s : ℕ) → is_listed old s ≡ is_old_row time (map shape_of (rows s))
+    listed_agrees s =
+        elim (is_old_row time (map shape_of (rows s))) as
+        (λ b. is_old_row time (map shape_of (rows s)) ≡ b → is_listed old s ≡ b) [
+          | true ↦ λ t. are.all_listed s (some_old time (rows s) t)
+          | false ↦ λ f. let none = none_old_blocks time (rows s) f in
+              elim (is_listed old s) as (λ b. is_listed old s ≡ b → b ≡ false) [
+                | true ↦ λ t. let here = found old are.blocks s t in absurd (omega (arith, here.0, here.1, none))
+                | false ↦ λ _. refl
+              ] refl
+        ] refl
+
+    pub blocks_agree : (s : ℕ) → listed_blocks old s ≡ old_blocks time (rows s)
+    blocks_agree s =
+        elim (is_listed old s) as (λ b. is_listed old s ≡ b → listed_blocks old s ≡ old_blocks time (rows s)) [
+          | true ↦ λ t. (found old are.blocks s t).0
+          | false ↦ λ f. not_listed old s f ∙ sym (none_old_blocks time (rows s) (sym (listed_agrees s) ∙ f))
+        ] refl
+
+    sums_agree : (xs : List OldRow) → All IsRight xs → sum_by (listed_blocks old) (old_sources xs) ≡ blocks_in xs
+    sums_agree [] right = refl
+    sums_agree (r ∷ xs) right =
+        let here = (All-head IsRight r xs right).0 in
+        let rest = sums_agree xs (All-tail IsRight r xs right) in
+        let agree = blocks_agree r.source.0 in
+        let a = sum_by-cons (listed_blocks old) r.source.0 (old_sources xs) in
+        let b = sum_by-cons (λ (q : OldRow). q.blocks) r xs in
+        omega arith
+
+    -- a worker's old rows have as many old blocks as its list says
+    pub own_blocks : (workers w : ℕ)
+        → sum_by (listed_blocks old) (old_sources (own_rows workers w old)) ≡ blocks_in (own_rows workers w old)
+    own_blocks workers w = sums_agree (own_rows workers w old)
+        (All-filter (λ (r : OldRow). r.source.0 % workers == w) IsRight old are.blocks)
+
+    pub sum_agrees : (sources : List ℕ)
+        → sum_by (listed_blocks old) sources ≡ sum_by (λ s. old_blocks time (rows s)) sources
+    sum_agrees sources =
+        let same : listed_blocks old ≡ (λ s. old_blocks time (rows s)) = λ i s. blocks_agree s i in
+        ap (λ (f : ℕ → ℕ). sum_by f sources) same

@@ -1,0 +1,48 @@
+-- An operation's source is one of the vertices that the batch leaves.
+use Rattle.std.proofs.Common.{◌≡◌, ◌<◌, ℕ, List, [], ◌∷◌, length, ◌≤◌, Bool, true, false, cond, ◌&&◌, refl, ap, subst, All}
+use Rattle.std.proofs.{Common.Some, Common.None, Common.arith, lemmas.List.Elements.All-nil, lemmas.List.Elements.All-cons}
+use Rattle.graph_types.specs.{Graph.Graph, Graph.Key, Step.after_all, Step.key_in, declared.batches.NamedOp.NamedOp}
+use Rattle.graph_types.proofs.NameLists.{number_of-lt}
+use Rattle.edge_block.specs.Rows.{Shape}
+use Rattle.edge_block.specs.Batches.{is_known, resolve_parts, resolved, IsWithin, IsLayoutOf}
+use Rattle.edge_block.specs.Operations.{Parts, OfEdge, OfAll, parts_of, names_after, kinds_after}
+use Rattle.batch_shards.specs.{Done.sources_in, declared.shard.Shard.Shard}
+use Rattle.batch_apply.specs.{Plan.names_all, Shards.IsSourceBelow, Shards.IsShardOf, Shards.latest}
+use Rattle.batch_apply.proofs.{OldRows.old_within, Names.no_fewer_all, Leaving.names_left}
+
+below_if : (a b c : Bool) (q k : Key) (n : ℕ) → cond (a && (b && c)) (Some q) None ≡ Some k → (b ≡ true → q.source < n)
+    → k.source < n
+below_if false b c q k n is below = cc
+below_if true false c q k n is below = cc
+below_if true true false q k n is below = cc
+below_if true true true q k n is below =
+    let same : q ≡ k = cc in
+    subst (λ (x : Key). x.source < n) same (below refl)
+
+one_below : (names kinds : List (List ℕ)) (op : Parts) (n : ℕ) → length names ≤ n
+    → IsSourceBelow n (resolve_parts names kinds op)
+one_below names kinds (OfEdge change kind source target) n few = λ k is.
+    below_if (is_known kinds kind) (is_known names source) (is_known names target) (key_in names kinds kind source target) k n is
+    (λ known. omega (arith, few, number_of-lt names source known))
+one_below names kinds (OfAll time) n few = tt
+
+all_below : (ops : List NamedOp) (names kinds : List (List ℕ))
+    → All (IsSourceBelow (length (names_all ops names))) (resolved ops names kinds)
+all_below [] names kinds = All-nil (IsSourceBelow (length names))
+all_below (op ∷ ops) names kinds =
+    let n : ℕ = length (names_all ops (names_after op names)) in
+    All-cons (IsSourceBelow n) (resolve_parts (names_after op names) (kinds_after op kinds) (parts_of op))
+    (resolved ops (names_after op names) (kinds_after op kinds))
+    (one_below (names_after op names) (kinds_after op kinds) (parts_of op) n (no_fewer_all ops (names_after op names)))
+    (all_below ops (names_after op names) (kinds_after op kinds))
+
+pub sources_within : (workers worker : ℕ) (ops : List NamedOp) (g : Graph) (layout : ℕ → List Shape) (shard : Shard)
+    → IsWithin g → IsLayoutOf layout g.edges → IsShardOf workers (resolved ops g.names g.kinds) layout worker shard
+    → All (λ s. s < length (after_all ops g).names) (sources_in shard)
+sources_within workers worker ops g layout shard within shows is =
+    let more = no_fewer_all ops g.names in
+    let left : length (names_all ops g.names) ≡ length (after_all ops g).names = ap length (names_left ops g) in
+    is.within (length (after_all ops g).names) (subst (λ ns. All (IsSourceBelow (length ns)) (resolved ops g.names g.kinds))
+    (names_left ops g) (all_below ops g.names g.kinds))
+    (λ s old. let lt = old_within g layout (latest (resolved ops g.names g.kinds)) s within shows old in omega
+    (arith, lt, more, left))

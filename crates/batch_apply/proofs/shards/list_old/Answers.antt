@@ -1,0 +1,49 @@
+use Rattle.std.proofs.Common.{◌≡◌, ◌+◌, ◌-◌, ◌^◌, ◌<◌, ◌%◌, ◌==◌, ◌++◌, true, false, cond, ℕ, List, [], ◌∷◌, length, get_or, min}
+use Rattle.std.proofs.Common.{ap, refl, sym, ◌∙◌, arith, nat_eq}
+use Rattle.std.specs.List.{list_any}
+use Rattle.std.proofs.lemmas.Bool.{eq-eqb, ne_eqb}
+use Rattle.batch_apply.specs.{OldRows.old_sources, OldRows.blocks_in, declared.old.OldRow.OldRow}
+use Rattle.batch_apply.specs.Shards.{source_numbers}
+use Rattle.batch_apply.proofs.Listing.{not_before, one_other, one_source, one_row}
+use Rattle.batch_apply.proofs.shards.list_old.Goals.{then-row-workers+in_ok-place_of, else-row-workers}
+use Rattle.batch_apply.proofs.shards.list_old.Goals as goal
+
+-- one more summand of a sum that stops at a bound
+capped : (so_far sum more next all most : ℕ) → so_far ≡ min sum most → next ≡ min (so_far + more) most → all ≡ sum + more
+    → next ≡ min all most
+capped so_far sum more next all most counted added whole = omega arith
+
+pub loop-row-preserved : goal.loop-row-preserved
+loop-row-preserved c =
+    let workers : ℕ = c.args.workers in
+    let worker : ℕ = c.args.worker in
+    let old : List OldRow = c.args.old.now in
+    let i : ℕ = c.loop-row.row-index in
+    let d : OldRow = record { source = record { 0 = 0 }; blocks = 0 } in
+    let row : OldRow = get_or old i d in
+    let s : ℕ = row.source.0 in
+    let lt : i < length old = omega arith in
+    let keys : List ℕ = source_numbers c.loop-row.sources.items in
+    elim c.if-row-workers.branch [
+      | then-row-workers+in_ok-place_of w ↦
+          let mine : s % workers == worker ≡ true = ap (λ q. q == worker) w.if-row-workers.true ∙ eq-eqb worker worker refl in
+          let new : list_any (nat_eq s) keys ≡ false = ap (list_any (nat_eq s)) c.loop-row.invariant.own
+          ∙ not_before workers worker old i d c.requires.distinct lt in
+          let added : source_numbers w.place_of.new.sources.items ≡ keys ++ s ∷ [] = w.in_ok-place_of.ensures.sources
+          ∙ ap (λ b. cond b keys (keys ++ s ∷ [])) new in
+          record {
+            same = rw (w.sources-is, w.places-is) w.in_ok-place_of.ensures.same;
+            own = rw w.sources-is (added ∙ ap (λ l. l ++ s ∷ []) c.loop-row.invariant.own
+                ∙ sym (one_source workers worker old i d lt mine));
+            blocks = rw w.blocks-is (capped _ _ _ _ _ _ c.loop-row.invariant.blocks w.saturating_add-blocks.ensures
+                (one_row workers worker old i d lt mine));
+          }
+      | else-row-workers w ↦
+          let same_own = one_other workers worker old i d lt (ne_eqb (s % workers) worker w.if-row-workers.false) in
+          record {
+            same = rw (w.sources-is, w.places-is) c.loop-row.invariant.same;
+            own = rw w.sources-is (c.loop-row.invariant.own ∙ ap old_sources (sym same_own));
+            blocks = rw w.blocks-is (c.loop-row.invariant.blocks
+                ∙ ap (λ (l : List OldRow). min (blocks_in l) (2 ^ 64 - 1)) (sym same_own));
+          }
+    ]

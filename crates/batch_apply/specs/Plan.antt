@@ -1,0 +1,102 @@
+-- The numbers of a batch's names, each operation by the names at its place.
+use Rattle.std.specs.Prelude.{ℕ, ◌<◌, ◌≤◌, List, [], ◌∷◌, length, if◌then◌else◌}
+use Rattle.std.specs.Option.{option_map}
+use Rattle.std.specs.declared.option.Option.{Option}
+use Rattle.std.specs.declared.option.Option.TheVariants.{None, Some}
+use Rattle.graph_types.specs.Graph.{Key}
+use Rattle.graph_types.specs.Step.{number_of}
+use Rattle.graph_types.specs.declared.batches.NamedOp.{NamedOp}
+use Rattle.graph_types.specs.Changes.{IsChange}
+use Rattle.vertex_names.specs.Book.{Book}
+use Rattle.vertex_names.specs.declared.book.AddError.{AddError}
+use Rattle.vertex_names.specs.declared.book.AddError.TheVariants.{NamesFull, OutOfMemory}
+use Rattle.edge_block.specs.Operations.{Parts, OfEdge, OfAll, parts_of, names_after, kinds_after}
+use Rattle.edge_block.specs.Batches.{Resolved, AtKey, InAll, is_known}
+use Rattle.batch_apply.specs.declared.plans.PlanError.{PlanError}
+use Rattle.batch_apply.specs.declared.plans.PlanError.TheVariants as plan
+use Rattle.batch_apply.specs.declared.resolve.Ends.{Ends}
+use Rattle.batch_apply.specs.declared.resolve.EndsList.{EndsList}
+use Rattle.batch_apply.specs.declared.resolve.EndsList.TheVariants.{One, Many}
+use Rattle.batch_apply.specs.declared.resolve.EdgeKey.{EdgeKey}
+use Rattle.batch_apply.specs.declared.resolve.ResolvedOp.{ResolvedOp}
+use Rattle.batch_apply.specs.declared.resolve.ResolvedOp.TheVariants.{Edge, Expire}
+
+-- a name's number, if it has appeared
+abbrev pub known : List (List ℕ) → List ℕ → Option ℕ
+known names name = if is_known names name then Some (number_of names name) else None
+
+-- the numbers of an operation's source and target, by these names
+abbrev pub ends_by : List (List ℕ) → Parts → Ends
+ends_by names (OfEdge change kind source target) = record { source = known names source; target = known names target }
+ends_by names (OfAll time) = record { source = None; target = None }
+
+abbrev pub ends_in : List (List ℕ) → NamedOp → Ends
+ends_in names op = ends_by names (parts_of op)
+
+-- the number of an operation's kind, by these kinds
+abbrev pub kind_by : List (List ℕ) → Parts → Option ℕ
+kind_by kinds (OfEdge change kind source target) = known kinds kind
+kind_by kinds (OfAll time) = None
+
+-- the names, and the kinds, after operations, one after another
+abbrev pub names_all : List NamedOp → List (List ℕ) → List (List ℕ)
+names_all [] names = names
+names_all (op ∷ ops) names = names_all ops (names_after op names)
+
+abbrev pub kinds_all : List NamedOp → List (List ℕ) → List (List ℕ)
+kinds_all [] kinds = kinds
+kinds_all (op ∷ ops) kinds = kinds_all ops (kinds_after op kinds)
+
+-- the ends of operations, each by the names at its place
+abbrev pub ends_all : List NamedOp → List (List ℕ) → List Ends
+ends_all [] names = []
+ends_all (op ∷ ops) names = ends_in (names_after op names) op ∷ ends_all ops (names_after op names)
+
+-- the ends in a list
+abbrev pub ends_listed : EndsList → List Ends
+ends_listed (One ends) = ends ∷ []
+ends_listed (Many ends) = ends.items
+
+-- the key of three numbers, if all of them are known
+abbrev pub key_from : Option ℕ → Option ℕ → Option ℕ → Option Key
+key_from (Some kind) (Some source) (Some target) = Some (record { kind = kind; source = source; target = target })
+key_from _ _ _ = None
+
+-- an operation with these ends, by these kinds
+abbrev pub with_kind : List (List ℕ) → Ends → Parts → Resolved
+with_kind kinds ends (OfEdge change kind source target) =
+    AtKey ends.source (key_from (known kinds kind) ends.source ends.target) change
+with_kind kinds ends (OfAll time) = InAll time
+
+abbrev pub with_kinds : List Ends → List NamedOp → List (List ℕ) → List Resolved
+with_kinds (e ∷ ends) (op ∷ ops) kinds =
+    with_kind (kinds_after op kinds) e (parts_of op) ∷ with_kinds ends ops (kinds_after op kinds)
+with_kinds _ _ kinds = []
+
+-- the key and the operation that the program's values show
+abbrev pub key_of : EdgeKey → Key
+key_of k = record { kind = k.kind.0; source = k.source; target = k.target }
+
+abbrev pub shown : ResolvedOp → Resolved
+shown (Edge source key change) = AtKey source (option_map key_of key) change
+shown (Expire time) = InAll time
+
+-- an operation on an edge has a weight and a time in range
+abbrev pub IsInRange : ResolvedOp → Type 0
+IsInRange (Edge source key change) = IsChange change
+IsInRange (Expire time) = Unit {0}
+
+abbrev pub with_names : Book → List (List ℕ) → Book
+with_names book names = record book { names = names }
+
+-- the refusal of names that would be more than the limit; want of memory may come at any time
+abbrev pub IsRefusal : AddError → Book → List (List ℕ) → Type 0
+IsRefusal NamesFull book names = book.limit < length names
+IsRefusal OutOfMemory book names = Unit {0}
+
+-- when a batch is not planned: for the names first, and for the kinds only where the names fit
+abbrev pub IsUnplanned : PlanError → List NamedOp → Book → Book → Type 0
+IsUnplanned plan.NamesFull ops names kinds = names.limit < length (names_all ops names.names)
+IsUnplanned plan.KindsFull ops names kinds = (kinds.limit < length (kinds_all ops kinds.names))
+    × (length (names_all ops names.names) ≤ names.limit)
+IsUnplanned plan.OutOfMemory ops names kinds = Unit {0}

@@ -1,0 +1,35 @@
+-- The plan of a batch: what it leaves of the names, and its operations by worker.
+use Rattle.std.specs.Prelude.{◌≡◌, ℕ, List, map}
+use Rattle.std.specs.List.{range_with_len, AllZip}
+use Rattle.graph_types.specs.Graph.{Graph}
+use Rattle.graph_types.specs.GraphLimits.{MeetsNameLimit, MeetsKindLimit}
+use Rattle.graph_types.specs.Step.{after_all}
+use Rattle.graph_types.specs.declared.batches.NamedOp.{NamedOp}
+use Rattle.edge_block.specs.Slots.{BlockView}
+use Rattle.edge_block.specs.Batches.{resolved}
+use Rattle.batch_shards.specs.Done.{layout_by, sources_in}
+use Rattle.batch_shards.specs.Spending.{needed}
+use Rattle.graph_version.specs.Kept.{vertex_book, kind_book}
+use Rattle.batch_apply.specs.Shards.{IsShardOf}
+use Rattle.batch_apply.specs.declared.plans.Plan.{Plan}
+use Rattle.batch_apply.specs.declared.plans.PlanError.{PlanError}
+use Rattle.batch_apply.specs.declared.plans.PlanError.TheVariants.{NamesFull, KindsFull, OutOfMemory}
+
+-- the books have the names that the batch leaves of the graph, the shards over its rows are those of workers 0, 1, .. in order,
+-- and each may take as many fresh blocks as it has operations on edges, and blocks with an edge that an expiry may take
+pub record IsPlan (workers : ℕ) (ops : List NamedOp) (g : Graph) (rows : ℕ → List BlockView) (plan : Plan) : Type 0 where
+  pub names : plan.names ≡ vertex_book (after_all ops g).names
+  pub kinds : plan.kinds ≡ kind_book (after_all ops g).kinds
+  pub shards : AllZip (IsShardOf workers (resolved ops g.names g.kinds) (layout_by rows)) (range_with_len 0 workers)
+      plan.shards.items
+  pub needs : plan.needs.items ≡ map (λ shard. needed rows (sources_in shard) shard.steps.items) plan.shards.items
+
+-- a batch that leaves no more names and no more kinds than the limits
+abbrev pub MeetsNeitherLimit : List NamedOp → Graph → Type 0
+MeetsNeitherLimit ops g = (MeetsNameLimit ops g → ⊥) × (MeetsKindLimit ops g → ⊥)
+
+-- when a batch is not planned: for the names first, then for the kinds; want of memory may come at any time
+abbrev pub IsPlanRefusal : PlanError → List NamedOp → Graph → Type 0
+IsPlanRefusal NamesFull ops g = MeetsNameLimit ops g
+IsPlanRefusal KindsFull ops g = MeetsKindLimit ops g × (MeetsNameLimit ops g → ⊥)
+IsPlanRefusal OutOfMemory ops g = Unit {0}

@@ -1,0 +1,80 @@
+//! The rows of a version from which a batch's expiries may take edges.
+
+ghost use Rattle.std.specs.Prelude.{◌≡◌, IfOk};
+ghost use Rattle.edge_block.specs.Operations.{parts_of};
+ghost use Rattle.graph_version.specs.Rows.{row_of};
+ghost use Rattle.graph_version.specs.Sharing.{block_values};
+ghost use Rattle.batch_shards.specs.Spending.{old_blocks};
+ghost use Rattle.batch_apply.specs.OldRows.{AreOldRows, expiry_time, time_in};
+
+use edge_block::Block;
+use graph_types::{Batch, NamedOp, VertexId};
+use graph_version::Version;
+use std::alloc::{AllocError, Global};
+use std::sync::Arc;
+
+/// A row with an edge from before the greatest time of a batch's expiries.
+#[derive(Clone, Copy, Debug)]
+pub struct OldRow {
+    pub source: VertexId,
+    /// How many blocks of the row have such an edge.
+    pub blocks: usize,
+}
+
+/// The time of an expiry, 0 of another operation.
+fn time_of(op: &NamedOp) -> u64
+    ensures { result ≡ time_in (parts_of op.now) }
+{
+    match op {
+        NamedOp::Insert { .. } => 0,
+        NamedOp::Incr { .. } => 0,
+        NamedOp::Remove { .. } => 0,
+        NamedOp::Expire { time } => *time,
+    }
+}
+
+/// The greatest time of the expiries among operations, 0 where there is none.
+fn expiry_time(ops: &[NamedOp]) -> u64
+    ensures { result ≡ expiry_time ops.now }
+{
+    let mut time = 0_u64;
+    for op in ops {
+        time = time.max(time_of(op));
+    }
+    time
+}
+
+/// How many blocks of a row have an edge that was last touched before a time.
+fn old_blocks_in(row: &[Arc<Block>], time: u64) -> usize
+    ensures { result ≡ old_blocks time (block_values row.now) }
+{
+    let mut count = 0_usize;
+    for block in row {
+        if block.has_before(time) {
+            count += 1;
+        }
+    }
+    count
+}
+
+/// The rows of a version with an edge from before the greatest time of a batch's expiries, sources rising.
+///
+/// Each block's header is read once, however many expiries the batch has, and none where it has no expiry.
+pub fn old_rows(alloc: Global, version: &Version, batch: &Batch) -> Result<Vec<OldRow>, AllocError>
+    ensures { IfOk result (λ v. AreOldRows (expiry_time batch.now) (row_of version.now.rows) v.items) }
+{
+    let mut found = Vec::new(alloc);
+    let time = expiry_time(batch.ops());
+    if time == 0 {
+        return Ok(found);
+    }
+    version.facts();
+    for number in 0..version.names().len() {
+        let source = VertexId(number as u32);
+        let blocks = old_blocks_in(version.row_blocks(source), time);
+        if blocks > 0 {
+            found.push(OldRow { source, blocks })?;
+        }
+    }
+    Ok(found)
+}

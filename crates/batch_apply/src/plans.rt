@@ -1,0 +1,57 @@
+//! What a plan is, and why there may be none.
+
+ghost use Rattle.std.specs.Prelude.{◌≡◌, ◌-◌, ◌^◌, min};
+ghost use Rattle.std.specs.List.{sum_by};
+
+use batch_shards::Shard;
+use std::alloc::AllocError;
+use thiserror::Error;
+use vertex_names::NameBook;
+
+/// What the workers of a batch need of it.
+#[derive(Drop)]
+pub struct Plan {
+    /// The vertex names that the batch leaves.
+    pub names: NameBook,
+    /// The kind names that the batch leaves.
+    pub kinds: NameBook,
+    /// The batch's operations by worker: a shard for each worker, in order, without fresh blocks.
+    pub shards: Vec<Shard>,
+    /// How many fresh blocks each shard may take: one for each operation on an edge, and one for each block of its rows
+    /// with an edge from before the greatest time of the expiries.
+    pub needs: Vec<usize>,
+}
+
+impl Plan {
+    /// How many fresh blocks all shards may take together, or the greatest number where they are more.
+    pub fn blocks_needed(&self) -> usize
+        ensures { result ≡ min (sum_by (λ n. n) self.now.needs.items) (2 ^ 64 - 1) }
+    {
+        let mut all = 0_usize;
+        for need in &self.needs {
+            all = all.saturating_add(*need);
+        }
+        all
+    }
+}
+
+/// Why a batch was not planned.
+#[derive(Clone, Copy, Debug, PartialEq, Eq, Error)]
+pub enum PlanError {
+    #[error("the batch would leave more vertex names than the limit")]
+    NamesFull,
+    #[error("the batch would leave more kinds than the limit")]
+    KindsFull,
+    #[error("out of memory")]
+    OutOfMemory,
+}
+
+impl From<AllocError> for PlanError {
+    ghost use Rattle.batch_apply.specs.declared.plans.PlanError.TheVariants.{OutOfMemory};
+
+    ghost from_gives = { λ _ e. e ≡ OutOfMemory };
+
+    fn from(_refused: AllocError) -> PlanError {
+        PlanError::OutOfMemory
+    }
+}

@@ -1,4 +1,0 @@
-pub mod Batches
-pub mod Pages
-pub mod Groups
-pub mod Lending

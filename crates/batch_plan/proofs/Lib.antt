@@ -1,9 +1,0 @@
-pub mod Names
-pub mod Growth
-pub mod Listing
-pub mod OldRows
-pub mod Needs
-pub mod Resolving
-pub mod Leaving
-pub mod Sources
-pub mod Places

@@ -1,6 +1,0 @@
-use Rattle.row_pages.specs.Rows.{row_of}
-use Rattle.batch_plan.proofs.OldRows.{AreFound}
-use Rattle.batch_plan.proofs.old.old_rows.Given as goal
-
-abbrev pub invariant-loop-number : goal.invariant-loop-number
-invariant-loop-number l = AreFound l.time (row_of l.version.rows) l.number l.found.items

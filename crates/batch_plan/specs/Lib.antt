@@ -1,4 +1,0 @@
-pub mod Plan
-pub mod Shards
-pub mod Planned
-pub mod OldRows

@@ -1,6 +1,0 @@
-pub mod RowLaws
-pub mod ExpiryLaws
-pub mod ListedRows
-pub mod OperationLaws
-pub mod GraphLaws
-pub mod ShardLaws

@@ -1,0 +1,20 @@
+-- How stacks are linked.
+use Rattle.std.specs.Prelude.{◌<◌, ℕ, zero, suc, List, [], ◌∷◌, length, slice_index_or}
+use Rattle.block_pool.specs.declared.stacks.Stack.{Stack}
+
+-- so many numbers from a top down
+abbrev pub chain : List ℕ → ℕ → ℕ → List ℕ
+chain below top zero = []
+chain below top (suc height) = top ∷ chain below (slice_index_or below top 0) height
+
+abbrev pub chain_of : List ℕ → Stack → List ℕ
+chain_of below stack = chain below stack.top stack.height
+
+-- each of these numbers has a link
+abbrev pub AreBelow : ℕ → List ℕ → Type 0
+AreBelow bound [] = Unit {0}
+AreBelow bound (n ∷ ns) = (n < bound) × AreBelow bound ns
+
+pub record AreWithin (below : List ℕ) (stacks : List Stack) : Type 0 where
+  pub few : length below < 4294967296
+  pub each : (k : ℕ) (d : Stack) → k < length stacks → AreBelow (length below) (chain_of below (slice_index_or stacks k d))

@@ -1,0 +1,135 @@
+-- What an expiry changes in slots, in blocks and in a source's row.
+use Rattle.std.proofs.Common.{◌≡◌, ℕ, ◌==◌, List, [], ◌∷◌, Bool, true, false, cond, ◌||◌, refl, sym, ap, ◌∙◌, map, All}
+use Rattle.std.proofs.{Common.Option, Common.Some, Common.None, Common.is_some, Common.subst, lemmas.Bool.true≢false}
+use Rattle.std.specs.Option.{option_or}
+use Rattle.std.proofs.lemmas.List.Elements.{All-head, All-tail, All-cons, All-nil}
+use Rattle.graph_types.specs.{Graph.Stamp, Step.is_before, Step.stays_from}
+use Rattle.edge_block.specs.Slots.{Slot, slot_at, stamp_at, AreDistinct, NoKeyTwice, first_some, slot_since, slots_since}
+use Rattle.edge_block.specs.Slots.{has_before}
+use Rattle.edge_block.specs.Rows.{OpenBlock, open_at, edge_at, touch, has_old, expire_block, expire_row}
+use Rattle.edge_block.proofs.Changes.{or_none}
+use Rattle.edge_block.proofs.RowLaws.{IsOpenRow, Within}
+
+-- what stays is there before
+pub was_there : (time : ℕ) (o : Option Stamp) → is_some (stays_from time o) ≡ true → is_some o ≡ true
+was_there time None is = is
+was_there time (Some s) is = refl
+
+stays_or : (time : ℕ) (a b : Option Stamp) → (is_some a ≡ true → b ≡ None)
+    → option_or (stays_from time a) (stays_from time b) ≡ stays_from time (option_or a b)
+stays_or time None b alone = refl
+stays_or time (Some s) b alone =
+    ap (λ o. option_or (stays_from time (Some s)) (stays_from time o)) (alone refl) ∙ or_none (stays_from time (Some s))
+
+-- elements of which each has what stays of what it had
+module _ {A K : Type 0} (at : A → K → Option Stamp) (f : A → A) (time : ℕ) where
+  abbrev Stays : A → Type 0
+  Stays x = (q : K) → at (f x) q ≡ stays_from time (at x q)
+
+  first_stays : (xs : List A) → All Stays xs → NoKeyTwice at xs → (q : K)
+      → first_some (λ y. at y q) (map f xs) ≡ stays_from time (first_some (λ y. at y q) xs)
+  first_stays [] each once q = refl
+  first_stays (x ∷ xs) each once q =
+      ap (λ o. option_or o (first_some (λ y. at y q) (map f xs))) (All-head Stays x xs each q)
+      ∙ ap (option_or (stays_from time (at x q))) (first_stays xs (All-tail Stays x xs each) once.1 q)
+      ∙ stays_or time (at x q) (first_some (λ y. at y q) xs) (once.0 q)
+
+  once_stays : (xs : List A) → All Stays xs → NoKeyTwice at xs → NoKeyTwice at (map f xs)
+  once_stays [] each once = tt
+  once_stays (x ∷ xs) each once = (
+    λ q is.
+        first_stays xs (All-tail Stays x xs each) once.1 q
+        ∙ ap (stays_from time) (once.0 q (was_there time (at x q) (ap is_some (sym (All-head Stays x xs each q)) ∙ is))),
+    once_stays xs (All-tail Stays x xs each) once.1,
+  )
+
+-- Slots
+
+slot_stays : (time : ℕ) (s : Option Slot) (q : ℕ) → slot_at (slot_since time s) q ≡ stays_from time (slot_at s q)
+slot_stays time None q = refl
+slot_stays time (Some e) q =
+    elim (is_before time e.stamp) as (λ b. is_before time e.stamp ≡ b
+    → slot_at (cond b None (Some e)) q ≡ stays_from time (cond (q == e.target) (Some e.stamp) None)) [
+      | true ↦ λ t. elim (q == e.target) as (λ c. None ≡ stays_from time (cond c (Some e.stamp) None)) [
+        | true ↦ sym (ap (λ b. cond b None (Some e.stamp)) t)
+        | false ↦ refl
+      ]
+      | false ↦ λ t. elim (q == e.target) as (λ c. cond c (Some e.stamp) None ≡ stays_from time (cond c (Some e.stamp) None)) [
+        | true ↦ sym (ap (λ b. cond b None (Some e.stamp)) t)
+        | false ↦ refl
+      ]
+    ] refl
+
+every_slot : (time : ℕ) (slots : List (Option Slot)) → All (Stays slot_at (slot_since time) time) slots
+every_slot time [] = All-nil (Stays slot_at (slot_since time) time)
+every_slot time (s ∷ slots) = All-cons (Stays slot_at (slot_since time) time) s slots (slot_stays time s) (every_slot time slots)
+
+pub slots_stay : (time : ℕ) (slots : List (Option Slot)) → AreDistinct slots → (q : ℕ)
+    → stamp_at (slots_since time slots) q ≡ stays_from time (stamp_at slots q)
+slots_stay time slots u q = first_stays slot_at (slot_since time) time slots (every_slot time slots) u q
+
+pub slots_distinct : (time : ℕ) (slots : List (Option Slot)) → AreDistinct slots → AreDistinct (slots_since time slots)
+slots_distinct time slots u = once_stays slot_at (slot_since time) time slots (every_slot time slots) u
+
+-- slots without an old edge stay as they are
+pub slots_kept : (time : ℕ) (slots : List (Option Slot)) → has_before time slots ≡ false → slots_since time slots ≡ slots
+slots_kept time [] none = refl
+slots_kept time (None ∷ slots) none = ap (λ xs. None ∷ xs) (slots_kept time slots none)
+slots_kept time (Some e ∷ slots) none =
+    elim (is_before time e.stamp) as (λ b. is_before time e.stamp ≡ b
+    → (b || has_before time slots) ≡ false
+    → cond b None (Some e) ∷ slots_since time slots ≡ Some e ∷ slots) [
+      | true ↦ λ t h. absurd (true≢false h)
+      | false ↦ λ t h. ap (λ xs. Some e ∷ xs) (slots_kept time slots h)
+    ] refl none
+
+-- Blocks
+
+within_kind : (time : ℕ) (b : Bool) (o : Option Stamp)
+    → cond b (stays_from time o) None ≡ stays_from time (cond b o None)
+within_kind time true o = refl
+within_kind time false o = refl
+
+expired_slots : (time : ℕ) (b : OpenBlock) → (expire_block time b).shape.slots ≡ slots_since time b.shape.slots
+expired_slots time b =
+    elim (has_old time b) as (λ t. has_old time b ≡ t
+    → (cond t (touch (slots_since time) b) b).shape.slots ≡ slots_since time b.shape.slots) [
+      | true ↦ λ t. refl
+      | false ↦ λ t. sym (slots_kept time b.shape.slots t)
+    ] refl
+
+expired_kind : (time : ℕ) (b : OpenBlock) → (expire_block time b).shape.kind ≡ b.shape.kind
+expired_kind time b = elim (has_old time b) as (λ t. (cond t (touch (slots_since time) b) b).shape.kind ≡ b.shape.kind) [
+  | true ↦ refl
+  | false ↦ refl
+]
+
+block_stays : (time : ℕ) (b : OpenBlock) → AreDistinct b.shape.slots → Stays open_at (expire_block time) time b
+block_stays time b u q =
+    (λ i. cond (q.0 == expired_kind time b i) (stamp_at (expired_slots time b i) q.1) None)
+    ∙ ap (λ o. cond (q.0 == b.shape.kind) o None) (slots_stay time b.shape.slots u q.1)
+    ∙ within_kind time (q.0 == b.shape.kind) (stamp_at b.shape.slots q.1)
+
+every_block : (time : ℕ) (row : List OpenBlock) → All Within row → All (Stays open_at (expire_block time) time) row
+every_block time [] all = All-nil (Stays open_at (expire_block time) time)
+every_block time (b ∷ row) all =
+    All-cons (Stays open_at (expire_block time) time) b row (block_stays time b (All-head Within b row all))
+    (every_block time row (All-tail Within b row all))
+
+every_within : (time : ℕ) (row : List OpenBlock) → All Within row → All Within (expire_row time row)
+every_within time [] all = All-nil Within
+every_within time (b ∷ row) all =
+    All-cons Within (expire_block time b) (expire_row time row)
+    (subst AreDistinct (sym (expired_slots time b)) (slots_distinct time b.shape.slots (All-head Within b row all)))
+    (every_within time row (All-tail Within b row all))
+
+-- a row has afterwards what stays of what it had, and stays a row
+pub expire_stays : (time : ℕ) (row : List OpenBlock) → IsOpenRow row → (q : ℕ × ℕ)
+    → edge_at (expire_row time row) q ≡ stays_from time (edge_at row q)
+expire_stays time row u q = first_stays open_at (expire_block time) time row (every_block time row u.within) u.between q
+
+pub expire_open : (time : ℕ) (row : List OpenBlock) → IsOpenRow row → IsOpenRow (expire_row time row)
+expire_open time row u = record {
+  within = every_within time row u.within;
+  between = once_stays open_at (expire_block time) time row (every_block time row u.within) u.between;
+}

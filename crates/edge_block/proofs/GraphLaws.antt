@@ -1,0 +1,110 @@
+-- What rows are at a batch's end, and the laws of a batch and of an expiry.
+use Rattle.std.proofs.Common.{◌≡◌, ℕ, ◌<◌, ◌==◌, List, [], ◌∷◌, length, map, filter, Bool, true, false, cond, not, ◌&&◌}
+use Rattle.std.proofs.Common.{◌≤◌, refl, sym, ap, ◌∙◌, Option, Some, None, is_some, All}
+use Rattle.std.specs.{List.list_all, List.range_with_len, Option.option_or, FinMap.FinMap, FinMap.get}
+use Rattle.std.proofs.lemmas.Bool.{true≢false, false≢true, and_parts}
+use Rattle.std.proofs.lemmas.List.Elements.{All-head, All-tail, All-cons, All-nil}
+use Rattle.graph_types.specs.Graph.{Graph, Key, Stamp, key_cmp}
+use Rattle.graph_types.specs.Step.{after_all, outcomes, expired, count_before}
+use Rattle.graph_types.specs.declared.batches.{NamedOp.NamedOp, Outcome.TheVariants.Expired}
+use Rattle.edge_block.specs.Slots.{Slot, NoKeyTwice, stamp_at, is_free, AreDistinct}
+use Rattle.edge_block.specs.Rows.{Shape, OpenBlock, block_at, row_at, open_at, edge_at, IsRow, has_none, is_kept}
+use Rattle.edge_block.specs.Rows.{row_end, shapes, untouched, expire_row}
+use Rattle.edge_block.specs.Batches.{InAll, resolved, rows_step, IsWithin}
+use Rattle.edge_block.specs.Batches.{rows_all, outcome_in, outcomes_all, IsLayoutOf, opened, layout_after}
+use Rattle.edge_block.proofs.RowLaws.{IsOpenRow}
+use Rattle.edge_block.proofs.OperationLaws.{Shows, AreOpenRows, expiry_shows, all_shows}
+
+-- slots that are all free
+all_free : (slots : List (Option Slot)) → list_all is_free slots ≡ true → (q : ℕ) → stamp_at slots q ≡ None
+all_free [] h q = refl
+all_free (None ∷ slots) h q = all_free slots h q
+all_free (Some e ∷ slots) h q = absurd (false≢true h)
+
+not_kept : (h : OpenBlock) → is_kept h ≡ false → (q : ℕ × ℕ) → open_at h q ≡ None
+not_kept h out q =
+    let free : list_all is_free h.shape.slots ≡ true =
+    (and_parts h.touched (has_none h.shape) (flip (h.touched && has_none h.shape) out)).1 in
+    ap (λ x. cond (q.0 == h.shape.kind) x None) (all_free h.shape.slots free q.1) ∙ blank (q.0 == h.shape.kind) where
+      flip : (b : Bool) → not b ≡ false → b ≡ true
+      flip true h = refl
+      flip false h = absurd (true≢false h)
+
+      blank : (b : Bool) → (let nothing : Option Stamp = None in cond b nothing None ≡ nothing)
+      blank true = refl
+      blank false = refl
+
+-- what stays at the batch's end has the row's edges
+pub end_at : (row : List OpenBlock) (q : ℕ × ℕ) → row_at (row_end row) q ≡ edge_at row q
+end_at [] q = refl
+end_at (h ∷ row) q =
+    elim (is_kept h) as (λ b. is_kept h ≡ b → row_at (shapes (cond b (h ∷ filter is_kept row) (filter is_kept row))) q
+    ≡ option_or (open_at h q) (edge_at row q)) [
+      | true ↦ λ t. ap (option_or (open_at h q)) (end_at row q)
+      | false ↦ λ t. end_at row q ∙ ap (λ x. option_or x (edge_at row q)) (sym (not_kept h t q))
+    ] refl
+
+opened_at : (row : List Shape) (q : ℕ × ℕ) → edge_at (map untouched row) q ≡ row_at row q
+opened_at [] q = refl
+opened_at (b ∷ row) q = ap (option_or (block_at b q)) (opened_at row q)
+
+opened_row : (row : List Shape) → IsRow row → IsOpenRow (map untouched row)
+opened_row row u = record { within = within row u.within; between = between row u.between } where
+  within : (row : List Shape) → All (λ b. AreDistinct b.slots) row → All (λ b. AreDistinct b.shape.slots) (map untouched row)
+  within [] a = All-nil (λ b. AreDistinct b.shape.slots)
+  within (b ∷ row) a =
+      All-cons (λ b. AreDistinct b.shape.slots) (untouched b) (map untouched row) (All-head (λ b. AreDistinct b.slots) b row a)
+      (within row (All-tail (λ b. AreDistinct b.slots) b row a))
+
+  between : (row : List Shape) → NoKeyTwice block_at row → NoKeyTwice open_at (map untouched row)
+  between [] u = tt
+  between (b ∷ row) u = (λ q i. opened_at row q ∙ u.0 q i, between row u.1)
+
+end_unique : (row : List OpenBlock) → NoKeyTwice open_at row → NoKeyTwice block_at (row_end row)
+end_unique [] u = tt
+end_unique (h ∷ row) u =
+    elim (is_kept h) as (λ b. NoKeyTwice block_at (shapes (cond b (h ∷ filter is_kept row) (filter is_kept row)))) [
+      | true ↦ (λ q i. end_at row q ∙ u.0 q i, end_unique row u.1)
+      | false ↦ end_unique row u.1
+    ]
+
+end_within : (row : List OpenBlock) → All (λ h. AreDistinct h.shape.slots) row → All (λ h. AreDistinct h.slots) (row_end row)
+end_within [] a = All-nil (λ h. AreDistinct h.slots)
+end_within (h ∷ row) a =
+    let rest = end_within row (All-tail (λ h. AreDistinct h.shape.slots) h row a) in
+    elim (is_kept h) as (λ b. All (λ h. AreDistinct h.slots) (shapes (cond b (h ∷ filter is_kept row) (filter is_kept row)))) [
+      | true ↦ All-cons (λ h. AreDistinct h.slots) h.shape (row_end row) (All-head (λ h. AreDistinct h.shape.slots) h row a) rest
+      | false ↦ rest
+    ]
+
+-- what open rows are at a batch's end is a layout of the edges that they have
+ended_layout : (rows : ℕ → List OpenBlock) (edges : FinMap key_cmp Stamp) → AreOpenRows rows → Shows rows edges
+    → IsLayoutOf (λ source. row_end (rows source)) edges
+ended_layout rows edges u s = record {
+  distinct = λ source. record { within = end_within _ (u source).within; between = end_unique _ (u source).between };
+  shows = λ k. end_at _ (k.kind, k.target) ∙ s k;
+}
+
+-- a batch leaves a layout of the graph that it leaves, and the rows' outcomes are the operation rule's
+pub batch_layout : (ops : List NamedOp) (g : Graph) (layout : ℕ → List Shape) (n : ℕ) → IsWithin g → IsLayoutOf layout g.edges
+    → length (after_all ops g).names ≤ n
+    → IsLayoutOf (layout_after ops g layout) (after_all ops g).edges
+    × (outcomes_all (range_with_len 0 n) (resolved ops g.names g.kinds) (opened layout) ≡ outcomes ops g)
+    × IsWithin (after_all ops g)
+batch_layout ops g layout n w l few =
+    let done = all_shows ops g (opened layout) n w (λ source. opened_row (layout source) (l.distinct source))
+    (λ k. opened_at (layout k.source) (k.kind, k.target) ∙ l.shows k) few in (
+      ended_layout (rows_all (resolved ops g.names g.kinds) (opened layout)) (after_all ops g).edges done.1 done.0,
+      done.2,
+      done.3,
+    )
+
+-- an expiry alone leaves a layout of the edges that stay, and tells how many went
+pub expiry_layout : (time : ℕ) (edges : FinMap key_cmp Stamp) (layout : ℕ → List Shape) (n : ℕ) → IsLayoutOf layout edges
+    → ((k : Key) → is_some (get edges k) ≡ true → k.source < n)
+    → IsLayoutOf (λ source. row_end (expire_row time (opened layout source))) (expired time edges)
+    × (outcome_in (range_with_len 0 n) (InAll time) (opened layout) ≡ Expired (count_before time edges))
+expiry_layout time edges layout n l below =
+    let done = expiry_shows time edges (opened layout) n (λ source. opened_row (layout source) (l.distinct source))
+    (λ k. opened_at (layout k.source) (k.kind, k.target) ∙ l.shows k) below in
+    (ended_layout (rows_step (InAll time) (opened layout)) (expired time edges) done.1 done.0, done.2)

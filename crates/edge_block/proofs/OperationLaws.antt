@@ -1,0 +1,309 @@
+-- The rows that operations leave have the edges that the operation rule leaves, and the outcomes are the rule's.
+use Rattle.std.proofs.Common.{◌≡◌, ℕ, ◌<◌, ◌==◌, List, [], ◌∷◌, length, Bool, true, false, cond, not, ◌&&◌, ◌||◌}
+use Rattle.std.proofs.Common.{◌+◌, ◌≤◌, arith, refl, sym, ap, ◌∙◌, subst, Option, Some, None, is_some, All, bytes_eq, suc}
+use Rattle.std.specs.{List.list_any, List.position_or_len, List.range_with_len, Option.option_or, Ordering.eq_by_cmp}
+use Rattle.std.specs.{Cmp.Equal-is, FinMap.FinMap, FinMap.get, FinMap.get-insert, FinMap.get-remove}
+use Rattle.std.proofs.lemmas.Bool.{true≢false, false≢true, eqb-true}
+use Rattle.std.proofs.lemmas.List.Elements.{All-head, All-tail, All-cons, All-nil}
+use Rattle.graph_types.specs.{Graph.Graph, Graph.Key, Graph.Stamp, Graph.key_cmp, Step.after_all, Answer.is_listed}
+use Rattle.graph_types.specs.Step.{set_at, stamp_after, outcome_at, changed, changed_key, change_outcome, after, outcome}
+use Rattle.graph_types.specs.Step.{outcomes, number_of, with_name, names_made, kinds_made, stays_from, expired, count_before}
+use Rattle.graph_types.specs.declared.{batches.NamedOp.NamedOp, changes.EdgeChange.EdgeChange}
+use Rattle.graph_types.specs.declared.batches.NamedOp.TheVariants.{Insert, Incr, Remove, Expire}
+use Rattle.graph_types.specs.declared.batches.Outcome.{Outcome, TheVariants.Absent, TheVariants.Expired}
+use Rattle.graph_types.specs.declared.changes.EdgeChange.TheVariants.{Insert as ToInsert, Incr as ToIncr, Remove as ToRemove}
+use Rattle.edge_block.specs.Operations.{Parts, OfEdge, OfAll, parts_of, names_by, kinds_by, names_after, kinds_after}
+use Rattle.graph_types.proofs.{Keys.keys_total, Keys.exact_keys, NameLists.length-after_all-names, Expiry.get-expired}
+use Rattle.graph_types.proofs.NameLists.{appears-with_name, stays-with_name, number_of-lt, length-names_made, length-kinds_made}
+use Rattle.edge_block.specs.Slots.{NoKeyTwice, AreDistinct}
+use Rattle.edge_block.specs.Rows.{OpenBlock, block_at, row_at, open_at, edge_at, IsRow, change_row, shapes}
+use Rattle.edge_block.specs.Batches.{Resolved, InAll, resolve_parts, resolved, key_is_of, key_step, rows_step, IsWithin}
+use Rattle.edge_block.specs.Batches.{rows_all, key_outcome, outcome_in, outcomes_all, IsLayoutOf}
+use Rattle.edge_block.proofs.{RowLaws.IsOpenRow, RowLaws.change_sets, ListedRows.tests, ListedRows.tied, ListedRows.count_shown}
+use Rattle.edge_block.proofs.ExpiryLaws.{expire_stays, expire_open, was_there}
+use Rattle.edge_block.proofs.Changes.{none_is}
+
+pub set_at_get : (m : FinMap key_cmp Stamp) (k : Key) (o : Option Stamp) (q : Key)
+    → get (set_at m k o) q ≡ cond (eq_by_cmp key_cmp q k) o (get m q)
+set_at_get m k None q = get-remove keys_total m k q
+set_at_get m k (Some v) q = get-insert keys_total m k v q
+
+-- the rows have the map's edges, and no others
+abbrev pub Shows : (ℕ → List OpenBlock) → FinMap key_cmp Stamp → Type 0
+Shows rows edges = (k : Key) → edge_at (rows k.source) (k.kind, k.target) ≡ get edges k
+
+-- no row has two edges of one key
+abbrev pub AreOpenRows : (ℕ → List OpenBlock) → Type 0
+AreOpenRows rows = (source : ℕ) → IsOpenRow (rows source)
+
+-- what an operation leaves, and its outcome, by its parts
+abbrev after_parts : Parts → Graph → Graph
+after_parts (OfEdge change kind source target) g = changed change kind source target g
+after_parts (OfAll time) g = record g { edges = expired time g.edges }
+
+abbrev outcome_parts : Parts → Graph → Outcome
+outcome_parts (OfEdge change kind source target) g = change_outcome change kind source target g
+outcome_parts (OfAll time) g = Expired (count_before time g.edges)
+
+after_is : (op : NamedOp) (g : Graph) → after op g ≡ after_parts (parts_of op) g
+after_is (Insert kind source target weight time) g = refl
+after_is (Incr kind source target amount time) g = refl
+after_is (Remove kind source target) g = refl
+after_is (Expire time) g = refl
+
+outcome_is : (op : NamedOp) (g : Graph) → outcome op g ≡ outcome_parts (parts_of op) g
+outcome_is (Insert kind source target weight time) g = refl
+outcome_is (Incr kind source target amount time) g = refl
+outcome_is (Remove kind source target) g = refl
+outcome_is (Expire time) g = refl
+
+never : {A : Type 0} (a : Bool) (x y : A) → y ≡ cond (a && false) x y
+never true x y = refl
+never false x y = refl
+
+-- a change at a key, on rows that have the map's edges
+shows_key : (change : EdgeChange) (k : Key) (rows : ℕ → List OpenBlock) (edges : FinMap key_cmp Stamp) → AreOpenRows rows
+    → Shows rows edges
+    → (q : Key) → edge_at (cond (q.source == k.source) (change_row change (k.kind, k.target) (rows q.source)) (rows q.source))
+    (q.kind, q.target) ≡ get (set_at edges k (stamp_after change (get edges k))) q
+shows_key change k rows edges u s q =
+    elim (q.source == k.source) as (λ b. q.source == k.source ≡ b
+    → edge_at (cond b (change_row change (k.kind, k.target) (rows q.source)) (rows q.source)) (q.kind, q.target)
+    ≡ cond (tests q k b) (stamp_after change (get edges k)) (get edges q)) [
+      | true ↦ λ t.
+          let there : edge_at (rows q.source) (k.kind, k.target) ≡ get edges k =
+          ap (λ n. edge_at (rows n) (k.kind, k.target)) (eqb-true q.source k.source t) ∙ s k in
+          (change_sets (k.kind, k.target) (rows q.source) (u q.source) change).0 (q.kind, q.target)
+          ∙ (λ i. cond (tests q k true) (stamp_after change (there i)) (s q i))
+      | false ↦ λ t. s q ∙ never (q.kind == k.kind) (stamp_after change (get edges k)) (get edges q)
+    ] refl
+    ∙ sym (set_at_get edges k (stamp_after change (get edges k)) q
+    ∙ ap (λ b. cond b (stamp_after change (get edges k)) (get edges q)) (tied q k))
+
+rows_key : (change : EdgeChange) (k : Key) (rows : ℕ → List OpenBlock) → AreOpenRows rows → (source : ℕ)
+    → IsOpenRow (cond (source == k.source) (change_row change (k.kind, k.target) (rows source)) (rows source))
+rows_key change k rows u source =
+    elim (source == k.source) as (λ b. IsOpenRow (cond b (change_row change (k.kind, k.target) (rows source)) (rows source))) [
+      | true ↦ (change_sets (k.kind, k.target) (rows source) (u source) change).1
+      | false ↦ u source
+    ]
+
+abbrev prefix_at : {X : Type 0} → Bool → (X → Bool) → List X → ℕ
+prefix_at b p xs = cond (not b) (1 + position_or_len p xs) 0
+
+-- an unknown name has the number after the last
+unknown : {A : Type 0} (p : A → Bool) (xs : List A) → list_any p xs ≡ false → position_or_len p xs ≡ length xs
+unknown p [] h = refl
+unknown p (x ∷ xs) h =
+    elim (p x) as (λ b. (b || list_any p xs) ≡ false → prefix_at b p xs ≡ suc (length xs)) [
+      | true ↦ λ n. absurd (true≢false n)
+      | false ↦ λ n. let rest = unknown p xs n in omega arith
+    ] h
+
+all_known : (a b c : Bool) → a ≡ true → b ≡ true → c ≡ true → (a && (b && c)) ≡ false → ⊥
+all_known a b c p q r h = true≢false ((λ i. sym p i && (sym q i && sym r i)) ∙ h)
+
+abbrev knows : EdgeChange → List ℕ → List ℕ → List ℕ → Graph → Bool
+knows change kind source target g =
+    is_listed (kinds_made change kind g.kinds) kind
+    && (is_listed (names_made change source target g.names) source && is_listed (names_made change source target g.names) target)
+
+-- an operation with an unknown name is a removal, and nothing is at its key
+unknown_none : (change : EdgeChange) (kind source target : List ℕ) (g : Graph) → IsWithin g
+    → knows change kind source target g ≡ false
+    → (get g.edges (changed_key change kind source target g) ≡ None) × (stamp_after change None ≡ None)
+    × (outcome_at change None ≡ Absent)
+unknown_none (ToInsert weight time) kind source target g w h =
+    absurd (all_known _ _ _ (appears-with_name g.kinds kind)
+    (stays-with_name (with_name g.names source) target source (appears-with_name g.names source))
+    (appears-with_name (with_name g.names source) target) h)
+unknown_none (ToIncr amount time) kind source target g w h =
+    absurd (all_known _ _ _ (appears-with_name g.kinds kind)
+    (stays-with_name (with_name g.names source) target source (appears-with_name g.names source))
+    (appears-with_name (with_name g.names source) target) h)
+unknown_none ToRemove kind source target g w h =
+    let key : Key = changed_key ToRemove kind source target g in (
+      none_is (get g.edges key) (
+          elim (is_some (get g.edges key)) as (λ b. is_some (get g.edges key) ≡ b → b ≡ false) [
+            | true ↦ λ t.
+                let in' = w key t in
+                let known : (names : List (List ℕ)) (name : List ℕ) → number_of names name < length names
+                → is_listed names name ≡ true = λ names name lt.
+                elim (is_listed names name) as (λ b. is_listed names name ≡ b → b ≡ true) [
+                  | true ↦ λ _. refl
+                  | false ↦ λ e. let past = unknown (bytes_eq name) names e in absurd (omega arith)
+                ] refl in
+                absurd (all_known _ _ _ (known g.kinds kind in'.0) (known g.names source in'.1) (known g.names target in'.2) h)
+            | false ↦ λ t. refl
+          ] refl),
+      refl,
+      refl,
+    )
+
+set_none : (m : FinMap key_cmp Stamp) (k : Key) → get m k ≡ None → (q : Key) → get m q ≡ get (set_at m k None) q
+set_none m k none q =
+    elim (eq_by_cmp key_cmp q k) as (λ b. eq_by_cmp key_cmp q k ≡ b → get m q ≡ cond b None (get m q)) [
+      | true ↦ λ t. ap (get m) (exact_keys q k ((Equal-is (key_cmp q k)).0 t)) ∙ none
+      | false ↦ λ t. refl
+    ] refl
+    ∙ sym (set_at_get m k None q)
+
+module _ (change : EdgeChange) (kind source target : List ℕ) (g : Graph) where
+  abbrev key : Key
+  key = changed_key change kind source target g
+
+  abbrev key_when : Bool → Option Key
+  key_when b = cond b (Some key) None
+
+  -- one operation on one edge
+  edge_shows : (rows : ℕ → List OpenBlock) → IsWithin g → AreOpenRows rows → Shows rows g.edges
+      → let r = resolve_parts (names_made change source target g.names) (kinds_made change kind g.kinds)
+      (OfEdge change kind source target) in
+      Shows (rows_step r rows) (changed change kind source target g).edges × AreOpenRows (rows_step r rows)
+      × (key_outcome change (key_when (knows change kind source target g)) rows ≡ change_outcome change kind source target g)
+  edge_shows rows w u s =
+      elim (knows change kind source target g) as (λ b. knows change kind source target g ≡ b →
+      ((q : Key)
+      → edge_at (cond (key_is_of q.source (key_when b)) (key_step change (key_when b) (rows q.source)) (rows q.source))
+      (q.kind, q.target) ≡ get (changed change kind source target g).edges q)
+      × ((at : ℕ) → IsOpenRow (cond (key_is_of at (key_when b)) (key_step change (key_when b) (rows at)) (rows at)))
+      × (key_outcome change (key_when b) rows ≡ change_outcome change kind source target g)) [
+        | true ↦ λ t. (
+          λ q. shows_key change key rows g.edges u s q,
+          rows_key change key rows u,
+          ap (outcome_at change) (s key),
+        )
+        | false ↦ λ t.
+            let none = unknown_none change kind source target g w t in (
+              λ q. s q ∙ set_none g.edges key none.0 q
+                  ∙ ap (λ o. get (set_at g.edges key o) q) (sym (ap (stamp_after change) none.0 ∙ none.1)),
+              u,
+              sym (ap (outcome_at change) none.0 ∙ none.2),
+            )
+      ] refl
+
+lies : (change : EdgeChange) (kind source target : List ℕ) (g : Graph) (before : Option Stamp)
+    → is_some (stamp_after change before) ≡ true
+    → let k = changed_key change kind source target g in (k.kind < length (kinds_made change kind g.kinds))
+    × (k.source < length (names_made change source target g.names)) × (k.target < length (names_made change source target g.names))
+lies (ToInsert weight time) kind source target g before is = (
+  number_of-lt _ kind (appears-with_name g.kinds kind),
+  number_of-lt _ source (stays-with_name (with_name g.names source) target source (appears-with_name g.names source)),
+  number_of-lt _ target (appears-with_name (with_name g.names source) target),
+)
+lies (ToIncr amount time) kind source target g before is = (
+  number_of-lt _ kind (appears-with_name g.kinds kind),
+  number_of-lt _ source (stays-with_name (with_name g.names source) target source (appears-with_name g.names source)),
+  number_of-lt _ target (appears-with_name (with_name g.names source) target),
+)
+lies ToRemove kind source target g before is = absurd (false≢true is)
+
+pub step_within : (op : Parts) (g : Graph) → IsWithin g → IsWithin (after_parts op g)
+step_within (OfAll time) g w q is = w q (was_there time (get g.edges q) (ap is_some (sym (get-expired time g.edges q)) ∙ is))
+step_within (OfEdge change kind source target) g w q is =
+    let k : Key = changed_key change kind source target g in
+    let n = length (names_made change source target g.names) in
+    let m = length (kinds_made change kind g.kinds) in
+    elim (eq_by_cmp key_cmp q k) as (λ b. eq_by_cmp key_cmp q k ≡ b
+    → is_some (cond b (stamp_after change (get g.edges k)) (get g.edges q)) ≡ true
+    → (q.kind < m) × (q.source < n) × (q.target < n)) [
+      | true ↦ λ t i.
+          subst (λ (k : Key). (k.kind < m) × (k.source < n) × (k.target < n))
+          (sym (exact_keys q k ((Equal-is (key_cmp q k)).0 t))) (lies change kind source target g (get g.edges k) i)
+      | false ↦ λ t i.
+          let old = w q i in
+          let more_names = length-names_made change source target g.names in
+          let more_kinds = length-kinds_made change kind g.kinds in
+          let a = old.0 in let b = old.1 in let c = old.2 in
+          (omega arith, omega arith, omega arith)
+    ] refl (ap is_some (sym (set_at_get g.edges k (stamp_after change (get g.edges k)) q)) ∙ is)
+
+-- the shapes of open rows that have a map's edges are a layout of it
+shapes_at : (row : List OpenBlock) (q : ℕ × ℕ) → row_at (shapes row) q ≡ edge_at row q
+shapes_at [] q = refl
+shapes_at (b ∷ row) q = ap (option_or (open_at b q)) (shapes_at row q)
+
+shapes_row : (row : List OpenBlock) → IsOpenRow row → IsRow (shapes row)
+shapes_row row u = record { within = within row u.within; between = between row u.between } where
+  within : (row : List OpenBlock) → All (λ b. AreDistinct b.shape.slots) row → All (λ b. AreDistinct b.slots) (shapes row)
+  within [] a = All-nil (λ b. AreDistinct b.slots)
+  within (b ∷ row) a =
+      All-cons (λ b. AreDistinct b.slots) b.shape (shapes row) (All-head (λ b. AreDistinct b.shape.slots) b row a)
+      (within row (All-tail (λ b. AreDistinct b.shape.slots) b row a))
+
+  between : (row : List OpenBlock) → NoKeyTwice open_at row → NoKeyTwice block_at (shapes row)
+  between [] u = tt
+  between (b ∷ row) u = (λ q is. shapes_at row q ∙ u.0 q is, between row u.1)
+
+shapes_layout : (rows : ℕ → List OpenBlock) (edges : FinMap key_cmp Stamp) → AreOpenRows rows → Shows rows edges
+    → IsLayoutOf (λ source. shapes (rows source)) edges
+shapes_layout rows edges u s = record {
+  distinct = λ source. shapes_row (rows source) (u source);
+  shows = λ k. shapes_at (rows k.source) (k.kind, k.target) ∙ s k;
+}
+
+-- an expiry, counted over so many sources that each edge is of one of them
+pub expiry_shows : (time : ℕ) (edges : FinMap key_cmp Stamp) (rows : ℕ → List OpenBlock) (n : ℕ) → AreOpenRows rows
+    → Shows rows edges → ((k : Key) → is_some (get edges k) ≡ true → k.source < n)
+    → Shows (rows_step (InAll time) rows) (expired time edges) × AreOpenRows (rows_step (InAll time) rows)
+    × (outcome_in (range_with_len 0 n) (InAll time) rows ≡ Expired (count_before time edges))
+expiry_shows time edges rows n u s below = (
+  λ q. expire_stays time (rows q.source) (u q.source) (q.kind, q.target) ∙ ap (stays_from time) (s q)
+      ∙ sym (get-expired time edges q),
+  λ source. expire_open time (rows source) (u source),
+  ap (λ count. Expired count) (count_shown time edges rows n (shapes_layout rows edges u s) below),
+)
+
+-- one operation
+pub step_shows : (op : Parts) (g : Graph) (rows : ℕ → List OpenBlock) (n : ℕ) → IsWithin g → AreOpenRows rows
+    → Shows rows g.edges → length g.names ≤ n
+    → let r = resolve_parts (names_by op g.names) (kinds_by op g.kinds) op in
+    Shows (rows_step r rows) (after_parts op g).edges × AreOpenRows (rows_step r rows)
+    × (outcome_in (range_with_len 0 n) r rows ≡ outcome_parts op g)
+step_shows (OfEdge change kind source target) g rows n w u s few = edge_shows change kind source target g rows w u s
+step_shows (OfAll time) g rows n w u s few =
+    expiry_shows time g.edges rows n u s (λ k is. let lt = (w k is).1 in omega arith)
+
+-- an operation by the names and kinds that it leaves of the graph's
+abbrev by_left : NamedOp → Graph → Resolved
+by_left op g = resolve_parts (names_after op g.names) (kinds_after op g.kinds) (parts_of op)
+
+names_left : (parts : Parts) (g : Graph) → (after_parts parts g).names ≡ names_by parts g.names
+names_left (OfEdge change kind source target) g = refl
+names_left (OfAll time) g = refl
+
+kinds_left : (parts : Parts) (g : Graph) → (after_parts parts g).kinds ≡ kinds_by parts g.kinds
+kinds_left (OfEdge change kind source target) g = refl
+kinds_left (OfAll time) g = refl
+
+-- a batch's operations, one after another
+pub all_shows : (ops : List NamedOp) (g : Graph) (rows : ℕ → List OpenBlock) (n : ℕ) → IsWithin g → AreOpenRows rows
+    → Shows rows g.edges → length (after_all ops g).names ≤ n
+    → let rs = resolved ops g.names g.kinds in
+    Shows (rows_all rs rows) (after_all ops g).edges × AreOpenRows (rows_all rs rows)
+    × (outcomes_all (range_with_len 0 n) rs rows ≡ outcomes ops g) × IsWithin (after_all ops g)
+all_shows [] g rows n w u s few = (s, u, refl, w)
+all_shows (op ∷ ops) g rows n w u s few =
+    let all : List ℕ = range_with_len 0 n in
+    let parts : Parts = parts_of op in
+    let r : Resolved = by_left op g in
+    let next : Graph = after_parts parts g in
+    let rs : List Resolved = resolved ops (names_after op g.names) (kinds_after op g.kinds) in
+    let there : ◌≡◌ {A = List Resolved} (resolved ops next.names next.kinds) rs =
+    λ i. resolved ops (names_left parts g i) (kinds_left parts g i) in
+    let few_here : length g.names ≤ n = omega (arith, few, length-after_all-names (op ∷ ops) g) in
+    let few_next : length (after_all ops next).names ≤ n =
+    subst (λ (h : Graph). length (after_all ops h).names ≤ n) (after_is op g) few in
+    let one = step_shows parts g rows n w u s few_here in
+    let rest = all_shows ops next (rows_step r rows) n (step_within parts g w) one.1 one.0 few_next in
+    subst (λ (h : Graph).
+    Shows (rows_all rs (rows_step r rows)) (after_all ops h).edges × AreOpenRows (rows_all rs (rows_step r rows))
+    × (outcome_in all r rows ∷ outcomes_all all rs (rows_step r rows) ≡ outcome op g ∷ outcomes ops h)
+    × IsWithin (after_all ops h))
+    (sym (after_is op g)) (
+      subst (λ xs. Shows (rows_all xs (rows_step r rows)) (after_all ops next).edges) there rest.0,
+      subst (λ xs. AreOpenRows (rows_all xs (rows_step r rows))) there rest.1,
+      (λ i. (one.2 ∙ sym (outcome_is op g)) i
+          ∷ (ap (λ xs. outcomes_all all xs (rows_step r rows)) (sym there) ∙ rest.2) i),
+      rest.3,
+    )

@@ -1,0 +1,34 @@
+-- An operation by its parts: what it does to its edge and the names of the edge, or the time of an expiry.
+use Rattle.std.specs.Prelude.{ℕ, List}
+use Rattle.graph_types.specs.Step.{names_made, kinds_made}
+use Rattle.graph_types.specs.declared.batches.NamedOp.{NamedOp}
+use Rattle.graph_types.specs.declared.batches.NamedOp.TheVariants.{Insert, Incr, Remove, Expire}
+use Rattle.graph_types.specs.declared.changes.EdgeChange.{EdgeChange}
+use Rattle.graph_types.specs.declared.changes.EdgeChange.TheVariants.{Insert as ToInsert, Incr as ToIncr, Remove as ToRemove}
+
+-- an operation on one edge, with what it does to the edge at its key, and the names of its kind, source and target; or the
+-- expiry of all edges that were last touched before a time
+pub data Parts : Type 0 where
+  OfEdge : (change : EdgeChange) (kind source target : List ℕ) → Parts
+  OfAll : (time : ℕ) → Parts
+
+abbrev pub parts_of : NamedOp → Parts
+parts_of (Insert kind source target weight time) = OfEdge (ToInsert weight time) kind source target
+parts_of (Incr kind source target amount time) = OfEdge (ToIncr amount time) kind source target
+parts_of (Remove kind source target) = OfEdge ToRemove kind source target
+parts_of (Expire time) = OfAll time
+
+-- the names and the kinds that the operation leaves
+abbrev pub names_by : Parts → List (List ℕ) → List (List ℕ)
+names_by (OfEdge change kind source target) names = names_made change source target names
+names_by (OfAll time) names = names
+
+abbrev pub kinds_by : Parts → List (List ℕ) → List (List ℕ)
+kinds_by (OfEdge change kind source target) kinds = kinds_made change kind kinds
+kinds_by (OfAll time) kinds = kinds
+
+abbrev pub names_after : NamedOp → List (List ℕ) → List (List ℕ)
+names_after op names = names_by (parts_of op) names
+
+abbrev pub kinds_after : NamedOp → List (List ℕ) → List (List ℕ)
+kinds_after op kinds = kinds_by (parts_of op) kinds

@@ -1,6 +1,0 @@
-use Rattle.std.proofs.Common.{rules}
-use Rattle.epoch_blocks.proofs.contents.edges_at.Goals as goal
-
--- Its search is long where it fails.
-pub returns-in-Some : goal.returns-in-Some
-returns-in-Some c = search rules

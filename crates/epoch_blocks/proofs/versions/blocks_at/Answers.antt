@@ -1,6 +1,0 @@
-use Rattle.std.proofs.Common.{rules}
-use Rattle.epoch_blocks.proofs.versions.blocks_at.Goals as goal
-
--- Its search is long where it fails.
-pub returns-in-None : goal.returns-in-None
-returns-in-None c = search rules

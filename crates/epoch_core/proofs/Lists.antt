@@ -1,0 +1,114 @@
+-- Lists, options and tests.
+use Rattle.std.proofs.Common.{◌≡◌, ◌≢◌, ℕ, zero, suc, ◌+◌, ◌<◌, ◌≤◌, Bool, true, false, not, ◌&&◌, ◌||◌, ◌⊎◌, inl, inr, List, []}
+use Rattle.std.proofs.Common.{◌∷◌, ◌++◌, length, set, take, map, refl, ap, subst, ◌∙◌, arith, eqb}
+use Rattle.std.specs.{Prelude.slice_get, List.list_all, List.enumerate_from, List.flat_map}
+use Rattle.std.specs.Option.{option_map, option_and_then}
+use Rattle.std.specs.declared.option.Option.{Option, TheVariants.None, TheVariants.Some}
+use Rattle.std.proofs.lemmas.Bool.{eq-eqb}
+use Rattle.epoch_core.specs.Blocks.{changed_at, put}
+use Rattle.block_reclamation.specs.Status.{is_listed}
+
+pub option_map_some : {A B : Type 0} (f : A → B) (o : Option A) (y : B) → option_map f o ≡ Some y → (x : A) × (o ≡ Some x)
+    × (y ≡ f x)
+option_map_some f None y is = cc
+option_map_some f (Some x) y is = (x, refl, cc)
+
+pub and_then_some : {A B : Type 0} (f : A → Option B) (o : Option A) (y : B) → option_and_then f o ≡ Some y → (x : A)
+    × (o ≡ Some x) × (f x ≡ Some y)
+and_then_some f None y is = cc
+and_then_some f (Some x) y is = (x, refl, is)
+
+put_some : {A : Type 0} (xs : List A) (i : ℕ) (o : Option A) (ys : List A) → put xs i o ≡ Some ys → (y : A) × (o ≡ Some y)
+    × (ys ≡ set xs i y)
+put_some xs i None ys is = cc
+put_some xs i (Some y) ys is = (y, refl, cc)
+
+-- what a change at i that is done says
+pub record ChangedAt {A : Type 0} (change : A → Option A) (xs : List A) (i : ℕ) (ys : List A) : Type 0 where
+  pub before : A
+  pub after : A
+  pub found : slice_get xs i ≡ Some before
+  pub changed : change before ≡ Some after
+  pub result : ys ≡ set xs i after
+
+pub changed_at-some : {A : Type 0} (change : A → Option A) (xs : List A) (i : ℕ) (ys : List A) → changed_at change xs i
+    ≡ Some ys → ChangedAt change xs i ys
+changed_at-some change xs i ys is =
+    let whole = put_some xs i _ ys is in
+    let found = and_then_some change (slice_get xs i) whole.0 whole.1 in
+    record { before = found.0; after = whole.0; found = found.1; changed = found.2; result = whole.2 }
+
+pub set_same : {A : Type 0} (xs : List A) (i : ℕ) (x y : A) → slice_get xs i ≡ Some x → slice_get (set xs i y) i ≡ Some y
+set_same [] i x y is = cc
+set_same (z ∷ zs) zero x y is = refl
+set_same (z ∷ zs) (suc i) x y is = set_same zs i x y is
+
+pub set_else : {A : Type 0} (xs : List A) (i k : ℕ) (y : A) → k ≢ i → slice_get (set xs i y) k ≡ slice_get xs k
+set_else [] i k y ne = refl
+set_else (z ∷ zs) zero zero y ne = absurd (ne refl)
+set_else (z ∷ zs) zero (suc k) y ne = refl
+set_else (z ∷ zs) (suc i) zero y ne = refl
+set_else (z ∷ zs) (suc i) (suc k) y ne = set_else zs i k y (λ e. ne (ap suc e))
+
+pub take_one_more : {A : Type 0} (xs : List A) (i : ℕ) (x : A) → slice_get xs i ≡ Some x → take (suc i) xs ≡ take i xs ++ x ∷ []
+take_one_more [] i x is = cc
+take_one_more (y ∷ ys) zero x is = cc
+take_one_more (y ∷ ys) (suc i) x is = ap (λ zs. y ∷ zs) (take_one_more ys i x is)
+
+-- each element with its session
+pub get_enumerated : {A B : Type 0} (f : ℕ → A → B) (n : ℕ) (xs : List A) (k : ℕ)
+    → slice_get (map (λ p. f p.0 p.1) (enumerate_from n xs)) k ≡ option_map (f (n + k)) (slice_get xs k)
+get_enumerated f n [] k = refl
+get_enumerated f n (x ∷ xs) zero = let e : n ≡ n + 0 = omega arith in ap (λ m. Some (f m x)) e
+get_enumerated f n (x ∷ xs) (suc k) = let e : n + 1 + k ≡ n + suc k =
+    omega arith in get_enumerated f (n + 1) xs k ∙ ap (λ m. option_map (f m) (slice_get xs k)) e
+
+pub length_enumerated : {A B : Type 0} (f : ℕ × A → B) (n : ℕ) (xs : List A) → length (map f (enumerate_from n xs)) ≡ length xs
+length_enumerated f n [] = refl
+length_enumerated f n (x ∷ xs) = ap suc (length_enumerated f (n + 1) xs)
+
+-- tests
+pub and_left : (a b : Bool) → (a && b) ≡ true → a ≡ true
+and_left true b is = refl
+and_left false b is = is
+
+pub and_right : (a b : Bool) → (a && b) ≡ true → b ≡ true
+and_right true b is = is
+and_right false b is = cc
+
+pub neither : (a b : Bool) → not (a || b) ≡ (not a && not b)
+neither true b = refl
+neither false b = refl
+
+pub or_false : (a b : Bool) → (a || b) ≡ false → (a ≡ false) × (b ≡ false)
+or_false true b is = cc
+or_false false b is = (refl, is)
+
+pub true_or_false : (b : Bool) → (b ≡ true) ⊎ (b ≡ false)
+true_or_false true = inl refl
+true_or_false false = inr refl
+
+pub all_listed : (p : ℕ → Bool) (bs : List ℕ) (b : ℕ) → list_all p bs ≡ true → is_listed b bs ≡ true → p b ≡ true
+all_listed p [] b all is = cc
+all_listed p (c ∷ cs) b all is =
+    elim (eqb c b) as (λ t. eqb c b ≡ t → (t || is_listed b cs) ≡ true → p b ≡ true) [
+      | true ↦ λ e _. let same : c ≡ b = grind (arith, e) in subst (λ x. p x ≡ true) same (and_left _ _ all)
+      | false ↦ λ _ rest. all_listed p cs b (and_right _ _ all) rest
+    ] refl is
+
+-- a function on numbers that agrees on what is listed makes the same list of pieces
+pub same_pieces : {A : Type 0} (f g : ℕ → List A) (bs : List ℕ) → ((b : ℕ) → is_listed b bs ≡ true → f b ≡ g b)
+    → flat_map f bs ≡ flat_map g bs
+same_pieces f g [] same = refl
+same_pieces f g (b ∷ bs) same =
+    let here : f b ≡ g b = same b (ap (λ t. t || is_listed b bs) (eq-eqb b b refl)) in
+    let rest : flat_map f bs ≡ flat_map g bs = same_pieces f g bs
+    (λ c is. same c (elim (eqb b c) as (λ t. (t || is_listed c bs) ≡ true) [ true ↦ refl | false ↦ is ])) in
+    cc
+
+pub listed_take : (n b : ℕ) (bs : List ℕ) → is_listed b (take n bs) ≡ true → is_listed b bs ≡ true
+listed_take zero b bs is = cc
+listed_take (suc n) b [] is = cc
+listed_take (suc n) b (c ∷ cs) is =
+    elim (eqb c b) as (λ t. (t || is_listed b (take n cs)) ≡ true → (t || is_listed b cs)
+    ≡ true) [ true ↦ λ _. refl | false ↦ λ rest. listed_take n b cs rest ] is

@@ -1,0 +1,106 @@
+//! What a Post asks and sets.
+
+ghost use Rattle.std.specs.Prelude.{◌≡◌, ◌≢◌, IfOk, MatchResult, length};
+ghost use Rattle.std.specs.Option.{option_map};
+ghost use Rattle.std.specs.declared.option.Option.TheVariants.{None};
+ghost use Rattle.graph_types.specs.Graph.{graph_of, IsContent};
+ghost use Rattle.epoch_core.specs.Versions.{graph_at};
+ghost use Rattle.epoch_core.specs.Posting as posting;
+
+use crate::blocks::{all_differ, all_listable, status_after};
+use crate::contents::{are_edges_of, edges_of};
+use crate::states::{Opening, Version};
+use crate::versions::{blocks_at, content_with};
+use block_reclamation::BlockStatus;
+use graph_model::{PlainError, plain_apply};
+use graph_types::{Batch, Content, Edge, List};
+use std::alloc::{AllocError, Global};
+
+/// How many batches there may be.
+const BATCH_LIMIT: usize = 65_536;
+
+/// The content of the last version, its edges read from its blocks.
+fn last_content(
+    alloc: Global,
+    opening: &Opening,
+    heap: &[List<Edge>],
+    versions: &[Version],
+) -> Result<Content, AllocError>
+    ensures { IfOk result (λ content. content ≡ posting.last_content opening.now heap.now versions.now) }
+{
+    let last = versions.len() as u64;
+    let edges = edges_of(alloc, heap, blocks_at(opening, versions, last))?;
+    content_with(alloc, opening, versions, last, edges)
+}
+
+/// What a refused batch leaves: nothing where it meets the limit on names or on kinds; want of memory stays that.
+fn left_of(refusal: PlainError) -> Result<Option<Content>, AllocError>
+    ensures { MatchResult result (λ after. (after ≡ None) × (refusal ≢ PlainError.OutOfMemory))
+        (λ _. refusal ≡ PlainError.OutOfMemory) }
+{
+    match refusal {
+        PlainError::NamesFull => Ok(None),
+        PlainError::KindsFull => Ok(None),
+        PlainError::OutOfMemory => Err(AllocError),
+    }
+}
+
+/// What the batch leaves of the content, or `None` where it would meet the limit on names or on kinds.
+fn after_batch(
+    alloc: Global,
+    mut content: Content,
+    batch: &Batch,
+) -> Result<Option<Content>, AllocError>
+    requires { IsContent content }
+    ensures { IfOk result (λ after. posting.IsAppliedTo content batch.now after) }
+{
+    match plain_apply(alloc, &mut content, batch) {
+        Ok(_) => Ok(Some(content)),
+        Err(refusal) => left_of(refusal),
+    }
+}
+
+/// What posting the batch on these blocks would set, each block's status and the new version; `None` where it
+/// is skipped: there are 65,536 batches, a block is neither granted nor of the last version or stands twice, the
+/// batch meets a limit, or the blocks' edges aren't each once what the batch leaves. The edges of the last version are
+/// read from its blocks, which must show what the batches left. Want of memory is the only error.
+pub fn plan_post(
+    alloc: Global,
+    opening: &Opening,
+    heap: &[List<Edge>],
+    status: &[BlockStatus],
+    versions: &[Version],
+    batch: &Batch,
+    blocks: &[usize],
+) -> Result<Option<(Vec<BlockStatus>, Version)>, AllocError>
+    requires content { IsContent (posting.last_content opening.now heap.now versions.now) }
+    requires graph { graph_of (posting.last_content opening.now heap.now versions.now)
+        ≡ graph_at opening.now versions.now (length versions.now) }
+    ensures { IfOk result (λ plan. posting.IsPlanOf opening.now heap.now status.now versions.now batch.now blocks.now
+        (option_map (λ p. (p.0.items, p.1)) plan)) }
+{
+    let last_blocks = blocks_at(opening, versions, versions.len() as u64);
+    if versions.len() >= BATCH_LIMIT
+        || !all_listable(status, last_blocks, blocks)
+        || !all_differ(blocks)
+    {
+        return Ok(None);
+    }
+    let last = last_content(alloc, opening, heap, versions)?;
+    let Some(content) = after_batch(alloc, last, batch)? else {
+        return Ok(None);
+    };
+    let edges = edges_of(alloc, heap, blocks)?;
+    if !are_edges_of(&content, edges.as_slice()) {
+        return Ok(None);
+    }
+    let version = Version {
+        batch: batch.clone()?,
+        blocks: List::of(Vec::from_slice(alloc, blocks)?),
+        names: content.names,
+        kinds: content.kinds,
+    };
+    let number = versions.len() as u64 + 1;
+    let status = status_after(alloc, number, blocks, status)?;
+    Ok(Some((status, version)))
+}

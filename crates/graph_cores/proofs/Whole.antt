@@ -1,0 +1,164 @@
+-- The edges of all rows: those of the view of the content, each once, and the degrees over them.
+use Rattle.std.proofs.Common.{◌≡◌, ◌≢◌, ℕ, zero, suc, ◌+◌, ◌<◌, ◌≤◌, Bool, true}
+use Rattle.std.proofs.Common.{false, cond, ◌&&◌, eqb, ◌-◌, List, [], ◌∷◌, ◌++◌, length, get_or, map, pos, ◌+ℤ◌, append_assoc}
+use Rattle.std.proofs.Common.{append-nil, refl, sym, ap, ◌∙◌, subst, arith, inl, inr, Option, None, Some, true≢false}
+use Rattle.std.specs.{Prelude.filter, Prelude.fold, Prelude.count_by, Prelude.All, Option.is_some, FinMap.get, FinMap.entries}
+use Rattle.std.{specs.List.Contains, specs.List.range_with_len, specs.List.list_all, proofs.lemmas.Bool.cases_lt}
+use Rattle.std.proofs.lemmas.{Grind.flat_map-append, List.get_or_past, List.Elements.filter-append, List.Elements.filter_passes}
+use Rattle.std.proofs.lemmas.List.{Elements.All-filter, FromFn.get_or-map-range_with_len, FromFn.length-map-range_with_len}
+use Rattle.std.proofs.lemmas.List.{FromFn.map-range_with_len_more, FromFn.fill_by_all, Kept.AllPairs-filter, Sums.length-filter}
+use Rattle.graph_types.specs.{Graph.Graph, Graph.key_of, Limits.kind_limit, View.leaves, View.enters, Degrees.listed_degree}
+use Rattle.graph_types.specs.{Answer.degree_at, Answer.degree_table, declared.ids.Degree.Degree, declared.ids.Edge.Edge}
+use Rattle.graph_types.{specs.declared.ids.Filter.Filter, proofs.Keys.get_listed}
+use Rattle.graph_types.proofs.{Counts.Contains-first, Arcs.contains_map, Folds.count_entries, Folds.weight_entries}
+use Rattle.edge_block.specs.Slots.{Slot, BlockView, is_free, edges_in, entry_in}
+use Rattle.graph_version.specs.Rows.{row_of, blocks_of}
+use Rattle.graph_version.specs.{Versions.VersionView, Versions.content, Versions.IsVersion, Versions.IsBlockOf, Edges.AreEachOnce}
+use Rattle.graph_version.{specs.Edges.edges_in_blocks, proofs.Shown.rows_each_once, proofs.Totals.same_blocks}
+use Rattle.graph_version.proofs.{Members.in_rows, Rows.stands}
+use Rattle.graph_cores.specs.Tallies.{passes, shown_edges, IsCounted, AreViewEdges}
+use Rattle.graph_cores.proofs.Parts.{first_edges}
+
+-- Degrees over the edges shown are those over the content
+
+filter_twice : (p q : Edge → Bool) (es : List Edge) → filter (λ e. p e && q e) (filter p es) ≡ filter (λ e. p e && q e) es
+filter_twice p q [] = refl
+filter_twice p q (e ∷ es) =
+    let both : Edge → Bool = λ x. p x && q x in
+    elim (p e) as (λ b. p e ≡ b → filter both (cond b (e ∷ filter p es) (filter p es))
+    ≡ cond (b && q e) (e ∷ filter both es) (filter both es)) [
+      | true ↦ λ t. ap (λ b. cond (b && q e) (e ∷ filter both (filter p es)) (filter both (filter p es))) t
+          ∙ ap (λ l. cond (q e) (e ∷ l) l) (filter_twice p q es)
+      | false ↦ λ t. filter_twice p q es
+    ] refl
+
+counted_twice : (p q : Edge → Bool) (es : List Edge) → count_by (λ e. p e && q e) (filter p es) ≡ count_by (λ e. p e && q e) es
+counted_twice p q es =
+    sym (length-filter (λ (e : Edge). p e && q e) (filter p es)) ∙ ap length (filter_twice p q es)
+    ∙ length-filter (λ (e : Edge). p e && q e) es
+
+shown_degree : (f : Filter) (es : List Edge) (v : ℕ) → listed_degree f (filter (passes f) es) v ≡ listed_degree f es v
+shown_degree f es v =
+    let outgoing = counted_twice (passes f) (λ e. eqb e.source.0 v) es in
+    let incoming = counted_twice (passes f) (λ e. eqb e.target.0 v) es in
+    let weights = ap (λ (xs : List Edge). fold ◌+ℤ◌ (pos 0) (map (λ (e : Edge). e.weight) xs))
+    (filter_twice (passes f) (λ e. eqb e.source.0 v) es) in
+    λ i. record { outgoing = outgoing i; incoming = incoming i; out_weight = weights i }
+
+content_degree : (f : Filter) (g : Graph) (es : List Edge) (v : ℕ) → AreEachOnce es g → listed_degree f es v ≡ degree_at f g v
+content_degree f g es v each =
+    let outgoing = sym (count_entries (leaves f v) es each.once) ∙ ap (λ m. count_by (leaves f v) (entries m)) each.same in
+    let incoming = sym (count_entries (enters f v) es each.once) ∙ ap (λ m. count_by (enters f v) (entries m)) each.same in
+    let weights = sym (weight_entries (leaves f v) es each.once)
+    ∙ ap (λ m. fold ◌+ℤ◌ (pos 0) (map (λ e. e.1.weight) (filter (leaves f v) (entries m)))) each.same in
+    λ i. record { outgoing = outgoing i; incoming = incoming i; out_weight = weights i }
+
+-- Rows by source
+
+-- the blocks of the first n sources
+abbrev pub blocks_below : List (List BlockView) → ℕ → List BlockView
+blocks_below rows n = blocks_of (map (row_of rows) (range_with_len 0 n))
+
+below_more : (rows : List (List BlockView)) (n : ℕ) → blocks_below rows (n + 1) ≡ blocks_below rows n ++ row_of rows n
+below_more rows n =
+    ap blocks_of (map-range_with_len_more (row_of rows) 0 n n (omega arith))
+    ∙ flat_map-append (λ row. row) (map (row_of rows) (range_with_len 0 n)) (row_of rows n ∷ [])
+    ∙ ap (λ bs. blocks_below rows n ++ bs) (append-nil (row_of rows n))
+
+pub shown_append : (f : Filter) (xs ys : List BlockView) → shown_edges f (xs ++ ys) ≡ shown_edges f xs ++ shown_edges f ys
+shown_append f xs ys = ap (filter (passes f)) (flat_map-append _ xs ys)
+    ∙ filter-append (passes f) (edges_in_blocks xs) (edges_in_blocks ys)
+
+-- the edges of one source more
+pub shown_more : (f : Filter) (rows : List (List BlockView)) (n : ℕ)
+    → shown_edges f (blocks_below rows (n + 1)) ≡ shown_edges f (blocks_below rows n) ++ shown_edges f (row_of rows n)
+shown_more f rows n = ap (shown_edges f) (below_more rows n) ∙ shown_append f (blocks_below rows n) (row_of rows n)
+
+-- those of the first sources are those of all to some source, but for the last of them
+first_below : (f : Filter) (rows : List (List BlockView)) (k j : ℕ)
+    → (rest : List Edge) × (shown_edges f (blocks_below rows (k + j)) ≡ shown_edges f (blocks_below rows k) ++ rest)
+first_below f rows k zero =
+    ([], ap (λ n. shown_edges f (blocks_below rows n)) (omega arith) ∙ sym (append-nil (shown_edges f (blocks_below rows k))))
+first_below f rows k (suc j) =
+    let r = first_below f rows k j in
+    let more : k + suc j ≡ (k + j) + 1 = omega arith in (
+      r.0 ++ shown_edges f (row_of rows (k + j)),
+      ap (λ n. shown_edges f (blocks_below rows n)) more ∙ shown_more f rows (k + j)
+          ∙ ap (λ es. es ++ shown_edges f (row_of rows (k + j))) r.1
+          ∙ append_assoc (shown_edges f (blocks_below rows k)) r.0 (shown_edges f (row_of rows (k + j))),
+    )
+
+-- slots that are not all free have an edge
+some_edge : (slots : List (Option Slot)) → list_all is_free slots ≡ false → (e : Slot) × Contains (edges_in slots) e
+some_edge [] none = absurd (true≢false none)
+some_edge (None ∷ slots) some = some_edge slots some
+some_edge (Some e ∷ slots) some = (e, Contains-first e (edges_in slots) e refl)
+
+module _ (v : VersionView) (is : IsVersion v) where
+  -- a number that is no vertex has no row
+  no_row : (s : ℕ) → length (content v).names ≤ s → row_of v.rows s ≡ []
+  no_row s past = go (row_of v.rows s) refl where
+    go : (row : List BlockView) → row_of v.rows s ≡ row → row ≡ []
+    go [] same = refl
+    go (b ∷ row) same =
+        let here : Contains (row_of v.rows s) b =
+        subst (λ (bs : List BlockView). Contains bs b) (sym same) (Contains-first b row b refl) in
+        let of : IsBlockOf s b = subst (All (IsBlockOf s)) same (is.rows.blocks s) 0 b (omega arith) in
+        let e = some_edge b.slots of.has_edges in
+        let there = stands (content v) v.rows is.rows (let any : Filter = record { kind = None; lo = 0; hi = 0 } in any) b
+        (entry_in b e.0) (in_rows v.rows s b here) (contains_map (entry_in b) (edges_in b.slots) e.0 e.1) in
+        let within = is.within (entry_in b e.0).0 (ap is_some there) in
+        absurd (omega (arith, within.1, of.source_is))
+
+  -- all vertices' rows have all blocks
+  pub all_below : blocks_below v.rows (length (content v).names) ≡ blocks_of v.rows
+  all_below = same_blocks (map (row_of v.rows) (range_with_len 0 (length (content v).names))) v.rows
+      (λ s. elim (cases_lt s (length (content v).names)) [
+        | inl lt ↦ get_or-map-range_with_len (row_of v.rows) 0 (length (content v).names) s s [] lt (omega arith)
+        | inr le ↦ get_or_past (map (row_of v.rows) (range_with_len 0 (length (content v).names))) s []
+            (omega (arith, length-map-range_with_len (row_of v.rows) 0 (length (content v).names))) ∙ sym (no_row s le)
+      ])
+
+  all_within : (f : Filter) → AreViewEdges f (length (content v).names) (shown_edges f (blocks_of v.rows))
+  all_within f =
+      let es : List Edge = edges_in_blocks (blocks_of v.rows) in
+      let each = rows_each_once (content v) v.rows is.rows in
+      let there : (j : ℕ) (d : Edge) → j < length es → is_some (get (content v).edges (key_of (get_or es j d))) ≡ true = λ j d lt.
+      ap (λ m. is_some (get m (key_of (get_or es j d)))) (sym each.same) ∙ ap is_some (get_listed es each.once j d lt) in
+      record {
+        few = is.small.names;
+        once = AllPairs-filter (λ a b. key_of a ≢ key_of b) (passes f) es each.once;
+        kinds = All-filter (passes f) (λ e. e.kind.0 < kind_limit) es
+            (λ j d lt. omega (arith, (is.within (key_of (get_or es j d)) (there j d lt)).0, is.small.kinds));
+        sources = All-filter (passes f) (λ e. e.source.0 < length (content v).names) es
+            (λ j d lt. (is.within (key_of (get_or es j d)) (there j d lt)).1);
+        targets = All-filter (passes f) (λ e. e.target.0 < length (content v).names) es
+            (λ j d lt. (is.within (key_of (get_or es j d)) (there j d lt)).2);
+        seen = filter_passes (passes f) es;
+      }
+
+  -- the edges of the first sources are edges of the view
+  pub below_within : (f : Filter) (k : ℕ) → k ≤ length (content v).names
+      → AreViewEdges f (length (content v).names) (shown_edges f (blocks_below v.rows k))
+  below_within f k le =
+      let n = length (content v).names in
+      let r = first_below f v.rows k (n - k) in
+      let top : k + (n - k) ≡ n = omega arith in
+      let whole : shown_edges f (blocks_of v.rows) ≡ shown_edges f (blocks_below v.rows k) ++ r.0 =
+      ap (shown_edges f) (sym all_below) ∙ ap (λ m. shown_edges f (blocks_below v.rows m)) (sym top) ∙ r.1 in
+      first_edges f n (shown_edges f (blocks_below v.rows k)) r.0 (subst (AreViewEdges f n) whole (all_within f))
+
+  -- a table of the degrees over all rows is the table of degrees
+  pub table_is : (f : Filter) (k : ℕ) (table : List Degree) → length table ≡ length (content v).names
+      → k ≡ length (content v).names → IsCounted f (shown_edges f (blocks_below v.rows k)) table
+      → table ≡ degree_table f (content v)
+  table_is f k table long end counted =
+      let n = length (content v).names in
+      let each = rows_each_once (content v) v.rows is.rows in
+      let edges : shown_edges f (blocks_below v.rows k) ≡ shown_edges f (blocks_of v.rows) =
+      ap (λ m. shown_edges f (blocks_below v.rows m)) end ∙ ap (shown_edges f) all_below in
+      let d = degree_at f (content v) 0 in
+      fill_by_all (degree_at f (content v)) table n d long
+      (λ w h. counted.tally.at w d (omega arith) ∙ ap (λ (es : List Edge). listed_degree f es w) edges
+      ∙ shown_degree f (edges_in_blocks (blocks_of v.rows)) w
+      ∙ content_degree f (content v) (edges_in_blocks (blocks_of v.rows)) w each)

@@ -1,5 +1,0 @@
-pub mod Parts
-pub mod Counting
-pub mod Blocks
-pub mod Turns
-pub mod Whole

@@ -1,5 +1,0 @@
-use Rattle.graph_degrees.{specs.Tallies.shown_edges, specs.Tallies.IsCounted, proofs.Whole.blocks_below}
-use Rattle.graph_degrees.proofs.tallies.count_all.Given as goal
-
-abbrev pub invariant-loop-source : goal.invariant-loop-source
-invariant-loop-source l = IsCounted l.view (shown_edges l.view (blocks_below l.version.rows l.source)) l.table

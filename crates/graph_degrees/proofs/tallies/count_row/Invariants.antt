@@ -1,8 +1,0 @@
-use Rattle.std.proofs.Common.{drop}
-use Rattle.row_pages.specs.Sharing.{block_values}
-use Rattle.graph_degrees.{specs.Tallies.shown_edges, proofs.Parts.IsBegun}
-use Rattle.graph_degrees.proofs.tallies.count_row.Given as goal
-
-abbrev pub invariant-loop-block : goal.invariant-loop-block
-invariant-loop-block l = IsBegun l.view (shown_edges l.view (block_values l.blocks))
-    (shown_edges l.view (block_values (drop l.block-index l.blocks))) l.fn.table l.table

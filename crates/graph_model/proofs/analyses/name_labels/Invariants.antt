@@ -1,0 +1,7 @@
+use Rattle.std.proofs.Common.{◌≡◌, take, length}
+use Rattle.std.specs.Prelude.{zip}
+use Rattle.graph_types.specs.Answer.{names_of}
+use Rattle.graph_model.proofs.analyses.name_labels.Given as goal
+
+abbrev pub invariant-loop-name : goal.invariant-loop-name
+invariant-loop-name l = l.rows.items ≡ take (length l.yielded) (zip l.names (names_of l.names l.labels))

@@ -1,0 +1,12 @@
+use Rattle.std.proofs.Common.{◌∙◌, inr}
+use Rattle.std.specs.Prelude.{zip}
+use Rattle.graph_model.proofs.AnalysisReplies.{cores_answer}
+use Rattle.graph_model.proofs.analyses.reply_cores.Goals as goal
+
+pub returns : goal.returns
+returns c =
+    let names = c.as_slice.ensures in
+    let read = c.deref.ensures.value in
+    inr (cores_answer c.args.content.now c.args.filter.now c.in_ok-filter.filter c.in_ok-filter.ensures.found
+    c.in_ok-filter.ensures.refused c.in_ok-numbers.numbers.items c.of.result c.in_ok-numbers.ensures
+    (c.of.ensures ∙ c.in_ok-rows.ensures ∙ (λ i. zip (names i) (read i))))

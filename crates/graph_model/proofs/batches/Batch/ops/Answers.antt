@@ -1,5 +1,0 @@
-use Rattle.std.proofs.Common.{rules}
-use Rattle.graph_model.proofs.batches.Batch.ops.Goals as goal
-
-pub returns-clause-ops : goal.returns-clause-ops
-returns-clause-ops c = search rules

@@ -1,0 +1,82 @@
+-- The steps of the body are those of a change on plain lists.
+use Rattle.std.proofs.Common.{◌≡◌, ◌∙◌, length, ap, arith}
+use Rattle.std.specs.{Option.option_map, FinMap.get}
+use Rattle.graph_types.specs.{Graph.Key, Graph.graph_of, Graph.map_of, Step.number_of, Step.changed_key, Step.stamp_after}
+use Rattle.graph_types.specs.Changes.{option_stamp}
+use Rattle.graph_types.proofs.NameNumbers.{number_at_most}
+use Rattle.graph_model.specs.Drafts.{shown_by, shown_key, edge_with}
+use Rattle.graph_model.proofs.OneOperation.{IsApplied, AreMarks-found, stamp_of-edge_with, IsAt-edge_with, graph_of-applied}
+use Rattle.graph_model.proofs.OneOperation.{IsContent-applied}
+use Rattle.graph_model.proofs.drafts.Draft.change.Goals as goal
+
+pub of-key-requires-clause-kind : goal.of-key-requires-clause-kind
+of-key-requires-clause-kind c =
+    omega (
+      arith,
+      c.number_of.ensures,
+      number_at_most c.as_slice.result.now c.args.kind.now,
+      ap length c.as_slice.ensures.value,
+      c.in_ok-make_kind.ensures.few c.requires.content.kinds_few,
+    )
+
+pub of-key-requires-clause-source : goal.of-key-requires-clause-source
+of-key-requires-clause-source c =
+    omega (
+      arith,
+      c.number_of-2.ensures,
+      number_at_most c.as_slice-2.result.now c.args.source.now,
+      ap length c.as_slice-2.ensures.value,
+      c.in_ok-make_names.ensures.few c.requires.content.names_few,
+    )
+
+pub of-key-requires-clause-target : goal.of-key-requires-clause-target
+of-key-requires-clause-target c =
+    omega (
+      arith,
+      c.number_of-3.ensures,
+      number_at_most c.as_slice-3.result.now c.args.target.now,
+      ap length c.as_slice-3.ensures.value,
+      c.in_ok-make_names.ensures.few c.requires.content.names_few,
+    )
+
+pub change_edge-outcome-requires-clause-before : goal.change_edge-outcome-requires-clause-before
+change_edge-outcome-requires-clause-before c =
+    AreMarks-found (shown_by c.args.self.now) (shown_key c.of-key.result) c.marks_at-before.result c.requires.content
+    (c.marks_at-before.ensures ∙ ap (λ edges. get (map_of edges) (shown_key c.of-key.result)) c.as_slice-4.ensures.value)
+
+stood : (c : goal.In_ok-put_at) → option_stamp c.marks_at-before.result
+    ≡ get (map_of c.args.self.now.edges.items) (shown_key c.of-key.result)
+stood c = c.marks_at-before.ensures ∙ ap (λ edges. get (map_of edges) (shown_key c.of-key.result)) c.as_slice-4.ensures.value
+
+numbers : (c : goal.In_ok-put_at) → shown_key c.of-key.result
+    ≡ changed_key c.args.change c.args.kind.now c.args.source.now c.args.target.now (graph_of (shown_by c.args.self.now))
+numbers c =
+    let kind = c.number_of.ensures ∙ ap (λ xs. number_of xs c.args.kind.now)
+    (c.as_slice.ensures.value ∙ c.in_ok-make_kind.ensures.made) in
+    let source = c.number_of-2.ensures ∙ ap (λ xs. number_of xs c.args.source.now)
+    (c.as_slice-2.ensures.value ∙ c.in_ok-make_names.ensures.made) in
+    let target = c.number_of-3.ensures ∙ ap (λ xs. number_of xs c.args.target.now)
+    (c.as_slice-3.ensures.value ∙ c.in_ok-make_names.ensures.made) in
+    c.of-key.ensures ∙ (λ i. let key : Key = record { kind = kind i; source = source i; target = target i } in key)
+
+applied : (c : goal.In_ok-put_at)
+    → IsApplied c.args.change c.args.kind.now c.args.source.now c.args.target.now (shown_by c.args.self.now)
+    (shown_by (record { names = c.make_names.new.names; kinds = c.make_kind.new.kinds; edges = c.put_at.new.edges }))
+    (shown_key c.of-key.result) (option_map (edge_with c.of-key.result) c.change_edge-outcome.result.1)
+applied c = record {
+  names = c.in_ok-make_names.ensures.made;
+  kinds = c.in_ok-make_kind.ensures.made;
+  key_is = numbers c;
+  stamp = stamp_of-edge_with c.of-key.result c.change_edge-outcome.result.1 ∙ c.change_edge-outcome.ensures.stamp
+      ∙ ap (stamp_after c.args.change) (stood c);
+  at = IsAt-edge_with c.of-key.result c.change_edge-outcome.result.1 c.change_edge-outcome.ensures.marks;
+  edges = c.in_ok-put_at.ensures;
+}
+
+pub returns-clause-graph : goal.returns-clause-graph
+returns-clause-graph c = graph_of-applied _ _ _ _ _ _ _ _ (applied c)
+
+pub returns-clause-content : goal.returns-clause-content
+returns-clause-content c =
+    IsContent-applied _ _ _ _ _ _ _ _ (applied c) c.requires.content (c.in_ok-make_names.ensures.few c.requires.content.names_few)
+    (c.in_ok-make_kind.ensures.few c.requires.content.kinds_few)

@@ -1,5 +1,0 @@
-use Rattle.graph_model.proofs.NamesKept.{HasNames-left_by}
-use Rattle.graph_model.proofs.laws.law_names_stay_names.Goals as goal
-
-pub returns : goal.returns
-returns c = λ batches g valid has. HasNames-left_by batches g valid has

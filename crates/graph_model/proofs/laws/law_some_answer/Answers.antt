@@ -1,5 +1,0 @@
-use Rattle.graph_model.proofs.OneAnswer.{some_answer}
-use Rattle.graph_model.proofs.laws.law_some_answer.Goals as goal
-
-pub returns : goal.returns
-returns c = λ request content is. some_answer request content is

@@ -1,6 +1,0 @@
-use Rattle.std.proofs.Common.{rules}
-use Rattle.graph_model.proofs.lists.List.as_slice.Goals as goal
-
--- Its search is long where it fails.
-pub returns : goal.returns
-returns g c = search rules

@@ -1,5 +1,0 @@
-use Rattle.std.proofs.Common.{rules}
-use Rattle.graph_model.proofs.texts.Name.as_str.Goals as goal
-
-pub returns : goal.returns
-returns c = search rules

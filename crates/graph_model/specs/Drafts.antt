@@ -1,0 +1,37 @@
+-- Words on the copy of a content that is changed, and on the edges in it.
+use Rattle.std.specs.Prelude.{ℕ, List, [], ◌∷◌}
+use Rattle.std.specs.FinMap.{empty}
+use Rattle.graph_types.specs.Graph.{Key, content_of}
+use Rattle.graph_types.specs.Step.{after}
+use Rattle.graph_types.specs.declared.ids.Edge.{Edge}
+use Rattle.graph_types.specs.declared.batches.NamedOp.{NamedOp}
+use Rattle.graph_types.specs.declared.changes.EdgeMarks.{EdgeMarks}
+use Rattle.graph_types.specs.declared.contents.Content.{Content}
+use Rattle.graph_model.specs.declared.drafts.Draft.{Draft}
+use Rattle.graph_model.specs.declared.edges.EdgeKey.{EdgeKey}
+
+-- the content that a draft shows
+abbrev pub shown_by : Draft → Content
+shown_by d = content_of d.names.items d.kinds.items d.edges.items
+
+abbrev pub shown_key : EdgeKey → Key
+shown_key k = record { kind = k.kind.0; source = k.source.0; target = k.target.0 }
+
+-- the edge at the key that bears these marks
+abbrev pub edge_with : EdgeKey → EdgeMarks → Edge
+edge_with k m = record {
+  kind = k.kind;
+  source = k.source;
+  target = k.target;
+  weight = m.weight;
+  first = m.first;
+  recent = m.recent;
+}
+
+-- the vertices' names that an operation leaves, and that operations leave: they depend on no kinds and on no edges
+abbrev pub names_after : NamedOp → List (List ℕ) → List (List ℕ)
+names_after op names = (after op (record { names = names; kinds = []; edges = empty })).names
+
+abbrev pub names_left : List NamedOp → List (List ℕ) → List (List ℕ)
+names_left [] names = names
+names_left (op ∷ ops) names = names_left ops (names_after op names)

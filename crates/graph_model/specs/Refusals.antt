@@ -1,0 +1,32 @@
+-- When a batch is refused.
+use Rattle.std.specs.Prelude.{◌≡◌, ◌≢◌, ◌⊎◌, ◌<◌, ℕ, List, length}
+use Rattle.graph_types.specs.Limits.{name_limit, kind_limit}
+use Rattle.graph_types.specs.Graph.{Graph}
+use Rattle.graph_types.specs.GraphLimits.{MeetsNameLimit, MeetsKindLimit}
+use Rattle.graph_types.specs.declared.batches.NamedOp.{NamedOp}
+use Rattle.graph_model.specs.declared.apply.PlainError.{PlainError}
+use Rattle.graph_model.specs.declared.apply.PlainError.TheVariants.{NamesFull, KindsFull, OutOfMemory}
+
+-- for the names first, then for the kinds; want of memory may come at any time
+abbrev pub Refuses : PlainError → List NamedOp → Graph → Type 0
+Refuses NamesFull ops g = MeetsNameLimit ops g
+Refuses KindsFull ops g = MeetsKindLimit ops g × (MeetsNameLimit ops g → ⊥)
+Refuses OutOfMemory ops g = Unit {0}
+
+-- a batch that meets both limits is refused for the names
+abbrev pub TellsNamesFirst : Type 0
+TellsNamesFirst =
+    (error : PlainError) (ops : List NamedOp) (g : Graph) → MeetsNameLimit ops g → Refuses error ops g → error ≢ KindsFull
+
+-- a graph past the limit that an error speaks of; want of memory may come at any time
+abbrev pub Exceeds : PlainError → Graph → Type 0
+Exceeds NamesFull g = name_limit < length g.names
+Exceeds KindsFull g = kind_limit < length g.kinds
+Exceeds OutOfMemory g = Unit {0}
+
+-- a growth that was refused, or more names than the limit
+abbrev pub IsNamesRefusal : PlainError → List (List ℕ) → Type 0
+IsNamesRefusal error names = (error ≡ OutOfMemory) ⊎ ((error ≡ NamesFull) × (name_limit < length names))
+
+abbrev pub IsKindsRefusal : PlainError → List (List ℕ) → Type 0
+IsKindsRefusal error kinds = (error ≡ OutOfMemory) ⊎ ((error ≡ KindsFull) × (kind_limit < length kinds))

@@ -1,0 +1,153 @@
+//! Names and kinds in order of first appearance, as operations make them.
+
+ghost use Rattle.std.specs.Prelude.{◌≡◌, ◌≤◌, length, position, bytes_eq, IfOk, OnOk, IfErr};
+ghost use Rattle.graph_types.specs.Limits.{name_limit, kind_limit};
+ghost use Rattle.graph_types.specs.Step as step;
+ghost use Rattle.graph_model.specs.Drafts as left;
+ghost use Rattle.graph_model.specs.Refusals.{IsNamesRefusal, IsKindsRefusal};
+
+use crate::PlainError;
+use graph_types::{EdgeChange, Name, NamedOp};
+use std::alloc::{AllocError, Global};
+
+/// The place of a name in a list of names, if it is listed. It takes no memory.
+pub(crate) fn place_in(names: &[Name], name: &Name) -> Option<usize>
+    ensures { result ≡ position (bytes_eq name.now) names.now }
+{
+    names
+        .iter()
+        .position(|listed| name.as_str() == listed.as_str())
+}
+
+/// A name's number: its place, and for a name that is absent the number after the last. It takes no memory.
+#[tactic(auto, using(graph_types::proofs::NameNumbers::place_number, graph_types::proofs::NameNumbers::number_none))]
+pub(crate) fn number_of(names: &[Name], name: &Name) -> usize
+    ensures { result ≡ step.number_of names.now name.now }
+{
+    match place_in(names, name) {
+        Some(number) => number,
+        None => names.len(),
+    }
+}
+
+/// Adds a name at the end, unless it has appeared.
+#[tactic(auto, using(graph_types::proofs::NameNumbers::place_none, graph_types::proofs::NameNumbers::place_some))]
+fn add_name(names: &mut Vec<Name>, name: &Name) -> Result<(), AllocError>
+    ensures { OnOk result (names.new.items ≡ step.with_name names.old.items name.now) }
+{
+    match place_in(names.as_slice(), name) {
+        Some(_) => Ok(()),
+        None => Ok(names.push(name.clone()?)?),
+    }
+}
+
+/// Whether a change makes the names of its edge.
+fn makes_names(change: EdgeChange) -> bool
+    ensures { result ≡ step.makes_names change }
+{
+    match change {
+        EdgeChange::Insert { .. } | EdgeChange::Incr { .. } => true,
+        EdgeChange::Remove => false,
+    }
+}
+
+/// Adds the names of an edge's two ends, where the change makes them. `NamesFull` where they would be more than
+/// 65,536.
+pub(crate) fn make_names(
+    names: &mut Vec<Name>,
+    change: EdgeChange,
+    source: &Name,
+    target: &Name,
+) -> Result<(), PlainError>
+    ensures made { OnOk result (names.new.items ≡ step.names_made change source.now target.now names.old.items) }
+    ensures few { OnOk result (length names.old.items ≤ name_limit → length names.new.items ≤ name_limit) }
+    ensures refused { IfErr result (λ e. IsNamesRefusal e (step.names_made change source.now target.now names.old.items)) }
+{
+    if !makes_names(change) {
+        return Ok(());
+    }
+    add_name(names, source)?;
+    add_name(names, target)?;
+    if names.len() > 65_536 {
+        return Err(PlainError::NamesFull);
+    }
+    Ok(())
+}
+
+/// Adds the name of an edge's kind, where the change makes it. `KindsFull` where they would be more than 64.
+pub(crate) fn make_kind(
+    kinds: &mut Vec<Name>,
+    change: EdgeChange,
+    kind: &Name,
+) -> Result<(), PlainError>
+    ensures made { OnOk result (kinds.new.items ≡ step.kinds_made change kind.now kinds.old.items) }
+    ensures few { OnOk result (length kinds.old.items ≤ kind_limit → length kinds.new.items ≤ kind_limit) }
+    ensures refused { IfErr result (λ e. IsKindsRefusal e (step.kinds_made change kind.now kinds.old.items)) }
+{
+    if !makes_names(change) {
+        return Ok(());
+    }
+    add_name(kinds, kind)?;
+    if kinds.len() > 64 {
+        return Err(PlainError::KindsFull);
+    }
+    Ok(())
+}
+
+/// Adds the vertices' names that an operation makes. `NamesFull` where they would be more than 65,536.
+fn make_names_of(names: &mut Vec<Name>, op: &NamedOp) -> Result<(), PlainError>
+    ensures made { OnOk result (names.new.items ≡ left.names_after op.now names.old.items) }
+    ensures few { OnOk result (length names.old.items ≤ name_limit → length names.new.items ≤ name_limit) }
+    ensures refused { IfErr result (λ e. IsNamesRefusal e (left.names_after op.now names.old.items)) }
+{
+    match op {
+        NamedOp::Insert {
+            source,
+            target,
+            weight,
+            time,
+            ..
+        } => {
+            let change = EdgeChange::Insert {
+                weight: *weight,
+                time: *time,
+            };
+            make_names(names, change, source, target)
+        }
+        NamedOp::Incr {
+            source,
+            target,
+            amount,
+            time,
+            ..
+        } => {
+            let change = EdgeChange::Incr {
+                amount: *amount,
+                time: *time,
+            };
+            make_names(names, change, source, target)
+        }
+        NamedOp::Remove { source, target, .. } => {
+            make_names(names, EdgeChange::Remove, source, target)
+        }
+        NamedOp::Expire { .. } => Ok(()),
+    }
+}
+
+/// The vertices' names that the operations leave. `NamesFull` where they are more than 65,536.
+pub(crate) fn names_left(
+    alloc: Global,
+    names: &[Name],
+    ops: &[NamedOp],
+) -> Result<Vec<Name>, PlainError>
+    requires { length names.now ≤ name_limit }
+    ensures left { IfOk result (λ all. all.items ≡ left.names_left ops.now names.now) }
+    ensures few { IfOk result (λ all. length all.items ≤ name_limit) }
+    ensures refused { IfErr result (λ e. IsNamesRefusal e (left.names_left ops.now names.now)) }
+{
+    let mut all = names.to_vec(alloc)?;
+    for op in ops {
+        make_names_of(&mut all, op)?;
+    }
+    Ok(all)
+}

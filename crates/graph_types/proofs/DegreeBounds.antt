@@ -1,0 +1,159 @@
+-- How many edges a vertex can have: where each key stands once, at most one for each kind and each other end,
+-- so 2 ^ 22 with 64 kinds and 65,536 vertices. And how large the sum of their weights can be.
+use Rattle.std.proofs.Common.{◌≡◌, ℕ, zero, suc, ◌+◌, ◌*◌, ◌^◌, ◌<◌, ◌≤◌, Bool, true, false, cond, ◌&&◌, eqb, ltb, List, [], ◌∷◌}
+use Rattle.std.proofs.Common.{get_or, map, ℤ, pos, negsuc, neg_ℤ, ◌+ℤ◌, ◌≤ℤ◌, nat_abs, refl, sym, subst, arith}
+use Rattle.std.specs.Prelude.{count_by, sum_by, filter, fold, All}
+use Rattle.std.proofs.lemmas.{Int.ints, Bool.and_parts, Bool.eqb-true, Bool.Decides.nat_tests}
+use Rattle.std.proofs.lemmas.List.{Sums.sum_by-cons, Sums.sum_by-le-sum_by, Sums.sum_by-le, Elements.All-tail}
+use Rattle.graph_types.specs.{Graph.Key, Graph.entry_of, Graph.IsEdgeWithin, Limits.IsWeight}
+use Rattle.graph_types.specs.{View.in_view, View.leaves, View.enters, Degrees.listed_degree, Degrees.IsWithinLimits}
+use Rattle.graph_types.specs.declared.ids.{Edge.Edge, Filter.Filter}
+use Rattle.graph_types.proofs.{Keys.HasKeysOnce, Keys.is_key_of, Keys.is_key_of_at, Keys.count_key, Folds.fold_from}
+
+step_up : (b : Bool) (c k : ℕ) → cond (b && ltb c (suc k)) 1 0 ≤ cond (b && ltb c k) 1 0 + cond (b && eqb c k) 1 0
+step_up true c k = grind (arith, nat_tests)
+step_up false c k = omega arith
+
+none_below : (b : Bool) (c : ℕ) → cond (b && ltb c 0) 1 0 ≤ 0
+none_below true c = grind (arith, nat_tests)
+none_below false c = omega arith
+
+one_within : (b : Bool) (c n : ℕ) → c < n → cond b 1 0 ≤ cond (b && ltb c n) 1 0
+one_within true c n h = grind (arith, nat_tests)
+one_within false c n h = omega arith
+
+module _ {X : Type 0} where
+  sum_by-add : (f g : X → ℕ) (xs : List X) → sum_by (λ x. f x + g x) xs ≡ sum_by f xs + sum_by g xs
+  sum_by-add f g [] = refl
+  sum_by-add f g (x ∷ xs) =
+      omega (arith, sum_by-add f g xs, sum_by-cons (λ y. f y + g y) x xs, sum_by-cons f x xs, sum_by-cons g x xs)
+
+  -- at most so many of each number below n
+  crowd_below : (p : X → Bool) (number : X → ℕ) (each : ℕ) (xs : List X)
+      → ((k : ℕ) → count_by (λ x. p x && eqb (number x) k) xs ≤ each) → (n : ℕ)
+      → count_by (λ x. p x && ltb (number x) n) xs ≤ n * each
+  crowd_below p number each xs few zero =
+      let none = sum_by-le (λ x. cond (p x && ltb (number x) 0) 1 0) 0 xs
+      (λ k d h. none_below (p (get_or xs k d)) (number (get_or xs k d))) in
+      omega arith
+  crowd_below p number each xs few (suc n) =
+      let below : X → ℕ = λ x. cond (p x && ltb (number x) n) 1 0 in
+      let here : X → ℕ = λ x. cond (p x && eqb (number x) n) 1 0 in
+      let split = sum_by-le-sum_by (λ x. cond (p x && ltb (number x) (suc n)) 1 0) (λ x. below x + here x) xs
+      (λ x. step_up (p x) (number x) n) in
+      omega (arith, split, sum_by-add below here xs, crowd_below p number each xs few n, few n)
+
+  within_below : (p : X → Bool) (number : X → ℕ) (n : ℕ) (xs : List X) → All (λ x. number x < n) xs
+      → count_by p xs ≤ count_by (λ x. p x && ltb (number x) n) xs
+  within_below p number n [] within = omega arith
+  within_below p number n (x ∷ xs) within =
+      let whole = sum_by-cons (λ y. cond (p y) 1 0) x xs in
+      let below = sum_by-cons (λ y. cond (p y && ltb (number y) n) 1 0) x xs in
+      let rest = within_below p number n xs (All-tail (λ y. number y < n) x xs within) in
+      let first = one_within (p x) (number x) n (within 0 x (omega arith)) in
+      omega (arith, whole, below, rest, first)
+
+  -- a pigeonhole: each of those that pass has a number below n, and at most so many have the same
+  pub crowd : (p : X → Bool) (number : X → ℕ) (each n : ℕ) (xs : List X)
+      → ((k : ℕ) → count_by (λ x. p x && eqb (number x) k) xs ≤ each) → All (λ x. number x < n) xs → count_by p xs ≤ n * each
+  crowd p number each n xs few within = omega (arith, within_below p number n xs within, crowd_below p number each xs few n)
+
+-- of the edges that pass, at most one for each kind and each other end
+crowd_of_edges : (p : Edge → Bool) (other : Edge → ℕ) (es : List Edge)
+    → ((k v : ℕ) → count_by (λ e. (p e && eqb e.kind.0 k) && eqb (other e) v) es ≤ 1) → All (λ e. e.kind.0 < 64) es
+    → All (λ e. other e < 65536) es → count_by p es ≤ 2 ^ 22
+crowd_of_edges p other es few kinds others =
+    let of_kind : (k : ℕ) → count_by (λ e. p e && eqb e.kind.0 k) es ≤ 65536 =
+    λ k. omega (arith, crowd (λ e. p e && eqb e.kind.0 k) other 1 65536 es (few k) others) in
+    omega (arith, crowd p (λ e. e.kind.0) 65536 64 es of_kind kinds)
+
+one_where : (a b : Bool) → (a ≡ true → b ≡ true) → cond a 1 0 ≤ cond b 1 0
+one_where true b then = let e = then refl in subst (λ c. 1 ≤ cond c 1 0) (sym e) (omega arith)
+one_where false b then = omega arith
+
+leaves_key : (f : Filter) (v k t : ℕ) (e : Edge) → ((leaves f v (entry_of e) && eqb e.kind.0 k) && eqb e.target.0 t) ≡ true
+    → is_key_of (record { kind = k; source = v; target = t }) e ≡ true
+leaves_key f v k t e passes =
+    let (left, target) = and_parts (leaves f v (entry_of e) && eqb e.kind.0 k) (eqb e.target.0 t) passes in
+    let (leaving, kind) = and_parts (leaves f v (entry_of e)) (eqb e.kind.0 k) left in
+    let source = (and_parts (in_view f (entry_of e)) (eqb e.source.0 v) leaving).1 in
+    is_key_of_at _ e
+    (λ i. record {
+      kind = sym (eqb-true e.kind.0 k kind) i;
+      source = sym (eqb-true e.source.0 v source) i;
+      target = sym (eqb-true e.target.0 t target) i;
+    })
+
+leaves_once : (f : Filter) (v : ℕ) (es : List Edge) → HasKeysOnce es → (k t : ℕ)
+    → count_by (λ e. (leaves f v (entry_of e) && eqb e.kind.0 k) && eqb e.target.0 t) es ≤ 1
+leaves_once f v es once k t =
+    let key : Key = record { kind = k; source = v; target = t } in
+    let fewer = sum_by-le-sum_by (λ (e : Edge). cond ((leaves f v (entry_of e) && eqb e.kind.0 k) && eqb e.target.0 t) 1 0)
+    (λ e. cond (is_key_of key e) 1 0) es (λ e. one_where _ _ (leaves_key f v k t e)) in
+    omega (arith, fewer, count_key key es once)
+
+enters_key : (f : Filter) (v k s : ℕ) (e : Edge) → ((enters f v (entry_of e) && eqb e.kind.0 k) && eqb e.source.0 s) ≡ true
+    → is_key_of (record { kind = k; source = s; target = v }) e ≡ true
+enters_key f v k s e passes =
+    let (left, source) = and_parts (enters f v (entry_of e) && eqb e.kind.0 k) (eqb e.source.0 s) passes in
+    let (entering, kind) = and_parts (enters f v (entry_of e)) (eqb e.kind.0 k) left in
+    let target = (and_parts (in_view f (entry_of e)) (eqb e.target.0 v) entering).1 in
+    is_key_of_at _ e
+    (λ i. record {
+      kind = sym (eqb-true e.kind.0 k kind) i;
+      source = sym (eqb-true e.source.0 s source) i;
+      target = sym (eqb-true e.target.0 v target) i;
+    })
+
+enters_once : (f : Filter) (v : ℕ) (es : List Edge) → HasKeysOnce es → (k s : ℕ)
+    → count_by (λ e. (enters f v (entry_of e) && eqb e.kind.0 k) && eqb e.source.0 s) es ≤ 1
+enters_once f v es once k s =
+    let key : Key = record { kind = k; source = s; target = v } in
+    let fewer = sum_by-le-sum_by (λ (e : Edge). cond ((enters f v (entry_of e) && eqb e.kind.0 k) && eqb e.source.0 s) 1 0)
+    (λ e. cond (is_key_of key e) 1 0) es (λ e. one_where _ _ (enters_key f v k s e)) in
+    omega (arith, fewer, count_key key es once)
+
+-- the size of a whole number, as two bounds and back
+pub abs_bounds : (z : ℤ) (n : ℕ) → nat_abs z ≤ n → (neg_ℤ (pos n) ≤ℤ z) × (z ≤ℤ pos n)
+abs_bounds (pos a) n h = (omega (arith, ints), omega (arith, ints))
+abs_bounds (negsuc a) n h = (omega (arith, ints), omega (arith, ints))
+
+pub abs_within : (z : ℤ) (n : ℕ) → neg_ℤ (pos n) ≤ℤ z → z ≤ℤ pos n → nat_abs z ≤ n
+abs_within (pos a) n low high = omega (arith, ints)
+abs_within (negsuc a) n low high = omega (arith, ints)
+
+abs_add : (a b : ℤ) → nat_abs (a +ℤ b) ≤ nat_abs a + nat_abs b
+abs_add a b =
+    let p = abs_bounds a (nat_abs a) (omega arith) in
+    let q = abs_bounds b (nat_abs b) (omega arith) in
+    abs_within (a +ℤ b) (nat_abs a + nat_abs b) (omega (arith, ints, p.0, q.0)) (omega (arith, ints, p.1, q.1))
+
+sum_within : (p : Edge → Bool) (es : List Edge) → All (λ e. IsWeight e.weight) es
+    → nat_abs (fold ◌+ℤ◌ (pos 0) (map (λ e. e.weight) (filter p es))) ≤ count_by p es * 2 ^ 40
+sum_within p [] within = omega arith
+sum_within p (e ∷ es) within =
+    let rest = sum_within p es (All-tail (λ (x : Edge). IsWeight x.weight) e es within) in
+    let first : nat_abs e.weight ≤ 2 ^ 40 = within 0 e (omega arith) in
+    let whole = sum_by-cons (λ (x : Edge). cond (p x) 1 0) e es in
+    elim (p e) as (λ b. count_by p (e ∷ es) ≡ cond b 1 0 + count_by p es
+    → nat_abs (fold ◌+ℤ◌ (pos 0) (map (λ (x : Edge). x.weight) (cond b (e ∷ filter p es) (filter p es)))) ≤ count_by p
+    (e ∷ es) * 2 ^ 40) [
+      | true ↦ λ w.
+          let later : ℤ = fold ◌+ℤ◌ (pos 0) (map (λ (x : Edge). x.weight) (filter p es)) in
+          let sum : fold ◌+ℤ◌ (pos 0 +ℤ e.weight) (map (λ (x : Edge). x.weight) (filter p es)) ≡ e.weight +ℤ later =
+          omega (arith, ints, fold_from (pos 0 +ℤ e.weight) (map (λ (x : Edge). x.weight) (filter p es))) in
+          subst (λ z. nat_abs z ≤ count_by p (e ∷ es) * 2 ^ 40) (sym sum) (omega (arith, abs_add e.weight later))
+      | false ↦ λ w. omega arith
+    ] whole
+
+-- the degrees of a vertex over edges of a content are within the limits
+pub degree_within : (f : Filter) (es : List Edge) (n m v : ℕ) → n ≤ 65536 → m ≤ 64 → HasKeysOnce es → All (IsEdgeWithin n m) es
+    → IsWithinLimits (listed_degree f es v)
+degree_within f es n m v few_names few_kinds once within =
+    let kinds : All (λ (e : Edge). e.kind.0 < 64) es = λ k d h. omega (arith, (within k d h).kind) in
+    let sources : All (λ (e : Edge). e.source.0 < 65536) es = λ k d h. omega (arith, (within k d h).source) in
+    let targets : All (λ (e : Edge). e.target.0 < 65536) es = λ k d h. omega (arith, (within k d h).target) in
+    let outgoing = crowd_of_edges (λ e. leaves f v (entry_of e)) (λ e. e.target.0) es (leaves_once f v es once) kinds targets in
+    let incoming = crowd_of_edges (λ e. enters f v (entry_of e)) (λ e. e.source.0) es (enters_once f v es once) kinds sources in
+    let weights = sum_within (λ e. leaves f v (entry_of e)) es (λ k d h. (within k d h).weight) in
+    record { outgoing = outgoing; incoming = incoming; out_weight = omega (arith, weights, outgoing) }

@@ -1,0 +1,21 @@
+-- The degrees that a content shows are those that its list of edges shows.
+use Rattle.std.proofs.Common.{◌≡◌, ℕ, length, map, sym, ap}
+use Rattle.std.specs.List.{range_with_len}
+use Rattle.graph_types.specs.{Graph.graph_of, Graph.IsContent, View.leaves, View.enters, Answer.degree_at, Answer.degree_table}
+use Rattle.graph_types.specs.Degrees.{listed_degree}
+use Rattle.graph_types.specs.declared.{contents.Content.Content, ids.Degree.Degree, ids.Filter.Filter}
+use Rattle.graph_types.proofs.Folds.{count_entries, weight_entries}
+
+-- the degrees over the list are those over the graph
+pub listed_at : (f : Filter) (c : Content) (v : ℕ) → IsContent c → listed_degree f c.edges v ≡ degree_at f (graph_of c) v
+listed_at f c v is =
+    let outgoing = sym (count_entries (leaves f v) c.edges is.keys_distinct) in
+    let incoming = sym (count_entries (enters f v) c.edges is.keys_distinct) in
+    let weights = sym (weight_entries (leaves f v) c.edges is.keys_distinct) in
+    λ i. record { outgoing = outgoing i; incoming = incoming i; out_weight = weights i }
+
+-- the table of degrees, by the list of edges
+pub degree_table_is : (f : Filter) (c : Content) → IsContent c
+    → degree_table f (graph_of c) ≡ map (listed_degree f c.edges) (range_with_len 0 (length c.names))
+degree_table_is f c is = ap (λ (degree : ℕ → Degree). map degree (range_with_len 0 (length c.names)))
+    (λ i v. sym (listed_at f c v is) i)

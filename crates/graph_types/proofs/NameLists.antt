@@ -1,0 +1,138 @@
+-- Lists of names in order of first appearance, as operations make them.
+use Rattle.std.proofs.Common.{◌≡◌, ◌≢◌, ℕ, ◌+◌, ◌<◌, ◌≤◌, List, [], ◌∷◌, ◌++◌, true, false, cond, not, ◌||◌, length, get_or}
+use Rattle.std.proofs.Common.{AllPairs, bytes_eq, Option, Some, suc, refl, sym, ap, ◌∙◌, arith}
+use Rattle.std.specs.List.{list_any}
+use Rattle.std.proofs.lemmas.{Bool.false≢true, Slice.Eq.bytes_eq-Decides}
+use Rattle.std.proofs.lemmas.List.{Folds.list_any-append, Folds.list_any_at, Quantifiers.all_pairs_push, length-append}
+use Rattle.graph_types.specs.Step.{with_name, number_of, makes_names, names_made, kinds_made, stamp_after, changed_key, after}
+use Rattle.graph_types.specs.{Step.after_all, Graph.Graph, Graph.Key, Graph.Stamp}
+use Rattle.graph_types.specs.declared.{batches.NamedOp.NamedOp, changes.EdgeChange.EdgeChange}
+use Rattle.graph_types.specs.declared.batches.NamedOp.TheVariants.{Insert, Incr, Remove, Expire}
+use Rattle.graph_types.specs.declared.changes.EdgeChange.TheVariants.{Insert as ToInsert, Incr as ToIncr, Remove as ToRemove}
+
+pub length-with_name : (names : List (List ℕ)) (name : List ℕ) → length names ≤ length (with_name names name)
+length-with_name names name =
+    elim (list_any (bytes_eq name) names) as (λ b. length names ≤ length (cond b names (names ++ name ∷ []))) [
+      | true ↦ omega arith
+      | false ↦ omega (arith, length-append names (name ∷ []))
+    ]
+
+pub length-names_made : (change : EdgeChange) (source target : List ℕ) (names : List (List ℕ))
+    → length names ≤ length (names_made change source target names)
+length-names_made change source target names =
+    elim (makes_names change) as (λ b. length names ≤ length (cond b (with_name (with_name names source) target) names)) [
+      | true ↦ omega (arith, length-with_name names source, length-with_name (with_name names source) target)
+      | false ↦ omega arith
+    ]
+
+pub length-kinds_made : (change : EdgeChange) (kind : List ℕ) (kinds : List (List ℕ))
+    → length kinds ≤ length (kinds_made change kind kinds)
+length-kinds_made change kind kinds =
+    elim (makes_names change) as (λ b. length kinds ≤ length (cond b (with_name kinds kind) kinds)) [
+      | true ↦ length-with_name kinds kind
+      | false ↦ omega arith
+    ]
+
+-- operations only add names
+pub length-after-names : (op : NamedOp) (g : Graph) → length g.names ≤ length (after op g).names
+length-after-names (Insert kind source target weight time) g = length-names_made (ToInsert weight time) source target g.names
+length-after-names (Incr kind source target amount time) g = length-names_made (ToIncr amount time) source target g.names
+length-after-names (Remove kind source target) g = length-names_made ToRemove source target g.names
+length-after-names (Expire time) g = omega arith
+
+pub length-after-kinds : (op : NamedOp) (g : Graph) → length g.kinds ≤ length (after op g).kinds
+length-after-kinds (Insert kind source target weight time) g = length-kinds_made (ToInsert weight time) kind g.kinds
+length-after-kinds (Incr kind source target amount time) g = length-kinds_made (ToIncr amount time) kind g.kinds
+length-after-kinds (Remove kind source target) g = length-kinds_made ToRemove kind g.kinds
+length-after-kinds (Expire time) g = omega arith
+
+pub length-after_all-names : (ops : List NamedOp) (g : Graph) → length g.names ≤ length (after_all ops g).names
+length-after_all-names [] g = omega arith
+length-after_all-names (op ∷ ops) g = omega (arith, length-after-names op g, length-after_all-names ops (after op g))
+
+pub length-after_all-kinds : (ops : List NamedOp) (g : Graph) → length g.kinds ≤ length (after_all ops g).kinds
+length-after_all-kinds [] g = omega arith
+length-after_all-kinds (op ∷ ops) g = omega (arith, length-after-kinds op g, length-after_all-kinds ops (after op g))
+
+pub same_bytes : (name : List ℕ) → bytes_eq name name ≡ true
+same_bytes name = (bytes_eq-Decides name name).1 refl
+
+-- a name that has appeared has a number below the count of names
+pub number_of-lt : (names : List (List ℕ)) (name : List ℕ) → list_any (bytes_eq name) names ≡ true
+    → number_of names name < length names
+number_of-lt [] name h = absurd (false≢true h)
+number_of-lt (x ∷ xs) name h =
+    elim (bytes_eq name x) as (λ b. (b || list_any (bytes_eq name) xs) ≡ true
+    → cond (not b) (1 + number_of xs name) 0 < suc (length xs)) [
+      | true ↦ λ _. omega arith
+      | false ↦ λ rest. omega (arith, number_of-lt xs name rest)
+    ] h
+
+-- a name appears where it is added, and stays
+pub appears-with_name : (names : List (List ℕ)) (name : List ℕ) → list_any (bytes_eq name) (with_name names name) ≡ true
+appears-with_name names name =
+    elim (list_any (bytes_eq name) names) as (λ b. list_any (bytes_eq name) names ≡ b
+    → list_any (bytes_eq name) (cond b names (names ++ name ∷ [])) ≡ true) [
+      | true ↦ λ is. is
+      | false ↦ λ is. list_any-append (bytes_eq name) names (name ∷ []) ∙ ap (λ b. b || (bytes_eq name name || false)) is
+          ∙ ap (λ b. b || false) (same_bytes name)
+    ] refl
+
+pub stays-with_name : (names : List (List ℕ)) (name other : List ℕ) → list_any (bytes_eq other) names ≡ true
+    → list_any (bytes_eq other) (with_name names name) ≡ true
+stays-with_name names name other h =
+    elim (list_any (bytes_eq name) names) as (λ b. list_any (bytes_eq other) (cond b names (names ++ name ∷ [])) ≡ true) [
+      | true ↦ h
+      | false ↦ list_any-append (bytes_eq other) names (name ∷ []) ∙ ap (λ b. b || list_any (bytes_eq other) (name ∷ [])) h
+    ]
+
+pub AllPairs-with_name : (names : List (List ℕ)) (name : List ℕ) → AllPairs (λ a b. a ≢ b) names
+    → AllPairs (λ a b. a ≢ b) (with_name names name)
+AllPairs-with_name names name h =
+    elim (list_any (bytes_eq name) names) as (λ b. list_any (bytes_eq name) names ≡ b
+    → AllPairs (λ x y. x ≢ y) (cond b names (names ++ name ∷ []))) [
+      | true ↦ λ _. h
+      | false ↦ λ is. all_pairs_push (λ x y. x ≢ y) names name h (λ k d l same.
+          false≢true (sym is ∙ list_any_at (bytes_eq name) names k d l ((bytes_eq-Decides name (get_or names k d)).1 (sym same))))
+    ] refl
+
+pub AllPairs-names_made : (change : EdgeChange) (source target : List ℕ) (names : List (List ℕ)) → AllPairs (λ a b. a ≢ b) names
+    → AllPairs (λ a b. a ≢ b) (names_made change source target names)
+AllPairs-names_made change source target names h =
+    elim (makes_names change) as (λ b. AllPairs (λ x y. x ≢ y) (cond b (with_name (with_name names source) target) names)) [
+      | true ↦ AllPairs-with_name _ target (AllPairs-with_name names source h)
+      | false ↦ h
+    ]
+
+pub AllPairs-kinds_made : (change : EdgeChange) (kind : List ℕ) (kinds : List (List ℕ)) → AllPairs (λ a b. a ≢ b) kinds
+    → AllPairs (λ a b. a ≢ b) (kinds_made change kind kinds)
+AllPairs-kinds_made change kind kinds h =
+    elim (makes_names change) as (λ b. AllPairs (λ x y. x ≢ y) (cond b (with_name kinds kind) kinds)) [
+      | true ↦ AllPairs-with_name kinds kind h
+      | false ↦ h
+    ]
+
+-- the numbers of a key are those of names that are there
+pub record IsNamed (n m : ℕ) (key : Key) : Type 0 where
+  pub kind : key.kind < m
+  pub source : key.source < n
+  pub target : key.target < n
+
+named : (names kinds : List (List ℕ)) (kind source target : List ℕ) →
+    let all = with_name (with_name names source) target in
+    IsNamed (length all) (length (with_name kinds kind))
+    (record { kind = number_of (with_name kinds kind) kind; source = number_of all source; target = number_of all target })
+named names kinds kind source target = record {
+  kind = number_of-lt _ kind (appears-with_name kinds kind);
+  source = number_of-lt _ source (stays-with_name _ target source (appears-with_name names source));
+  target = number_of-lt _ target (appears-with_name _ target);
+}
+
+-- where a change leaves an edge, its names are there
+pub IsNamed-changed_key : (change : EdgeChange) (kind source target : List ℕ) (g : Graph) (before : Option Stamp) (s : Stamp)
+    → Some s ≡ stamp_after change before
+    → IsNamed (length (names_made change source target g.names)) (length (kinds_made change kind g.kinds))
+    (changed_key change kind source target g)
+IsNamed-changed_key (ToInsert weight time) kind source target g before s is = named g.names g.kinds kind source target
+IsNamed-changed_key (ToIncr amount time) kind source target g before s is = named g.names g.kinds kind source target
+IsNamed-changed_key ToRemove kind source target g before s is = cc

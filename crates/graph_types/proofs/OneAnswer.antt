@@ -1,0 +1,66 @@
+-- Over a graph a request has one answer, and over that of a content it has one.
+use Rattle.std.proofs.Common.{◌≡◌, Some, None, Bool, true, false, not, refl, sym, ap, ◌∙◌}
+use Rattle.std.specs.{Prelude.Result, Prelude.Ok, Prelude.Err, Prelude.zip, Prelude.nat_lt, Option.option_map, FinMap.get}
+use Rattle.graph_types.specs.{Graph.Graph, Graph.graph_of, Graph.IsContent, Step.key_in, Step.number_of}
+use Rattle.graph_types.specs.Answer.{IsAnswer, IsReply, refusal, first_refusal, resolved, degree_table, shown, reached, names_of}
+use Rattle.graph_types.specs.{Answer.is_listed, Answer.is_kind_listed, declared.contents.Content.Content}
+use Rattle.graph_types.specs.declared.requests.{Request.Request, Reply.Reply, AskError.AskError}
+use Rattle.graph_types.specs.declared.requests.Request.TheVariants.{Levels as AskLevels, Labels as AskLabels, Cores as AskCores}
+use Rattle.graph_types.specs.declared.requests.Request.TheVariants.{Degrees as AskDegrees, OneEdge as AskOneEdge}
+use Rattle.graph_types.specs.declared.requests.Reply.TheVariants.{Levels, Labels, Cores, Degrees, OneEdge}
+use Rattle.graph_types.proofs.{NameLists.number_of-lt, OneTable.one_table, SomeTable.some_table}
+
+pub one_reply : (request : Request) (g : Graph) (x y : Reply) → IsReply request g x → IsReply request g y → x ≡ y
+one_reply (AskLevels source filter) g x y a b =
+    a.2 ∙ ap (λ levels. Levels (reached g.names levels))
+    ((one_table (resolved g filter) g).levels (number_of g.names source) a.0 b.0 a.1 b.1) ∙ sym b.2
+one_reply (AskLabels filter) g x y a b =
+    a.2 ∙ ap (λ labels. Labels (zip g.names (names_of g.names labels))) ((one_table (resolved g filter) g).labels a.0 b.0 a.1 b.1)
+    ∙ sym b.2
+one_reply (AskCores filter) g x y a b =
+    a.2 ∙ ap (λ numbers. Cores (zip g.names numbers)) ((one_table (resolved g filter) g).cores a.0 b.0 a.1 b.1) ∙ sym b.2
+one_reply (AskDegrees filter) g x y a b = a ∙ sym b
+one_reply (AskOneEdge kind source target) g x y a b = a ∙ sym b
+
+pub one_answer : (request : Request) (g : Graph) (x y : Result Reply AskError) → IsAnswer request g x → IsAnswer request g y
+    → x ≡ y
+one_answer request g (Ok x) (Ok y) a b = ap (λ reply. Ok reply) (one_reply request g x y a.1 b.1)
+one_answer request g (Ok x) (Err y) a b = cc (a.0, b)
+one_answer request g (Err x) (Ok y) a b = cc (a, b.0)
+one_answer request g (Err x) (Err y) a b = cc
+
+vertex_listed : (window kind vertex : Bool) → first_refusal window kind vertex ≡ None → vertex ≡ true
+vertex_listed false kind vertex none = cc
+vertex_listed true false vertex none = cc
+vertex_listed true true false none = cc
+vertex_listed true true true none = refl
+
+pub some_reply : (request : Request) (c : Content) → IsContent c → refusal request (graph_of c) ≡ None
+    → (reply : Reply) × IsReply request (graph_of c) reply
+some_reply (AskLevels source filter) c is none =
+    let g = graph_of c in
+    let listed = vertex_listed (not (nat_lt filter.hi filter.lo)) (is_kind_listed g.kinds filter.kind)
+    (is_listed g.names source) none in
+    let r = (some_table (resolved g filter) c is).levels (number_of g.names source) (number_of-lt g.names source listed) in
+    (Levels (reached g.names r.0), (r.0, r.1, refl))
+some_reply (AskLabels filter) c is none =
+    let g = graph_of c in
+    let r = (some_table (resolved g filter) c is).labels in
+    (Labels (zip g.names (names_of g.names r.0)), (r.0, r.1, refl))
+some_reply (AskCores filter) c is none =
+    let g = graph_of c in
+    let r = (some_table (resolved g filter) c is).cores in
+    (Cores (zip g.names r.0), (r.0, r.1, refl))
+some_reply (AskDegrees filter) c is none = let g =
+    graph_of c in (Degrees (zip g.names (degree_table (resolved g filter) g)), refl)
+some_reply (AskOneEdge kind source target) c is none =
+    let g = graph_of c in (OneEdge (option_map shown (get g.edges (key_in g.names g.kinds kind source target))), refl)
+
+pub some_answer : (request : Request) (c : Content) → IsContent c
+    → (answer : Result Reply AskError) × IsAnswer request (graph_of c) answer
+some_answer request c is =
+    elim (refusal request (graph_of c)) as (λ o. refusal request (graph_of c) ≡ o
+    → (answer : Result Reply AskError) × IsAnswer request (graph_of c) answer) [
+      | None ↦ λ none. let r = some_reply request c is none in (Ok r.0, (none, r.1))
+      | Some error ↦ λ refused. (Err error, refused)
+    ] refl

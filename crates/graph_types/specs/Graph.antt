@@ -1,0 +1,90 @@
+-- A graph as a value: its vertex names, its kind names, and a finite map from keys to stamps.
+-- STINGER's edge has a kind, a weight and two times (Ediger, McColl, Riedy, Bader; IEEE HPEC 2012); the names
+-- and their numbers, the whole-number weights and the limits are this project's own profile.
+use Rattle.std.specs.Prelude.{◌≡◌, ◌≢◌, ℕ, ◌<◌, ◌≤◌, ℤ, List, map, length, All, AllPairs, Bool, not, ◌&&◌, ◌==◌, filter}
+use Rattle.std.specs.Ordering.{nat_cmp, ordering_then}
+use Rattle.std.specs.FinMap.{FinMap, from_entries}
+use Rattle.std.specs.declared.cmp.Ordering.{Ordering}
+pub use Rattle.graph_types.specs.Limits.{IsWeight, IsTime}
+use Rattle.graph_types.specs.Limits.{name_limit, kind_limit}
+use Rattle.graph_types.specs.declared.ids.Edge.{Edge}
+use Rattle.graph_types.specs.declared.contents.Content.{Content}
+
+-- which edge: the numbers of its kind, its source and its target
+pub record Key : Type 0 where
+  pub kind : ℕ
+  pub source : ℕ
+  pub target : ℕ
+
+-- what an edge bears: its weight, the time of its first insertion, and that of its last touch
+pub record Stamp : Type 0 where
+  pub weight : ℤ
+  pub first : ℕ
+  pub recent : ℕ
+
+-- keys in order: by kind, then by source, then by target
+abbrev pub key_cmp : Key → Key → Ordering
+key_cmp a b =
+    ordering_then (nat_cmp a.kind b.kind) (ordering_then (nat_cmp a.source b.source) (nat_cmp a.target b.target))
+
+-- two graphs are equal where their names, their kinds and their maps are
+pub record Graph : Type 0 where
+  pub names : List (List ℕ)
+  pub kinds : List (List ℕ)
+  pub edges : FinMap key_cmp Stamp
+
+-- an edge's key and its stamp
+abbrev pub key_of : Edge → Key
+key_of e = record { kind = e.kind.0; source = e.source.0; target = e.target.0 }
+
+abbrev pub stamp_of : Edge → Stamp
+stamp_of e = record { weight = e.weight; first = e.first; recent = e.recent }
+
+-- an edge as an entry of a map
+abbrev pub entry_of : Edge → Key × Stamp
+entry_of e = (key_of e, stamp_of e)
+
+-- the map that has each listed edge's stamp at its key
+abbrev pub map_of : List Edge → FinMap key_cmp Stamp
+map_of edges = from_entries (map entry_of edges)
+
+-- whether an edge has the key
+abbrev pub has_key : Key → Edge → Bool
+has_key key e = (e.kind.0 == key.kind) && (e.source.0 == key.source) && (e.target.0 == key.target)
+
+-- the edges that don't have the key
+abbrev pub without : Key → List Edge → List Edge
+without key edges = filter (λ e. not (has_key key e)) edges
+
+-- the graph that a content's lists show
+abbrev pub graph_of : Content → Graph
+graph_of c = record { names = c.names; kinds = c.kinds; edges = map_of c.edges }
+
+-- a content of these lists
+abbrev pub content_of : List (List ℕ) → List (List ℕ) → List Edge → Content
+content_of names kinds edges = record { names = names; kinds = kinds; edges = edges }
+
+-- an edge that has the key, of a weight and times in range
+pub record IsAt (key : Key) (e : Edge) : Type 0 where
+  pub key_is : key_of e ≡ key
+  pub weight : IsWeight e.weight
+  pub first : IsTime e.first
+  pub recent : IsTime e.recent
+
+-- an edge between vertices of a list of n names, of one of m kinds
+pub record IsEdgeWithin (n m : ℕ) (e : Edge) : Type 0 where
+  pub kind : e.kind.0 < m
+  pub source : e.source.0 < n
+  pub target : e.target.0 < n
+  pub weight : IsWeight e.weight
+  pub first : IsTime e.first
+  pub recent : IsTime e.recent
+
+-- names and kinds are distinct and within the limits, and each key is listed once
+pub record IsContent (c : Content) : Type 0 where
+  pub names_distinct : AllPairs (λ a b. a ≢ b) c.names
+  pub kinds_distinct : AllPairs (λ a b. a ≢ b) c.kinds
+  pub names_few : length c.names ≤ name_limit
+  pub kinds_few : length c.kinds ≤ kind_limit
+  pub keys_distinct : AllPairs (λ a b. key_of a ≢ key_of b) c.edges
+  pub edges_within : All (IsEdgeWithin (length c.names) (length c.kinds)) c.edges

@@ -1,0 +1,59 @@
+-- Laws about the definitions.
+use Rattle.std.specs.Prelude.{◌≡◌, ◌↔◌, ℕ, ◌+◌, List, Result, IsPermutation, IsTrue, All, true}
+use Rattle.std.specs.declared.option.Option.TheVariants.{Some}
+use Rattle.std.specs.FinMap.{FinMap, get, len}
+use Rattle.graph_types.specs.Graph.{Graph, Key, Stamp, key_cmp, graph_of, content_of, IsContent}
+use Rattle.graph_types.specs.Step.{after_all, left_by, stamp_after, stays_from, expired, count_before}
+use Rattle.graph_types.specs.Valid.{is_name, is_kind_name, IsBatch}
+use Rattle.graph_types.specs.GraphLimits.{MeetsNameLimit, MeetsKindLimit, is_within_limits}
+use Rattle.graph_types.specs.Answer.{IsAnswer}
+use Rattle.graph_types.specs.declared.batches.NamedOp.{NamedOp}
+use Rattle.graph_types.specs.declared.changes.EdgeChange.{EdgeChange}
+use Rattle.graph_types.specs.declared.contents.Content.{Content}
+use Rattle.graph_types.specs.declared.ids.Edge.{Edge}
+use Rattle.graph_types.specs.declared.requests.Request.{Request}
+use Rattle.graph_types.specs.declared.requests.Reply.{Reply}
+use Rattle.graph_types.specs.declared.requests.AskError.{AskError}
+
+-- over one graph a request has one answer
+abbrev pub HasOneAnswer : Type 0
+HasOneAnswer =
+    (request : Request) (g : Graph) (x y : Result Reply AskError) → IsAnswer request g x → IsAnswer request g y → x ≡ y
+
+-- over the graph of each content a request has an answer
+abbrev pub HasSomeAnswer : Type 0
+HasSomeAnswer =
+    (request : Request) (c : Content) → IsContent c → (answer : Result Reply AskError) × IsAnswer request (graph_of c) answer
+
+-- a content whose edges are listed in another order is the same graph, and so has the same answers
+abbrev pub IsFreeOfEdgeOrder : Type 0
+IsFreeOfEdgeOrder =
+    (c : Content) (edges : List Edge) → IsContent c → IsPermutation c.edges edges
+    → graph_of (content_of c.names c.kinds edges) ≡ graph_of c
+
+-- a batch leaves a graph within the limits where it meets neither
+abbrev pub MeetsNoLimit : Type 0
+MeetsNoLimit =
+    (ops : List NamedOp) (g : Graph)
+    → (is_within_limits (after_all ops g) ≡ true) ↔ ((MeetsNameLimit ops g → ⊥) × (MeetsKindLimit ops g → ⊥))
+
+-- a graph whose vertices and kinds are called by names
+pub record HasNames (g : Graph) : Type 0 where
+  pub names : All (λ name. IsTrue (is_name name)) g.names
+  pub kinds : All (λ name. IsTrue (is_kind_name name)) g.kinds
+
+-- valid batches leave such a graph of such a graph
+abbrev pub KeepsNames : Type 0
+KeepsNames = (batches : List (List NamedOp)) (g : Graph) → All IsBatch batches → HasNames g → HasNames (left_by batches g)
+
+-- an edge that stays keeps the time of its first insertion
+abbrev pub KeepsFirstTime : Type 0
+KeepsFirstTime = (change : EdgeChange) (before after : Stamp) → stamp_after change (Some before) ≡ Some after
+    → after.first ≡ before.first
+
+-- an expiry leaves at each key what was last touched at its time or later, and counts the edges that the map then lacks
+pub record Expires : Type 0 where
+  pub stays : (time : ℕ) (edges : FinMap key_cmp Stamp) (key : Key)
+      → get (expired time edges) key ≡ stays_from time (get edges key)
+  pub counted : (time : ℕ) (edges : FinMap key_cmp Stamp)
+      → count_before time edges + len (expired time edges) ≡ len edges

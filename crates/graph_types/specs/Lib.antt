@@ -1,0 +1,14 @@
+pub mod Limits
+pub mod Graph
+pub mod Coded
+pub mod Valid
+pub mod Changes
+pub mod Step
+pub mod GraphLimits
+pub mod View
+pub mod Degrees
+pub mod Analyses
+pub mod Answer
+pub mod Laws
+pub mod Arcs
+pub mod Tables

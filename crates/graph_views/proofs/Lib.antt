@@ -1,4 +1,0 @@
-pub mod Arcs
-pub mod Members
-pub mod Rows
-pub mod Targets

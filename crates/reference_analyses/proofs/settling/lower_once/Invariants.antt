@@ -1,5 +1,0 @@
-use Rattle.reference_analyses.proofs.Rounds.{IsArcRound}
-use Rattle.reference_analyses.proofs.settling.lower_once.Given as goal
-
-abbrev pub invariant-loop-arc : goal.invariant-loop-arc
-invariant-loop-arc l = IsArcRound l.arcs l.step l.fn.numbers l.numbers l.lowered l.arc-index

@@ -1,6 +1,0 @@
-use Rattle.std.proofs.Common.{rules}
-use Rattle.reference_graph.proofs.apply.refusal.Goals as goal
-
--- Its search is long where it fails.
-pub returns-in-KindsFull : goal.returns-in-KindsFull
-returns-in-KindsFull c = search rules

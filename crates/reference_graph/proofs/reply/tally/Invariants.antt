@@ -1,6 +1,0 @@
-use Rattle.std.proofs.Common.{length, take}
-use Rattle.graph_model.specs.Degrees.{IsTally}
-use Rattle.reference_graph.proofs.reply.tally.Given as goal
-
-abbrev pub invariant-loop-edge : goal.invariant-loop-edge
-invariant-loop-edge l = IsTally l.filter (take l.edge-index l.edges) (length l.content.names) l.table.items

@@ -1,3 +1,0 @@
-pub mod Refusals
-pub mod Drafts
-pub mod Replies

@@ -1,8 +1,0 @@
--- Which answers take memory.
-use Rattle.std.specs.Prelude.{Bool, true, false}
-use Rattle.graph_model.specs.declared.requests.Request.{Request}
-use Rattle.graph_model.specs.declared.requests.Request.TheVariants.{OneEdge}
-
-abbrev pub takes_memory : Request → Bool
-takes_memory (OneEdge kind source target) = false
-takes_memory _ = true

@@ -1,8 +1,0 @@
-//! A law about the definitions, as the contract of a function that does nothing.
-
-ghost use Rattle.reference_graph.specs.Refusals.{TellsNamesFirst};
-
-/// A batch that would leave too many names is never refused for its kinds.
-pub fn law_names_before_kinds()
-    ensures { TellsNamesFirst }
-{}

@@ -1,0 +1,134 @@
+-- What valid operations leave of a content is a content, where they leave no more names and kinds than the limits.
+use Rattle.std.proofs.Common.{◌≡◌, ℕ, ◌≤◌, List, [], ◌∷◌, ◌++◌, true, false, length, Option, Some, None, option_map, option_to_list}
+use Rattle.std.proofs.Common.{IfSome, All, ℤ, refl, sym, ap, subst, arith, cond}
+use Rattle.std.specs.{FinMap.get, Prelude.◌+ℤ◌}
+use Rattle.std.proofs.lemmas.{Bool.Decides.nat_tests, List.Elements.All-head, List.Elements.All-tail}
+use Rattle.graph_types.specs.Limits.{IsWeight, IsTime, is_weight, is_time, name_limit, kind_limit}
+use Rattle.graph_types.specs.Graph.{Graph, Key, Stamp, stamp_of, map_of, graph_of, without, content_of, IsAt, IsContent}
+use Rattle.graph_types.specs.Changes.{AreMarks, IsChange, option_stamp}
+use Rattle.graph_types.specs.Step.{names_made, kinds_made, stamp_after, changed_key, changed, later, after, after_all}
+use Rattle.graph_types.specs.Valid.{IsValid}
+use Rattle.graph_types.specs.declared.{ids.Edge.Edge, changes.EdgeChange.EdgeChange, changes.EdgeMarks.EdgeMarks}
+use Rattle.graph_types.specs.declared.changes.EdgeChange.TheVariants.{Insert as ToInsert, Incr as ToIncr, Remove as ToRemove}
+use Rattle.graph_types.specs.declared.batches.NamedOp.{NamedOp}
+use Rattle.graph_types.specs.declared.batches.NamedOp.TheVariants.{Insert, Incr, Remove, Expire}
+use Rattle.graph_types.specs.declared.contents.Content.{Content}
+use Rattle.graph_types.proofs.{Expiry.map_of-later, NameLists.length-after_all-names, NameLists.length-after_all-kinds}
+use Rattle.graph_model.proofs.OneOperation.{AreMarks-found, IsApplied, IsContent-applied, IsContent-later, graph_of-applied}
+
+-- the marks that a stamp shows
+abbrev marks_of : Stamp → EdgeMarks
+marks_of s = record { weight = s.weight; first = s.first; recent = s.recent }
+
+same_stamp : (o : Option Stamp) → option_stamp (option_map marks_of o) ≡ o
+same_stamp None = refl
+same_stamp (Some s) = refl
+
+-- a stamp of a weight and times in range
+abbrev InRange : Stamp → Type 0
+InRange s = AreMarks (marks_of s)
+
+stamps_in_range : (o : Option Stamp) → IfSome (option_map marks_of o) AreMarks → IfSome o InRange
+stamps_in_range None are = tt
+stamps_in_range (Some s) are = are
+
+found_in_range : (c : Content) (key : Key) → IsContent c → IfSome (get (map_of c.edges) key) InRange
+found_in_range c key is =
+    stamps_in_range (get (map_of c.edges) key)
+    (AreMarks-found c key (option_map marks_of (get (map_of c.edges) key)) is (same_stamp (get (map_of c.edges) key)))
+
+weight_fits : (w : ℤ) → is_weight w ≡ true → IsWeight w
+weight_fits w is = grind (arith, nat_tests)
+
+-- what a change leaves at a key is in range
+after_in_range : (change : EdgeChange) (before : Option Stamp) → IsChange change → IfSome before InRange
+    → IfSome (stamp_after change before) InRange
+after_in_range (ToInsert weight time) None fits was = record { weight = fits.0; first = fits.1; recent = fits.1 }
+after_in_range (ToInsert weight time) (Some e) fits was = record { weight = fits.0; first = was.first; recent = fits.1 }
+after_in_range (ToIncr amount time) None fits was = record { weight = fits.0; first = fits.1; recent = fits.1 }
+after_in_range (ToIncr amount time) (Some e) fits was =
+    elim (is_weight (e.weight +ℤ amount)) as (λ b. is_weight (e.weight +ℤ amount) ≡ b
+    → IfSome (cond b (Some (record e { weight = e.weight +ℤ amount; recent = time })) (Some e)) InRange) [
+      | true ↦ λ is. record { weight = weight_fits (e.weight +ℤ amount) is; first = was.first; recent = fits.1 }
+      | false ↦ λ is. was
+    ] refl
+after_in_range ToRemove before fits was = tt
+
+-- an edge at a key
+abbrev edge_at : Key → Stamp → Edge
+edge_at key s = record {
+  kind = record { 0 = key.kind };
+  source = record { 0 = key.source };
+  target = record { 0 = key.target };
+  weight = s.weight;
+  first = s.first;
+  recent = s.recent;
+}
+
+stamps_put : (key : Key) (o : Option Stamp) → option_map stamp_of (option_map (edge_at key) o) ≡ o
+stamps_put key None = refl
+stamps_put key (Some s) = refl
+
+put_there : (key : Key) (o : Option Stamp) → IfSome o InRange → IfSome (option_map (edge_at key) o) (IsAt key)
+put_there key None are = tt
+put_there key (Some s) are = record { key_is = refl; weight = are.weight; first = are.first; recent = are.recent }
+
+-- a content whose graph is this
+abbrev pub HasContent : Graph → Type 0
+HasContent g = (c : Content) × IsContent c × (graph_of c ≡ g)
+
+content_changed : (change : EdgeChange) (kind source target : List ℕ) (c : Content) → IsContent c → IsChange change
+    → length (changed change kind source target (graph_of c)).names ≤ name_limit
+    → length (changed change kind source target (graph_of c)).kinds ≤ kind_limit
+    → HasContent (changed change kind source target (graph_of c))
+content_changed change kind source target c is fits names kinds =
+    let key : Key = changed_key change kind source target (graph_of c) in
+    let stamp : Option Stamp = stamp_after change (get (map_of c.edges) key) in
+    let put : Option Edge = option_map (edge_at key) stamp in
+    let new : Content = content_of (names_made change source target c.names) (kinds_made change kind c.kinds)
+    (without key c.edges ++ option_to_list put) in
+    let step : IsApplied change kind source target c new key put = record {
+      names = refl;
+      kinds = refl;
+      key_is = refl;
+      stamp = stamps_put key stamp;
+      at = put_there key stamp (after_in_range change (get (map_of c.edges) key) fits (found_in_range c key is));
+      edges = refl;
+    } in (
+      new,
+      IsContent-applied change kind source target c new key put step is names kinds,
+      graph_of-applied change kind source target c new key put step,
+    )
+
+time_fits : (time : ℕ) → is_time time ≡ true → IsTime time
+time_fits time is = grind (arith, nat_tests)
+
+content_after : (op : NamedOp) (c : Content) → IsContent c → IsValid op → length (after op (graph_of c)).names ≤ name_limit
+    → length (after op (graph_of c)).kinds ≤ kind_limit → HasContent (after op (graph_of c))
+content_after (Insert kind source target weight time) c is valid names kinds =
+    content_changed (ToInsert weight time) kind source target c is (weight_fits weight valid.weight, time_fits time valid.time) names kinds
+content_after (Incr kind source target amount time) c is valid names kinds =
+    content_changed (ToIncr amount time) kind source target c is (weight_fits amount valid.weight, time_fits time valid.time) names kinds
+content_after (Remove kind source target) c is valid names kinds =
+    content_changed ToRemove kind source target c is tt names kinds
+content_after (Expire time) c is valid names kinds = (
+  content_of c.names c.kinds (later time c.edges),
+  IsContent-later time c is,
+  ap (λ edges. let g : Graph = record { names = c.names; kinds = c.kinds; edges = edges } in g)
+      (map_of-later time c.edges is.keys_distinct),
+)
+
+pub content_after_all : (ops : List NamedOp) (c : Content) → IsContent c → All IsValid ops
+    → length (after_all ops (graph_of c)).names ≤ name_limit → length (after_all ops (graph_of c)).kinds ≤ kind_limit
+    → HasContent (after_all ops (graph_of c))
+content_after_all [] c is valid names kinds = (c, is, refl)
+content_after_all (op ∷ ops) c is valid names kinds =
+    let g : Graph = after op (graph_of c) in
+    let names_more = length-after_all-names ops g in
+    let kinds_more = length-after_all-kinds ops g in
+    let one : HasContent g = content_after op c is (All-head IsValid op ops valid) (omega (arith, names, names_more))
+    (omega (arith, kinds, kinds_more)) in
+    subst (λ (h : Graph). HasContent (after_all ops h)) one.2
+    (content_after_all ops one.0 one.1 (All-tail IsValid op ops valid)
+    (subst (λ (h : Graph). length (after_all ops h).names ≤ name_limit) (sym one.2) names)
+    (subst (λ (h : Graph). length (after_all ops h).kinds ≤ kind_limit) (sym one.2) kinds))

@@ -1,0 +1,40 @@
+use Rattle.std.proofs.Common.{refl, ◌∙◌}
+use Rattle.script_server.proofs.{RunEnd.cause_ended, RunEnd.cause_stopped, RunTexts.all_ended, RunTexts.all_stopped}
+use Rattle.script_server.proofs.RunSoFar.{reaches_more, reaches_nothing, ready_more}
+use Rattle.script_server.proofs.script.turn_all.Goals as goal
+
+pub records-init : goal.records-init
+records-init g c = record {
+  ready = c.requires.ready;
+  working = c.requires.working;
+  same = refl;
+  reaches = λ setup shows. reaches_nothing setup _ _ _ shows;
+}
+
+pub records-preserved : goal.records-preserved
+records-preserved g c =
+    let turned = rw c.in-Ok-true.field-0-test at c.in-Ok-true.ensures.turns in
+    record {
+      ready = ready_more _ _ _ _ _ _ c.records.invariant.ready turned;
+      working = c.in-Ok-true.ensures.failed;
+      same = c.in-Ok-true.ensures.same_writer ∙ c.records.invariant.same;
+      reaches = λ setup shows. reaches_more setup _ _ _ _ _ _ _ _ (c.records.invariant.reaches setup shows) turned;
+    }
+
+pub returns-in-Err-clause-cause : goal.returns-in-Err-clause-cause
+returns-in-Err-clause-cause g c = cause_stopped _ _ _ _ _ _ _ _ c.in-Err.ensures.turns c.in-Err.ensures.failed
+
+pub returns-in-Err-clause-text : goal.returns-in-Err-clause-text
+returns-in-Err-clause-text g c = all_stopped _ _ _ _ _ _ _ _ _ _ c.records.invariant.reaches c.in-Err.ensures.turns
+
+pub returns-in-Ok-false-clause-cause : goal.returns-in-Ok-false-clause-cause
+returns-in-Ok-false-clause-cause g c =
+    cause_ended _ _ _ _ _ _ _ c.finish.result c.records.invariant.ready
+    (rw c.in-Ok-false.field-0-test at c.in-Ok-false.ensures.turns)
+    c.finish.ensures.summary c.finish.ensures.fault c.finish.ensures.failed
+
+pub returns-in-Ok-false-clause-text : goal.returns-in-Ok-false-clause-text
+returns-in-Ok-false-clause-text g c =
+    all_ended _ _ _ _ _ _ _ _ _ _ c.finish.result c.records.invariant.ready c.records.invariant.reaches
+    (rw c.in-Ok-false.field-0-test at c.in-Ok-false.ensures.turns)
+    c.finish.ensures.whole c.finish.ensures.summary c.finish.ensures.part c.finish.ensures.fault

@@ -1,0 +1,19 @@
+use Rattle.std.proofs.Common.{◌≡◌, ◌-◌, false}
+use Rattle.feed_csv.specs.Records.{record_limit}
+use Rattle.script_server.specs.States.{Setup, beginning}
+use Rattle.script_server.specs.{Runs.IsReady, Runs.ShowsRun, Writes.held}
+use Rattle.script_server.proofs.RunSoFar.{Reaches}
+use Rattle.script_server.proofs.script.turn_all.Given as goal
+
+abbrev pub invariant-records : goal.invariant-records
+invariant-records g l = record {
+  ready : IsReady l.feed l.run;
+  working : l.sink.failed ≡ false;
+  same : l.sink.writer.ghost_name ≡ l.initial.sink.writer.ghost_name;
+  reaches : (setup : Setup) → ShowsRun l.initial.run (beginning setup)
+      → Reaches setup l.initial.feed.left l.feed.left l.run (held g.W.Write.contents l.initial.sink)
+      (held g.W.Write.contents l.sink);
+}
+
+abbrev pub decreases-records : goal.decreases-records
+decreases-records g l = record_limit - l.feed.given

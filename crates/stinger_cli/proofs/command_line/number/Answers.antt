@@ -1,8 +1,0 @@
-use Rattle.std.proofs.Common.{rules}
-use Rattle.stinger_cli.proofs.command_line.number.Goals as goal
-
-pub returns-clause-rule : goal.returns-clause-rule
-returns-clause-rule g c = search rules
-
-pub returns-clause-local : goal.returns-clause-local
-returns-clause-local g c = search rules

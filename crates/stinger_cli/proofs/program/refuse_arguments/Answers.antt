@@ -1,4 +1,0 @@
-use Rattle.stinger_cli.proofs.program.refuse_arguments.Goals as goal
-
-pub returns : goal.returns
-returns g c = c.tell.ensures

@@ -1,9 +1,0 @@
-use Rattle.std.proofs.Common.{rules}
-use Rattle.stinger_server.proofs.{Flushed.all_of_it, Writing.on_err}
-use Rattle.stinger_server.proofs.output.put_flushed.Goals as goal
-
-pub returns-clause-flushed : goal.returns-clause-flushed
-returns-clause-flushed g c = search rules
-
-pub returns-clause-part : goal.returns-clause-part
-returns-clause-part g c = on_err _ _ (all_of_it _ _ _ _ c.in_ok-put.ensures.whole c.flush.ensures.bytes)

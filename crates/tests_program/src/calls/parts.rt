@@ -1,0 +1,124 @@
+// The parts below a version: scans, blocks, names, records and the pool.
+
+ghost use Rattle.std.specs.Prelude.{◌≡◌, ◌≤◌, length, All, IfSome, IsTrue, true};
+ghost use Rattle.std.specs.Arc.{arc_value};
+ghost use Rattle.graph_types.specs.Valid.{is_name};
+ghost use Rattle.lane_scan.specs.Masks.{IsWeight, selected};
+ghost use Rattle.edge_block.specs.Slots.{has_room_for};
+ghost use Rattle.edge_block.specs.declared.blocks.Block.{Block};
+ghost use Rattle.block_pool.specs.Pools.{is_in_use_at, is_used_at};
+
+use block_pool::{Grant, GrantError, Pool};
+use edge_block::{Block, BlockIter, EdgeRef};
+use feed_csv::{Command, Feed, FeedFault};
+use graph_model::{Filter, KindId, VertexId};
+use lane_scan::{bounds, equal_columns, find_target, masked_sum, window_mask};
+use std::alloc::{AllocError, Global};
+use std::io::Read;
+use std::sync::Arc;
+use vertex_names::{AddError, NameBook};
+
+fn scans(targets: &[u32], times: &[u64], live: u32) -> (Option<usize>, u32, bool)
+    requires targets { length targets.now ≤ 32 }
+    requires times { length times.now ≤ 32 }
+{
+    let found = find_target(targets, live, 7);
+    (
+        found,
+        window_mask(times, live, 10, 20),
+        equal_columns(targets, targets),
+    )
+}
+
+fn sums(weights: &[i64], mask: u32) -> i64
+    requires few { length weights.now ≤ 32 }
+    requires counted { All IsWeight (selected mask weights.now) }
+{
+    masked_sum(weights, mask)
+}
+
+fn least_and_greatest(times: &[u64], mask: u32) -> Option<(u64, u64)>
+    requires { length times.now ≤ 32 }
+{
+    bounds(times, mask)
+}
+
+fn cleared(number: u32, source: VertexId, kind: KindId) -> (Block, bool) {
+    let mut block = Block::blank(number);
+    block.clear_for(source, kind);
+    let is_same = block.number() == number && block.source() == source && block.kind() == kind;
+    (block, is_same)
+}
+
+fn puts(block: &mut Block)
+    requires { IsTrue (has_room_for 7 block.old.slots) }
+{
+    block.put(7, 1, 2, 3);
+}
+
+fn changes(block: &mut Block, other: &Block) -> bool {
+    block.copy_from(other);
+    block.take(7) && block.same_targets(other)
+}
+
+fn reads(block: &Block) -> (usize, bool, Option<(u64, u64)>) {
+    (block.len(), block.is_full(), block.time_bounds())
+}
+
+fn finds(block: &Block) -> Option<EdgeRef<'_>> {
+    block.find(7)
+}
+
+fn selects<'b>(block: &'b Block, filter: &Filter) -> BlockIter<'b> {
+    block.select(filter)
+}
+
+fn books(alloc: Global, limit: u32, name: &str) -> (usize, Option<u32>, bool) {
+    let book = NameBook::new(alloc, limit);
+    (book.len(), book.number(name), book.name(0).is_some())
+}
+
+fn adds(book: &mut NameBook, name: &str) -> Result<u32, AddError>
+    requires { IsTrue (is_name name.now) }
+{
+    book.add(name)
+}
+
+fn shares(book: &NameBook) -> Result<NameBook, AllocError> {
+    book.share()
+}
+
+fn feeds<R: Read>(alloc: Global, reader: R) -> Feed<R> {
+    Feed::over(alloc, reader)
+}
+
+fn next<R: Read>(feed: &mut Feed<R>) -> Result<Option<Command>, FeedFault> {
+    feed.next()
+}
+
+fn tells(fault: FeedFault) -> (u64, &'static str) {
+    (fault.at, fault.word.word())
+}
+
+fn pools(alloc: Global) -> Result<(Pool, u32), AllocError> {
+    let pool = Pool::new(alloc, 16)?;
+    let all = (pool.free(), pool.retired(), pool.used());
+    Ok((pool, all.0))
+}
+
+fn grants(pool: &mut Pool) -> Result<Grant, GrantError> {
+    pool.grant(2)
+}
+
+fn gives_back(pool: &mut Pool, number: u32, block: Option<Arc<Block>>)
+    requires used { is_in_use_at pool.old number ≡ true }
+    requires block { IfSome block (λ b. (arc_value {X = Block} b).number ≡ number) }
+{
+    pool.give_back(number, block);
+}
+
+fn retires(pool: &mut Pool, block: Arc<Block>, version: u64)
+    requires { is_used_at pool.old (arc_value {X = Block} block).number ≡ true }
+{
+    pool.retire(block, version);
+}

@@ -1,0 +1,145 @@
+// The shelf, the board, and the store over them.
+
+ghost use Rattle.std.specs.Prelude.{◌≤◌, length};
+ghost use Rattle.std.specs.Arc.{arc_value};
+ghost use Rattle.graph_version.specs.declared.versions.Version.{Version};
+ghost use Rattle.version_shelf.specs.Shelves.{IsNext, IsOfOneShelf};
+
+use batch_apply::PassAll;
+use block_pool::Pool;
+use graph_model::{AskError, Batch, Reply, Request};
+use graph_version::Version;
+use std::alloc::{AllocError, Global};
+use std::sync::{Arc, Wait};
+use std::thread::Threads;
+use stream_store::{
+    ApplyError, BadConfig, Collected, Config, Desk, JournalEntry, Naming, OpenError, Opened,
+    PinnedSeat, Receipt, Seat, Session, Stat, Store, open_parts,
+};
+use version_shelf::{Board, SeatNo, ShelfError, ShelfReader, ShelfWriter, Told, shelf};
+
+fn shelves<R: Wait>(
+    rt: &R,
+    alloc: Global,
+    opening: Arc<Version>,
+) -> Result<(ShelfWriter, Vec<ShelfReader>), ShelfError> {
+    shelf(rt, alloc, opening, 2)
+}
+
+fn posts<R: Wait>(
+    rt: &R,
+    writer: &mut ShelfWriter,
+    version: Arc<Version>,
+) -> Result<Told, AllocError>
+    requires { IsNext writer.old (arc_value {X = Version} version) }
+{
+    writer.post(rt, version)
+}
+
+fn enters(reader: &mut ShelfReader) -> &Arc<Version> {
+    reader.enter()
+}
+
+fn learns(reader: &mut ShelfReader, told: &Told) -> Result<(), AllocError>
+    requires { IsOfOneShelf told.now reader.old }
+{
+    reader.learn(told)
+}
+
+fn boards() -> Option<Board> {
+    let seat = SeatNo::new(0)?;
+    let mut board = Board::new();
+    board.pin(seat);
+    board.settle(seat, 1);
+    board.unpin(seat);
+    Some(board)
+}
+
+// The floor comes with a copy of the pins, by which blocks are recycled.
+fn raises(board: &mut Board, pool: &mut Pool) -> u32 {
+    pool.recycle(&board.raise(1))
+}
+
+fn configures() -> Result<Config, BadConfig> {
+    Config::new(4, 16, 2)
+}
+
+fn opens<R: Wait>(
+    rt: &R,
+    alloc: Global,
+    config: Config,
+) -> Result<(Desk, Board, Vec<Seat>), OpenError> {
+    open_parts(rt, alloc, config)
+}
+
+fn opens_a_store<R: Wait>(rt: &R, alloc: Global, config: Config) -> Result<Opened, OpenError> {
+    Store::open(rt, alloc, config)
+}
+
+fn desks<R: Threads + Wait + Sync>(
+    rt: &R,
+    desk: &mut Desk,
+    batch: Batch,
+) -> Result<Receipt, ApplyError> {
+    desk.apply(rt, &PassAll, batch)
+}
+
+fn tells(desk: &Desk) -> (u64, Stat, &[JournalEntry]) {
+    (desk.last().number(), desk.stat(), desk.journal())
+}
+
+// What a desk collects by: the pins at its last number.
+fn collects(desk: &mut Desk, board: &mut Board) -> Collected {
+    let copy = board.raise(desk.last().number());
+    desk.collect(&copy)
+}
+
+fn applies<J: Naming, R: Threads + Wait + Sync>(
+    rt: &R,
+    store: &Store<J>,
+    batch: Batch,
+) -> Result<Receipt, ApplyError> {
+    store.apply(rt, &PassAll, batch)
+}
+
+fn stores<J: Naming, R: Wait>(rt: &R, store: &Store<J>) -> (Collected, Stat) {
+    (store.collect(rt), store.stat(rt))
+}
+
+fn learns_of(seat: &mut Seat, receipt: &Receipt) -> Result<(), AllocError>
+    requires { IsOfOneShelf receipt.now.told seat.old.seen }
+{
+    seat.learn(receipt)
+}
+
+fn pins<J: Naming, R: Wait>(rt: &R, seat: Seat, store: &Store<J>) -> PinnedSeat {
+    seat.pin(rt, store)
+}
+
+fn acquires<J: Naming, R: Wait>(rt: &R, seat: PinnedSeat, store: &Store<J>) -> Session {
+    seat.enter(rt, store)
+}
+
+fn releases<J: Naming, R: Wait>(rt: &R, session: Session, store: &Store<J>) -> Seat {
+    session.release(rt, store)
+}
+
+fn acquires_lent(
+    seat: Seat,
+    desk: &Desk,
+    board: &mut Board,
+) -> Result<Session, (Seat, AllocError)> {
+    seat.acquire_lent(desk, board)
+}
+
+fn releases_lent(session: Session, board: &mut Board) -> Seat {
+    session.release_lent(board)
+}
+
+fn asks(session: &Session, request: &Request) -> Result<Reply, AskError> {
+    session.ask(request)
+}
+
+fn holds(session: &Session) -> &Version {
+    session.version()
+}

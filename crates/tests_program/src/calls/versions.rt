@@ -1,0 +1,145 @@
+// Versions, batches over them and answers over them, and the machine of interleavings.
+
+ghost use Rattle.std.specs.Prelude.{◌≡◌, ◌≢◌, ◌<◌, ◌≤◌, ◌×◌, ◌^◌, ℕ, length, false, All, AllPairs};
+ghost use Rattle.std.specs.List.{sum_by};
+ghost use Rattle.graph_version.specs.Batches.{batch_value};
+ghost use Rattle.graph_version.specs.Rows as rows;
+ghost use Rattle.graph_version.specs.Rows.{row_of};
+ghost use Rattle.batch_shards.specs.RowBlocks.{numbers_of};
+ghost use Rattle.graph_version.specs.Versions.{content, is_in};
+ghost use Rattle.graph_version.specs.Drafts.{IsWhole};
+ghost use Rattle.batch_apply.specs.Planned.{IsPlan};
+
+use batch_apply::{Applied, Gate, PassAll, Plan, PlanError, apply, plan};
+use edge_block::{Block, EdgeRef};
+use epoch_core::{Core, Event, OutOfMemory, Step, law_epoch, law_isolation, run};
+use graph_cores::{cores, degrees};
+use graph_levels::{LevelError, labels, levels};
+use graph_model::{AskError, Batch, Degree, Filter, KindId, Reply, VertexId};
+use graph_version::{Version, VersionDraft};
+use std::alloc::{AllocError, Global};
+use std::sync::Arc;
+use std::thread::Threads;
+use vertex_names::NameBook;
+
+fn empty(alloc: Global) -> (u64, u64) {
+    let version = Version::empty(alloc);
+    (version.number(), version.edge_count())
+}
+
+fn lends<'v>(version: &'v Version, source: VertexId) -> (Option<EdgeRef<'v>>, &'v [Arc<Block>]) {
+    (
+        version.edge(KindId(0), source, VertexId(1)),
+        version.row_blocks(source),
+    )
+}
+
+fn counts(version: &Version, source: VertexId) -> (usize, usize, bool, bool, bool) {
+    let books = (version.names().len(), version.kinds().len());
+    let batches = version.batches().next().is_none();
+    let row = version.row(source).next().is_none();
+    (
+        books.0,
+        books.1,
+        batches,
+        row,
+        version.blocks().next().is_none(),
+    )
+}
+
+fn drafts(
+    version: &Version,
+    names: NameBook,
+    kinds: NameBook,
+    source: VertexId,
+    blocks: Vec<Arc<Block>>,
+) -> Result<VersionDraft, AllocError> {
+    VersionDraft::over(version)?
+        .set_names(names, kinds)
+        .replace_row(source, blocks)
+}
+
+fn pushes(draft: VersionDraft, batch: Arc<Batch>) -> Result<VersionDraft, AllocError>
+    requires { length draft.version.batches < 2 ^ 32 }
+{
+    draft.push_batch(batch)
+}
+
+fn finishes(draft: VersionDraft) -> Version
+    requires { IsWhole draft }
+{
+    draft.finish()
+}
+
+fn plans(alloc: Global, version: &Version, batch: &Batch) -> Result<Plan, PlanError> {
+    plan(alloc, version, batch, 8)
+}
+
+fn arrives<G: Gate>(gate: &G) {
+    gate.arrive(0, 1);
+}
+
+fn applies<R: Threads + Sync>(
+    rt: &R,
+    alloc: Global,
+    version: &Version,
+    plan: Plan,
+    batch: Arc<Batch>,
+    blocks: Vec<Arc<Block>>,
+) -> Result<Applied, AllocError>
+    requires plan { (workers : ℕ) × (0 < workers) × IsPlan workers (batch_value batch) (content version.now)
+        (row_of version.now.rows) plan }
+    requires few { length version.now.batches < 65536 }
+    requires blocks { sum_by (λ n. n) plan.needs.items ≤ length blocks.items }
+    requires distinct { AllPairs ◌≢◌ (numbers_of blocks.items) }
+    requires unlisted { All (λ n. is_in n (rows.numbers_of (rows.blocks_of version.now.rows)) ≡ false) (numbers_of blocks.items) }
+{
+    apply(rt, alloc, &PassAll, version, plan, batch, blocks)
+}
+
+fn walks(
+    alloc: Global,
+    version: &Version,
+    filter: &Filter,
+) -> Result<Vec<Option<u32>>, LevelError> {
+    levels(alloc, version, VertexId(0), filter)
+}
+
+fn joins(alloc: Global, version: &Version, filter: &Filter) -> Result<Vec<VertexId>, AllocError> {
+    labels(alloc, version, filter)
+}
+
+fn peels(alloc: Global, version: &Version, filter: &Filter) -> Result<Vec<u32>, AllocError> {
+    cores(alloc, version, filter)
+}
+
+fn sums(alloc: Global, version: &Version, filter: &Filter) -> Result<Vec<Degree>, AllocError> {
+    degrees(alloc, version, filter)
+}
+
+fn machines(alloc: Global) -> Result<Core, OutOfMemory> {
+    Core::new(alloc, 1, 2)
+}
+
+fn steps(core: &mut Core, event: Event, events: &[Event]) -> Result<(Step, u32), OutOfMemory> {
+    let step = core.step(event)?;
+    Ok((step, run(core, events)?))
+}
+
+fn shows(core: &Core) -> u64 {
+    law_isolation();
+    law_epoch();
+    core.floor()
+}
+
+fn replies(core: &Core, session: usize) -> &[Result<Reply, AskError>]
+    requires { session < length core.now.world.sessions }
+{
+    core.replies(session)
+}
+
+fn holds(core: &Core, session: usize) -> (Option<u64>, Option<u64>)
+    requires { session < length core.now.world.sessions }
+{
+    (core.held(session), core.pin_of(session))
+}

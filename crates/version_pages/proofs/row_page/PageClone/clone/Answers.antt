@@ -1,0 +1,19 @@
+use Rattle.std.proofs.Common.{◌∙◌, ◌∷◌, []}
+use Rattle.version_pages.specs.Parts.{in_part}
+use Rattle.list_pieces.proofs.Shown.{flat_from_map}
+use Rattle.version_pages.proofs.Eights.{eight}
+use Rattle.version_pages.proofs.row_page.PageClone.clone.Goals as goal
+
+pub returns : goal.returns
+returns c = record {
+  cases =
+      flat_from_map in_part
+      (c.in_ok-try_clone.field-0 ∷ c.in_ok-try_clone-2.field-0 ∷ c.in_ok-try_clone-3.field-0 ∷ c.in_ok-try_clone-4.field-0
+      ∷ c.in_ok-try_clone-5.field-0 ∷ c.in_ok-try_clone-6.field-0 ∷ c.in_ok-try_clone-7.field-0 ∷ c.in_ok-try_clone-8.field-0
+      ∷ [])
+      c.self.inside.parts
+      (eight in_part c.self.inside.parts _ _ _ _ _ _ _ _ _ _ _ _ _ _ _ _ c.self.told
+      c.in_ok-try_clone.ensures c.in_ok-try_clone-2.ensures c.in_ok-try_clone-3.ensures c.in_ok-try_clone-4.ensures
+      c.in_ok-try_clone-5.ensures c.in_ok-try_clone-6.ensures c.in_ok-try_clone-7.ensures c.in_ok-try_clone-8.ensures)
+      ∙ c.self.view_is;
+}

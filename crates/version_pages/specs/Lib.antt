@@ -1,0 +1,9 @@
+pub mod Rows
+pub mod Sharing
+pub mod Parts
+pub mod RowPages
+pub mod RowGroups
+pub mod Batches
+pub mod BatchPages
+pub mod BatchGroups
+pub mod BatchLending

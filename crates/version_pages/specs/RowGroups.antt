@@ -1,0 +1,17 @@
+-- The rows of groups of pages, one group behind the other.
+use Rattle.std.specs.Prelude.{List, flat_map}
+use Rattle.std.specs.Arc.{arc_value}
+use Rattle.std.specs.declared.sync.Arc.{Arc}
+use Rattle.std.specs.declared.alloc.Global.{Global}
+use Rattle.edge_block.specs.Slots.{BlockView}
+use Rattle.list_pieces.specs.Pieces.{AreFull}
+use Rattle.version_pages.specs.declared.row_group.Group.{Group}
+
+abbrev pub in_group : Arc Group Global → List (List BlockView)
+in_group group = arc_value {X = Group} group
+
+abbrev pub in_groups : List (Arc Group Global) → List (List BlockView)
+in_groups groups = flat_map in_group groups
+
+abbrev pub AreGroups : List (Arc Group Global) → Type 0
+AreGroups groups = AreFull 1024 in_group groups
