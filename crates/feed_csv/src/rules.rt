@@ -81,16 +81,6 @@ fn check_length(row: &ByteRecord, count: usize) -> Result<(), FeedWord>
     }
 }
 
-fn name(alloc: Global, text: &str) -> Result<Name, FeedWord>
-    ensures ok { IfOk result (λ name. name ≡ text.now) }
-    ensures err { IfErr result (λ word. word ≡ FeedWord.Memory) }
-{
-    match String::from_str(alloc, text) {
-        Ok(text) => Ok(Name::of(text)),
-        Err(_) => Err(FeedWord::Memory),
-    }
-}
-
 /// An edge's kind, source and target.
 #[derive(Drop)]
 struct EdgeNames {
@@ -108,10 +98,13 @@ fn names_at(alloc: Global, row: &ByteRecord, place: usize) -> Result<EdgeNames, 
     let kind = kind_at(row, place)?;
     let source = name_at(row, place + 1)?;
     let target = name_at(row, place + 2)?;
+    let kind = Name::from_str(alloc, kind)?;
+    let source = Name::from_str(alloc, source)?;
+    let target = Name::from_str(alloc, target)?;
     Ok(EdgeNames {
-        kind: name(alloc, kind)?,
-        source: name(alloc, source)?,
-        target: name(alloc, target)?,
+        kind,
+        source,
+        target,
     })
 }
 
@@ -257,7 +250,7 @@ fn filter_at(alloc: Global, row: &ByteRecord, place: usize) -> Result<NamedFilte
     let lo = time_at(row, place + 1)?;
     let hi = time_at(row, place + 2)?;
     let kind = match kind {
-        Some(text) => Some(name(alloc, text)?),
+        Some(text) => Some(Name::from_str(alloc, text)?),
         None => None,
     };
     Ok(NamedFilter { kind, lo, hi })
@@ -282,7 +275,7 @@ fn levels(alloc: Global, row: &ByteRecord) -> Result<Command, FeedWord>
     let source = name_at(row, 2)?;
     let filter = filter_at(alloc, row, 3)?;
     let slot = slot_at(row, 1)?;
-    let source = name(alloc, source)?;
+    let source = Name::from_str(alloc, source)?;
     Ok(Command::Query(slot, Request::Levels { source, filter }))
 }
 
