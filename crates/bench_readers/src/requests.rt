@@ -1,35 +1,18 @@
 //! Requests over all edges of a version, and the processor time that each takes.
 
-use crate::edges::vertex_name;
 use graph_types::{NamedFilter, Request};
 use std::alloc::Global;
 use std::time::CpuClock;
 use stream_store::Session;
 
-fn all_edges() -> NamedFilter {
-    NamedFilter {
-        kind: None,
-        lo: 0,
-        hi: u64::MAX,
-    }
-}
-
-fn levels(alloc: Global) -> Option<Request> {
-    let source = vertex_name(alloc, 0).ok()?;
-    Some(Request::Levels {
-        source,
-        filter: all_edges(),
-    })
-}
-
-/// The request of this name; nothing where memory was refused.
+/// The request of this name over all edges; nothing where memory was refused.
 fn request(alloc: Global, name: &str) -> Option<Request> {
-    let filter = all_edges();
+    let filter = NamedFilter::all();
     match name {
-        "labels" => Some(Request::Labels { filter }),
-        "cores" => Some(Request::Cores { filter }),
-        "degrees" => Some(Request::Degrees { filter }),
-        _ => levels(alloc),
+        "labels" => Some(Request::labels(filter)),
+        "cores" => Some(Request::cores(filter)),
+        "degrees" => Some(Request::degrees(filter)),
+        _ => Request::levels(alloc, "v0", filter).ok(),
     }
 }
 
