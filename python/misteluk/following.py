@@ -315,8 +315,10 @@ def follow(store: "Store", feed: Union[Path, Opened], *, by: str, every: Span = 
     with a time far ahead removes all that is older, and a late row sets its edge's time back. See `Store.expire` for the blocks.
 
     A file is followed beyond its end, unless `until_end`; a pipe ends where its writers do. `Following.stop` ends the steps with
-    all in that was read. A row that can't be taken ends them too, by `BadRows` when all before it is in, unless `skip_bad`. Where
-    a commit is refused or not answered the error says which rows aren't in; they are pending still, and the next step goes on.
+    all in that was read. A row that can't be taken ends them too, by `BadRows` when all before it is in, unless `skip_bad`; so
+    does a file that is cut short, by `FeedFault`, unless it is as long again when that is looked for. One that is replaced isn't
+    followed into the new one. Where a commit is refused or not answered the error says which rows aren't in; they are pending
+    still, and the next step goes on. Between steps the store may be asked, and other operations be committed.
 
     The other options are those of `load`. Raises `ValueError` for options that there aren't, and for a file that is packed;
     `Uncommitted` where operations are pending; `OSError` where there is no such file.

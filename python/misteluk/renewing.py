@@ -84,7 +84,7 @@ class Renewing(Batches):
     def renew(self) -> Renewed:
         """Goes on in a new program now, as an endless store does of itself before the limits, at a commit or a request. Raises
         `NotRenewed` where that can't be: the program in use then stays so, and what is pending is sent once, to the program in
-        use then.
+        use then. An interrupt doesn't break the change off.
 
         Edges with both times go along, and names that have an edge, in their order; a request for another name or kind then
         raises `NoVertex` or `NoKind`. The copy's degrees are compared with the version's before it is used. Versions count on;

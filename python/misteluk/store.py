@@ -61,6 +61,7 @@ class Store(Renewing):
 
     One store may be used from several threads: its calls come one after another, in a thread of the store's own. An interrupt
     ends the waiting for a call alone: what was sent is answered and sorted nevertheless, and the next call goes on behind it.
+    (That of `Store(..)` or `restore` ends the program.)
     A fork can't use the store, and leaves its program alone.
     """
 
