@@ -215,11 +215,12 @@ class NoSeat(StoreError):
 
 
 class SessionClosed(StoreError):
-    """A request of a session that was closed."""
+    """A request of a session that was closed, by itself or by a rebase; nothing was sent."""
 
 
 class RecordLimit(StoreError):
-    """A run takes 999,999 records: this one would be one more, and was not sent."""
+    """A run takes 999,999 records: this one would be one more, and was not sent. A new store takes as many again, and an endless
+    one goes on."""
 
 
 class NotRenewed(StoreError):
@@ -244,7 +245,7 @@ class FeedFault(StoreError):
 
 
 class SaveFault(StoreError):
-    """A file is no saved version, or isn't as it was written. Nothing of it is restored."""
+    """A file is no saved version, or isn't as it was written. Nothing of it is restored, and no program was begun."""
 
 
 class ProgramNotFound(StoreError):
@@ -252,12 +253,13 @@ class ProgramNotFound(StoreError):
 
 
 class NoAnswer(StoreError, TimeoutError):
-    """The program neither read nor wrote anything for as long as it may."""
+    """The program neither read nor wrote anything for as long as it may. The call may be made again: a batch or rebase that was
+    sent is waited for, and not sent twice."""
 
 
 class ProgramEnded(StoreError):
-    """The program came to its end before it had answered. `status` is its exit status, negative for a signal's number, and
-    `said` what it wrote on standard error."""
+    """The program came to its end before it had answered, and the graph is gone with it. `status` is its exit status, negative
+    for a signal's number, and `said` what it wrote on standard error."""
 
     def __init__(self, text: str, status: Optional[int] = None, said: str = "") -> None:
         self.status, self.said = status, said

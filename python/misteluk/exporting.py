@@ -59,7 +59,8 @@ class Exporting(Walking):
         return ((to_user(kind), to_user(source), to_user(target), told(edge)) for (kind, source, target), edge in edges)
 
     def edges_frame(self, kind: Optional[str] = None, since: Moment = 0, until: Moment = records.MOST_TIME) -> "pandas.DataFrame":
-        """All edges as a pandas frame: kind, source, target, weight, first, recent; see `edges`."""
+        """All edges as a pandas frame: kind, source, target, weight, first, recent; see `edges`. Decimal weights are objects,
+        which pandas can't sum as numbers, unless the store has `decimals="float"`."""
         try:
             import pandas
         except ImportError:
@@ -83,8 +84,9 @@ class Exporting(Walking):
         return graph
 
     def to_csv(self, path: Path, kind: Optional[str] = None, since: Moment = 0, until: Moment = records.MOST_TIME) -> int:
-        """Writes all edges as CSV with a header, kind, source, target, weight, first and recent, and gives how many they are. The
-        file is written beside and renamed when it is whole: a fault or an interrupt leaves what was there. See `edges`."""
+        """Writes all edges as CSV in UTF-8 with a header, kind, source, target, weight, first and recent, and gives how many they
+        are. The file is written beside and renamed when it is whole: a fault or an interrupt leaves what was there. See
+        `edges`."""
         edges, count = self.edges(kind=kind, since=since, until=until), 0
         with whole_text(path) as file:
             write = csv.writer(file, lineterminator="\n").writerow

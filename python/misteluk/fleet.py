@@ -78,13 +78,15 @@ class Fleet:
     `data` is a delimited file, a pandas frame, columns by name, or rows, and `key` the column that parts them: a name, or a
     number from 1. Keys are texts, and `parts` has how many rows each has, in the order in which keys first appear. The feed is
     read once, when the fleet is made, and kept parted in one file without a name in `folder` (else where Python has temporary
-    files). A row without a key is `BadRows`, or is passed over with `skip_bad`. Other bad rows are their part's fault, with
-    their lines in the feed. `bad` says how many were passed over, by key; those without a key stand under "".
+    files), and 48 MB of it at most in memory. A row without a key is `BadRows`, or is passed over with `skip_bad`. Other bad rows
+    are their part's fault, with their lines in the feed. `bad` says how many were passed over, by key; those without a key stand
+    under "".
 
-    A part is loaded when it is first asked, in a store of as many blocks as it needs. The first `alive` parts that were asked
-    keep their programs (64); another is made again for each question. So memory has at most `alive` stores, and `workers` more
-    while they are asked. `workers` is how many threads ask at once: each waits for a program, which works beside the others.
-    Where a program ends in the middle, its part is made again and asked again, once; `made_again` has the keys of such parts.
+    A part is loaded when it is first asked, in a store of as many blocks as it needs, which are fewer with a smaller `batch`. The
+    first `alive` parts that were asked keep their programs (64); another is made again for each question. So memory has at most
+    `alive` stores, and `workers` more while they are asked. `workers` is how many threads ask at once: each waits for a program,
+    which works beside the others, so threads are about as fast as processes. Where a program ends in the middle, its part is made
+    again and asked again, once; `made_again` has the keys of such parts.
 
     `client` is a client of dask.distributed. Then the parts are loaded and asked by its workers, anew for each question, and
     neither `workers` nor `alive` is said. Where a worker is lost, its parts are made again on others. The package has to be

@@ -311,11 +311,14 @@ def follow(store: "Store", feed: Union[Path, Opened], *, by: str, every: Span = 
 
     A commit comes when a row has waited for `every` (seconds, or a text as "500ms"), or when its batch has `batch` operations.
     With `keep` each commit expires the edges that weren't touched for so long: those with a recent time before the newest time of
-    the feed's rows minus `keep`. That is a length of time, as "14d", where times are dates, and else a whole number.
+    the feed's rows minus `keep`. That is a length of time, as "14d", where times are dates, and else a whole number. So one row
+    with a time far ahead removes all that is older, and a late row sets its edge's time back. See `Store.expire` for the blocks.
 
     A file is followed beyond its end, unless `until_end`; a pipe ends where its writers do. `Following.stop` ends the steps with
-    all in that was read. A row that can't be taken ends them too, by `BadRows` when all before it is in, unless `skip_bad`. Where
-    a commit is refused or not answered the error says which rows aren't in; they are pending still, and the next step goes on.
+    all in that was read. A row that can't be taken ends them too, by `BadRows` when all before it is in, unless `skip_bad`; so
+    does a file that is cut short, by `FeedFault`, unless it is as long again when that is looked for. One that is replaced isn't
+    followed into the new one. Where a commit is refused or not answered the error says which rows aren't in; they are pending
+    still, and the next step goes on. Between steps the store may be asked, and other operations be committed.
 
     The other options are those of `load`. Raises `ValueError` for options that there aren't, and for a file that is packed;
     `Uncommitted` where operations are pending; `OSError` where there is no such file.

@@ -23,9 +23,10 @@ def open_feed(data: Any, *, format: Optional[str] = None, columns: Columns = Col
     and .txt an edge list where it begins with #. `columns`, `delimiter`, `header` are of delimited files (see `delimited`),
     `columns` of frames and rows too, `third` of edge lists (see `snap`), `both_ways` of undirected graphs (see `from_networkx`).
 
-    `encoding` is a file's, by Python's name. `decimal` is "," where a file has amounts as 12,50 or 1.234,50. `dates` is
-    "dd.mm.yyyy", "dd/mm/yyyy" or "mm/dd/yyyy" where times are such dates, which a time of day may follow; it is "seconds",
-    "milliseconds" or "microseconds" where they are numbers of them since 1970.
+    `encoding` is a file's, by Python's name. `decimal` is "," where a file has amounts as 12,50 or 1.234,50; then 1.234 alone is
+    a bad amount, since it may be either. No form is guessed. `dates` is "dd.mm.yyyy", "dd/mm/yyyy" or "mm/dd/yyyy" where times
+    are such dates, which a time of day may follow; it is "seconds", "milliseconds" or "microseconds" where they are numbers of
+    them since 1970.
 
     Raises `ValueError` for options that there aren't, `FeedFault` where a file or graph is of another form, and `OSError`.
     """

@@ -165,7 +165,9 @@ def add_picture(picture: argparse.ArgumentParser) -> None:
 
 def make_parser() -> argparse.ArgumentParser:
     """The whole command line."""
-    parser = argparse.ArgumentParser(prog="misteluk", description="Loads data into Misteluk, and asks.")
+    parser = argparse.ArgumentParser(prog="misteluk", description="Loads data into Misteluk, and asks.",
+                                     epilog="Status: 0, 1 after a fault, 2 for wrong arguments, 130 after Ctrl-C, and 141 where "
+                                     "the output lost its reader, as by `| head` (of follow 0).")
     commands = parser.add_subparsers(dest="command", required=True)
     load = commands.add_parser("load", help="load a file, and ask; nothing is kept unless it is saved")
     add_feed_options(load)

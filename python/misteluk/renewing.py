@@ -82,8 +82,21 @@ class Renewing(Batches):
 
     @talks
     def renew(self) -> Renewed:
-        """Goes on in a new program now, as an endless store does of itself before the limits. Raises `NotRenewed` where that
-        can't be: the program in use then stays so."""
+        """Goes on in a new program now, as an endless store does of itself before the limits, at a commit or a request. Raises
+        `NotRenewed` where that can't be: the program in use then stays so, and what is pending is sent once, to the program in
+        use then. An interrupt doesn't break the change off.
+
+        Edges with both times go along, and names that have an edge, in their order; a request for another name or kind then
+        raises `NoVertex` or `NoKind`. The copy's degrees are compared with the version's before it is used. Versions count on;
+        `records_sent` is of the program in use. A batch refused for too many names or kinds is sent again, to a new program.
+
+        A copy takes up to two records for each edge and two for a name out of its order, and to be read for the next one a
+        record for each edge. From 250,000 edges on the store warns (`NearLimit`), and again where a copy can't be made: then it
+        goes on to the run's end, unless a tenth of the edges goes first.
+
+        A session that is open stays in its program. One that is asked for all edges once, right after it was opened, finds the
+        records for that. A rebase to it begins a new program with what it holds.
+        """
         if not self._endless:
             raise StoreError("the store isn't endless: make it with Store(endless=True)")
         self._untold += self._land_what_was_sent()

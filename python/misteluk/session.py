@@ -19,6 +19,11 @@ class Session(Exporting):
     A request takes a `kind`, or any kind where none is given, and a window `since` .. `until` of times, both ends within: it
     goes over the edges whose recent time, that of the last operation that touched them, is in the window. Times are in the
     store's units; a date without a time of day begins a window with its day, and ends one with its day's end.
+
+    Neighbors, paths and all edges are asked for edge by edge: one record of the run for each edge of the vertex, or of the graph,
+    that the last version or an open session's may have. `RecordLimit` says beforehand where too few are left (`within` with
+    `directed=False` says so at each step). The client keeps each edge, in 27 to 37 bytes, until it is gone from all open
+    sessions; what a rebase undid stays, and so do late edges whose times were once greater.
     """
 
     def __init__(self, store: "Store", slot: int, version: int, names: int) -> None:
@@ -30,13 +35,13 @@ class Session(Exporting):
         script. It is packed where its name ends in .gz, .xz or .bz2, or .zst where the package zstandard is there.
 
         The file is written beside and renamed when it is whole and on the disk: a fault, an interrupt or a crash leaves what
-        was there. It has all that answers depend on, and the store's units and names. Pending operations and other versions
-        aren't in it.
+        was there, and a killed program perhaps a file beside it that ends in .part. Links and a file's rights stay. It has all
+        that answers depend on, and the store's units and names. Pending operations and other versions aren't in it.
 
         Each edge that the store was told of is asked for, one record each. A copy takes two records for an edge whose times
-        differ, and for a name that has no edge in its place. `RecordLimit` says before anything is asked that this run has no
-        room for that, and `OverLimit` before anything is written that the copy is more than a run takes. Raises `OSError`
-        where the file can't be written, and `Missing` where nothing here packs it."""
+        differ, for a name that has no edge in its place, and for each batch. `RecordLimit` says before anything is asked that
+        this run has no room for that, and `OverLimit` before anything is written that the copy is more than a run takes. Raises
+        `OSError` where the file can't be written, and `Missing` where nothing here packs it."""
         from .saving import save
         return save(self, path)
 

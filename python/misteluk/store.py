@@ -45,19 +45,23 @@ class Store(Renewing):
 
     `blocks`: how many blocks hold edges, 16 to 65,536; each has room for 32 edges of one kind and source, and takes 1 KB.
     `seats`: how many sessions may be open at once, 1 to 16. `workers`: how many threads apply a batch, 1 to 8.
-    Any text is a name, of a vertex or a kind, but an empty one; `*` alone is no kind.
+    Any text is a name, of a vertex or a kind, but an empty one; `*` alone is no kind. See `misteluk.names`.
 
     `weight_scale`: weights are decimal numbers of so many parts, as 100 for cents; else whole numbers. It divides a power of ten.
-    `times`: "iso" where times are dates, with microseconds at most, from 1970 to 9999; else whole numbers. A date is a
-    `datetime`, a `date` or a text, in UTC where it has no zone. `decimals`: answers have weights as "decimal" (`Decimal`) or
-    "float". Where neither of the first two is said, the first load says both, unless an operation came before it.
+    A weight is an int, a `Decimal`, a float as it is printed, or a text; `BadWeight` where it is no whole number of parts.
+    `times`: "iso" where times are dates, from 1970 (also where none is said) to 9999; else whole numbers. A date is a `datetime`,
+    a `date` or a text, in UTC where it has no zone; `BadTime` where it is finer than microseconds. `decimals`: answers have
+    weights as "decimal" (`Decimal`) or "float". Where neither of the first two is said, the first load says both, unless an
+    operation came before it.
     `endless`: whether the store goes on in a new program, with a copy of the last version, before it is at the limits of one: its
-    records, batches, names and kinds. One seat is kept for that, and 15 are the most. See `docs/PYTHON.md`, "Feeds without end".
-    `program`: the program to run (see `find_program`). `timeout`: for how many seconds the program may neither read nor write
-    while it is waited for; then `NoAnswer` is raised, and the call may be made again.
+    records, batches, names and kinds. One seat is kept for that, and 15 are the most. See `renew`.
+    `program`: the program to run (see `find_program`); each line that it writes on standard error is passed on once.
+    `timeout`: for how many seconds the program may neither read nor write while it is waited for; then `NoAnswer` is raised, and
+    the call may be made again.
 
     One store may be used from several threads: its calls come one after another, in a thread of the store's own. An interrupt
     ends the waiting for a call alone: what was sent is answered and sorted nevertheless, and the next call goes on behind it.
+    (That of `Store(..)` or `restore` ends the program.)
     A fork can't use the store, and leaves its program alone.
     """
 
@@ -140,10 +144,12 @@ class Store(Renewing):
                 decimals: str = "decimal", endless: bool = False, progress: Optional[bool] = None) -> "Store":
         """A store with the version that `Session.save` wrote into the file. Every request of it is answered as that version's
         were; its own versions count anew. It has the units and names of the store that was saved, and as many blocks, or more
-        where the copy finds no room in them, unless `blocks` says how many. The other options are those of `Store`.
+        where the copy finds no room in them, unless `blocks` says how many. The other options are those of `Store`. The records
+        of the copy count as those of its run.
 
-        Raises `SaveFault` where the file is no saved version, or is damaged or cut, and `PoolEmpty` where so many blocks can't
-        be enough: no program was started then. `progress` shows or hides a bar; without it a terminal has one."""
+        Raises `SaveFault` where the file is no saved version, or is damaged or cut (a digest finds that, and no forger), and
+        `PoolEmpty`, with the blocks that are `needed`, where so many can't be enough: no program was started then. `progress`
+        shows or hides a bar; without it a terminal has one."""
         from .saving import restore
 
         def make(found: int, weight_scale: Optional[int], times: Optional[str]) -> "Store":

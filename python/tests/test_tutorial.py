@@ -15,7 +15,6 @@ import sys
 import tempfile
 import unittest
 from collections import Counter, defaultdict
-from decimal import Decimal
 
 from support import HERE, TOP, Case, find_program, optional
 
@@ -66,7 +65,7 @@ class Documents(Case):
         return count
 
     def test_the_tutorial_s_commands(self):
-        self.assertEqual(self.run_commands(TUTORIAL), 9 if optional("matplotlib") else 7)
+        self.assertEqual(self.run_commands(TUTORIAL), 8 if optional("matplotlib") else 6)
 
     def conversations(self, path) -> int:
         """Runs what stands behind >>>, and returns how many such lines there were."""
@@ -158,19 +157,17 @@ class Figures(unittest.TestCase):
     def test_network(self):
         rows = read("debian.csv")
         names = {it[end] for it in rows for end in ("package", "needs")}
-        levels = Counter(reached([(it["package"], it["needs"]) for it in rows if it["kind"] == "depends"], "apt").values())
         self.told(f"{len(rows)} rows, {len(names)} names, 2 kinds, {len(rows)} edges")
-        self.told(f"levels from apt: {sum(levels.values())} reached, the farthest at {max(levels)}",
-                  "\n".join(f"      {level}: {count}" for level, count in sorted(levels.items())))
         late = [(it["package"], it["needs"]) for it in rows if int(it["uploaded"]) >= 20250101]
         parts, left = [], set(names)
         while left:
             parts.append(set(reached(late + [(b, a) for a, b in late], min(left))))
             left -= parts[-1]
         self.told(f"components: {len(parts)} of {len(names)} names\n      adduser {max(map(len, parts))}")
-        needed = Counter(it["needs"] for it in rows)
-        self.told(f"({needed.most_common(1)[0][0]!r}, {max(needed.values())})")
-        self.assertEqual(round(5 * max(needed.values()) / len(names)), 4)
+        (name, count), *_ = Counter(it["needs"] for it in rows).most_common()
+        needs = sum(it["package"] == name for it in rows)
+        self.told(f"      {name} out {needs} in {count} weight {needs}\n")
+        self.assertEqual(round(5 * count / len(names)), 4)
 
     def test_the_greatest_core(self):
         """The 5-core, by taking away what has fewer than 5 neighbors; and that no 6-core is left."""
@@ -208,10 +205,8 @@ class Figures(unittest.TestCase):
         self.assertEqual(told, {it: left[it] for it in {end for _, *ends, _ in rows for end in ends}})
         self.assertEqual(told["kassel"], 0)
 
-    def test_the_recipes(self):
-        """What came in on a day is the sum of its rows; what depends on a package is reached against what it needs."""
-        came_in = [it["amount"] for it in read("transfers.csv") if (it["to"], it["day"]) == ("funnel", "2024-05-07")]
-        self.told(repr(sum(map(Decimal, came_in))))
+    def test_what_depends_on_x(self):
+        """What depends on a package is reached against what it needs."""
         needed = [(it["needs"], it["package"]) for it in read("debian.csv") if it["kind"] == "depends"]
         told = re.search(r"levels\(\"libsemanage2\".*\n    (\{.*\})\n", self.text)[1]
         self.assertEqual(ast.literal_eval(told), reached(needed, "libsemanage2"))
@@ -239,12 +234,12 @@ class Figures(unittest.TestCase):
         self.told(f"version 1 beside version 2: {len(near)} vertices; 1 gone, 0 new, 1 changed, {kept} kept edges>")
 
     def test_a_feed(self):
-        """Batches of 99 rows; behind each, the lanes that weren't used for 14 days go."""
+        """Batches of 149 rows; behind each, the lanes that weren't used for 14 days go."""
         rows = [(datetime.date.fromisoformat(it["day"]), it["from"], it["to"], int(it["pallets"]))
                 for it in read("shipments.csv")]
         lanes = {}
-        for version, end in enumerate((99, 198, 282), 1):
-            batch, inserted = rows[end - 99 if end < 282 else 198:end], 0
+        for version, (begin, end) in enumerate(((0, 149), (149, 282)), 1):
+            batch, inserted = rows[begin:end], 0
             for day, source, target, pallets in batch:
                 inserted += (source, target) not in lanes
                 weight, first, _ = lanes.get((source, target), (0, day, day))
@@ -255,15 +250,10 @@ class Figures(unittest.TestCase):
                 del lanes[it]
             counts = ((inserted, "inserted"), (len(batch) - inserted, "updated"), (len(old), "expired"))
             done = "".join(f", {count} {word}" for count, word in counts if count)
-            out = Counter()
-            for (source, _), lane in lanes.items():
-                out[source] += lane[0]
-            (name, weight), _ = out.most_common(2)
-            self.told(f"version {version}: {end} rows to line {end + 1}{done}; newest {newest} 00:00:00+00:00\n")
-            if version != 2:
-                kassel = "none" if version > 1 else "weight {} first {} 00:00:00+00:00 recent {} 00:00:00+00:00".format(
-                    *lanes["hamburg", "kassel"])
-                self.told(f"      {name} out ", f" weight {weight}\n    edge truck hamburg kassel: {kassel}\n")
+            lane = lanes.get(("hamburg", "kassel"))
+            kassel = "weight {} first {} 00:00:00+00:00 recent {} 00:00:00+00:00".format(*lane) if lane else "none"
+            self.told(f"    version {version}: {end} rows to line {end + 1}{done}; newest {newest} 00:00:00+00:00\n"
+                      f"    edge link hamburg kassel: {kassel}\n")
 
     def test_the_made_data_are_what_their_script_makes(self):
         made = subprocess.run([sys.executable, TOP / "examples/stories/shipments.py"], stdout=subprocess.PIPE, text=True).stdout
