@@ -8,6 +8,9 @@
   [`step`](FILE.antt), leads to the file of specs that defines it.
 - Each crate of crates.txt is named in docs/ARCHITECTURE.md, and stands on crates that crates.txt lists or the kit has.
 - A crate's row has those crates of the repository that its sources, specs and proofs name, and no others.
+- ARCHITECTURE's table of words has each word once, and each is used on another page or in a docstring of something public. A
+  word of this house (HOUSE) that a page uses stands in that table, or that page or the README explains it, where it shows
+  it *so*.
 - docs/LIBRARY.md shows each program that stands on `misteluk`: its row of crates.txt, and each of its files as it is.
 - No definition, and no lemma with its name and type, stands twice in `specs/` and `proofs/`, but for those that
   tools/statements.py lists.
@@ -33,6 +36,10 @@ SINCE = "cf1127e"
 PAGES = {".md", ".py", ".rs", ""}
 DEFINED = re.compile(r"\[`([^`]+)`\]\(([^)\s]+\.antt)\)")
 LINK = re.compile(r"(?<!!)\[[^\]]*\]\(([^)\s]+)\)")
+WORDS = TOP / "docs/ARCHITECTURE.md"
+# What a newcomer can't know: words that are this repository's, or mean something of its own in it.
+HOUSE = """act birth board book desk drive floor gate grant journal label level opening pin receipt retirement seat shard shelf
+    slot stamp told""".split()
 
 
 def git(*words):
@@ -147,6 +154,40 @@ def misnamed_crates():
             yield f"crates.txt: the row of {crate} has {it}, which it doesn't name"
 
 
+def table_of_words():
+    """Returns the words that ARCHITECTURE's table explains, in its order; a row may have several."""
+    part = WORDS.read_text(encoding="utf-8").partition("\n## Words\n")[2].partition("\n## ")[0]
+    rows = [line for line in part.splitlines() if line.startswith("| ")][1:]
+    return [word.strip() for row in rows for word in row.split("|")[1].split(",")]
+
+
+def is_used(word, text):
+    return re.search(rf"\b{re.escape(word)}s?\b", text, re.I) is not None
+
+
+def public_docstrings():
+    """Yields what stands before something public, and at a file's head."""
+    for path in (TOP / "crates").glob("*/src/**/*.rt"):
+        text = path.read_text(encoding="utf-8")
+        yield from re.findall(r"((?:^ *///.*\n)+)(?:^ *#\[.*\n)*^ *pub (?!\()", text, re.M)
+        yield from re.findall(r"^//!.*$", text, re.M)
+
+
+def words_astray(pages):
+    words, texts = table_of_words(), {it: it.read_text(encoding="utf-8") for it in pages}
+    first = (TOP / "README.md").read_text(encoding="utf-8")
+    used = [text for page, text in texts.items() if page != WORDS] + list(public_docstrings())
+    for word in dict.fromkeys(words):
+        if words.count(word) > 1:
+            yield f"ARCHITECTURE's table has {words.count(word)} rows for {word}"
+        if not any(is_used(word, text) for text in used):
+            yield f"ARCHITECTURE's table has {word}, which nothing else uses"
+    for page, text in texts.items():
+        for word in HOUSE:
+            if word not in words and is_used(word, text) and not re.search(rf"\*{word}s?\*", first + text, re.I):
+                yield f"{page.relative_to(TOP)} uses {word}, which neither it nor the README nor ARCHITECTURE's table explains"
+
+
 def programs():
     """Returns each program over the library that others learn from: its row of crates.txt, and its files."""
     found = [row for row in rows() if "misteluk" in row.partition(":")[2].split()]
@@ -203,6 +244,7 @@ def main():
         "links": [it for page in pages for it in dead_links(page)],
         "names of definitions": [it for page in pages for it in undefined_names(page)],
         "crates": [*unnamed_crates(), *misnamed_crates()],
+        "words": list(words_astray(told)),
         "programs over the library": list(unshown_programs()),
         "statements": list(statements.told_twice(TOP)),
         "wrong bodies": [it for path in edits for it in lost_edits(path)],
