@@ -273,7 +273,7 @@ impl Desk {
     pub fn facts(&self)
         ensures replays { IsDesk self.now.desk }
         ensures dated { AreDated self.now.desk.opened (length self.now.desk.last.batches) self.now.desk.pool }
-        ensures used { count_by is_used self.now.desk.pool ≡ block_count self.now.desk.last }
+        ensures used { count_by is_in_use self.now.desk.pool ≡ block_count self.now.desk.last }
     {
         let _ = &self.journal;
     }
