@@ -53,7 +53,7 @@ fn reply<R: Threads + Wait + Sync + AllocGlobal>(rt: &R) -> Result<Reply, Refusa
 
 fn main(rt: HostRuntime) -> Result<(), Refusal> {
     if let Reply::Levels(levels) = reply(&rt)? {
-        for (town, level) in &levels {
+        for (town, level) in levels.iter() {
             println!(&rt; "{town} {level}").map_err(Refusal::Print)?;
         }
     }

@@ -12,6 +12,7 @@ pub(super) type Op<'a> = (&'a str, &'a str, &'a str, i64, u64);
 const BATCHES: &str = "\
 first: i a b 5 10
 chain: i a b 5 10, i b c 2 11
+friends: i ann bob 1 1, i bob cat 1 1
 more: a a b 1 20
 cut: r a b 0 0
 on: r a b 0 0, i b c 1 1
