@@ -1,6 +1,6 @@
 // The shelf, the board, and the store over them.
 
-ghost use Rattle.std.specs.Prelude.{◌≤◌, length};
+ghost use Rattle.std.specs.Prelude.{◌≡◌, ◌≤◌, [], length};
 ghost use Rattle.std.specs.Arc.{arc_value};
 ghost use Rattle.graph_version.specs.declared.versions.Version.{Version};
 ghost use Rattle.version_shelf.specs.Shelves.{IsNext, IsOfOneShelf};
@@ -22,7 +22,9 @@ fn shelves<R: Wait>(
     rt: &R,
     alloc: Global,
     opening: Arc<Version>,
-) -> Result<(ShelfWriter, Vec<ShelfReader>), ShelfError> {
+) -> Result<(ShelfWriter, Vec<ShelfReader>), ShelfError>
+    requires { (arc_value {X = Version} opening).batches ≡ [] }
+{
     shelf(rt, alloc, opening, 2)
 }
 

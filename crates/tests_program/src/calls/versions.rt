@@ -1,6 +1,6 @@
 // Versions, batches over them and answers over them, and the machine of interleavings.
 
-ghost use Rattle.std.specs.Prelude.{◌≡◌, ◌≢◌, ◌<◌, ◌≤◌, ◌×◌, ◌^◌, ℕ, length, false, All, AllPairs};
+ghost use Rattle.std.specs.Prelude.{◌≡◌, ◌≢◌, ◌<◌, ◌≤◌, ◌^◌, ℕ, length, false, All, AllPairs};
 ghost use Rattle.std.specs.List.{sum_by};
 ghost use Rattle.graph_version.specs.Batches.{batch_value};
 ghost use Rattle.graph_version.specs.Rows as rows;
