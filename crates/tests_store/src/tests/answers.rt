@@ -101,3 +101,9 @@ pub(super) fn edge_told(alloc: Global, session: &Session) -> Option<Edge> {
         Err(_) => None,
     }
 }
+
+/// Whether the session holds version 1, and has the edge as the first batch left it.
+pub(super) fn has_first(alloc: Global, session: &Session) -> bool {
+    let is_first = session.version().number() == 1;
+    is_first && matches!(edge_told(alloc, session), Some(Some((5, 10, 10))))
+}

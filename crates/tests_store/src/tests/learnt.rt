@@ -2,11 +2,13 @@
 
 ghost use Rattle.std.specs.Prelude.{◌≡◌};
 ghost use Rattle.version_shelf.specs.Shelves.{IsOfOneShelf};
-ghost use Rattle.stream_store.specs.Stores.{IsOfOpening};
+ghost use Rattle.stream_store.specs.Opened.{IsOpeningOf};
+ghost use Rattle.stream_store.specs.Stores.{IsOfOpening, IsSeatOf};
 
+use super::answers::has_first;
 use super::batches::batch_named;
 use super::checks::tell_refused;
-use super::opened::{Opened, new_store};
+use super::opened::{NewDesk, new_desk};
 use super::stages::apply_to;
 use batch_apply::PassAll;
 use block_reclamation::Board;
@@ -17,7 +19,7 @@ use std::marker::Brand;
 use std::process::Abort;
 use std::sync::Wait;
 use std::thread::Threads;
-use stream_store::{Desk, Naming, Receipt, Seat, Session, Store};
+use stream_store::{Collected, Config, Desk, Naming, Opened, Receipt, Seat, Session, Stat, Store};
 use version_shelf::Told;
 
 /// Applies a batch, and the seat learns of it.
@@ -70,11 +72,11 @@ fn number_confirmed<R: Threads + Wait + Sync>(
 }
 
 fn over_a_new_desk<R: Threads + Wait + Sync>(rt: &R, alloc: Global) -> Option<u64> {
-    let Opened {
+    let NewDesk {
         mut desk,
         mut board,
         seat,
-    } = new_store(rt, alloc, 1, 16)?;
+    } = new_desk(rt, alloc)?;
     number_confirmed(rt, alloc, &mut desk, &mut board, seat)
 }
 
@@ -123,15 +125,12 @@ fn number_entered<J: Naming, R: Wait>(rt: &R, store: &Store<J>, seat: Seat) -> u
 fn check_entered<J: Naming, R: Threads + Wait + Sync + Abort + Print>(
     rt: &R,
     alloc: Global,
-    desk: Desk,
-    board: Board,
-    mut seat: Seat,
+    opened: Opened,
 )
-    requires book { desk.book ≡ J.book }
-    requires opening { desk.desk.last.opening ≡ J.opening }
-    requires seat { IsOfOpening J.book J.opening seat.seen }
+    requires { IsOpeningOf J.book J.opening opened }
 {
-    let store = Store::<J>::over(desk, board);
+    let (store, mut seats) = opened.named::<J>();
+    let mut seat = seats.pop().expect(rt, "a seat");
     let wanted = learnt_of(rt, alloc, &store, &mut seat);
     let entered = number_entered(rt, &store, seat);
     let _last = store.close(rt);
@@ -139,12 +138,11 @@ fn check_entered<J: Naming, R: Threads + Wait + Sync + Abort + Print>(
 }
 
 fn over_a_new_store<R: Threads + Wait + Sync + Abort + Print>(rt: &R, alloc: Global) {
-    match new_store(rt, alloc, 4, 16) {
-        Some(Opened { desk, board, seat }) => {
-            check_entered::<Brand, R>(rt, alloc, desk, board, seat)
-        }
+    let config = Config::new(4, 16, 1).expect(rt, "within the limits");
+    match Store::open(rt, alloc, config) {
+        Ok(opened) => check_entered::<Brand, R>(rt, alloc, opened),
         // The store wasn't opened.
-        None => tell_refused(rt),
+        Err(_) => tell_refused(rt),
     }
 }
 
@@ -192,36 +190,99 @@ fn confirms_an_entry<J: Naming, R: Wait>(rt: &R, store: &Store<J>, seat: Seat) -
     is_confirmed && is_first
 }
 
-/// Whether the store confirms what the seat has seen at the opening, behind a batch and at its entry.
+/// Whether the store confirms what its seat has seen at the opening, behind a batch and at its entry; nothing where it has no seat.
 fn confirms_all<J: Naming, R: Threads + Wait + Sync>(
     rt: &R,
     alloc: Global,
-    desk: Desk,
-    board: Board,
-    seat: Seat,
-) -> bool
-    requires book { desk.book ≡ J.book }
-    requires opening { desk.desk.last.opening ≡ J.opening }
-    requires seat { IsOfOpening J.book J.opening seat.seen }
+    opened: Opened,
+) -> Option<bool>
+    requires { IsOpeningOf J.book J.opening opened }
 {
-    let store = Store::<J>::over(desk, board);
+    let (store, mut seats) = opened.named::<J>();
+    let seat = seats.pop()?;
     let at_opening = confirms(rt, &store, seat.seen(), 0);
     let behind_a_batch = confirms_a_batch(rt, alloc, &store, &seat);
     let at_entry = confirms_an_entry(rt, &store, seat);
     let _last = store.close(rt);
-    at_opening && behind_a_batch && at_entry
+    Some(at_opening && behind_a_batch && at_entry)
 }
 
-fn confirms_over_a_new_store<R: Threads + Wait + Sync>(rt: &R, alloc: Global) -> bool {
-    match new_store(rt, alloc, 1, 16) {
-        Some(Opened { desk, board, seat }) => {
-            confirms_all::<Brand, R>(rt, alloc, desk, board, seat)
-        }
-        None => false,
-    }
+fn confirms_over_a_new_store<R: Threads + Wait + Sync>(rt: &R, alloc: Global) -> Option<bool> {
+    let config = Config::new(1, 16, 1).ok()?;
+    let opened = Store::open(rt, alloc, config).ok()?;
+    confirms_all::<Brand, R>(rt, alloc, opened)
 }
 
 #[test]
 fn a_store_confirms_what_its_seats_have_seen(rt: HostRuntime) {
-    assert!(rt; confirms_over_a_new_store(&rt, rt.alloc()));
+    assert_eq!(rt; confirms_over_a_new_store(&rt, rt.alloc()), Some(true));
+}
+
+/// Whether a session showed version 1; what was collected while it held that and once it let go; and the counts then.
+type Released = (bool, Collected, Collected, Stat);
+
+/// A seat learns of a batch and acquires its version, lets it go behind the next batch, and the store is collected before and after.
+fn released_over<J: Naming, R: Threads + Wait + Sync>(
+    rt: &R,
+    alloc: Global,
+    store: &Store<J>,
+    mut seat: Seat,
+) -> Option<Released>
+    requires { IsSeatOf J.book J.opening seat }
+{
+    let receipt = apply_to(rt, store, &PassAll, batch_named(alloc, "chain")).ok()?;
+    seat.learn(&receipt).ok()?;
+    let session = seat.pin(rt, store).enter(rt, store);
+    let _more = apply_to(rt, store, &PassAll, batch_named(alloc, "more")).ok()?;
+    let held = store.collect(rt);
+    let is_first = has_first(alloc, &session);
+    let _seat = session.release(rt, store);
+    Some((is_first, held, store.collect(rt), store.stat(rt)))
+}
+
+fn released_over_an_opening<J: Naming, R: Threads + Wait + Sync>(
+    rt: &R,
+    alloc: Global,
+    opened: Opened,
+) -> Option<Released>
+    requires { IsOpeningOf J.book J.opening opened }
+{
+    let (store, mut seats) = opened.named::<J>();
+    let released = released_over(rt, alloc, &store, seats.pop()?)?;
+    let _last = store.close(rt);
+    Some(released)
+}
+
+fn released_over_a_new_store<R: Threads + Wait + Sync>(rt: &R, alloc: Global) -> Option<Released> {
+    let config = Config::new(2, 16, 1).ok()?;
+    let opened = Store::open(rt, alloc, config).ok()?;
+    released_over_an_opening::<Brand, R>(rt, alloc, opened)
+}
+
+/// The block that the second batch replaced stays while version 1 is held.
+const HELD: Collected = Collected {
+    floor: 1,
+    recycled: 0,
+    retired: 1,
+};
+
+const FREE: Collected = Collected {
+    floor: 2,
+    recycled: 1,
+    retired: 0,
+};
+
+const STAT: Stat = Stat {
+    number: 2,
+    names: 3,
+    edges: 2,
+    free: 14,
+    retired: 0,
+    used: 2,
+};
+
+#[test]
+fn a_learnt_version_keeps_its_blocks_until_its_release(rt: HostRuntime) {
+    let released = released_over_a_new_store(&rt, rt.alloc());
+    assert!(rt; released == Some((true, HELD, FREE, STAT)));
 }

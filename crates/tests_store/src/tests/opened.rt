@@ -1,4 +1,4 @@
-// New stores.
+// A new desk, which one thread owns.
 
 ghost use Rattle.std.specs.Prelude.{◌≡◌, All};
 ghost use Rattle.std.specs.Coded.{codes};
@@ -13,7 +13,7 @@ use stream_store::{Config, Desk, Seat, open_parts};
 
 /// A new desk, its board and its seat.
 #[derive(Drop)]
-pub(super) struct Opened {
+pub(super) struct NewDesk {
     pub(super) desk: Desk,
     pub(super) board: Board,
     pub(super) seat: Seat,
@@ -22,22 +22,17 @@ pub(super) struct Opened {
 }
 
 /// The parts of an opening, with its last seat.
-fn seated(desk: Desk, board: Board, mut seats: Vec<Seat>) -> Option<Opened>
+fn seated(desk: Desk, board: Board, mut seats: Vec<Seat>) -> Option<NewDesk>
     requires last { desk.desk.last ≡ empty_version }
     requires seats { All (IsNewSeat desk.book) seats.items }
 {
     let seat = seats.pop()?;
-    Some(Opened { desk, board, seat })
+    Some(NewDesk { desk, board, seat })
 }
 
-/// An opening of so many workers and blocks, and one seat; nothing where a growth was refused.
-pub(super) fn new_store<R: Wait>(
-    rt: &R,
-    alloc: Global,
-    workers: usize,
-    blocks: u32,
-) -> Option<Opened> {
-    let config = Config::new(workers, blocks, 1).ok()?;
+/// An opening of one worker, 16 blocks and one seat; nothing where a growth was refused.
+pub(super) fn new_desk<R: Wait>(rt: &R, alloc: Global) -> Option<NewDesk> {
+    let config = Config::new(1, 16, 1).ok()?;
     match open_parts(rt, alloc, config) {
         Ok((desk, board, seats)) => seated(desk, board, seats),
         Err(_) => None,

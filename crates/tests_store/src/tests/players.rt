@@ -1,6 +1,7 @@
 // The player of lines. A line is what one thread does, and what it is told.
 
 ghost use Rattle.std.specs.Prelude.{◌≡◌};
+ghost use Rattle.stream_store.specs.Opened.{IsOpeningOf};
 
 use super::checks::{check_so, tell_refused};
 use super::places::Place;
@@ -13,7 +14,7 @@ use std::marker::Brand;
 use std::process::Abort;
 use std::sync::Wait;
 use std::thread::Threads;
-use stream_store::{Config, Desk, Naming, OpenError, Seat, Store, open_parts};
+use stream_store::{Config, Desk, Naming, OpenError, Opened, Seat, Store, open_parts};
 
 /// A store of so many workers and blocks and four seats; the lines that are played at its desk, then over the store that threads
 /// share, and then behind its end, at which it has that number.
@@ -31,7 +32,7 @@ pub(super) struct Play<'a> {
 }
 
 /// A play's text is a line of its workers, blocks and name; lines at the desk; where it is shared, `share` and the lines then; and
-/// `close => NUMBER` with the lines behind the end. A number that can't be read is one that no store opens with, or ends at.
+/// `close => NUMBER` with the lines behind the end. Where `share` is its second line, its store opens as a user's does. A number that can't be read is one that no store opens with, or ends at.
 pub(super) fn play_of(text: &str, may_refuse: bool) -> Play<'_> {
     let (head, lines) = split_at(text, "\n");
     let (workers, head) = split_word(head);
@@ -171,7 +172,20 @@ fn check_closed<J: Naming, R: Wait + Abort>(rt: &R, store: Store<J>, play: &Play
     check_so(rt, number == play.last, play.name);
 }
 
-/// Plays over the store of a desk and a board, to its end.
+/// Plays over a store, to its end.
+fn check_store<J: Naming, R: Threads + Wait + Sync + Abort + Print>(
+    rt: &R,
+    alloc: Global,
+    mut store: Store<J>,
+    places: &mut Vec<Place>,
+    play: &Play,
+) {
+    check_lines(rt, alloc, &mut store, places, play.shared, play);
+    check_closed(rt, store, play);
+    check_lines(rt, alloc, &mut End, places, play.ended, play);
+}
+
+/// Plays over the store of a desk and a board.
 fn check_shared<J: Naming, R: Threads + Wait + Sync + Abort + Print>(
     rt: &R,
     alloc: Global,
@@ -183,10 +197,7 @@ fn check_shared<J: Naming, R: Threads + Wait + Sync + Abort + Print>(
     requires book { desk.book ≡ J.book }
     requires opening { desk.desk.last.opening ≡ J.opening }
 {
-    let mut store = Store::<J>::over(desk, board);
-    check_lines(rt, alloc, &mut store, places, play.shared, play);
-    check_closed(rt, store, play);
-    check_lines(rt, alloc, &mut End, places, play.ended, play);
+    check_store(rt, alloc, Store::<J>::over(desk, board), places, play)
 }
 
 /// Plays at a desk, and then over the store of it.
@@ -210,8 +221,14 @@ fn places_of(alloc: Global, seats: Vec<Seat>) -> Result<Vec<Place>, AllocError> 
     Ok(places)
 }
 
+/// Memory is refused for the places of a play's seats.
+fn check_refused<R: Abort + Print>(rt: &R, play: &Play) {
+    assert!(rt; play.may_refuse);
+    tell_refused(rt);
+}
+
 /// Plays over the parts of an opening.
-pub(super) fn check_parts<R: Threads + Wait + Sync + Abort + Print>(
+fn check_parts<R: Threads + Wait + Sync + Abort + Print>(
     rt: &R,
     alloc: Global,
     front: Front,
@@ -220,37 +237,62 @@ pub(super) fn check_parts<R: Threads + Wait + Sync + Abort + Print>(
 ) {
     match places_of(alloc, seats) {
         Ok(mut places) => check_over(rt, alloc, front, &mut places, play),
-        Err(AllocError) => {
-            assert!(rt; play.may_refuse);
-            tell_refused(rt);
-        }
+        Err(AllocError) => check_refused(rt, play),
     }
 }
 
-/// Plays over a new store, which opens, since the opening before it was refused, and one growth alone is.
-fn check_again<R: Threads + Wait + Sync + Abort + Print>(
+/// Plays over the store of an opening, which takes this name.
+fn check_named<J: Naming, R: Threads + Wait + Sync + Abort + Print>(
+    rt: &R,
+    alloc: Global,
+    opened: Opened,
+    play: &Play,
+)
+    requires { IsOpeningOf J.book J.opening opened }
+{
+    let (store, seats) = opened.named::<J>();
+    match places_of(alloc, seats) {
+        Ok(mut places) => check_store(rt, alloc, store, &mut places, play),
+        Err(AllocError) => check_refused(rt, play),
+    }
+}
+
+/// Plays over the store of an opening.
+pub(super) fn check_opened<R: Threads + Wait + Sync + Abort + Print>(
+    rt: &R,
+    alloc: Global,
+    opened: Opened,
+    play: &Play,
+) {
+    check_named::<Brand, R>(rt, alloc, opened, play)
+}
+
+/// Plays over a new store, where it opens: by its parts where the play has lines at the desk, and else as a user opens it.
+fn check_new<R: Threads + Wait + Sync + Abort + Print>(
     rt: &R,
     alloc: Global,
     config: Config,
     play: &Play,
-) {
-    match open_parts(rt, alloc, config) {
-        Ok((desk, board, seats)) => check_parts(rt, alloc, Front { desk, board }, seats, play),
-        Err(_) => check_so(rt, false, "one growth alone is refused"),
+) -> Result<(), OpenError> {
+    if play.at_desk.is_empty() {
+        check_opened(rt, alloc, Store::open(rt, alloc, config)?, play);
+    } else {
+        let (desk, board, seats) = open_parts(rt, alloc, config)?;
+        check_parts(rt, alloc, Front { desk, board }, seats, play);
     }
+    Ok(())
 }
 
-/// Plays over a new store. Where its opening is refused, nothing was opened, and the next one opens.
+/// Plays over a new store. Where its opening is refused, nothing was opened, and the next one opens, since one growth alone is
+/// refused.
 fn check_play<R: Threads + Wait + Sync + Abort + Print>(rt: &R, alloc: Global, play: &Play) {
     let config = Config::new(play.workers, play.blocks, 4).expect(rt, "within the limits");
-    match open_parts(rt, alloc, config) {
-        Ok((desk, board, seats)) => check_parts(rt, alloc, Front { desk, board }, seats, play),
-        Err(error) => {
-            let is_so = play.may_refuse && error == OpenError::OutOfMemory;
-            check_so(rt, is_so, play.name);
-            tell_refused(rt);
-            check_again(rt, alloc, config, play);
-        }
+    if let Err(error) = check_new(rt, alloc, config, play) {
+        let is_so = play.may_refuse && error == OpenError::OutOfMemory;
+        check_so(rt, is_so, play.name);
+        tell_refused(rt);
+        let is_open = check_new(rt, alloc, config, play).is_ok();
+        check_so(rt, is_open, "one growth alone is refused");
     }
 }
 

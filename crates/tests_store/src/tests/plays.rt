@@ -1,18 +1,21 @@
 // Plays: stories over the store that threads share, and its four seats, in lines.
 
+ghost use Rattle.std.specs.Prelude.{◌≡◌};
+ghost use Rattle.stream_store.specs.Opened.{IsOpeningOf};
+
 use super::batches::batch_named;
 use super::checks::check_so;
-use super::opened::{Opened, new_store};
-use super::players::{check_parts, check_plays, play_of};
-use super::stages::{Front, apply_at};
+use super::players::{check_opened, check_plays, play_of};
+use super::stages::apply_to;
 use batch_apply::PassAll;
 use graph_version::Version;
 use std::alloc::Global;
 use std::io::Print;
+use std::marker::Brand;
 use std::process::Abort;
 use std::sync::{Arc, Wait};
 use std::thread::Threads;
-use stream_store::{Config, Desk, open_parts_from};
+use stream_store::{Config, Naming, Opened, Store};
 
 const PLAYS: &str = "2 16 applies one batch twice
 share
@@ -21,8 +24,8 @@ apply first => 2 u
 close => 2
 
 2 16 collects what no session holds
-# While version 1 is held, the floor is 1 and the block that version 2 dropped stays.
 share
+# While version 1 is held, the floor is 1 and the block that version 2 dropped stays.
 apply chain => 1 ii
 seat 1 => pinned
 seat 1 => holds 1
@@ -36,9 +39,9 @@ stat => 2 3 2 14 0 2
 close => 2
 
 2 16 collects what no pinned seat may enter
+share
 # While a seat is pinned at 0, the floor stays; once it entered version 2, its pin is 2. Then the pins of seat 2 alone, and of seat
 # 3 alone, unsettled and settled.
-share
 apply chain => 1 ii
 seat 1 => pinned
 apply more => 2 u
@@ -99,9 +102,9 @@ ask 0 edge => 6 10 20
 close => 2
 
 2 16 shows each of four versions
+share
 # Each of four versions is entered by a seat of its own. The block that version 2 alone has goes once that one is let go of,
 # while those of the versions before and after it stay.
-share
 apply chain => 1 ii
 seat 0 => pinned
 seat 0 => holds 1
@@ -132,11 +135,11 @@ ask 2 edge => 7 10 20
 ask 3 edge => none
 
 2 16 refuses more operations than free blocks until a collection
+share
 # A batch of four sources takes four blocks, and retires the four before. Without a collection the fifth batch finds no free
 # block; it and one that is larger than the pool leave all as it was. A seat that was pinned and has not entered keeps all
 # twelve retired blocks; once it holds version 4, the eight go that versions 2 and 3 alone have, and version 1, which is held,
 # keeps its own.
-share
 apply 17 targets => 17 blocks are needed and 16 are free
 stat => 0 0 0 16 0 0
 apply four => 1 iiii
@@ -167,9 +170,9 @@ stat => 5 4 4 12 0 4
 close => 5
 
 2 16 expires old edges
+share
 # Expiries by two workers. Version 2 replaces a's block, and version 3 replaces that one and leaves b without an edge. Both seats
 # keep what their version has; once they let go, all three replaced blocks are freed. The last expiry finds nothing old.
-share
 apply aged => 1 iii
 seat 1 => pinned
 seat 1 => holds 1
@@ -192,9 +195,9 @@ stat => 4 4 2 14 1 1
 close => 4
 
 2 16 refuses an expiry of more used blocks than free ones
+share
 # A batch with an expiry asks for as many blocks more as the last version has: one of the nine sources' blocks is too many for the
 # seven that are free, though it would take none.
-share
 apply nine => 1 iiiiiiiii
 apply none old => 10 blocks are needed and 7 are free
 stat => 1 10 9 7 0 9
@@ -205,8 +208,8 @@ stat => 2 10 10 7 0 9
 close => 2
 
 2 16 answers each request of the version held
-# A triangle with a tail. Its session is answered of it after the tail was taken away.
 share
+# A triangle with a tail. Its session is answered of it after the tail was taken away.
 apply tail => 1 iiii
 seat 0 => pinned
 seat 0 => holds 1
@@ -240,10 +243,10 @@ fn plays_over_a_shared_store(rt: HostRuntime) {
 }
 
 const REBASED: &str = "2 16 goes on from what a version holds
+share
 # Version 0 has the edge, and so has each later one that leaves it; each of them began with it. The block that the store opened
 # with stays while version 0 is held, and is freed once no seat holds it. A removal then takes the edge away that no batch of this
 # store had put in.
-share
 stat => 0 2 1 15 0 1
 seat 0 => pinned
 seat 0 => holds 0
@@ -269,24 +272,24 @@ ask 1 edge => 6 10 20
 stat => 2 2 0 15 1 0
 close => 2";
 
-/// The last version of a desk behind the batch that makes the edge of a to b, where that was applied.
-fn held_at<R: Threads + Wait + Sync>(rt: &R, alloc: Global, mut desk: Desk) -> Arc<Version> {
-    let _applied = apply_at(rt, &mut desk, &PassAll, batch_named(alloc, "first"));
-    desk.close(rt)
+/// The last version of a store behind the batch that makes the edge of a to b; nothing where it is refused.
+fn version_of<J: Naming, R: Threads + Wait + Sync>(
+    rt: &R,
+    alloc: Global,
+    opened: Opened,
+) -> Option<Arc<Version>>
+    requires { IsOpeningOf J.book J.opening opened }
+{
+    let (store, _seats) = opened.named::<J>();
+    let _receipt = apply_to(rt, &store, &PassAll, batch_named(alloc, "first")).ok()?;
+    Some(store.close(rt))
 }
 
-/// The last version of a store that has the edge; nothing where it wasn't opened.
-fn held<R: Threads + Wait + Sync>(rt: &R, alloc: Global) -> Option<Arc<Version>> {
-    match new_store(rt, alloc, 1, 16) {
-        Some(
-            Opened {
-                desk,
-                board: _board,
-                seat: _seat,
-            },
-        ) => Some(held_at(rt, alloc, desk)),
-        None => None,
-    }
+/// A version that has the edge alone.
+fn with_the_edge<R: Threads + Wait + Sync>(rt: &R, alloc: Global) -> Option<Arc<Version>> {
+    let config = Config::new(1, 16, 1).ok()?;
+    let opened = Store::open(rt, alloc, config).ok()?;
+    version_of::<Brand, R>(rt, alloc, opened)
 }
 
 /// Plays over a store that opens with what that version holds.
@@ -297,14 +300,14 @@ fn check_rebased<R: Threads + Wait + Sync + Abort + Print>(
 ) {
     let config = Config::new(2, 16, 4).expect(rt, "within the limits");
     let play = play_of(REBASED, false);
-    match open_parts_from(rt, alloc, config, version) {
-        Ok((desk, board, seats)) => check_parts(rt, alloc, Front { desk, board }, seats, &play),
+    match Store::open_from(rt, alloc, config, version) {
+        Ok(opened) => check_opened(rt, alloc, opened, &play),
         Err(_) => check_so(rt, false, "an opening"),
     }
 }
 
 #[test]
 fn goes_on_from_what_a_version_holds(rt: HostRuntime) {
-    let version = held(&rt, rt.alloc()).expect(&rt, "a version");
+    let version = with_the_edge(&rt, rt.alloc()).expect(&rt, "a version");
     check_rebased(&rt, rt.alloc(), &version);
 }

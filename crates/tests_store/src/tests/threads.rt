@@ -1,16 +1,14 @@
 // A store that is read in one thread while a batch is held in another: readers wait for no batch.
 
 ghost use Rattle.std.specs.Prelude.{◌≡◌};
-ghost use Rattle.stream_store.specs.Stores.{IsOfOpening};
+ghost use Rattle.stream_store.specs.Opened.{IsOpeningOf};
 
-use super::answers::edge_told;
+use super::answers::has_first;
 use super::batches::batch_named;
 use super::handed::{handed_of, learns_of};
-use super::opened::{Opened, new_store};
 use super::stages::apply_to;
 use super::waits::is_set;
 use batch_apply::Gate;
-use block_reclamation::Board;
 use graph_types::Batch;
 use std::alloc::{AllocError, Global};
 use std::marker::Brand;
@@ -19,7 +17,7 @@ use std::sync::Wait;
 use std::sync::atomic::AtomicBool;
 use std::sync::atomic::Ordering::SeqCst;
 use std::thread::{Threads, join};
-use stream_store::{Collected, Desk, Naming, Seat, Session, Stat, Store};
+use stream_store::{Collected, Config, Naming, Opened, Seat, Session, Stat, Store};
 
 /// How often a session asks beside a batch.
 const ASKED: u32 = 100;
@@ -41,12 +39,6 @@ impl Gate for HoldFirst {
             }
         }
     }
-}
-
-/// Whether the session holds version 1, and has the edge as the first batch left it.
-fn has_first(alloc: Global, session: &Session) -> bool {
-    let is_first = session.version().number() == 1;
-    is_first && matches!(edge_told(alloc, session), Some(Some((5, 10, 10))))
 }
 
 /// Whether it has that each time that it is asked.
@@ -173,19 +165,16 @@ fn beside_a_batch<J: Naming + Send + Sync, R: Threads + Wait + Sync>(
     }
 }
 
-/// The same over the store of these parts, behind a first batch that the seat learnt of; nothing where that is refused.
+/// The same over the store of an opening, behind a first batch that the seat learnt of; nothing where that is refused.
 fn beside_over<J: Naming + Send + Sync, R: Threads + Wait + Sync>(
     rt: &R,
     alloc: Global,
-    desk: Desk,
-    board: Board,
-    mut seat: Seat,
+    opened: Opened,
 ) -> Option<Beside>
-    requires book { desk.book ≡ J.book }
-    requires opening { desk.desk.last.opening ≡ J.opening }
-    requires seat { IsOfOpening J.book J.opening seat.seen }
+    requires { IsOpeningOf J.book J.opening opened }
 {
-    let store = Store::<J>::over(desk, board);
+    let (store, mut seats) = opened.named::<J>();
+    let mut seat = seats.pop()?;
     let first = handed_of(rt, &store, batch_named(alloc, "chain"));
     let is_learnt = learns_of(&mut seat, &first, 1);
     let beside = beside_a_batch(rt, alloc, &store, seat);
@@ -194,8 +183,9 @@ fn beside_over<J: Naming + Send + Sync, R: Threads + Wait + Sync>(
 }
 
 fn over_a_new_store<R: Threads + Wait + Sync>(rt: &R, alloc: Global) -> Option<Beside> {
-    let Opened { desk, board, seat } = new_store(rt, alloc, 2, 16)?;
-    beside_over::<Brand, R>(rt, alloc, desk, board, seat)
+    let config = Config::new(2, 16, 1).ok()?;
+    let opened = Store::open(rt, alloc, config).ok()?;
+    beside_over::<Brand, R>(rt, alloc, opened)
 }
 
 /// The counts behind the second batch: its block that version 1 had is retired.

@@ -2,13 +2,13 @@
 // had seen or been told, while blocks are retired and collected.
 
 ghost use Rattle.std.specs.Prelude.{◌≡◌, ◌<◌, All};
+ghost use Rattle.stream_store.specs.Opened.{IsOpeningOf};
 ghost use Rattle.stream_store.specs.Stores.{IsOfOpening, IsSeatOf};
 
 use super::answers::edge_told;
 use super::batches::{Op, batch_of, is_op};
 use super::handed::{Handed, feed, learns_of};
 use super::waits::{has_reached, is_set};
-use block_reclamation::Board;
 use graph_types::Batch;
 use graph_version::Version;
 use std::alloc::{AllocError, Global};
@@ -18,7 +18,7 @@ use std::sync::atomic::Ordering::SeqCst;
 use std::sync::atomic::{AtomicBool, AtomicU32, AtomicU64};
 use std::sync::{OnceLock, Wait};
 use std::thread::{Threads, join, map_vec};
-use stream_store::{Collected, Config, Desk, Naming, Seat, Session, Store, open_parts};
+use stream_store::{Collected, Config, Naming, Opened, Seat, Session, Store};
 
 /// How many seats read, each in a thread of its own.
 const READERS: u32 = 4;
@@ -323,15 +323,11 @@ fn fed_and_read<J: Naming + Send + Sync, R: Threads + Wait + Sync>(
 fn found_over<J: Naming + Send + Sync, R: Threads + Wait + Sync>(
     rt: &R,
     alloc: Global,
-    desk: Desk,
-    board: Board,
-    seats: Vec<Seat>,
+    opened: Opened,
 ) -> Option<Found>
-    requires book { desk.book ≡ J.book }
-    requires opening { desk.desk.last.opening ≡ J.opening }
-    requires seats { All (IsSeatOf J.book J.opening) seats.items }
+    requires { IsOpeningOf J.book J.opening opened }
 {
-    let store = Store::<J>::over(desk, board);
+    let (store, seats) = opened.named::<J>();
     let found = match Shared::<J>::new(alloc) {
         Ok(shared) => Some(fed_and_read(rt, alloc, &store, &shared, seats)),
         Err(_) => None,
@@ -342,10 +338,8 @@ fn found_over<J: Naming + Send + Sync, R: Threads + Wait + Sync>(
 
 fn over_a_new_store<R: Threads + Wait + Sync>(rt: &R, alloc: Global) -> Option<Found> {
     let config = Config::new(4, 256, READERS as usize).ok()?;
-    match open_parts(rt, alloc, config) {
-        Ok((desk, board, seats)) => found_over::<Brand, R>(rt, alloc, desk, board, seats),
-        Err(_) => None,
-    }
+    let opened = Store::open(rt, alloc, config).ok()?;
+    found_over::<Brand, R>(rt, alloc, opened)
 }
 
 /// While each reader held one of versions 29 to 32, eight batches were applied. The blocks that batches 33 to 39 made for `a`
