@@ -49,7 +49,7 @@ pub record Setup : Type 0 where
 abbrev pub set_up : ConfigView → Setup
 set_up config = record { opening = empty_graph; blocks = config.blocks; seats = config.seats }
 
--- the version that a retired block was taken by, and the one that retired it
+-- of a retired block: the number of the version whose batch took it, and of the one whose batch dropped it
 pub record Dates : Type 0 where
   pub birth : ℕ
   pub retirement : ℕ

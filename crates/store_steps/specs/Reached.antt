@@ -81,12 +81,12 @@ pub record StaysReached (start : World) : Type 0 where
       (s : Store) (seat : ℕ) (events : List Event) → IsBoard s.board → seat < SEATS
       → IsTrue (is_done (world_by start events) (Release seat))
       → Leads start events s (Release seat ∷ []) (with_seat s seat None)
-  -- the readers' calls
+  -- a reader's events, which change nothing of the store
   pub enter : (seat : ℕ) → IsReaders start (Enter seat)
   pub ask : (seat : ℕ) (request : Request) → IsReaders start (Ask seat request)
   pub read : (seat : ℕ) → IsReaders start (Read seat)
   pub reply : (seat : ℕ) → IsReaders start (Reply seat)
-  -- a session that enters holds the desk's last version
+  -- after an Enter that is done the seat's session holds the number of the desk's last version
   pub entered :
       (s : Store) (seat : ℕ) (events : List Event) → IsReached start events s
       → IsTrue (is_done (world_by start events) (Enter seat))

@@ -1,5 +1,6 @@
-// The laws of the model are there to be called.
+// The laws of the model, and of blocks and pins, are there to be called.
 
+use block_reclamation::{law_need, law_partition};
 use epoch_core::{law_collection, law_epoch, law_isolation, law_post};
 use graph_model::law_names_before_kinds;
 use graph_types::{
@@ -23,4 +24,6 @@ fn laws_can_be_called() {
     law_epoch();
     law_collection();
     law_post();
+    law_partition();
+    law_need();
 }
