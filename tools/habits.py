@@ -23,7 +23,6 @@ import pathlib
 import re
 import subprocess
 import sys
-import textwrap
 
 import statements
 
@@ -35,6 +34,7 @@ SENTENCE = 30
 SINCE = "cf1127e"
 PAGES = {".md", ".py", ".rs", ""}
 DEFINED = re.compile(r"\[`([^`]+)`\]\(([^)\s]+\.antt)\)")
+FENCED = re.compile(r"(?ms)^```.*?^```$")
 LINK = re.compile(r"(?<!!)\[[^\]]*\]\(([^)\s]+)\)")
 WORDS = TOP / "docs/ARCHITECTURE.md"
 # What a newcomer can't know: words that are this repository's, or mean something of its own in it.
@@ -63,7 +63,7 @@ def wide_lines(path):
 def sentences(page):
     """Yields a page's sentences, but for those of tables, headings and what is typed; a span of code stands as one word."""
     lines = []
-    for line in page.read_text(encoding="utf-8").splitlines():
+    for line in FENCED.sub("", page.read_text(encoding="utf-8")).splitlines():
         is_apart = line.startswith(("|", "#", "    "))
         # What begins an item of a list begins a sentence.
         lines.append("" if is_apart else re.sub(r"^\s*(?:[-*]|\d+\.) ", "\n", line.removeprefix("> ")))
@@ -202,8 +202,7 @@ def unshown_programs():
         if f"\n    {row}\n" not in page:
             yield f"docs/LIBRARY.md doesn't show the row {row}"
         for path in paths:
-            shown = textwrap.indent(path.read_text(encoding="utf-8"), "    ")
-            if f"\n\n{shown}\n" not in page:
+            if f"\n{path.read_text(encoding='utf-8')}```\n" not in page:
                 yield f"docs/LIBRARY.md doesn't show {path.relative_to(TOP)} as it is"
 
 

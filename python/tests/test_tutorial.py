@@ -47,14 +47,14 @@ class Documents(Case):
                     "MISTELUK_PROGRAM": find_program()}
 
     def run_commands(self, path) -> int:
-        """Runs the client's commands, and what stands before them on the page: a function of the shell, or a file that is
-        written. Returns how many of the client's there were."""
+        """Runs the client's commands, those that show a file's head, and what stands before them on the page: a function of
+        the shell, or a file that is written. Returns how many there were of the first two."""
         count, before = 0, ""
         for command, wanted in commands(path.read_text()):
             if re.fullmatch(r"\w+\(\) \{ .* \}|printf '[^']*' > \S+", command):
                 before += f"{command}\n"
                 continue
-            names = "|".join(["misteluk", "stinger drive", *re.findall(r"(?m)^(\w+)\(\) \{", before)])
+            names = "|".join(["misteluk", "stinger drive", "head", *re.findall(r"(?m)^(\w+)\(\) \{", before)])
             if " picture " in command and not optional("matplotlib") or not re.search(rf"\b({names})\b", command):
                 continue
             run = subprocess.run(before + command, shell=True, executable="/bin/bash", cwd=self.room, env=self.env,
@@ -65,7 +65,7 @@ class Documents(Case):
         return count
 
     def test_the_tutorial_s_commands(self):
-        self.assertEqual(self.run_commands(TUTORIAL), 8 if optional("matplotlib") else 6)
+        self.assertEqual(self.run_commands(TUTORIAL), 9 if optional("matplotlib") else 7)
 
     def conversations(self, path) -> int:
         """Runs what stands behind >>>, and returns how many such lines there were."""
