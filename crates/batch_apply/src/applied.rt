@@ -65,7 +65,6 @@ pub fn apply<R: Threads + Sync, G: Gate + Sync>(
     requires unlisted { All (λ n. is_in n (rows.numbers_of (rows.blocks_of version.now.rows)) ≡ false) (numbers_of blocks.items) }
     ensures { IfOk result (IsApplied version.now (batch_value batch) (numbers_of blocks.items)) }
 {
-    version.facts();
     let Plan {
         names,
         kinds,

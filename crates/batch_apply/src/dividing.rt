@@ -44,7 +44,6 @@ pub fn plan_with(
     ensures limits { OnOk result (MeetsNeitherLimit batch.now (content version.now)) }
     ensures refused { IfErr result (λ error. IsPlanRefusal error batch.now (content version.now)) }
 {
-    version.facts();
     let mut names = version.names().share()?;
     let mut kinds = version.kinds().share()?;
     let ops = resolve_batch(alloc, &mut names, &mut kinds, batch.ops())?;

@@ -68,7 +68,6 @@ pub fn old_rows(alloc: Global, version: &Version, batch: &Batch) -> Result<Vec<O
     if time == 0 {
         return Ok(found);
     }
-    version.facts();
     for number in 0..version.names().len() {
         let source = VertexId(number as u32);
         let blocks = old_blocks_in(version.row_blocks(source), time);

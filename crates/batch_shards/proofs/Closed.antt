@@ -1,6 +1,6 @@
 -- What closed rows are: their layout, how many blocks they took and dropped, and whose blocks they have.
-use Rattle.std.proofs.Common.{◌≡◌, ℕ, ◌+◌, Bool, true, false, cond, not, ◌&&◌, ◌||◌, List, [], ◌∷◌, ◌++◌, length}
-use Rattle.std.proofs.Common.{map, filter, flat_map, count_by, refl, sym, ap, ap₂, ◌∙◌, All, length-append}
+use Rattle.std.proofs.Common.{◌≡◌, ℕ, ◌+◌, Bool, true, false, cond, not, ◌&&◌, ◌||◌, ◌⊎◌, inl, inr, List, [], ◌∷◌, ◌++◌, length}
+use Rattle.std.proofs.Common.{map, filter, flat_map, count_by, refl, sym, ap, ap₂, ◌∙◌, All, length-append, arith}
 use Rattle.std.proofs.lemmas.List.{Sums.sum_by-cons, Elements.All-head, Elements.All-tail, Elements.All-cons, Elements.All-nil}
 use Rattle.std.proofs.lemmas.List.Elements.{All-append}
 use Rattle.std.specs.{Option.is_some, Option.option_to_list, declared.alloc.Global.Global}
@@ -9,7 +9,7 @@ use Rattle.edge_block.specs.{declared.blocks.Block.Block, Slots.BlockView}
 use Rattle.edge_block.specs.Rows.{OpenBlock, shape_of, shapes, has_none, is_kept, row_end, taken_in, dropped_in}
 use Rattle.batch_shards.specs.RowBlocks.{block_of, open_of, opens, had_here, had_in, IsOf}
 use Rattle.batch_shards.specs.Closing.{written_here, dropped_here, after_of, written_of, dropped_of, closed_rows}
-use Rattle.batch_shards.specs.{Shards.AreOpen, Shards.AreOwn, Shards.sources_of, Shards.had_all, Done.sum_of}
+use Rattle.batch_shards.specs.{Shards.AreOpen, Shards.AreOwn, Shards.sources_of, Shards.had_all, Done.sum_of, Done.AreBlockRows}
 use Rattle.graph_version.specs.Versions.{IsBlockOf}
 use Rattle.batch_shards.specs.declared.{row_blocks.RowBlock.RowBlock, shard.OpenRow.OpenRow}
 
@@ -128,3 +128,10 @@ pub rows_edges : (row : ℕ → List BlockView) → ((source : ℕ) → All (IsB
 rows_edges row each [] = All-nil HasEdges
 rows_edges row each (s ∷ sources) = All-append HasEdges (row s) (flat_map row sources) (λ k d lt. (each s k d lt).has_edges)
     (rows_edges row each sources)
+
+-- the blocks of rows that were read have edges, where each row of sources has such or no source is there
+pub read_edges : (row : ℕ → List BlockView) (sources : List ℕ) → (length sources ≡ 0) ⊎ AreBlockRows row
+    → All HasEdges (flat_map row sources)
+read_edges row sources (inr each) = rows_edges row each sources
+read_edges row [] (inl none) = All-nil HasEdges
+read_edges row (s ∷ sources) (inl none) = absurd (omega arith)

@@ -13,11 +13,11 @@ use Rattle.batch_shards.specs.Shards.{IsAct, AreSteps, resolved_at, resolved_in,
 use Rattle.batch_shards.specs.declared.shard.{Act.Act, Act.TheVariants.Edge, Act.TheVariants.Expire, Step.Step, Shard.Shard}
 use Rattle.batch_shards.specs.{Progress.AreOutcomes, Progress.AreRowsDone, Births.births_end, Births.births_dropped}
 use Rattle.batch_shards.proofs.{Dating.all_births, Dating.all_dropped, Dating.written_births, Places.count_by-append}
-use Rattle.batch_shards.specs.Done.{AreBlockRows, IsShardDone, sum_of, layout_by, rows_by, sources_in}
+use Rattle.batch_shards.specs.Done.{IsShardDone, sum_of, layout_by, rows_by, sources_in}
 use Rattle.batch_shards.specs.declared.shard.{ShardDone.ShardDone, OpenRow.OpenRow}
 use Rattle.batch_shards.proofs.{ShardSteps.first_step, ShardSteps.length-outcomes_all, Balances.all_before}
 use Rattle.batch_shards.proofs.{Balances.all_after, Balances.all_numbers, Closed.length-written, Closed.length-dropped}
-use Rattle.batch_shards.proofs.Closed.{sum_open, same_sources, pieces_closed, all_layout, HasEdges, all_blocks, rows_edges}
+use Rattle.batch_shards.proofs.Closed.{sum_open, same_sources, pieces_closed, all_layout, HasEdges, all_blocks}
 use Rattle.graph_version.specs.Versions.{IsBlockOf, is_in}
 
 -- a list of pairs by their parts
@@ -58,13 +58,13 @@ outcomes_all_are rows sources steps outs in_rows d =
 
 -- what all rows leave is what a shard must leave
 module _ (rows : ℕ → List BlockView) (shard : Shard) (before done : ShardDone) (fresh : List (Arc Block Global)) where
-  pub finish : AreBlockRows rows → AreSteps (length (sources_in shard)) shard.steps.items
+  pub finish : All HasEdges (flat_map rows (sources_in shard)) → AreSteps (length (sources_in shard)) shard.steps.items
       → AreRowsDone rows (sources_in shard) shard.steps.items (numbers_of shard.fresh.items) (length (sources_in shard)) fresh
       before → done.outcomes.items ≡ before.outcomes.items → done.rows.items ≡ before.rows.items
       → done.left.taken.items ≡ before.left.taken.items → done.left.dropped.items ≡ before.left.dropped.items
       → numbers_of done.left.unused.items ≡ numbers_of before.left.unused.items ++ numbers_of fresh
       → IsShardDone rows shard done
-  finish good in_rows d same_outcomes same_rows same_taken same_dropped same_unused =
+  finish edges in_rows d same_outcomes same_rows same_taken same_dropped same_unused =
       let w : List OpenRow = d.work in
       let all : take (length (sources_in shard)) (sources_in shard) ≡ sources_in shard =
       take_all (length (sources_in shard)) (sources_in shard) (omega arith) in
@@ -80,7 +80,7 @@ module _ (rows : ℕ → List BlockView) (shard : Shard) (before done : ShardDon
         layout = subst (λ rs. All (λ r. map shape_of r.1 ≡ row_end (rows_by rows shard r.0)) rs) (sym closed)
             (all_layout (rows_by rows shard) w d.layout);
         blocks = subst (λ rs. All (λ r. All (IsBlockOf r.0) r.1) rs) (sym closed)
-            (all_blocks w d.own (subst (λ bs. All HasEdges bs) (sym had) (rows_edges rows good (sources_in shard))));
+            (all_blocks w d.own (subst (λ bs. All HasEdges bs) (sym had) edges));
         exchanged = record {
           kept = stays_all w;
           fresh = written_all w;

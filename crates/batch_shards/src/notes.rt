@@ -89,8 +89,6 @@ impl Notes {
             → may_stand self.new target place ≡ true) }
         ensures more { OnOk result (HasMore self.old self.new) }
     {
-        // A block's contract says with its length that its edges' times are in the view.
-        let _count = block.len();
         for edge in block.select(&EVERY_EDGE) {
             self.note(*edge.target, place)?;
         }

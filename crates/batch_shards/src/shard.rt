@@ -98,9 +98,9 @@ pub struct Leavings {
 
 /// The blocks of a source's row.
 fn blocks_at(version: &Version, source: VertexId) -> &[Arc<Block>]
-    requires { AreBlockRows (row_of version.now.rows) }
     ensures row { blocks_of result.now ≡ row_of version.now.rows source.0 }
     ensures own { All (λ b. (block_of b).source ≡ source.0) result.now }
+    ensures rows { AreBlockRows (row_of version.now.rows) }
 {
     version.row_blocks(source)
 }
@@ -135,7 +135,6 @@ fn do_row(
     fresh: &mut Vec<Arc<Block>>,
     done: &mut ShardDone,
 ) -> Result<(), AllocError>
-    requires rows { AreBlockRows (row_of version.now.rows) }
     requires row { row < length sources.now }
     requires steps { AreSteps (length sources.now) steps.now }
     requires distinct { AllPairs (λ a b. a ≢ b) (map (λ s. s.0) sources.now) }
@@ -148,6 +147,7 @@ fn do_row(
         → AreRowsDone (row_of version.now.rows) (map (λ s. s.0) sources.now) steps.now handed row fresh.old.items done.old
         → AreRowsDone (row_of version.now.rows) (map (λ s. s.0) sources.now) steps.now handed (row + 1) fresh.new.items
         done.new) }
+    ensures rows { OnOk result (AreBlockRows (row_of version.now.rows)) }
 {
     let source = sources[row];
     let blocks = blocks_at(version, source);
@@ -209,7 +209,6 @@ pub fn work_on(alloc: Global, version: &Version, shard: Shard) -> Result<ShardDo
         steps,
         mut fresh,
     } = shard;
-    version.facts();
     let lists = group_steps(alloc, sources.len(), steps.as_slice())?;
     let groups = &lists;
     let mut done = none_done(alloc, sources.len(), steps.as_slice())?;

@@ -211,8 +211,6 @@ impl Block {
         ensures slots { self.new ≡ with_slots self.old (slots_since time self.old.slots) }
         ensures count { result ≡ old_in time self.old.slots }
     {
-        // A block's contract says with its length that it has 32 slots.
-        let _len = self.len();
         let mut count = 0_u32;
         while let Some(target) = self.first_before(time) {
             let _taken = self.take(target);
@@ -223,13 +221,12 @@ impl Block {
 
     /// The target of an edge that was last touched before a time, where there is one.
     fn first_before(&self, time: u64) -> Option<u32>
-        ensures { IsOld time self.now.slots result }
+        ensures edge { IsOld time self.now.slots result }
+        ensures places { IfSome result (λ target. length self.now.slots ≡ 32) }
     {
         if time == 0 {
             return None;
         }
-        // A block's contract says with its length that its targets are distinct.
-        let _len = self.len();
         let old = Filter {
             kind: None,
             lo: 0,
@@ -277,6 +274,7 @@ impl Block {
         ensures lends { edges_left result ≡ map lent_of (filter (in_view view.now) (entries_of self.now)) }
         ensures few { length (edges_left result) ≤ 32 }
         ensures in_range { All (λ edge. IsStamp edge.stamp) (edges_left result) }
+        ensures block { IsBlock self.now }
     {
         BlockIter {
             block: self,
@@ -309,6 +307,7 @@ impl Block {
             ≡ map lent_of (filter (in_view view.now) (entries_of self.now)) }
         ensures few { length (map lent_of (filter (in_view view.now) (entries_of self.now))) ≤ 32 }
         ensures in_range { All (λ edge. IsStamp edge.stamp) (map lent_of (filter (in_view view.now) (entries_of self.now))) }
+        ensures block { IsBlock self.now }
     {
         if takes(view, self.kind) {
             places_within(&self.recents, self.live, self.times, view.lo, view.hi)

@@ -78,9 +78,7 @@ fn count_all(table: &mut [Degree], version: &Version, view: &Filter)
     requires { table.old ≡ replicate (length (content version.now).names) NONE }
     ensures { table.new ≡ degree_table view.now (content version.now) }
 {
-    // A version's facts say that its edges join its vertices, and that these are few.
-    version.facts();
-    for source in 0..table.len() {
+    for source in 0..version.names().len() {
         count_row(table, version.row_blocks(VertexId(source as u32)), view);
     }
 }

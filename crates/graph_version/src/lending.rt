@@ -70,8 +70,6 @@ pub(crate) fn all_edges(block: &Block) -> BlockIter<'_>
     ensures lends { edges_left result ≡ map lent_of (entries_of block.now) }
     ensures in_range { All (λ edge. IsStamp edge.stamp) (edges_left result) }
 {
-    // A block's contract says with its count that its times are times: the window leaves out none of them.
-    let _count = block.len();
     block.select(&EVERY)
 }
 

@@ -21,14 +21,11 @@ impl ViewEdges for VersionEdges<'_> {
     ghost graph = { λ edges. content edges.version.now };
 
     fn vertex_count(&self) -> usize {
-        // A version's facts say that its edges join its vertices, and that these are few.
-        self.version.facts();
         self.version.names().len()
     }
 
     #[inline(always)]
     fn list_targets(&self, source: u32, targets: &mut Vec<u32>) -> Result<(), AllocError> {
-        self.version.facts();
         targets.clear();
         for block in self.version.row_blocks(VertexId(source)) {
             block.list_targets(&self.filter, targets)?;

@@ -104,13 +104,6 @@ impl Version {
         self.batches.len() as u64
     }
 
-    /// What is true of every version, for a proof that cites it. It does nothing.
-    pub fn facts(&self)
-        ensures { IsVersion self.now }
-    {
-        let _ = &self.rows;
-    }
-
     /// Lends the batches, the first one first.
     pub fn batches(&self) -> BatchIter<'_>
         ensures { batches_left result ≡ self.now.batches }
@@ -120,15 +113,17 @@ impl Version {
 
     /// The last batch.
     pub fn last_batch(&self) -> Option<&Batch>
-        ensures { MatchOption result (self.now.batches ≡ [])
+        ensures batch { MatchOption result (self.now.batches ≡ [])
             (λ b. (others : List (List NamedOp)) × (self.now.batches ≡ others ++ b.now ∷ [])) }
+        ensures version { IsVersion self.now }
     {
         self.batches.last()
     }
 
     /// The vertex names: a vertex's number is the place of its name.
     pub fn names(&self) -> &NameBook
-        ensures { result.now ≡ vertex_book (content self.now).names }
+        ensures names { result.now ≡ vertex_book (content self.now).names }
+        ensures version { IsVersion self.now }
     {
         &self.names
     }
@@ -142,7 +137,8 @@ impl Version {
 
     /// How many edges there are. The number is kept, and no block is read.
     pub fn edge_count(&self) -> u64
-        ensures { result ≡ edge_total self.now }
+        ensures edges { result ≡ edge_total self.now }
+        ensures version { IsVersion self.now }
     {
         self.edges
     }
@@ -175,7 +171,8 @@ impl Version {
 
     /// The blocks of a vertex's row, in row order.
     pub fn row_blocks(&self, source: VertexId) -> &[Arc<Block>]
-        ensures { block_values result.now ≡ row_of self.now.rows source.0 }
+        ensures blocks { block_values result.now ≡ row_of self.now.rows source.0 }
+        ensures version { IsVersion self.now }
     {
         self.rows.row_blocks(source)
     }

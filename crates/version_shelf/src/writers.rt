@@ -179,7 +179,6 @@ impl ShelfWriter {
             (λ _. self.new ≡ self.old) }
         ensures same { (self.new.book ≡ self.old.book) × (self.new.opening ≡ self.old.opening) }
     {
-        version.facts();
         let copy = Arc::try_clone(&version)?;
         let Some(batch) = version.last_batch() else {
             unreachable!()

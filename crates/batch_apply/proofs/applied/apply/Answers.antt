@@ -54,7 +54,7 @@ made g c =
     neither_limit ops (content v) c.args.plan.names c.args.plan.kinds p.names p.kinds
     c.len-2.ensures.book.few c.len-3.ensures.book.few in
     let done = next_made v ops c.requires.plan.0 c.args.plan.shards.items c.args.plan.needs.items a.jobs a.dones
-    (numbers_of c.args.blocks.items) a.rest c.requires.plan.1 c.facts.ensures p.shards p.needs a.dealt a.done a.shared_out
+    (numbers_of c.args.blocks.items) a.rest c.requires.plan.1 c.edge_count.ensures.version p.shards p.needs a.dealt a.done a.shared_out
     c.requires.distinct c.requires.unlisted limits c.requires.few short d2.version.rows among in (
       draft_whole v ops c.args.plan.names c.args.plan.kinds (rows_left a.dones) d1 d2 d3 e1 e2 e3 p.names p.kinds done.0,
       told ∙ done.1,
@@ -76,7 +76,7 @@ finish_counted-requires-clause-edges g c =
     let is = made g (goal.at.finish_counted-requires-clause-edges g c).In_ok-draft-2 in
     let as_many : len next.edges + sum_by taken_away c.deref-2.result.now
     ≡ c.edge_count.result + count_by is_inserted c.deref-2.result.now
-    = rw (c.deref-2.ensures.value, is.1, c.edge_count.ensures) (len_after_all ops (content c.args.version.now)) in
+    = rw (c.deref-2.ensures.value, is.1, c.edge_count.ensures.edges) (len_after_all ops (content c.args.version.now)) in
     c.edges_after-edges.ensures (len next.edges) as_many ∙ ap (λ (n : ℕ). n % 2 ^ 64) (sym is.2)
 
 pub returns : goal.returns

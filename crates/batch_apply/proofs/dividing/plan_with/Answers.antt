@@ -21,7 +21,7 @@ shards_for-requires-clause-few c =
     subst (λ (found : List ResolvedOp). length found ≤ 4096) (sym c.as_slice.ensures.value) few
 
 pub shards_for-requires-clause-few_old : goal.shards_for-requires-clause-few_old
-shards_for-requires-clause-few_old c = few_old_rows c.args.version.now c.facts.ensures
+shards_for-requires-clause-few_old c = few_old_rows c.args.version.now c.names.ensures.version
     (expiry_time c.args.batch.now) c.args.old.now c.requires.old
 
 pub shards_for-requires-clause-old : goal.shards_for-requires-clause-old
@@ -42,7 +42,7 @@ returns-clause-plan c =
     let found : List ResolvedOp = c.as_slice.result.now in
     let rs : List Resolved = map shown found in
     let shards : List Shard = c.in_ok-shards.field-0.shards.items in
-    let old_names : c.in_ok-names.names ≡ vertex_book g.names = c.in_ok-names.ensures ∙ c.names.ensures in
+    let old_names : c.in_ok-names.names ≡ vertex_book g.names = c.in_ok-names.ensures ∙ c.names.ensures.names in
     let old_kinds : c.in_ok-kinds.kinds ≡ kind_book g.kinds = c.in_ok-kinds.ensures ∙ c.kinds.ensures in
     let same : c.ops.result.now ≡ ops = c.ops.ensures.ops in
     let ops_are : rs ≡ resolved c.ops.result.now c.in_ok-names.names.names c.in_ok-kinds.kinds.names =
@@ -62,5 +62,5 @@ returns-clause-plan c =
           ∙ ap (λ (os : List NamedOp). with_names c.in_ok-kinds.kinds (kinds_all os c.in_ok-kinds.kinds.names)) same);
       shards = subst (λ (os : List Resolved). AllZip (IsShardOf c.args.workers os (layout_by rows))
           (range_with_len 0 c.args.workers) shards) resolved_are zip;
-      needs = c.in_ok-shards.ensures.needs rows are ∙ exact_needs v c.facts.ensures c.args.workers rs shards few zip;
+      needs = c.in_ok-shards.ensures.needs rows are ∙ exact_needs v c.names.ensures.version c.args.workers rs shards few zip;
     }

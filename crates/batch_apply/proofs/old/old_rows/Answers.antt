@@ -24,7 +24,7 @@ loop-number-preserved c =
     let n : ℕ = c.loop-number.number in
     let found : List OldRow = c.loop-number.found.items in
     let blocks : c.old_blocks_in-blocks.result ≡ old_blocks time (rows n) =
-    c.old_blocks_in-blocks.ensures ∙ ap (old_blocks time) c.row_blocks.ensures in
+    c.old_blocks_in-blocks.ensures ∙ ap (old_blocks time) c.row_blocks.ensures.blocks in
     let r : OldRow = record { source = record { 0 = n }; blocks = c.old_blocks_in-blocks.result } in
     elim c.if-blocks-gt0.branch [
       | then-blocks-gt0+in_ok-push w ↦ rw (w.found-is, w.in_ok-push.ensures.items)
@@ -39,8 +39,8 @@ returns c =
     let rows : ℕ → List BlockView = row_of c.args.version.now.rows in
     let same : time ≡ expiry_time c.args.batch.now = c.expiry_time-time.ensures ∙ ap expiry_time c.ops.ensures.ops in
     let names : c.len-number-end.result ≡ length (content c.args.version.now).names =
-    c.len-number-end.ensures.value ∙ ap (λ (b : Book). length b.names) c.names.ensures in
+    c.len-number-end.ensures.value ∙ ap (λ (b : Book). length b.names) c.names.ensures.names in
     subst (λ (t : ℕ). AreOldRows t rows c.loop-number.found.items) same
     (found_all time rows c.loop-number.number c.loop-number.found.items c.loop-number.invariant (λ s old.
-    let within = old_is_within c.args.version.now c.facts.ensures time s old in
+    let within = old_is_within c.args.version.now c.names.ensures.version time s old in
     omega (arith, within, names, c.loop-number-test.false)))

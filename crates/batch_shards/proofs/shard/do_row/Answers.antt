@@ -75,3 +75,6 @@ returns-clause-done c =
     c.in_ok-closed.ensures.taken
     c.in_ok-closed.ensures.dropped
     c.in_ok-closed.ensures.unused
+
+pub returns-clause-rows : goal.returns-clause-rows
+returns-clause-rows c = c.blocks_at-blocks.ensures.rows

@@ -1,12 +1,12 @@
-use Rattle.std.proofs.Common.{◌≡◌, ◌≤◌, ◌+◌, ℕ, List, map, refl, ap, sym, subst, ◌∙◌, arith, length, vec_len}
+use Rattle.std.proofs.Common.{◌≡◌, ◌≤◌, ◌+◌, ◌⊎◌, inl, inr, ℕ, List, map, refl, ap, sym, subst, ◌∙◌, arith, length, vec_len}
 use Rattle.std.proofs.lemmas.List.{length-map, map-append}
 use Rattle.edge_block.specs.{Slots.BlockView, declared.blocks.Block.Block}
 use Rattle.graph_version.specs.Rows.{row_of}
-use Rattle.batch_shards.specs.{RowBlocks.block_of, RowBlocks.numbers_of, Shards.AreSteps, Done.sources_in, Progress.AreRowsDone}
+use Rattle.batch_shards.specs.{RowBlocks.block_of, RowBlocks.numbers_of, Shards.AreSteps, Done.sources_in, Done.AreBlockRows, Progress.AreRowsDone}
 use Rattle.batch_shards.specs.{Spending.needed_past, Spending.IsGrouped, declared.shard.Step.Step, Groups.none_told}
 use Rattle.graph_types.specs.declared.{ids.VertexId.VertexId, batches.Outcome.Outcome}
 use Rattle.std.specs.declared.{sync.Arc.Arc, alloc.Global.Global}
-use Rattle.batch_shards.proofs.{Beginnings.few_past, Beginnings.none_yet, Finish.finish}
+use Rattle.batch_shards.proofs.{Beginnings.few_past, Beginnings.none_yet, Closed.read_edges, Finish.finish}
 use Rattle.batch_shards.proofs.shard.work_on.Goals as goal
 
 pub loop-row-init : goal.loop-row-init
@@ -18,6 +18,7 @@ loop-row-init c = record {
       c.in_ok-done.done
       (c.in_ok-done.ensures.outcomes ∙ ap (map (λ (s : Step). (s.op, none_told s.act))) c.as_slice-2.ensures.value)
       c.in_ok-done.ensures.rows c.in_ok-done.ensures.taken c.in_ok-done.ensures.dropped c.in_ok-done.ensures.unused;
+  rows = inl refl;
 }
 
 -- the same of slices as of what they show
@@ -44,6 +45,7 @@ loop-row-preserved c =
           (c.in_ok-do_row.ensures.done handed
           (both (λ (ss : List VertexId) (st : List Step). AreRowsDone v (map (λ (s : VertexId). s.0) ss) st handed
           c.loop-row.row c.loop-row.fresh.items c.loop-row.done) _ _ _ _ (sym there) (sym here) c.loop-row.invariant.done));
+      rows = inr c.in_ok-do_row.ensures.rows;
     }
 
 pub do_row-requires-clause-outcomes : goal.do_row-requires-clause-outcomes
@@ -59,7 +61,8 @@ returns c =
     length-map c.args.shard.sources.items (λ (s : VertexId). s.0) in
     let last : c.loop-row.row ≡ length (sources_in c.args.shard) =
     omega (arith, c.loop-row.auto.row-end, c.loop-row-test.false, c.len-row-end.ensures, c.args.shard.sources.ok.0, long) in
-    finish v c.args.shard c.loop-row.done _ c.loop-row.fresh.items c.facts.ensures.rows.blocks
+    finish v c.args.shard c.loop-row.done _ c.loop-row.fresh.items
+    (read_edges v (sources_in c.args.shard) (subst (λ n. (n ≡ 0) ⊎ AreBlockRows v) last c.loop-row.invariant.rows))
     (subst (λ n. AreSteps n c.args.shard.steps.items) (sym long) c.requires.steps)
     (subst (λ n. AreRowsDone v (sources_in c.args.shard) c.args.shard.steps.items (numbers_of c.args.shard.fresh.items) n
     c.loop-row.fresh.items c.loop-row.done) last c.loop-row.invariant.done)

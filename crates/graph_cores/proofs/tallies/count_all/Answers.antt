@@ -16,8 +16,9 @@ count_row-requires c =
     let n = length (content v).names in
     let none : Degree = record { outgoing = 0; incoming = 0; out_weight = pos 0 } in
     let long : length c.loop-source.table ≡ n = c.loop-source.auto.table ∙ ap length c.requires ∙ length-replicate n none in
-    let more : k + 1 ≤ n = omega (arith, c.loop-source-test.true, c.loop-source.auto.table, long) in
-    let row : row_of v.rows k ≡ block_values c.row_blocks.result.now = sym c.row_blocks.ensures in
+    let names : c.len-source-end.result ≡ n = c.len-source-end.ensures.value ∙ ap (λ b. length b.names) c.names.ensures.names in
+    let more : k + 1 ≤ n = omega (arith, c.loop-source-test.true, names) in
+    let row : row_of v.rows k ≡ block_values c.row_blocks.result.now = sym c.row_blocks.ensures.blocks in
     let edges : shown_edges f (blocks_below v.rows (k + 1)) ≡ shown_edges f (blocks_below v.rows k)
     ++ shown_edges f (block_values c.row_blocks.result.now) =
     shown_more f v.rows k ∙ ap (λ r. shown_edges f (blocks_below v.rows k) ++ shown_edges f r) row in (
@@ -26,7 +27,7 @@ count_row-requires c =
       subst
           (λ m. AreViewEdges f m (shown_edges f (blocks_below v.rows k) ++ shown_edges f (block_values c.row_blocks.result.now)))
           (sym long)
-          (subst (AreViewEdges f n) edges (below_within v c.facts.ensures f (k + 1) more)),
+          (subst (AreViewEdges f n) edges (below_within v c.names.ensures.version f (k + 1) more)),
     )
 
 pub loop-source-preserved : goal.loop-source-preserved
@@ -34,7 +35,7 @@ loop-source-preserved c =
     let f = c.args.view.now in
     let rows = c.args.version.now.rows in
     let k = c.loop-source.source in
-    let row : block_values c.row_blocks.result.now ≡ row_of rows k = c.row_blocks.ensures in
+    let row : block_values c.row_blocks.result.now ≡ row_of rows k = c.row_blocks.ensures.blocks in
     let counts =
     subst (λ (r : List BlockView). Counts f (shown_edges f r) c.loop-source.table c.count_row.new.table) row
     c.count_row.ensures in
@@ -47,7 +48,7 @@ returns c =
     let n = length (content v).names in
     let none : Degree = record { outgoing = 0; incoming = 0; out_weight = pos 0 } in
     let long : length c.loop-source.table ≡ n = c.loop-source.auto.table ∙ ap length c.requires ∙ length-replicate n none in
-    let end : c.loop-source.source ≡ n = omega
-    (arith, c.loop-source-test.false, c.loop-source.auto.table, c.loop-source.auto.source-end, long) in
-    table_is v c.facts.ensures c.args.view.now c.loop-source.source c.loop-source.table long end
+    let names : c.len-source-end.result ≡ n = c.len-source-end.ensures.value ∙ ap (λ b. length b.names) c.names.ensures.names in
+    let end : c.loop-source.source ≡ n = omega (arith, c.loop-source-test.false, c.loop-source.auto.source-end, names) in
+    table_is v c.names.ensures.version c.args.view.now c.loop-source.source c.loop-source.table long end
     c.loop-source.invariant

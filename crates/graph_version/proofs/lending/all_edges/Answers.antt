@@ -7,4 +7,4 @@ pub returns-clause-lends : goal.returns-clause-lends
 returns-clause-lends c =
     let every : Filter = record { kind = None; lo = 0; hi = 18446744073709551615 } in
     c.select.ensures.lends ∙ all_lent c.args.block.now every (record { kind = refl; from = refl; to = refl })
-    c.len-count.ensures.block
+    c.select.ensures.block

@@ -10,6 +10,6 @@ loop-edge-init c =
     record {
       noted = λ t held. or_right (may_stand c.args.self.now t c.args.place) (lends t left)
           (ap (lends t) same
-          ∙ lent_target c.args.block.now c.args.block.now.slots t c.len-count.ensures.block.stamped held);
+          ∙ lent_target c.args.block.now c.args.block.now.slots t c.select-edge-items.ensures.block.stamped held);
       more = record { stays = λ t place may. may };
     }

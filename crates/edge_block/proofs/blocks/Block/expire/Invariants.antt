@@ -1,4 +1,4 @@
-use Rattle.std.proofs.Common.{◌≡◌, ◌+◌, ◌≤◌}
+use Rattle.std.proofs.Common.{◌≡◌, ◌+◌}
 use Rattle.edge_block.specs.Slots.{slots_since, old_in, with_slots}
 use Rattle.edge_block.proofs.blocks.Block.expire.Given as goal
 
@@ -7,7 +7,6 @@ invariant-loop-target l = record {
   rest : with_slots l.self (slots_since l.time l.self.slots)
       ≡ with_slots l.initial.self (slots_since l.time l.initial.self.slots);
   counted : l.count + old_in l.time l.self.slots ≡ old_in l.time l.initial.self.slots;
-  few : old_in l.time l.initial.self.slots ≤ 32;
 }
 
 abbrev pub decreases-loop-target : goal.decreases-loop-target

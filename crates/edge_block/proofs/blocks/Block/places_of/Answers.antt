@@ -1,5 +1,5 @@
 use Rattle.std.proofs.Common.{◌∙◌, sym, ap, length}
-use Rattle.edge_block.proofs.{Places.length-slots_of, Ranges.lent_in_range, Views.lent_within, Views.lent_none, Views.lent_few}
+use Rattle.edge_block.proofs.{KeptColumns.block_of_columns, Places.length-slots_of, Ranges.lent_in_range, Views.lent_within, Views.lent_none, Views.lent_few}
 use Rattle.edge_block.proofs.blocks.Block.places_of.Goals as goal
 
 pub returns-then-takes-clause-lends : goal.returns-then-takes-clause-lends
@@ -35,3 +35,15 @@ returns-else-takes-clause-few c =
 pub returns-else-takes-clause-in_range : goal.returns-else-takes-clause-in_range
 returns-else-takes-clause-in_range c =
     lent_in_range c.args.self.now c.args.view.now (rw (← c.self.view_is) c.self.invariant.0.stamped)
+
+pub returns-then-takes-clause-block : goal.returns-then-takes-clause-block
+returns-then-takes-clause-block c =
+    rw (← c.self.view_is)
+    (block_of_columns _ _ _ c.self.inside.live c.self.inside.targets c.self.inside.weights c.self.inside.firsts
+    c.self.inside.recents c.self.invariant.0)
+
+pub returns-else-takes-clause-block : goal.returns-else-takes-clause-block
+returns-else-takes-clause-block c =
+    rw (← c.self.view_is)
+    (block_of_columns _ _ _ c.self.inside.live c.self.inside.targets c.self.inside.weights c.self.inside.firsts
+    c.self.inside.recents c.self.invariant.0)

@@ -8,3 +8,6 @@ returns-clause-few c = rw (returns-clause-lends c) c.places_of.ensures.few
 
 pub returns-clause-in_range : goal.returns-clause-in_range
 returns-clause-in_range c = rw (returns-clause-lends c) c.places_of.ensures.in_range
+
+pub returns-clause-block : goal.returns-clause-block
+returns-clause-block c = c.places_of.ensures.block

@@ -20,6 +20,6 @@ returns c =
     sym (append-nil targets)
     ∙ ap (λ (bs : List (Arc Block Global)). targets ++ targets_in f bs) (sym end)
     ∙ c.loop-block.invariant
-    ∙ ap (λ row. targets_of (shown_in f row)) c.row_blocks-block-items.ensures in
+    ∙ ap (λ row. targets_of (shown_in f row)) c.row_blocks-block-items.ensures.blocks in
     λ b. subst (λ (ts : List ℕ). Contains ts b ↔ LeadsTo f (content v) source b) (sym whole)
-    (row_targets (content v) v.rows c.facts.ensures.rows f source b)
+    (row_targets (content v) v.rows c.row_blocks-block-items.ensures.version.rows f source b)

@@ -10,7 +10,7 @@ use Rattle.script_server.proofs.server.Server.ask.Goals as goal
 pub returns-in_ok-reply_lines-in-Ok-ask_in_numbers : goal.returns-in_ok-reply_lines-in-Ok-ask_in_numbers
 returns-in_ok-reply_lines-in-Ok-ask_in_numbers c =
     let names : c.names.result.now.names ≡ (held_graph c.in-Ok.session.now).names =
-    ap (λ (book : Book). book.names) c.names.ensures ∙ ap (λ v. (content v).names) c.version.ensures in
+    ap (λ (book : Book). book.names) c.names.ensures.names ∙ ap (λ v. (content v).names) c.version.ensures in
     record {
       obeys = λ s shows. (
         replied_ok_at c.args.self.now s c.args.slot c.args.request.now c.in-Ok.session.now c.in-Ok-ask_in_numbers.reply _

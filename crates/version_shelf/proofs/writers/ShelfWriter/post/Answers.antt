@@ -12,8 +12,8 @@ invariant_of-self g c =
     let told : ToldView = record { book = c.again.result.book; version = c.in_ok-copy.copy.value } in
     let batch = c.in-Some.batch.now in
     let ends : version.batches ≡ c.args.self.now.posted ++ batch ∷ [] =
-    ends_with_last version.batches c.args.self.now.posted c.in-Some.ensures.0 c.requires.next.1.0 batch c.requires.next.1.1
-    (ap (λ (v : VersionView). v.batches) (sym c.deref-2.ensures) ∙ c.in-Some.ensures.1) in
+    ends_with_last version.batches c.args.self.now.posted c.in-Some.ensures.batch.0 c.requires.next.1.0 batch c.requires.next.1.1
+    (ap (λ (v : VersionView). v.batches) (sym c.deref.ensures) ∙ c.in-Some.ensures.batch.1) in
     let posted : history.batches ≡ version.batches =
     ap (λ (s : ShelfView). s.posted) c.self.view_is ∙ (c.if-not-enter_batch.ensures.posted ∙ sym ends) in (
       c.self.invariant.0,
@@ -28,9 +28,9 @@ returns-clause-posted g c =
     let version : VersionView = c.args.version.value in
     let history : HistoryView = c.self.inside.history in
     let ends : version.batches ≡ c.args.self.now.posted ++ c.in-Some.batch.now ∷ [] =
-    ends_with_last version.batches c.args.self.now.posted c.in-Some.ensures.0 c.requires.next.1.0 c.in-Some.batch.now
+    ends_with_last version.batches c.args.self.now.posted c.in-Some.ensures.batch.0 c.requires.next.1.0 c.in-Some.batch.now
     c.requires.next.1.1
-    (ap (λ (v : VersionView). v.batches) (sym c.deref-2.ensures) ∙ c.in-Some.ensures.1) in (
+    (ap (λ (v : VersionView). v.batches) (sym c.deref.ensures) ∙ c.in-Some.ensures.batch.1) in (
       ap (λ (s : ShelfView). s.posted) c.self.view_is ∙ (c.if-not-enter_batch.ensures.posted ∙ sym ends),
       ap (λ (t : ToldView). t.version.batches) c.show.ensures.shown ∙ ap (λ (v : VersionView). v.batches) c.in_ok-copy.ensures,
       λ i. record {
