@@ -1,5 +1,5 @@
 -- The rows from which a batch's expiries may take edges.
-use Rattle.std.proofs.Common.{◌≡◌, ◌≢◌, ℕ, ◌+◌, ◌<◌, ◌==◌, ◌||◌, Bool, true, false, cond, List, [], ◌∷◌, ◌++◌, map}
+use Rattle.std.proofs.Common.{◌≡◌, ◌≢◌, ℕ, ◌+◌, ◌<◌, ◌≤◌, ◌==◌, ◌||◌, Bool, true, false, cond, List, [], ◌∷◌, ◌++◌, map}
 use Rattle.std.proofs.Common.{length, get_or, refl, sym, ap, ap₂, ◌∙◌, arith, subst, All, AllPairs, Option, Some, None, ltb, nat_eq}
 use Rattle.std.specs.{List.list_any, Option.option_or, Option.is_some, FinMap.get}
 use Rattle.std.proofs.lemmas.Bool.{true≢false, eqb-false, true_from_ne_false, le-ltb, ltb-true, ltb-false}
@@ -9,10 +9,11 @@ use Rattle.graph_types.specs.Graph.{Graph, Key, Stamp}
 use Rattle.edge_block.specs.Slots.{BlockView, Slot, has_before, stamp_at}
 use Rattle.edge_block.specs.{Rows.Shape, Rows.shape_of, Rows.block_at, Rows.row_at, Batches.IsWithin, Batches.IsLayoutOf}
 use Rattle.graph_version.specs.Rows.{row_of}
+use Rattle.graph_version.specs.Ages as ages
 use Rattle.graph_version.specs.Versions.{VersionView, content, layout_of, IsVersion}
 use Rattle.batch_shards.specs.Spending.{old_blocks}
 use Rattle.batch_apply.specs.{Shards.is_old_row, OldRows.AreOldRows, OldRows.old_sources, declared.old.OldRow.OldRow}
-use Rattle.batch_apply.proofs.Listing.{none_old_blocks}
+use Rattle.batch_apply.proofs.Listing.{none_old_blocks, some_old}
 
 -- nothing is from before the time 0
 none_before_zero : (slots : List (Option Slot)) → has_before 0 slots ≡ false
@@ -62,6 +63,17 @@ old_within g layout time s within shows old =
           ] refl)))
     ] refl
 
+-- a row of blocks is old where its shapes are, and then some of its blocks are
+of_shapes : (time : ℕ) (row : List BlockView) → is_old_row time (map shape_of row) ≡ ages.is_old_row time row
+of_shapes time [] = refl
+of_shapes time (b ∷ row) = ap (λ t. has_before time b.slots || t) (of_shapes time row)
+
+none_counted : (time : ℕ) (row : List BlockView) → ages.is_old_row time row ≡ false → old_blocks time row ≡ 0
+none_counted time row none = none_old_blocks time row (of_shapes time row ∙ none)
+
+pub some_counted : (time : ℕ) (row : List BlockView) → ages.is_old_row time row ≡ true → 0 < old_blocks time row
+some_counted time row some = some_old time row (of_shapes time row ∙ some)
+
 or_true : (b : Bool) → (b || true) ≡ true
 or_true true = refl
 or_true false = refl
@@ -77,15 +89,15 @@ module _ (time : ℕ) (rows : ℕ → List BlockView) (n : ℕ) (found : List Ol
   abbrev source : OldRow → ℕ
   source r = r.source.0
 
-  pub found_no_more : old_blocks time (rows n) ≡ 0 → AreFound time rows (n + 1) found
-  found_no_more none = record {
+  -- so are those of more first sources, where none between is old
+  pub found_no_more : (m : ℕ) → n ≤ m → ((s : ℕ) → n ≤ s → s < m → ages.is_old_row time (rows s) ≡ false) → AreFound time rows m found
+  found_no_more m le none = record {
     distinct = are.distinct;
-    below = All-weaker (λ (r : OldRow). r.source.0 < n) (λ (r : OldRow). r.source.0 < n + 1) (λ r lt. omega arith) found are.below;
+    below = All-weaker (λ (r : OldRow). r.source.0 < n) (λ (r : OldRow). r.source.0 < m) (λ r lt. omega arith) found are.below;
     blocks = are.blocks;
     listed = λ s lt old. elim (ltb s n) as (λ b. ltb s n ≡ b → list_any (nat_eq s) (old_sources found) ≡ true) [
       | true ↦ λ t. are.listed s (ltb-true s n t) old
-      | false ↦ λ f. let far = ltb-false s n f in let here : s ≡ n = omega arith in
-          let same = ap (λ x. old_blocks time (rows x)) here in absurd (omega arith)
+      | false ↦ λ f. let zero = none_counted time (rows s) (none s (ltb-false s n f) lt) in absurd (omega arith)
     ] refl;
   }
 
@@ -120,11 +132,14 @@ module _ (time : ℕ) (rows : ℕ → List BlockView) (n : ℕ) (found : List Ol
       }
 
   -- they are all, where no source from there on has an old row
-  pub found_all : ((s : ℕ) → 0 < old_blocks time (rows s) → s < n) → AreOldRows time rows found
-  found_all within = record {
+  pub found_all : ((s : ℕ) → n ≤ s → ages.is_old_row time (rows s) ≡ false) → AreOldRows time rows found
+  found_all none = record {
     distinct = are.distinct;
     blocks = are.blocks;
-    all_listed = λ s old. are.listed s (within s old) old;
+    all_listed = λ s old. elim (ltb s n) as (λ b. ltb s n ≡ b → list_any (nat_eq s) (old_sources found) ≡ true) [
+      | true ↦ λ t. are.listed s (ltb-true s n t) old
+      | false ↦ λ f. let zero = none_counted time (rows s) (none s (ltb-false s n f)) in absurd (omega arith)
+    ] refl;
   }
 
 -- no block is old where the batch has no expiry

@@ -59,7 +59,8 @@ fn old_blocks_in(row: &[Arc<Block>], time: u64) -> usize
 
 /// The rows of a version with an edge from before the greatest time of a batch's expiries, sources rising.
 ///
-/// Each block's header is read once, however many expiries the batch has, and none where it has no expiry.
+/// Of these rows, and of those of more than 64 blocks, headers are read, however many expiries the batch has; none where it has
+/// no expiry.
 pub fn old_rows(alloc: Global, version: &Version, batch: &Batch) -> Result<Vec<OldRow>, AllocError>
     ensures { IfOk result (λ v. AreOldRows (expiry_time batch.now) (row_of version.now.rows) v.items) }
 {
@@ -68,12 +69,11 @@ pub fn old_rows(alloc: Global, version: &Version, batch: &Batch) -> Result<Vec<O
     if time == 0 {
         return Ok(found);
     }
-    for number in 0..version.names().len() {
-        let source = VertexId(number as u32);
+    let mut from = VertexId(0);
+    while let Some(source) = version.next_old(from, time) {
         let blocks = old_blocks_in(version.row_blocks(source), time);
-        if blocks > 0 {
-            found.push(OldRow { source, blocks })?;
-        }
+        found.push(OldRow { source, blocks })?;
+        from = VertexId(source.0 + 1);
     }
     Ok(found)
 }

@@ -10,4 +10,5 @@ pub mod Shown
 pub use Rattle.version_pages.specs.BatchLending
 pub use Rattle.version_pages.specs.Batches
 pub use Rattle.version_pages.specs.Rows
+pub use Rattle.version_pages.specs.Ages
 pub use Rattle.version_pages.specs.Sharing

@@ -7,6 +7,7 @@ ghost use Rattle.graph_types.specs.declared.batches.NamedOp.{NamedOp};
 ghost use Rattle.edge_block.specs.Lending.{lent_edge};
 ghost use Rattle.version_pages.specs.Rows.{row_of, blocks_of, numbers_of};
 ghost use Rattle.version_pages.specs.Sharing.{block_values};
+ghost use Rattle.version_pages.specs.Ages.{IsNextOld};
 ghost use Rattle.graph_version.specs.Versions.{IsVersion, empty_version, content};
 ghost use Rattle.edge_block.specs.Rows.{shape_of, block_at};
 ghost use Rattle.graph_version.specs.Edges.{lent_to};
@@ -175,6 +176,17 @@ impl Version {
         ensures version { IsVersion self.now }
     {
         self.rows.row_blocks(source)
+    }
+
+    /// The next vertex, from one on, with a block in its row that has an edge that was last touched before a time.
+    ///
+    /// It takes time by the rows that have one, and not by all: the least times of groups of rows are kept. For example, where
+    /// edges leave the vertices 2 and 7 alone, with the recent times 10 and 20, from 3 on there is none before 20, and one
+    /// before 21, which is 7. A row of more than 64 blocks is looked through each time.
+    pub fn next_old(&self, from: VertexId, time: u64) -> Option<VertexId>
+        ensures { IsNextOld time self.now.rows from.0 result }
+    {
+        self.rows.next_old(from, time)
     }
 
     /// The numbers of the blocks, row by row.

@@ -1,5 +1,6 @@
 pub mod Rows
 pub mod Sharing
+pub mod Ages
 pub mod Parts
 pub mod RowPages
 pub mod RowGroups

@@ -1,4 +1,4 @@
--- Rows and pages behind counted references, as the rows that they show.
+-- Blocks behind counted references, as the rows that they show.
 use Rattle.std.specs.Prelude.{List, [], ◌∷◌, map}
 use Rattle.std.specs.Arc.{arc_value}
 use Rattle.std.specs.declared.sync.Arc.{Arc}
@@ -6,8 +6,8 @@ use Rattle.std.specs.declared.alloc.Global.{Global}
 use Rattle.std.specs.declared.vec.Vec.{Vec}
 use Rattle.edge_block.specs.declared.blocks.Block.{Block}
 use Rattle.edge_block.specs.Slots.{BlockView}
-use Rattle.version_pages.specs.declared.row.Row.{Row}
-use Rattle.version_pages.specs.declared.row.Row.TheVariants.{Empty, One, Many}
+use Rattle.version_pages.specs.declared.row.Blocks.{Blocks}
+use Rattle.version_pages.specs.declared.row.Blocks.TheVariants.{Empty, One, Many}
 
 abbrev pub block_value : Arc Block Global → BlockView
 block_value block = arc_value {X = Block} block
@@ -15,7 +15,7 @@ block_value block = arc_value {X = Block} block
 abbrev pub block_values : List (Arc Block Global) → List BlockView
 block_values blocks = map block_value blocks
 
-abbrev pub row_values : Row → List BlockView
+abbrev pub row_values : Blocks → List BlockView
 row_values Empty = []
 row_values (One block) = block_value block ∷ []
 row_values (Many blocks) = block_values (arc_value {X = Vec (Arc Block Global) Global} blocks).items

@@ -1,54 +1,171 @@
 //! One source's row.
 
-ghost use Rattle.std.specs.Prelude.{◌≡◌, IfOk};
+ghost use Rattle.std.specs.Prelude.{◌≡◌, [], IfOk, false};
+ghost use Rattle.edge_block.specs.Slots.{has_before};
 ghost use Rattle.version_pages.specs.Sharing.{block_values, row_values};
+ghost use Rattle.version_pages.specs.Ages.{is_old_row};
 
 use edge_block::Block;
 use std::alloc::{AllocError, Global};
+use std::marker::Model;
 use std::slice;
 use std::sync::Arc;
 
-/// A source's blocks in order. Most rows have one block or none, and then need no list.
+/// A row of more blocks is always looked through, so that writing it reads none of their headers.
+const FEW: usize = 64;
+
+/// Blocks in order. Most rows have one block or none, and then need no list.
 #[derive(Drop)]
-pub(crate) enum Row {
+pub(crate) enum Blocks {
     Empty,
     One(Arc<Block>),
     Many(Arc<Vec<Arc<Block>>>),
 }
 
-impl Row {
-    /// The row of these blocks.
-    pub(crate) fn of(alloc: Global, mut blocks: Vec<Arc<Block>>) -> Result<Row, AllocError>
-        ensures { IfOk result (λ row. row_values row ≡ block_values blocks.items) }
+impl Blocks {
+    /// The same blocks, shared.
+    fn share(&self) -> Result<Blocks, AllocError>
+        ensures { IfOk result (λ row. row_values row ≡ row_values self.now) }
     {
-        if blocks.len() > 1 {
-            return Ok(Row::Many(Arc::new(alloc, blocks)?));
+        match self {
+            Blocks::Empty => Ok(Blocks::Empty),
+            Blocks::One(block) => Ok(Blocks::One(Arc::try_clone(block)?)),
+            Blocks::Many(blocks) => Ok(Blocks::Many(Arc::try_clone(blocks)?)),
         }
-        match blocks.pop() {
-            None => Ok(Row::Empty),
-            Some(block) => Ok(Row::One(block)),
+    }
+
+    /// All of them.
+    fn as_slice(&self) -> &[Arc<Block>]
+        ensures { block_values result.now ≡ row_values self.now }
+    {
+        match self {
+            Blocks::Empty => &[],
+            Blocks::One(block) => slice::from_ref(block),
+            Blocks::Many(blocks) => blocks.as_slice(),
         }
+    }
+}
+
+/// These blocks, without a list where they are few.
+fn listed(alloc: Global, mut blocks: Vec<Arc<Block>>) -> Result<Blocks, AllocError>
+    ensures { IfOk result (λ row. row_values row ≡ block_values blocks.items) }
+{
+    if blocks.len() > 1 {
+        return Ok(Blocks::Many(Arc::new(alloc, blocks)?));
+    }
+    match blocks.pop() {
+        None => Ok(Blocks::Empty),
+        Some(block) => Ok(Blocks::One(block)),
+    }
+}
+
+/// A time such that no edge of a block was last touched before it: the least of their times, or the greatest number where
+/// there is no edge.
+fn block_since(block: &Block) -> u64
+    ensures { has_before result block.now.slots ≡ false }
+{
+    match block.time_bounds() {
+        None => u64::MAX,
+        Some((least, _)) => least,
+    }
+}
+
+/// A time such that no edge of a row was last touched before it: the least of their times, but 0 of a row of many blocks.
+fn blocks_since(blocks: &[Arc<Block>]) -> u64
+    ensures { is_old_row result (block_values blocks.now) ≡ false }
+{
+    if blocks.len() > FEW {
+        return 0;
+    }
+    let mut since = u64::MAX;
+    for block in blocks {
+        since = since.min(block_since(block));
+    }
+    since
+}
+
+/// Whether a block has an edge that was last touched before a time.
+fn any_before(blocks: &[Arc<Block>], time: u64) -> bool
+    ensures { result ≡ is_old_row time (block_values blocks.now) }
+{
+    for block in blocks {
+        if block.has_before(time) {
+            return true;
+        }
+    }
+    false
+}
+
+/// A source's row, and since when its edges have been touched.
+#[derive(Drop)]
+pub(crate) struct Row {
+    blocks: Blocks,
+    since: u64,
+}
+
+impl Model for Row {
+    ghost use Rattle.std.specs.Prelude.{◌≡◌, List, false};
+    ghost use Rattle.edge_block.specs.Slots.{BlockView};
+    ghost use Rattle.version_pages.specs.Sharing.{row_values};
+    ghost use Rattle.version_pages.specs.Ages.{is_old_row};
+
+    ghost Value = { List BlockView };
+
+    ghost view = { λ row. row_values row.blocks };
+
+    ghost invariant = { λ row. is_old_row row.since (row_values row.blocks) ≡ false };
+}
+
+impl Row {
+    /// A row without blocks.
+    pub(crate) fn empty() -> Row
+        ensures { result ≡ [] }
+    {
+        Row {
+            blocks: Blocks::Empty,
+            since: u64::MAX,
+        }
+    }
+
+    /// The row of these blocks.
+    pub(crate) fn of(alloc: Global, blocks: Vec<Arc<Block>>) -> Result<Row, AllocError>
+        ensures { IfOk result (λ row. row ≡ block_values blocks.items) }
+    {
+        let since = blocks_since(blocks.as_slice());
+        Ok(Row {
+            blocks: listed(alloc, blocks)?,
+            since,
+        })
     }
 
     /// The same row, its blocks shared.
     pub(crate) fn share(&self) -> Result<Row, AllocError>
-        ensures { IfOk result (λ row. row_values row ≡ row_values self.now) }
+        ensures { IfOk result (λ row. row ≡ self.now) }
     {
-        match self {
-            Row::Empty => Ok(Row::Empty),
-            Row::One(block) => Ok(Row::One(Arc::try_clone(block)?)),
-            Row::Many(blocks) => Ok(Row::Many(Arc::try_clone(blocks)?)),
-        }
+        Ok(Row {
+            blocks: self.blocks.share()?,
+            since: self.since,
+        })
     }
 
     /// Its blocks, in order.
     pub(crate) fn blocks(&self) -> &[Arc<Block>]
-        ensures { block_values result.now ≡ row_values self.now }
+        ensures { block_values result.now ≡ self.now }
     {
-        match self {
-            Row::Empty => &[],
-            Row::One(block) => slice::from_ref(block),
-            Row::Many(blocks) => blocks.as_slice(),
-        }
+        self.blocks.as_slice()
+    }
+
+    /// A time such that no edge was last touched before it.
+    pub(crate) fn since(&self) -> u64
+        ensures { is_old_row result self.now ≡ false }
+    {
+        self.since
+    }
+
+    /// Whether an edge was last touched before a time.
+    pub(crate) fn has_before(&self, time: u64) -> bool
+        ensures { result ≡ is_old_row time self.now }
+    {
+        self.since < time && any_before(self.blocks.as_slice(), time)
     }
 }

@@ -1,8 +1,9 @@
 //! Groups of pages.
 
 ghost use Rattle.std.specs.Prelude.{◌≡◌, ◌<◌, ◌*◌, [], IfOk, OnOk, length, replicate, slice_index_or, slice_set};
-ghost use Rattle.version_pages.specs.Sharing.{block_values, row_values};
+ghost use Rattle.version_pages.specs.Sharing.{block_values};
 ghost use Rattle.version_pages.specs.RowPages.{in_pages, ArePages};
+ghost use Rattle.version_pages.specs.Ages.{AreYoung};
 
 use crate::row::Row;
 use crate::row_page::Page;
@@ -78,10 +79,18 @@ impl Group {
         self.pages[place / PAGE].row(place % PAGE)
     }
 
+    /// How many rows from a place on have no edge from before a time, as `Part::young_from`.
+    pub(crate) fn young_from(&self, place: usize, time: u64) -> usize
+        requires { place < 1024 }
+        ensures { AreYoung time self.now place result }
+    {
+        self.pages[place / PAGE].young_from(place % PAGE, time)
+    }
+
     /// Writes a row at a place, into copies of its page and part where other versions have them.
     pub(crate) fn put(&mut self, place: usize, row: Row) -> Result<(), AllocError>
         requires { place < 1024 }
-        ensures rows { OnOk result (self.new ≡ slice_set self.old place (row_values row)) }
+        ensures rows { OnOk result (self.new ≡ slice_set self.old place row) }
         ensures length { length self.new ≡ 1024 }
     {
         put_in_page(&mut self.pages, place, row)
@@ -92,7 +101,7 @@ impl Group {
 fn put_in_page(pages: &mut [Arc<Page>], place: usize, row: Row) -> Result<(), AllocError>
     requires pages { ArePages pages.old }
     requires place { place < length pages.old * 64 }
-    ensures rows { OnOk result (in_pages pages.new ≡ slice_set (in_pages pages.old) place (row_values row)) }
+    ensures rows { OnOk result (in_pages pages.new ≡ slice_set (in_pages pages.old) place row) }
     ensures pages { ArePages pages.new }
 {
     Arc::make_mut(&mut pages[place / PAGE])?.put(place % PAGE, row)

@@ -2,7 +2,8 @@
 
 ghost use Rattle.std.specs.Prelude.{◌≡◌, ◌*◌, ◌^◌, ◌<◌, ◌≤◌, ℕ, [], IfOk, OnOk, length, slice_set};
 ghost use Rattle.version_pages.specs.Rows.{row_of, Replaces};
-ghost use Rattle.version_pages.specs.Sharing.{block_values, row_values};
+ghost use Rattle.version_pages.specs.Sharing.{block_values};
+ghost use Rattle.version_pages.specs.Ages.{IsNextOld};
 ghost use Rattle.version_pages.specs.RowGroups.{in_groups, AreGroups};
 
 use crate::row::Row;
@@ -69,6 +70,24 @@ impl Rows {
         }
     }
 
+    /// The next source, from one on, whose row has a block with an edge that was last touched before a time.
+    ///
+    /// Where none of 64 or of 8 sources has one, their rows are passed over at once, since their least time is kept. That of a
+    /// row of more than 64 blocks isn't kept, and the row is looked through.
+    pub fn next_old(&self, from: VertexId, time: u64) -> Option<VertexId>
+        ensures { IsNextOld time self.now from.0 result }
+    {
+        let mut source = from.0 as usize;
+        while let Some(group) = self.groups.get(source / GROUP) {
+            let young = group.young_from(source % GROUP, time);
+            if young == 0 {
+                return Some(VertexId(source as u32));
+            }
+            source += young;
+        }
+        None
+    }
+
     /// Equal rows, all of whose groups are shared: one reference for each 1,024 rows.
     pub fn share(&self) -> Result<Rows, AllocError>
         ensures { IfOk result (λ rows. rows ≡ self.now) }
@@ -122,7 +141,7 @@ fn put_row(
     requires groups { AreGroups groups.old.items }
     requires few { length groups.old.items ≤ 2 ^ 22 }
     requires source { source < 2 ^ 32 }
-    ensures rows { OnOk result (Replaces source (row_values row) (in_groups groups.old.items) (in_groups groups.new.items)) }
+    ensures rows { OnOk result (Replaces source row (in_groups groups.old.items) (in_groups groups.new.items)) }
     ensures groups { AreGroups groups.new.items }
     ensures few { length groups.new.items ≤ 2 ^ 22 }
 {

@@ -2,7 +2,7 @@
 
 use super::checks::{same, tell_refused};
 use edge_block::Block;
-use graph_types::VertexId;
+use graph_types::{KindId, VertexId};
 use std::alloc::{AllocError, Global};
 use std::io::Print;
 use std::process::Abort;
@@ -118,4 +118,89 @@ fn refused_changes_leave_other_rows(rt: HostRuntime) {
         Ok(before) => check_refused(&rt, rt.alloc(), &before),
         Err(AllocError) => tell_refused(&rt),
     }
+}
+
+// A block of a source with one edge, last touched at a time.
+fn dated(number: u32, source: u32, recent: u64) -> Block {
+    let mut block = Block::blank(number);
+    block.clear_for(VertexId(source), KindId(0));
+    block.put(1, 5, 0, recent.min(GREATEST));
+    block
+}
+
+// The greatest time of an edge.
+const GREATEST: u64 = 9_223_372_036_854_775_807;
+
+// The same rows, but for the row of a source, which has so many blocks with an edge of that recent time.
+fn touched(
+    alloc: Global,
+    rows: &Rows,
+    source: u32,
+    count: u32,
+    recent: u64,
+) -> Result<Rows, AllocError> {
+    let mut blocks = Vec::new(alloc);
+    for number in 0..count {
+        blocks.push(Arc::new(alloc, dated(number, source, recent))?)?;
+    }
+    rows.share()?.replace_row(VertexId(source), blocks)
+}
+
+// From a source on this is the next with an edge from before a time.
+fn assert_next(rt: &impl Abort, rows: &Rows, from: u32, time: u64, wanted: Option<u32>) {
+    let next = match rows.next_old(VertexId(from), time) {
+        None => None,
+        Some(source) => Some(source.0),
+    };
+    same(rt, next, wanted);
+}
+
+// Where a source alone has edges, of one time.
+fn check_next(rt: &impl Abort, rows: &Rows, source: u32, recent: u64) {
+    assert_next(rt, rows, 0, recent, None);
+    assert_next(rt, rows, 0, recent.saturating_add(1), Some(source));
+    assert_next(rt, rows, source, recent.saturating_add(1), Some(source));
+    assert_next(
+        rt,
+        rows,
+        source.saturating_add(1),
+        recent.saturating_add(1),
+        None,
+    );
+}
+
+#[test]
+fn finds_the_next_old_row_at_the_ends_of_pages_and_times(rt: HostRuntime) -> Result<(), Fail> {
+    let none = Rows::new(rt.alloc());
+    for source in [0, 63, 64, 1023, 1024, 65_535] {
+        for recent in [0, GREATEST] {
+            check_next(
+                &rt,
+                &touched(rt.alloc(), &none, source, 1, recent)?,
+                source,
+                recent,
+            );
+        }
+    }
+    check_next(&rt, &touched(rt.alloc(), &none, 64, 64, 7)?, 64, 7);
+    check_next(&rt, &touched(rt.alloc(), &none, 64, 65, 7)?, 64, 7);
+    Ok(())
+}
+
+// The rows of 3 and 70 are old, the latter a long one, until that of 3 has been expired.
+fn check_expired(rt: &impl Abort, alloc: Global, before: &Rows) -> Result<(), Fail> {
+    assert_next(rt, before, 0, 6, Some(3));
+    assert_next(rt, before, 4, 6, None);
+    assert_next(rt, before, 4, 10, Some(70));
+    let after = touched(alloc, before, 3, 1, 9)?;
+    assert_next(rt, &after, 0, 9, None);
+    assert_next(rt, &after, 0, 10, Some(3));
+    assert_next(rt, &touched(alloc, &after, 3, 0, 0)?, 0, 10, Some(70));
+    Ok(())
+}
+
+#[test]
+fn an_expired_row_is_old_no_more(rt: HostRuntime) -> Result<(), Fail> {
+    let first = touched(rt.alloc(), &Rows::new(rt.alloc()), 3, 1, 5)?;
+    check_expired(&rt, rt.alloc(), &touched(rt.alloc(), &first, 70, 65, 9)?)
 }

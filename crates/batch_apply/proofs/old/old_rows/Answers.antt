@@ -1,12 +1,10 @@
-use Rattle.std.proofs.Common.{◌≡◌, ℕ, List, length, refl, ap, sym, subst, ◌∙◌, arith}
+use Rattle.std.proofs.Common.{◌≡◌, ℕ, ◌+◌, ◌-◌, ◌<◌, ◌≤◌, List, length, refl, ap, sym, subst, ◌∙◌, arith}
 use Rattle.edge_block.specs.Slots.{BlockView}
-use Rattle.vertex_names.specs.Book.{Book}
 use Rattle.graph_version.specs.Rows.{row_of}
 use Rattle.graph_version.specs.Versions.{content}
 use Rattle.batch_shards.specs.Spending.{old_blocks}
 use Rattle.batch_apply.specs.{OldRows.AreOldRows, OldRows.expiry_time, declared.old.OldRow.OldRow}
-use Rattle.batch_apply.proofs.OldRows.{found_no_more, found_more, found_all, none_at_zero, old_is_within}
-use Rattle.batch_apply.proofs.old.old_rows.Goals.{then-blocks-gt0+in_ok-push, else-blocks-gt0}
+use Rattle.batch_apply.proofs.OldRows.{found_no_more, found_more, found_all, none_at_zero, old_is_within, some_counted}
 use Rattle.batch_apply.proofs.old.old_rows.Goals as goal
 
 pub returns-then-time-eq0 : goal.returns-then-time-eq0
@@ -17,30 +15,46 @@ returns-then-time-eq0 c =
     subst (λ (t : ℕ). AreOldRows t rows c.new-found.result.items) (sym none)
     (subst (λ (l : List OldRow). AreOldRows 0 rows l) (sym c.new-found.ensures.items) (none_at_zero rows))
 
-pub loop-number-preserved : goal.loop-number-preserved
-loop-number-preserved c =
+pub loop-source-preserved : goal.loop-source-preserved
+loop-source-preserved c =
     let time : ℕ = c.expiry_time-time.result in
     let rows : ℕ → List BlockView = row_of c.args.version.now.rows in
-    let n : ℕ = c.loop-number.number in
-    let found : List OldRow = c.loop-number.found.items in
-    let blocks : c.old_blocks_in-blocks.result ≡ old_blocks time (rows n) =
+    let n : ℕ = c.loop-source.from.0 in
+    let m : ℕ = c.in-Some.source.0 in
+    let found : List OldRow = c.loop-source.found.items in
+    let next = c.in-Some.ensures in
+    let blocks : c.old_blocks_in-blocks.result ≡ old_blocks time (rows m) =
     c.old_blocks_in-blocks.ensures ∙ ap (old_blocks time) c.row_blocks.ensures.blocks in
-    let r : OldRow = record { source = record { 0 = n }; blocks = c.old_blocks_in-blocks.result } in
-    elim c.if-blocks-gt0.branch [
-      | then-blocks-gt0+in_ok-push w ↦ rw (w.found-is, w.in_ok-push.ensures.items)
-          (found_more time rows n found c.loop-number.invariant r refl blocks w.if-blocks-gt0.true)
-      | else-blocks-gt0 w ↦ rw w.found-is (found_no_more time rows n found c.loop-number.invariant
-          (omega (arith, blocks, w.if-blocks-gt0.false)))
-    ]
+    let some : 0 < old_blocks time (rows m) = some_counted time (rows m) next.1 in
+    let r : OldRow = record { source = c.in-Some.source; blocks = c.old_blocks_in-blocks.result } in
+    rw c.in_ok-push.ensures.items
+    (found_more time rows m found (found_no_more time rows n found c.loop-source.invariant m next.0 next.2) r refl blocks
+    (omega (arith, blocks, some)))
+
+pub loop-source-smaller : goal.loop-source-smaller
+loop-source-smaller c =
+    let time : ℕ = c.expiry_time-time.result in
+    let names : ℕ = length (content c.args.version.now).names in
+    let n : ℕ = c.loop-source.from.0 in
+    let m : ℕ = c.in-Some.source.0 in
+    let next = c.in-Some.ensures in
+    let le : n ≤ m = next.0 in
+    let within : m < names = old_is_within c.args.version.now c.row_blocks.ensures.version time m
+    (some_counted time (row_of c.args.version.now.rows m) next.1) in
+    let less : names - (m + 1) < names - n = omega arith in less
 
 pub returns : goal.returns
 returns c =
     let time : ℕ = c.expiry_time-time.result in
     let rows : ℕ → List BlockView = row_of c.args.version.now.rows in
     let same : time ≡ expiry_time c.args.batch.now = c.expiry_time-time.ensures ∙ ap expiry_time c.ops.ensures.ops in
-    let names : c.len-number-end.result ≡ length (content c.args.version.now).names =
-    c.len-number-end.ensures.value ∙ ap (λ (b : Book). length b.names) c.names.ensures.names in
-    subst (λ (t : ℕ). AreOldRows t rows c.loop-number.found.items) same
-    (found_all time rows c.loop-number.number c.loop-number.found.items c.loop-number.invariant (λ s old.
-    let within = old_is_within c.args.version.now c.names.ensures.version time s old in
-    omega (arith, within, names, c.loop-number-test.false)))
+    subst (λ (t : ℕ). AreOldRows t rows c.loop-source.found.items) same
+    (found_all time rows c.loop-source.from.0 c.loop-source.found.items c.loop-source.invariant c.in_default.ensures)
+
+pub overflow_add-from : goal.overflow_add-from
+overflow_add-from c =
+    let next = c.in-Some.ensures in
+    let within : c.in-Some.source.0 < length (content c.args.version.now).names =
+    old_is_within c.args.version.now c.row_blocks.ensures.version c.expiry_time-time.result c.in-Some.source.0
+    (some_counted c.expiry_time-time.result (row_of c.args.version.now.rows c.in-Some.source.0) next.1) in
+    omega (arith, within, c.row_blocks.ensures.version.small.names)

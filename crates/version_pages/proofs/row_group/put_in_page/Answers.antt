@@ -1,7 +1,7 @@
 use Rattle.std.proofs.Common.{◌≡◌, ◌∙◌, ◌/◌, ◌%◌, inl, inr, ap, List, set, get_or, rules, arith}
 use Rattle.std.specs.{Result.IsOk, declared.sync.Arc.Arc, declared.alloc.Global.Global}
 use Rattle.edge_block.specs.Slots.{BlockView}
-use Rattle.version_pages.specs.{Sharing.row_values, RowPages.in_page, declared.row_page.Page.Page}
+use Rattle.version_pages.specs.{RowPages.in_page, declared.row_page.Page.Page}
 use Rattle.list_pieces.proofs.Full.{set_piece}
 use Rattle.std.proofs.lemmas.Result.{on_ok_weaker}
 use Rattle.version_pages.proofs.row_group.put_in_page.Goals as goal
@@ -16,7 +16,7 @@ returns-clause-rows c =
     on_ok_weaker c.put.result
     (λ put.
     set_piece 64 in_page c.args.pages.now c.args.place (c.args.place / 64) (c.args.place % 64) _ h
-    (row_values c.args.row) c.requires.pages (omega arith) (omega arith) (omega arith)
+    c.args.row c.requires.pages (omega arith) (omega arith) (omega arith)
     (c.make_mut.follows.holds c.put.new.self ok ∙ put
-    ∙ ap (λ (p : List (List BlockView)). set p (c.args.place % 64) (row_values c.args.row)) same))
+    ∙ ap (λ (p : List (List BlockView)). set p (c.args.place % 64) c.args.row) same))
     c.put.ensures.rows

@@ -1,7 +1,7 @@
 use Rattle.std.proofs.Common.{◌≡◌, ◌∙◌, ◌/◌, ◌%◌, inl, inr, ap, List, set, get_or, rules, arith}
 use Rattle.std.specs.{Result.IsOk, declared.sync.Arc.Arc, declared.alloc.Global.Global}
 use Rattle.edge_block.specs.Slots.{BlockView}
-use Rattle.version_pages.specs.{Sharing.row_values, Parts.in_part, declared.row_page.Part.Part}
+use Rattle.version_pages.specs.{Parts.in_part, declared.row_page.Part.Part}
 use Rattle.list_pieces.proofs.Full.{set_piece}
 use Rattle.version_pages.proofs.row_page.put_in_part.Goals as goal
 
@@ -13,6 +13,6 @@ returns-clause-rows c =
     let ok : IsOk c.make_mut.result = search rules in
     let lt = c.requires.place in
     set_piece 8 in_part c.args.parts.now c.args.place (c.args.place / 8) (c.args.place % 8) _ h
-    (row_values c.args.row) c.requires.parts (omega arith) (omega arith) (omega arith)
-    (c.make_mut.follows.holds c.set.new.self ok ∙ c.set.ensures
-    ∙ ap (λ (p : List (List BlockView)). set p (c.args.place % 8) (row_values c.args.row)) same)
+    c.args.row c.requires.parts (omega arith) (omega arith) (omega arith)
+    (c.make_mut.follows.holds c.set-before.new.self ok ∙ c.set-before.ensures
+    ∙ ap (λ (p : List (List BlockView)). set p (c.args.place % 8) c.args.row) same)

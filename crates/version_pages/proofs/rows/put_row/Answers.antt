@@ -2,7 +2,7 @@ use Rattle.std.proofs.Common.{◌≡◌, ◌∙◌, ◌+◌, ◌/◌, ◌%◌, �
 use Rattle.std.proofs.{Common.if◌then◌else◌, lemmas.Result.on_ok_weaker}
 use Rattle.std.specs.{Result.IsOk, declared.sync.Arc.Arc, declared.alloc.Global.Global}
 use Rattle.edge_block.specs.Slots.{BlockView}
-use Rattle.version_pages.specs.{Rows.row_of, Sharing.row_values, RowGroups.in_group, RowGroups.in_groups}
+use Rattle.version_pages.specs.{Rows.row_of, RowGroups.in_group, RowGroups.in_groups}
 use Rattle.version_pages.specs.{declared.row_group.Group.Group}
 use Rattle.list_pieces.proofs.Full.{long, set_piece, set_look_up}
 use Rattle.version_pages.proofs.rows.put_row.Goals as goal
@@ -11,7 +11,7 @@ pub returns-clause-rows : goal.returns-clause-rows
 returns-clause-rows c =
     let groups : List (Arc Group Global) = c.add_groups.new.groups.items in
     let source = c.args.source in
-    let row = row_values c.args.row in
+    let row = c.args.row in
     let h : Arc Group Global = c.index_mut.result.now in
     let same : c.in_ok-groups.field-0.now ≡ in_group h = elim c.in_ok-groups.ensures.value [ inl e ↦ e | inr e ↦ e ] in
     let from : c.in_ok-groups.field-0.now ≡ in_group (get_or groups (source / 1024) h) = same ∙ ap in_group c.index_mut.ensures.value in

@@ -1,6 +1,13 @@
-use Rattle.std.proofs.lemmas.List.{map-set}
-use Rattle.version_pages.specs.Sharing.{row_values}
+use Rattle.std.proofs.Common.{◌∙◌}
+use Rattle.std.proofs.Math.Nat.{min-le_left, min-le_right}
+use Rattle.std.proofs.lemmas.List.{length-set}
+use Rattle.version_pages.proofs.Ages.{bounded_set}
 use Rattle.version_pages.proofs.row_page.Part.set.Goals as goal
 
-pub returns : goal.returns
-returns c = rw (← c.self.view_is) (map-set row_values c.self.inside.rows c.args.place c.args.row)
+pub invariant_of-self : goal.invariant_of-self
+invariant_of-self c = (
+  c.rows_bound-self-inside.ensures (bounded_set _ c.self.inside.since c.since-since.result c.self.inside.rows c.args.place c.args.row
+      (min-le_left c.self.inside.since c.since-since.result) (min-le_right c.self.inside.since c.since-since.result)
+      c.self.invariant.0 c.since-since.ensures),
+  length-set c.self.inside.rows c.args.place c.args.row ∙ c.self.invariant.1,
+)
