@@ -6,15 +6,13 @@ use Rattle.std.specs.declared.option.Option.{Option, TheVariants.None, TheVarian
 use Rattle.block_pool.proofs.Grants.{length-marked}
 use Rattle.edge_block.specs.Slots.{BlockView}
 use Rattle.graph_version.specs.Rows.{row_of, blocks_of, numbers_of}
-use Rattle.block_reclamation.specs.Status.{is_listed, is_used, is_at}
+use Rattle.block_reclamation.specs.{Status.is_listed, Status.is_used, Status.is_at, declared.status.BlockStatus.TheVariants.Used}
 use Rattle.block_pool.specs.Pools.{retired, is_free_at, marked, is_used_at}
-use Rattle.block_reclamation.specs.declared.status.BlockStatus.TheVariants.{Used}
 use Rattle.epoch_core.specs.Blocks.{all_differ}
 use Rattle.store_steps.specs.Journal.{Entry, Ledger, opened_ledger, is_legal, after_entry, entered, replay}
 use Rattle.store_steps.specs.Desks.{IsDesk, IsAccepted, FollowsBirths, birth_at, last_numbers, ledger_of}
-use Rattle.store_steps.proofs.{NumberLists.all_by, NumberLists.number_in, ChangedLists.length-changed}
+use Rattle.store_steps.proofs.{NumberLists.all_by, NumberLists.number_in, ChangedLists.length-changed, OneNumber.number_after}
 use Rattle.store_steps.proofs.Counting.{is_some_times, in_times, apart_if, same_block, counted, listed}
-use Rattle.store_steps.proofs.OneNumber.{number_after}
 use Rattle.store_steps.proofs.Births.{birth_in, birth_from, birth_taken, birth_stays, births_of, number_of_row, row_listed}
 use Rattle.store_steps.proofs.Applications.{Application, number_in_desk, dropped_numbers, next_desk, entry_in, after_times}
 use Rattle.store_steps.proofs.Applications.{handed_once, granted_free, one, dropped_differ, dropped_born, exchanged_at, next_at}

@@ -132,26 +132,21 @@ born_pool a = marked a.taken (Used (number_in_desk a)) (granted_pool a)
 abbrev pub retired_pool : Application → List BlockStatus
 retired_pool a = changed (retired (number_in_desk a)) (dropped_numbers a) (born_pool a)
 
-retired_at : (a : Application) (m : ℕ)
-    → slice_get (retired_pool a) m ≡ number_after (number_in_desk a)
+retired_at : (a : Application) (m : ℕ) → slice_get (retired_pool a) m ≡ number_after (number_in_desk a)
     (marked_if Granted (is_some_times (times m a.taken + times m a.unused)) (slice_get a.old.pool m))
     (is_some_times (times m a.taken)) (is_some_times (dropped_times a m))
 retired_at a m =
     exchanged_at (number_in_desk a) a.taken (dropped_numbers a) (granted_pool a) m (dropped_differ a)
     ∙ ap (λ o. number_after (number_in_desk a) o (is_listed m a.taken) (is_listed m (dropped_numbers a)))
-    (marked_at a.numbers Granted a.old.pool m
-    ∙ ap (λ t. marked_if Granted t (slice_get a.old.pool m)) (in_numbers a m))
+    (marked_at a.numbers Granted a.old.pool m ∙ ap (λ t. marked_if Granted t (slice_get a.old.pool m)) (in_numbers a m))
     ∙ ap (λ t. number_after (number_in_desk a)
     (marked_if Granted (is_some_times (times m a.taken + times m a.unused)) (slice_get a.old.pool m)) t
-    (is_listed m (dropped_numbers a))) (in_times m a.taken)
-    ∙ ap (number_after (number_in_desk a)
+    (is_listed m (dropped_numbers a))) (in_times m a.taken) ∙ ap (number_after (number_in_desk a)
     (marked_if Granted (is_some_times (times m a.taken + times m a.unused)) (slice_get a.old.pool m))
     (is_some_times (times m a.taken))) (in_times m (dropped_numbers a))
 
 -- once the unused are given back, the pool is what the journal's entry says
 pub moves_left : (a : Application) → marked a.unused Free (retired_pool a) ≡ (next_desk a).pool
 moves_left a = same_list _ _ (λ m.
-    marked_at a.unused Free (retired_pool a) m
-    ∙ ap (λ t. marked_if Free t (slice_get (retired_pool a) m)) (in_times m a.unused)
-    ∙ ap (marked_if Free (is_some_times (times m a.unused))) (retired_at a m)
-    ∙ (one a m).moved ∙ sym (next_at a m))
+    marked_at a.unused Free (retired_pool a) m ∙ ap (λ t. marked_if Free t (slice_get (retired_pool a) m)) (in_times m a.unused)
+    ∙ ap (marked_if Free (is_some_times (times m a.unused))) (retired_at a m) ∙ (one a m).moved ∙ sym (next_at a m))

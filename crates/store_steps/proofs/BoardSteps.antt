@@ -1,9 +1,9 @@
 -- The board's calls are the machine's steps.
-use Rattle.std.proofs.Common.{◌≡◌, ℕ, zero, suc, ◌<◌, ◌≤◌, ◌-◌, inl, inr, List, [], ◌∷◌, ◌++◌, length, map, replicate, get_or, set, max}
+use Rattle.std.proofs.Common.{◌≡◌, ℕ, zero, suc, ◌<◌, ◌≤◌, ◌-◌, inl, inr, List, [], ◌∷◌, length, map, replicate, get_or, set, max}
 use Rattle.std.proofs.Common.{true, length-append, refl, sym, ap, subst, ◌∙◌, arith}
-use Rattle.std.specs.Prelude.{Option, Some, None, option_map}
 use Rattle.std.proofs.lemmas.{Bool.cases_eq, List.get_or-set_same, List.get_or-set_other, List.length-map, List.length-replicate}
-use Rattle.block_reclamation.specs.declared.copies.{Pin.Pin, TheConstants.SEATS}
+use Rattle.std.specs.Prelude.{Option, Some, None, option_map}
+use Rattle.block_reclamation.specs.declared.copies.{Pin.Pin, PinCopy.PinCopy, TheConstants.SEATS}
 use Rattle.block_reclamation.specs.Board.{BoardState, IsBoard, with_pin}
 use Rattle.block_reclamation.specs.Copies.{pin_at, unsettled, settled, copy_of, floor_of}
 use Rattle.epoch_core.specs.declared.session_states.SessionState.{SessionState}
@@ -15,9 +15,9 @@ use Rattle.store_steps.specs.{Desks.DeskView, Shown.ShowsWorld, Boards.RaisesAsM
 use Rattle.store_steps.specs.Boards.{ShowsBoard, raised_board, PinsAsMachine, SettlesAsMachine, UnpinsAsMachine}
 
 -- a desk shows no session, no floor and no copy
-pub shows_sessions : (d : DeskView) (w : World) (sessions : List SessionState) → ShowsWorld d w
-    → ShowsWorld d (record w { sessions = sessions })
-shows_sessions d w sessions shown = record {
+shows_beside : (d : DeskView) (w : World) (floor : ℕ) (copy : PinCopy) (sessions : List SessionState) → ShowsWorld d w
+    → ShowsWorld d (record w { floor = floor; copy = copy; sessions = sessions })
+shows_beside d w floor copy sessions shown = record {
   opening = shown.opening;
   opened = shown.opened;
   batches = shown.batches;
@@ -27,16 +27,12 @@ shows_sessions d w sessions shown = record {
   sizes = shown.sizes;
 }
 
+pub shows_sessions : (d : DeskView) (w : World) (sessions : List SessionState) → ShowsWorld d w
+    → ShowsWorld d (record w { sessions = sessions })
+shows_sessions d w sessions shown = shows_beside d w w.floor w.copy sessions shown
+
 pub shows_floored : (d : DeskView) (w : World) → ShowsWorld d w → ShowsWorld d (floored w)
-shows_floored d w shown = record {
-  opening = shown.opening;
-  opened = shown.opened;
-  batches = shown.batches;
-  blocks = shown.blocks;
-  edges = shown.edges;
-  status = shown.status;
-  sizes = shown.sizes;
-}
+shows_floored d w shown = shows_beside d w (floored w).floor (floored w).copy w.sessions shown
 
 -- a session's move, and its pin's
 moves : (b : BoardState) (w : World) (s : ℕ) (change : SessionState

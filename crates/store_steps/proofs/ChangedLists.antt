@@ -47,8 +47,7 @@ pub marked_at : {A : Type 0} (ns : List ℕ) (x : A) (xs : List A) (n : ℕ)
     → slice_get (marked ns x xs) n ≡ (if is_listed n ns then option_map (λ _. x) (slice_get xs n) else slice_get xs n)
 marked_at [] x xs n = refl
 marked_at (m ∷ ns) x xs n =
-    marked_at ns x (set xs m x) n
-    ∙ ap (changed_if (λ _. x) (is_listed n ns)) (set_at (λ _. x) xs m n x)
+    marked_at ns x (set xs m x) n ∙ ap (changed_if (λ _. x) (is_listed n ns)) (set_at (λ _. x) xs m n x)
     ∙ twice (m == n) (is_listed n ns) x (slice_get xs n)
 
 once : {A : Type 0} (f : A → A) (a b : Bool) (o : Option A) → (a ≡ true → b ≡ false)

@@ -1,16 +1,15 @@
 -- A collection leaves a desk.
-use Rattle.std.proofs.Common.{◌≡◌, ℕ, zero, suc, ◌+◌, ◌<◌, ◌≤◌, ◌==◌, true}
-use Rattle.std.proofs.Common.{false, cond, List, [], ◌∷◌, ◌++◌, length, map, count_by, refl, sym, ap, ap₂, subst, ◌∙◌, arith}
-use Rattle.std.specs.{Prelude.slice_get, Prelude.if◌then◌else◌, Prelude.nat_le, Prelude.nat_lt, Option.option_map}
-use Rattle.std.specs.{Option.option_and_then, declared.option.Option.Option, declared.option.Option.TheVariants.None}
-use Rattle.std.{specs.declared.option.Option.TheVariants.Some, proofs.lemmas.List.append-nil}
-use Rattle.std.proofs.lemmas.{List.length-map, Bool.eq-eqb, Bool.or_right, Bool.Decides.nat_tests, Option.slice_get-map}
+use Rattle.std.proofs.Common.{◌≡◌, ℕ, zero, suc, ◌+◌, ◌<◌, ◌≤◌, ◌==◌, true, false, cond, List, [], ◌∷◌, ◌++◌, length, map}
+use Rattle.std.proofs.Common.{count_by, refl, sym, ap, ap₂, subst, ◌∙◌, arith}
+use Rattle.std.proofs.lemmas.{List.append-nil, List.length-map, Bool.eq-eqb, Bool.or_right, Bool.Decides.nat_tests}
+use Rattle.std.proofs.lemmas.Option.{slice_get-map}
+use Rattle.std.specs.Prelude.{slice_get, if◌then◌else◌, nat_le, nat_lt}
+use Rattle.std.specs.Option.{option_map, option_and_then}
+use Rattle.std.specs.declared.option.Option.{Option, TheVariants.None, TheVariants.Some}
 use Rattle.edge_block.specs.Slots.{BlockView}
-use Rattle.graph_version.specs.Rows.{row_of, numbers_of}
-use Rattle.graph_version.specs.Versions.{VersionView}
+use Rattle.graph_version.specs.{Rows.row_of, Rows.numbers_of, Versions.VersionView}
 use Rattle.block_reclamation.specs.Status.{is_listed, is_retired, is_reclaimable, is_used, is_at, recycled}
-use Rattle.block_reclamation.specs.declared.copies.PinCopy.{PinCopy}
-use Rattle.block_reclamation.specs.declared.status.BlockStatus.{BlockStatus}
+use Rattle.block_reclamation.specs.declared.{copies.PinCopy.PinCopy, status.BlockStatus.BlockStatus}
 use Rattle.block_reclamation.specs.declared.status.BlockStatus.TheVariants.{Free, Used, Retired}
 use Rattle.block_pool.proofs.Tallies.{count_more}
 use Rattle.store_steps.specs.Journal.{Collected, Ledger, opened_ledger, is_legal, after_entry, entered, replay}
@@ -90,8 +89,7 @@ collected_desk d copy desk low = record {
   version = desk.version;
   replays =
       ap (λ n. replay (d.journal ++ collections copy (count_by (is_reclaimable copy) d.pool)) (opened_ledger n d.opened))
-      (length-map d.pool (recycled copy))
-      ∙ replays_on d copy desk low (count_by (is_reclaimable copy) d.pool) refl;
+      (length-map d.pool (recycled copy)) ∙ replays_on d copy desk low (count_by (is_reclaimable copy) d.pool) refl;
   listed = λ n. ap (is_at is_used) (slice_get-map (recycled copy) d.pool n) ∙ born_recycled copy (slice_get d.pool n)
       ∙ desk.listed n;
 }
@@ -131,7 +129,5 @@ pub births_collected : (d e : DeskView) (copy : PinCopy) → IsDesk d → IsColl
 births_collected d e copy desk collected source =
     ap (λ (v : VersionView). map (λ b. birth_at e.pool b.number) (row_of v.rows source)) collected.last
     ∙ same_births e.pool d.pool (row_of d.last.rows source) (λ m is.
-    birth_from e.pool m ∙ ap (λ p. birth_in (slice_get p m)) collected.pool
-    ∙ ap birth_in (slice_get-map (recycled copy) d.pool m)
-    ∙ birth_recycled copy (slice_get d.pool m) (desk.listed m ∙ row_listed d.last.rows source m is)
-    ∙ sym (birth_from d.pool m))
+    birth_from e.pool m ∙ ap (λ p. birth_in (slice_get p m)) collected.pool ∙ ap birth_in (slice_get-map (recycled copy) d.pool m)
+    ∙ birth_recycled copy (slice_get d.pool m) (desk.listed m ∙ row_listed d.last.rows source m is) ∙ sym (birth_from d.pool m))

@@ -1,23 +1,22 @@
 -- A collection is Recycle of each block that the copy frees, all done, and no further block goes afterwards.
-use Rattle.std.proofs.Common.{◌≡◌, ◌≢◌, ℕ, zero, suc, ◌+◌}
-use Rattle.std.proofs.Common.{◌<◌, ◌==◌, Bool, true, false, not, ◌||◌, List, [], ◌∷◌, map, set, refl, sym, ap, subst, ◌∙◌, arith}
+use Rattle.std.proofs.Common.{◌≡◌, ◌≢◌, ℕ, zero, suc, ◌+◌, ◌<◌, ◌==◌, Bool, true, false, ◌||◌, List, [], ◌∷◌, map, set, refl, sym}
+use Rattle.std.proofs.Common.{ap, subst, ◌∙◌, arith}
+use Rattle.std.proofs.lemmas.{Bool.eq-eqb, Bool.true≢false, Bool.or_right, Option.slice_get-map}
 use Rattle.std.specs.Prelude.{slice_get, if◌then◌else◌, filter}
 use Rattle.std.specs.{List.enumerate_from, Option.option_map, Option.option_and_then, Option.is_some}
 use Rattle.std.specs.declared.option.Option.{Option, TheVariants.None, TheVariants.Some}
-use Rattle.std.proofs.lemmas.{Bool.eq-eqb, Bool.true≢false, Bool.or_right, Option.slice_get-map}
 use Rattle.block_pool.proofs.Grants.{length-marked}
 use Rattle.block_reclamation.specs.Status.{is_listed, is_reclaimable, recycled, is_at}
-use Rattle.block_reclamation.specs.declared.status.BlockStatus.{BlockStatus}
-use Rattle.block_reclamation.specs.declared.status.BlockStatus.TheVariants.{Free}
-use Rattle.block_pool.specs.Pools.{marked}
+use Rattle.block_reclamation.specs.declared.status.BlockStatus.{BlockStatus, TheVariants.Free}
 use Rattle.block_reclamation.specs.declared.copies.PinCopy.{PinCopy}
+use Rattle.block_pool.specs.Pools.{marked}
 use Rattle.epoch_core.specs.Blocks.{put, all_differ, reclaimed}
 use Rattle.epoch_core.specs.{declared.events.Event.TheVariants.Recycle, Worlds.World, Machine.step, Machine.with_status}
 use Rattle.epoch_core.proofs.Lists.{set_else}
-use Rattle.store_steps.specs.{Desks.DeskView, Desks.IsCollected, Shown.ShowsWorld, Steps.all_done}
-use Rattle.store_steps.{specs.Steps.past_numbers, specs.Steps.recycling, specs.Steps.TakesAt, proofs.NumberLists.apart_test}
-use Rattle.store_steps.proofs.{NumberLists.differ_head, NumberLists.differ_tail, Filling.step_then}
-use Rattle.store_steps.proofs.ChangedLists.{marked_at, same_list}
+use Rattle.store_steps.specs.{Desks.DeskView, Desks.IsCollected, Shown.ShowsWorld}
+use Rattle.store_steps.specs.Steps.{all_done, past_numbers, recycling, TakesAt}
+use Rattle.store_steps.proofs.NumberLists.{apart_test, differ_head, differ_tail}
+use Rattle.store_steps.proofs.{Filling.step_then, ChangedLists.marked_at, ChangedLists.same_list}
 
 -- whether the machine recycles a block by the copy
 abbrev goes : PinCopy → Option BlockStatus → Bool
@@ -47,14 +46,12 @@ recycle_skipped w n is = ap (λ o. option_map (with_status w) (put w.status n o)
 
 -- Recycle of different blocks that go
 recycles : (ns : List ℕ) (w : World) → ((n : ℕ) → is_listed n ns ≡ true → goes w.copy (slice_get w.status n) ≡ true)
-    → all_differ ns ≡ true
-    → all_done (map Recycle ns) w ≡ Some (with_status w (marked ns Free w.status))
+    → all_differ ns ≡ true → all_done (map Recycle ns) w ≡ Some (with_status w (marked ns Free w.status))
 recycles [] w go apart = refl
 recycles (n ∷ ns) w go apart =
     let here : (n == n) ≡ true = eq-eqb n n refl in
     let w1 : World = with_status w (set w.status n Free) in
-    step_then (Recycle n) (map Recycle ns) w w1 (recycle_done w n (go n (rw here refl)))
-    ∙ recycles ns w1
+    step_then (Recycle n) (map Recycle ns) w w1 (recycle_done w n (go n (rw here refl))) ∙ recycles ns w1
     (λ m is.
     let ne : m ≢ n = λ e. absurd (true≢false (sym is ∙ ap (λ x. is_listed x ns) e ∙ differ_head n ns apart)) in
     ap (goes w.copy) (set_else w.status n m Free ne) ∙ go m (or_right (n == m) (is_listed m ns) is))

@@ -1,11 +1,12 @@
 -- How often a number or a block stands in a list.
 use Rattle.std.proofs.Common.{◌≡◌, ℕ, zero, suc, ◌+◌, ◌<◌, ◌≤◌, ◌==◌, Bool, true, false, cond, ◌&&◌, ◌||◌, List, [], ◌∷◌, length}
 use Rattle.std.proofs.Common.{get_or, count_by, Decides, refl, sym, ap, subst, ◌∙◌, arith}
+use Rattle.std.proofs.lemmas.{Bool.eq-eqb, Bool.eqb-true, Slice.Eq.slice_eq-Decides}
+use Rattle.std.proofs.lemmas.Bool.Decides.{Decides-and, Decides-eqb, Decides-like}
 use Rattle.std.specs.{Prelude.Contains, Cmp.Lexicographic.pointwise}
 use Rattle.std.specs.declared.option.Option.{Option, TheVariants.None, TheVariants.Some}
-use Rattle.std.proofs.lemmas.{Bool.eq-eqb, Bool.eqb-true, Slice.Eq.slice_eq-Decides}
-use Rattle.std.proofs.lemmas.Bool.Decides.{Decides-and, Decides-eqb, Decides-int_eq, Decides-like}
-use Rattle.epoch_core.{proofs.Edges.Decides-same_stamp, specs.Blocks.all_differ, specs.Posting.same_stamp}
+use Rattle.epoch_core.proofs.Edges.{Decides-same_stamp}
+use Rattle.epoch_core.specs.{Blocks.all_differ, Posting.same_stamp}
 use Rattle.edge_block.specs.Slots.{BlockView, Slot}
 use Rattle.graph_version.specs.Rows.{numbers_of}
 use Rattle.block_reclamation.specs.Status.{is_listed}

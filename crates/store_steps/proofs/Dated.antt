@@ -5,10 +5,9 @@ use Rattle.std.specs.{Option.option_map, Option.option_and_then, Prelude.slice_g
 use Rattle.std.specs.declared.option.Option.{Option, TheVariants.None, TheVariants.Some}
 use Rattle.graph_types.specs.declared.batches.NamedOp.{NamedOp}
 use Rattle.block_reclamation.specs.Status.{is_listed, is_free, is_used, is_reclaimable, is_at, recycled}
-use Rattle.block_reclamation.specs.declared.copies.PinCopy.{PinCopy}
-use Rattle.block_pool.specs.Pools.{is_free_at, is_used_at}
-use Rattle.block_reclamation.specs.declared.status.BlockStatus.{BlockStatus}
+use Rattle.block_reclamation.specs.declared.{copies.PinCopy.PinCopy, status.BlockStatus.BlockStatus}
 use Rattle.block_reclamation.specs.declared.status.BlockStatus.TheVariants.{Free, Granted, Used, Retired}
+use Rattle.block_pool.specs.Pools.{is_free_at, is_used_at}
 use Rattle.epoch_core.proofs.Lists.{all_listed}
 use Rattle.store_steps.specs.Journal.{Entry, Applied, Collected, Ledger, opened_ledger, is_legal, after_entry, exchanged, replay}
 use Rattle.store_steps.specs.{Desks.DeskView, Desks.IsDesk, Desks.ledger_of, Dates.IsDated, Dates.AreDated}

@@ -1,15 +1,12 @@
 -- Small stores, computed.
 use Rattle.std.proofs.Common.{◌≡◌, ℕ, zero, suc, Bool, false, [], ◌∷◌, get_or, refl, sym, ap, ◌∙◌, arith}
-use Rattle.std.specs.Prelude.{All, slice_get, Option, Some, None}
 use Rattle.std.proofs.lemmas.{Bool.true≢false, List.Elements.All-cons}
+use Rattle.std.specs.Prelude.{All, slice_get, Option, Some, None}
 use Rattle.graph_version.specs.Edges.{edges_in_block}
-use Rattle.epoch_core.specs.Worlds.{seat_pin, start_world, session_of}
+use Rattle.epoch_core.specs.{Worlds.seat_pin, Worlds.start_world, Worlds.session_of, Versions.edges_at}
 use Rattle.epoch_core.specs.declared.{session_states.SessionState.TheVariants.Idle, events.Event.TheVariants.Pin}
-use Rattle.epoch_core.specs.Versions.{edges_at}
-use Rattle.block_reclamation.specs.Copies.{pin_at, unsettled}
-use Rattle.block_reclamation.specs.Board.{no_pins, with_pin}
-use Rattle.block_reclamation.specs.Status.{is_at, is_granted}
-use Rattle.block_reclamation.specs.declared.copies.Pin.{Pin as SeatPin}
+use Rattle.block_reclamation.specs.{Copies.pin_at, Copies.unsettled, declared.copies.Pin.Pin as SeatPin}
+use Rattle.block_reclamation.specs.{Board.no_pins, Board.with_pin, Status.is_at, Status.is_granted}
 use Rattle.store_steps.specs.{Reached.world_by, Desks.birth_at}
 use Rattle.store_steps.specs.Examples.{AreExamples, block_one, world_of_edge, board_of_two, world_of_two}
 use Rattle.store_steps.proofs.OpeningShown.{no_pin}

@@ -21,8 +21,7 @@ granted_used : (pool : List BlockStatus) (numbers : List ℕ) (m : ℕ) → is_f
     → is_in_use_at (marked numbers Granted pool) m ≡ true
 granted_used pool numbers m free is =
     ap (is_at is_in_use) (marked_at numbers Granted pool m)
-    ∙ ap (λ t. is_at is_in_use (marked_if Granted t (slice_get pool m))) is
-    ∙ used_marked (slice_get pool m) free
+    ∙ ap (λ t. is_at is_in_use (marked_if Granted t (slice_get pool m))) is ∙ used_marked (slice_get pool m) free
 
 -- what was granted is not the last version's
 pub not_granted : (d : DeskView) (numbers : List ℕ) (m : ℕ) → IsDesk d → AreFree d.pool numbers
@@ -97,8 +96,7 @@ dropped_movable a = record {
       ap (is_at is_used) (marked_at a.taken (Used (number_in_desk a)) (granted_pool a) m)
       ∙ ap (λ t. is_at is_used (marked_if (Used (number_in_desk a)) t (slice_get (granted_pool a) m))) (not_taken a m none)
       ∙ ap (is_at is_used) (marked_at a.numbers Granted a.old.pool m)
-      ∙ ap (λ t. is_at is_used (marked_if Granted t (slice_get a.old.pool m))) none
-      ∙ born);
+      ∙ ap (λ t. is_at is_used (marked_if Granted t (slice_get a.old.pool m))) none ∙ born);
   apart = dropped_differ a;
 }
 
@@ -110,8 +108,7 @@ unused_movable a = record {
       let stays : is_listed m (dropped_numbers a) ≡ false = not_dropped a m free in
       ap (is_at is_in_use) (changed_at (retired (number_in_desk a)) (dropped_numbers a) (born_pool a) m (dropped_differ a))
       ∙ ap (λ t. is_at is_in_use (if t then option_map (retired (number_in_desk a)) (slice_get (born_pool a) m) else slice_get
-      (born_pool a) m)) stays
-      ∙ ap (is_at is_in_use) (marked_at a.taken (Used (number_in_desk a)) (granted_pool a) m)
+      (born_pool a) m)) stays ∙ ap (is_at is_in_use) (marked_at a.taken (Used (number_in_desk a)) (granted_pool a) m)
       ∙ ap (λ t. is_at is_in_use (marked_if (Used (number_in_desk a)) t (slice_get (granted_pool a) m))) (unused_untaken a m is)
       ∙ granted_used a.old.pool a.numbers m free granted);
   apart = apart_if a.unused (λ m. let once = handed_once a m in omega arith);

@@ -25,8 +25,7 @@ done_is_run (e ∷ es) w after is =
 
 -- a session's move that keeps its pin is unseen
 unseen : (d : DeskView) (b : BoardState) (w after : World) (s : ℕ) (change : SessionState → Option SessionState)
-    → Moved w s change after
-    → ((session next : SessionState) → change session ≡ Some next → seat_pin next ≡ seat_pin session)
+    → Moved w s change after → ((session next : SessionState) → change session ≡ Some next → seat_pin next ≡ seat_pin session)
     → ShowsWorld d w → ShowsBoard b w → ShowsWorld d after × ShowsBoard b after × (after.copy ≡ w.copy)
 unseen d b w after s change m keeps shown shows = (
   subst (ShowsWorld d) (sym m.result) (shows_sessions d w (set w.sessions s m.next) shown),
@@ -77,8 +76,7 @@ keeps_reply o versions (Asking hold inquiry) next is =
     ] is
 
 read_if : (w : World) (hold : Hold) (inquiry : Inquiry) (o : Option ℕ) (next : SessionState)
-    → option_map (λ b. Asking hold (read_on w.heap inquiry b)) o ≡ Some next
-    → seat_pin next ≡ seat_pin (Asking hold inquiry)
+    → option_map (λ b. Asking hold (read_on w.heap inquiry b)) o ≡ Some next → seat_pin next ≡ seat_pin (Asking hold inquiry)
 read_if w hold inquiry None next is = cc
 read_if w hold inquiry (Some b) next is = ap seat_pin (sym (let e : Asking hold (read_on w.heap inquiry b) ≡ next = cc in e))
 

@@ -105,8 +105,7 @@ in_picked p (b ∷ bs) n is =
     ∙ is)
 
 picked_by : (p : ℕ → Bool) (m n : ℕ) (rest more t u : Bool) → p m ≡ t → (m == n) ≡ u → p n ≡ true → (more ≡ true → rest ≡ true)
-    → (u || more) ≡ true
-    → (if t then u || rest else rest) ≡ true
+    → (u || more) ≡ true → (if t then u || rest else rest) ≡ true
 picked_by p m n rest more true true e f pass h is = refl
 picked_by p m n rest more true false e f pass h is = h is
 picked_by p m n rest more false true e f pass h is = absurd (true≢false (sym (ap p (eqb-true m n f) ∙ pass) ∙ e))

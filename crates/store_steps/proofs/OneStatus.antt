@@ -2,9 +2,8 @@
 use Rattle.std.proofs.Common.{◌≡◌, ℕ, Bool, true, false, refl}
 use Rattle.std.specs.{Prelude.if◌then◌else◌, Option.option_map}
 use Rattle.std.specs.declared.option.Option.{Option, TheVariants.None, TheVariants.Some}
-use Rattle.block_reclamation.specs.declared.status.BlockStatus.{BlockStatus}
+use Rattle.block_reclamation.specs.{declared.status.BlockStatus.BlockStatus, Status.is_free, Status.is_used, Status.is_at}
 use Rattle.block_reclamation.specs.declared.status.BlockStatus.TheVariants.{Free, Granted, Used, Retired}
-use Rattle.block_reclamation.specs.Status.{is_free, is_used, is_at}
 use Rattle.epoch_core.specs.Blocks.{after_post}
 use Rattle.store_steps.proofs.OneNumber.{number_after}
 
@@ -13,8 +12,7 @@ abbrev pub status_by : ℕ → Bool → Option BlockStatus → Bool → Option B
 status_by n listed s t = option_map (after_post n listed) (if t then option_map (λ _. Granted) s else s)
 
 pub same_after : (n : ℕ) (p : Option BlockStatus) (t d : Bool) → (t ≡ true → is_at is_free p ≡ true)
-    → (d ≡ true → is_at is_used p ≡ true)
-    → status_by n (is_at is_used (number_after n p t d)) p t ≡ number_after n p t d
+    → (d ≡ true → is_at is_used p ≡ true) → status_by n (is_at is_used (number_after n p t d)) p t ≡ number_after n p t d
 same_after n None true true f g = refl
 same_after n None true false f g = refl
 same_after n None false true f g = refl
@@ -34,8 +32,7 @@ same_after n (Some (Retired birth retirement)) false false f g = refl
 
 -- a taken number is born afterwards
 pub born_mark : (n : ℕ) (p : Option BlockStatus) (t d : Bool) → (t ≡ true → is_at is_free p ≡ true)
-    → (d ≡ true → is_at is_used p ≡ true) → t ≡ true
-    → is_at is_used (number_after n p t d) ≡ true
+    → (d ≡ true → is_at is_used p ≡ true) → t ≡ true → is_at is_used (number_after n p t d) ≡ true
 born_mark n None t d f g e = let no = f e in cc
 born_mark n (Some Free) true true f g e = let no = g refl in cc
 born_mark n (Some Free) true false f g e = refl

@@ -1,28 +1,24 @@
 -- The opening.
 use Rattle.std.proofs.Common.{◌≡◌, ◌≢◌, ℕ, zero, suc, ◌<◌, ◌==◌, ◌||◌, Bool, true, false, List, [], ◌∷◌, ◌++◌, length}
 use Rattle.std.proofs.Common.{replicate, refl, sym, ap, subst, ◌∙◌, arith, All, AllPairs}
-use Rattle.std.specs.{Prelude.map, Prelude.slice_get, Prelude.slice_set, Prelude.if◌then◌else◌, List.flat_map, Option.option_map}
-use Rattle.std.specs.declared.option.Option.TheVariants.{None, Some}
 use Rattle.std.proofs.lemmas.Bool.{eqb-true}
 use Rattle.std.proofs.lemmas.List.{length-replicate, Elements.All-head, Elements.All-tail, Elements.All-cons}
+use Rattle.std.specs.{Prelude.map, Prelude.slice_get, Prelude.slice_set, Prelude.if◌then◌else◌, List.flat_map, Option.option_map}
+use Rattle.std.specs.declared.option.Option.TheVariants.{None, Some}
 use Rattle.block_pool.proofs.Grants.{length-marked}
 use Rattle.graph_types.specs.{Graph.Graph, Graph.graph_of, Graph.content_of, Graph.IsContent, Step.left_by}
 use Rattle.graph_types.specs.declared.{ids.Edge.Edge, contents.Content.Content}
 use Rattle.edge_block.specs.Slots.{BlockView}
-use Rattle.graph_version.specs.Rows.{blocks_of, numbers_of}
+use Rattle.graph_version.specs.{Rows.blocks_of, Rows.numbers_of, Edges.edges_in_block, Edges.edges_in_blocks, Edges.AreEachOnce}
 use Rattle.graph_version.specs.Versions.{VersionView, content, empty_version}
-use Rattle.block_reclamation.specs.Status.{is_listed, is_used, is_at}
-use Rattle.graph_version.specs.Edges.{edges_in_block, edges_in_blocks, AreEachOnce}
+use Rattle.block_reclamation.specs.{Status.is_listed, Status.is_used, Status.is_at, Copies.pin_at}
+use Rattle.block_reclamation.specs.declared.status.BlockStatus.{BlockStatus, TheVariants.Free, TheVariants.Used}
 use Rattle.graph_version.proofs.{Empty.is_empty_version, Shown.rows_each_once}
 use Rattle.block_pool.specs.Pools.{marked, is_used_at}
-use Rattle.block_reclamation.specs.declared.status.BlockStatus.{BlockStatus}
-use Rattle.block_reclamation.specs.declared.status.BlockStatus.TheVariants.{Free, Used}
 use Rattle.epoch_core.specs.Versions.{AreEdgesOf, edges_at, edges_of}
-use Rattle.epoch_core.specs.Worlds.{seat_pin}
+use Rattle.epoch_core.specs.{Worlds.seat_pin, Worlds.IsStart, declared.session_states.SessionState.TheVariants.Idle}
 use Rattle.epoch_core.specs.Opened.{Lists, numbers_in, heap_with, status_with, IsOpening}
-use Rattle.epoch_core.specs.{Worlds.IsStart, declared.session_states.SessionState.TheVariants.Idle}
 use Rattle.epoch_core.proofs.Steps.{all_idle, free_at}
-use Rattle.block_reclamation.specs.Copies.{pin_at}
 use Rattle.store_steps.specs.{Desks.IsDesk, Shown.ShowsWorld}
 use Rattle.store_steps.specs.Opening.{opened_desk, opened_start, lists_of, IsVersionZero, OpensAsMachine, OpensBlank}
 use Rattle.store_steps.proofs.{NumberLists.differ_from, ChangedLists.marked_at}
@@ -94,8 +90,7 @@ edges_paired : (bs : List BlockView) → flat_map (λ l. l.1) (pairs bs) ≡ edg
 edges_paired [] = refl
 edges_paired (b ∷ bs) = ap (λ es. edges_in_block b ++ es) (edges_paired bs)
 
-within_paired : (blocks : ℕ) (bs : List BlockView) → All (λ n. n < blocks) (numbers_of bs)
-    → All (λ l. l.0 < blocks) (pairs bs)
+within_paired : (blocks : ℕ) (bs : List BlockView) → All (λ n. n < blocks) (numbers_of bs) → All (λ l. l.0 < blocks) (pairs bs)
 within_paired blocks [] within = λ k d h. absurd (omega arith)
 within_paired blocks (b ∷ bs) within =
     let In : ℕ × List Edge → Type 0 = λ l. l.0 < blocks in
@@ -172,8 +167,7 @@ module _ (sessions blocks : ℕ) (v : VersionView) (c : Content) (zero_is : IsVe
     shown = subst (λ edges. AreEdgesOf edges (graph_of c)) (sym (edges_paired bs)) shown_edges;
   }
 
-  status_start : (b : ℕ) → b < blocks
-      → slice_get status b ≡ Some (if is_listed b (numbers_in (pairs bs)) then Used 0 else Free)
+  status_start : (b : ℕ) → b < blocks → slice_get status b ≡ Some (if is_listed b (numbers_in (pairs bs)) then Used 0 else Free)
   status_start b low =
       ap (λ (xs : List BlockStatus). slice_get xs b) (status_paired bs (replicate blocks Free))
       ∙ marked_at (numbers_of bs) (Used 0) (replicate blocks Free) b

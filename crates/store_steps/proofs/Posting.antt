@@ -1,28 +1,25 @@
 -- An accepted batch is Take and Fill of each taken block and then one Post, all done.
-use Rattle.std.proofs.Common.{◌≡◌, ℕ, zero, suc, ◌+◌, ◌<◌, ◌≤◌, Bool, true, false}
-use Rattle.std.proofs.Common.{◌&&◌, ◌||◌, List, [], ◌∷◌, ◌++◌, length, get_or, refl, sym, ap, subst, ◌∙◌, arith, length-append}
+use Rattle.std.proofs.Common.{◌≡◌, ℕ, zero, suc, ◌+◌, ◌<◌, Bool, true, false, ◌&&◌, List, [], ◌∷◌, ◌++◌, length, get_or, refl}
+use Rattle.std.proofs.Common.{sym, ap, subst, ◌∙◌, arith, length-append}
+use Rattle.std.proofs.lemmas.{List.map-append, List.length-map, Option.slice_get_within}
+use Rattle.std.proofs.lemmas.Bool.{and_from, or_right, lt-ltb, le-leb, or_left}
 use Rattle.std.specs.{Prelude.slice_get, Prelude.if◌then◌else◌, Prelude.All, Prelude.Contains, List.list_all, Option.option_map}
 use Rattle.std.specs.declared.option.Option.TheVariants.{None, Some}
-use Rattle.std.proofs.lemmas.{List.map-append, List.length-map, Bool.and_from, Bool.or_right}
-use Rattle.std.proofs.lemmas.{Bool.lt-ltb, Bool.le-leb, Bool.or_left, Bool.Decides.nat_tests, Option.slice_get_within}
 use Rattle.block_pool.proofs.Grants.{length-marked}
 use Rattle.graph_types.specs.{Limits.batch_limit, GraphLimits.is_within_limits, Step.left_by, Step.after_all}
 use Rattle.graph_types.specs.declared.batches.NamedOp.{NamedOp}
 use Rattle.edge_block.specs.Slots.{BlockView}
-use Rattle.graph_version.specs.Rows.{blocks_of, numbers_of}
+use Rattle.graph_version.specs.{Rows.blocks_of, Rows.numbers_of, Edges.edges_in_block, Edges.edges_in_blocks, Edges.AreEachOnce}
 use Rattle.graph_version.specs.Versions.{content}
-use Rattle.graph_version.specs.Edges.{edges_in_block, edges_in_blocks, AreEachOnce}
 use Rattle.block_reclamation.specs.Status.{is_listed, is_used, is_at, is_granted}
+use Rattle.block_reclamation.specs.declared.status.BlockStatus.{BlockStatus, TheVariants.Free, TheVariants.Granted}
 use Rattle.graph_version.proofs.Shown.{rows_each_once}
 use Rattle.block_pool.specs.Pools.{is_free_at, is_used_at}
-use Rattle.block_reclamation.specs.declared.status.BlockStatus.{BlockStatus}
-use Rattle.epoch_core.specs.declared.states.Version.{Version}
-use Rattle.block_reclamation.specs.declared.status.BlockStatus.TheVariants.{Free, Granted}
-use Rattle.epoch_core.specs.Blocks.{all_differ, after_post}
+use Rattle.epoch_core.specs.declared.{states.Version.Version, events.Event.TheVariants.Post}
+use Rattle.epoch_core.specs.{Blocks.all_differ, Blocks.after_post, Worlds.World, Worlds.last_blocks, Posts.posted}
 use Rattle.epoch_core.specs.Versions.{AreEdgesOf, opening_graph, edges_at, edges_of}
 use Rattle.epoch_core.specs.Posting.{is_listable, version_by, can_post, graph_after, are_edges_of}
 use Rattle.epoch_core.proofs.{Edges.Decides-edges, Lists.and_left, Lists.and_right, Lists.all_listed, Lists.length_enumerated}
-use Rattle.epoch_core.specs.{declared.events.Event.TheVariants.Post, Worlds.World, Worlds.last_blocks, Posts.posted}
 use Rattle.epoch_core.proofs.{Changes.version_next, Changes.batches_all, Changes.left_more, Posted.status_at}
 use Rattle.store_steps.specs.{Journal.Applied, Journal.Ledger, Journal.is_legal, Shown.ShowsWorld}
 use Rattle.store_steps.specs.Desks.{DeskView, IsDesk, IsAccepted, last_numbers, ledger_of}
@@ -193,8 +190,7 @@ graph_left : (a : Acceptance) (w : World) → ShowsWorld a.old w → graph_after
 graph_left a w shows =
     ap (λ bs. after_all a.ops (left_by bs (opening_graph w.opening))) (batches_all w.versions ∙ shows.batches)
     ∙ ap (λ g. after_all a.ops (left_by a.old.last.batches g)) (shows.opening ∙ sym a.accepted.opening)
-    ∙ sym (left_more a.old.last.batches a.ops a.new.last.opening)
-    ∙ ap (λ bs. left_by bs a.new.last.opening) (sym (new_batches a))
+    ∙ sym (left_more a.old.last.batches a.ops a.new.last.opening) ∙ ap (λ bs. left_by bs a.new.last.opening) (sym (new_batches a))
 
 posts : (a : Acceptance) (w : World) → ShowsWorld a.old w → can_post w.opening (ready a w).heap (ready a w).status w.versions a.ops
     (last_numbers a.new) ≡ true
@@ -235,8 +231,7 @@ status_posted a w shows n =
     ∙ ap (λ (pool : List BlockStatus). status_by (number_in_desk a) (is_at is_used (number_after (number_in_desk a)
     (slice_get a.old.pool n) (is_listed n a.taken) (is_listed n a.dropped))) (slice_get pool n) (is_listed n a.taken)) shows.status
     ∙ same_after (number_in_desk a) (slice_get a.old.pool n) (is_listed n a.taken) (is_listed n a.dropped) (taken_free a n)
-    (dropped_born a n)
-    ∙ sym (new_pool a n)
+    (dropped_born a n) ∙ sym (new_pool a n)
 
 shows_posted : (a : Acceptance) (w : World) → ShowsWorld a.old w → ShowsWorld a.new (posted_world a w)
 shows_posted a w shows =

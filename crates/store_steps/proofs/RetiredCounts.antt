@@ -2,9 +2,8 @@
 use Rattle.std.proofs.Common.{◌≡◌, ℕ, zero, suc, ◌+◌, ◌≤◌, Bool, true, false, cond, List, [], ◌∷◌, length, get_or, set, count_by, sym, ap, arith}
 use Rattle.std.proofs.lemmas.List.{length-map}
 use Rattle.block_pool.specs.Pools.{retired, marked, changed}
-use Rattle.block_reclamation.specs.declared.status.BlockStatus.{BlockStatus}
+use Rattle.block_reclamation.specs.{declared.status.BlockStatus.BlockStatus, Status.is_retired}
 use Rattle.block_reclamation.specs.declared.status.BlockStatus.TheVariants.{Free, Granted, Used}
-use Rattle.block_reclamation.specs.Status.{is_retired}
 use Rattle.block_pool.proofs.Tallies.{count_more}
 use Rattle.store_steps.proofs.Applications.{Application, next_desk, granted_pool, born_pool, dropped_numbers, number_in_desk}
 use Rattle.store_steps.proofs.Applications.{retired_pool, moves_left}

@@ -1,18 +1,17 @@
 -- How many blocks are free, and how many retired, after a batch and after a collection.
 use Rattle.std.proofs.Common.{◌≡◌, ◌≢◌, ℕ, ◌+◌, ◌==◌, Bool, true, false, not, cond, ◌||◌, List, [], ◌∷◌}
 use Rattle.std.proofs.Common.{length, get_or, map, set, count_by, refl, sym, ap, ◌∙◌, arith, ◌&&◌, subst}
-use Rattle.std.specs.{Prelude.slice_get, Prelude.if◌then◌else◌, Option.option_map, declared.option.Option.TheVariants.Some}
 use Rattle.std.proofs.lemmas.{List.length-map, Bool.eq-eqb, Bool.true≢false, Bool.or_right, Option.slice_get_within}
 use Rattle.std.proofs.lemmas.Option.{get_or_from_slice_get}
+use Rattle.std.specs.{Prelude.slice_get, Prelude.if◌then◌else◌, Option.option_map, declared.option.Option.TheVariants.Some}
 use Rattle.block_pool.proofs.{Grants.length-marked, Tallies.count_here, Tallies.count_more}
 use Rattle.graph_types.specs.declared.batches.NamedOp.{NamedOp}
 use Rattle.block_reclamation.specs.Status.{is_listed, is_free, is_retired, is_reclaimable, recycled}
-use Rattle.block_reclamation.specs.declared.copies.PinCopy.{PinCopy}
-use Rattle.block_reclamation.specs.Copies.{needs}
-use Rattle.block_pool.specs.Pools.{retired, is_free_at, marked, changed, is_used_at}
-use Rattle.block_reclamation.specs.declared.status.BlockStatus.{BlockStatus}
+use Rattle.block_reclamation.specs.{declared.copies.PinCopy.PinCopy, Copies.needs, declared.status.BlockStatus.BlockStatus}
 use Rattle.block_reclamation.specs.declared.status.BlockStatus.TheVariants.{Free, Granted, Used, Retired}
-use Rattle.epoch_core.{specs.Blocks.all_differ, proofs.Lists.set_else, proofs.Lists.all_listed}
+use Rattle.block_pool.specs.Pools.{retired, is_free_at, marked, changed, is_used_at}
+use Rattle.epoch_core.specs.Blocks.{all_differ}
+use Rattle.epoch_core.proofs.Lists.{set_else, all_listed}
 use Rattle.store_steps.specs.Desks.{DeskView, IsAccepted, IsCollected, AcceptedCounts, CollectedCounts, is_retired_by, birth_of, birth_at}
 use Rattle.store_steps.specs.Desks.{ledger_of}
 use Rattle.store_steps.proofs.{NumberLists.differ_head, NumberLists.differ_tail, CollectedDesk.past_and_left}
@@ -41,8 +40,7 @@ have_tail s t pool n ns apart have m is =
 
 -- numbers of one status are all set to another
 fewer : (p : BlockStatus → Bool) (s t : BlockStatus) (ns : List ℕ) (pool : List BlockStatus) → p s ≡ true → p t ≡ false → all_differ ns ≡ true
-    → AllHave s pool ns
-    → count_by p (marked ns t pool) + length ns ≡ count_by p pool
+    → AllHave s pool ns → count_by p (marked ns t pool) + length ns ≡ count_by p pool
 fewer p s t [] pool was is apart have = omega arith
 fewer p s t (n ∷ ns) pool was is apart have =
     let one = count_set p pool n s t (have_head s pool n ns have) in
@@ -52,8 +50,7 @@ fewer p s t (n ∷ ns) pool was is apart have =
     omega arith
 
 more : (p : BlockStatus → Bool) (s t : BlockStatus) (ns : List ℕ) (pool : List BlockStatus) → p s ≡ false → p t ≡ true → all_differ ns ≡ true
-    → AllHave s pool ns
-    → count_by p (marked ns t pool) ≡ count_by p pool + length ns
+    → AllHave s pool ns → count_by p (marked ns t pool) ≡ count_by p pool + length ns
 more p s t [] pool was is apart have = omega arith
 more p s t (n ∷ ns) pool was is apart have =
     let one = count_set p pool n s t (have_head s pool n ns have) in
@@ -63,8 +60,7 @@ more p s t (n ∷ ns) pool was is apart have =
     omega arith
 
 as_many : (p : BlockStatus → Bool) (s t : BlockStatus) (ns : List ℕ) (pool : List BlockStatus) → p s ≡ p t → all_differ ns ≡ true
-    → AllHave s pool ns
-    → count_by p (marked ns t pool) ≡ count_by p pool
+    → AllHave s pool ns → count_by p (marked ns t pool) ≡ count_by p pool
 as_many p s t [] pool same apart have = refl
 as_many p s t (n ∷ ns) pool same apart have =
     let one = count_set p pool n s t (have_head s pool n ns have) in
@@ -149,8 +145,7 @@ dropped_have pool number taken dropped legal m is =
     let here : birth_at pool m ≡ born.0 = ap birth_of (get_or_from_slice_get pool m (Used born.0) Granted born.1) in
     marked_at taken (Used number) pool m
     ∙ ap (λ t. if t then option_map (λ _. Used number) (slice_get pool m) else slice_get pool m)
-    (not_taken pool taken dropped legal m is)
-    ∙ born.1 ∙ ap (λ b. Some (Used b)) (sym here)
+    (not_taken pool taken dropped legal m is) ∙ born.1 ∙ ap (λ b. Some (Used b)) (sym here)
 
 all_of : (bs : List ℕ) → count_by (λ _. true) bs ≡ length bs
 all_of [] = refl
@@ -183,8 +178,7 @@ accepted_counts old new ops taken dropped accepted =
           ∙ (retired_counts (is_retired_by q) number births dropped granted (λ b. refl) legal.dropped_apart born
           ∙ ap (λ k. k + count_by (λ birth. q birth number) (map births dropped))
           (as_many (is_retired_by q) Free (Used number) taken old.pool refl legal.apart free));
-      blocks = ap length same
-          ∙ (length-changed (retired number) dropped granted ∙ length-marked taken (Used number) old.pool);
+      blocks = ap length same ∙ (length-changed (retired number) dropped granted ∙ length-marked taken (Used number) old.pool);
     }
 
 -- A collection
