@@ -1,5 +1,6 @@
 -- A batch that was applied with granted blocks is accepted, and the desk after it is a desk.
 use Rattle.std.proofs.Common.{◌≡◌, ℕ, zero, suc, ◌<◌, Bool, true, false, List, [], ◌∷◌, ◌++◌, length, get_or, count_by, refl, sym}
+use Rattle.std.proofs.lemmas.Grind.{common_steps}
 use Rattle.std.proofs.{Common.ap, Common.◌∙◌, Common.arith, lemmas.Bool.true≢false, lemmas.List.length-map}
 use Rattle.std.specs.{List.list_all, Option.option_and_then, Prelude.slice_get, Prelude.if◌then◌else◌, Prelude.Contains}
 use Rattle.std.specs.declared.option.Option.{Option, TheVariants.None, TheVariants.Some}
@@ -21,8 +22,7 @@ use Rattle.store_steps.proofs.GrantedBlocks.{not_granted, taken_granted, not_tak
 -- The entry is legal, and the desk is one
 
 last_one : (o : Option Ledger) → option_and_then (replay []) o ≡ o
-last_one None = refl
-last_one (Some l) = refl
+last_one o = grind (arith, common_steps)
 
 -- a journal with one entry more
 pub replay_more : (es : List Entry) (e : Entry) (l : Ledger) → replay (es ++ e ∷ []) l
@@ -64,9 +64,7 @@ kept_before a b there apart =
     ] refl
 
 default_same : (bs : List BlockView) (k : ℕ) (d : BlockView) → k < length bs → get_or bs k (get_or bs k d) ≡ get_or bs k d
-default_same [] k d h = absurd (omega arith)
-default_same (b ∷ bs) zero d h = refl
-default_same (b ∷ bs) (suc k) d h = default_same bs k d (omega arith)
+default_same bs k d h = grind (arith, common_steps)
 
 -- Births
 

@@ -1,14 +1,12 @@
 -- A batch that was applied to a desk with granted blocks: how often it has a number, and what it leaves of the pool.
-use Rattle.std.proofs.Common.{◌≡◌, ℕ, zero, suc, ◌+◌, ◌≤◌, ◌==◌, true, List, length, count_by, sym, ap, ◌∙◌, arith}
-use Rattle.std.specs.{Prelude.slice_get, Prelude.if◌then◌else◌, Option.option_map}
+use Rattle.std.proofs.Common.{◌≡◌, ℕ, ◌+◌, ◌≤◌, ◌==◌, true, List, length, count_by, sym, ap, ◌∙◌, arith}
+use Rattle.std.{proofs.lemmas.Grind.common_steps, specs.Prelude.slice_get, specs.Prelude.if◌then◌else◌, specs.Option.option_map}
 use Rattle.graph_types.specs.declared.batches.NamedOp.{NamedOp}
 use Rattle.edge_block.specs.Slots.{BlockView}
-use Rattle.graph_version.specs.Rows.{blocks_of, numbers_of}
-use Rattle.graph_version.specs.Versions.{VersionView}
-use Rattle.block_reclamation.specs.Status.{is_listed}
-use Rattle.block_pool.specs.Pools.{retired, is_free_at, marked, changed, AreFree, is_used_at}
-use Rattle.block_reclamation.specs.declared.status.BlockStatus.{BlockStatus}
+use Rattle.graph_version.specs.{Rows.blocks_of, Rows.numbers_of, Versions.VersionView}
+use Rattle.block_reclamation.specs.{Status.is_listed, declared.status.BlockStatus.BlockStatus}
 use Rattle.block_reclamation.specs.declared.status.BlockStatus.TheVariants.{Free, Granted, Used}
+use Rattle.block_pool.specs.Pools.{retired, is_free_at, marked, changed, AreFree, is_used_at}
 use Rattle.epoch_core.{specs.Blocks.all_differ, proofs.Lists.all_listed}
 use Rattle.store_steps.specs.{Journal.Entry, Journal.Applied, Journal.exchanged, Desks.DeskView, Desks.IsDesk, Desks.IsAppliedTo}
 use Rattle.store_steps.{specs.Desks.desk_after, specs.Desks.last_numbers, proofs.NumberLists.all_from}
@@ -96,8 +94,7 @@ one a m =
     (in_numbers a m ∙ is))
 
 pub some_either : (a b : ℕ) → is_some_times b ≡ true → is_some_times (a + b) ≡ true
-some_either zero b e = let same : 0 + b ≡ b = omega arith in ap is_some_times same ∙ e
-some_either (suc a) b e = let more : suc a + b ≡ suc (a + b) = omega arith in ap is_some_times more
+some_either a b e = grind (arith, common_steps)
 
 pub dropped_differ : (a : Application) → all_differ (dropped_numbers a) ≡ true
 dropped_differ a = apart_if (dropped_numbers a) (λ m. let once = before_once a m in omega arith)

@@ -1,15 +1,15 @@
 -- The board's calls are the machine's steps.
-use Rattle.std.proofs.Common.{◌≡◌, ℕ, zero, suc, ◌<◌, ◌≤◌, ◌-◌, inl, inr, List, [], ◌∷◌, length, map, replicate, get_or, set, max}
+use Rattle.std.proofs.Common.{◌≡◌, ℕ, zero, suc, ◌<◌, ◌≤◌, ◌-◌, inl, inr, List, [], ◌∷◌, length, map, replicate, get_or, set}
 use Rattle.std.proofs.Common.{true, length-append, refl, sym, ap, subst, ◌∙◌, arith}
-use Rattle.std.proofs.lemmas.{Bool.cases_eq, List.get_or-set_same, List.get_or-set_other, List.length-map, List.length-replicate}
+use Rattle.std.proofs.lemmas.{Grind.common_steps, Bool.cases_eq}
+use Rattle.std.proofs.lemmas.List.{get_or-set_same, get_or-set_other, length-map, length-replicate}
 use Rattle.std.specs.Prelude.{Option, Some, None, option_map}
 use Rattle.block_reclamation.specs.declared.copies.{Pin.Pin, PinCopy.PinCopy, TheConstants.SEATS}
 use Rattle.block_reclamation.specs.Board.{BoardState, IsBoard, with_pin}
 use Rattle.block_reclamation.specs.Copies.{pin_at, unsettled, settled, copy_of, floor_of}
-use Rattle.epoch_core.specs.declared.session_states.SessionState.{SessionState}
-use Rattle.epoch_core.specs.declared.session_states.SessionState.TheVariants.{Idle, Pinned, Holding, Asking}
+use Rattle.epoch_core.specs.declared.session_states.SessionState.{SessionState, TheVariants.Idle}
 use Rattle.epoch_core.specs.Worlds.{World, session_of, seat_pin, seat_pins, pin_in, held_in, last_number, present_copy}
-use Rattle.epoch_core.specs.Machine.{to_pin, to_settle, to_release}
+use Rattle.epoch_core.specs.Machine.{to_pin, to_settle}
 use Rattle.epoch_core.proofs.Moves.{Moved, moved, floored, seated_at, session_after, session_else}
 use Rattle.store_steps.specs.{Desks.DeskView, Shown.ShowsWorld, Boards.RaisesAsMachine}
 use Rattle.store_steps.specs.Boards.{ShowsBoard, raised_board, PinsAsMachine, SettlesAsMachine, UnpinsAsMachine}
@@ -17,15 +17,7 @@ use Rattle.store_steps.specs.Boards.{ShowsBoard, raised_board, PinsAsMachine, Se
 -- a desk shows no session, no floor and no copy
 shows_beside : (d : DeskView) (w : World) (floor : ℕ) (copy : PinCopy) (sessions : List SessionState) → ShowsWorld d w
     → ShowsWorld d (record w { floor = floor; copy = copy; sessions = sessions })
-shows_beside d w floor copy sessions shown = record {
-  opening = shown.opening;
-  opened = shown.opened;
-  batches = shown.batches;
-  blocks = shown.blocks;
-  edges = shown.edges;
-  status = shown.status;
-  sizes = shown.sizes;
-}
+shows_beside d w floor copy sessions shown = grind (arith, common_steps)
 
 pub shows_sessions : (d : DeskView) (w : World) (sessions : List SessionState) → ShowsWorld d w
     → ShowsWorld d (record w { sessions = sessions })
@@ -57,52 +49,25 @@ moves b w s change after pin board low shows m says = (
 )
 
 pin_next : (floor : ℕ) (session next : SessionState) → to_pin floor session ≡ Some next → seat_pin next ≡ Some (unsettled floor)
-pin_next floor Idle next is = let e : Pinned floor ≡ next = cc in ap seat_pin (sym e)
-pin_next floor (Pinned pin) next is = cc
-pin_next floor (Holding hold) next is = cc
-pin_next floor (Asking hold inquiry) next is = cc
+pin_next floor session next is = grind (arith, common_steps)
 
 pub pins_as_machine : PinsAsMachine
 pins_as_machine b w s board low shows after is =
     moves b w s (to_pin w.floor) after (Some (unsettled b.floor)) board low shows (moved w s (to_pin w.floor) after is)
     (λ session next at changed. pin_next w.floor session next changed ∙ ap (λ f. Some (unsettled f)) shows.floor)
 
-release_next : (session next : SessionState) → to_release session ≡ Some next → seat_pin next ≡ None
-release_next Idle next is = cc
-release_next (Pinned pin) next is = let e : Idle ≡ next = cc in ap seat_pin (sym e)
-release_next (Holding hold) next is = let e : Idle ≡ next = cc in ap seat_pin (sym e)
-release_next (Asking hold inquiry) next is = cc
-
 pub unpins_as_machine : UnpinsAsMachine
-unpins_as_machine b w s board low shows after is =
-    moves b w s to_release after None board low shows (moved w s to_release after is)
-    (λ session next at changed. release_next session next changed)
+unpins_as_machine b w s board low shows after is = grind (arith, common_steps)
 
 -- what a settle that is done leaves
 settle_next : (session next : SessionState) (n : ℕ) → held_in session ≡ Some n → to_settle session ≡ Some next
     → seat_pin next ≡ Some (record { number = n; is_settled = true })
-settle_next Idle next n held is = cc
-settle_next (Pinned pin) next n held is = cc
-settle_next (Holding hold) next n held is =
-    let same : hold.version ≡ n = cc in
-    let e : Holding (record { pin = hold.version; settled = true; version = hold.version }) ≡ next = cc in
-    ap seat_pin (sym e) ∙ ap (λ m. Some (record { number = m; is_settled = true })) same
-settle_next (Asking hold inquiry) next n held is =
-    let same : hold.version ≡ n = cc in
-    let e : Asking (record { pin = hold.version; settled = true; version = hold.version }) inquiry ≡ next = cc in
-    ap seat_pin (sym e) ∙ ap (λ m. Some (record { number = m; is_settled = true })) same
+settle_next session next n held is = grind (arith, common_steps)
 
 -- what the board makes of the pin of a session that holds n
 pin_settled : (session : SessionState) (n : ℕ) → held_in session ≡ Some n → ((pin : ℕ) → pin_in session ≡ Some pin → pin ≤ n)
     → option_map (settled n) (seat_pin session) ≡ Some (record { number = n; is_settled = true })
-pin_settled Idle n held below = cc
-pin_settled (Pinned pin) n held below = cc
-pin_settled (Holding hold) n held below =
-    let le : hold.pin ≤ n = below hold.pin refl in
-    let top : max hold.pin n ≡ n = omega arith in ap (λ m. Some (record { number = m; is_settled = true })) top
-pin_settled (Asking hold inquiry) n held below =
-    let le : hold.pin ≤ n = below hold.pin refl in
-    let top : max hold.pin n ≡ n = omega arith in ap (λ m. Some (record { number = m; is_settled = true })) top
+pin_settled session n held below = grind (arith, common_steps)
 
 pub settles_as_machine : SettlesAsMachine
 settles_as_machine b w s n board low shows held below after is =

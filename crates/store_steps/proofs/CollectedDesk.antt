@@ -1,16 +1,15 @@
 -- A collection leaves a desk.
 use Rattle.std.proofs.Common.{◌≡◌, ℕ, zero, suc, ◌+◌, ◌<◌, ◌≤◌, ◌==◌, true, false, cond, List, [], ◌∷◌, ◌++◌, length, map}
 use Rattle.std.proofs.Common.{count_by, refl, sym, ap, ap₂, subst, ◌∙◌, arith}
-use Rattle.std.proofs.lemmas.{List.append-nil, List.length-map, Bool.eq-eqb, Bool.or_right, Bool.Decides.nat_tests}
-use Rattle.std.proofs.lemmas.Option.{slice_get-map}
-use Rattle.std.specs.Prelude.{slice_get, if◌then◌else◌, nat_le, nat_lt}
-use Rattle.std.specs.Option.{option_map, option_and_then}
+use Rattle.std.proofs.lemmas.Grind.{common_steps}
+use Rattle.std.proofs.lemmas.{List.append-nil, List.length-map, Bool.eq-eqb, Bool.or_right, Option.slice_get-map}
+use Rattle.std.specs.{Prelude.slice_get, Prelude.if◌then◌else◌, Option.option_map, Option.option_and_then}
 use Rattle.std.specs.declared.option.Option.{Option, TheVariants.None, TheVariants.Some}
 use Rattle.edge_block.specs.Slots.{BlockView}
 use Rattle.graph_version.specs.{Rows.row_of, Rows.numbers_of, Versions.VersionView}
 use Rattle.block_reclamation.specs.Status.{is_listed, is_retired, is_reclaimable, is_used, is_at, recycled}
-use Rattle.block_reclamation.specs.declared.{copies.PinCopy.PinCopy, status.BlockStatus.BlockStatus}
-use Rattle.block_reclamation.specs.declared.status.BlockStatus.TheVariants.{Free, Used, Retired}
+use Rattle.block_reclamation.specs.declared.copies.PinCopy.{PinCopy}
+use Rattle.block_reclamation.specs.declared.status.BlockStatus.{BlockStatus, TheVariants.Free}
 use Rattle.block_pool.proofs.Tallies.{count_more}
 use Rattle.store_steps.specs.Journal.{Collected, Ledger, opened_ledger, is_legal, after_entry, entered, replay}
 use Rattle.store_steps.specs.Desks.{DeskView, IsDesk, IsCollected, birth_at, births_in, ledger_of, collections}
@@ -20,10 +19,7 @@ use Rattle.store_steps.proofs.Births.{birth_in, birth_from, row_listed}
 -- one status is freed, or retired still, or was never retired
 past_one : (copy : PinCopy) (x : BlockStatus) → cond (is_reclaimable copy x) 1 0 + cond (is_retired (recycled copy x)) 1 0
     ≡ cond (is_retired x) 1 0
-past_one copy (Retired b v) =
-    elim (is_reclaimable copy (Retired b v)) as (λ t. cond t 1 0 + cond (is_retired (if t then Free else Retired b v)) 1 0
-    ≡ 1) [ true ↦ refl | false ↦ refl ]
-past_one copy _ = refl
+past_one copy x = grind (arith, common_steps)
 
 -- what is freed and what is left are the retired blocks
 pub past_and_left : (copy : PinCopy) (xs : List BlockStatus) → count_by (is_reclaimable copy) xs + count_by is_retired (map (recycled copy) xs)
@@ -48,18 +44,11 @@ same_if_none copy (x ∷ xs) none =
     cc
 
 born_recycled : (copy : PinCopy) (o : Option BlockStatus) → is_at is_used (option_map (recycled copy) o) ≡ is_at is_used o
-born_recycled copy (Some (Retired b v)) =
-    elim (is_reclaimable copy (Retired b v)) as (λ t. is_at is_used (Some (if t then Free else Retired b v))
-    ≡ false) [ true ↦ refl | false ↦ refl ]
-born_recycled copy _ = refl
+born_recycled copy o = grind (arith, common_steps)
 
 legal_if : (l : Ledger) (copy : PinCopy) (count : ℕ) → copy.last ≤ length l.batches → 0 < count → count ≡ count_by (is_reclaimable copy) l.pool
     → is_legal l (Collected copy count) ≡ true
-legal_if l copy count low some is =
-    let a : nat_le copy.last (length l.batches) ≡ true = grind (arith, nat_tests) in
-    let b : nat_lt 0 count ≡ true = grind (arith, nat_tests) in
-    let c : (count == count_by (is_reclaimable copy) l.pool) ≡ true = eq-eqb count (count_by (is_reclaimable copy) l.pool) is in
-    rw (a, b, c) refl
+legal_if l copy count low some is = grind (arith, common_steps)
 
 -- the desk after a collection
 abbrev pub desk_collected : DeskView → PinCopy → DeskView
@@ -95,12 +84,7 @@ collected_desk d copy desk low = record {
 }
 
 pub is_collected : (d e : DeskView) (copy : PinCopy) → e ≡ desk_collected d copy → IsCollected d copy e
-is_collected d e copy is = record {
-  opened = ap (λ x. x.opened) is;
-  last = ap (λ x. x.last) is;
-  pool = ap (λ x. x.pool) is;
-  journal = ap (λ x. x.journal) is;
-}
+is_collected d e copy is = grind (arith, common_steps)
 
 is_desk_collected : (d e : DeskView) (copy : PinCopy) → IsCollected d copy e → e ≡ desk_collected d copy
 is_desk_collected d e copy is = λ i. record { opened = is.opened i; last = is.last i; journal = is.journal i; pool = is.pool i }
@@ -112,8 +96,7 @@ collected_is_desk d e copy desk low is = subst IsDesk (sym (is_desk_collected d 
 
 birth_recycled : (copy : PinCopy) (p : Option BlockStatus) → is_at is_used p ≡ true
     → birth_in (option_map (recycled copy) p) ≡ birth_in p
-birth_recycled copy (Some (Used b)) born = refl
-birth_recycled copy _ born = cc
+birth_recycled copy p born = grind (arith, common_steps)
 
 same_births : (p q : List BlockStatus) (bs : List BlockView)
     → ((m : ℕ) → is_listed m (numbers_of bs) ≡ true → birth_at p m ≡ birth_at q m)

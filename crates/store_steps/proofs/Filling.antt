@@ -1,21 +1,21 @@
 -- Take and Fill of several blocks.
 use Rattle.std.proofs.Common.{◌≡◌, ◌≢◌, ℕ, ◌<◌, ◌==◌, true, false, List, [], ◌∷◌, ◌++◌, length, set, refl, sym, ap, ◌∙◌, arith}
-use Rattle.std.proofs.{Common.get_or-set_same, Common.get_or-set_other, lemmas.Bool.eq-eqb, lemmas.Bool.true≢false}
-use Rattle.std.proofs.lemmas.List.{length-set, Elements.All-head, Elements.All-tail, Elements.All-cons}
-use Rattle.std.specs.{Prelude.slice_get, Prelude.if◌then◌else◌, Prelude.All, List.flat_map, Option.option_map}
-use Rattle.std.specs.{Option.option_and_then, declared.option.Option.TheVariants.None, declared.option.Option.TheVariants.Some}
+use Rattle.std.{proofs.Common.get_or-set_same, proofs.Common.get_or-set_other, specs.declared.option.Option.TheVariants.Some}
+use Rattle.std.proofs.lemmas.{Grind.common_steps, Bool.eq-eqb, Bool.true≢false, List.length-set}
+use Rattle.std.proofs.lemmas.List.Elements.{All-head, All-tail, All-cons}
+use Rattle.std.specs.{Prelude.slice_get, Prelude.if◌then◌else◌, Prelude.All, Option.option_map, Option.option_and_then}
+use Rattle.std.specs.List.{flat_map}
 use Rattle.graph_types.specs.declared.ids.Edge.{Edge}
 use Rattle.edge_block.specs.Slots.{BlockView}
 use Rattle.graph_version.specs.{Rows.numbers_of, Edges.edges_in_block, Edges.edges_in_blocks}
-use Rattle.block_reclamation.specs.Status.{is_listed, is_granted}
+use Rattle.block_reclamation.specs.Status.{is_listed}
 use Rattle.block_reclamation.specs.declared.status.BlockStatus.{BlockStatus, TheVariants.Free, TheVariants.Granted}
 use Rattle.block_pool.specs.Pools.{marked}
 use Rattle.epoch_core.specs.declared.events.Event.{Event, TheVariants.Take, TheVariants.Fill}
 use Rattle.epoch_core.specs.{Blocks.taken, Blocks.put, Blocks.all_differ, Machine.step, Machine.with_status, Machine.with_heap}
 use Rattle.epoch_core.specs.{Versions.edges_at, Versions.edges_of, Worlds.World}
 use Rattle.epoch_core.proofs.Lists.{set_same, set_else, or_false}
-use Rattle.store_steps.specs.Steps.{all_done, filling}
-use Rattle.store_steps.proofs.NumberLists.{differ_head, differ_tail}
+use Rattle.store_steps.{specs.Steps.all_done, specs.Steps.filling, proofs.NumberLists.differ_head, proofs.NumberLists.differ_tail}
 
 -- the heap with the edges of these blocks at their numbers
 abbrev pub heap_with : List BlockView → List (List Edge) → List (List Edge)
@@ -34,8 +34,7 @@ take_done w n is = ap (λ o. option_map (with_status w) (put w.status n (option_
 
 fill_done : (w : World) (n : ℕ) (edges : List Edge) → slice_get w.status n ≡ Some Granted
     → step w (Fill n edges) ≡ Some (with_heap w (set w.heap n edges))
-fill_done w n edges is = ap (λ o. option_map (with_heap w) (option_and_then
-    (λ s. if is_granted s then Some (set w.heap n edges) else None) o)) is
+fill_done w n edges is = grind (arith, common_steps)
 
 -- the blocks of these numbers are all in this state
 abbrev pub AllAre : BlockStatus → List BlockStatus → List BlockView → Type 0

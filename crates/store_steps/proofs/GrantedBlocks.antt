@@ -1,11 +1,11 @@
 -- The blocks that a batch was granted can be born, and given back.
 use Rattle.std.proofs.Common.{◌≡◌, ℕ, zero, suc, ◌+◌, ◌≤◌, Bool, true, false, List, refl, sym, ap, ◌∙◌, arith}
-use Rattle.std.{proofs.lemmas.Bool.true≢false, specs.Option.option_map, specs.Prelude.slice_get, specs.Prelude.if◌then◌else◌}
-use Rattle.std.specs.declared.option.Option.{Option, TheVariants.None, TheVariants.Some}
+use Rattle.std.{proofs.lemmas.Grind.common_steps, proofs.lemmas.Bool.true≢false, specs.Option.option_map}
+use Rattle.std.specs.{Prelude.slice_get, Prelude.if◌then◌else◌, declared.option.Option.Option}
 use Rattle.block_reclamation.specs.Status.{is_listed, is_free, is_in_use, is_used, is_at}
-use Rattle.block_pool.specs.Pools.{retired, is_free_at, marked, AreFree, is_in_use_at, is_used_at}
 use Rattle.block_reclamation.specs.declared.status.BlockStatus.{BlockStatus}
-use Rattle.block_reclamation.specs.declared.status.BlockStatus.TheVariants.{Free, Granted, Used, Retired}
+use Rattle.block_reclamation.specs.declared.status.BlockStatus.TheVariants.{Free, Granted, Used}
+use Rattle.block_pool.specs.Pools.{retired, is_free_at, marked, AreFree, is_in_use_at, is_used_at}
 use Rattle.store_steps.specs.Desks.{DeskView, IsDesk, last_numbers}
 use Rattle.store_steps.proofs.{NumberLists.all_by, NumberLists.differ_from, OneNumber.marked_if, OneNumber.not_both}
 use Rattle.store_steps.proofs.{ChangedLists.marked_at, ChangedLists.changed_at, ChangedLists.same_list, BlockMoves.AreMovable}
@@ -14,8 +14,7 @@ use Rattle.store_steps.proofs.Applications.{Application, number_in_desk, dropped
 use Rattle.store_steps.proofs.Applications.{some_either, dropped_differ, dropped_born, granted_pool, born_pool, retired_pool}
 
 used_marked : (p : Option BlockStatus) → is_at is_free p ≡ true → is_at is_in_use (option_map (λ _. Granted) p) ≡ true
-used_marked None e = cc
-used_marked (Some p) e = refl
+used_marked p e = grind (arith, common_steps)
 
 granted_used : (pool : List BlockStatus) (numbers : List ℕ) (m : ℕ) → is_free_at pool m ≡ true → is_listed m numbers ≡ true
     → is_in_use_at (marked numbers Granted pool) m ≡ true
@@ -125,12 +124,7 @@ granted_movable pool numbers free = record {
 
 there_and_back : (t : Bool) (p : Option BlockStatus) → (t ≡ true → is_at is_free p ≡ true)
     → marked_if Free t (marked_if Granted t p) ≡ p
-there_and_back true None f = refl
-there_and_back true (Some Free) f = refl
-there_and_back true (Some Granted) f = let no = f refl in cc
-there_and_back true (Some (Used b)) f = let no = f refl in cc
-there_and_back true (Some (Retired b v)) f = let no = f refl in cc
-there_and_back false p f = refl
+there_and_back t p f = grind (arith, common_steps)
 
 pub given_back : (pool : List BlockStatus) (numbers : List ℕ) → AreFree pool numbers
     → marked numbers Free (marked numbers Granted pool) ≡ pool
@@ -142,9 +136,7 @@ given_back pool numbers free = same_list _ _ (λ m.
 -- and so it can where some of them were born meanwhile
 
 used_born : (n : ℕ) (t : Bool) (p : Option BlockStatus) → is_at is_in_use p ≡ true → is_at is_in_use (marked_if (Used n) t p) ≡ true
-used_born n false p is = is
-used_born n true None is = cc
-used_born n true (Some p) is = refl
+used_born n t p is = grind (arith, common_steps)
 
 pub born_movable : (pool : List BlockStatus) (numbers taken : List ℕ) (n : ℕ) → AreFree pool numbers
     → AreMovable is_in_use numbers (marked taken (Used n) (marked numbers Granted pool))
@@ -158,19 +150,7 @@ born_movable pool numbers taken n free = record {
 
 born_and_back : (n : ℕ) (g t : Bool) (p : Option BlockStatus) → (g ≡ true → is_at is_free p ≡ true) → (t ≡ true → g ≡ true)
     → marked_if Free g (marked_if (Used n) t (marked_if Granted g p)) ≡ p
-born_and_back n true t None f h = elim t as (λ t. marked_if Free true (marked_if (Used n) t None) ≡ None) [
-  | true ↦ refl
-  | false ↦ refl
-]
-born_and_back n true t (Some Free) f h = elim t as (λ t. marked_if Free true (marked_if (Used n) t (Some Granted)) ≡ Some Free) [
-  | true ↦ refl
-  | false ↦ refl
-]
-born_and_back n true t (Some Granted) f h = let no = f refl in cc
-born_and_back n true t (Some (Used b)) f h = let no = f refl in cc
-born_and_back n true t (Some (Retired b v)) f h = let no = f refl in cc
-born_and_back n false true p f h = let no = h refl in cc
-born_and_back n false false p f h = refl
+born_and_back n g t p f h = grind (arith, common_steps)
 
 pub born_given_back : (pool : List BlockStatus) (numbers taken : List ℕ) (n : ℕ) → AreFree pool numbers
     → ((m : ℕ) → is_listed m taken ≡ true → is_listed m numbers ≡ true)

@@ -1,27 +1,25 @@
 -- The opening.
-use Rattle.std.proofs.Common.{◌≡◌, ◌≢◌, ℕ, zero, suc, ◌<◌, ◌==◌, ◌||◌, Bool, true, false, List, [], ◌∷◌, ◌++◌, length}
-use Rattle.std.proofs.Common.{replicate, refl, sym, ap, subst, ◌∙◌, arith, All, AllPairs}
-use Rattle.std.proofs.lemmas.Bool.{eqb-true}
+use Rattle.std.proofs.Common.{◌≡◌, ◌≢◌, ℕ, zero, suc, ◌<◌, ◌==◌, ◌||◌, Bool, true, false, List, [], ◌∷◌, ◌++◌, length, replicate}
+use Rattle.std.proofs.Common.{refl, sym, ap, subst, ◌∙◌, arith, All, AllPairs}
+use Rattle.std.{proofs.lemmas.Grind.common_steps, proofs.lemmas.Bool.eqb-true, specs.Option.option_map}
 use Rattle.std.proofs.lemmas.List.{length-replicate, Elements.All-head, Elements.All-tail, Elements.All-cons}
-use Rattle.std.specs.{Prelude.map, Prelude.slice_get, Prelude.slice_set, Prelude.if◌then◌else◌, List.flat_map, Option.option_map}
+use Rattle.std.specs.{Prelude.map, Prelude.slice_get, Prelude.slice_set, Prelude.if◌then◌else◌, List.flat_map}
 use Rattle.std.specs.declared.option.Option.TheVariants.{None, Some}
-use Rattle.block_pool.proofs.Grants.{length-marked}
+use Rattle.block_pool.{proofs.Grants.length-marked, specs.Pools.marked, specs.Pools.is_used_at}
 use Rattle.graph_types.specs.{Graph.Graph, Graph.graph_of, Graph.content_of, Graph.IsContent, Step.left_by}
 use Rattle.graph_types.specs.declared.{ids.Edge.Edge, contents.Content.Content}
 use Rattle.edge_block.specs.Slots.{BlockView}
 use Rattle.graph_version.specs.{Rows.blocks_of, Rows.numbers_of, Edges.edges_in_block, Edges.edges_in_blocks, Edges.AreEachOnce}
 use Rattle.graph_version.specs.Versions.{VersionView, content, empty_version}
+use Rattle.graph_version.proofs.{Empty.is_empty_version, Shown.rows_each_once}
 use Rattle.block_reclamation.specs.{Status.is_listed, Status.is_used, Status.is_at, Copies.pin_at}
 use Rattle.block_reclamation.specs.declared.status.BlockStatus.{BlockStatus, TheVariants.Free, TheVariants.Used}
-use Rattle.graph_version.proofs.{Empty.is_empty_version, Shown.rows_each_once}
-use Rattle.block_pool.specs.Pools.{marked, is_used_at}
 use Rattle.epoch_core.specs.Versions.{AreEdgesOf, edges_at, edges_of}
 use Rattle.epoch_core.specs.{Worlds.seat_pin, Worlds.IsStart, declared.session_states.SessionState.TheVariants.Idle}
 use Rattle.epoch_core.specs.Opened.{Lists, numbers_in, heap_with, status_with, IsOpening}
 use Rattle.epoch_core.proofs.Steps.{all_idle, free_at}
-use Rattle.store_steps.specs.{Desks.IsDesk, Shown.ShowsWorld}
+use Rattle.store_steps.{specs.Desks.IsDesk, specs.Shown.ShowsWorld, proofs.NumberLists.differ_from, proofs.ChangedLists.marked_at}
 use Rattle.store_steps.specs.Opening.{opened_desk, opened_start, lists_of, IsVersionZero, OpensAsMachine, OpensBlank}
-use Rattle.store_steps.proofs.{NumberLists.differ_from, ChangedLists.marked_at}
 use Rattle.store_steps.proofs.Filling as filling
 
 -- The pool
@@ -58,9 +56,7 @@ born_listed blocks ns within m =
     ] refl)
 
 pub no_pin : (n s : ℕ) → pin_at (replicate n None) s ≡ None
-no_pin zero s = refl
-no_pin (suc n) zero = refl
-no_pin (suc n) (suc s) = no_pin n s
+no_pin n s = grind (arith, common_steps)
 
 length-opened : (blocks : ℕ) (ns : List ℕ) → length (marked ns (Used 0) (replicate blocks Free)) ≡ blocks
 length-opened blocks ns = length-marked ns (Used 0) (replicate blocks Free) ∙ length-replicate blocks Free
@@ -136,8 +132,7 @@ content_alone : (v : VersionView) → v.batches ≡ [] → content v ≡ v.openi
 content_alone v alone = ap (λ bs. left_by bs v.opening) alone
 
 used_or_free : (t : Bool) → (if t then option_map (λ _. Used 0) (Some Free) else Some Free) ≡ Some (if t then Used 0 else Free)
-used_or_free true = refl
-used_or_free false = refl
+used_or_free t = grind (arith, common_steps)
 
 module _ (sessions blocks : ℕ) (v : VersionView) (c : Content) (zero_is : IsVersionZero blocks v)
     (same : graph_of c ≡ v.opening) where

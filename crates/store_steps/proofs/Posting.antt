@@ -1,25 +1,23 @@
 -- An accepted batch is Take and Fill of each taken block and then one Post, all done.
 use Rattle.std.proofs.Common.{◌≡◌, ℕ, zero, suc, ◌+◌, ◌<◌, Bool, true, false, ◌&&◌, List, [], ◌∷◌, ◌++◌, length, get_or, refl}
 use Rattle.std.proofs.Common.{sym, ap, subst, ◌∙◌, arith, length-append}
-use Rattle.std.proofs.lemmas.{List.map-append, List.length-map, Option.slice_get_within}
+use Rattle.std.proofs.lemmas.{Grind.common_steps, List.map-append, List.length-map, Option.slice_get_within}
 use Rattle.std.proofs.lemmas.Bool.{and_from, or_right, lt-ltb, le-leb, or_left}
-use Rattle.std.specs.{Prelude.slice_get, Prelude.if◌then◌else◌, Prelude.All, Prelude.Contains, List.list_all, Option.option_map}
-use Rattle.std.specs.declared.option.Option.TheVariants.{None, Some}
-use Rattle.block_pool.proofs.Grants.{length-marked}
+use Rattle.std.specs.{Prelude.slice_get, Prelude.if◌then◌else◌, Prelude.All, Prelude.Contains, Option.option_map}
+use Rattle.std.specs.{List.list_all, declared.option.Option.TheVariants.None, declared.option.Option.TheVariants.Some}
+use Rattle.block_pool.{proofs.Grants.length-marked, specs.Pools.is_free_at, specs.Pools.is_used_at}
 use Rattle.graph_types.specs.{Limits.batch_limit, GraphLimits.is_within_limits, Step.left_by, Step.after_all}
 use Rattle.graph_types.specs.declared.batches.NamedOp.{NamedOp}
 use Rattle.edge_block.specs.Slots.{BlockView}
 use Rattle.graph_version.specs.{Rows.blocks_of, Rows.numbers_of, Edges.edges_in_block, Edges.edges_in_blocks, Edges.AreEachOnce}
-use Rattle.graph_version.specs.Versions.{content}
+use Rattle.graph_version.{specs.Versions.content, proofs.Shown.rows_each_once}
 use Rattle.block_reclamation.specs.Status.{is_listed, is_used, is_at, is_granted}
 use Rattle.block_reclamation.specs.declared.status.BlockStatus.{BlockStatus, TheVariants.Free, TheVariants.Granted}
-use Rattle.graph_version.proofs.Shown.{rows_each_once}
-use Rattle.block_pool.specs.Pools.{is_free_at, is_used_at}
-use Rattle.epoch_core.specs.declared.{states.Version.Version, events.Event.TheVariants.Post}
-use Rattle.epoch_core.specs.{Blocks.all_differ, Blocks.after_post, Worlds.World, Worlds.last_blocks, Posts.posted}
+use Rattle.epoch_core.specs.{declared.states.Version.Version, Blocks.all_differ, Blocks.after_post, Posts.posted}
+use Rattle.epoch_core.{specs.declared.events.Event.TheVariants.Post, proofs.Lists.all_listed, proofs.Lists.length_enumerated}
+use Rattle.epoch_core.{specs.Worlds.World, specs.Worlds.last_blocks, proofs.Edges.Decides-edges}
 use Rattle.epoch_core.specs.Versions.{AreEdgesOf, opening_graph, edges_at, edges_of}
 use Rattle.epoch_core.specs.Posting.{is_listable, version_by, can_post, graph_after, are_edges_of}
-use Rattle.epoch_core.proofs.{Edges.Decides-edges, Lists.and_left, Lists.and_right, Lists.all_listed, Lists.length_enumerated}
 use Rattle.epoch_core.proofs.{Changes.version_next, Changes.batches_all, Changes.left_more, Posted.status_at}
 use Rattle.store_steps.specs.{Journal.Applied, Journal.Ledger, Journal.is_legal, Shown.ShowsWorld}
 use Rattle.store_steps.specs.Desks.{DeskView, IsDesk, IsAccepted, last_numbers, ledger_of}
@@ -39,12 +37,7 @@ pub record IsLegalBatch (pool : List BlockStatus) (taken dropped : List ℕ) : T
 
 pub legal_batch : (l : Ledger) (ops : List NamedOp) (taken dropped : List ℕ) → is_legal l (Applied ops taken dropped) ≡ true
     → IsLegalBatch l.pool taken dropped
-legal_batch l ops taken dropped is = record {
-  free = and_left _ _ (and_left _ _ (and_left _ _ is));
-  apart = and_right _ _ (and_left _ _ (and_left _ _ is));
-  born = and_right _ _ (and_left _ _ is);
-  dropped_apart = and_right _ _ is;
-}
+legal_batch l ops taken dropped is = grind (arith, common_steps)
 
 five : (a b c d e : Bool) → a ≡ true → b ≡ true → c ≡ true → d ≡ true → e ≡ true → (a && b && c && d && e) ≡ true
 five a b c d e p q r s t = rw (p, q, r, s, t) refl
@@ -166,9 +159,7 @@ kept_placed a w shows b (k, h, at) is = record {
 }
 
 get_or_default : (bs : List BlockView) (k : ℕ) (d e : BlockView) → k < length bs → get_or bs k d ≡ get_or bs k e
-get_or_default [] k d e h = absurd (omega arith)
-get_or_default (b ∷ bs) zero d e h = refl
-get_or_default (b ∷ bs) (suc k) d e h = get_or_default bs k d e (omega arith)
+get_or_default bs k d e h = grind (arith, common_steps)
 
 placed : (a : Acceptance) (w : World) → ShowsWorld a.old w → All (IsPlaced a w) (new_blocks a)
 placed a w shows k d h =

@@ -1,6 +1,6 @@
 -- The desk and the board beside a run of the machine.
-use Rattle.std.proofs.Common.{◌≡◌, ℕ, zero, suc, ◌<◌, true, false, List, [], ◌∷◌, ◌++◌, length, get_or, set, refl, sym, ap, subst}
-use Rattle.std.proofs.{Common.◌∙◌, Common.arith, lemmas.List.length-map, lemmas.Option.slice_get-get_or}
+use Rattle.std.proofs.Common.{◌≡◌, ℕ, zero, suc, ◌<◌, true, List, [], ◌∷◌, ◌++◌, length, get_or, set, refl, sym, ap, subst, ◌∙◌}
+use Rattle.std.proofs.{Common.arith, lemmas.Grind.common_steps, lemmas.List.length-map, lemmas.Option.slice_get-get_or}
 use Rattle.std.specs.{Option.unwrap_or, Option.option_map, Option.option_and_then, Prelude.slice_get, Prelude.is_some}
 use Rattle.std.specs.declared.option.Option.{Option, TheVariants.None, TheVariants.Some}
 use Rattle.epoch_core.specs.Worlds.{seat_pin, World, MachineState, IsStart, start_world, last_number, session_of, held_in}
@@ -102,12 +102,10 @@ move_done w s change session next found is = (
 )
 
 some_step : (o : Option World) → is_some o ≡ true → (after : World) × (o ≡ Some after)
-some_step None is = cc
-some_step (Some after) is = (after, refl)
+some_step o is = grind (arith, common_steps)
 
 idle_if : (session : SessionState) → seat_pin session ≡ None → session ≡ Idle
-idle_if Idle is = refl
-idle_if _ is = cc
+idle_if session is = grind (arith, common_steps)
 
 pin_done : (start : World) (s : Store) (seat : ℕ) (events : List Event) → IsReached start events s
     → seat < length start.sessions → pin_at s.board.pins seat ≡ None
@@ -144,9 +142,7 @@ settle_done w s n held =
     move_done w s to_settle (session_of w s) next.0 (found_at w.sessions s n held) next.1
 
 held_entered : (last : ℕ) (session next : SessionState) → to_enter last session ≡ Some next → held_in next ≡ Some last
-held_entered last (Pinned pin) next is =
-    let e : Holding (record { pin = pin; settled = false; version = last }) ≡ next = cc in ap held_in (sym e)
-held_entered last _ next is = cc
+held_entered last session next is = grind (arith, common_steps)
 
 pub same_count : (d : DeskView) (w : World) → ShowsWorld d w → last_number w ≡ length d.last.batches
 same_count d w shows = sym (length-map w.versions (λ v. v.batch)) ∙ ap length shows.batches

@@ -1,17 +1,16 @@
 -- How many blocks are free, and how many retired, after a batch and after a collection.
-use Rattle.std.proofs.Common.{◌≡◌, ◌≢◌, ℕ, ◌+◌, ◌==◌, Bool, true, false, not, cond, ◌||◌, List, [], ◌∷◌}
-use Rattle.std.proofs.Common.{length, get_or, map, set, count_by, refl, sym, ap, ◌∙◌, arith, ◌&&◌, subst}
-use Rattle.std.proofs.lemmas.{List.length-map, Bool.eq-eqb, Bool.true≢false, Bool.or_right, Option.slice_get_within}
-use Rattle.std.proofs.lemmas.Option.{get_or_from_slice_get}
-use Rattle.std.specs.{Prelude.slice_get, Prelude.if◌then◌else◌, Option.option_map, declared.option.Option.TheVariants.Some}
+use Rattle.std.proofs.Common.{◌≡◌, ◌≢◌, ℕ, ◌+◌, ◌==◌, Bool, true, false, cond, ◌||◌, List, [], ◌∷◌, length, get_or, map, set}
+use Rattle.std.proofs.Common.{count_by, refl, sym, ap, ◌∙◌, arith, ◌&&◌, subst}
+use Rattle.std.{proofs.lemmas.Grind.common_steps, proofs.lemmas.List.length-map, specs.Option.option_map}
+use Rattle.std.proofs.lemmas.{Bool.eq-eqb, Bool.true≢false, Bool.or_right, Option.slice_get_within, Option.get_or_from_slice_get}
+use Rattle.std.specs.{Prelude.slice_get, Prelude.if◌then◌else◌, declared.option.Option.TheVariants.Some}
 use Rattle.block_pool.proofs.{Grants.length-marked, Tallies.count_here, Tallies.count_more}
+use Rattle.block_pool.specs.Pools.{retired, is_free_at, marked, changed, is_used_at}
 use Rattle.graph_types.specs.declared.batches.NamedOp.{NamedOp}
 use Rattle.block_reclamation.specs.Status.{is_listed, is_free, is_retired, is_reclaimable, recycled}
 use Rattle.block_reclamation.specs.{declared.copies.PinCopy.PinCopy, Copies.needs, declared.status.BlockStatus.BlockStatus}
 use Rattle.block_reclamation.specs.declared.status.BlockStatus.TheVariants.{Free, Granted, Used, Retired}
-use Rattle.block_pool.specs.Pools.{retired, is_free_at, marked, changed, is_used_at}
-use Rattle.epoch_core.specs.Blocks.{all_differ}
-use Rattle.epoch_core.proofs.Lists.{set_else, all_listed}
+use Rattle.epoch_core.{specs.Blocks.all_differ, proofs.Lists.set_else, proofs.Lists.all_listed}
 use Rattle.store_steps.specs.Desks.{DeskView, IsAccepted, IsCollected, AcceptedCounts, CollectedCounts, is_retired_by, birth_of, birth_at}
 use Rattle.store_steps.specs.Desks.{ledger_of}
 use Rattle.store_steps.proofs.{NumberLists.differ_head, NumberLists.differ_tail, CollectedDesk.past_and_left}
@@ -185,10 +184,7 @@ accepted_counts old new ops taken dropped accepted =
 
 free_one : (copy : PinCopy) (s : BlockStatus) → cond {A = ℕ} (is_free (recycled copy s)) 1 0
     ≡ cond (is_free s) 1 0 + cond (is_reclaimable copy s) 1 0
-free_one copy (Retired b v) =
-    elim (is_reclaimable copy (Retired b v)) as (λ t. cond {A = ℕ} (is_free (if t then Free else Retired b v)) 1 0
-    ≡ cond (is_free (Retired b v)) 1 0 + cond t 1 0) [ true ↦ refl | false ↦ refl ]
-free_one copy _ = refl
+free_one copy s = grind (arith, common_steps)
 
 free_more : (copy : PinCopy) (pool : List BlockStatus) → count_by is_free (map (recycled copy) pool)
     ≡ count_by is_free pool + count_by (is_reclaimable copy) pool
@@ -201,26 +197,9 @@ free_more copy (s ∷ pool) =
     let rest = free_more copy pool in
     omega arith
 
-needed_one : (q : ℕ → ℕ → Bool) (copy : PinCopy) (s : BlockStatus) → is_retired_by q (recycled copy s)
-    ≡ is_retired_by (λ birth retirement. needs copy birth retirement && q birth retirement) s
-needed_one q copy (Retired b v) = elim (needs copy b v) as (λ t.
-    is_retired_by q (if not t then Free else Retired b v) ≡ (t && q b v)) [
-      | true ↦ refl
-      | false ↦ refl
-    ]
-needed_one q copy _ = refl
-
 needed_all : (q : ℕ → ℕ → Bool) (copy : PinCopy) (pool : List BlockStatus) → count_by (is_retired_by q) (map (recycled copy) pool)
     ≡ count_by (is_retired_by (λ birth retirement. needs copy birth retirement && q birth retirement)) pool
-needed_all q copy [] = refl
-needed_all q copy (s ∷ pool) =
-    let a = count_more (is_retired_by q) (recycled copy s) (map (recycled copy) pool) in
-    let b = count_more (is_retired_by (λ birth retirement. needs copy birth retirement && q birth retirement)) s pool in
-    let one : (let n : ℕ = cond (is_retired_by q (recycled copy s)) 1 0 in n)
-    ≡ cond (is_retired_by (λ birth retirement. needs copy birth retirement && q birth retirement) s) 1 0 =
-    ap (λ t. cond t 1 0) (needed_one q copy s) in
-    let rest = needed_all q copy pool in
-    omega arith
+needed_all q copy pool = grind (arith, common_steps)
 
 pub collected_counts : (old new : DeskView) (copy : PinCopy) → IsCollected old copy new → CollectedCounts old copy new
 collected_counts old new copy collected =
