@@ -1,20 +1,15 @@
 -- No event changes how many blocks and sessions there are.
-use Rattle.std.proofs.Common.{◌≡◌, ℕ, ◌+◌, Bool, true, false, List, [], ◌∷◌, length, refl, sym, ap, subst, ◌∙◌}
-use Rattle.std.specs.{Prelude.if◌then◌else◌, Option.option_map, Option.unwrap_or}
+use Rattle.std.proofs.Common.{◌≡◌, ℕ, ◌+◌, Bool, List, [], ◌∷◌, length, refl, sym, ap, subst, ◌∙◌, arith}
+use Rattle.std.{proofs.lemmas.Grind.common_steps, specs.Prelude.if◌then◌else◌, specs.Option.option_map, specs.Option.unwrap_or}
 use Rattle.std.specs.declared.option.Option.{Option, TheVariants.None, TheVariants.Some}
-use Rattle.std.proofs.lemmas.List.{length-set}
-use Rattle.epoch_core.specs.Posting.{can_post}
-use Rattle.block_reclamation.specs.declared.status.BlockStatus.{BlockStatus}
-use Rattle.epoch_core.specs.{declared.session_states.SessionState.SessionState, Worlds.World, Worlds.last_number, Posts.posted}
-use Rattle.epoch_core.specs.declared.events.Event.{Event, TheVariants.Reply, TheVariants.Release}
-use Rattle.epoch_core.specs.declared.events.Event.TheVariants.{Take, Fill, Post, Floor, Recycle, Pin, Enter, Settle, Ask, Read}
-use Rattle.epoch_core.specs.Blocks.{after_post, changed_at, filled, taken}
-use Rattle.block_reclamation.specs.Status.{is_listed}
-use Rattle.epoch_core.specs.Blocks.{reclaimed}
+use Rattle.epoch_core.specs.{Posting.can_post, Posts.posted, Machine.with_status, Runs.next_world, Runs.run}
+use Rattle.epoch_core.specs.declared.{session_states.SessionState.SessionState, events.Event.Event}
+use Rattle.epoch_core.{specs.Worlds.World, specs.Worlds.last_number, proofs.Lists.option_map_some, proofs.Lists.length_enumerated}
+use Rattle.epoch_core.specs.declared.events.Event.TheVariants.{Reply, Release, Take, Fill, Post, Floor, Recycle, Pin, Enter}
+use Rattle.epoch_core.specs.declared.events.Event.TheVariants.{Settle, Ask, Read}
+use Rattle.epoch_core.specs.Blocks.{after_post, changed_at, filled, taken, reclaimed}
 use Rattle.epoch_core.specs.Machine.{move, step, to_ask, to_enter, to_pin, to_read, to_release, to_reply, to_settle, with_heap}
-use Rattle.epoch_core.specs.{Machine.with_status, Runs.next_world, Runs.run}
-use Rattle.epoch_core.proofs.Lists.{option_map_some, ChangedAt, changed_at-some, length_enumerated}
-use Rattle.epoch_core.proofs.Moves.{Moved, moved}
+use Rattle.block_reclamation.specs.{declared.status.BlockStatus.BlockStatus, Status.is_listed}
 
 pub record SameSizes (old new : World) : Type 0 where
   pub blocks : length new.status ≡ length old.status
@@ -25,26 +20,14 @@ same_size w = record { blocks = refl; sessions = refl }
 
 size_changed : (w after : World) (b : ℕ) (change : BlockStatus → Option BlockStatus)
     → option_map (with_status w) (changed_at change w.status b) ≡ Some after → SameSizes w after
-size_changed w after b change is =
-    let whole = option_map_some (with_status w) _ after is in
-    let c : ChangedAt change w.status b whole.0 = changed_at-some change w.status b whole.0 whole.1 in
-    record {
-      blocks = ap (λ v. length v.status) whole.2 ∙ ap length c.result ∙ length-set w.status b c.after;
-      sessions = ap (λ v. length v.sessions) whole.2;
-    }
+size_changed w after b change is = grind (arith, common_steps)
 
 size_moved : (w after : World) (s : ℕ) (change : SessionState → Option SessionState) → move w s change ≡ Some after
     → SameSizes w after
-size_moved w after s change is =
-    let m : Moved w s change after = moved w s change after is in
-    record {
-      blocks = ap (λ v. length v.status) m.result;
-      sessions = ap (λ v. length v.sessions) m.result ∙ length-set w.sessions s m.next;
-    }
+size_moved w after s change is = grind (arith, common_steps)
 
 size_if : (t : Bool) (w new after : World) → SameSizes w new → (if t then Some new else None) ≡ Some after → SameSizes w after
-size_if true w new after same is = let e : new ≡ after = cc in subst (SameSizes w) e same
-size_if false w new after same is = cc
+size_if t w new after same is = grind (arith, common_steps)
 
 size_step : (w after : World) (e : Event) → step w e ≡ Some after → SameSizes w after
 size_step w after (Take b) is = size_changed w after b taken is

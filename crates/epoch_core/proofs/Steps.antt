@@ -1,31 +1,25 @@
 -- Each event keeps what is sound, and so does each run.
 use Rattle.std.proofs.Common.{◌≡◌, ◌≢◌, ◌||◌, ◌<◌, inl, inr, eqb, length, ℕ, zero, suc, ◌≤◌, Bool, true, false, List, [], ◌∷◌}
 use Rattle.std.proofs.Common.{get_or, replicate, refl, sym, ap, subst, ◌∙◌, arith}
+use Rattle.std.proofs.lemmas.{Grind.common_steps, List.length-replicate, Option.slice_get_past}
 use Rattle.std.specs.Prelude.{slice_get, if◌then◌else◌, All, AllPairs}
-use Rattle.std.specs.Option.{option_map, unwrap_or}
+use Rattle.std.{specs.Option.option_map, specs.Option.unwrap_or, proofs.lemmas.Bool.cases_lt}
 use Rattle.std.specs.declared.option.Option.{Option, TheVariants.None, TheVariants.Some}
-use Rattle.std.proofs.lemmas.{List.length-replicate, Option.slice_get_past}
-use Rattle.std.proofs.lemmas.Bool.{cases_lt}
-use Rattle.graph_types.specs.declared.ids.Edge.{Edge}
-use Rattle.block_reclamation.specs.declared.status.BlockStatus.{BlockStatus}
-use Rattle.block_reclamation.specs.declared.status.BlockStatus.TheVariants.{Free, Used}
-use Rattle.epoch_core.specs.{declared.session_states.SessionState.TheVariants.Idle, Posts.posted, Runs.next_world, Runs.run}
-use Rattle.epoch_core.specs.declared.events.Event.{Event, TheVariants.Reply, TheVariants.Release}
-use Rattle.epoch_core.specs.declared.events.Event.TheVariants.{Take, Fill, Post, Floor, Recycle, Pin, Enter, Settle, Ask, Read}
-use Rattle.epoch_core.specs.Blocks.{changed_at, taken}
-use Rattle.block_reclamation.specs.Status.{is_at, is_listed, is_used}
-use Rattle.epoch_core.specs.Blocks.{reclaimed}
+use Rattle.graph_types.{specs.declared.ids.Edge.Edge, proofs.Keys.once_none}
+use Rattle.block_reclamation.specs.declared.status.BlockStatus.{BlockStatus, TheVariants.Free, TheVariants.Used}
+use Rattle.block_reclamation.specs.Status.{is_at, is_listed, is_used, IsDated}
+use Rattle.epoch_core.specs.declared.{session_states.SessionState.TheVariants.Idle, events.Event.Event}
+use Rattle.epoch_core.specs.{Posts.posted, Sound.IsDatedAt, Sound.IsNamed, Sound.IsSessionSound, Sound.IsSound}
+use Rattle.epoch_core.specs.{Runs.next_world, Runs.run, Blocks.changed_at, Blocks.taken, Blocks.reclaimed}
+use Rattle.epoch_core.specs.declared.events.Event.TheVariants.{Reply, Release, Take, Fill, Post, Floor, Recycle, Pin, Enter}
+use Rattle.epoch_core.specs.declared.events.Event.TheVariants.{Settle, Ask, Read}
 use Rattle.epoch_core.specs.Versions.{opening_graph, blocks_at, edges_of, graph_at, AreEdgesOf}
 use Rattle.epoch_core.specs.Worlds.{IsStart, World, last_blocks, last_graph, last_number, session_of, start, MachineState}
-use Rattle.epoch_core.specs.Posting.{can_post}
-use Rattle.epoch_core.specs.Machine.{step, with_heap, with_status}
-use Rattle.epoch_core.specs.Sound.{IsDatedAt, IsNamed, IsSessionSound, IsSound}
-use Rattle.block_reclamation.specs.Status.{IsDated}
+use Rattle.epoch_core.specs.{Posting.can_post, Machine.step, Machine.with_heap, Machine.with_status}
 use Rattle.epoch_core.proofs.Lists.{true_or_false, option_map_some, ChangedAt, changed_at-some}
-use Rattle.graph_types.proofs.Keys.{once_none}
 use Rattle.epoch_core.proofs.Keeping.{FreesNone, frees_taken, frees_recycled, sound_status, Fills, fills, sound_fill}
-use Rattle.epoch_core.proofs.{Posted.sound_posted, Moves.keeps_read, Moves.keeps_reply, Moves.keeps_release}
-use Rattle.epoch_core.proofs.Moves.{sound_floor, floored, sound_move, keeps_pin, keeps_enter, keeps_settle, keeps_ask}
+use Rattle.epoch_core.proofs.{Posted.sound_posted, Moves.keeps_enter, Moves.keeps_settle, Moves.keeps_ask}
+use Rattle.epoch_core.proofs.Moves.{keeps_read, keeps_reply, keeps_release, sound_floor, floored, sound_move, keeps_pin}
 
 sound_changed : (w after : World) (b : ℕ) (change : BlockStatus → Option BlockStatus) → IsSound w
     → ((s t : BlockStatus) → change s ≡ Some t → FreesNone w.copy s t)
@@ -43,8 +37,7 @@ sound_filled w after b edges sound is =
     subst IsSound (sym (whole.2 ∙ ap (with_heap w) f.result)) (sound_fill w b edges sound f.granted)
 
 sound_if : (t : Bool) (w after : World) → (t ≡ true → IsSound w) → (if t then Some w else None) ≡ Some after → IsSound after
-sound_if true w after sound is = let e : w ≡ after = cc in subst IsSound e (sound refl)
-sound_if false w after sound is = cc
+sound_if t w after sound is = grind (arith, common_steps)
 
 pub sound_step : (w after : World) (e : Event) → IsSound w → step w e ≡ Some after → IsSound after
 sound_step w after (Take b) sound is = sound_changed w after b taken sound (frees_taken w.copy) is
@@ -71,9 +64,7 @@ sound_run [] w sound = sound
 sound_run (e ∷ es) w sound = sound_run es (next_world w e) (sound_next w e sound)
 
 pub all_idle : (n s : ℕ) → get_or (replicate n Idle) s Idle ≡ Idle
-all_idle zero s = refl
-all_idle (suc n) zero = refl
-all_idle (suc n) (suc s) = all_idle n s
+all_idle n s = grind (arith, common_steps)
 
 pub idle_at : (start : MachineState) (s : ℕ) → IsStart start → session_of start.world s ≡ Idle
 idle_at start s is = ap (λ xs. get_or xs s Idle) is.idle ∙ all_idle (length start.world.sessions) s
@@ -83,12 +74,10 @@ abbrev at_first : Bool → BlockStatus
 at_first t = if t then Used 0 else Free
 
 used_first : (t : Bool) → is_used (at_first t) ≡ t
-used_first true = refl
-used_first false = refl
+used_first t = grind (arith, common_steps)
 
 dated_first : (t : Bool) → IsDated 0 (at_first t)
-dated_first true = omega arith
-dated_first false = tt
+dated_first t = grind (arith, common_steps)
 
 -- what is listed is within the bound of the list
 listed_within : (n b : ℕ) (bs : List ℕ) → All (λ c. c < n) bs → is_listed b bs ≡ true → b < n
@@ -121,8 +110,7 @@ dated_start start b is =
     ]
 
 named_alone : (w : World) (n : ℕ) → n ≤ 0 → IsNamed w n
-named_alone w zero h = record { names = refl; kinds = refl }
-named_alone w (suc n) h = absurd (omega arith)
+named_alone w n h = grind (arith, common_steps)
 
 pub sound_start : (start : MachineState) → IsStart start → IsSound start.world
 sound_start start is =
