@@ -1,42 +1,27 @@
 -- What a desk keeps at its opening, and over a collection.
 use Rattle.std.proofs.Common.{◌≡◌, ℕ, zero, suc, ◌+◌, ◌≤◌, List, [], ◌∷◌, replicate, length, refl, sym, ap, ◌∙◌, arith, count_by}
-use Rattle.std.specs.Prelude.{slice_set}
+use Rattle.std.{proofs.lemmas.Grind.common_steps, specs.Prelude.slice_set}
 use Rattle.logbook.specs.Pages.{Book}
-use Rattle.graph_version.specs.Rows.{blocks_of, numbers_of}
-use Rattle.graph_version.specs.Versions.{VersionView}
-use Rattle.block_pool.specs.Pools.{marked}
-use Rattle.block_reclamation.specs.declared.status.BlockStatus.{BlockStatus}
-use Rattle.block_reclamation.specs.declared.status.BlockStatus.TheVariants.{Free, Used}
-use Rattle.block_reclamation.specs.Status.{is_retired}
-use Rattle.block_pool.proofs.Tallies.{count_more}
-use Rattle.block_reclamation.specs.declared.copies.PinCopy.{PinCopy}
+use Rattle.graph_version.specs.{Rows.blocks_of, Rows.numbers_of, Versions.VersionView}
+use Rattle.block_pool.{specs.Pools.marked, proofs.Tallies.count_more}
+use Rattle.block_reclamation.specs.declared.status.BlockStatus.{BlockStatus, TheVariants.Free, TheVariants.Used}
+use Rattle.block_reclamation.specs.{Status.is_retired, declared.copies.PinCopy.PinCopy}
 use Rattle.version_shelf.specs.Shelves.{ShelfView, opened_shelf}
-use Rattle.store_steps.specs.Opening.{IsVersionZero, opened_desk}
+use Rattle.store_steps.{specs.Opening.IsVersionZero, specs.Opening.opened_desk, proofs.OpeningShown.opened_is_desk}
 use Rattle.store_steps.proofs.CollectedDesk.{desk_collected, is_collected, collected_is_desk}
-use Rattle.store_steps.proofs.OpeningShown.{opened_is_desk}
 use Rattle.stream_store.specs.Kept.{DeskState, IsDeskState}
 
 -- what is kept holds of equal values too
 pub kept_same : (d e : DeskState) (s t : ShelfView) (entries room others more : ℕ) → IsDeskState d s entries room
-    → e ≡ d → t ≡ s → others ≡ entries → room ≤ more
-    → IsDeskState e t others more
-kept_same d e s t entries room others more kept same shelf len grows = record {
-  desk = rw same kept.desk;
-  book_is = rw (same, shelf) kept.book_is;
-  opening_is = rw (same, shelf) kept.opening_is;
-  posted_is = rw (same, shelf) kept.posted_is;
-  workers_some = rw same kept.workers_some;
-  workers_few = rw same kept.workers_few;
-  room_is = let count = ap (λ (x : DeskState). count_by is_retired x.desk.pool) same in let room = kept.room_is in omega arith;
-}
+    → e ≡ d → t ≡ s → others ≡ entries → room ≤ more → IsDeskState e t others more
+kept_same d e s t entries room others more kept same shelf len grows = grind (arith, common_steps)
 
 pub same_room : (n : ℕ) → n ≤ n
 same_room n = omega arith
 
 -- no block is retired at an opening
 none_retired : (n : ℕ) → count_by is_retired (replicate n Free) ≡ 0
-none_retired zero = refl
-none_retired (suc n) = let more = none_retired n in cc
+none_retired n = grind (arith, common_steps)
 
 set_unretired : (xs : List BlockStatus) (n : ℕ) → count_by is_retired xs ≡ 0 → count_by is_retired (slice_set xs n (Used 0)) ≡ 0
 set_unretired [] n none = none
