@@ -18,6 +18,7 @@ use Rattle.block_reclamation.specs.declared.copies.{Pin.Pin, TheConstants.SEATS}
 use Rattle.block_reclamation.specs.Copies.{floor_of, needs, number_if, pin_at, settled_number, unsettled_number}
 use Rattle.block_reclamation.proofs.{Least.settled_needed, Least.unsettled_needed, Copied.floor_is_least}
 
+-- a session's pin is that of its seat
 seated : (sessions : List SessionState) (k s : ℕ) → pin_at (map seat_pin sessions ++ replicate k None) s
     ≡ seat_pin (get_or sessions s Idle)
 seated sessions k s = grind (arith, common_steps)

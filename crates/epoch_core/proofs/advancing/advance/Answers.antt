@@ -1,8 +1,9 @@
 use Rattle.std.proofs.{Common.◌≡◌, Common.true, Common.List, Common.refl, Common.sym, Common.ap, Common.subst, Common.◌∙◌}
-use Rattle.std.{proofs.lemmas.Result.on_err_weaker, specs.declared.result.Result.Result, specs.Prelude.IfOk, specs.Prelude.OnErr, specs.Prelude.IsTrue}
+use Rattle.std.{proofs.lemmas.Result.on_err_weaker, specs.declared.result.Result.Result, specs.Prelude.IfOk, specs.Prelude.OnErr}
+use Rattle.std.specs.Prelude.{IsTrue}
 use Rattle.epoch_core.specs.{Blocks.Stepped, Blocks.changed_at, Blocks.taken, Blocks.reclaimed, Worlds.MachineState, Runs.Steps}
-use Rattle.epoch_core.specs.{declared.events.Event.Event, declared.session_states.SessionState.SessionState, declared.step.Step.Step, Cores.state_of}
-use Rattle.epoch_core.specs.declared.events.Event.TheVariants.{Take, Fill, Post, Recycle, Pin, Settle, Ask, Release}
+use Rattle.epoch_core.specs.{Cores.state_of, declared.session_states.SessionState.SessionState, declared.step.Step.Step}
+use Rattle.epoch_core.specs.declared.events.Event.{Event, TheVariants.Fill, TheVariants.Post, TheVariants.Ask}
 use Rattle.epoch_core.specs.Machine.{takes_memory, to_ask, to_pin, to_release, to_settle, with_sessions}
 use Rattle.epoch_core.proofs.Stepping.{changed_by, moved_by, ok_also, err_always}
 use Rattle.epoch_core.proofs.advancing.advance.Goals as goal
@@ -13,11 +14,13 @@ returns-in-Take-clause-steps c =
 
 pub returns-in-Recycle-clause-steps : goal.returns-in-Recycle-clause-steps
 returns-in-Recycle-clause-steps c =
-    changed_by (state_of c.args.parts.now) _ _ c.in-Recycle.block (reclaimed c.args.parts.now.copy) _ _ c.in-Recycle.is refl refl c.recycle_block.ensures
+    changed_by (state_of c.args.parts.now) _ _ c.in-Recycle.block (reclaimed c.args.parts.now.copy) _ _
+    c.in-Recycle.is refl refl c.recycle_block.ensures
 
 pub returns-in-Pin-clause-steps : goal.returns-in-Pin-clause-steps
 returns-in-Pin-clause-steps c =
-    moved_by (state_of c.args.parts.now) _ _ c.in-Pin.session (to_pin c.args.parts.now.floor) _ _ c.in-Pin.is refl refl c.pin.ensures
+    moved_by (state_of c.args.parts.now) _ _ c.in-Pin.session (to_pin c.args.parts.now.floor) _ _ c.in-Pin.is refl refl
+    c.pin.ensures
 
 pub returns-in-Settle-clause-steps : goal.returns-in-Settle-clause-steps
 returns-in-Settle-clause-steps c =
@@ -29,7 +32,7 @@ returns-in-Release-clause-steps c =
 
 pub returns-in-Floor-clause-steps : goal.returns-in-Floor-clause-steps
 returns-in-Floor-clause-steps c =
-    subst (λ (e : Event). Steps (state_of c.args.parts.now) e c.raise_floor.result (state_of c.raise_floor.new.parts)) (sym c.in-Floor.is)
+    subst (λ e. Steps (state_of c.args.parts.now) e c.raise_floor.result (state_of c.raise_floor.new.parts)) (sym c.in-Floor.is)
     c.raise_floor.ensures.steps
 
 pub returns-in-Floor-clause-contents : goal.returns-in-Floor-clause-contents
@@ -37,7 +40,7 @@ returns-in-Floor-clause-contents c = c.raise_floor.ensures.contents
 
 pub returns-in-Enter-clause-steps : goal.returns-in-Enter-clause-steps
 returns-in-Enter-clause-steps c =
-    subst (λ (e : Event). Steps (state_of c.args.parts.now) e c.enter_last.result (state_of c.enter_last.new.parts)) (sym c.in-Enter.is)
+    subst (λ e. Steps (state_of c.args.parts.now) e c.enter_last.result (state_of c.enter_last.new.parts)) (sym c.in-Enter.is)
     c.enter_last.ensures.steps
 
 pub returns-in-Enter-clause-contents : goal.returns-in-Enter-clause-contents
@@ -54,22 +57,26 @@ by_event old new e event r is memory steps = (
 
 pub returns-in-Fill : goal.returns-in-Fill
 returns-in-Fill c =
-    let both = by_event (state_of c.args.parts.now) (state_of c.fill.new.parts) _ _ c.fill.result (c.in-Fill.is ∙ ap (λ edges. Fill c.in-Fill.block edges) (sym c.as_slice.ensures)) refl c.fill.ensures.steps in
+    let both = by_event (state_of c.args.parts.now) (state_of c.fill.new.parts) _ _ c.fill.result
+    (c.in-Fill.is ∙ ap (λ edges. Fill c.in-Fill.block edges) (sym c.as_slice.ensures)) refl c.fill.ensures.steps in
     record { steps = both.0; unchanged = c.fill.ensures.unchanged; memory = both.1; contents = c.fill.ensures.contents }
 
 pub returns-in-Post : goal.returns-in-Post
 returns-in-Post c =
-    let both = by_event (state_of c.args.parts.now) (state_of c.post.new.parts) _ _ c.post.result (c.in-Post.is ∙ ap (λ blocks. Post c.in-Post.batch blocks) (sym c.as_slice-in-Post.ensures)) refl c.post.ensures.steps in
+    let both = by_event (state_of c.args.parts.now) (state_of c.post.new.parts) _ _ c.post.result
+    (c.in-Post.is ∙ ap (λ blocks. Post c.in-Post.batch blocks) (sym c.as_slice-in-Post.ensures)) refl c.post.ensures.steps in
     record { steps = both.0; unchanged = c.post.ensures.unchanged; memory = both.1; contents = c.post.ensures.contents }
 
 pub returns-in-Read : goal.returns-in-Read
 returns-in-Read c =
-    let both = by_event (state_of c.args.parts.now) (state_of c.read_next.new.parts) _ _ c.read_next.result c.in-Read.is refl c.read_next.ensures.steps in
+    let both = by_event (state_of c.args.parts.now) (state_of c.read_next.new.parts) _ _ c.read_next.result
+    c.in-Read.is refl c.read_next.ensures.steps in
     record { steps = both.0; unchanged = c.read_next.ensures.unchanged; memory = both.1; contents = c.read_next.ensures.contents }
 
 pub returns-in-Reply : goal.returns-in-Reply
 returns-in-Reply c =
-    let both = by_event (state_of c.args.parts.now) (state_of c.reply_to.new.parts) _ _ c.reply_to.result c.in-Reply.is refl c.reply_to.ensures.steps in
+    let both = by_event (state_of c.args.parts.now) (state_of c.reply_to.new.parts) _ _ c.reply_to.result
+    c.in-Reply.is refl c.reply_to.ensures.steps in
     record { steps = both.0; unchanged = c.reply_to.ensures.unchanged; memory = both.1; contents = c.reply_to.ensures.contents }
 
 pub returns-in-Ask-clause-steps : goal.returns-in-Ask-clause-steps
