@@ -1,5 +1,5 @@
 -- The laws in the words of their clauses.
-use Rattle.std.proofs.Common.{◌≡◌, ℕ, ◌+◌, Bool, true, false, List, length, sym, ap, ◌∙◌, arith}
+use Rattle.std.proofs.Common.{◌≡◌, ℕ, ◌+◌, Bool, true, false, List, length, ap, arith}
 use Rattle.std.{proofs.lemmas.Grind.common_steps, specs.Prelude.if◌then◌else◌}
 use Rattle.std.specs.declared.option.Option.TheVariants.{None, Some}
 use Rattle.graph_types.specs.declared.batches.NamedOp.{NamedOp}
@@ -24,17 +24,11 @@ not_if b h = grind (arith, common_steps)
 -- a batch that takes what isn't free, or drops what isn't the last version's, isn't entered
 pub taken_is_free : (l : Ledger) (batch : List NamedOp) (taken dropped : List ℕ) (n : ℕ) → is_listed n taken ≡ true
     → is_free_at l.pool n ≡ false → entered l (Applied batch taken dropped) ≡ None
-taken_is_free l batch taken dropped n is none =
-    not_entered l (Applied batch taken dropped)
-    (not_if (is_legal l (Applied batch taken dropped)) (λ legal. sym none
-    ∙ all_listed (is_free_at l.pool) taken n (legal_batch l batch taken dropped legal).free is))
+taken_is_free l batch taken dropped n is none = grind (arith, common_steps, not_entered, not_if, all_listed, legal_batch)
 
 pub dropped_is_born : (l : Ledger) (batch : List NamedOp) (taken dropped : List ℕ) (n : ℕ) → is_listed n dropped ≡ true
     → is_used_at l.pool n ≡ false → entered l (Applied batch taken dropped) ≡ None
-dropped_is_born l batch taken dropped n is none =
-    not_entered l (Applied batch taken dropped)
-    (not_if (is_legal l (Applied batch taken dropped)) (λ legal. sym none
-    ∙ all_listed (is_used_at l.pool) dropped n (legal_batch l batch taken dropped legal).born is))
+dropped_is_born l batch taken dropped n is none = grind (arith, common_steps, not_entered, not_if, all_listed, legal_batch)
 
 module _ (old : DeskView) (ops : List NamedOp) (numbers : List ℕ) (version : VersionView) (taken : List ℕ)
     (dropped : List BlockView) (unused : List ℕ) (desk : IsDesk old)

@@ -1,20 +1,20 @@
 -- A collection leaves a desk.
-use Rattle.std.proofs.Common.{◌≡◌, ℕ, zero, suc, ◌+◌, ◌<◌, ◌≤◌, ◌==◌, true, false, cond, List, [], ◌∷◌, ◌++◌, length, map}
-use Rattle.std.proofs.Common.{count_by, refl, sym, ap, ap₂, subst, ◌∙◌, arith}
-use Rattle.std.proofs.lemmas.Grind.{common_steps}
-use Rattle.std.proofs.lemmas.{List.append-nil, List.length-map, Bool.eq-eqb, Bool.or_right, Option.slice_get-map}
-use Rattle.std.specs.{Prelude.slice_get, Prelude.if◌then◌else◌, Option.option_map, Option.option_and_then}
-use Rattle.std.specs.declared.option.Option.{Option, TheVariants.None, TheVariants.Some}
+use Rattle.std.proofs.Common.{◌≡◌, ℕ, ◌+◌, ◌<◌, ◌≤◌, ◌==◌, true, false, cond, List, [], ◌∷◌, ◌++◌, length, map, count_by, refl}
+use Rattle.std.proofs.Common.{sym, ap, ap₂, subst, ◌∙◌, arith}
+use Rattle.std.{proofs.lemmas.Grind.common_steps, proofs.lemmas.Option.slice_get-map, specs.declared.option.Option.Option}
+use Rattle.std.{proofs.lemmas.List.append-nil, proofs.lemmas.List.length-map, specs.declared.option.Option.TheVariants.Some}
+use Rattle.std.{proofs.lemmas.Bool.eq-eqb, proofs.lemmas.Bool.or_right, specs.Prelude.slice_get, specs.Prelude.if◌then◌else◌}
+use Rattle.std.specs.Option.{option_map}
 use Rattle.edge_block.specs.Slots.{BlockView}
 use Rattle.graph_version.specs.{Rows.row_of, Rows.numbers_of, Versions.VersionView}
 use Rattle.block_reclamation.specs.Status.{is_listed, is_retired, is_reclaimable, is_used, is_at, recycled}
 use Rattle.block_reclamation.specs.declared.copies.PinCopy.{PinCopy}
 use Rattle.block_reclamation.specs.declared.status.BlockStatus.{BlockStatus, TheVariants.Free}
 use Rattle.block_pool.proofs.Tallies.{count_more}
-use Rattle.store_steps.specs.Journal.{Collected, Ledger, opened_ledger, is_legal, after_entry, entered, replay}
-use Rattle.store_steps.specs.Desks.{DeskView, IsDesk, IsCollected, birth_at, births_in, ledger_of, collections}
-use Rattle.store_steps.proofs.{NumberLists.apart_test, Accepting.replay_more}
-use Rattle.store_steps.proofs.Births.{birth_in, birth_from, row_listed}
+use Rattle.store_steps.specs.Journal.{Collected, Ledger, opened_ledger, is_legal, replay}
+use Rattle.store_steps.specs.Desks.{DeskView, IsDesk, IsCollected, birth_at, births_in, collections}
+use Rattle.store_steps.proofs.{NumberLists.apart_test, Births.birth_in, Births.birth_from, Births.row_listed}
+use Rattle.store_steps.proofs.Accepting.{replay_more}
 
 -- one status is freed, or retired still, or was never retired
 past_one : (copy : PinCopy) (x : BlockStatus) → cond (is_reclaimable copy x) 1 0 + cond (is_retired (recycled copy x)) 1 0
@@ -62,26 +62,10 @@ desk_collected d copy = record {
 replays_on : (d : DeskView) (copy : PinCopy) → IsDesk d → copy.last ≤ length d.last.batches → (n : ℕ) → count_by (is_reclaimable copy) d.pool ≡ n
     → replay (d.journal ++ collections copy n) (opened_ledger (length d.pool) d.opened)
     ≡ Some (record { batches = d.last.batches; pool = map (recycled copy) d.pool })
-replays_on d copy desk low zero is =
-    ap (λ es. replay es (opened_ledger (length d.pool) d.opened)) (append-nil d.journal) ∙ desk.replays
-    ∙ ap (λ p. Some (record { batches = d.last.batches; pool = p })) (sym (same_if_none copy d.pool is))
-replays_on d copy desk low (suc n) is =
-    let some : (suc n == 0) ≡ false = apart_test (suc n) 0 (λ e. absurd (omega arith)) in
-    ap (λ t. replay (d.journal ++ (if t then [] else Collected copy (suc n) ∷ [])) (opened_ledger (length d.pool) d.opened)) some
-    ∙ replay_more d.journal (Collected copy (suc n)) (opened_ledger (length d.pool) d.opened)
-    ∙ ap (option_and_then (λ m. entered m (Collected copy (suc n)))) desk.replays
-    ∙ ap (λ t. if t then Some (after_entry (ledger_of d) (Collected copy (suc n))) else None)
-    (legal_if (ledger_of d) copy (suc n) low (omega arith) (sym is))
+replays_on d copy desk low n is = grind (arith, common_steps, append-nil, same_if_none, apart_test, replay_more, legal_if)
 
 pub collected_desk : (d : DeskView) (copy : PinCopy) → IsDesk d → copy.last ≤ length d.last.batches → IsDesk (desk_collected d copy)
-collected_desk d copy desk low = record {
-  version = desk.version;
-  replays =
-      ap (λ n. replay (d.journal ++ collections copy (count_by (is_reclaimable copy) d.pool)) (opened_ledger n d.opened))
-      (length-map d.pool (recycled copy)) ∙ replays_on d copy desk low (count_by (is_reclaimable copy) d.pool) refl;
-  listed = λ n. ap (is_at is_used) (slice_get-map (recycled copy) d.pool n) ∙ born_recycled copy (slice_get d.pool n)
-      ∙ desk.listed n;
-}
+collected_desk d copy desk low = grind (arith, common_steps, length-map, replays_on, slice_get-map, born_recycled)
 
 pub is_collected : (d e : DeskView) (copy : PinCopy) → e ≡ desk_collected d copy → IsCollected d copy e
 is_collected d e copy is = grind (arith, common_steps)

@@ -1,14 +1,13 @@
 -- A collection is Recycle of each block that the copy frees, all done, and no further block goes afterwards.
 use Rattle.std.proofs.Common.{◌≡◌, ◌≢◌, ℕ, zero, suc, ◌+◌, ◌<◌, ◌==◌, Bool, true, false, ◌||◌, List, [], ◌∷◌, map, set, refl, sym}
-use Rattle.std.proofs.{Common.ap, Common.subst, Common.◌∙◌, Common.arith, lemmas.Grind.common_steps}
-use Rattle.std.proofs.lemmas.{Bool.eq-eqb, Bool.true≢false, Bool.or_right, Option.slice_get-map}
+use Rattle.std.proofs.Common.{ap, ◌∙◌, arith}
+use Rattle.std.proofs.lemmas.{Grind.common_steps, Bool.eq-eqb, Bool.true≢false, Bool.or_right, Option.slice_get-map}
 use Rattle.std.specs.{Prelude.slice_get, Prelude.if◌then◌else◌, Prelude.filter, List.enumerate_from}
 use Rattle.std.specs.Option.{option_map, option_and_then, is_some}
 use Rattle.std.specs.declared.option.Option.{Option, TheVariants.None, TheVariants.Some}
 use Rattle.block_pool.{proofs.Grants.length-marked, specs.Pools.marked}
-use Rattle.block_reclamation.specs.Status.{is_listed, is_reclaimable, recycled, is_at}
+use Rattle.block_reclamation.specs.{Status.is_listed, Status.is_reclaimable, Status.is_at, declared.copies.PinCopy.PinCopy}
 use Rattle.block_reclamation.specs.declared.status.BlockStatus.{BlockStatus, TheVariants.Free}
-use Rattle.block_reclamation.specs.declared.copies.PinCopy.{PinCopy}
 use Rattle.epoch_core.specs.{Blocks.put, Blocks.all_differ, Blocks.reclaimed, declared.events.Event.TheVariants.Recycle}
 use Rattle.epoch_core.{specs.Worlds.World, specs.Machine.step, specs.Machine.with_status, proofs.Lists.set_else}
 use Rattle.store_steps.specs.{Desks.DeskView, Desks.IsCollected, Shown.ShowsWorld}
@@ -95,10 +94,6 @@ past_apart copy k (s ∷ pool) =
 goes_is : (copy : PinCopy) (o : Option BlockStatus) → goes copy o ≡ is_at (is_reclaimable copy) o
 goes_is copy o = grind (arith, common_steps)
 
-same_collected : (copy : PinCopy) (o : Option BlockStatus)
-    → option_map (recycled copy) o ≡ (if is_at (is_reclaimable copy) o then option_map (λ _. Free) o else o)
-same_collected copy o = grind (arith, common_steps)
-
 -- nothing goes any more
 none_goes : (copy : PinCopy) (o : Option BlockStatus)
     → goes copy (if is_at (is_reclaimable copy) o then option_map (λ _. Free) o else o) ≡ false
@@ -111,29 +106,12 @@ collected_world copy old w = with_status w (marked (past_numbers copy old.pool) 
 status_collected : (copy : PinCopy) (old : DeskView) (w : World) → ShowsWorld old w → (n : ℕ)
     → slice_get (collected_world copy old w).status n ≡ (if is_at (is_reclaimable copy) (slice_get old.pool n) then option_map
     (λ _. Free) (slice_get old.pool n) else slice_get old.pool n)
-status_collected copy old w shows n =
-    marked_at (past_numbers copy old.pool) Free w.status n
-    ∙ ap (λ t. if t then option_map (λ _. Free) (slice_get w.status n) else slice_get w.status n)
-    (past_at copy 0 n n old.pool (omega arith))
-    ∙ ap (λ pool. if is_at (is_reclaimable copy) (slice_get old.pool n) then option_map (λ _. Free) (slice_get pool n)
-    else slice_get pool n) shows.status
+status_collected copy old w shows n = grind (arith, common_steps, marked_at, past_at)
 
 shows_collected : (old new : DeskView) (copy : PinCopy) (w : World) → IsCollected old copy new → ShowsWorld old w
     → ShowsWorld new (collected_world copy old w)
 shows_collected old new copy w collected shows =
-    subst (λ v. ShowsWorld (record { opened = new.opened; last = v; journal = new.journal; pool = new.pool })
-    (collected_world copy old w)) (sym collected.last)
-    (record {
-      opening = shows.opening;
-      opened = shows.opened ∙ sym collected.opened;
-      batches = shows.batches;
-      blocks = shows.blocks;
-      edges = shows.edges;
-      status = same_list (collected_world copy old w).status new.pool (λ n.
-          status_collected copy old w shows n ∙ sym (same_collected copy (slice_get old.pool n))
-          ∙ sym (slice_get-map (recycled copy) old.pool n) ∙ ap (λ p. slice_get p n) (sym collected.pool));
-      sizes = shows.sizes ∙ sym (length-marked (past_numbers copy old.pool) Free w.status);
-    })
+    grind (arith, common_steps, same_list, status_collected, slice_get-map, length-marked)
 
 pub collected_takes : (old new : DeskView) (copy : PinCopy) → IsCollected old copy new
     → TakesAt copy old (recycling copy old.pool) new

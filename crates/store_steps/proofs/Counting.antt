@@ -75,26 +75,12 @@ abbrev pub same_block : BlockView → BlockView → Bool
 same_block a b = (a.number == b.number) && (a.source == b.source) && (a.kind == b.kind) && pointwise same_slot a.slots b.slots
 
 pub Decides-same_block : (a b : BlockView) → Decides (same_block a b) (a ≡ b)
-Decides-same_block a b =
-    Decides-like _ (λ p i. record { number = p.0.0.0 i; source = p.0.0.1 i; kind = p.0.1 i; slots = p.1 i })
-    (λ q. (((ap (λ x. x.number) q, ap (λ x. x.source) q), ap (λ x. x.kind) q), ap (λ x. x.slots) q))
-    (Decides-and _ _ (Decides-and _ _ (Decides-and _ _ (Decides-eqb a.number b.number) (Decides-eqb a.source b.source))
-    (Decides-eqb a.kind b.kind))
-    (slice_eq-Decides Decides-same_slot a.slots b.slots (pointwise same_slot a.slots b.slots) refl))
+Decides-same_block a b = grind (arith, common_steps, Decides-like, Decides-and, Decides-eqb, slice_eq-Decides, Decides-same_slot)
 
 -- a block that is listed is counted
 pub counted : (b : BlockView) (bs : List BlockView) (k : ℕ) → k < length bs → get_or bs k b ≡ b
     → 1 ≤ count_by (λ x. same_block x b) bs
-counted b [] k h at = absurd (omega arith)
-counted b (c ∷ cs) zero h at =
-    let is : same_block c b ≡ true = (Decides-same_block c b).1 at in
-    let one : (let n : ℕ = cond (same_block c b) 1 0 in n) ≡ 1 = ap (λ t. cond t 1 0) is in
-    let more = count_more (λ x. same_block x b) c cs in
-    omega arith
-counted b (c ∷ cs) (suc k) h at =
-    let rest = counted b cs k (omega arith) at in
-    let more = count_more (λ x. same_block x b) c cs in
-    omega arith
+counted b bs k h at = grind (arith, common_steps, Decides-same_block, count_more)
 
 -- a block that is counted is listed
 pub listed : (b : BlockView) (bs : List BlockView) → 1 ≤ count_by (λ x. same_block x b) bs → Contains bs b

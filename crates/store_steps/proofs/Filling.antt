@@ -3,7 +3,7 @@ use Rattle.std.proofs.Common.{◌≡◌, ◌≢◌, ℕ, ◌<◌, ◌==◌, true
 use Rattle.std.{proofs.Common.get_or-set_same, proofs.Common.get_or-set_other, specs.declared.option.Option.TheVariants.Some}
 use Rattle.std.proofs.lemmas.{Grind.common_steps, Bool.eq-eqb, Bool.true≢false, List.length-set}
 use Rattle.std.proofs.lemmas.List.Elements.{All-head, All-tail, All-cons}
-use Rattle.std.specs.{Prelude.slice_get, Prelude.if◌then◌else◌, Prelude.All, Option.option_map, Option.option_and_then}
+use Rattle.std.specs.{Prelude.slice_get, Prelude.All, Option.option_map, Option.option_and_then}
 use Rattle.std.specs.List.{flat_map}
 use Rattle.graph_types.specs.declared.ids.Edge.{Edge}
 use Rattle.edge_block.specs.Slots.{BlockView}

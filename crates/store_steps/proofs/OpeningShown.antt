@@ -6,10 +6,10 @@ use Rattle.std.proofs.lemmas.List.{length-replicate, Elements.All-head, Elements
 use Rattle.std.specs.{Prelude.map, Prelude.slice_get, Prelude.slice_set, Prelude.if◌then◌else◌, List.flat_map}
 use Rattle.std.specs.declared.option.Option.TheVariants.{None, Some}
 use Rattle.block_pool.{proofs.Grants.length-marked, specs.Pools.marked, specs.Pools.is_used_at}
-use Rattle.graph_types.specs.{Graph.Graph, Graph.graph_of, Graph.content_of, Graph.IsContent, Step.left_by}
-use Rattle.graph_types.specs.declared.{ids.Edge.Edge, contents.Content.Content}
+use Rattle.graph_types.specs.{Graph.graph_of, Graph.content_of, Graph.IsContent, declared.contents.Content.Content}
+use Rattle.graph_types.specs.{Step.left_by, declared.ids.Edge.Edge}
 use Rattle.edge_block.specs.Slots.{BlockView}
-use Rattle.graph_version.specs.{Rows.blocks_of, Rows.numbers_of, Edges.edges_in_block, Edges.edges_in_blocks, Edges.AreEachOnce}
+use Rattle.graph_version.specs.{Rows.blocks_of, Rows.numbers_of, Edges.edges_in_block, Edges.edges_in_blocks}
 use Rattle.graph_version.specs.Versions.{VersionView, content, empty_version}
 use Rattle.graph_version.proofs.{Empty.is_empty_version, Shown.rows_each_once}
 use Rattle.block_reclamation.specs.{Status.is_listed, Status.is_used, Status.is_at, Copies.pin_at}
@@ -62,16 +62,7 @@ length-opened : (blocks : ℕ) (ns : List ℕ) → length (marked ns (Used 0) (r
 length-opened blocks ns = length-marked ns (Used 0) (replicate blocks Free) ∙ length-replicate blocks Free
 
 pub opened_is_desk : (blocks : ℕ) (v : VersionView) → IsVersionZero blocks v → IsDesk (opened_desk blocks v)
-opened_is_desk blocks v zero_is =
-    let ns : List ℕ = numbers_of (blocks_of v.rows) in
-    record {
-      version = zero_is.version;
-      replays = λ i. Some (record {
-        batches = sym zero_is.alone i;
-        pool = marked ns (Used 0) (replicate (length-opened blocks ns i) Free);
-      });
-      listed = born_listed blocks ns zero_is.within;
-    }
+opened_is_desk blocks v zero_is = grind (arith, common_steps, length-opened, born_listed)
 
 -- The blocks, in the machine
 
@@ -149,10 +140,7 @@ module _ (sessions blocks : ℕ) (v : VersionView) (c : Content) (zero_is : IsVe
   apart = zero_is.version.rows.numbers
 
   shown_edges : AreEdgesOf (edges_in_blocks bs) (graph_of c)
-  shown_edges =
-      let each : AreEachOnce (edges_in_blocks bs) (content v) = rows_each_once (content v) v.rows zero_is.version.rows in
-      let shown : AreEdgesOf (edges_in_blocks bs) (content v) = record { once = each.once; same = each.same } in
-      subst (λ (g : Graph). AreEdgesOf (edges_in_blocks bs) g) (content_alone v zero_is.alone ∙ sym same) shown
+  shown_edges = grind (arith, common_steps, rows_each_once, content_alone)
 
   is_opening : IsContent c → IsOpening blocks c (lists_of v)
   is_opening is = record {

@@ -161,11 +161,7 @@ entered_holds start s seat events r done =
 -- a store whose desk shows a start is reached
 start_reached : (start : MachineState) → IsStart start → (d : DeskView) → ShowsWorld d start.world
     → IsReached start.world [] (opened_store d)
-start_reached start is d shows = record {
-  desk = shows;
-  board = record { floor = is.floor; pins = λ seat. ap seat_pin (idle_at start seat is) ∙ sym (no_pin 16 seat) };
-  copied_is = is.copy;
-}
+start_reached start is d shows = grind (arith, common_steps, idle_at, no_pin)
 
 pub stays_reached : (start : MachineState) → IsStart start → StaysReached start.world
 stays_reached start is_start = record {

@@ -131,11 +131,7 @@ born_in pool taken dropped legal m is = all_listed (is_used_at pool) dropped m l
 -- no block is both taken and dropped
 not_taken : (pool : List BlockStatus) (taken dropped : List ℕ) → IsLegalBatch pool taken dropped → (m : ℕ) → is_listed m dropped ≡ true
     → is_listed m taken ≡ false
-not_taken pool taken dropped legal m is = elim (is_listed m taken) as (λ t. is_listed m taken ≡ t → t ≡ false) [
-  | true ↦ λ both. absurd (not_both (slice_get pool m) (all_listed (is_free_at pool) taken m legal.free both)
-      (born_in pool taken dropped legal m is))
-  | false ↦ λ _. refl
-] refl
+not_taken pool taken dropped legal m is = grind (arith, common_steps, not_both, all_listed, born_in)
 
 dropped_have : (pool : List BlockStatus) (number : ℕ) (taken dropped : List ℕ) → IsLegalBatch pool taken dropped
     → AllBorn (marked taken (Used number) pool) (birth_at pool) dropped
