@@ -1,5 +1,5 @@
 -- What a desk keeps at its opening, and over a collection.
-use Rattle.std.proofs.Common.{◌≡◌, ℕ, zero, suc, ◌+◌, ◌≤◌, List, [], ◌∷◌, replicate, length, refl, sym, ap, ◌∙◌, arith, count_by}
+use Rattle.std.proofs.Common.{◌≡◌, ℕ, zero, suc, ◌+◌, ◌≤◌, List, [], ◌∷◌, replicate, length, refl, sym, arith, count_by}
 use Rattle.std.{proofs.lemmas.Grind.common_steps, specs.Prelude.slice_set}
 use Rattle.logbook.specs.Pages.{Book}
 use Rattle.graph_version.specs.{Rows.blocks_of, Rows.numbers_of, Versions.VersionView}
@@ -59,13 +59,5 @@ pub collection_kept : (d e : DeskState) (copy : PinCopy) (s : ShelfView) (entrie
     → IsDeskState d s entries capacity
     → copy.last ≤ length d.desk.last.batches → e ≡ state_collected d copy → others + count_by is_retired e.desk.pool ≤ room
     → IsDeskState e s others room
-collection_kept d e copy s entries capacity others room kept low is fits = record {
-  desk = collected_is_desk d.desk e.desk copy kept.desk low
-      (is_collected d.desk e.desk copy (ap (λ (x : DeskState). x.desk) is));
-  book_is = kept.book_is ∙ sym (ap (λ (x : DeskState). x.book) is);
-  opening_is = kept.opening_is ∙ sym (ap (λ (x : DeskState). x.desk.last.opening) is);
-  posted_is = kept.posted_is ∙ sym (ap (λ (x : DeskState). x.desk.last.batches) is);
-  workers_some = let same = ap (λ (x : DeskState). x.workers) is in let some = kept.workers_some in omega arith;
-  workers_few = let same = ap (λ (x : DeskState). x.workers) is in let few = kept.workers_few in omega arith;
-  room_is = fits;
-}
+collection_kept d e copy s entries capacity others room kept low is fits =
+    grind (arith, common_steps, collected_is_desk, is_collected)

@@ -1,9 +1,9 @@
 -- A batch handed over: what the desk's call does with what was made of it.
-use Rattle.std.proofs.Common.{◌≡◌, ℕ, ◌+◌, ◌<◌, ◌≤◌, true, false, List, [], ◌∷◌, ◌++◌, length, map, refl, sym, ap, subst, ◌∙◌}
-use Rattle.std.proofs.{Common.arith, Common.count_by, Common.vec_len, lemmas.List.map-append, lemmas.List.length-map}
-use Rattle.std.{proofs.lemmas.Grind.common_steps, specs.declared.sync.Arc.Arc, specs.declared.alloc.Global.Global}
+use Rattle.std.proofs.Common.{◌≡◌, ℕ, ◌+◌, ◌≤◌, true, false, List, [], ◌∷◌, ◌++◌, length, map, refl, sym, ap, subst, ◌∙◌, arith}
+use Rattle.std.{proofs.Common.count_by, proofs.Common.vec_len, proofs.lemmas.Grind.common_steps, specs.declared.sync.Arc.Arc}
+use Rattle.std.{proofs.lemmas.List.map-append, proofs.lemmas.List.length-map, specs.declared.alloc.Global.Global}
 use Rattle.std.specs.{Prelude.All, List.sum_by, Arc.arc_value}
-use Rattle.graph_types.specs.{Limits.batch_limit, declared.batches.NamedOp.NamedOp}
+use Rattle.graph_types.specs.declared.batches.NamedOp.{NamedOp}
 use Rattle.edge_block.specs.declared.blocks.Block.{Block}
 use Rattle.batch_shards.specs.RowBlocks.{block_of, blocks_of, numbers_of}
 use Rattle.graph_version.specs.{declared.versions.Version.Version, Versions.VersionView, Versions.content}
@@ -18,14 +18,13 @@ use Rattle.store_steps.proofs.Applications.{Application, next_desk, born_pool, r
 use Rattle.store_steps.proofs.{Accepting.made_accepted, Accepting.made_desk, RetiredCounts.retired_room}
 use Rattle.store_steps.proofs.GrantedBlocks.{taken_granted, taken_movable, dropped_movable, unused_movable, granted_movable}
 use Rattle.store_steps.proofs.GrantedBlocks.{given_back, born_movable, born_given_back}
-use Rattle.batch_apply.{specs.Planned.MeetsNeitherLimit, specs.declared.plans.Plan.Plan, proofs.Asked.needs_within}
+use Rattle.batch_apply.{specs.declared.plans.Plan.Plan, proofs.Asked.needs_within}
 use Rattle.stream_store.specs.declared.{entries.JournalEntry.JournalEntry, receipts.ApplyError.ApplyError}
 use Rattle.stream_store.specs.{declared.applying.Prepared.Prepared, Kept.DeskState, Kept.IsDeskState, Kept.entry_of}
 use Rattle.stream_store.specs.Applying.{IsPrepared}
 use Rattle.stream_store.{specs.Moves.AreUsedOnce, specs.Moves.AreBornOnce, proofs.UsedBlocks.used_blocks}
 use Rattle.stream_store.specs.Refusals.{Refuses, RefusesGrant, IsAdmitted, IsWithin, asked, block_count, workers_for}
 use Rattle.graph_version.specs.Rows as rows
-use Rattle.store_steps.specs.Journal as journal
 use Rattle.stream_store.specs.declared.entries.JournalEntry.TheVariants as entries
 
 pub record Handing : Type 0 where
@@ -176,13 +175,7 @@ pub end_desk : (h : Handing) (opened : List ℕ) (last : VersionView) (entries o
     → entries ≡ old_entries ++ entry_in h ∷ [] → pool ≡ (next_desk (application h)).pool
     → desk_of opened last entries pool ≡ next_desk (application h)
 end_desk h opened last entries old_entries pool same_opened before same_last same_entries same_pool =
-    let dropped : List ℕ = rows.numbers_of (blocks_of h.prepared.dropped.items) in
-    let entry : entry_of (entry_in h) ≡ journal.Applied h.ops h.prepared.taken dropped =
-    λ i. journal.Applied (h.is_prepared.batch_is i) h.prepared.taken ((h.is_prepared.dropped_are ∙ dropped_is h) i) in
-    let more : map entry_of entries ≡ h.old.journal ++ journal.Applied h.ops h.prepared.taken dropped ∷ [] =
-    ap (map entry_of) same_entries ∙ map-append entry_of old_entries (entry_in h ∷ [])
-    ∙ ap (λ es. es ++ entry_of (entry_in h) ∷ []) before ∙ ap (λ e. h.old.journal ++ e ∷ []) entry in
-    λ i. record { opened = sym same_opened i; last = same_last i; journal = more i; pool = same_pool i }
+    grind (arith, common_steps, dropped_is, map-append)
 
 pub end_accepts : (h : Handing) (new : DeskView) → new ≡ next_desk (application h) → Accepts h.old h.ops new
 end_accepts h new is =
@@ -227,26 +220,15 @@ end_kept h new shelf entries room is book opening posted some few fits = record 
 
 -- Refusals
 
-grant_refused : (v : VersionView) (free : ℕ) (workers : ℕ) (ops : List NamedOp) (plan : Plan) (e : ApplyError)
-    → IsAdmitted v workers ops plan → RefusesGrant (asked ops (block_count v)) free e → Refuses v free ops e
-grant_refused v free workers ops plan e admitted refuses = grind (arith, common_steps)
-
 module _ (d : DeskView) (v : VersionView) (workers : ℕ) (ops : List NamedOp) (plan : Plan) (desk : IsDesk d) (last : v ≡ d.last)
     (admitted : IsAdmitted v workers ops plan) where
   pub desk_refuses : (e : ApplyError) → RefusesGrant (asked ops (count_by is_in_use d.pool)) (count_by is_free d.pool) e
       → Refuses d.last (count_by is_free d.pool) ops e
-  desk_refuses e refuses =
-      let free : ℕ = count_by is_free d.pool in
-      subst (λ (w : VersionView). Refuses w free ops e) last (grant_refused v free workers ops plan e admitted
-      (subst (λ n. RefusesGrant (asked ops n) free e) (used_blocks d desk ∙ ap block_count (sym last)) refuses))
+  desk_refuses e refuses = grind (arith, common_steps, used_blocks)
 
   pub desk_admits : asked ops (count_by is_in_use d.pool) ≤ count_by is_free d.pool
       → IsWithin d.last (count_by is_free d.pool) ops
-  desk_admits enough = record {
-    few = subst (λ (w : VersionView). length w.batches < batch_limit) last admitted.few;
-    limits = subst (λ (w : VersionView). MeetsNeitherLimit ops (content w)) last admitted.limits;
-    blocks = subst (λ n. asked ops n ≤ count_by is_free d.pool) (used_blocks d desk) enough;
-  }
+  desk_admits enough = grind (arith, common_steps, used_blocks)
 
 -- a batch handed over, by what is known of the version that was lent
 abbrev pub handing : (old : DeskView) (ops : List NamedOp) (numbers handed : List ℕ) (prepared : Prepared) (pool : List BlockStatus)

@@ -1,5 +1,5 @@
 -- Version 0 over copies of a version's blocks.
-use Rattle.std.proofs.Common.{◌≡◌, ℕ, zero, suc, ◌<◌, true, List, length, get_or, replicate, sym, ap, subst, ◌∙◌, arith, All}
+use Rattle.std.proofs.Common.{◌≡◌, ℕ, zero, suc, ◌<◌, true, List, length, get_or, replicate, sym, ap, ◌∙◌, arith, All}
 use Rattle.std.{proofs.Common.if◌then◌else◌, proofs.Common.Bool, specs.declared.option.Option.Option}
 use Rattle.std.{proofs.lemmas.Grind.common_steps, specs.Prelude.slice_get, specs.Option.option_map, specs.Arc.arc_value}
 use Rattle.graph_version.specs.{Rows.blocks_of, Rows.numbers_of, Rebased.IsRebased}
@@ -33,20 +33,13 @@ free_below blocks numbers free = λ k d h. below blocks (get_or numbers k d) (fr
 
 pub zero_is : (blocks : ℕ) (v z : VersionView) (numbers : List ℕ) → AreFree (replicate blocks Free) numbers
     → numbers_of (blocks_of z.rows) ≡ numbers → IsVersion z → IsRebased v z → IsVersionZero blocks z
-zero_is blocks v z numbers free same is rebased = record {
-  version = is;
-  alone = rebased.batches;
-  within = subst (λ ns. All (λ n. n < blocks) ns) (sym same) (free_below blocks numbers free);
-}
+zero_is blocks v z numbers free same is rebased = grind (arith, common_steps, free_below)
 
 pub zero_pool : (blocks : ℕ) (z : VersionView) (numbers : List ℕ) (fresh granted pool : List BlockStatus) (number : ℕ)
     → fresh ≡ replicate blocks Free → granted ≡ marked numbers Granted fresh → pool ≡ marked numbers (Used number) granted
     → number ≡ length z.batches → length z.batches ≡ 0 → numbers_of (blocks_of z.rows) ≡ numbers
     → pool ≡ (opened_desk blocks z).pool
-zero_pool blocks z numbers fresh granted pool number f g p n none same =
-    p ∙ (λ i. marked numbers (Used ((n ∙ none) i)) ((g ∙ ap (marked numbers Granted) f) i))
-    ∙ marked_over numbers Granted (Used 0) (replicate blocks Free)
-    ∙ ap (λ ns. marked ns (Used 0) (replicate blocks Free)) (sym same)
+zero_pool blocks z numbers fresh granted pool number f g p n none same = grind (arith, common_steps, marked_over)
 
 -- what opens, by the version that is shared
 pub opens_with : (blocks : ℕ) (parts : Zero) (z : VersionView) → arc_value {X = Version} parts.version ≡ z → IsVersionZero blocks z
