@@ -1,6 +1,6 @@
 -- What a whole collection leaves.
 use Rattle.std.proofs.Common.{◌≡◌, ℕ, zero, suc, ◌≤◌, Bool, true, false, ◌||◌, ◌⊎◌, inl, inr, List, [], ◌∷◌, ◌++◌, map, replicate}
-use Rattle.std.proofs.Common.{get_or, set, refl, sym, ap, subst, ◌∙◌, arith, eqb, ltb}
+use Rattle.std.proofs.Common.{get_or, set, refl, sym, ap, subst, ◌∙◌, arith, eqb}
 use Rattle.std.proofs.lemmas.{Grind.common_steps, Bool.cases_eq, Bool.Decides.nat_tests}
 use Rattle.std.specs.{Prelude.slice_get, List.list_any, Option.unwrap_or}
 use Rattle.std.specs.declared.option.Option.{Option, TheVariants.None, TheVariants.Some}
@@ -139,14 +139,7 @@ unsettled_need : (w : World) (retirement : ℕ) → Found unsettled_number (is_b
 unsettled_need w retirement f = grind (arith, common_steps)
 
 pinned : (w : World) (birth retirement : ℕ) → retirement ≤ last_number w → needs (present_copy w) birth retirement ≡ true → IsPinned w birth retirement
-pinned w birth retirement low need =
-    elim (or_cases (ltb (last_number w) retirement) _ need) [
-      | inl late ↦ absurd (grind (arith, nat_tests, late, low))
-      | inr pins ↦ elim (or_cases (list_any (is_between birth retirement) (present_copy w).settled) _ pins) [
-        | inl is ↦ inl (settled_need w birth retirement (found settled_number (is_between birth retirement) w.sessions _ refl refl is))
-        | inr is ↦ inr (unsettled_need w retirement (found unsettled_number (is_before retirement) w.sessions _ refl refl is))
-      ]
-    ]
+pinned w birth retirement low need = grind (arith, common_steps, or_cases, nat_tests, settled_need, found, unsettled_need)
 
 pin_needs : (w : World) (birth retirement : ℕ) → IsPinned w birth retirement → needs (present_copy w) birth retirement ≡ true
 pin_needs w birth retirement (inl n) = settled_needs w n.session n.pin birth retirement n.is_pin n.born n.before

@@ -189,12 +189,7 @@ settles : (w : World) (hold : Hold) → IsHeld w hold → IsHeld w (settled_at h
 settles w hold h = grind (arith, common_steps)
 
 pub keeps_settle : (w : World) → KeepsSession w to_settle
-keeps_settle w Idle next p is = cc
-keeps_settle w (Pinned pin) next p is = cc
-keeps_settle w (Holding hold) next p is = let e : Holding (settled_at hold) ≡ next =
-    cc in subst (IsSessionSound w) e (settles w hold p)
-keeps_settle w (Asking hold inquiry) next p is = let e : Asking (settled_at hold) inquiry ≡ next =
-    cc in subst (IsSessionSound w) e (settles w hold p.0, p.1)
+keeps_settle w h next p is = grind (arith, common_steps, settles)
 
 pub keeps_ask : (w : World) (request : Request) → KeepsSession w (to_ask request)
 keeps_ask w request h next p is = grind (arith, common_steps)

@@ -1,6 +1,6 @@
 -- Each event keeps what is sound: a batch is posted.
 use Rattle.std.proofs.Common.{◌≡◌, ◌≢◌, ◌||◌, add-one, ℕ, suc, ◌+◌, ◌<◌, ◌≤◌, Bool, true, inl, inr, List, [], ◌∷◌, ◌++◌, length}
-use Rattle.std.proofs.{Common.refl, Common.sym, Common.ap, Common.subst, Common.◌∙◌, Common.arith, lemmas.Grind.common_steps}
+use Rattle.std.proofs.{Common.sym, Common.ap, Common.subst, Common.◌∙◌, Common.arith, lemmas.Grind.common_steps}
 use Rattle.std.{specs.Prelude.slice_get, specs.Prelude.AllPairs, specs.declared.option.Option.Option, proofs.lemmas.Bool.cases_eq}
 use Rattle.std.specs.Option.{option_map}
 use Rattle.graph_types.specs.declared.batches.NamedOp.{NamedOp}
@@ -33,19 +33,7 @@ kept_after : (n m : ℕ) (t : Bool) (o : Option BlockStatus) → m < n → IsKep
 kept_after n m t o h k = grind (arith, common_steps)
 
 carries_posted : (w : World) (batch : List NamedOp) (blocks : List ℕ) → Carries w (posted w batch blocks)
-carries_posted w batch blocks =
-    let next : length (w.versions ++ version_by w.opening w.versions batch blocks ∷ []) ≡ suc (length w.versions) =
-    length_next w.versions (version_by w.opening w.versions batch blocks) in
-    record {
-      floor = refl;
-      copy = refl;
-      last = omega (arith, next);
-      versions = version_before w.opening w.versions (version_by w.opening w.versions batch blocks);
-      graphs = graph_before w.opening w.versions (version_by w.opening w.versions batch blocks);
-      kept = λ b n _ high k. subst (IsKeptAt n) (sym (status_at (last_number w + 1) blocks w.status b))
-          (kept_after (last_number w + 1) n (is_listed b blocks) (slice_get w.status b) (omega arith) k);
-      edges = λ b n _. refl;
-    }
+carries_posted w batch blocks = grind (arith, common_steps, length_next, version_before, graph_before, status_at, kept_after)
 
 named_posted : (w : World) (batch : List NamedOp) (blocks : List ℕ) → IsSound w → (n : ℕ)
     → n ≤ last_number (posted w batch blocks) → IsNamed (posted w batch blocks) n
